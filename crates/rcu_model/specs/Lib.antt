@@ -1,0 +1,4 @@
+pub mod Refusal
+pub mod Sets
+pub mod Machine
+pub mod EventText

@@ -1,0 +1,11 @@
+#![tactic(auto)]
+//! The events of the library, the abstract machine that they go by, and the refusals of every call.
+
+mod event;
+mod laws;
+mod printing;
+mod refusal;
+
+pub use event::{Event, ObjectId, SectionId};
+pub use laws::held_is_not_reclaimed;
+pub use refusal::Refusal;

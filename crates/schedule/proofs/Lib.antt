@@ -1,0 +1,17 @@
+pub mod Steps
+pub mod Exact
+pub mod Tables
+pub mod Numbers
+pub mod Verbs
+pub mod Lines
+pub mod Columns
+pub mod Headers
+pub mod More
+pub mod Short
+pub mod Bytes
+pub mod Playing
+pub mod Standing
+pub mod Once
+pub mod Ports
+pub mod Passing
+pub mod Wholes

@@ -1,0 +1,7 @@
+use Rattle.std.proofs.Common.{[]}
+use Rattle.schedule.proofs.Headers.{no_header}
+use Rattle.schedule.proofs.Standing.{stands_header}
+use Rattle.schedule.proofs.feeding.Replay.new.Goals as goal
+
+pub returns-clause-stands : goal.returns-clause-stands
+returns-clause-stands c = stands_header c.new.result [] c.new.ensures no_header

@@ -1,0 +1,17 @@
+use Rattle.std.proofs.lemmas.Result.{err_from_is_err_and}
+use Rattle.schedule.specs.Spelling.{LineText}
+use Rattle.schedule.specs.Grammar.{line_at}
+use Rattle.schedule.proofs.Lines.{line_reads}
+use Rattle.schedule.proofs.Bytes.{next_some, next_bad}
+use Rattle.std.proofs.Common.{◌++◌}
+use Rattle.schedule.proofs.held.Held.cut_line.Goals as goal
+
+pub returns-in_err-line-clause-next : goal.returns-in_err-line-clause-next
+returns-in_err-line-clause-next c = λ e.
+    let p = err_from_is_err_and c.from_residual.result c.from_residual.ensures.1 in
+    rw (p.1, p.2) (next_bad LineText line_at line_reads (c.args.self.now ++ c.args.text.now) c.loop-rest.self c.loop-rest.rest.now c.in_err-line.field-0.0 (c.loop-rest.invariant.text e) c.in-len1-up.len_at_least (c.in_err-line.ensures (c.loop-rest.invariant.good e)))
+
+pub returns-in-Some-clause-next : goal.returns-in-Some-clause-next
+returns-in-Some-clause-next c = λ e.
+    let n = (rw c.in-Some.is at c.in_ok-line.ensures) (c.loop-rest.invariant.good e) in
+    (next_some LineText line_at line_reads (c.args.self.now ++ c.args.text.now) c.loop-rest.self c.loop-rest.rest.now c.in-Some.line (c.loop-rest.invariant.text e) c.in-len1-up.len_at_least n.0, n.1)

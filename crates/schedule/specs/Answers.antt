@@ -1,0 +1,52 @@
+-- The text of an answer, and the end line.
+use Rattle.std.specs.Prelude.{ℕ, ◌-◌, Bool, true, false, List, ◌++◌, codes, count_by, Some, None, Result, Ok, Err}
+use Rattle.std.specs.Fmt.{decimal}
+use Rattle.rcu_model.specs.declared.event.Event.{Event}
+use Rattle.rcu_model.specs.declared.event.Event.TheVariants.{Open, Close, Retire, Run}
+use Rattle.rcu_model.specs.declared.refusal.Refusal.{Refusal}
+use Rattle.rcu_model.specs.EventText.{text_of}
+use Rattle.rcu_model.specs.Refusal.{number_of}
+use Rattle.world_state.specs.declared.line.Answer.{Answer}
+use Rattle.world_state.specs.declared.line.Answer.TheVariants.{Events, Quiet, Wait, Blocked, Idle}
+use Rattle.schedule.specs.declared.counts.Counts.{Counts}
+
+abbrev pub answer_text : Result Answer Refusal → List ℕ
+answer_text (Ok (Events first None)) = text_of first
+answer_text (Ok (Events first (Some second))) = text_of first ++ codes "; " ++ text_of second
+answer_text (Ok Quiet) = codes "."
+answer_text (Ok Wait) = codes "wait"
+answer_text (Ok Blocked) = codes "blocked"
+answer_text (Ok Idle) = codes "idle"
+answer_text (Err refusal) = codes "refused E" ++ decimal (number_of refusal)
+
+abbrev pub answer_line : Result Answer Refusal → List ℕ
+answer_line answer = answer_text answer ++ codes "\n"
+
+-- ---- the end line
+
+abbrev pub opens : Event → Bool
+opens (Open _) = true
+opens _ = false
+
+abbrev pub closes : Event → Bool
+closes (Close _) = true
+closes _ = false
+
+abbrev pub retires : Event → Bool
+retires (Retire _) = true
+retires _ = false
+
+abbrev pub runs : Event → Bool
+runs (Run _) = true
+runs _ = false
+
+-- the sections opened and not closed, the objects retired and not run, and the objects run
+abbrev pub counts_of : List Event → Counts
+counts_of log = record {
+  sections = count_by opens log - count_by closes log;
+  waiting = count_by retires log - count_by runs log;
+  runs = count_by runs log;
+}
+
+abbrev pub end_line : Counts → List ℕ
+end_line c = codes "end open=" ++ decimal c.sections ++ codes " waiting=" ++ decimal c.waiting ++ codes " run=" ++ decimal c.runs ++ codes "\n"

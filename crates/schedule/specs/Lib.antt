@@ -1,0 +1,12 @@
+pub mod Reading
+pub mod Spelling
+pub mod Header
+pub mod Fault
+pub mod Grammar
+pub mod Answers
+pub mod Printed
+pub mod Stream
+pub mod Next
+pub mod Play
+pub mod Ports
+pub mod Whole

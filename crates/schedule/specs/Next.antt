@@ -1,0 +1,16 @@
+-- What stands first in held bytes and the text after them.
+use Rattle.std.specs.Prelude.{◌≡◌, ℕ, ◌+◌, List, [], ◌∷◌, ◌++◌, length, Option, None, Some, Result, Ok, Err}
+use Rattle.std.specs.Borrow.{Bor}
+use Rattle.schedule.specs.Reading.{Reading}
+
+-- It is read whole, and what follows is left; or all is held, and may go on; or a byte is bad, in the column.
+abbrev pub Next : {A : Type 0} → (List ℕ → Reading A) → List ℕ → List ℕ → List ℕ → Result (Option (A × Bor (List ℕ))) ℕ → Type 0
+Next read old text new (Ok (Some x)) = (read (old ++ text) ≡ Ok (x.0, x.1.now)) × (new ≡ [])
+Next read old text new (Ok None) = (read (old ++ text) ≡ Err []) × (new ≡ old ++ text)
+Next read old text new (Err column) = (b : ℕ) × (more : List ℕ) × (read (old ++ text) ≡ Err (b ∷ more)) × (column + length (b ∷ more) ≡ length (old ++ text) + 1)
+
+-- The same where one byte came, which ends what it completes.
+abbrev pub NextByte : {A : Type 0} → (List ℕ → Reading A) → List ℕ → ℕ → List ℕ → Result (Option A) ℕ → Type 0
+NextByte read old byte new (Ok (Some x)) = (read (old ++ byte ∷ []) ≡ Ok (x, [])) × (new ≡ [])
+NextByte read old byte new (Ok None) = (read (old ++ byte ∷ []) ≡ Err []) × (new ≡ old ++ byte ∷ [])
+NextByte read old byte new (Err column) = (b : ℕ) × (more : List ℕ) × (read (old ++ byte ∷ []) ≡ Err (b ∷ more)) × (column + length (b ∷ more) ≡ length (old ++ byte ∷ []) + 1)

@@ -1,0 +1,44 @@
+//! What the end line counts.
+
+ghost use Rattle.std.specs.Prelude.{◌≡◌};
+
+use rcu_model::Event;
+
+/// The numbers of the end line.
+#[derive(Clone, Copy, Debug, PartialEq, Eq, Drop)]
+pub struct Counts {
+    /// Sections opened and not closed.
+    pub sections: u64,
+    /// Objects retired and not run.
+    pub waiting: u64,
+    /// Objects run.
+    pub runs: u64,
+}
+
+impl Counts {
+    ghost use Rattle.schedule.specs.Answers.{counts_of};
+
+    /// The counts of a log.
+    pub fn of(log: &[Event]) -> Counts
+        ensures { result ≡ counts_of log.now }
+    {
+        let mut opened = 0u64;
+        let mut closed = 0u64;
+        let mut retired = 0u64;
+        let mut runs = 0u64;
+        for event in log {
+            match event {
+                Event::Open(_) => opened += 1,
+                Event::Close(_) => closed += 1,
+                Event::Retire(_) => retired += 1,
+                Event::Run(_) => runs += 1,
+                _ => {}
+            }
+        }
+        Counts {
+            sections: opened.saturating_sub(closed),
+            waiting: retired.saturating_sub(runs),
+            runs,
+        }
+    }
+}

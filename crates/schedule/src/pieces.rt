@@ -1,0 +1,71 @@
+//! The pieces of a line: words of a table, and numbers.
+//! Each reads at the front of the text, and gives the bytes after it, or the bytes from the first bad one on.
+
+ghost use Rattle.std.specs.Prelude.{◌≡◌, map};
+ghost use Rattle.schedule.specs.Reading.{Gives, GivesRest, further, word_at, word_from, number_at, value_row};
+
+/// What comes after the word.
+#[tactic(auto, unfolding(crate::specs::Reading::word_from))]
+fn after_word<'a>(word: &[u8], text: &'a [u8]) -> Result<&'a [u8], &'a [u8]>
+    ensures { GivesRest result (word_from word.now text.now) }
+{
+    let mut rest = text;
+    for byte in word {
+        let [first, after @ ..] = rest else {
+            return Err(rest);
+        };
+        if first != byte {
+            return Err(rest);
+        }
+        rest = after;
+    }
+    Ok(rest)
+}
+
+/// The one of two rests that is the shorter.
+fn further<'a>(bad: &'a [u8], rest: &'a [u8]) -> &'a [u8]
+    ensures { result.now ≡ further bad.now rest.now }
+{
+    if rest.len() < bad.len() { rest } else { bad }
+}
+
+/// What the word at the front of the text stands for, in a table of words of which none begins another.
+#[tactic(auto, unfolding(crate::specs::Reading::word_on))]
+pub fn word<'a, K: Copy>(table: &[(&[u8], K)], text: &'a [u8]) -> Result<(K, &'a [u8]), &'a [u8]>
+    ensures { Gives (λ k. k) result (word_at (map value_row table.now) text.now) }
+{
+    let mut bad = text;
+    for (word, value) in table {
+        match after_word(word, text) {
+            Ok(rest) => return Ok((*value, rest)),
+            Err(rest) => bad = further(bad, rest),
+        }
+    }
+    Err(bad)
+}
+
+/// A number of at most nine digits with no zero before others, and the byte that ends it.
+#[tactic(auto, unfolding(crate::specs::Reading::number_at, crate::specs::Reading::digits_on))]
+pub fn number(end: u8, text: &[u8]) -> Result<(u32, &[u8]), &[u8]>
+    ensures { Gives (λ n. n) result (number_at end text.now) }
+{
+    let [first, after @ ..] = text else {
+        return Err(text);
+    };
+    if !first.is_ascii_digit() {
+        return Err(text);
+    }
+    let mut value = u32::from(*first - b'0');
+    let mut rest = after;
+    while let [digit, after @ ..] = rest {
+        if *digit == end {
+            return Ok((value, after));
+        }
+        if !digit.is_ascii_digit() || value == 0 || value >= 100_000_000 {
+            return Err(rest);
+        }
+        value = 10 * value + u32::from(*digit - b'0');
+        rest = after;
+    }
+    Err(rest)
+}

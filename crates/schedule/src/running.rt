@@ -1,0 +1,103 @@
+//! The lines of a schedule, stepped one after the other.
+
+ghost use Rattle.std.specs.Prelude.{◌≡◌, ◌⊎◌, ◌+◌, ◌-◌, ◌^◌, ◌++◌, min, [], false, IfOk, IfErr, OnOk, OnErr, IsTrue};
+ghost use Rattle.world.specs.Steps.{fresh_world, is_supported, step_of};
+ghost use Rattle.schedule.specs.declared.fault.ReplayFault.TheVariants.{BadConfig, Memory};
+ghost use Rattle.schedule.specs.Answers.{answer_line};
+ghost use Rattle.schedule.specs.Grammar.{line_at};
+ghost use Rattle.schedule.specs.Printed.{after_line};
+ghost use Rattle.schedule.specs.Play.{point, number_on, PlaysAll, EndsLines};
+
+use crate::answers::{print_answer, print_end};
+use crate::counts::Counts;
+use crate::fault::ReplayFault;
+use crate::held::Held;
+use rcu_model::Refusal;
+use std::alloc::Global;
+use world::{Config, Line, World};
+
+/// A world, and where its schedule stands.
+#[derive(Drop)]
+pub struct Running {
+    pub world: World,
+    /// The number of the next line.
+    pub line: u64,
+    pub held: Held,
+}
+
+impl Running {
+    /// A fresh world, before its first line. `BadConfig` where the world does not support the config; `Memory`.
+    pub fn new(alloc: Global, config: Config) -> Result<Running, ReplayFault>
+        ensures ok { IfOk result (λ r. IsTrue (is_supported config) × (r.world ≡ fresh_world config) × (r.line ≡ 2) × (r.held ≡ [])) }
+        ensures err { IfErr result (λ fault. ((fault ≡ BadConfig) × (is_supported config ≡ false)) ⊎ (fault ≡ Memory)) }
+    {
+        match World::new(alloc, config) {
+            Ok(world) => Ok(Running {
+                world,
+                line: 2,
+                held: Held::new(),
+            }),
+            Err(Refusal::Memory) => Err(ReplayFault::Memory),
+            Err(_) => Err(ReplayFault::BadConfig),
+        }
+    }
+
+    /// Steps the line, and writes its answer at the end. `Memory` writes nothing.
+    fn answer(&mut self, alloc: Global, line: &Line, out: &mut Vec<u8>) -> Result<(), ReplayFault>
+        ensures world { OnOk result (self.new.world ≡ after_line self.old.world line.now) }
+        ensures line { OnOk result (self.new.line ≡ number_on self.old.line 1) }
+        ensures held { self.new.held ≡ self.old.held }
+        ensures printed { OnOk result (out.new.items ≡ out.old.items ++ answer_line (step_of self.old.world line.now).answer) }
+        ensures err { IfErr result (λ fault. (fault ≡ Memory) × (out.new.items ≡ out.old.items)) }
+    {
+        let answer = self.world.step(line);
+        if let Err(Refusal::Memory) = answer {
+            return Err(ReplayFault::Memory);
+        }
+        print_answer(alloc, answer, out)?;
+        self.line = self.line.saturating_add(1);
+        Ok(())
+    }
+
+    /// Answers each line that ends in the piece. `BadText` at the first byte with which no line goes on; `Memory`.
+    pub fn feed(
+        &mut self,
+        alloc: Global,
+        piece: &[u8],
+        out: &mut Vec<u8>,
+    ) -> Result<(), ReplayFault>
+        ensures { line_at self.old.held ≡ Err [] → PlaysAll (point self.old.world self.old.line (self.old.held ++ piece.now) out.old.items) (point self.new.world self.new.line self.new.held out.new.items) result }
+    {
+        let mut rest = piece;
+        loop {
+            match self.held.next_line(rest) {
+                Ok(Some((line, after))) => {
+                    self.answer(alloc, &line, out)?;
+                    rest = after;
+                }
+                Ok(None) => return Ok(()),
+                Err(column) => {
+                    return Err(ReplayFault::BadText {
+                        line: self.line,
+                        column,
+                    });
+                }
+            }
+        }
+    }
+
+    /// Writes the end line at the end. `BadText` where a line has not ended, and `Memory`, write nothing.
+    pub fn end(&self, alloc: Global, out: &mut Vec<u8>) -> Result<Counts, ReplayFault>
+        ensures { EndsLines (point self.now.world self.now.line self.now.held out.old.items) out.new.items result }
+    {
+        if self.held.len() > 0 {
+            return Err(ReplayFault::BadText {
+                line: self.line,
+                column: self.held.len() + 1,
+            });
+        }
+        let counts = Counts::of(self.world.log());
+        print_end(alloc, &counts, out)?;
+        Ok(counts)
+    }
+}

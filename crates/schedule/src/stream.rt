@@ -1,0 +1,79 @@
+//! A schedule that comes from a reader, replayed into a writer.
+
+ghost use Rattle.std.specs.Prelude.{◌≡◌, ◌≤◌, length, IfErr};
+ghost use Rattle.schedule.specs.Ports.{Writes, Passes, Closes, Replays};
+
+use crate::counts::Counts;
+use crate::fault::ReplayFault;
+use crate::feeding::Replay;
+use std::alloc::Global;
+use std::io::{Read, Write};
+
+/// As many bytes as are read at once, at most.
+const PIECE: usize = 4096;
+
+/// Writes all the bytes. `Write` at the first error, and where a write takes nothing.
+fn write_whole<W: Write>(writer: &mut W, bytes: &[u8]) -> Result<(), ReplayFault>
+    ensures { Writes (W.contents writer.old) (W.contents writer.new) bytes.now result }
+{
+    let mut rest = bytes;
+    while !rest.is_empty() {
+        match writer.write(rest) {
+            Ok(0) | Err(_) => return Err(ReplayFault::Write),
+            Ok(taken) => rest = &rest[taken..],
+        }
+    }
+    Ok(())
+}
+
+/// Feeds a piece, and writes what it gives.
+fn pass<W: Write>(
+    replay: &mut Replay,
+    piece: &[u8],
+    out: &mut Vec<u8>,
+    writer: &mut W,
+) -> Result<(), ReplayFault>
+    ensures { Passes replay.old replay.new piece.now (W.contents writer.old) (W.contents writer.new) result }
+{
+    out.clear();
+    let fed = replay.feed(piece, out);
+    write_whole(writer, out)?;
+    fed
+}
+
+/// Ends the input, and writes what that gives.
+fn close<W: Write>(
+    replay: &mut Replay,
+    out: &mut Vec<u8>,
+    writer: &mut W,
+) -> Result<Counts, ReplayFault>
+    ensures { Closes replay.old (W.contents writer.old) (W.contents writer.new) result }
+{
+    out.clear();
+    let counts = replay.finish(out);
+    write_whole(writer, out)?;
+    counts
+}
+
+/// Reads a schedule to its end, writes the answer of each line and then the end line, and answers the counts of that line.
+/// What each piece gives is written before the next one is read. `BadText`, `BadConfig`, `Read`, `Write` and `Memory`
+/// as they come: nothing is read or written again after an error.
+pub fn replay<R: Read, W: Write>(
+    alloc: Global,
+    reader: &mut R,
+    writer: &mut W,
+) -> Result<Counts, ReplayFault>
+    ensures { Replays (R.remaining reader.old) (R.remaining reader.new) (W.contents writer.old) (W.contents writer.new) result }
+{
+    let mut replay = Replay::new(alloc);
+    let mut out = Vec::new(alloc);
+    let mut buffer = [0u8; PIECE];
+    for _ in 0..u64::MAX {
+        match reader.read(&mut buffer) {
+            Ok(0) => return close(&mut replay, &mut out, writer),
+            Ok(len) => pass(&mut replay, &buffer[..len], &mut out, writer)?,
+            Err(_) => return Err(ReplayFault::Read),
+        }
+    }
+    Err(ReplayFault::Read)
+}

@@ -1,0 +1,374 @@
+//! Texts and what they print, whole and in pieces, and what fails in the middle.
+
+mod rows;
+
+use super::*;
+use rcu_model::{Event, ObjectId, SectionId};
+use std::alloc::Global;
+use std::io;
+use std::io::{Read, Write};
+use std::process::Abort;
+use std::test::Fail;
+use world::{Config, Flavour, Layout, Line, ReaderVerb, UpdaterVerb, WorkerVerb};
+
+/// A text, what it prints, and the text of its fault, which is empty where the schedule is good.
+#[derive(Drop)]
+struct Row<'a> {
+    text: &'a [u8],
+    printed: &'a [u8],
+    fault: &'a str,
+}
+
+/// Gives its text in pieces of at most so many bytes. A count of reads may stand before one that fails.
+#[derive(Drop)]
+struct Pieces<'a> {
+    text: &'a [u8],
+    most: usize,
+    before: Option<usize>,
+}
+
+impl Read for Pieces<'_> {
+    fn read(&mut self, buf: &mut [u8]) -> io::Result<usize> {
+        match self.before {
+            Some(0) => return Err(io::ErrorKind::Interrupted.into()),
+            Some(left) => self.before = Some(left - 1),
+            None => {}
+        }
+        let len = self.text.len().min(self.most).min(buf.len());
+        let (piece, rest) = self.text.split_at(len);
+        buf[..len].copy_from_slice(piece);
+        self.text = rest;
+        Ok(len)
+    }
+}
+
+/// Takes at most so many bytes at once. A count of writes may stand before one that fails.
+#[derive(Drop)]
+struct Sink {
+    bytes: Vec<u8>,
+    most: usize,
+    before: Option<usize>,
+}
+
+impl Write for Sink {
+    fn write(&mut self, buf: &[u8]) -> io::Result<usize> {
+        match self.before {
+            Some(0) => return Err(io::ErrorKind::Interrupted.into()),
+            Some(left) => self.before = Some(left - 1),
+            None => {}
+        }
+        let len = buf.len().min(self.most);
+        self.bytes.extend_from_slice(&buf[..len])?;
+        Ok(len)
+    }
+
+    fn flush(&mut self) -> io::Result<()> {
+        Ok(())
+    }
+}
+
+/// What a replay answers: the counts or the text of the fault, and what it wrote.
+fn replayed(
+    alloc: Global,
+    mut reader: Pieces,
+    most: usize,
+    before: Option<usize>,
+) -> Result<(String, Vec<u8>), Fail> {
+    let mut sink = Sink {
+        bytes: Vec::new(alloc),
+        most,
+        before,
+    };
+    let fault = match replay(alloc, &mut reader, &mut sink) {
+        Ok(_) => String::new(alloc),
+        Err(fault) => fault.to_string(alloc)?,
+    };
+    Ok((fault, sink.bytes))
+}
+
+/// The row holds whole, by single bytes and in pieces of 7.
+fn check_row(rt: &impl Abort, alloc: Global, row: &Row) -> Result<(), Fail> {
+    for most in [4096, 1, 7] {
+        let reader = Pieces {
+            text: row.text,
+            most,
+            before: None,
+        };
+        let (fault, printed) = replayed(alloc, reader, 4096, None)?;
+        assert_eq!(rt; fault.as_str(), row.fault, "in pieces of {most}");
+        assert_eq!(rt; printed.as_slice(), row.printed, "in pieces of {most}");
+    }
+    Ok(())
+}
+
+const ROWS: [Row<'static>; 16] = [
+    Row {
+        text: b"schedule 1 memb 1 1 1 1\n",
+        printed: b"end open=0 waiting=0 run=0\n",
+        fault: "",
+    },
+    Row {
+        text: b"schedule 2 memb 64 16 8 64\nr63 lock\nu15 push c63\n",
+        printed: b".\n.\nend open=0 waiting=0 run=0\n",
+        fault: "",
+    },
+    Row {
+        text: b"",
+        printed: b"",
+        fault: "line 1 column 1: bad text",
+    },
+    Row {
+        text: b"schedule 1 memb 0 1 1 1\n",
+        printed: b"",
+        fault: "line 1: bad config",
+    },
+    Row {
+        text: b"schedule 1 memb 1 1 1 65\nr0  lock\n",
+        printed: b"",
+        fault: "line 1: bad config",
+    },
+    Row {
+        text: b"schedule 1 memb 0 1 1 1",
+        printed: b"",
+        fault: "line 1 column 24: bad text",
+    },
+    Row {
+        text: b"schedule 1 memb 01 1 1 1\n",
+        printed: b"",
+        fault: "line 1 column 18: bad text",
+    },
+    Row {
+        text: b"schedule 1 memb 1 1 1 1",
+        printed: b"",
+        fault: "line 1 column 24: bad text",
+    },
+    Row {
+        text: b"schedule 1 memb 1000000000 1 1 1\n",
+        printed: b"",
+        fault: "line 1 column 26: bad text",
+    },
+    Row {
+        text: b"schedule 3 memb 1 1 1 1\n",
+        printed: b"",
+        fault: "line 1 column 10: bad text",
+    },
+    Row {
+        text: b"schedule 1 memb 1 1 1 1\nr0  lock\n",
+        printed: b"",
+        fault: "line 2 column 4: bad text",
+    },
+    Row {
+        text: b"schedule 1 memb 1 1 1 1\nr00 lock\n",
+        printed: b"",
+        fault: "line 2 column 3: bad text",
+    },
+    Row {
+        text: b"schedule 1 memb 1 1 1 1\nr0 l\n",
+        printed: b"",
+        fault: "line 2 column 5: bad text",
+    },
+    Row {
+        text: b"schedule 1 memb 1 1 1 1\nr0 lock\r\n",
+        printed: b"",
+        fault: "line 2 column 8: bad text",
+    },
+    Row {
+        text: b"schedule 1 memb 1 1 1 1\nschedule 1 memb 1 1 1 1\n",
+        printed: b"",
+        fault: "line 2 column 1: bad text",
+    },
+    Row {
+        text: b"schedule 1 memb 1 1 1 1\nr0 lock\nu0 push c0\nr0 lo",
+        printed: b".\n.\n",
+        fault: "line 4 column 6: bad text",
+    },
+];
+
+#[test]
+fn rows_hold_in_pieces(rt: HostRuntime) -> Result<(), Fail> {
+    for row in &ROWS {
+        check_row(&rt, rt.alloc(), row)?;
+    }
+    for row in &rows::GOOD {
+        check_row(&rt, rt.alloc(), row)?;
+    }
+    Ok(())
+}
+
+/// What a schedule of 65,536 locks one inside the other prints in pieces of so many bytes, where the last is answered so.
+fn check_nesting(
+    rt: &impl Abort,
+    alloc: Global,
+    header: &'static str,
+    last: &'static str,
+) -> Result<(), Fail> {
+    let mut text = String::new(alloc);
+    let mut printed = String::new(alloc);
+    text.push_str(header)?;
+    printed.push_str(".\nopen r0.1\n")?;
+    for _ in 0..65_534 {
+        text.push_str("r0 lock\n")?;
+        printed.push_str(".\n")?;
+    }
+    text.push_str("r0 lock\n")?;
+    printed.push_str(last)?;
+    let row = Row {
+        text: text.as_bytes(),
+        printed: printed.as_bytes(),
+        fault: "",
+    };
+    check_row(rt, alloc, &row)
+}
+
+#[test]
+fn nesting_has_a_limit(rt: HostRuntime) -> Result<(), Fail> {
+    let narrow = "schedule 1 memb 1 1 1 1\nr0 lock\nr0 .\n";
+    check_nesting(
+        &rt,
+        rt.alloc(),
+        narrow,
+        "refused E2\nend open=1 waiting=0 run=0\n",
+    )?;
+    let wide = "schedule 2 memb 1 1 1 1\nr0 lock\nr0 .\n";
+    check_nesting(&rt, rt.alloc(), wide, ".\nend open=1 waiting=0 run=0\n")
+}
+
+/// Each line is answered by `.`.
+const QUIET: &[u8] = b"schedule 1 memb 2 2 1 2\nr0 lock\nr1 lock\nu0 push c0\nu1 push c1\n";
+
+const QUIET_PRINTED: &[u8] = b".\n.\n.\n.\nend open=0 waiting=0 run=0\n";
+
+#[test]
+fn a_fault_is_answered_at_its_byte_and_again(rt: HostRuntime) -> Result<(), Fail> {
+    let mut replay = Replay::new(rt.alloc());
+    let mut out = Vec::new(rt.alloc());
+    assert_eq!(rt; replay.feed(QUIET, &mut out), Ok(()));
+    assert_eq!(rt;
+        replay.feed(b"r0 lx", &mut out),
+        Err(ReplayFault::BadText { line: 6, column: 5 })
+    );
+    assert_eq!(rt;
+        replay.feed(b"r0 lock\n", &mut out),
+        Err(ReplayFault::BadText { line: 6, column: 5 })
+    );
+    assert_eq!(rt;
+        replay.finish(&mut out),
+        Err(ReplayFault::BadText { line: 6, column: 5 })
+    );
+    assert_eq!(rt; out.as_slice(), b".\n.\n.\n.\n".as_slice());
+    Ok(())
+}
+
+#[test]
+fn a_read_that_fails_leaves_the_lines_before_it(rt: HostRuntime) -> Result<(), Fail> {
+    // The lines end at the bytes 24, 32, 40, 51 and 62.
+    for (reads, lines) in [(0, 0), (4, 0), (5, 1), (6, 2), (7, 2), (8, 3), (9, 4)] {
+        let reader = Pieces {
+            text: QUIET,
+            most: 7,
+            before: Some(reads),
+        };
+        let (fault, printed) = replayed(rt.alloc(), reader, 4096, None)?;
+        assert_eq!(rt; fault.as_str(), "read fault");
+        assert_eq!(rt; printed.len(), 2 * lines, "after {reads} reads");
+        assert!(rt; QUIET_PRINTED.starts_with(printed.as_slice()));
+    }
+    Ok(())
+}
+
+#[test]
+fn a_write_that_fails_leaves_a_beginning(rt: HostRuntime) -> Result<(), Fail> {
+    for writes in 0..QUIET_PRINTED.len() {
+        let reader = Pieces {
+            text: QUIET,
+            most: 7,
+            before: None,
+        };
+        let (fault, printed) = replayed(rt.alloc(), reader, 1, Some(writes))?;
+        assert_eq!(rt; fault.as_str(), "write fault");
+        assert_eq!(rt; printed.len(), writes);
+        assert!(rt; QUIET_PRINTED.starts_with(printed.as_slice()));
+    }
+    let reader = Pieces {
+        text: QUIET,
+        most: 7,
+        before: None,
+    };
+    let (fault, printed) = replayed(rt.alloc(), reader, 0, None)?;
+    assert_eq!(rt; fault.as_str(), "write fault");
+    assert_eq!(rt; printed.len(), 0);
+    Ok(())
+}
+
+#[test]
+fn a_whole_schedule_is_read(rt: HostRuntime) -> Result<(), Fail> {
+    let text = b"schedule 2 memb 3 2 1 4\nr2 first c3\nu1 replace o17\nw0 .\n";
+    match read_schedule(rt.alloc(), text) {
+        Ok(schedule) => {
+            let config = Config {
+                layout: Layout::Wide,
+                flavour: Flavour::Memb,
+                readers: 3,
+                updaters: 2,
+                workers: 1,
+                chains: 4,
+            };
+            let lines = [
+                Line::Reader(2, ReaderVerb::First(3)),
+                Line::Updater(1, UpdaterVerb::Replace(ObjectId(17))),
+                Line::Worker(0, WorkerVerb::GoOn),
+            ];
+            assert_eq!(rt; schedule.config, config);
+            assert_eq!(rt; schedule.lines.as_slice(), lines.as_slice());
+        }
+        Err(_) => assert!(rt; false),
+    }
+    assert_eq!(rt;
+        read_line(b"u0 cut o0\n"),
+        Ok(Line::Updater(0, UpdaterVerb::Cut(ObjectId(0))))
+    );
+    assert_eq!(rt; read_line(b"w0 take\n"), Err(TextFault { column: 4 }));
+    Ok(())
+}
+
+#[test]
+fn counts_and_events(rt: HostRuntime) -> Result<(), Fail> {
+    let section = SectionId {
+        reader: 3,
+        ordinal: 2,
+    };
+    let log = [
+        Event::Open(section),
+        Event::Retire(ObjectId(1)),
+        Event::Retire(ObjectId(2)),
+        Event::Run(ObjectId(1)),
+    ];
+    let counts = Counts {
+        sections: 1,
+        waiting: 1,
+        runs: 1,
+    };
+    assert_eq!(rt; Counts::of(&log), counts);
+    let mut out = String::new(rt.alloc());
+    for event in [
+        Event::First {
+            section,
+            chain: 0,
+            found: None,
+        },
+        Event::Next {
+            section,
+            from: ObjectId(4),
+            found: Some(ObjectId(5)),
+        },
+        Event::Queue {
+            object: ObjectId(18_446_744_073_709_551_615),
+            queue: 7,
+        },
+    ] {
+        print_event(rt.alloc(), &event, &mut out)?;
+    }
+    let texts = "first r3.2 c0 nonenext r3.2 o4 o5queue o18446744073709551615 q7";
+    assert_eq!(rt; out.as_str(), texts);
+    Ok(())
+}

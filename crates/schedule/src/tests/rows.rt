@@ -1,0 +1,72 @@
+//! Schedules of each kind and what they print.
+
+use super::Row;
+
+pub const GOOD: [Row<'static>; 7] = [
+    // thin-path
+    Row {
+        text: b"\
+            schedule 1 memb 1 1 1 1\nu0 push c0\nu0 .\nr0 lock\nr0 .\nr0 first c0\nr0 touch\n\
+            r0 unlock\n",
+        printed: b"\
+            .\npush c0 o1\n.\nopen r0.1\nfirst r0.1 c0 o1\ntouch r0.1 o1\nclose r0.1\n\
+            end open=0 waiting=0 run=0\n",
+        fault: "",
+    },
+    // nesting
+    Row {
+        text: b"\
+            schedule 1 memb 1 1 1 1\nr0 lock\nr0 .\nr0 lock\nr0 unlock\nr0 unlock\n",
+        printed: b"\
+            .\nopen r0.1\n.\n.\nclose r0.1\nend open=0 waiting=0 run=0\n",
+        fault: "",
+    },
+    // no-reader-in-the-way
+    Row {
+        text: b"\
+            schedule 1 memb 1 1 1 1\nu0 sync\nu0 .\nu0 .\nu0 .\nu0 .\nu0 .\nu0 .\nu0 .\nu0 .\nu0 .\n",
+        printed: b"\
+            ask a1\n.\n.\n.\n.\n.\n.\n.\nanswer a1\n.\nend open=0 waiting=0 run=0\n",
+        fault: "",
+    },
+    // scan-that-waits
+    Row {
+        text: b"\
+            schedule 1 memb 1 1 1 1\nr0 lock\nr0 .\nu0 sync\nu0 .\nu0 .\nu0 .\nu0 .\nu0 .\nr0 unlock\n\
+            u0 .\n",
+        printed: b"\
+            .\nopen r0.1\nask a1\n.\n.\n.\n.\nwait\nclose r0.1\n.\nend open=0 waiting=0 run=0\n",
+        fault: "",
+    },
+    // second-scan
+    Row {
+        text: b"\
+            schedule 1 memb 1 1 1 1\nu0 sync\nu0 .\nu0 .\nu0 .\nu0 .\nr0 lock\nu0 .\nu0 .\nu0 .\n\
+            u0 .\nu0 .\nr0 .\nu0 sync\nu0 .\nu0 .\nu0 .\nu0 .\nu0 .\nu0 .\nu0 .\n",
+        printed: b"\
+            ask a1\n.\n.\n.\n.\n.\n.\n.\n.\nanswer a1\n.\nopen r0.1\nask a2\n.\n.\n.\n.\n.\n.\nwait\n\
+            end open=1 waiting=0 run=0\n",
+        fault: "",
+    },
+    // standing-on-a-cut-object
+    Row {
+        text: b"\
+            schedule 1 memb 1 1 1 1\nu0 push c0\nu0 .\nu0 push c0\nu0 .\nr0 lock\nr0 .\nr0 first c0\n\
+            u0 cut o2\nr0 next\nr0 next\nr0 touch\nu0 replace o1\nu0 .\nr0 first c0\n",
+        printed: b"\
+            .\npush c0 o1\n.\npush c0 o2\n.\nopen r0.1\nfirst r0.1 c0 o2\ncut c0 o2\nnext r0.1 o2 o1\n\
+            next r0.1 o1 none\ntouch r0.1 o1\n.\nreplace c0 o1 o3\nfirst r0.1 c0 o3\n\
+            end open=1 waiting=0 run=0\n",
+        fault: "",
+    },
+    // sharing
+    Row {
+        text: b"\
+            schedule 1 memb 1 2 1 1\nu0 sync\nu1 sync\nu0 .\nu1 .\nu0 .\nu0 .\nu0 .\nu0 .\nu0 .\n\
+            u0 .\nu0 .\nu1 .\nu0 .\nu1 .\nu1 .\nu1 .\n",
+        printed: b"\
+            ask a1\nask a2\n.\nblocked\n.\n.\n.\n.\n.\n.\nanswer a1\nblocked\n.\n.\nanswer a2\n.\n\
+            end open=0 waiting=0 run=0\n",
+        fault: "",
+    },
+];

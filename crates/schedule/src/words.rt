@@ -1,0 +1,63 @@
+//! The words of a schedule, each with what it stands for.
+//! In no table does one word begin another.
+
+use world::{Flavour, Layout, ReaderVerb, UpdaterVerb, WorkerVerb};
+
+/// Who acts.
+#[derive(Clone, Copy, Debug, PartialEq, Eq)]
+pub enum ActorWord {
+    Reader,
+    Updater,
+    Worker,
+}
+
+/// What a reader's word stands for: a verb with its line feed, or one whose number comes next.
+#[derive(Clone, Copy, Debug, PartialEq, Eq)]
+pub enum ReaderWord {
+    Whole(ReaderVerb),
+    FirstOf,
+}
+
+/// What an updater's word stands for.
+#[derive(Clone, Copy, Debug, PartialEq, Eq)]
+pub enum UpdaterWord {
+    Whole(UpdaterVerb),
+    PushTo,
+    ReplaceOf,
+    CutOf,
+}
+
+pub const LAYOUTS: [(&[u8], Layout); 2] = [
+    (b"schedule 1 ", Layout::Narrow),
+    (b"schedule 2 ", Layout::Wide),
+];
+
+pub const FLAVOURS: [(&[u8], Flavour); 1] = [(b"memb ", Flavour::Memb)];
+
+pub const ACTORS: [(&[u8], ActorWord); 3] = [
+    (b"r", ActorWord::Reader),
+    (b"u", ActorWord::Updater),
+    (b"w", ActorWord::Worker),
+];
+
+pub const READER_WORDS: [(&[u8], ReaderWord); 9] = [
+    (b"lock\n", ReaderWord::Whole(ReaderVerb::Lock)),
+    (b"unlock\n", ReaderWord::Whole(ReaderVerb::Unlock)),
+    (b"online\n", ReaderWord::Whole(ReaderVerb::Online)),
+    (b"quiescent\n", ReaderWord::Whole(ReaderVerb::Quiescent)),
+    (b"offline\n", ReaderWord::Whole(ReaderVerb::Offline)),
+    (b"first c", ReaderWord::FirstOf),
+    (b"next\n", ReaderWord::Whole(ReaderVerb::Next)),
+    (b"touch\n", ReaderWord::Whole(ReaderVerb::Touch)),
+    (b".\n", ReaderWord::Whole(ReaderVerb::GoOn)),
+];
+
+pub const UPDATER_WORDS: [(&[u8], UpdaterWord); 5] = [
+    (b"push c", UpdaterWord::PushTo),
+    (b"replace o", UpdaterWord::ReplaceOf),
+    (b"cut o", UpdaterWord::CutOf),
+    (b"sync\n", UpdaterWord::Whole(UpdaterVerb::Sync)),
+    (b".\n", UpdaterWord::Whole(UpdaterVerb::GoOn)),
+];
+
+pub const WORKER_WORDS: [(&[u8], WorkerVerb); 1] = [(b".\n", WorkerVerb::GoOn)];

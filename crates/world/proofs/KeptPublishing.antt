@@ -1,0 +1,397 @@
+-- What the steps of updaters that publish, replace and cut keep, and that what they tell may come.
+use Rattle.std.proofs.Common.{◌≡◌, ◌≢◌, ◌⊎◌, inl, inr, ⊎_elim, ℕ, ◌<◌, ◌%◌, ◌&&◌, cond, Bool, true, false, List, [], ◌∷◌, ◌++◌, length, slice_get, slice_set, Option, Some, None, Ok, Err, refl, sym, ap, ◌∙◌, subst, arith, true≢false, get_or-set_other, get_or-set_same}
+use Rattle.std.proofs.Math.ListN.{length-set}
+use Rattle.std.proofs.lemmas.Bool.Decides.{eqb_tells}
+use Rattle.std.proofs.lemmas.Option.{slice_get_within, get_or_from_slice_get}
+use Rattle.rcu_model.specs.declared.event.Event.{Event}
+use Rattle.rcu_model.specs.declared.event.Event.TheVariants.{Push, Replace, Cut}
+use Rattle.rcu_model.specs.declared.event.ObjectId.{ObjectId}
+use Rattle.rcu_model.specs.declared.refusal.Refusal.TheVariants.{NoPlace}
+use Rattle.rcu_model.specs.Sets.{without_object, first_of, next_of, replaced, at_object}
+use Rattle.rcu_model.specs.Machine.{State, IsAllowed, after}
+use Rattle.rcu_model.proofs.Members.{In, in_objects, has_object_in}
+use Rattle.rcu_model.proofs.SetLemmas.{at_number_same, at_number_other, at_object_same, at_object_other}
+use Rattle.rcu_model.proofs.Follows.{follows, some_is, none_some, ChainKept, Spliced, push_splices, cut_splices, replace_splices}
+use Rattle.reader_word.specs.declared.layout.Layout.{Layout}
+use Rattle.world_state.specs.declared.object.Stage.{Stage}
+use Rattle.world_state.specs.declared.object.Stage.TheVariants.{Fresh, Linked, Cut as IsCut}
+use Rattle.world_state.specs.declared.object.ObjectState.{ObjectState}
+use Rattle.world_state.specs.declared.object.Splice.{Splice}
+use Rattle.world_state.specs.declared.updater.Publishing.{Publishing}
+use Rattle.world_state.specs.declared.updater.Publishing.TheVariants as publishing
+use Rattle.world_state.specs.declared.updater.UpdaterState.{UpdaterState}
+use Rattle.world_state.specs.declared.updater.UpdaterPlace.{UpdaterPlace}
+use Rattle.world_state.specs.declared.updater.UpdaterPlace.TheVariants.{Idle, Publishes, Syncs}
+use Rattle.world_state.specs.declared.change.Change.{Change}
+use Rattle.world_state.specs.declared.change.Change.TheVariants.{Begin, Publish}
+use Rattle.world_state.specs.Objects.{fresh_object, is_linked, spliced_heads, spliced_objects}
+use Rattle.world_state.specs.View.{Plans, BoardView, idle, changed}
+use Rattle.world_state.proofs.Writes.{no_object, object_at, head_of, link_of, before_of, stage_of, chain_of, grown_same}
+use Rattle.world_state.proofs.Linking.{word_of, LinksKept, FreshIn, PlaceKept, decide_number, Fits, Follows, monotone, links_spliced, place_spliced}
+use Rattle.world_state.proofs.Growing.{new_object, new_within, stage_grown, links_grown, place_grown}
+use Rattle.world_state.proofs.Reading.{reader_at, readers_over}
+use Rattle.world.specs.Chains.{writes, next_object, linked_by, push_row, replace_row, cut_row, pushed_row, replaced_row}
+use Rattle.world.proofs.Fence.{Work, Rests, Laws, Sets}
+use Rattle.world.proofs.Periods.{Part}
+use Rattle.world.proofs.State.{Asker, Syncing, decide_asker, place_work, updater_at, work_of, holder_of, word_at, UpdaterKept, Kept, Owes, work_set}
+use Rattle.world.proofs.KeptReaders.{log_longer}
+
+module _ {P : Type 0} (plans : Plans P) (layout : Layout) (slots : ℕ) (laws : Laws plans layout slots) (w : BoardView P) (now : State) (k : Kept plans layout slots laws w now) where
+  abbrev links : LinksKept w.heads w.objects now.chain now.used now.cut now.successor
+  links = k.links_kept
+
+  abbrev count : ℕ
+  count = length w.updaters
+
+  abbrev PartFor : List (UpdaterState P) → Type 0
+  PartFor updaters =
+      Part plans layout slots laws decide_asker (holder_of w.grace.holder) (work_of updaters) (word_at w.readers) w.grace.asks w.grace.seq w.grace.word now.asked now.answered now.asked_sections now.sections
+
+  -- the state of an updater that is there
+  pub record There (u : ℕ) (x : UpdaterState P) : Type 0 where
+    pub inside : u < count
+    pub is : updater_at w.updaters u ≡ x
+    pub mine : UpdaterKept w.heads w.objects count u x.place
+
+  pub there : (u : ℕ) (x : UpdaterState P) → slice_get w.updaters u ≡ Some x → There u x
+  there u x is =
+      let same = get_or_from_slice_get w.updaters u x idle is in
+      record {
+        inside = slice_get_within w.updaters u x is;
+        is = same;
+        mine = subst (λ (y : UpdaterState P). UpdaterKept w.heads w.objects count u y.place) same (k.places_kept u);
+      }
+
+  -- an updater that rests goes on resting
+  rests_still : (u : ℕ) (x x' : UpdaterState P) → There u x → place_work x.place ≡ Rests → place_work x'.place ≡ Rests → PartFor (slice_set w.updaters u x')
+  rests_still u x x' t was is = subst (λ (works : Asker → Work P). Part plans layout slots laws decide_asker (holder_of w.grace.holder) works (word_at w.readers) w.grace.asks w.grace.seq w.grace.word now.asked now.answered now.asked_sections now.sections) same k.part
+    where
+      s : Sets (work_of w.updaters) (work_of (slice_set w.updaters u x')) (Syncing u) (place_work x'.place)
+      s = work_set plans layout slots laws w.updaters u x' t.inside
+
+      each : (y : Asker) → work_of w.updaters y ≡ work_of (slice_set w.updaters u x') y
+      each y = ⊎_elim
+          (λ (e : y ≡ Syncing u). ap (work_of w.updaters) e ∙ ap (λ (z : UpdaterState P). place_work z.place) t.is ∙ was ∙ sym is ∙ sym s.here ∙ ap (work_of (slice_set w.updaters u x')) (sym e))
+          (λ (n : y ≢ Syncing u). sym (s.others y n))
+          (decide_asker y (Syncing u))
+
+      same : work_of w.updaters ≡ work_of (slice_set w.updaters u x')
+      same = λ i y. each y i
+
+  -- a state is set, and the others are as before
+  pub places_set : (heads' : List (Option ObjectId)) (os' : List ObjectState) (u : ℕ) (x' : UpdaterState P) → u < count → UpdaterKept heads' os' count u x'.place →
+      ((v : ℕ) (p : UpdaterPlace P) → v ≢ u → UpdaterKept w.heads w.objects count v p → UpdaterKept heads' os' count v p) →
+      (v : ℕ) → UpdaterKept heads' os' (length (slice_set w.updaters u x')) v (updater_at (slice_set w.updaters u x') v).place
+  places_set heads' os' u x' inside mine others v = subst (λ n. UpdaterKept heads' os' n v (updater_at (slice_set w.updaters u x') v).place) (sym (length-set w.updaters u x')) (by (decide_number v u))
+    where
+      by : (v ≡ u) ⊎ (v ≢ u) → UpdaterKept heads' os' count v (updater_at (slice_set w.updaters u x') v).place
+      by (inl e) =
+          subst (λ n. UpdaterKept heads' os' count n (updater_at (slice_set w.updaters u x') n).place) (sym e)
+          (subst (λ (y : UpdaterState P). UpdaterKept heads' os' count u y.place) (sym (get_or-set_same w.updaters u x' idle inside)) mine)
+      by (inr apart) =
+          subst (λ (y : UpdaterState P). UpdaterKept heads' os' count v y.place) (sym (get_or-set_other w.updaters u v x' idle apart))
+          (others v (updater_at w.updaters v).place apart (k.places_kept v))
+
+  -- the same over places that publish nothing
+  pub over_places : (heads' : List (Option ObjectId)) (os' : List ObjectState) (v : ℕ) → ((p : Publishing) → PlaceKept w.heads w.objects count v p → PlaceKept heads' os' count v p) →
+      (p : UpdaterPlace P) → UpdaterKept w.heads w.objects count v p → UpdaterKept heads' os' count v p
+  over_places heads' os' v f Idle h = tt
+  over_places heads' os' v f (Publishes p) h = f p h
+  over_places heads' os' v f (Syncs ask core) h = h
+
+  -- an operation begins
+  owes_begin : (u : ℕ) (x x' : UpdaterState P) (y : ObjectState) → There u x → place_work x.place ≡ Rests → place_work x'.place ≡ Rests → y.stage ≡ Fresh → UpdaterKept w.heads (w.objects ++ y ∷ []) count u x'.place →
+      Owes plans layout slots laws w now (Ok (Begin u x' y))
+  owes_begin u x x' y t was is new mine = (
+    tt,
+    record {
+      laid = k.laid;
+      sized = k.sized;
+      some_slot = k.some_slot;
+      links_kept = links_grown w.objects y new w.heads now.chain now.used now.cut now.successor links;
+      places_kept = places_set w.heads (w.objects ++ y ∷ []) u x' t.inside mine (λ v p _ h. over_places w.heads (w.objects ++ y ∷ []) v (λ q. place_grown w.objects y new w.heads count v q) p h);
+      readers_kept = readers_over plans.qsbr layout w.readers w.grace.word w.grace.word w.objects (w.objects ++ y ∷ []) now.sections now.seen now.held (λ _. omega arith) (λ o known e. known (sym (stage_grown w.objects y new o) ∙ e)) k.readers_kept;
+      part = rests_still u x x' t was is;
+      ordinals = k.ordinals;
+      asks_low = k.asks_low;
+      seq_low = k.seq_low;
+      phase_low = k.phase_low;
+    },
+  )
+
+  pub owes_push : (u : ℕ) (x : UpdaterState P) (c : ℕ) → There u x → place_work x.place ≡ Rests → (h : Option (Option ObjectId)) → slice_get w.heads c ≡ h → Owes plans layout slots laws w now (push_row w u x c h)
+  owes_push u x c t was None at_c = tt
+  owes_push u x c t was (Some head) at_c = by_test (writes w u c) (eqb_tells (c % count) u)
+    where
+      y : ObjectState
+      y = fresh_object c head
+
+      m : ObjectId
+      m = next_object w
+
+      is : object_at (w.objects ++ y ∷ []) m ≡ y
+      is = new_object w.objects y refl m refl
+
+      x' : UpdaterState P
+      x' = record x { place = Publishes (publishing.Push m) }
+
+      by_test : (b : Bool) → ((b ≡ true) × (c % count ≡ u)) ⊎ ((b ≡ false) × (c % count ≢ u)) → Owes plans layout slots laws w now (cond b (Ok (Begin u x' y)) (Err NoPlace))
+      by_test false n = tt
+      by_test true (inr n) = absurd (true≢false n.0)
+      by_test true (inl e) = owes_begin u x x' y t was refl refl (
+        (ap (λ (o : ObjectState). o.stage) is, new_within w.objects y refl m refl),
+        subst (λ (o : ObjectState). o.chain % count ≡ u) (sym is) e.1,
+        subst (λ (o : ObjectState). o.chain < length w.heads) (sym is) (slice_get_within w.heads c head at_c),
+        subst (λ (o : ObjectState). o.link ≡ head_of w.heads o.chain) (sym is) (sym (get_or_from_slice_get w.heads c head None at_c)),
+      )
+
+  -- an object that may go
+  record MayGo (u : ℕ) (o : ObjectId) (y : ObjectState) : Type 0 where
+    inside : o.0 < length w.objects
+    is : object_at w.objects o ≡ y
+    linked : stage_of w.objects o ≡ Linked
+    home : chain_of w.objects o % count ≡ u
+
+  linked_tells : (s : Stage) → is_linked s ≡ true → s ≡ Linked
+  linked_tells Fresh e = absurd (true≢false (sym e))
+  linked_tells Linked e = refl
+  linked_tells IsCut e = absurd (true≢false (sym e))
+
+  both_tests : (a : Bool) (b : Bool) → (a && b) ≡ true → (a ≡ true) × (b ≡ true)
+  both_tests true b e = (refl, e)
+  both_tests false b e = absurd (true≢false (sym e))
+
+  may_go : (u : ℕ) (o : ObjectId) (z : Option ObjectState) → slice_get w.objects o.0 ≡ z → (y : ObjectState) → linked_by w u z ≡ Some y → MayGo u o y
+  may_go u o None at_o y e = absurd (none_object y e)
+    where
+      none_object : (y : ObjectState) → None ≡ Some y → ⊥
+      none_object y e = cc
+  may_go u o (Some z) at_o y e = by_test (is_linked z.stage && writes w u z.chain) refl e
+    where
+      none_object : (y : ObjectState) → None ≡ Some y → ⊥
+      none_object y e = cc
+
+      same_object : (y : ObjectState) → Some z ≡ Some y → z ≡ y
+      same_object y e = cc
+
+      at_z : object_at w.objects o ≡ z
+      at_z = get_or_from_slice_get w.objects o.0 z no_object at_o
+
+      home_of : ((writes w u z.chain ≡ true) × (z.chain % count ≡ u)) ⊎ ((writes w u z.chain ≡ false) × (z.chain % count ≢ u)) → writes w u z.chain ≡ true → z.chain % count ≡ u
+      home_of (inl y) f = y.1
+      home_of (inr n) f = absurd (true≢false (sym f ∙ n.0))
+
+      by_test : (b : Bool) → (is_linked z.stage && writes w u z.chain) ≡ b → cond b (Some z) None ≡ Some y → MayGo u o y
+      by_test false t e = absurd (none_object y e)
+      by_test true t e =
+          let b = both_tests (is_linked z.stage) (writes w u z.chain) t in
+          record {
+            inside = slice_get_within w.objects o.0 z at_o;
+            is = at_z ∙ same_object y e;
+            linked = ap (λ (q : ObjectState). q.stage) at_z ∙ linked_tells z.stage b.0;
+            home = ap (λ (q : ObjectState). q.chain % count) at_z ∙ home_of (eqb_tells (z.chain % count) u) b.1;
+          }
+
+  pub owes_replace : (u : ℕ) (x : UpdaterState P) (o : ObjectId) → There u x → place_work x.place ≡ Rests → (z : Option ObjectState) → linked_by w u (slice_get w.objects o.0) ≡ z → Owes plans layout slots laws w now (replace_row w u x o z)
+  owes_replace u x o t was None e = tt
+  owes_replace u x o t was (Some z) e = owes_begin u x x' y t was refl refl (
+    (ap (λ (q : ObjectState). q.stage) is, new_within w.objects y refl m refl),
+    ap (λ (q : ObjectState). q.chain % count) is ∙ ap (λ (q : ObjectState). q.chain % count) (sym g.is) ∙ g.home,
+    ap (λ (q : ObjectState). q.stage) at_o ∙ g.linked,
+    ap (λ (q : ObjectState). q.chain) (at_o ∙ g.is) ∙ sym (ap (λ (q : ObjectState). q.chain) is),
+    ap (λ (q : ObjectState). q.link) is ∙ sym (ap (λ (q : ObjectState). q.link) (at_o ∙ g.is)),
+  )
+    where
+      g : MayGo u o z
+      g = may_go u o (slice_get w.objects o.0) refl z e
+
+      y : ObjectState
+      y = fresh_object z.chain z.link
+
+      m : ObjectId
+      m = next_object w
+
+      is : object_at (w.objects ++ y ∷ []) m ≡ y
+      is = new_object w.objects y refl m refl
+
+      at_o : object_at (w.objects ++ y ∷ []) o ≡ object_at w.objects o
+      at_o = grown_same w.objects y o g.inside
+
+      x' : UpdaterState P
+      x' = record x { place = Publishes (publishing.Replace o m) }
+
+  -- a store into a chain
+  owes_publish : (u : ℕ) (x x' : UpdaterState P) (s : Splice) (e : Event) (ys : List ObjectId) → There u x → place_work x.place ≡ Rests → x'.place ≡ Idle → s.chain % count ≡ u → Fits w.heads w.objects now.chain s ys →
+      IsAllowed now e → (chain' : ℕ → List ObjectId) (used' cut' : List ObjectId) (successor' : ObjectId → Option ObjectId) → Follows now.chain chain' now.used used' now.cut cut' now.successor successor' s ys →
+      after now e ≡ record now { chain = chain'; used = used'; cut = cut'; successor = successor' } → Owes plans layout slots laws w now (Ok (Publish u x' s e))
+  owes_publish u x x' s e ys t was is home fits allowed chain' used' cut' successor' follows same = (
+    (allowed, tt),
+    subst (Kept plans layout slots laws (changed w (Publish u x' s e))) (sym same)
+        (record {
+          laid = k.laid;
+          sized = k.sized;
+          some_slot = k.some_slot;
+          links_kept = links_spliced w.heads w.objects now.chain now.used now.cut now.successor s ys links fits chain' used' cut' successor' follows;
+          places_kept = places_set (spliced_heads w.heads s) (spliced_objects w.objects s) u x' t.inside
+              (subst (UpdaterKept (spliced_heads w.heads s) (spliced_objects w.objects s) count u) (sym is) tt)
+              (λ v p apart h. over_places (spliced_heads w.heads s) (spliced_objects w.objects s) v (λ q. place_spliced w.heads w.objects now.chain now.used now.cut now.successor s ys links fits count u v q home apart) p h);
+          readers_kept = readers_over plans.qsbr layout w.readers w.grace.word w.grace.word w.objects (spliced_objects w.objects s) now.sections now.seen now.held (λ _. omega arith)
+              (monotone w.heads w.objects now.chain now.used now.cut now.successor s ys links fits) k.readers_kept;
+          part = rests_still u x x' t was (ap place_work is);
+          ordinals = λ r. log_longer w.log (e ∷ []) (reader_at w.readers r).ordinal (k.ordinals r);
+          asks_low = log_longer w.log (e ∷ []) w.grace.asks k.asks_low;
+          seq_low = k.seq_low;
+          phase_low = k.phase_low;
+        }),
+  )
+
+  linked_fresh : Linked ≡ Fresh → ⊥
+  linked_fresh e = cc
+
+  pub owes_cut : (u : ℕ) (x : UpdaterState P) (o : ObjectId) → There u x → x.place ≡ Idle → (z : Option ObjectState) → linked_by w u (slice_get w.objects o.0) ≡ z → Owes plans layout slots laws w now (cut_row u x o z)
+  owes_cut u x o t was None e = tt
+  owes_cut u x o t was (Some z) e = subst (λ (y : ObjectState). Owes plans layout slots laws w now (Ok (change y))) g.is done
+    where
+      g : MayGo u o z
+      g = may_go u o (slice_get w.objects o.0) refl z e
+
+      change : ObjectState → Change P
+      change y = Publish u x (record { chain = y.chain; before = y.before; after = y.link; leaves = Some o; enters = None }) (Cut y.chain o)
+
+      c : ℕ
+      c = chain_of w.objects o
+
+      xs : List ObjectId
+      xs = now.chain c
+
+      ck : ChainKept xs (word_of w.heads w.objects c) (before_of w.objects)
+      ck = links.chains c
+
+      h : In xs o
+      h = links.links o g.linked
+
+      link : link_of w.objects o ≡ next_of xs o
+      link = ck.words (Some o) h
+
+      s : Splice
+      s = record { chain = c; before = before_of w.objects o; after = link_of w.objects o; leaves = Some o; enters = None }
+
+      done : Owes plans layout slots laws w now (Ok (Publish u x s (Cut c o)))
+      done = owes_publish u x x s (Cut c o) (without_object o xs) t (ap place_work was) was g.home
+          (record {
+            spliced = subst (λ (n : Option ObjectId). Spliced xs (without_object o xs) (before_of w.objects o) n (Some o) None) (sym link) (cut_splices xs o (before_of w.objects o) ck.once h (ck.befores o h).0 (ck.befores o h).1);
+            in_chains = (links.linked c o h).2;
+            fresh = λ m e. absurd (none_some m e);
+          })
+          (has_object_in xs o h) _ _ _ _
+          (record {
+            chain_is = at_number_same c (without_object o xs) now.chain;
+            chain_else = λ d apart. at_number_other c d (without_object o xs) now.chain apart;
+            used_is = λ p h. inr h;
+            cut_is = λ p h. ⊎_elim (λ (e : o ≡ p). inl (ap Some e)) (λ (g : In now.cut p). inr g) h;
+            cut_on = λ p h. inr h;
+            cut_new = λ p e. let same = some_is o p e in (inl same, subst (λ (q : ObjectId). at_object o (next_of xs o) now.successor q ≡ link_of w.objects o) same (at_object_same o (next_of xs o) now.successor ∙ sym link));
+            successor_else = λ p apart. at_object_other o p (next_of xs o) now.successor (λ e. apart (ap Some (sym e)));
+          })
+          refl
+
+  -- the second step of `push`
+  pub owes_pushed : (u : ℕ) (x : UpdaterState P) (m : ObjectId) → There u x → place_work x.place ≡ Rests → PlaceKept w.heads w.objects count u (publishing.Push m) → (z : Option ObjectState) → slice_get w.objects m.0 ≡ z →
+      Owes plans layout slots laws w now (pushed_row u (record x { place = Idle }) m z)
+  owes_pushed u x m t was mine None at_m = tt
+  owes_pushed u x m t was mine (Some z) at_m = subst (λ (y : ObjectState). Owes plans layout slots laws w now (Ok (change y))) (get_or_from_slice_get w.objects m.0 z no_object at_m) done
+    where
+      x' : UpdaterState P
+      x' = record x { place = Idle }
+
+      change : ObjectState → Change P
+      change y = Publish u x' (record { chain = y.chain; before = None; after = y.link; leaves = None; enters = Some m }) (Push y.chain m)
+
+      c : ℕ
+      c = chain_of w.objects m
+
+      xs : List ObjectId
+      xs = now.chain c
+
+      ck : ChainKept xs (word_of w.heads w.objects c) (before_of w.objects)
+      ck = links.chains c
+
+      link : link_of w.objects m ≡ first_of xs
+      link = mine.3 ∙ ck.words None tt
+
+      new : ¬ In xs m
+      new h = linked_fresh (sym (links.linked c m h).0 ∙ mine.0.0)
+
+      s : Splice
+      s = record { chain = c; before = None; after = link_of w.objects m; leaves = None; enters = Some m }
+
+      done : Owes plans layout slots laws w now (Ok (Publish u x' s (Push c m)))
+      done = owes_publish u x x' s (Push c m) (m ∷ xs) t was refl mine.1
+          (record {
+            spliced = subst (λ (n : Option ObjectId). Spliced xs (m ∷ xs) None n None (Some m)) (sym link) (push_splices xs m ck.once new);
+            in_chains = mine.2;
+            fresh = λ o e. subst (λ (q : ObjectId). FreshIn w.objects q × (chain_of w.objects q ≡ c) × (link_of w.objects q ≡ link_of w.objects m)) (some_is m o e) (mine.0, refl, refl);
+          })
+          (λ h. links.used_known m (in_objects now.used m h) mine.0.0) _ _ _ _
+          (record {
+            chain_is = at_number_same c (m ∷ xs) now.chain;
+            chain_else = λ d apart. at_number_other c d (m ∷ xs) now.chain apart;
+            used_is = λ p h. ⊎_elim (λ (e : m ≡ p). inl (ap Some e)) (λ (g : In now.used p). inr g) h;
+            cut_is = λ p h. inr h;
+            cut_on = λ p h. h;
+            cut_new = λ p e. absurd (none_some p e);
+            successor_else = λ p apart. refl;
+          })
+          refl
+
+  -- the second step of `replace`
+  pub owes_replaced : (u : ℕ) (x : UpdaterState P) (o m : ObjectId) → There u x → place_work x.place ≡ Rests → PlaceKept w.heads w.objects count u (publishing.Replace o m) → (z : Option ObjectState) → slice_get w.objects o.0 ≡ z →
+      Owes plans layout slots laws w now (replaced_row u (record x { place = Idle }) o m z)
+  owes_replaced u x o m t was mine None at_o = tt
+  owes_replaced u x o m t was mine (Some z) at_o = subst (λ (y : ObjectState). Owes plans layout slots laws w now (Ok (change y))) (get_or_from_slice_get w.objects o.0 z no_object at_o) done
+    where
+      x' : UpdaterState P
+      x' = record x { place = Idle }
+
+      change : ObjectState → Change P
+      change y = Publish u x' (record { chain = y.chain; before = y.before; after = y.link; leaves = Some o; enters = Some m }) (Replace y.chain o m)
+
+      c : ℕ
+      c = chain_of w.objects o
+
+      xs : List ObjectId
+      xs = now.chain c
+
+      ck : ChainKept xs (word_of w.heads w.objects c) (before_of w.objects)
+      ck = links.chains c
+
+      h : In xs o
+      h = links.links o mine.2
+
+      link : link_of w.objects o ≡ next_of xs o
+      link = ck.words (Some o) h
+
+      new : ¬ In xs m
+      new g = linked_fresh (sym (links.linked c m g).0 ∙ mine.0.0)
+
+      s : Splice
+      s = record { chain = c; before = before_of w.objects o; after = link_of w.objects o; leaves = Some o; enters = Some m }
+
+      done : Owes plans layout slots laws w now (Ok (Publish u x' s (Replace c o m)))
+      done = owes_publish u x x' s (Replace c o m) (replaced o m xs) t was refl (ap (λ d. d % count) mine.3 ∙ mine.1)
+          (record {
+            spliced = subst (λ (n : Option ObjectId). Spliced xs (replaced o m xs) (before_of w.objects o) n (Some o) (Some m)) (sym link) (replace_splices xs o m (before_of w.objects o) ck.once new h (ck.befores o h).0 (ck.befores o h).1);
+            in_chains = (links.linked c o h).2;
+            fresh = λ p e. subst (λ (q : ObjectId). FreshIn w.objects q × (chain_of w.objects q ≡ c) × (link_of w.objects q ≡ link_of w.objects o)) (some_is m p e) (mine.0, sym mine.3, mine.4);
+          })
+          (has_object_in xs o h, λ g. links.used_known m (in_objects now.used m g) mine.0.0) _ _ _ _
+          (record {
+            chain_is = at_number_same c (replaced o m xs) now.chain;
+            chain_else = λ d apart. at_number_other c d (replaced o m xs) now.chain apart;
+            used_is = λ p h. ⊎_elim (λ (e : m ≡ p). inl (ap Some e)) (λ (g : In now.used p). inr g) h;
+            cut_is = λ p h. ⊎_elim (λ (e : o ≡ p). inl (ap Some e)) (λ (g : In now.cut p). inr g) h;
+            cut_on = λ p h. inr h;
+            cut_new = λ p e. let same = some_is o p e in (inl same, subst (λ (q : ObjectId). at_object o (next_of xs o) now.successor q ≡ link_of w.objects o) same (at_object_same o (next_of xs o) now.successor ∙ sym link));
+            successor_else = λ p apart. at_object_other o p (next_of xs o) now.successor (λ e. apart (ap Some (sym e)));
+          })
+          refl

@@ -1,0 +1,545 @@
+-- What the steps of readers keep, and that what they tell may come.
+use Rattle.std.proofs.Common.{◌≡◌, ◌≢◌, ◌⊎◌, inl, inr, ⊎_elim, ℕ, ◌+◌, ◌<◌, ◌≤◌, ◌==◌, cond, not, Bool, true, false, List, [], ◌∷◌, ◌++◌, length, slice_get, slice_set, Option, Some, None, Result, Ok, Err, refl, sym, ap, ◌∙◌, subst, arith, true≢false, length-append, get_or-set_other, get_or-set_same}
+use Rattle.std.proofs.Math.ListN.{length-set}
+use Rattle.std.proofs.lemmas.Bool.Decides.{eqb_tells}
+use Rattle.std.proofs.lemmas.Option.{slice_get_within, get_or_from_slice_get}
+use Rattle.rcu_model.specs.declared.event.Event.{Event}
+use Rattle.rcu_model.specs.declared.event.Event.TheVariants.{Open, Close, First, Next, Touch}
+use Rattle.rcu_model.specs.declared.event.ObjectId.{ObjectId}
+use Rattle.rcu_model.specs.declared.event.SectionId.{SectionId}
+use Rattle.rcu_model.specs.declared.refusal.Refusal.{Refusal}
+use Rattle.rcu_model.specs.declared.refusal.Refusal.TheVariants.{NotOpen, Busy}
+use Rattle.rcu_model.specs.Sets.{without_section, at_section, first_of, next_of}
+use Rattle.rcu_model.specs.Machine.{State, got, IsSuccessor}
+use Rattle.rcu_model.proofs.Members.{In, in_sections, has_section_in, in_objects, has_object_in, in_left, in_last, in_more, section_tells, Tells}
+use Rattle.rcu_model.proofs.SetLemmas.{without_section_has, has_without_section, at_section_same, at_section_other}
+use Rattle.rcu_model.proofs.Follows.{some_is, none_some, first_has, follows_has}
+use Rattle.rcu_model.specs.Sets.{same_section}
+use Rattle.reader_word.specs.declared.layout.Layout.{Layout}
+use Rattle.reader_word.specs.Word.{count_of, phase_in, is_open_of, entered_of, left_of}
+use Rattle.reader_word.specs.Quiescent.{is_online, announced}
+use Rattle.reader_word.proofs.WordLemmas.{NestsDeeper, entered_of-nests, entered_of-opens, left_of-nests}
+use Rattle.gp_memb.specs.Plan.{Shows}
+use Rattle.world_state.specs.declared.line.Answer.{Answer}
+use Rattle.world_state.specs.declared.line.Answer.TheVariants.{Events, Quiet}
+use Rattle.world_state.specs.declared.reader.ReaderState.{ReaderState}
+use Rattle.world_state.specs.declared.reader.ReaderStep.{ReaderStep}
+use Rattle.world_state.specs.declared.object.ObjectState.{ObjectState}
+use Rattle.world_state.specs.declared.object.Stage.{Stage}
+use Rattle.world_state.specs.declared.object.Stage.TheVariants.{Fresh, Linked, Cut as IsCut}
+use Rattle.world_state.specs.declared.change.Change.TheVariants.{Read}
+use Rattle.world_state.specs.View.{Plans, BoardView, told, changed}
+use Rattle.world_state.specs.Readers.{section_of, new_reader, is_open_in, quietly, telling, with_word, opened, closed, with_cursor, stores, lock_row, enter_row, unlock_row, online_row, go_online_row, quiescent_row, announce_row, offline_row, touch_row}
+use Rattle.world_state.proofs.Writes.{no_object, link_of, stage_of, chain_of}
+use Rattle.world_state.proofs.Linking.{LinksKept, decide_number}
+use Rattle.world_state.proofs.Reading.{reader_at, ReaderKept, readers_set}
+use Rattle.world.specs.Chains.{first_row, next_row, next_from}
+use Rattle.world.proofs.Fence.{Laws}
+use Rattle.world.proofs.Periods.{part_words}
+use Rattle.world.proofs.State.{decide_asker, holder_of, work_of, word_at, Kept, Owes}
+
+-- a section is that of its reader and its ordinal
+decide_section : (s t : SectionId) → (s ≡ t) ⊎ (s ≢ t)
+decide_section s t = by (section_tells s t)
+  where
+    by : Tells (same_section s t) s t → (s ≡ t) ⊎ (s ≢ t)
+    by (inl y) = inl y.1
+    by (inr n) = inr n.1
+
+pub log_longer : (log : List Event) (es : List Event) (n : ℕ) → n ≤ length log → n ≤ length (log ++ es)
+log_longer log es n low = omega (arith, low, length-append log es)
+
+pub log_one : (log : List Event) (e : Event) (es : List Event) (n : ℕ) → n ≤ length log → n + 1 ≤ length (log ++ (e ∷ es))
+log_one log e es n low = omega (arith, low, length-append log (e ∷ es))
+
+module _ {P : Type 0} (plans : Plans P) (layout : Layout) (slots : ℕ) (laws : Laws plans layout slots) (w : BoardView P) (now : State) (k : Kept plans layout slots laws w now) where
+  abbrev pub number : ℕ
+  number = w.grace.word
+
+  abbrev pub is_in : ℕ → Bool
+  is_in word = is_open_in plans.qsbr layout word
+
+  abbrev pub shows : ℕ → ℕ → Type 0
+  shows mark word = Shows plans.qsbr layout mark word
+
+  abbrev pub Mine : ℕ → ReaderState → Type 0
+  Mine r v = ReaderKept plans.qsbr layout r v number w.objects now.sections now.seen now.held
+
+  -- the state of a reader that is there
+  pub record There (r : ℕ) (v : ReaderState) : Type 0 where
+    pub inside : r < length w.readers
+    pub is : reader_at w.readers r ≡ v
+    pub mine : Mine r v
+    pub ordinal : v.ordinal ≤ length w.log
+
+  pub there : (r : ℕ) (v : ReaderState) → slice_get w.readers r ≡ Some v → There r v
+  there r v is =
+      let same = get_or_from_slice_get w.readers r v new_reader is in
+      record {
+        inside = slice_get_within w.readers r v is;
+        is = same;
+        mine = subst (Mine r) same (k.readers_kept r);
+        ordinal = subst (λ (x : ReaderState). x.ordinal ≤ length w.log) same (k.ordinals r);
+      }
+
+  abbrev later : List SectionId → List SectionId → (SectionId → List ObjectId) → (ObjectId → List SectionId) → (ℕ → List SectionId) → State
+  later seen sections held awaited asked = record now { seen = seen; sections = sections; held = held; awaited = awaited; asked_sections = asked }
+
+  -- a reader changes, and sections with it
+  record Changes (r : ℕ) (v v' : ReaderState) (seen' sections' : List SectionId) (held' : SectionId → List ObjectId) (asked' : ℕ → List SectionId) : Type 0 where
+    mine : ReaderKept plans.qsbr layout r v' number w.objects sections' seen' held'
+    sees : (x n : ℕ) → x ≢ r → In seen' (section_of x n) → In now.seen (section_of x n)
+    opens : (x n : ℕ) → x ≢ r → In now.sections (section_of x n) → In sections' (section_of x n)
+    closes : (x n : ℕ) → x ≢ r → In sections' (section_of x n) → In now.sections (section_of x n)
+    holds : (x n : ℕ) (o : ObjectId) → x ≢ r → In (now.held (section_of x n)) o → In (held' (section_of x n)) o
+    awaits : (a : ℕ) (s : SectionId) → In (asked' a) s → In (now.asked_sections a) s
+    marks : (a : ℕ) (s : SectionId) → In (asked' a) s → In now.sections s → s.reader ≡ r → In sections' s × ((mark : ℕ) → shows mark v.word → shows mark v'.word)
+
+  kept_read : (r : ℕ) (v v' : ReaderState) (answer : Answer) (seen' sections' : List SectionId) (held' : SectionId → List ObjectId) (awaited' : ObjectId → List SectionId) (asked' : ℕ → List SectionId) →
+      There r v → Changes r v v' seen' sections' held' asked' → v'.ordinal ≤ length (w.log ++ told answer) →
+      Kept plans layout slots laws (changed w (Read r (record { state = v'; answer = answer }))) (later seen' sections' held' awaited' asked')
+  kept_read r v v' answer seen' sections' held' awaited' asked' t c ordinal = record {
+    laid = k.laid;
+    sized = length-set w.readers r v' ∙ k.sized;
+    some_slot = k.some_slot;
+    links_kept = k.links_kept;
+    places_kept = k.places_kept;
+    readers_kept = readers_set plans.qsbr layout w.readers number w.objects now.sections sections' now.seen seen' now.held held' r v' t.inside c.mine c.sees c.opens c.closes c.holds k.readers_kept;
+    part = part_words plans layout slots laws decide_asker (holder_of w.grace.holder) (work_of w.updaters) (word_at w.readers) (word_at (slice_set w.readers r v')) w.grace.asks w.grace.seq number now.asked now.answered now.asked_sections asked' now.sections sections'
+        words c.awaits k.part;
+    ordinals = λ x. ordinals x (decide_number x r);
+    asks_low = log_longer w.log (told answer) w.grace.asks k.asks_low;
+    seq_low = k.seq_low;
+    phase_low = k.phase_low;
+  }
+    where
+      Next : SectionId → Type 0
+      Next s = (mark : ℕ) → shows mark (word_at w.readers s.reader) → shows mark (word_at (slice_set w.readers r v') s.reader)
+
+      words : (a : ℕ) (s : SectionId) → In (asked' a) s → In now.sections s → In (now.asked_sections a) s × In sections' s × Next s
+      words a s h o = by (decide_number s.reader r)
+        where
+          by : (s.reader ≡ r) ⊎ (s.reader ≢ r) → In (now.asked_sections a) s × In sections' s × Next s
+          by (inl e) =
+              let m = c.marks a s h o e in (
+                c.awaits a s h,
+                m.0,
+                λ mark shown.
+                    let at : word_at (slice_set w.readers r v') s.reader ≡ v'.word =
+                    ap (λ n. word_at (slice_set w.readers r v') n) e ∙ ap (λ (x : ReaderState). x.word) (get_or-set_same w.readers r v' new_reader t.inside) in
+                    let was : word_at w.readers s.reader ≡ v.word = ap (λ n. word_at w.readers n) e ∙ ap (λ (x : ReaderState). x.word) t.is in
+                    subst (shows mark) (sym at) (m.1 mark (subst (shows mark) was shown)),
+              )
+          by (inr n) = (
+            c.awaits a s h,
+            c.opens s.reader s.ordinal n o,
+            λ mark shown. subst (shows mark) (sym (ap (λ (x : ReaderState). x.word) (get_or-set_other w.readers r s.reader v' new_reader n))) shown,
+          )
+
+      ordinals : (x : ℕ) → (x ≡ r) ⊎ (x ≢ r) → (reader_at (slice_set w.readers r v') x).ordinal ≤ length (w.log ++ told answer)
+      ordinals x (inl e) =
+          subst (λ (y : ReaderState). y.ordinal ≤ length (w.log ++ told answer))
+          (sym (ap (λ n. reader_at (slice_set w.readers r v') n) e ∙ get_or-set_same w.readers r v' new_reader t.inside)) ordinal
+      ordinals x (inr n) =
+          subst (λ (y : ReaderState). y.ordinal ≤ length (w.log ++ told answer)) (sym (get_or-set_other w.readers r x v' new_reader n))
+          (log_longer w.log (told answer) (reader_at w.readers x).ordinal (k.ordinals x))
+
+  abbrev pub OwesRead : ℕ → Result ReaderStep Refusal → Type 0
+  OwesRead r (Err e) = Unit {0}
+  OwesRead r (Ok step) = Owes plans layout slots laws w now (Ok (Read r step))
+
+  -- nothing of the sections changes
+  same_sections : (r : ℕ) (v v' : ReaderState) (answer : Answer) → There r v → ReaderKept plans.qsbr layout r v' number w.objects now.sections now.seen now.held →
+      ((mark : ℕ) (s : SectionId) → In now.sections s → s.reader ≡ r → shows mark v.word → shows mark v'.word) → v'.ordinal ≡ v.ordinal →
+      Kept plans layout slots laws (changed w (Read r (record { state = v'; answer = answer }))) now
+  same_sections r v v' answer t mine marks same =
+      kept_read r v v' answer now.seen now.sections now.held now.awaited now.asked_sections t
+      (record {
+        mine = mine;
+        sees = λ x n _ h. h;
+        opens = λ x n _ h. h;
+        closes = λ x n _ h. h;
+        holds = λ x n o _ h. h;
+        awaits = λ a s h. h;
+        marks = λ a s h o e. (o, λ mark. marks mark s o e);
+      })
+      (subst (λ n. n ≤ length (w.log ++ told answer)) (sym same) (log_longer w.log (told answer) v.ordinal t.ordinal))
+
+  -- a phase or number is loaded
+  pub owes_copy : (r : ℕ) (v : ReaderState) → There r v → (plans.qsbr ≡ false → is_in v.word ≡ false) → OwesRead r (Ok (quietly (record v { copy = Some number })))
+  owes_copy r v t idle = (
+    tt,
+    same_sections r v (record v { copy = Some number }) Quiet t
+        (record {
+          low = t.mine.low;
+          opened = t.mine.opened;
+          opens = t.mine.opens;
+          holds = t.mine.holds;
+          copying = λ copy e. let same : number ≡ copy = some_is number copy e in (idle, λ _. omega (arith, same));
+          marked = t.mine.marked;
+        })
+        (λ mark s _ _ h. h) refl,
+  )
+
+  -- the word changes while its section stays open
+  pub owes_word : (r : ℕ) (v : ReaderState) (word : ℕ) → There r v → is_in v.word ≡ true → is_in word ≡ true → ((mark : ℕ) → shows mark v.word → shows mark word) → (plans.qsbr ≡ true → word ≤ number + 1) →
+      OwesRead r (Ok (quietly (with_word v word)))
+  owes_word r v word t was is marks low = (
+    tt,
+    same_sections r v (with_word v word) Quiet t
+        (record {
+          low = t.mine.low;
+          opened = λ _. t.mine.opened was;
+          opens = λ n h. ((t.mine.opens n h).0, is);
+          holds = λ o e. let h = t.mine.holds o e in (is, h.1, h.2);
+          copying = λ copy e. let c = t.mine.copying copy e in ((λ f. absurd (true≢false (sym was ∙ c.0 f))), c.1);
+          marked = low;
+        })
+        (λ mark s _ _ h. marks mark h) refl,
+  )
+
+  -- a section opens
+  pub owes_open : (r : ℕ) (v : ReaderState) (word : ℕ) → There r v → is_in v.word ≡ false → is_in word ≡ true → (plans.qsbr ≡ true → word ≤ number + 1) →
+      OwesRead r (Ok (telling (Open (section_of r (v.ordinal + 1))) (opened v word)))
+  owes_open r v word t was is low = (
+    ((λ h. let l = t.mine.low (v.ordinal + 1) (in_sections now.seen new h) in omega (arith, l)), tt),
+    kept_read r v (opened v word) (Events (Open new) None) (new ∷ now.seen) (now.sections ++ new ∷ []) now.held now.awaited now.asked_sections t
+        (record {
+          mine = record {
+            low = λ n h. ⊎_elim (λ (e : new ≡ section_of r n). let m : v.ordinal + 1 ≡ n = ap (λ (s : SectionId). s.ordinal) e in omega (arith, m)) (λ (o : In now.seen (section_of r n)). let m = t.mine.low n o in omega (arith, m)) h;
+            opened = λ _. in_last now.sections new;
+            opens = λ n h. (by_more n (in_more now.sections new (section_of r n) h), is);
+            holds = λ o e. absurd (none_some o e);
+            copying = λ copy e. absurd (none_number copy e);
+            marked = low;
+          };
+          sees = λ x n apart h. ⊎_elim (λ (e : new ≡ section_of x n). absurd (apart (sym (ap (λ (s : SectionId). s.reader) e)))) (λ (o : In now.seen (section_of x n)). o) h;
+          opens = λ x n _ h. in_left now.sections (new ∷ []) (section_of x n) h;
+          closes = λ x n apart h. ⊎_elim (λ (o : In now.sections (section_of x n)). o) (λ (e : new ≡ section_of x n). absurd (apart (sym (ap (λ (s : SectionId). s.reader) e)))) (in_more now.sections new (section_of x n) h);
+          holds = λ x n o _ h. h;
+          awaits = λ a s h. h;
+          marks = λ a s h o e. absurd (none_open s o e);
+        })
+        (log_one w.log (Open new) [] v.ordinal t.ordinal),
+  )
+    where
+      new : SectionId
+      new = section_of r (v.ordinal + 1)
+
+      none_number : (copy : ℕ) → None ≡ Some copy → ⊥
+      none_number copy e = cc
+
+      by_more : (n : ℕ) → In now.sections (section_of r n) ⊎ (new ≡ section_of r n) → n ≡ v.ordinal + 1
+      by_more n (inl o) = absurd (true≢false (sym (t.mine.opens n o).1 ∙ was))
+      by_more n (inr e) = sym (ap (λ (s : SectionId). s.ordinal) e)
+
+      none_open : (s : SectionId) → In now.sections s → s.reader ≡ r → ⊥
+      none_open s o e = true≢false (sym (t.mine.opens s.ordinal (subst (λ n. In now.sections (section_of n s.ordinal)) e o)).1 ∙ was)
+
+  -- what a close leaves
+  module _ (r : ℕ) (v : ReaderState) (t : There r v) (was : is_in v.word ≡ true) where
+    abbrev gone : SectionId
+    gone = section_of r v.ordinal
+
+    elsewhere : (x n : ℕ) → x ≢ r → section_of x n ≢ gone
+    elsewhere x n apart e = apart (ap (λ (s : SectionId). s.reader) e)
+
+    abbrev left : List SectionId
+    left = without_section gone now.sections
+
+    none_left : (n : ℕ) → ¬ In left (section_of r n)
+    none_left n h = let o = without_section_has gone now.sections (section_of r n) h in o.1 (ap (section_of r) (t.mine.opens n o.0).0)
+
+    none_of : (s : SectionId) → In left s → s.reader ≡ r → ⊥
+    none_of s h e = none_left s.ordinal (subst (λ n. In left (section_of n s.ordinal)) e h)
+
+    held_left : (x n : ℕ) (o : ObjectId) → x ≢ r → In (now.held (section_of x n)) o → In (at_section gone [] now.held (section_of x n)) o
+    held_left x n o apart h = subst (λ (os : List ObjectId). In os o) (sym (at_section_other gone (section_of x n) [] now.held (elsewhere x n apart))) h
+
+    abbrev asked_left : ℕ → List SectionId
+    asked_left a = without_section gone (now.asked_sections a)
+
+    abbrev awaited_left : ObjectId → List SectionId
+    awaited_left o = without_section gone (now.awaited o)
+
+    asked_open : (a : ℕ) (s : SectionId) → In (asked_left a) s → In now.sections s → In left s
+    asked_open a s h o = has_without_section gone now.sections s o (without_section_has gone (now.asked_sections a) s h).1
+
+    pub owes_close : (word : ℕ) → is_in word ≡ false → (plans.qsbr ≡ true → word ≤ number + 1) → OwesRead r (Ok (telling (Close (section_of r v.ordinal)) (closed v word)))
+    owes_close word is low = (
+      (has_section_in now.sections gone (t.mine.opened was), tt),
+      kept_read r v (closed v word) (Events (Close gone) None) now.seen left (at_section gone [] now.held) awaited_left asked_left t
+          (record {
+            mine = record {
+              low = t.mine.low;
+              opened = λ e. absurd (true≢false (sym e ∙ is));
+              opens = λ n h. absurd (none_left n h);
+              holds = λ o e. absurd (none_some o e);
+              copying = λ copy e. let c = t.mine.copying copy e in ((λ f. is), c.1);
+              marked = low;
+            };
+            sees = λ x n _ h. h;
+            opens = λ x n apart h. has_without_section gone now.sections (section_of x n) h (elsewhere x n apart);
+            closes = λ x n _ h. (without_section_has gone now.sections (section_of x n) h).0;
+            holds = held_left;
+            awaits = λ a s h. (without_section_has gone (now.asked_sections a) s h).0;
+            marks = λ a s h o e. absurd (none_of s (asked_open a s h o) e);
+          })
+          (log_longer w.log (Close gone ∷ []) v.ordinal t.ordinal),
+    )
+
+    -- one section closes and the next one opens
+    pub owes_announce : (word : ℕ) → is_in word ≡ true → (plans.qsbr ≡ true → word ≤ number + 1) →
+        OwesRead r (Ok (record { state = opened v word; answer = Events (Close (section_of r v.ordinal)) (Some (Open (section_of r (v.ordinal + 1)))) }))
+    owes_announce word is low = (
+      (has_section_in now.sections gone (t.mine.opened was), ((λ h. let l = t.mine.low (v.ordinal + 1) (in_sections now.seen new h) in omega (arith, l)), tt)),
+      kept_read r v (opened v word) (Events (Close gone) (Some (Open new))) (new ∷ now.seen) (left ++ new ∷ []) (at_section gone [] now.held) awaited_left asked_left t
+          (record {
+            mine = record {
+              low = λ n h. ⊎_elim (λ (e : new ≡ section_of r n). let m : v.ordinal + 1 ≡ n = ap (λ (s : SectionId). s.ordinal) e in omega (arith, m)) (λ (o : In now.seen (section_of r n)). let m = t.mine.low n o in omega (arith, m)) h;
+              opened = λ _. in_last left new;
+              opens = λ n h. (by_more n (in_more left new (section_of r n) h), is);
+              holds = λ o e. absurd (none_some o e);
+              copying = λ copy e. absurd (none_number copy e);
+              marked = low;
+            };
+            sees = λ x n apart h. ⊎_elim (λ (e : new ≡ section_of x n). absurd (apart (sym (ap (λ (s : SectionId). s.reader) e)))) (λ (o : In now.seen (section_of x n)). o) h;
+            opens = λ x n apart h. in_left left (new ∷ []) (section_of x n) (has_without_section gone now.sections (section_of x n) h (elsewhere x n apart));
+            closes = λ x n apart h. ⊎_elim (λ (o : In left (section_of x n)). (without_section_has gone now.sections (section_of x n) o).0) (λ (e : new ≡ section_of x n). absurd (apart (sym (ap (λ (s : SectionId). s.reader) e)))) (in_more left new (section_of x n) h);
+            holds = held_left;
+            awaits = λ a s h. (without_section_has gone (now.asked_sections a) s h).0;
+            marks = λ a s h o e. absurd (none_of s (asked_open a s h o) e);
+          })
+          (log_one w.log (Close gone) (Open new ∷ []) v.ordinal t.ordinal),
+    )
+      where
+        new : SectionId
+        new = section_of r (v.ordinal + 1)
+
+        none_number : (copy : ℕ) → None ≡ Some copy → ⊥
+        none_number copy e = cc
+
+        by_more : (n : ℕ) → In left (section_of r n) ⊎ (new ≡ section_of r n) → n ≡ v.ordinal + 1
+        by_more n (inl o) = absurd (none_left n o)
+        by_more n (inr e) = sym (ap (λ (s : SectionId). s.ordinal) e)
+
+  -- what was found is held
+  kept_got : (r : ℕ) (v : ReaderState) (e : Event) (found : Option ObjectId) → There r v → is_in v.word ≡ true → ((o : ObjectId) → found ≡ Some o → stage_of w.objects o ≢ Fresh) →
+      Kept plans layout slots laws (changed w (Read r (telling e (with_cursor v found)))) (got now (section_of r v.ordinal) found)
+  kept_got r v e None t is known = same_sections r v (with_cursor v None) (Events e None) t
+      (record { low = t.mine.low; opened = t.mine.opened; opens = t.mine.opens; holds = t.mine.holds; copying = t.mine.copying; marked = t.mine.marked })
+      (λ mark s _ _ h. h) refl
+  kept_got r v e (Some f) t is known =
+      kept_read r v (with_cursor v (Some f)) (Events e None) now.seen now.sections (at_section s (f ∷ now.held s) now.held) now.awaited now.asked_sections t
+      (record {
+        mine = record {
+          low = t.mine.low;
+          opened = t.mine.opened;
+          opens = t.mine.opens;
+          holds = λ o g. let same = some_is f o g in (is, subst (λ (os : List ObjectId). In os o) (sym (at_section_same s (f ∷ now.held s) now.held)) (inl same), known o g);
+          copying = t.mine.copying;
+          marked = t.mine.marked;
+        };
+        sees = λ x n _ h. h;
+        opens = λ x n _ h. h;
+        closes = λ x n _ h. h;
+        holds = λ x n o apart h. subst (λ (os : List ObjectId). In os o) (sym (at_section_other s (section_of x n) (f ∷ now.held s) now.held (λ g. apart (ap (λ (u : SectionId). u.reader) g)))) h;
+        awaits = λ a u h. h;
+        marks = λ a u h o g. (o, λ mark shown. shown);
+      })
+      (log_longer w.log (e ∷ []) v.ordinal t.ordinal)
+    where
+      s : SectionId
+      s = section_of r v.ordinal
+
+  open_section : (r : ℕ) (v : ReaderState) → There r v → is_in v.word ≡ true → In now.sections (section_of r v.ordinal)
+  open_section r v t is = t.mine.opened is
+
+  pub owes_first : (r : ℕ) (v : ReaderState) (c : ℕ) → There r v → is_in v.word ≡ true → (x : Option (Option ObjectId)) → slice_get w.heads c ≡ x → OwesRead r (first_row r v c x)
+  owes_first r v c t is None at_c = tt
+  owes_first r v c t is (Some head) at_c =
+      let first : first_of (now.chain c) ≡ head = sym ((k.links_kept.chains c).words None tt) ∙ get_or_from_slice_get w.heads c head None at_c in (
+        ((has_section_in now.sections (section_of r v.ordinal) (open_section r v t is), first), tt),
+        kept_got r v (First (section_of r v.ordinal) c head) head t is
+            (λ o e f. linked_fresh (sym (k.links_kept.linked c o (first_has (now.chain c) o (first ∙ e))).0 ∙ f)),
+      )
+    where
+      linked_fresh : Linked ≡ Fresh → ⊥
+      linked_fresh e = cc
+
+  -- the link of a known object is its successor, and leads to a known one
+  successor_at : (o : ObjectId) → stage_of w.objects o ≢ Fresh → IsSuccessor now o (link_of w.objects o) × ((f : ObjectId) → link_of w.objects o ≡ Some f → stage_of w.objects f ≢ Fresh)
+  successor_at o known = by (stage_of w.objects o) refl
+    where
+      links : LinksKept w.heads w.objects now.chain now.used now.cut now.successor
+      links = k.links_kept
+
+      linked_fresh : Linked ≡ Fresh → ⊥
+      linked_fresh e = cc
+
+      linked_cut : Linked ≡ IsCut → ⊥
+      linked_cut e = cc
+
+      in_its_chain : (c : ℕ) → In (now.chain c) o → next_of (now.chain c) o ≡ link_of w.objects o
+      in_its_chain c h = sym ((links.chains c).words (Some o) h)
+
+      once : In now.cut o → now.successor o ≡ link_of w.objects o
+      once h = sym (links.was_cut o h).1
+
+      next : IsSuccessor now o (link_of w.objects o)
+      next = record {
+        while_linked = λ c h. in_its_chain c (in_objects (now.chain c) o h);
+        once_cut = λ h. once (in_objects now.cut o h);
+      }
+
+      by : (s : Stage) → stage_of w.objects o ≡ s → IsSuccessor now o (link_of w.objects o) × ((f : ObjectId) → link_of w.objects o ≡ Some f → stage_of w.objects f ≢ Fresh)
+      by Fresh is = absurd (known is)
+      by Linked is =
+          let h = links.links o is in
+          (next, λ f e s. linked_fresh (sym (links.linked (chain_of w.objects o) f (follows_has (now.chain (chain_of w.objects o)) (Some o) f (in_its_chain (chain_of w.objects o) h ∙ e))).0 ∙ s))
+      by IsCut is = (next, λ f e. links.targets o f is e)
+
+  pub owes_next : (r : ℕ) (v : ReaderState) → There r v → is_in v.word ≡ true → (from : Option ObjectId) → v.cursor ≡ from → OwesRead r (next_from w r v from)
+  owes_next r v t is None e = tt
+  owes_next r v t is (Some o) e = found_at (slice_get w.objects o.0) refl
+    where
+      found_at : (x : Option ObjectState) → slice_get w.objects o.0 ≡ x → OwesRead r (next_row r v o x)
+      found_at None at_o = tt
+      found_at (Some x) at_o =
+          let same : link_of w.objects o ≡ x.link = ap (λ (y : ObjectState). y.link) (get_or_from_slice_get w.objects o.0 x no_object at_o) in
+          let held = t.mine.holds o e in
+          let next = successor_at o held.2 in (
+            ((has_section_in now.sections (section_of r v.ordinal) (open_section r v t is), has_object_in (now.held (section_of r v.ordinal)) o held.1, subst (IsSuccessor now o) same next.0), tt),
+            kept_got r v (Next (section_of r v.ordinal) o x.link) x.link t is (λ f g. next.1 f (same ∙ g)),
+          )
+
+  pub owes_touch : (r : ℕ) (v : ReaderState) → There r v → is_in v.word ≡ true → (from : Option ObjectId) → v.cursor ≡ from → OwesRead r (touch_row r v from)
+  owes_touch r v t is None e = tt
+  owes_touch r v t is (Some o) e = (
+    ((has_section_in now.sections (section_of r v.ordinal) (open_section r v t is), has_object_in (now.held (section_of r v.ordinal)) o (t.mine.holds o e).1), tt),
+    same_sections r v v (Events (Touch (section_of r v.ordinal) o) None) t t.mine (λ mark s _ _ h. h) refl,
+  )
+
+  -- the rows of the two flavours, by what the word functions give
+  closed_count : (word : ℕ) → count_of layout word ≡ 0 → is_open_of layout word ≡ false
+  closed_count word e = ap (λ n. not (n == 0)) e
+
+  open_count : (word : ℕ) → count_of layout word ≢ 0 → is_open_of layout word ≡ true
+  open_count word n = by (eqb_tells (count_of layout word) 0)
+    where
+      by : (((count_of layout word == 0) ≡ true) × (count_of layout word ≡ 0)) ⊎ (((count_of layout word == 0) ≡ false) × (count_of layout word ≢ 0)) → is_open_of layout word ≡ true
+      by (inl y) = absurd (n y.1)
+      by (inr m) = ap not m.0
+
+  in_memb : (word : ℕ) (b : Bool) → plans.qsbr ≡ false → is_open_of layout word ≡ b → is_in word ≡ b
+  in_memb word b f e = subst (λ (q : Bool). is_open_in q layout word ≡ b) (sym f) e
+
+  in_qsbr : (word : ℕ) (b : Bool) → plans.qsbr ≡ true → is_online word ≡ b → is_in word ≡ b
+  in_qsbr word b f e = subst (λ (q : Bool). is_open_in q layout word ≡ b) (sym f) e
+
+  memb_only : plans.qsbr ≡ false → (n m : ℕ) → plans.qsbr ≡ true → m ≤ n + 1
+  memb_only f n m q = absurd (true≢false (sym q ∙ f))
+
+  -- a word that nests one deeper shows the same mark
+  memb_marks : (word deeper : ℕ) → plans.qsbr ≡ false → phase_in layout deeper ≡ phase_in layout word → count_of layout deeper ≢ 0 → (mark : ℕ) → shows mark word → shows mark deeper
+  memb_marks word deeper f same more mark shown =
+      subst (λ (q : Bool). Shows q layout mark deeper) (sym f)
+      (let s = subst (λ (q : Bool). Shows q layout mark word) f shown in (more, same ∙ s.1))
+
+  pub owes_lock : (r : ℕ) (v : ReaderState) → plans.qsbr ≡ false → There r v → OwesRead r (lock_row layout number v)
+  owes_lock r v f t = by (count_of layout v.word == 0) (eqb_tells (count_of layout v.word) 0)
+    where
+      deeper : count_of layout v.word ≢ 0 → (x : Result ℕ Refusal) → entered_of layout v.word false ≡ x → OwesRead r (stores (λ word. quietly (with_word v word)) x)
+      deeper n (Err e) is = tt
+      deeper n (Ok word) is =
+          let d = entered_of-nests layout v.word false word n is in
+          let more : count_of layout word ≢ 0 = λ e. let c = d.count in omega (arith, c, e) in
+          owes_word r v word t (in_memb v.word true f (open_count v.word n)) (in_memb word true f (open_count word more)) (memb_marks v.word word f d.phase more) (memb_only f number word)
+
+      by : (b : Bool) → ((b ≡ true) × (count_of layout v.word ≡ 0)) ⊎ ((b ≡ false) × (count_of layout v.word ≢ 0)) →
+          OwesRead r (cond b (Ok (quietly (record v { copy = Some number }))) (stores (λ word. quietly (with_word v word)) (entered_of layout v.word false)))
+      by true (inl y) = owes_copy r v t (λ _. in_memb v.word false f (closed_count v.word y.1))
+      by true (inr n) = absurd (true≢false n.0)
+      by false (inl y) = absurd (true≢false (sym y.0))
+      by false (inr n) = deeper n.1 (entered_of layout v.word false) refl
+
+  pub owes_enter : (r : ℕ) (v : ReaderState) (copy : ℕ) → plans.qsbr ≡ false → There r v → v.copy ≡ Some copy → OwesRead r (enter_row layout copy r v)
+  owes_enter r v copy f t has = by (entered_of layout v.word (copy == 1)) refl
+    where
+      idle : is_open_of layout v.word ≡ false
+      idle = subst (λ (q : Bool). is_open_in q layout v.word ≡ false) f ((t.mine.copying copy has).0 f)
+
+      closed' : count_of layout v.word ≡ 0
+      closed' = zero_count (eqb_tells (count_of layout v.word) 0)
+        where
+          zero_count : (((count_of layout v.word == 0) ≡ true) × (count_of layout v.word ≡ 0)) ⊎ (((count_of layout v.word == 0) ≡ false) × (count_of layout v.word ≢ 0)) → count_of layout v.word ≡ 0
+          zero_count (inl y) = y.1
+          zero_count (inr n) = absurd (true≢false (sym (ap not n.0) ∙ idle))
+
+      by : (x : Result ℕ Refusal) → entered_of layout v.word (copy == 1) ≡ x → OwesRead r (stores (λ word. telling (Open (section_of r (v.ordinal + 1))) (opened v word)) x)
+      by (Err e) is = tt
+      by (Ok word) is =
+          let o = entered_of-opens layout v.word (copy == 1) word closed' is in
+          owes_open r v word t (in_memb v.word false f idle) (in_memb word true f (open_count word (λ e. let one = o.0 in omega (arith, one, e)))) (memb_only f number word)
+
+  pub owes_unlock : (r : ℕ) (v : ReaderState) → plans.qsbr ≡ false → There r v → OwesRead r (unlock_row layout r v)
+  owes_unlock r v f t = by (left_of layout v.word) refl
+    where
+      last : (word : ℕ) → NestsDeeper layout word v.word → (b : Bool) → ((b ≡ true) × (count_of layout word ≡ 0)) ⊎ ((b ≡ false) × (count_of layout word ≢ 0)) →
+          OwesRead r (Ok (cond b (telling (Close (section_of r v.ordinal)) (closed v word)) (quietly (with_word v word))))
+      last word d b tells = by_test b tells
+        where
+          was : is_in v.word ≡ true
+          was = in_memb v.word true f (open_count v.word (λ e. let c = d.count in omega (arith, c, e)))
+
+          by_test : (b : Bool) → ((b ≡ true) × (count_of layout word ≡ 0)) ⊎ ((b ≡ false) × (count_of layout word ≢ 0)) → OwesRead r (Ok (cond b (telling (Close (section_of r v.ordinal)) (closed v word)) (quietly (with_word v word))))
+          by_test true (inl y) = owes_close r v t was word (in_memb word false f (closed_count word y.1)) (memb_only f number word)
+          by_test true (inr n) = absurd (true≢false n.0)
+          by_test false (inl y) = absurd (true≢false (sym y.0))
+          by_test false (inr n) = owes_word r v word t was (in_memb word true f (open_count word n.1)) (memb_marks v.word word f (sym d.phase) n.1) (memb_only f number word)
+
+      by : (x : Result ℕ Refusal) → left_of layout v.word ≡ x → OwesRead r (stores (λ word. cond (count_of layout word == 0) (telling (Close (section_of r v.ordinal)) (closed v word)) (quietly (with_word v word))) x)
+      by (Err e) is = tt
+      by (Ok word) is = last word (left_of-nests layout v.word word is) (count_of layout word == 0) (eqb_tells (count_of layout word) 0)
+
+  -- the quiescent-state flavour
+  qsbr_any : plans.qsbr ≡ true → (word : ℕ) → plans.qsbr ≡ false → is_in word ≡ false
+  qsbr_any q word f = absurd (true≢false (sym q ∙ f))
+
+  pub owes_online : (r : ℕ) (v : ReaderState) → plans.qsbr ≡ true → There r v → OwesRead r (online_row number v)
+  owes_online r v q t = by (is_online v.word)
+    where
+      by : (b : Bool) → OwesRead r (cond b (Err Busy) (Ok (quietly (record v { copy = Some number }))))
+      by true = tt
+      by false = owes_copy r v t (qsbr_any q v.word)
+
+  pub owes_quiescent : (r : ℕ) (v : ReaderState) → plans.qsbr ≡ true → There r v → OwesRead r (quiescent_row number v)
+  owes_quiescent r v q t = by (is_online v.word)
+    where
+      by : (b : Bool) → OwesRead r (cond b (Ok (quietly (record v { copy = Some number }))) (Err NotOpen))
+      by true = owes_copy r v t (qsbr_any q v.word)
+      by false = tt
+
+  pub owes_offline : (r : ℕ) (v : ReaderState) → plans.qsbr ≡ true → There r v → OwesRead r (offline_row r v)
+  owes_offline r v q t = by (is_online v.word) refl
+    where
+      by : (b : Bool) → is_online v.word ≡ b → OwesRead r (cond b (Ok (telling (Close (section_of r v.ordinal)) (closed v 0))) (Err NotOpen))
+      by true is = owes_close r v t (in_qsbr v.word true q is) 0 (in_qsbr 0 false q refl) (λ _. omega arith)
+      by false is = tt
+
+  pub owes_announced : (r : ℕ) (v : ReaderState) (copy : ℕ) → plans.qsbr ≡ true → There r v → v.copy ≡ Some copy → OwesRead r (Ok (cond (is_online v.word) (announce_row copy r v) (go_online_row copy r v)))
+  owes_announced r v copy q t has = by (is_online v.word) refl
+    where
+      low : plans.qsbr ≡ true → announced copy ≤ number + 1
+      low e = let l = (t.mine.copying copy has).1 e in omega (arith, l)
+
+      online' : is_in (announced copy) ≡ true
+      online' = in_qsbr (announced copy) true q (above (eqb_tells (copy + 1) 0))
+        where
+          above : (((copy + 1 == 0) ≡ true) × (copy + 1 ≡ 0)) ⊎ (((copy + 1 == 0) ≡ false) × (copy + 1 ≢ 0)) → is_online (announced copy) ≡ true
+          above (inl y) = let e = y.1 in absurd (omega (arith, e))
+          above (inr n) = ap not n.0
+
+      by : (b : Bool) → is_online v.word ≡ b → OwesRead r (Ok (cond b (announce_row copy r v) (go_online_row copy r v)))
+      by true is = owes_announce r v t (in_qsbr v.word true q is) (announced copy) online' low
+      by false is = owes_open r v (announced copy) t (in_qsbr v.word false q is) online' low

@@ -1,0 +1,11 @@
+pub mod Fence
+pub mod Periods
+pub mod State
+pub mod KeptReaders
+pub mod KeptReading
+pub mod KeptPublishing
+pub mod KeptWaiting
+pub mod Logged
+pub mod TheLaws
+pub mod Reaching
+pub mod Prompt

@@ -1,0 +1,156 @@
+-- What the world keeps beside the machine: one record of parts.
+use Rattle.std.proofs.Common.{◌≡◌, ◌≢◌, ◌⊎◌, inl, inr, ⊎_elim, ℕ, ◌+◌, ◌-◌, ◌^◌, ◌<◌, ◌≤◌, ◌==◌, not, Bool, true, false, List, [], ◌∷◌, length, get_or, slice_set, Option, Some, None, Result, Ok, Err, refl, sym, ap, ◌∙◌, subst, arith, true≢false, get_or-set_other, get_or-set_same}
+use Rattle.std.proofs.lemmas.Bool.Decides.{eqb_tells}
+use Rattle.rcu_model.specs.declared.event.Event.{Event}
+use Rattle.rcu_model.specs.declared.event.ObjectId.{ObjectId}
+use Rattle.rcu_model.specs.declared.refusal.Refusal.{Refusal}
+use Rattle.rcu_model.specs.Machine.{State, AreAllowed, after_all}
+use Rattle.reader_word.specs.declared.layout.Layout.{Layout}
+use Rattle.reader_word.specs.Word.{count_of, phase_in, number}
+use Rattle.gp_memb.specs.Plan.{Shows}
+use Rattle.call_rcu_worker.specs.declared.sync.SyncCore.{SyncCore}
+use Rattle.call_rcu_worker.specs.declared.sync.SyncCore.TheVariants as core
+use Rattle.world_state.specs.declared.reader.ReaderState.{ReaderState}
+use Rattle.world_state.specs.declared.object.ObjectState.{ObjectState}
+use Rattle.world_state.specs.declared.updater.Holder.{Holder}
+use Rattle.world_state.specs.declared.updater.Holder.TheVariants as holder
+use Rattle.world_state.specs.declared.updater.UpdaterPlace.{UpdaterPlace}
+use Rattle.world_state.specs.declared.updater.UpdaterPlace.TheVariants.{Idle, Publishes, Syncs}
+use Rattle.world_state.specs.declared.updater.UpdaterState.{UpdaterState}
+use Rattle.world_state.specs.declared.change.Change.{Change}
+use Rattle.world_state.specs.declared.change.Change.TheVariants.{Read, Begin, Publish, Grace, Stay}
+use Rattle.world_state.specs.View.{Plans, BoardView, idle, told, changed}
+use Rattle.world_state.specs.Readers.{is_open_in}
+use Rattle.world_state.proofs.Linking.{LinksKept, PlaceKept, decide_number}
+use Rattle.world_state.proofs.Reading.{reader_at, ReadersKept, reader_there}
+use Rattle.world.proofs.Fence.{Work, Rests, Waits, Checks, Starts, Runs, Frees, Laws, Sets}
+use Rattle.world.proofs.Periods.{Part, Marks}
+
+-- who may ask: an updater by `sync`, an updater by `start`, a worker
+pub data Asker : Type 0 where
+  Syncing : ℕ → Asker
+  Polling : ℕ → Asker
+  Working : ℕ → Asker
+
+pub decide_asker : (x y : Asker) → (x ≡ y) ⊎ (x ≢ y)
+decide_asker (Syncing u) (Syncing v) = ⊎_elim (λ (e : u ≡ v). inl (ap Syncing e)) (λ (n : u ≢ v). inr (λ e. n (cc))) (decide_number u v)
+decide_asker (Polling u) (Polling v) = ⊎_elim (λ (e : u ≡ v). inl (ap Polling e)) (λ (n : u ≢ v). inr (λ e. n (cc))) (decide_number u v)
+decide_asker (Working u) (Working v) = ⊎_elim (λ (e : u ≡ v). inl (ap Working e)) (λ (n : u ≢ v). inr (λ e. n (cc))) (decide_number u v)
+decide_asker (Syncing u) (Polling v) = inr (λ e. cc)
+decide_asker (Syncing u) (Working v) = inr (λ e. cc)
+decide_asker (Polling u) (Syncing v) = inr (λ e. cc)
+decide_asker (Polling u) (Working v) = inr (λ e. cc)
+decide_asker (Working u) (Syncing v) = inr (λ e. cc)
+decide_asker (Working u) (Polling v) = inr (λ e. cc)
+
+-- what each does
+abbrev pub core_work : {P : Type 0} → ℕ → SyncCore P → Work P
+core_work ask core.Asks = Rests
+core_work ask (core.Waits cookie) = Waits ask cookie
+core_work ask (core.Checks cookie) = Checks ask cookie
+core_work ask (core.Starts cookie) = Starts ask cookie
+core_work ask (core.Runs cookie plan) = Runs ask cookie plan
+core_work ask core.Frees = Frees
+core_work ask core.Done = Rests
+
+abbrev pub place_work : {P : Type 0} → UpdaterPlace P → Work P
+place_work Idle = Rests
+place_work (Publishes what) = Rests
+place_work (Syncs ask core) = core_work ask core
+
+abbrev pub updater_at : {P : Type 0} → List (UpdaterState P) → ℕ → UpdaterState P
+updater_at updaters u = get_or updaters u idle
+
+abbrev pub work_of : {P : Type 0} → List (UpdaterState P) → Asker → Work P
+work_of updaters (Syncing u) = place_work (updater_at updaters u).place
+work_of updaters (Polling u) = Rests
+work_of updaters (Working k) = Rests
+
+abbrev pub asker_of : Holder → Asker
+asker_of (holder.Updater u) = Syncing u
+
+abbrev pub holder_of : Option Holder → Option Asker
+holder_of None = None
+holder_of (Some h) = Some (asker_of h)
+
+abbrev pub word_at : List ReaderState → ℕ → ℕ
+word_at readers r = (reader_at readers r).word
+
+-- a grace period that rests between two lines was asked for, and is not done
+abbrev pub IsUnderWay : {P : Type 0} → SyncCore P → Type 0
+IsUnderWay core.Asks = ⊥
+IsUnderWay (core.Waits cookie) = Unit {0}
+IsUnderWay (core.Checks cookie) = Unit {0}
+IsUnderWay (core.Starts cookie) = Unit {0}
+IsUnderWay (core.Runs cookie plan) = Unit {0}
+IsUnderWay core.Frees = Unit {0}
+IsUnderWay core.Done = ⊥
+
+-- where an updater stands between two steps of its operation
+abbrev pub UpdaterKept : {P : Type 0} → List (Option ObjectId) → List ObjectState → ℕ → ℕ → UpdaterPlace P → Type 0
+UpdaterKept heads os n u Idle = Unit {0}
+UpdaterKept heads os n u (Publishes what) = PlaceKept heads os n u what
+UpdaterKept heads os n u (Syncs ask core) = IsUnderWay core
+
+-- what a change tells
+abbrev pub told_by : {P : Type 0} → Change P → List Event
+told_by (Read r step) = told step.answer
+told_by (Begin u x object) = []
+told_by (Publish u x splice event) = event ∷ []
+told_by (Grace u x grace answer) = told answer
+told_by (Stay answer) = []
+
+module _ {P : Type 0} (plans : Plans P) (layout : Layout) (slots : ℕ) (laws : Laws plans layout slots) where
+  pub record Kept (w : BoardView P) (now : State) : Type 0 where
+    pub laid : w.layout ≡ layout
+    pub sized : length w.readers ≡ slots
+    pub some_slot : 1 ≤ slots
+    pub links_kept : LinksKept w.heads w.objects now.chain now.used now.cut now.successor
+    pub places_kept : (u : ℕ) → UpdaterKept w.heads w.objects (length w.updaters) u (updater_at w.updaters u).place
+    pub readers_kept : ReadersKept plans.qsbr layout w.readers w.grace.word w.objects now.sections now.seen now.held
+    pub part : Part plans layout slots laws decide_asker (holder_of w.grace.holder) (work_of w.updaters) (word_at w.readers) w.grace.asks w.grace.seq w.grace.word now.asked now.answered now.asked_sections now.sections
+    pub ordinals : (r : ℕ) → (reader_at w.readers r).ordinal ≤ length w.log
+    pub asks_low : w.grace.asks ≤ length w.log
+    pub seq_low : w.grace.seq ≤ 2 ^ 62 + 2
+    pub phase_low : plans.qsbr ≡ false → w.grace.word ≤ 1
+
+  -- what a change owes
+  abbrev pub Owes : BoardView P → State → Result (Change P) Refusal → Type 0
+  Owes w now (Err e) = Unit {0}
+  Owes w now (Ok change) = AreAllowed now (told_by change) × Kept (changed w change) (after_all now (told_by change))
+
+  -- an open section's word shows a mark
+  mark_shown : (b : Bool) (n word : ℕ) → is_open_in b layout word ≡ true → (b ≡ true → word ≤ n + 1) → (mark : ℕ) × Shows b layout mark word × (b ≡ true → mark ≤ n)
+  mark_shown true n word is low = (word - 1, above (eqb_tells word 0), λ _. let l = low refl in omega (arith, l))
+    where
+      above : (((word == 0) ≡ true) × (word ≡ 0)) ⊎ (((word == 0) ≡ false) × (word ≢ 0)) → word ≡ word - 1 + 1
+      above (inl e) = absurd (true≢false (sym is ∙ ap not e.0))
+      above (inr m) = let ne = m.1 in omega (arith, ne)
+  mark_shown false n word is low = (number (phase_in layout word), (counts (eqb_tells (count_of layout word) 0), same (phase_in layout word)), λ e. absurd (true≢false (sym e)))
+    where
+      counts : (((count_of layout word == 0) ≡ true) × (count_of layout word ≡ 0)) ⊎ (((count_of layout word == 0) ≡ false) × (count_of layout word ≢ 0)) → count_of layout word ≢ 0
+      counts (inl e) = absurd (true≢false (sym is ∙ ap not e.0))
+      counts (inr m) = m.1
+
+      same : (b : Bool) → b ≡ (number b == 1)
+      same true = refl
+      same false = refl
+
+  pub marks_of : (w : BoardView P) (now : State) → Kept w now → Marks plans layout slots laws decide_asker (word_at w.readers) w.grace.word now.sections
+  marks_of w now k s h =
+      let mine = k.readers_kept s.reader in (
+        subst (λ n. s.reader < n) k.sized (reader_there plans.qsbr layout w.readers w.grace.word w.objects now.sections now.seen now.held k.readers_kept s h),
+        mark_shown plans.qsbr w.grace.word (word_at w.readers s.reader) (mine.opens s.ordinal h).1 mine.marked,
+      )
+
+  -- one updater's state is set
+  pub work_set : (updaters : List (UpdaterState P)) (u : ℕ) (x : UpdaterState P) → u < length updaters → Sets (work_of updaters) (work_of (slice_set updaters u x)) (Syncing u) (place_work x.place)
+  work_set updaters u x inside = record {
+    here = ap (λ (y : UpdaterState P). place_work y.place) (get_or-set_same updaters u x idle inside);
+    others = others;
+  }
+    where
+      others : (y : Asker) → y ≢ Syncing u → work_of (slice_set updaters u x) y ≡ work_of updaters y
+      others (Syncing v) apart = ap (λ (y : UpdaterState P). place_work y.place) (get_or-set_other updaters u v x idle (λ e. apart (ap Syncing e)))
+      others (Polling v) apart = refl
+      others (Working v) apart = refl

@@ -1,0 +1,30 @@
+use Rattle.std.proofs.Common.{sym, subst}
+use Rattle.world.specs.declared.world.Boards.{Boards}
+use Rattle.world.specs.declared.world.World.TheInside.{Inside}
+use Rattle.world.specs.Seen.{seen}
+use Rattle.world.specs.Shown.{shown}
+use Rattle.world.specs.Steps.{memb_plans, qsbr_plans, IsReachedWorld, IsPrompt}
+use Rattle.std.specs.Prelude.{Result, IfOk}
+use Rattle.rcu_model.specs.declared.refusal.Refusal.{Refusal}
+use Rattle.world_state.specs.declared.line.Answer.{Answer}
+use Rattle.world.proofs.Prompt.{prompt_meets}
+use Rattle.world.proofs.Reaching.{reached_after}
+use Rattle.world.proofs.world.World.step.Goals.{in-Memb, in-Qsbr}
+use Rattle.world.proofs.world.World.step.Goals as goal
+
+pub invariant_of-self : goal.invariant_of-self
+invariant_of-self c =
+    let Reached : Boards → Type 0 = λ b. IsReachedWorld (seen b) in
+    let Kept : Inside → Type 0 = λ w. IsReachedWorld (seen w.boards) in
+    elim c.match-self.branch [
+      | in-Memb w ↦ subst Kept (sym w.self-inside-is) (reached_after memb_plans (shown w.in-Memb.board) (shown w.step.new.self) c.args.line.now w.step.result w.step.ensures (subst Reached w.in-Memb.is c.self.invariant))
+      | in-Qsbr w ↦ subst Kept (sym w.self-inside-is) (reached_after qsbr_plans (shown w.in-Qsbr.board) (shown w.step-in-Qsbr.new.self) c.args.line.now w.step-in-Qsbr.result w.step-in-Qsbr.ensures (subst Reached w.in-Qsbr.is c.self.invariant))
+    ]
+
+pub returns-clause-prompt : goal.returns-clause-prompt
+returns-clause-prompt c = λ h.
+    let Prompt : Result Answer Refusal → Type 0 = λ r. IfOk r IsPrompt in
+    elim c.match-self.branch [
+      | in-Memb w ↦ subst Prompt (sym w.result-is) (prompt_meets memb_plans (shown w.in-Memb.board) (shown w.step.new.self) c.args.line.now w.step.result w.step.ensures h)
+      | in-Qsbr w ↦ subst Prompt (sym w.result-is) (prompt_meets qsbr_plans (shown w.in-Qsbr.board) (shown w.step-in-Qsbr.new.self) c.args.line.now w.step-in-Qsbr.result w.step-in-Qsbr.ensures h)
+    ]

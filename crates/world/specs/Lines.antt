@@ -1,0 +1,135 @@
+-- The step table: what a line makes of the world, and what it answers.
+use Rattle.std.specs.Prelude.{ℕ, ◌+◌, nat_lt, Bool, true, false, if◌then◌else◌, is_some, List, [], ◌∷◌, slice_get, Option, Some, None, Result, Ok, Err}
+use Rattle.rcu_model.specs.declared.refusal.Refusal.{Refusal}
+use Rattle.rcu_model.specs.declared.refusal.Refusal.TheVariants.{NotOpen, Busy, WrongFlavour, NoActor}
+use Rattle.reader_word.specs.Quiescent.{is_online}
+use Rattle.call_rcu_worker.specs.Sync.{new_core}
+use Rattle.world_state.specs.declared.line.Answer.{Answer}
+use Rattle.world_state.specs.declared.line.Answer.TheVariants.{Wait, Blocked}
+use Rattle.world_state.specs.declared.line.Line.{Line}
+use Rattle.world_state.specs.declared.line.Line.TheVariants.{Reader, Updater, Worker}
+use Rattle.world_state.specs.declared.line.ReaderVerb.{ReaderVerb}
+use Rattle.world_state.specs.declared.line.ReaderVerb.TheVariants as reader
+use Rattle.world_state.specs.declared.line.UpdaterVerb.{UpdaterVerb}
+use Rattle.world_state.specs.declared.line.UpdaterVerb.TheVariants as updater
+use Rattle.world_state.specs.declared.line.WorkerVerb.{WorkerVerb}
+use Rattle.world_state.specs.declared.line.WorkerVerb.TheVariants as worker
+use Rattle.world_state.specs.declared.reader.ReaderState.{ReaderState}
+use Rattle.world_state.specs.declared.reader.ReaderStep.{ReaderStep}
+use Rattle.world_state.specs.declared.updater.Holder.TheVariants as holder
+use Rattle.world_state.specs.declared.updater.UpdaterState.{UpdaterState}
+use Rattle.world_state.specs.declared.updater.UpdaterPlace.{UpdaterPlace}
+use Rattle.world_state.specs.declared.updater.UpdaterPlace.TheVariants.{Idle, Publishes, Syncs}
+use Rattle.world_state.specs.declared.change.Change.{Change}
+use Rattle.world_state.specs.declared.change.Change.TheVariants.{Read, Grace, Stay}
+use Rattle.world_state.specs.Readers.{is_open_in, lock_row, enter_row, unlock_row, online_row, go_online_row, quiescent_row, announce_row, offline_row, touch_row}
+use Rattle.world_state.specs.View.{Plans, BoardView, changed, answer_of}
+use Rattle.world.specs.declared.grace.GraceStep.{GraceStep}
+use Rattle.world.specs.Chains.{first_row, next_from, linked_by, push_row, replace_row, cut_row, published}
+use Rattle.world.specs.Grace.{grace_row, sync_place}
+
+-- readers: a verb of the flavour, of the other one, and in an open section
+abbrev pub of_memb : Bool → Result ReaderStep Refusal → Result ReaderStep Refusal
+of_memb qsbr row = if qsbr then Err WrongFlavour else row
+
+abbrev pub of_qsbr : Bool → Result ReaderStep Refusal → Result ReaderStep Refusal
+of_qsbr qsbr row = if qsbr then row else Err WrongFlavour
+
+abbrev pub in_section : {P : Type 0} → Bool → BoardView P → ReaderState → Result ReaderStep Refusal → Result ReaderStep Refusal
+in_section qsbr w v row = if is_open_in qsbr w.layout v.word then row else Err NotOpen
+
+-- the second step of `lock`, `online` or `quiescent`, with what the first one loaded
+abbrev pub reader_on : {P : Type 0} → Bool → BoardView P → ℕ → ReaderState → Option ℕ → Result ReaderStep Refusal
+reader_on qsbr w r v None = Err NotOpen
+reader_on qsbr w r v (Some copy) =
+    if qsbr then Ok (if is_online v.word then announce_row copy r v else go_online_row copy r v)
+    else enter_row w.layout copy r v
+
+-- a reader in no operation
+abbrev pub reader_begins : {P : Type 0} → Bool → BoardView P → ℕ → ReaderState → ReaderVerb → Result ReaderStep Refusal
+reader_begins qsbr w r v reader.Lock = of_memb qsbr (lock_row w.layout w.grace.word v)
+reader_begins qsbr w r v reader.Unlock = of_memb qsbr (unlock_row w.layout r v)
+reader_begins qsbr w r v reader.Online = of_qsbr qsbr (online_row w.grace.word v)
+reader_begins qsbr w r v reader.Quiescent = of_qsbr qsbr (quiescent_row w.grace.word v)
+reader_begins qsbr w r v reader.Offline = of_qsbr qsbr (offline_row r v)
+reader_begins qsbr w r v (reader.First c) = in_section qsbr w v (first_row r v c (slice_get w.heads c))
+reader_begins qsbr w r v reader.Next = in_section qsbr w v (next_from w r v v.cursor)
+reader_begins qsbr w r v reader.Touch = in_section qsbr w v (touch_row r v v.cursor)
+reader_begins qsbr w r v reader.GoOn = Err NotOpen
+
+-- any verb but `.` is busy in an operation
+abbrev pub reader_line : {P : Type 0} → Bool → BoardView P → ℕ → ReaderState → ReaderVerb → Result ReaderStep Refusal
+reader_line qsbr w r v reader.GoOn = reader_on qsbr w r v v.copy
+reader_line qsbr w r v verb = if is_some v.copy then Err Busy else reader_begins qsbr w r v verb
+
+-- updaters: a step of a grace period, of which `wait` and `blocked` change nothing
+abbrev pub grace_change : {P : Type 0} → Plans P → ℕ → UpdaterState P → ℕ → GraceStep P → Answer → Change P
+grace_change plans u x ask step Wait = Stay Wait
+grace_change plans u x ask step Blocked = Stay Blocked
+grace_change plans u x ask step answer = Grace u (record x { place = sync_place plans ask step.core }) step.grace answer
+
+abbrev pub synced : {P : Type 0} → Plans P → ℕ → UpdaterState P → ℕ → Result (GraceStep P) Refusal → Result (Change P) Refusal
+synced plans u x ask (Ok step) = Ok (grace_change plans u x ask step step.answer)
+synced plans u x ask (Err e) = Err e
+
+-- an updater's next step
+abbrev pub updater_on : {P : Type 0} → Plans P → BoardView P → ℕ → UpdaterState P → UpdaterPlace P → Result (Change P) Refusal
+updater_on plans w u x Idle = Err NotOpen
+updater_on plans w u x (Publishes what) = published w u x what
+updater_on plans w u x (Syncs ask core) = synced plans u x ask (grace_row plans w (holder.Updater u) ask core)
+
+-- an updater in no operation
+abbrev pub updater_begins : {P : Type 0} → Plans P → BoardView P → ℕ → UpdaterState P → UpdaterVerb → Result (Change P) Refusal
+updater_begins plans w u x (updater.Push c) = push_row w u x c (slice_get w.heads c)
+updater_begins plans w u x (updater.Replace o) = replace_row w u x o (linked_by w u (slice_get w.objects o.0))
+updater_begins plans w u x (updater.Cut o) = cut_row u x o (linked_by w u (slice_get w.objects o.0))
+updater_begins plans w u x updater.Sync = synced plans u x (w.grace.asks + 1) (grace_row plans w (holder.Updater u) (w.grace.asks + 1) new_core)
+updater_begins plans w u x updater.GoOn = Err NotOpen
+
+abbrev pub is_idle : {P : Type 0} → UpdaterPlace P → Bool
+is_idle Idle = true
+is_idle (Publishes what) = false
+is_idle (Syncs ask core) = false
+
+abbrev pub updater_line : {P : Type 0} → Plans P → BoardView P → ℕ → UpdaterState P → UpdaterVerb → Result (Change P) Refusal
+updater_line plans w u x updater.GoOn = updater_on plans w u x x.place
+updater_line plans w u x verb = if is_idle x.place then updater_begins plans w u x verb else Err Busy
+
+-- workers have no operation
+abbrev pub worker_line : {P : Type 0} → BoardView P → WorkerVerb → Result (Change P) Refusal
+worker_line w worker.GoOn = Err NotOpen
+
+-- a line of an actor, if there is such an actor
+abbrev pub read_by : {P : Type 0} → ℕ → Result ReaderStep Refusal → Result (Change P) Refusal
+read_by r (Ok step) = Ok (Read r step)
+read_by r (Err e) = Err e
+
+abbrev pub of_reader : {P : Type 0} → Bool → BoardView P → ℕ → ReaderVerb → Option ReaderState → Result (Change P) Refusal
+of_reader qsbr w r verb None = Err NoActor
+of_reader qsbr w r verb (Some v) = read_by r (reader_line qsbr w r v verb)
+
+abbrev pub of_updater : {P : Type 0} → Plans P → BoardView P → ℕ → UpdaterVerb → Option (UpdaterState P) → Result (Change P) Refusal
+of_updater plans w u verb None = Err NoActor
+of_updater plans w u verb (Some x) = updater_line plans w u x verb
+
+abbrev pub change_of : {P : Type 0} → Plans P → BoardView P → Line → Result (Change P) Refusal
+change_of plans w (Reader r verb) = of_reader plans.qsbr w r verb (slice_get w.readers r)
+change_of plans w (Updater u verb) = of_updater plans w u verb (slice_get w.updaters u)
+change_of plans w (Worker k verb) = if nat_lt k w.workers then worker_line w verb else Err NoActor
+
+-- the world after a step, and the answer
+pub record Outcome (P : Type 0) : Type 0 where
+  pub world : BoardView P
+  pub answer : Result Answer Refusal
+
+abbrev pub with_change : {P : Type 0} → BoardView P → Result (Change P) Refusal → Outcome P
+with_change w (Ok change) = record { world = changed w change; answer = Ok (answer_of change) }
+with_change w (Err e) = record { world = w; answer = Err e }
+
+abbrev pub outcome_of : {P : Type 0} → Plans P → BoardView P → Line → Outcome P
+outcome_of plans w line = with_change w (change_of plans w line)
+
+-- the world after these lines
+abbrev pub world_after : {P : Type 0} → Plans P → BoardView P → List Line → BoardView P
+world_after plans w [] = w
+world_after plans w (line ∷ lines) = world_after plans ((outcome_of plans w line).world) lines

@@ -1,0 +1,212 @@
+//! The board: what is kept between two lines, and one step of it.
+
+ghost use Rattle.std.specs.Prelude.{◌≡◌, ◌+◌, ◌≤◌, ◌<◌, ◌^◌, ◌++◌, slice_set, OnOk, OnErr, IfOk, IfErr};
+
+use rcu_model::{Event, ObjectId, Refusal};
+use std::alloc::Global;
+use world_state::{
+    Answer, Change, Config, GraceState, Layout, Line, ObjectState, ReaderState, Splice, StepError,
+    UpdaterPlace, UpdaterState, WorkerVerb, WorldPlan, put, splice_heads, splice_objects,
+};
+
+/// The words, the bookkeeping beside them, and the log.
+#[derive(Drop)]
+pub struct Board<P> {
+    pub(crate) layout: Layout,
+    pub(crate) readers: Vec<ReaderState>,
+    pub(crate) updaters: Vec<UpdaterState<P>>,
+    workers: u32,
+    pub(crate) grace: GraceState,
+    pub(crate) heads: Vec<Option<ObjectId>>,
+    pub(crate) objects: Vec<ObjectState>,
+    log: Vec<Event>,
+}
+
+impl<P: WorldPlan + Drop> Board<P> {
+    ghost use Rattle.rcu_model.specs.declared.refusal.Refusal.TheVariants as refusal;
+    ghost use Rattle.world_state.specs.View.{fresh_at, changed, answer_of, told, plans_of};
+    ghost use Rattle.world_state.specs.Objects.{spliced_heads, spliced_objects};
+    ghost use Rattle.world.specs.Lines.{change_of, outcome_of};
+    ghost use Rattle.world.specs.Shown.{shown, Meets, IsInRange};
+
+    /// A board on which nothing has happened.
+    pub fn new(alloc: Global, config: Config, seq: u64) -> Result<Board<P>, Refusal>
+        ensures ok { IfOk result (λ b. shown b ≡ fresh_at config seq) }
+        ensures memory { IfErr result (λ e. e ≡ refusal.Memory) }
+    {
+        let Ok(readers) = vec![in alloc; ReaderState::new(); config.readers as usize] else {
+            return Err(Refusal::Memory);
+        };
+        let idle = UpdaterState {
+            place: UpdaterPlace::Idle,
+        };
+        let Ok(updaters) = vec![in alloc; idle; config.updaters as usize] else {
+            return Err(Refusal::Memory);
+        };
+        let Ok(heads) = vec![in alloc; None; config.chains as usize] else {
+            return Err(Refusal::Memory);
+        };
+        let Ok(objects) = vec![in alloc; ObjectState::fresh(0, None)] else {
+            return Err(Refusal::Memory);
+        };
+        Ok(Board {
+            layout: config.layout,
+            readers,
+            updaters,
+            workers: config.workers,
+            grace: GraceState {
+                seq,
+                word: 0,
+                holder: None,
+                asks: 0,
+            },
+            heads,
+            objects,
+            log: Vec::new(alloc),
+        })
+    }
+
+    /// One step of the world.
+    pub fn step(&mut self, line: &Line) -> Result<Answer, StepError>
+        requires { IsInRange P.QSBR (shown self.old) }
+        ensures { Meets (outcome_of (plans_of P.QSBR P.made P.action P.turn P.taken) (shown self.old) line.now) (shown self.old) (shown self.new) result }
+    {
+        let change = self.change(line)?;
+        self.commit(change)
+    }
+
+    /// What the steps told.
+    pub fn log(&self) -> &[Event]
+        ensures { result.now ≡ (shown self.now).log }
+    {
+        &self.log
+    }
+
+    /// What a line makes of the world.
+    fn change(&self, line: &Line) -> Result<Change<P>, Refusal>
+        requires { IsInRange P.QSBR (shown self.now) }
+        ensures { result ≡ change_of (plans_of P.QSBR P.made P.action P.turn P.taken) (shown self.now) line.now }
+    {
+        match *line {
+            Line::Reader(reader, verb) => {
+                let Some(state) = self.readers.get(reader as usize).copied() else {
+                    return Err(Refusal::NoActor);
+                };
+                let step = self.reader_line(reader, state, verb)?;
+                Ok(Change::Read { reader, step })
+            }
+            Line::Updater(updater, verb) => {
+                let Some(state) = self.updaters.get(updater as usize).copied() else {
+                    return Err(Refusal::NoActor);
+                };
+                self.updater_line(updater, state, verb)
+            }
+            Line::Worker(worker, verb) => {
+                if worker >= self.workers {
+                    return Err(Refusal::NoActor);
+                }
+                match verb {
+                    WorkerVerb::GoOn => Err(Refusal::NotOpen),
+                }
+            }
+        }
+    }
+
+    /// A change, unless there is no memory for what it adds. That comes first, so a refusal leaves all as it was.
+    fn commit(&mut self, change: Change<P>) -> Result<Answer, StepError>
+        ensures ok { OnOk result (shown self.new ≡ changed (shown self.old) change) }
+        ensures answer { IfOk result (λ a. a ≡ answer_of change) }
+        ensures err { OnErr result (shown self.new ≡ shown self.old) }
+        ensures memory { IfErr result (λ e. e ≡ refusal.Memory) }
+    {
+        match change {
+            Change::Read { reader, step } => {
+                self.tell(step.answer)?;
+                put(&mut self.readers, reader as usize, step.state);
+                Ok(step.answer)
+            }
+            Change::Begin {
+                updater,
+                state,
+                object,
+            } => {
+                if self.objects.push(object).is_err() {
+                    return Err(Refusal::Memory);
+                }
+                put(&mut self.updaters, updater as usize, state);
+                Ok(Answer::Quiet)
+            }
+            Change::Publish {
+                updater,
+                state,
+                splice,
+                event,
+            } => {
+                let answer = Answer::Events {
+                    first: event,
+                    second: None,
+                };
+                self.tell(answer)?;
+                self.publish_now(updater, state, splice);
+                Ok(answer)
+            }
+            Change::Grace {
+                updater,
+                state,
+                grace,
+                answer,
+            } => {
+                self.tell(answer)?;
+                put(&mut self.updaters, updater as usize, state);
+                self.grace = grace;
+                Ok(answer)
+            }
+            Change::Stay(answer) => Ok(answer),
+        }
+    }
+
+    /// An updater's store into a chain.
+    fn publish_now(&mut self, updater: u32, state: UpdaterState<P>, splice: Splice)
+        ensures { shown self.new ≡ record (shown self.old) { updaters = slice_set (shown self.old).updaters updater state; heads = spliced_heads (shown self.old).heads splice; objects = spliced_objects (shown self.old).objects splice } }
+    {
+        put(&mut self.updaters, updater as usize, state);
+        self.splice(splice);
+    }
+
+    /// One store into a chain, and the bookkeeping beside it.
+    fn splice(&mut self, splice: Splice)
+        ensures heads { self.new.heads.items ≡ spliced_heads self.old.heads.items splice }
+        ensures objects { self.new.objects.items ≡ spliced_objects self.old.objects.items splice }
+        ensures layout { self.new.layout ≡ self.old.layout }
+        ensures readers { self.new.readers ≡ self.old.readers }
+        ensures updaters { self.new.updaters ≡ self.old.updaters }
+        ensures workers { self.new.workers ≡ self.old.workers }
+        ensures grace { self.new.grace ≡ self.old.grace }
+        ensures log { self.new.log ≡ self.old.log }
+    {
+        splice_heads(&mut self.heads, splice);
+        splice_objects(&mut self.objects, splice);
+    }
+
+    /// Adds the events of an answer to the log, or none where memory is refused.
+    fn tell(&mut self, answer: Answer) -> Result<(), StepError>
+        ensures ok { OnOk result (shown self.new ≡ record (shown self.old) { log = (shown self.old).log ++ told answer }) }
+        ensures err { OnErr result (shown self.new ≡ shown self.old) }
+        ensures memory { IfErr result (λ e. e ≡ refusal.Memory) }
+    {
+        let Answer::Events { first, second } = answer else {
+            return Ok(());
+        };
+        let count = if second.is_some() { 2 } else { 1 };
+        if self.log.reserve(count).is_err() {
+            return Err(Refusal::Memory);
+        }
+        let is_first = self.log.push(first).is_ok();
+        let is_second = match second {
+            Some(event) => self.log.push(event).is_ok(),
+            None => true,
+        };
+        prove!(is_first && is_second);
+        Ok(())
+    }
+}

@@ -1,0 +1,32 @@
+//! The steps of a grace period in the world.
+
+ghost use Rattle.std.specs.Prelude.{◌≡◌};
+ghost use Rattle.world.specs.Answers.{answer_to};
+
+use call_rcu_worker::{SyncCore, Told};
+use rcu_model::Event;
+use world_state::{Answer, GraceState};
+
+/// Where a grace period stands after a step, what the world keeps of grace periods then, and the answer.
+#[derive(Clone, Copy, Debug, PartialEq, Eq, Drop)]
+pub struct GraceStep<P> {
+    pub core: SyncCore<P>,
+    pub grace: GraceState,
+    pub answer: Answer,
+}
+
+/// What a step of the grace period of this ask answers.
+pub fn answer_to(ask: u64, told: Told) -> Answer
+    ensures { result ≡ answer_to ask told }
+{
+    let event = match told {
+        Told::Quiet => return Answer::Quiet,
+        Told::Asked => Event::Ask(ask),
+        Told::Answered => Event::Answer(ask),
+        Told::Waiting => return Answer::Wait,
+    };
+    Answer::Events {
+        first: event,
+        second: None,
+    }
+}

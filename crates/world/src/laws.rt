@@ -1,0 +1,24 @@
+//! Laws over all schedules.
+
+ghost use Rattle.std.specs.Prelude.{◌≡◌, ◌≤◌, ◌%◌, ◌^◌, ℕ, List, IsTrue};
+ghost use Rattle.rcu_model.specs.Machine.{IsRun};
+ghost use Rattle.world_state.specs.declared.config.Config.{Config};
+ghost use Rattle.world_state.specs.declared.line.Line.{Line};
+ghost use Rattle.world_state.specs.Limits.{is_within_limits};
+ghost use Rattle.world_state.specs.View.{BoardView, fresh_at, plans_of};
+ghost use Rattle.world.specs.Lines.{world_after};
+ghost use Rattle.world.specs.Reached.{IsReached};
+ghost use Rattle.world.specs.Shown.{IsInRange};
+
+use world_state::WorldPlan;
+
+/// The schedule theorem: for every schedule within the limits, whatever the plan and wherever the sequence numbers
+/// begin, the log is a run of the abstract machine.
+pub fn log_is_a_run<P: WorldPlan>()
+    ensures { (config : Config) (seq : ℕ) (lines : List Line) → IsTrue (is_within_limits config) → seq % 2 ≡ 0 → seq ≤ 2 ^ 62 → IsRun (world_after (plans_of P.QSBR P.made P.action P.turn P.taken) (fresh_at config seq) lines).log }
+{}
+
+/// The numbers of a world that lines led to are small enough for its next step.
+pub(crate) fn numbers_stay_in_range<P: WorldPlan>()
+    ensures { (w : BoardView P) → IsReached (plans_of P.QSBR P.made P.action P.turn P.taken) w → IsInRange P.QSBR w }
+{}

@@ -1,0 +1,16 @@
+#![tactic(auto)]
+//! The world of schedules: readers, updaters and workers that make one atomic step a line.
+
+mod board;
+mod grace;
+mod laws;
+mod publishing;
+mod reading;
+mod waiting;
+mod world;
+
+pub use laws::log_is_a_run;
+pub use world::World;
+pub use world_state::{
+    Answer, Config, Flavour, Layout, Line, ReaderVerb, StepError, UpdaterVerb, WorkerVerb,
+};

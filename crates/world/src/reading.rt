@@ -1,0 +1,102 @@
+//! The lines of readers.
+
+ghost use Rattle.std.specs.Prelude.{◌≡◌, ◌+◌, ◌≤◌, ◌<◌, ◌^◌, length, slice_get, Some};
+
+use crate::board::Board;
+use rcu_model::Refusal;
+use reader_word::qs_is_online;
+use world_state::{ReaderState, ReaderStep, ReaderVerb, WorldPlan};
+
+impl<P: WorldPlan + Drop> Board<P> {
+    ghost use Rattle.world.specs.Chains.{first_row, next_from};
+    ghost use Rattle.world.specs.Lines.{reader_line, reader_begins, reader_on};
+    ghost use Rattle.world.specs.Shown.{shown, IsInRange};
+    ghost use Rattle.world_state.specs.Readers.{touch_row};
+
+    /// A line of a reader.
+    pub fn reader_line(
+        &self,
+        reader: u32,
+        state: ReaderState,
+        verb: ReaderVerb,
+    ) -> Result<ReaderStep, Refusal>
+        requires range { IsInRange P.QSBR (shown self.now) }
+        requires there { slice_get (shown self.now).readers reader ≡ Some state }
+        ensures { result ≡ reader_line P.QSBR (shown self.now) reader state verb }
+    {
+        if verb == ReaderVerb::GoOn {
+            return self.reader_on(reader, state);
+        }
+        if state.copy.is_some() {
+            return Err(Refusal::Busy);
+        }
+        self.reader_begins(reader, state, verb)
+    }
+
+    /// The second step of `lock`, `online` or `quiescent`.
+    fn reader_on(&self, reader: u32, state: ReaderState) -> Result<ReaderStep, Refusal>
+        requires range { IsInRange P.QSBR (shown self.now) }
+        requires there { slice_get (shown self.now).readers reader ≡ Some state }
+        ensures { result ≡ reader_on P.QSBR (shown self.now) reader state state.copy }
+    {
+        let Some(copy) = state.copy else {
+            return Err(Refusal::NotOpen);
+        };
+        if !P::QSBR {
+            return state.enter(reader, self.layout, copy);
+        }
+        if qs_is_online(state.word) {
+            Ok(state.announce(reader, copy))
+        } else {
+            Ok(state.go_online(reader, copy))
+        }
+    }
+
+    /// A verb of a reader that is in no operation.
+    fn reader_begins(
+        &self,
+        reader: u32,
+        state: ReaderState,
+        verb: ReaderVerb,
+    ) -> Result<ReaderStep, Refusal>
+        ensures { result ≡ reader_begins P.QSBR (shown self.now) reader state verb }
+    {
+        match verb {
+            ReaderVerb::Lock | ReaderVerb::Unlock if P::QSBR => Err(Refusal::WrongFlavour),
+            ReaderVerb::Lock => state.lock(self.layout, self.grace.word),
+            ReaderVerb::Unlock => state.unlock(reader, self.layout),
+            ReaderVerb::Online | ReaderVerb::Quiescent | ReaderVerb::Offline if !P::QSBR => {
+                Err(Refusal::WrongFlavour)
+            }
+            ReaderVerb::Online => state.online(self.grace.word),
+            ReaderVerb::Quiescent => state.quiescent(self.grace.word),
+            ReaderVerb::Offline => state.offline(reader),
+            ReaderVerb::GoOn => Err(Refusal::NotOpen),
+            _ if !state.is_in_section(P::QSBR, self.layout) => Err(Refusal::NotOpen),
+            ReaderVerb::First(chain) => self.first(reader, state, chain),
+            ReaderVerb::Next => self.next(reader, state),
+            ReaderVerb::Touch => state.touch(reader),
+        }
+    }
+
+    fn first(&self, reader: u32, state: ReaderState, chain: u32) -> Result<ReaderStep, Refusal>
+        ensures { result ≡ first_row reader state chain (slice_get (shown self.now).heads chain) }
+    {
+        let Some(found) = self.heads.get(chain as usize).copied() else {
+            return Err(Refusal::NoPlace);
+        };
+        Ok(state.first(reader, chain, found))
+    }
+
+    fn next(&self, reader: u32, state: ReaderState) -> Result<ReaderStep, Refusal>
+        ensures { result ≡ next_from (shown self.now) reader state state.cursor }
+    {
+        let Some(from) = state.cursor else {
+            return Err(Refusal::NoPlace);
+        };
+        let Some(object) = self.objects.get(from.0 as usize).copied() else {
+            return Err(Refusal::NoPlace);
+        };
+        Ok(state.next(reader, from, object.link))
+    }
+}

@@ -1,0 +1,198 @@
+//! The lines of updaters, and the steps of their grace periods.
+
+ghost use Rattle.std.specs.Prelude.{◌≡◌, ◌+◌, ◌≤◌, ◌<◌, ◌^◌, length, slice_get, Some};
+ghost use Rattle.call_rcu_worker.specs.Sync.{told_of};
+ghost use Rattle.world.specs.Grace.{stepped};
+
+use crate::board::Board;
+use crate::grace::{GraceStep, answer_to};
+use call_rcu_worker::{SyncCore, SyncStep};
+use gp_memb::Action;
+use rcu_model::Refusal;
+use world_state::{
+    Answer, Change, GraceState, Holder, UpdaterPlace, UpdaterState, UpdaterVerb, WorldPlan,
+};
+
+impl<P: WorldPlan + Drop> Board<P> {
+    ghost use Rattle.call_rcu_worker.specs.declared.sync.SyncStep.TheVariants as due;
+    ghost use Rattle.call_rcu_worker.specs.Sync.{step_of};
+    ghost use Rattle.world_state.specs.declared.updater.Holder.TheVariants.{Updater};
+    ghost use Rattle.world_state.specs.View.{plans_of};
+    ghost use Rattle.world.specs.Grace.{action_row, hold_row, grace_row, sync_place};
+    ghost use Rattle.world.specs.Lines.{updater_line, updater_begins, updater_on, synced};
+    ghost use Rattle.world.specs.Shown.{shown, IsInRange, CanStart};
+
+    /// A line of an updater.
+    pub fn updater_line(
+        &self,
+        updater: u32,
+        state: UpdaterState<P>,
+        verb: UpdaterVerb,
+    ) -> Result<Change<P>, Refusal>
+        requires range { IsInRange P.QSBR (shown self.now) }
+        requires there { slice_get (shown self.now).updaters updater ≡ Some state }
+        ensures { result ≡ updater_line (plans_of P.QSBR P.made P.action P.turn P.taken) (shown self.now) updater state verb }
+    {
+        if verb == UpdaterVerb::GoOn {
+            return self.updater_on(updater, state);
+        }
+        if !matches!(state.place, UpdaterPlace::Idle) {
+            return Err(Refusal::Busy);
+        }
+        self.updater_begins(updater, state, verb)
+    }
+
+    /// The next step of an updater's operation.
+    fn updater_on(&self, updater: u32, state: UpdaterState<P>) -> Result<Change<P>, Refusal>
+        requires range { IsInRange P.QSBR (shown self.now) }
+        requires there { slice_get (shown self.now).updaters updater ≡ Some state }
+        ensures { result ≡ updater_on (plans_of P.QSBR P.made P.action P.turn P.taken) (shown self.now) updater state state.place }
+    {
+        let place = state.place;
+        match place {
+            UpdaterPlace::Idle => Err(Refusal::NotOpen),
+            UpdaterPlace::Publishes(publishing) => self.publish(updater, state, publishing),
+            UpdaterPlace::Syncs { ask, core } => self.sync(updater, state, ask, core),
+        }
+    }
+
+    /// A verb of an updater that is in no operation.
+    fn updater_begins(
+        &self,
+        updater: u32,
+        state: UpdaterState<P>,
+        verb: UpdaterVerb,
+    ) -> Result<Change<P>, Refusal>
+        requires range { IsInRange P.QSBR (shown self.now) }
+        requires some { 0 < length (shown self.now).updaters }
+        ensures { result ≡ updater_begins (plans_of P.QSBR P.made P.action P.turn P.taken) (shown self.now) updater state verb }
+    {
+        match verb {
+            UpdaterVerb::Push(chain) => self.push(updater, state, chain),
+            UpdaterVerb::Replace(object) => self.replace(updater, state, object),
+            UpdaterVerb::Cut(object) => self.cut(updater, state, object),
+            UpdaterVerb::Sync => {
+                let ask = self.grace.asks + 1;
+                self.sync(updater, state, ask, SyncCore::new())
+            }
+            UpdaterVerb::GoOn => Err(Refusal::NotOpen),
+        }
+    }
+
+    /// A step of an updater's grace period.
+    fn sync(
+        &self,
+        updater: u32,
+        mut state: UpdaterState<P>,
+        ask: u64,
+        core: SyncCore<P>,
+    ) -> Result<Change<P>, Refusal>
+        requires some { 1 ≤ length (shown self.now).readers }
+        requires start { step_of P.action core ≡ due.Begin → CanStart (shown self.now).grace }
+        ensures { result ≡ synced (plans_of P.QSBR P.made P.action P.turn P.taken) updater state ask (grace_row (plans_of P.QSBR P.made P.action P.turn P.taken) (shown self.now) (Updater updater) ask core) }
+    {
+        let step = self.grace_step(Holder::Updater(updater), ask, core)?;
+        if matches!(step.answer, Answer::Wait | Answer::Blocked) {
+            return Ok(Change::Stay(step.answer));
+        }
+        state.place = match step.core.next() {
+            SyncStep::Nothing => UpdaterPlace::Idle,
+            _ => UpdaterPlace::Syncs {
+                ask,
+                core: step.core,
+            },
+        };
+        Ok(Change::Grace {
+            updater,
+            state,
+            grace: step.grace,
+            answer: step.answer,
+        })
+    }
+
+    /// A step of somebody's grace period.
+    fn grace_step(
+        &self,
+        me: Holder,
+        ask: u64,
+        mut core: SyncCore<P>,
+    ) -> Result<GraceStep<P>, Refusal>
+        requires some { 1 ≤ length (shown self.now).readers }
+        requires start { step_of P.action core ≡ due.Begin → CanStart (shown self.now).grace }
+        ensures { result ≡ grace_row (plans_of P.QSBR P.made P.action P.turn P.taken) (shown self.now) me ask core }
+    {
+        let mut grace = self.grace;
+        match core.next() {
+            SyncStep::Ask => {
+                grace.asks = ask;
+                tell(grace, ask, core, self.grace.seq)
+            }
+            SyncStep::TakeLock => self.take_lock(me, ask, core),
+            SyncStep::Check => tell(grace, ask, core, self.grace.seq),
+            SyncStep::Begin => {
+                let plan = P::make(self.layout, self.readers.len(), grace.seq, grace.word);
+                let action = plan.next();
+                core.begin(plan);
+                self.act(ask, core, action)
+            }
+            SyncStep::Plan(action) => self.act(ask, core, action),
+            SyncStep::FreeLock => {
+                grace.holder = None;
+                tell(grace, ask, core, 0)
+            }
+            SyncStep::Nothing => tell(grace, ask, core, 0),
+        }
+    }
+
+    /// Takes the grace lock, unless it is held.
+    fn take_lock(&self, me: Holder, ask: u64, core: SyncCore<P>) -> Result<GraceStep<P>, Refusal>
+        ensures { result ≡ hold_row (plans_of P.QSBR P.made P.action P.turn P.taken) (shown self.now) me ask core (shown self.now).grace.holder }
+    {
+        let mut grace = self.grace;
+        if grace.holder.is_some() {
+            return Ok(GraceStep {
+                core,
+                grace,
+                answer: Answer::Blocked,
+            });
+        }
+        grace.holder = Some(me);
+        tell(grace, ask, core, 0)
+    }
+
+    /// Does an action of the plan.
+    fn act(&self, ask: u64, core: SyncCore<P>, action: Action) -> Result<GraceStep<P>, Refusal>
+        ensures { result ≡ action_row (plans_of P.QSBR P.made P.action P.turn P.taken) (shown self.now) ask core action }
+    {
+        let mut grace = self.grace;
+        let mut loaded = 0;
+        match action {
+            Action::Load(slot) => {
+                if let Some(reader) = self.readers.get(slot).copied() {
+                    loaded = reader.word;
+                }
+            }
+            Action::StorePhase(value) => grace.word = value,
+            Action::StoreSeq(value) => grace.seq = value,
+            Action::Finished => {}
+        }
+        tell(grace, ask, core, loaded)
+    }
+}
+
+/// Tells the core what was loaded. The grace state is the one after the step.
+fn tell<P: WorldPlan + Drop>(
+    grace: GraceState,
+    ask: u64,
+    mut core: SyncCore<P>,
+    loaded: u64,
+) -> Result<GraceStep<P>, Refusal>
+    ensures { result ≡ stepped grace ask (told_of P.action P.turn P.taken core loaded) }
+{
+    let told = core.told(loaded)?;
+    Ok(GraceStep {
+        core,
+        grace,
+        answer: answer_to(ask, told),
+    })
+}

@@ -1,0 +1,111 @@
+//! The world: readers, updaters and workers of one flavour, and the log of what their steps told.
+
+ghost use Rattle.std.specs.Prelude.{◌≡◌, ◌⊎◌, ◌≤◌, ◌%◌, ◌^◌, IsTrue, IfOk, IfErr, false};
+ghost use Rattle.rcu_model.specs.Machine.{IsRun};
+ghost use Rattle.rcu_model.specs.declared.refusal.Refusal.TheVariants.{BadConfig, Memory};
+ghost use Rattle.world.specs.Steps.{fresh_world, fresh_world_at, is_supported, is_supported_at, step_of, Meets, log_of, IsOfReader, IsPrompt};
+
+use crate::board::Board;
+use crate::laws::{log_is_a_run, numbers_stay_in_range};
+use gp_memb::MembPlan;
+use gp_qsbr::QsbrPlan;
+use rcu_model::{Event, Refusal};
+use std::alloc::Global;
+use std::marker::Model;
+use world_state::{Answer, Config, Flavour, Line, StepError};
+
+/// The greatest sequence number that a world may begin with: 2^62.
+const LAST_START: u64 = 1 << 62;
+
+/// The board of a flavour.
+#[derive(Drop)]
+enum Boards {
+    Memb(Board<MembPlan>),
+    Qsbr(Board<QsbrPlan>),
+}
+
+/// A world of readers, updaters and workers, which makes one atomic step a line.
+#[derive(Drop)]
+pub struct World {
+    boards: Boards,
+}
+
+impl Model for World {
+    ghost use Rattle.world.specs.Steps.{WorldView};
+
+    ghost Value = { WorldView };
+
+    ghost use Rattle.world.specs.Steps.{IsReachedWorld};
+    ghost use Rattle.world.specs.Seen.{seen};
+
+    ghost view = { λ w. seen w.boards };
+
+    ghost invariant = { λ w. IsReachedWorld (seen w.boards) };
+}
+
+impl World {
+    /// A world in which nothing has happened.
+    ///
+    /// Refused with `BadConfig` where a number of the config is out of its limits, and with `Memory`.
+    pub fn new(alloc: Global, config: Config) -> Result<World, Refusal>
+        ensures ok { IfOk result (λ w. IsTrue (is_supported config) × (w ≡ fresh_world config)) }
+        ensures err { IfErr result (λ e. ((e ≡ BadConfig) × (is_supported config ≡ false)) ⊎ ((e ≡ Memory) × IsTrue (is_supported config))) }
+    {
+        World::new_at(alloc, config, 0)
+    }
+
+    /// A world in which nothing has happened, whose sequence numbers begin at `seq`.
+    ///
+    /// Refused with `BadConfig` where a number of the config is out of its limits, or `seq` is odd or above 2^62, and
+    /// with `Memory`.
+    pub fn new_at(alloc: Global, config: Config, seq: u64) -> Result<World, Refusal>
+        ensures ok { IfOk result (λ w. IsTrue (is_supported_at config seq) × (w ≡ fresh_world_at config seq)) }
+        ensures err { IfErr result (λ e. ((e ≡ BadConfig) × (is_supported_at config seq ≡ false)) ⊎ ((e ≡ Memory) × IsTrue (is_supported_at config seq))) }
+    {
+        if !config.is_within_limits() || seq % 2 != 0 || seq > LAST_START {
+            return Err(Refusal::BadConfig);
+        }
+        World::fresh(alloc, config, seq)
+    }
+
+    fn fresh(alloc: Global, config: Config, seq: u64) -> Result<World, Refusal>
+        requires limits { IsTrue (is_supported config) }
+        requires even { seq % 2 ≡ 0 }
+        requires seq { seq ≤ 2 ^ 62 }
+        ensures ok { IfOk result (λ w. w ≡ fresh_world_at config seq) }
+        ensures memory { IfErr result (λ e. e ≡ Memory) }
+    {
+        let boards = match config.flavour {
+            Flavour::Memb => Boards::Memb(Board::new(alloc, config, seq)?),
+            Flavour::Qsbr => Boards::Qsbr(Board::new(alloc, config, seq)?),
+        };
+        Ok(World { boards })
+    }
+
+    /// One step.
+    pub fn step(&mut self, line: &Line) -> Result<Answer, StepError>
+        ensures table { Meets (step_of self.old line.now) self.old self.new result }
+        // A reader waits for nobody.
+        ensures prompt { IsOfReader line.now → IfOk result IsPrompt }
+    {
+        numbers_stay_in_range::<MembPlan>();
+        numbers_stay_in_range::<QsbrPlan>();
+        match &mut self.boards {
+            Boards::Memb(board) => board.step(line),
+            Boards::Qsbr(board) => board.step(line),
+        }
+    }
+
+    /// What the steps told, in order: always a run of the abstract machine.
+    pub fn log(&self) -> &[Event]
+        ensures log { result.now ≡ log_of self.now }
+        ensures run { IsRun result.now }
+    {
+        log_is_a_run::<MembPlan>();
+        log_is_a_run::<QsbrPlan>();
+        match &self.boards {
+            Boards::Memb(board) => board.log(),
+            Boards::Qsbr(board) => board.log(),
+        }
+    }
+}

@@ -1,0 +1,4 @@
+pub mod Writes
+pub mod Linking
+pub mod Growing
+pub mod Reading

@@ -1,0 +1,4 @@
+pub mod Limits
+pub mod Readers
+pub mod Objects
+pub mod View

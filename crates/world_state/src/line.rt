@@ -1,0 +1,66 @@
+//! The lines of a schedule, and what they are answered.
+
+use rcu_model::{Event, ObjectId, Refusal};
+
+/// One step of an actor, which is named by its number.
+#[derive(Clone, Copy, Debug, PartialEq, Eq, Drop)]
+pub enum Line {
+    Reader(u32, ReaderVerb),
+    Updater(u32, UpdaterVerb),
+    Worker(u32, WorkerVerb),
+}
+
+#[derive(Clone, Copy, Debug, PartialEq, Eq, Drop)]
+pub enum ReaderVerb {
+    Lock,
+    Unlock,
+    Online,
+    Quiescent,
+    Offline,
+    /// Goes to the first object of a chain.
+    First(u32),
+    /// Goes on to the successor of the object that the reader last got.
+    Next,
+    /// Reads the object that the reader last got.
+    Touch,
+    /// The next step of the operation that the reader is in.
+    GoOn,
+}
+
+#[derive(Clone, Copy, Debug, PartialEq, Eq, Drop)]
+pub enum UpdaterVerb {
+    /// Publishes a new object at the front of a chain.
+    Push(u32),
+    /// Publishes a new object in the place of a linked one.
+    Replace(ObjectId),
+    /// Takes a linked object out of its chain.
+    Cut(ObjectId),
+    /// Waits for a grace period: liburcu's `synchronize_rcu`.
+    Sync,
+    /// The next step of the operation that the updater is in.
+    GoOn,
+}
+
+#[derive(Clone, Copy, Debug, PartialEq, Eq, Drop)]
+pub enum WorkerVerb {
+    /// The next step of the operation that the worker is in.
+    GoOn,
+}
+
+/// What a step answers.
+#[derive(Clone, Copy, Debug, PartialEq, Eq, Drop)]
+pub enum Answer {
+    /// What happened: one event, or two at an announcement.
+    Events { first: Event, second: Option<Event> },
+    /// The step was made, and tells no event.
+    Quiet,
+    /// A loaded word stands in the way. Nothing changed.
+    Wait,
+    /// A lock that the step needs free is held. Nothing changed.
+    Blocked,
+    /// There is nothing to take. Nothing changed.
+    Idle,
+}
+
+/// Why a step was refused: one of `NestFull`, `Exhausted`, `NotOpen`, `Busy`, `NoPlace`, `WrongFlavour`, `NoActor` and `Memory`.
+pub type StepError = Refusal;

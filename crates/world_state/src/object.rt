@@ -1,0 +1,88 @@
+//! What the world keeps of an object, and what a store into a chain changes.
+
+ghost use Rattle.std.specs.Prelude.{◌≡◌};
+ghost use Rattle.std.specs.Option.{option_or};
+
+use rcu_model::ObjectId;
+
+/// Where an object is.
+#[derive(Clone, Copy, Debug, PartialEq, Eq, Drop)]
+pub enum Stage {
+    /// In no chain yet.
+    Fresh,
+    Linked,
+    Cut,
+}
+
+/// What was done with an object since it was cut. Its header says this much.
+#[derive(Clone, Copy, Debug, PartialEq, Eq, Drop)]
+pub enum Life {
+    Kept,
+    Retired,
+    Queued,
+    Reclaimed,
+}
+
+/// What the world keeps of an object.
+#[derive(Clone, Copy, Debug, PartialEq, Eq, Drop)]
+pub struct ObjectState {
+    /// The chain that it was pushed into, or put into by a replacement.
+    pub chain: u32,
+    /// Its link word.
+    pub link: Option<ObjectId>,
+    /// The object whose link leads to it while it is linked, or none for the head. No word, and no reader loads it.
+    pub before: Option<ObjectId>,
+    pub stage: Stage,
+    pub life: Life,
+}
+
+/// One store into a chain: what leaves it and what enters it, between two neighbours.
+#[derive(Clone, Copy, Debug, PartialEq, Eq, Drop)]
+pub struct Splice {
+    pub chain: u32,
+    /// The object whose link is stored, or none for the head.
+    pub before: Option<ObjectId>,
+    pub after: Option<ObjectId>,
+    pub leaves: Option<ObjectId>,
+    pub enters: Option<ObjectId>,
+}
+
+impl ObjectState {
+    ghost use Rattle.world_state.specs.Objects.{fresh_object, is_linked};
+
+    /// An object that is in no chain yet, with its fresh link.
+    pub fn fresh(chain: u32, link: Option<ObjectId>) -> ObjectState
+        ensures { result ≡ fresh_object chain link }
+    {
+        ObjectState {
+            chain,
+            link,
+            before: None,
+            stage: Stage::Fresh,
+            life: Life::Kept,
+        }
+    }
+
+    /// Whether it is in its chain.
+    pub fn is_linked(self) -> bool
+        ensures { result ≡ is_linked self.stage }
+    {
+        matches!(self.stage, Stage::Linked)
+    }
+}
+
+impl Splice {
+    /// What the place before is to lead to.
+    pub fn value(self) -> Option<ObjectId>
+        ensures { result ≡ option_or self.enters self.after }
+    {
+        self.enters.or(self.after)
+    }
+
+    /// What is to stand before the object after.
+    pub fn mark(self) -> Option<ObjectId>
+        ensures { result ≡ option_or self.enters self.before }
+    {
+        self.enters.or(self.before)
+    }
+}
