@@ -10,7 +10,7 @@ use Rattle.gp_memb.specs.declared.plan.Turn.TheVariants.{Step, Wait}
 use Rattle.gp_memb.specs.declared.memb.MembPlan.{MembPlan}
 use Rattle.gp_memb.specs.declared.memb.Place.{Place}
 use Rattle.gp_memb.specs.declared.memb.Place.TheVariants.{StoreOdd, Flip, FirstScan, FlipBack, SecondScan, StoreEven, Done}
-use Rattle.gp_memb.specs.Plan.{after_loads, StoresInOrder, IsPresent, MayStore, turn_at, present_after, after_turn, FinishesAfter}
+use Rattle.gp_memb.specs.Plan.{after_loads, StoresInOrder, IsPresent, MayStore, turn_at, present_after, after_turn, FinishesAfter, turn_count}
 use Rattle.gp_memb.specs.PlanLemmas.{lasts_by, kept_by, finishes_by, behind_is}
 use Rattle.gp_memb.specs.Memb.{memb_begun, memb_action, action_at, memb_moved, moved_at, memb_taken, memb_turn, memb_turn_at, memb_present, scan_turn}
 
@@ -245,6 +245,18 @@ memb_keeps_layout plan word = by_turn (memb_turn plan word)
     by_turn Step = layout_at plan plan.place
     by_turn Wait = refl
 
+turn_ignores : (plan : MembPlan) (place : Place) (a b : ℕ) → ((slot : ℕ) → action_at plan place ≢ Load slot) → memb_turn_at plan place a ≡ memb_turn_at plan place b
+turn_ignores plan StoreOdd a b no_load = refl
+turn_ignores plan Flip a b no_load = refl
+turn_ignores plan (FirstScan slot) a b no_load = absurd (no_load slot refl)
+turn_ignores plan FlipBack a b no_load = refl
+turn_ignores plan (SecondScan slot) a b no_load = absurd (no_load slot refl)
+turn_ignores plan StoreEven a b no_load = refl
+turn_ignores plan Done a b no_load = refl
+
+pub memb_ignores : (plan : MembPlan) (a b : ℕ) → ((slot : ℕ) → memb_action plan ≢ Load slot) → memb_taken plan a ≡ memb_taken plan b
+memb_ignores plan a b no_load = ap (after_turn (memb_moved plan) plan) (turn_ignores plan plan.place a b no_load)
+
 -- the turns that are left
 abbrev rest_at : ℕ → Place → ℕ
 rest_at slots StoreOdd = 2 * slots + 4
@@ -275,10 +287,14 @@ ends_at slots plan (SecondScan k) w = ((λ e. absurd (cc)), (λ e. absurd (omega
 ends_at slots plan StoreEven w = ((λ e. absurd (cc)), (λ e. absurd (omega arith)))
 ends_at slots plan Done w = ((λ e. refl), (λ e. refl))
 
-pub memb_finishes : (layout : Layout) (slots seq : ℕ) (phase : Bool) → 1 ≤ slots → FinishesAfter memb_action memb_turn memb_taken (memb_begun layout slots seq phase) (2 * slots + 4)
+pub memb_finishes : (layout : Layout) (slots seq : ℕ) (phase : Bool) → 1 ≤ slots → FinishesAfter memb_action memb_turn memb_taken (memb_begun layout slots seq phase) (turn_count false slots)
 memb_finishes layout slots seq phase some words =
     finishes_by memb_action memb_turn memb_moved (ScansSlots slots) (λ p. rest_at slots p.place)
     (λ p s. scans_at slots p p.place s)
     (λ p s. falls_at slots p p.place refl s.within s)
     (λ p s. ends_at slots p p.place s.within)
     (memb_begun layout slots seq phase) words (record { some = some; size = refl; within = tt })
+
+pub memb_finishes-begun : (layout : Layout) (slots seq word : ℕ) (plan : MembPlan) → plan ≡ memb_begun layout slots seq (word == 1) → 1 ≤ slots → FinishesAfter memb_action memb_turn memb_taken plan (turn_count false slots)
+memb_finishes-begun layout slots seq word plan begun some =
+    subst (λ p. FinishesAfter memb_action memb_turn memb_taken p (turn_count false slots)) (sym begun) (memb_finishes layout slots seq (word == 1) some)

@@ -1,5 +1,5 @@
 -- What a grace period waits for, and what it stores.
-use Rattle.std.specs.Prelude.{◌≡◌, ◌≢◌, ◌↔◌, ◌≤◌, ◌<◌, ℕ, ◌+◌, ◌==◌, Bool, true, false, nat_lt, if◌then◌else◌, List, [], ◌∷◌, Option, Some, None}
+use Rattle.std.specs.Prelude.{◌≡◌, ◌≢◌, ◌↔◌, ◌≤◌, ◌<◌, ℕ, ◌+◌, ◌*◌, ◌==◌, Bool, true, false, nat_lt, if◌then◌else◌, List, [], ◌∷◌, Option, Some, None}
 use Rattle.reader_word.specs.declared.layout.Layout.{Layout}
 use Rattle.reader_word.specs.Word.{count_of, phase_in, stands}
 use Rattle.reader_word.specs.Quiescent.{announced, qs_stands}
@@ -80,6 +80,11 @@ steps turn taken plan (word ∷ words) = went_on (turn plan word) + steps turn t
 abbrev pub FinishesAfter : {P : Type 0} → (P → Action) → (P → ℕ → Turn) → (P → ℕ → P) → P → ℕ → Type 0
 FinishesAfter action turn taken plan count =
     (words : List ℕ) → (action (after_loads taken plan words) ≡ Finished) ↔ (count ≤ steps turn taken plan words)
+
+-- the turns of a grace period over this many slots that go on
+abbrev pub turn_count : Bool → ℕ → ℕ
+turn_count false slots = 2 * slots + 4
+turn_count true slots = slots + 3
 
 -- the plan after a turn: moved on, or as it was where the turn waits
 abbrev pub after_turn : {P : Type 0} → P → P → Turn → P

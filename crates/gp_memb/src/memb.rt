@@ -1,6 +1,6 @@
 //! The plan of the general-purpose flavour: two flips of the phase, each with a scan of all slots.
 
-ghost use Rattle.std.specs.Prelude.{◌≡◌, ◌≤◌, ◌+◌, ◌*◌, ◌^◌, ◌%◌, ◌==◌, false};
+ghost use Rattle.std.specs.Prelude.{◌≡◌, ◌≤◌, ◌^◌, ◌%◌, ◌==◌, false};
 ghost use Rattle.std.proofs.Common.{ap, sym, true≢false};
 
 use crate::plan::{Action, GracePlan, Turn, next_slot};
@@ -33,7 +33,7 @@ pub struct MembPlan {
 }
 
 impl MembPlan {
-    ghost use Rattle.gp_memb.specs.Plan.{FinishesAfter};
+    ghost use Rattle.gp_memb.specs.Plan.{FinishesAfter, turn_count};
     ghost use Rattle.gp_memb.specs.Memb.{memb_begun, memb_action, memb_turn, memb_taken};
 
     /// A plan that has done nothing yet, for the present sequence number and phase.
@@ -41,7 +41,7 @@ impl MembPlan {
         requires even { seq % 2 ≡ 0 }
         requires seq { seq ≤ 2 ^ 62 }
         ensures plan { result ≡ memb_begun layout slots seq phase }
-        ensures turns { 1 ≤ slots → FinishesAfter memb_action memb_turn memb_taken result (2 * slots + 4) }
+        ensures turns { 1 ≤ slots → FinishesAfter memb_action memb_turn memb_taken result (turn_count false slots) }
     {
         MembPlan {
             layout,
@@ -57,7 +57,7 @@ impl MembPlan {
 impl GracePlan for MembPlan {
     ghost use Rattle.gp_memb.specs.Memb.{memb_begun, memb_action, memb_turn, memb_taken, memb_present};
     ghost use Rattle.gp_memb.specs.MembWaits.{memb_waits};
-    ghost use Rattle.gp_memb.specs.MembOrder.{memb_order, memb_in_range, memb_stores, memb_begins, memb_exact, memb_still, memb_presents, memb_keeps_layout};
+    ghost use Rattle.gp_memb.specs.MembOrder.{memb_order, memb_in_range, memb_stores, memb_begins, memb_exact, memb_still, memb_ignores, memb_presents, memb_keeps_layout, memb_finishes-begun};
 
     ghost QSBR = { false };
 
@@ -128,6 +128,8 @@ impl GracePlan for MembPlan {
 
     ghost order = { memb_order };
 
+    ghost finishes = { memb_finishes-begun };
+
     ghost in_range = { memb_in_range };
 
     ghost stores = { memb_stores };
@@ -139,6 +141,8 @@ impl GracePlan for MembPlan {
     ghost exact = { memb_exact };
 
     ghost still = { memb_still };
+
+    ghost ignores = { memb_ignores };
 
     ghost presents = { memb_presents };
 

@@ -1,13 +1,13 @@
 //! A grace period, one step at a time.
 
-ghost use Rattle.std.specs.Prelude.{◌≡◌, ◌≤◌, ◌<◌, ◌^◌, ◌%◌, ℕ, Bool, true, false, List};
+ghost use Rattle.std.specs.Prelude.{◌≡◌, ◌≢◌, ◌≤◌, ◌<◌, ◌^◌, ◌%◌, ℕ, Bool, true, false, List};
 ghost use Rattle.reader_word.specs.declared.layout.Layout.{Layout};
 ghost use Rattle.reader_word.specs.declared.layout.Layout.TheVariants.{Wide};
 ghost use Rattle.gp_memb.specs.declared.plan.Action.{Action};
 ghost use Rattle.gp_memb.specs.declared.plan.Action.TheVariants.{Load, StorePhase};
 ghost use Rattle.gp_memb.specs.declared.plan.Turn.{Turn};
 ghost use Rattle.gp_memb.specs.declared.plan.Turn.TheVariants.{Wait};
-ghost use Rattle.gp_memb.specs.Plan.{turn_at, present_after, after_loads, StoresInOrder, WaitsForOpen, IsPresent, MayStore, slot_behind};
+ghost use Rattle.gp_memb.specs.Plan.{turn_at, present_after, after_loads, StoresInOrder, WaitsForOpen, IsPresent, MayStore, FinishesAfter, turn_count, slot_behind};
 
 /// What a plan does next.
 #[derive(Clone, Copy, Debug, PartialEq, Eq, Drop)]
@@ -76,8 +76,11 @@ pub trait GracePlan: Sized {
     /// The grace-period law: while a section stays open that was open at the first store, the plan is not finished.
     ghost waits: { (layout : Layout) (slots seq word : ℕ) (plan : Self) → is_begun layout slots seq word plan → WaitsForOpen QSBR action taken layout slots word plan };
 
-    /// The first turn stores the next sequence number, the last one that behind it, and no other stores one.
+    /// The first turn stores the next sequence number, the last one the number after that, and no other stores one.
     ghost order: { (layout : Layout) (slots seq word : ℕ) (plan : Self) → is_begun layout slots seq word plan → StoresInOrder action taken seq plan };
+
+    /// Over R slots, the plan is finished exactly when 2R + 4 of its turns were steps, or R + 3 in the quiescent-state flavour.
+    ghost finishes: { (layout : Layout) (slots seq word : ℕ) (plan : Self) → is_begun layout slots seq word plan → 1 ≤ slots → FinishesAfter action turn taken plan (turn_count QSBR slots) };
 
     /// Only slots that are there are loaded.
     ghost in_range: { (layout : Layout) (slots seq word : ℕ) (plan : Self) → is_begun layout slots seq word plan → 1 ≤ slots → (loads : List ℕ) (slot : ℕ) → action (after_loads taken plan loads) ≡ Load slot → slot < slots };
@@ -95,6 +98,9 @@ pub trait GracePlan: Sized {
 
     /// A turn that waits leaves the plan as it was.
     ghost still: { (plan : Self) (word : ℕ) → turn plan word ≡ Wait → taken plan word ≡ plan };
+
+    /// An action that is no load ignores the loaded word.
+    ghost ignores: { (plan : Self) (a b : ℕ) → ((slot : ℕ) → action plan ≢ Load slot) → taken plan a ≡ taken plan b };
 
     /// The present phase or number is what was stored last.
     ghost presents: { (plan : Self) (word : ℕ) → present (taken plan word) ≡ present_after (present plan) (action plan) };

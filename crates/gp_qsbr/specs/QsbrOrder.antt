@@ -8,7 +8,7 @@ use Rattle.gp_memb.specs.declared.plan.Action.{Action}
 use Rattle.gp_memb.specs.declared.plan.Action.TheVariants.{Load, StorePhase, StoreSeq, Finished}
 use Rattle.gp_memb.specs.declared.plan.Turn.{Turn}
 use Rattle.gp_memb.specs.declared.plan.Turn.TheVariants.{Step, Wait}
-use Rattle.gp_memb.specs.Plan.{after_loads, StoresInOrder, IsPresent, MayStore, turn_at, present_after, after_turn, FinishesAfter}
+use Rattle.gp_memb.specs.Plan.{after_loads, StoresInOrder, IsPresent, MayStore, turn_at, present_after, after_turn, FinishesAfter, turn_count}
 use Rattle.gp_memb.specs.PlanLemmas.{lasts_by, kept_by, finishes_by, behind_is}
 use Rattle.gp_qsbr.specs.declared.qsbr.QsbrPlan.{QsbrPlan}
 use Rattle.gp_qsbr.specs.declared.qsbr.Place.{Place}
@@ -176,6 +176,16 @@ presents_at plan Done word is = ap (present_at plan) is
 pub qsbr_presents : (plan : QsbrPlan) (word : ℕ) → qsbr_present (qsbr_taken plan word) ≡ present_after (qsbr_present plan) (qsbr_action plan)
 qsbr_presents plan word = presents_at plan plan.place word refl
 
+turn_ignores : (plan : QsbrPlan) (place : Place) (a b : ℕ) → ((slot : ℕ) → action_at plan place ≢ Load slot) → turn_of plan place a ≡ turn_of plan place b
+turn_ignores plan StoreOdd a b no_load = refl
+turn_ignores plan Raise a b no_load = refl
+turn_ignores plan (Scan slot) a b no_load = absurd (no_load slot refl)
+turn_ignores plan StoreEven a b no_load = refl
+turn_ignores plan Done a b no_load = refl
+
+pub qsbr_ignores : (plan : QsbrPlan) (a b : ℕ) → ((slot : ℕ) → qsbr_action plan ≢ Load slot) → qsbr_taken plan a ≡ qsbr_taken plan b
+qsbr_ignores plan a b no_load = ap (after_turn (qsbr_moved plan) plan) (turn_ignores plan plan.place a b no_load)
+
 -- the turns that are left
 abbrev rest_at : ℕ → Place → ℕ
 rest_at slots StoreOdd = slots + 3
@@ -199,10 +209,14 @@ ends_at slots plan (Scan k) w = ((λ e. absurd (cc)), (λ e. absurd (omega arith
 ends_at slots plan StoreEven w = ((λ e. absurd (cc)), (λ e. absurd (omega arith)))
 ends_at slots plan Done w = ((λ e. refl), (λ e. refl))
 
-pub qsbr_finishes : (slots seq num : ℕ) → 1 ≤ slots → FinishesAfter qsbr_action qsbr_turn qsbr_taken (qsbr_begun slots seq num) (slots + 3)
+pub qsbr_finishes : (slots seq num : ℕ) → 1 ≤ slots → FinishesAfter qsbr_action qsbr_turn qsbr_taken (qsbr_begun slots seq num) (turn_count true slots)
 qsbr_finishes slots seq num some words =
     finishes_by qsbr_action qsbr_turn qsbr_moved (ScansSlots slots) (λ p. rest_at slots p.place)
     (λ p s. scans_at slots p p.place s)
     (λ p s. falls_at slots p p.place refl s.within s)
     (λ p s. ends_at slots p p.place s.within)
     (qsbr_begun slots seq num) words (record { some = some; size = refl; within = tt })
+
+pub qsbr_finishes-begun : (layout : Layout) (slots seq word : ℕ) (plan : QsbrPlan) → plan ≡ qsbr_begun slots seq word → 1 ≤ slots → FinishesAfter qsbr_action qsbr_turn qsbr_taken plan (turn_count true slots)
+qsbr_finishes-begun layout slots seq word plan begun some =
+    subst (λ p. FinishesAfter qsbr_action qsbr_turn qsbr_taken p (turn_count true slots)) (sym begun) (qsbr_finishes slots seq word some)

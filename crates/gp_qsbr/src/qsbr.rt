@@ -1,6 +1,6 @@
 //! The plan of the quiescent-state flavour: the number is raised by one, and every slot is scanned.
 
-ghost use Rattle.std.specs.Prelude.{◌≡◌, ◌≤◌, ◌+◌, ◌^◌, ◌%◌, true};
+ghost use Rattle.std.specs.Prelude.{◌≡◌, ◌≤◌, ◌^◌, ◌%◌, true};
 ghost use Rattle.std.proofs.Common.{true≢false, refl};
 ghost use Rattle.reader_word.specs.declared.layout.Layout.TheVariants.{Wide};
 
@@ -31,7 +31,7 @@ pub struct QsbrPlan {
 }
 
 impl QsbrPlan {
-    ghost use Rattle.gp_memb.specs.Plan.{FinishesAfter};
+    ghost use Rattle.gp_memb.specs.Plan.{FinishesAfter, turn_count};
     ghost use Rattle.gp_qsbr.specs.Qsbr.{qsbr_begun, qsbr_action, qsbr_turn, qsbr_taken};
 
     /// A plan that has done nothing yet, for the present sequence number and number.
@@ -40,7 +40,7 @@ impl QsbrPlan {
         requires seq { seq ≤ 2 ^ 62 }
         requires num { num ≤ 2 ^ 62 }
         ensures plan { result ≡ qsbr_begun slots seq num }
-        ensures turns { 1 ≤ slots → FinishesAfter qsbr_action qsbr_turn qsbr_taken result (slots + 3) }
+        ensures turns { 1 ≤ slots → FinishesAfter qsbr_action qsbr_turn qsbr_taken result (turn_count true slots) }
     {
         QsbrPlan {
             slots,
@@ -55,7 +55,7 @@ impl QsbrPlan {
 impl GracePlan for QsbrPlan {
     ghost use Rattle.gp_qsbr.specs.Qsbr.{qsbr_begun, qsbr_action, qsbr_turn, qsbr_taken, qsbr_present};
     ghost use Rattle.gp_qsbr.specs.QsbrWaits.{qsbr_waits};
-    ghost use Rattle.gp_qsbr.specs.QsbrOrder.{qsbr_order, qsbr_in_range, qsbr_stores, qsbr_begins, qsbr_exact, qsbr_still, qsbr_presents, qsbr_rises};
+    ghost use Rattle.gp_qsbr.specs.QsbrOrder.{qsbr_order, qsbr_in_range, qsbr_stores, qsbr_begins, qsbr_exact, qsbr_still, qsbr_ignores, qsbr_presents, qsbr_rises, qsbr_finishes-begun};
 
     ghost QSBR = { true };
 
@@ -111,6 +111,8 @@ impl GracePlan for QsbrPlan {
 
     ghost order = { qsbr_order };
 
+    ghost finishes = { qsbr_finishes-begun };
+
     ghost in_range = { qsbr_in_range };
 
     ghost stores = { qsbr_stores };
@@ -122,6 +124,8 @@ impl GracePlan for QsbrPlan {
     ghost exact = { qsbr_exact };
 
     ghost still = { qsbr_still };
+
+    ghost ignores = { qsbr_ignores };
 
     ghost presents = { qsbr_presents };
 

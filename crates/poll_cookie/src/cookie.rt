@@ -6,8 +6,8 @@ ghost use Rattle.poll_cookie.specs.Cookie.{cookie_for};
 use rcu_model::Refusal;
 use std::marker::Model;
 
-/// From this sequence number on no grace period is begun.
-const LAST_SEQUENCE: u64 = 4_611_686_018_427_387_904;
+/// An ask that loads this sequence number or a greater one is refused.
+const FIRST_REFUSED: u64 = 1 << 62;
 
 /// The sequence number from which on an ask is answered.
 #[derive(Clone, Copy, Debug, PartialEq, Eq, Drop)]
@@ -31,7 +31,7 @@ impl Model for Cookie {
 pub fn cookie_of(seq: u64) -> Result<Cookie, Refusal>
     ensures { result ≡ cookie_for seq }
 {
-    if seq >= LAST_SEQUENCE {
+    if seq >= FIRST_REFUSED {
         return Err(Refusal::Exhausted);
     }
     let next = seq + 3;

@@ -5,7 +5,7 @@ use Rattle.std.proofs.lemmas.List.{append-nil}
 use Rattle.std.proofs.lemmas.List.Elements.{All-head, All-tail}
 use Rattle.world_state.specs.declared.config.Config.{Config}
 use Rattle.world_state.specs.declared.line.Line.{Line}
-use Rattle.world.specs.Steps.{fresh_world, is_supported, log_of}
+use Rattle.world.specs.Steps.{fresh_world, is_supported, log_of, world_after_lines}
 use Rattle.schedule.specs.declared.counts.Counts.{Counts}
 use Rattle.schedule.specs.declared.fault.ReplayFault.{ReplayFault}
 use Rattle.schedule.specs.declared.fault.ReplayFault.TheVariants.{BadText, BadConfig, Read, Write, Memory}
@@ -14,7 +14,7 @@ use Rattle.schedule.specs.Header.{header, IsHeader, HeaderText, IsHeaderText}
 use Rattle.schedule.specs.Reading.{Reading}
 use Rattle.schedule.specs.Grammar.{line_at, header_at}
 use Rattle.schedule.specs.Answers.{counts_of, end_line}
-use Rattle.schedule.specs.Printed.{lines_text, after_lines, answers_of, line_after, IsBad, Prints, IsBeginning}
+use Rattle.schedule.specs.Printed.{lines_text, answers_of, line_after, IsBad, Prints, IsBeginning}
 use Rattle.schedule.proofs.Exact.{Reads, ok_is, not_both, result_cases}
 use Rattle.schedule.proofs.Columns.{bad_within}
 use Rattle.schedule.proofs.Lines.{line_reads, no_line}
@@ -65,7 +65,7 @@ cut_once (l ∷ ls) (m ∷ ms) u v a b p q e =
 
 -- what follows the lines, and what it makes of the result
 abbrev counted : Config → List Line → Counts
-counted c ls = counts_of (log_of (after_lines (fresh_world c) ls))
+counted c ls = counts_of (log_of (world_after_lines (fresh_world c) ls))
 
 record Ended (c : Config) (ls : List Line) (left printed : List ℕ) (result : Result Counts ReplayFault) : Type 0 where
   nothing : left ≡ []

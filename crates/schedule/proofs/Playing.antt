@@ -4,11 +4,11 @@ use Rattle.std.specs.Prelude.{min}
 use Rattle.std.proofs.lemmas.List.{append-nil, length_push, flat_map_more}
 use Rattle.std.proofs.lemmas.List.Elements.{All-nil, All-push}
 use Rattle.world_state.specs.declared.line.Line.{Line}
-use Rattle.world.specs.Steps.{WorldView, step_of}
+use Rattle.world.specs.Steps.{WorldView, step_of, world_after_lines}
 use Rattle.schedule.specs.Spelling.{spelling, IsLine}
 use Rattle.schedule.specs.Grammar.{line_at}
 use Rattle.schedule.specs.Answers.{answer_line}
-use Rattle.schedule.specs.Printed.{lines_text, after_line, after_lines, answers_of}
+use Rattle.schedule.specs.Printed.{lines_text, answers_of}
 use Rattle.schedule.specs.Play.{Point, number_on, Plays}
 use Rattle.schedule.proofs.Lines.{line_reads}
 
@@ -18,29 +18,29 @@ number_more n (suc k) =
     let e : suc k + 1 ≡ suc (k + 1) = omega arith in
     ap (number_on n) e ∙ number_more (min (n + 1) (2 ^ 64 - 1)) k
 
-pub after_append : (w : WorldView) (ls ms : List Line) → after_lines w (ls ++ ms) ≡ after_lines (after_lines w ls) ms
+pub after_append : (w : WorldView) (ls ms : List Line) → world_after_lines w (ls ++ ms) ≡ world_after_lines (world_after_lines w ls) ms
 after_append w [] ms = refl
-after_append w (l ∷ ls) ms = after_append (after_line w l) ls ms
+after_append w (l ∷ ls) ms = after_append ((step_of w l).world) ls ms
 
-pub answers_append : (w : WorldView) (ls ms : List Line) → answers_of w (ls ++ ms) ≡ answers_of w ls ++ answers_of (after_lines w ls) ms
+pub answers_append : (w : WorldView) (ls ms : List Line) → answers_of w (ls ++ ms) ≡ answers_of w ls ++ answers_of (world_after_lines w ls) ms
 answers_append w [] ms = refl
 answers_append w (l ∷ ls) ms =
     let a = answer_line (step_of w l).answer in
-    ap (λ (t : List ℕ). a ++ t) (answers_append (after_line w l) ls ms) ∙ sym (append_assoc a (answers_of (after_line w l) ls) (answers_of (after_lines (after_line w l) ls) ms))
+    ap (λ (t : List ℕ). a ++ t) (answers_append ((step_of w l).world) ls ms) ∙ sym (append_assoc a (answers_of ((step_of w l).world) ls) (answers_of (world_after_lines ((step_of w l).world) ls) ms))
 
 pub plays_none : (p : Point) → Plays p p
 plays_none p = record { lines = []; each = All-nil IsLine; text = refl; world = refl; line = refl; printed = sym (append-nil p.printed) }
 
-pub plays_more : (start stop : Point) (l : Line) (rest : List ℕ) (next : Point) → Plays start stop → line_at stop.text ≡ Ok (l, rest) → next.text ≡ rest → next.world ≡ after_line stop.world l → next.line ≡ number_on stop.line 1 → next.printed ≡ stop.printed ++ answer_line (step_of stop.world l).answer → Plays start next
+pub plays_more : (start stop : Point) (l : Line) (rest : List ℕ) (next : Point) → Plays start stop → line_at stop.text ≡ Ok (l, rest) → next.text ≡ rest → next.world ≡ (step_of stop.world l).world → next.line ≡ number_on stop.line 1 → next.printed ≡ stop.printed ++ answer_line (step_of stop.world l).answer → Plays start next
 plays_more start stop l rest next p read text world line printed =
     let f = line_reads.found stop.text l rest read in
-    let one : answers_of (after_lines start.world p.lines) (l ∷ []) ≡ answer_line (step_of (after_lines start.world p.lines) l).answer = append-nil _ in
+    let one : answers_of (world_after_lines start.world p.lines) (l ∷ []) ≡ answer_line (step_of (world_after_lines start.world p.lines) l).answer = append-nil _ in
     record {
       lines = p.lines ++ l ∷ [];
       each = All-push IsLine p.lines l p.each f.spelled.0;
       text = p.text ∙ ap (λ (t : List ℕ). lines_text p.lines ++ t) (f.parts ∙ ap (λ (t : List ℕ). t ++ rest) f.spelled.1) ∙ sym (append_assoc (lines_text p.lines) (spelling l) rest)
           ∙ ap (λ (t : List ℕ). t ++ rest) (flat_map_more spelling [] p.lines l) ∙ ap (λ (t : List ℕ). lines_text (p.lines ++ l ∷ []) ++ t) (sym text);
-      world = world ∙ ap (λ (w : WorldView). after_line w l) p.world ∙ sym (after_append start.world p.lines (l ∷ []));
+      world = world ∙ ap (λ (w : WorldView). (step_of w l).world) p.world ∙ sym (after_append start.world p.lines (l ∷ []));
       line = line ∙ ap (λ (n : ℕ). number_on n 1) p.line ∙ sym (number_more start.line (length p.lines)) ∙ ap (number_on start.line) (sym (length_push p.lines l));
       printed = printed ∙ ap (λ (t : List ℕ). t ++ answer_line (step_of stop.world l).answer) p.printed ∙ append_assoc start.printed (answers_of start.world p.lines) (answer_line (step_of stop.world l).answer)
           ∙ ap (λ (t : List ℕ). start.printed ++ t) (ap (λ (w : WorldView). answers_of start.world p.lines ++ answer_line (step_of w l).answer) p.world ∙ sym (ap (λ (t : List ℕ). answers_of start.world p.lines ++ t) one) ∙ sym (answers_append start.world p.lines (l ∷ [])));

@@ -5,7 +5,7 @@ use Rattle.std.proofs.lemmas.List.{append-nil, length-append}
 use Rattle.std.proofs.lemmas.List.Elements.{All-nil, All-cons, All-head, All-tail}
 use Rattle.world_state.specs.declared.config.Config.{Config}
 use Rattle.world_state.specs.declared.line.Line.{Line}
-use Rattle.world.specs.Steps.{WorldView, fresh_world, is_supported, log_of}
+use Rattle.world.specs.Steps.{WorldView, fresh_world, is_supported, log_of, world_after_lines}
 use Rattle.schedule.specs.declared.fault.ReplayFault.{ReplayFault}
 use Rattle.schedule.specs.declared.fault.ReplayFault.TheVariants.{BadText, BadConfig, Read, Write, Memory}
 use Rattle.schedule.specs.declared.counts.Counts.{Counts}
@@ -13,7 +13,7 @@ use Rattle.schedule.specs.Spelling.{spelling, IsLine, LineText, IsLineText}
 use Rattle.schedule.specs.Header.{header, HeaderText, IsHeaderText}
 use Rattle.schedule.specs.Grammar.{line_at, header_at}
 use Rattle.schedule.specs.Answers.{counts_of, end_line}
-use Rattle.schedule.specs.Printed.{lines_text, after_lines, answers_of, line_after, IsSchedule, IsBad, OutOfLimits, Prints, IsBeginning, Ends}
+use Rattle.schedule.specs.Printed.{lines_text, answers_of, line_after, IsSchedule, IsBad, OutOfLimits, Prints, IsBeginning, Ends}
 use Rattle.schedule.specs.Play.{point, number_on, Plays, PlaysAll, EndsLines}
 use Rattle.schedule.specs.Stream.{Progress, Header, Lines, Failed, Stands, Leads, LeadsTo, LeadsToEnd}
 use Rattle.schedule.proofs.Exact.{result_cases}
@@ -30,7 +30,7 @@ pub record Mid (world : WorldView) (line : ℕ) (left text printed : List ℕ) :
   pub lines : List Line
   pub schedule : IsSchedule config lines
   pub parts : text ≡ header config ++ (lines_text lines ++ left)
-  pub now : world ≡ after_lines (fresh_world config) lines
+  pub now : world ≡ world_after_lines (fresh_world config) lines
   pub number : line ≡ line_after (length lines)
   pub answers : printed ≡ answers_of (fresh_world config) lines
 
@@ -65,7 +65,7 @@ mid_plays w v m n left rest text earlier before after mid p = record {
     schedule = record { header = mid.schedule.header; supported = mid.schedule.supported; each = each_append mid.lines p.lines mid.schedule.each p.each };
     parts = mid.parts ∙ ap (λ (t : List ℕ). header mid.config ++ (lines_text mid.lines ++ t)) p.text
         ∙ ap (λ (t : List ℕ). header mid.config ++ t) (sym (append_assoc (lines_text mid.lines) (lines_text p.lines) rest) ∙ ap (λ (t : List ℕ). t ++ rest) (sym (lines_append mid.lines p.lines)));
-    now = p.world ∙ ap (λ (u : WorldView). after_lines u p.lines) mid.now ∙ sym (after_append (fresh_world mid.config) mid.lines p.lines);
+    now = p.world ∙ ap (λ (u : WorldView). world_after_lines u p.lines) mid.now ∙ sym (after_append (fresh_world mid.config) mid.lines p.lines);
     number = p.line ∙ ap (λ (k : ℕ). number_on k (length p.lines)) mid.number ∙ number_after (length mid.lines) (length p.lines) ∙ ap line_after (sym (length-append mid.lines p.lines));
     answers = ap (λ (t : List ℕ). t ++ answers_of w p.lines) mid.answers ∙ ap (λ (u : WorldView). answers_of (fresh_world mid.config) mid.lines ++ answers_of u p.lines) mid.now ∙ sym (answers_append (fresh_world mid.config) mid.lines p.lines);
   };
@@ -130,7 +130,7 @@ mid_prints w n left text printed mid c =
     ∙ ap (λ (t : List ℕ). header mid.config ++ t) (sym (append_assoc (lines_text mid.lines) (lines_text c.lines) c.rest) ∙ ap (λ (t : List ℕ). t ++ c.rest) (sym (lines_append mid.lines c.lines))) in
     let answers : printed ++ answers_of w c.lines ≡ answers_of fresh lines =
     ap (λ (t : List ℕ). t ++ answers_of w c.lines) mid.answers ∙ ap (λ (u : WorldView). answers_of fresh mid.lines ++ answers_of u c.lines) mid.now ∙ sym (answers_append fresh mid.lines c.lines) in
-    let counts = counts_of (log_of (after_lines fresh lines)) in
+    let counts = counts_of (log_of (world_after_lines fresh lines)) in
     elim c.tail [
       | inl nil ↦ (
         answers_of w c.lines ++ end_line counts,

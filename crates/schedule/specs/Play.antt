@@ -1,14 +1,14 @@
 -- From line to line of a schedule.
 use Rattle.std.specs.Prelude.{◌≡◌, ℕ, zero, suc, ◌+◌, ◌-◌, ◌^◌, ◌<◌, min, List, [], ◌∷◌, ◌++◌, length, All, Result, Ok, Err}
 use Rattle.world_state.specs.declared.line.Line.{Line}
-use Rattle.world.specs.Steps.{WorldView, log_of}
+use Rattle.world.specs.Steps.{WorldView, log_of, world_after_lines}
 use Rattle.schedule.specs.declared.counts.Counts.{Counts}
 use Rattle.schedule.specs.Answers.{counts_of, end_line}
 use Rattle.schedule.specs.declared.fault.ReplayFault.{ReplayFault}
 use Rattle.schedule.specs.declared.fault.ReplayFault.TheVariants.{BadText, BadConfig, Read, Write, Memory}
 use Rattle.schedule.specs.Spelling.{IsLine}
 use Rattle.schedule.specs.Grammar.{line_at}
-use Rattle.schedule.specs.Printed.{lines_text, after_lines, answers_of}
+use Rattle.schedule.specs.Printed.{lines_text, answers_of}
 
 -- the world, the number of the next line, the text that is to be read, and what is printed so far
 pub record Point : Type 0 where
@@ -30,7 +30,7 @@ pub record Plays (start stop : Point) : Type 0 where
   pub lines : List Line
   pub each : All IsLine lines
   pub text : start.text ≡ lines_text lines ++ stop.text
-  pub world : stop.world ≡ after_lines start.world lines
+  pub world : stop.world ≡ world_after_lines start.world lines
   pub line : stop.line ≡ number_on start.line (length lines)
   pub printed : stop.printed ≡ start.printed ++ answers_of start.world lines
 

@@ -1,11 +1,9 @@
 -- What the text of a schedule prints.
 use Rattle.std.specs.Prelude.{◌≡◌, ◌⊎◌, ℕ, ◌+◌, ◌-◌, ◌<◌, ◌^◌, min, false, List, [], ◌∷◌, ◌++◌, length, All, IsTrue, Result, Ok, Err}
 use Rattle.std.specs.List.{flat_map}
-use Rattle.rcu_model.specs.declared.refusal.Refusal.{Refusal}
 use Rattle.world_state.specs.declared.config.Config.{Config}
 use Rattle.world_state.specs.declared.line.Line.{Line}
-use Rattle.world_state.specs.declared.line.Answer.{Answer}
-use Rattle.world.specs.Steps.{WorldView, fresh_world, is_supported, step_of, log_of}
+use Rattle.world.specs.Steps.{WorldView, fresh_world, is_supported, step_of, log_of, world_after_lines}
 use Rattle.schedule.specs.declared.counts.Counts.{Counts}
 use Rattle.schedule.specs.declared.fault.ReplayFault.{ReplayFault}
 use Rattle.schedule.specs.declared.fault.ReplayFault.TheVariants.{BadText, BadConfig, Read, Write, Memory}
@@ -16,22 +14,10 @@ use Rattle.schedule.specs.Answers.{answer_line, counts_of, end_line}
 
 -- ---- the lines, one after the other
 
--- a refused line changes nothing
-abbrev pub kept : WorldView → Result Answer Refusal → WorldView → WorldView
-kept old (Ok answer) new = new
-kept old (Err refusal) new = old
-
-abbrev pub after_line : WorldView → Line → WorldView
-after_line w l = kept w (step_of w l).answer (step_of w l).world
-
-abbrev pub after_lines : WorldView → List Line → WorldView
-after_lines w [] = w
-after_lines w (l ∷ ls) = after_lines (after_line w l) ls
-
 -- the answers, a line each
 abbrev pub answers_of : WorldView → List Line → List ℕ
 answers_of w [] = []
-answers_of w (l ∷ ls) = answer_line (step_of w l).answer ++ answers_of (after_line w l) ls
+answers_of w (l ∷ ls) = answer_line (step_of w l).answer ++ answers_of ((step_of w l).world) ls
 
 -- ---- the text
 
@@ -61,7 +47,7 @@ pub record Good (text printed : List ℕ) (counts : Counts) : Type 0 where
   pub lines : List Line
   pub schedule : IsSchedule config lines
   pub whole : text ≡ header config ++ lines_text lines
-  pub counted : counts ≡ counts_of (log_of (after_lines (fresh_world config) lines))
+  pub counted : counts ≡ counts_of (log_of (world_after_lines (fresh_world config) lines))
   pub answers : printed ≡ answers_of (fresh_world config) lines ++ end_line counts
 
 -- a header that makes no world, whatever follows: nothing

@@ -2,14 +2,14 @@
 use Rattle.std.specs.Prelude.{◌≡◌, ◌≢◌, ℕ, ◌<◌, List, [], ◌++◌, length, Result, Ok, Err}
 use Rattle.world_state.specs.declared.config.Config.{Config}
 use Rattle.world_state.specs.declared.line.Line.{Line}
-use Rattle.world.specs.Steps.{WorldView, fresh_world}
+use Rattle.world.specs.Steps.{WorldView, fresh_world, world_after_lines}
 use Rattle.schedule.specs.declared.counts.Counts.{Counts}
 use Rattle.schedule.specs.declared.fault.ReplayFault.{ReplayFault}
 use Rattle.schedule.specs.declared.stage.Stage.{Stage}
 use Rattle.schedule.specs.declared.stage.Stage.TheVariants as stages
 use Rattle.schedule.specs.Spelling.{IsLineText}
 use Rattle.schedule.specs.Header.{header, IsHeaderText}
-use Rattle.schedule.specs.Printed.{IsSchedule, lines_text, after_lines, answers_of, line_after, Ends}
+use Rattle.schedule.specs.Printed.{IsSchedule, lines_text, answers_of, line_after, Ends}
 
 -- where a replay stands
 pub data Progress : Type 0 where
@@ -28,7 +28,7 @@ pub record IsAnswered (world : WorldView) (line : ℕ) (held fed printed : List 
   pub schedule : IsSchedule config lines
   pub parts : fed ≡ header config ++ (lines_text lines ++ held)
   pub partial : IsPartial IsLineText held
-  pub now : world ≡ after_lines (fresh_world config) lines
+  pub now : world ≡ world_after_lines (fresh_world config) lines
   pub number : line ≡ line_after (length lines)
   pub answers : printed ≡ answers_of (fresh_world config) lines
 

@@ -10,7 +10,7 @@ use thiserror::Error;
 /// Why a replay stopped. Lines and columns count from 1.
 #[derive(Clone, Copy, Debug, PartialEq, Eq, Drop, Error)]
 pub enum ReplayFault {
-    /// The first byte with which no line of its place goes on, or the place behind a line that has no end.
+    /// The first byte with which no line of its place goes on, or the place after a line that has no end.
     #[error("line {line} column {column}: bad text")]
     BadText { line: u64, column: usize },
     /// A number of the header is out of its limits.
@@ -27,7 +27,7 @@ pub enum ReplayFault {
 /// Why a text is no schedule. Lines and columns count from 1.
 #[derive(Clone, Copy, Debug, PartialEq, Eq, Drop, Error)]
 pub enum ScheduleFault {
-    /// The first byte with which no line of its place goes on, or the place behind a line that has no end.
+    /// The first byte with which no line of its place goes on, or the place after a line that has no end.
     #[error("line {line} column {column}: bad text")]
     BadText { line: u64, column: usize },
     /// A number of the header is out of its limits.

@@ -91,7 +91,7 @@ impl Replay {
         }
     }
 
-    /// Ends the input: writes the end line at the end of `out`, and answers its counts. `BadText` behind a line that has
+    /// Ends the input: writes the end line at the end of `out`, and answers its counts. `BadText` after a line that has
     /// not ended, and `Memory`. After a fault each call answers the same fault, and writes nothing.
     pub fn finish(&mut self, out: &mut Vec<u8>) -> Result<Counts, ReplayFault>
         ensures finishes { Finishes self.old out.old.items out.new.items result }

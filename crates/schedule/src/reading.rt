@@ -12,6 +12,7 @@ use crate::words::{
     ACTORS, ActorWord, READER_WORDS, ReaderWord, UPDATER_WORDS, UpdaterWord, WORKER_WORDS,
 };
 use rcu_model::ObjectId;
+use thiserror::Error;
 use world::{Line, ReaderVerb, UpdaterVerb, WorkerVerb};
 
 #[tactic(auto, unfolding(crate::specs::Grammar::reader_verb_at))]
@@ -81,7 +82,8 @@ pub fn front_line(text: &[u8]) -> Result<(Line, &[u8]), &[u8]>
 }
 
 /// Text that is no line, and the column of its first byte with which no line goes on.
-#[derive(Clone, Copy, Debug, PartialEq, Eq)]
+#[derive(Clone, Copy, Debug, PartialEq, Eq, Drop, Error)]
+#[error("column {column}: bad text")]
 pub struct TextFault {
     pub column: usize,
 }

@@ -5,7 +5,6 @@ ghost use Rattle.world.specs.Steps.{fresh_world, is_supported, step_of};
 ghost use Rattle.schedule.specs.declared.fault.ReplayFault.TheVariants.{BadConfig, Memory};
 ghost use Rattle.schedule.specs.Answers.{answer_line};
 ghost use Rattle.schedule.specs.Grammar.{line_at};
-ghost use Rattle.schedule.specs.Printed.{after_line};
 ghost use Rattle.schedule.specs.Play.{point, number_on, PlaysAll, EndsLines};
 
 use crate::answers::{print_answer, print_end};
@@ -44,7 +43,7 @@ impl Running {
 
     /// Steps the line, and writes its answer at the end. `Memory` writes nothing.
     fn answer(&mut self, alloc: Global, line: &Line, out: &mut Vec<u8>) -> Result<(), ReplayFault>
-        ensures world { OnOk result (self.new.world ≡ after_line self.old.world line.now) }
+        ensures world { OnOk result (self.new.world ≡ (step_of self.old.world line.now).world) }
         ensures line { OnOk result (self.new.line ≡ number_on self.old.line 1) }
         ensures held { self.new.held ≡ self.old.held }
         ensures printed { OnOk result (out.new.items ≡ out.old.items ++ answer_line (step_of self.old.world line.now).answer) }

@@ -1,5 +1,6 @@
 //! Texts and what they print, whole and in pieces, and what fails in the middle.
 
+mod paced;
 mod rows;
 
 use super::*;

@@ -42,7 +42,7 @@ fn read_lines(alloc: Global, text: &[u8]) -> Result<Vec<Line>, ScheduleFault>
     Ok(lines)
 }
 
-/// The schedule that the text is. `BadText` at the first byte with which no line of its place goes on, or behind a line
+/// The schedule that the text is. `BadText` at the first byte with which no line of its place goes on, or after a line
 /// that has no end; `BadConfig` where the header ends and a number of it is out of its limits; `Memory`.
 pub fn read_schedule(alloc: Global, text: &[u8]) -> Result<Schedule, ScheduleFault>
     ensures found { IfOk result (λ schedule. IsWhole text.now schedule.config schedule.lines.items) }

@@ -9,21 +9,43 @@ use std::process::ExitCode;
 use std::{env, io};
 use words::{WordsFault, read_words};
 
-/// Tells why there is no command: help on standard output, all else on standard error. A write fault is passed over.
+/// Tells why the words give no command: help on standard output, all else on standard error, where a write fault is
+/// passed over.
 fn tell(rt: &HostRuntime, fault: &WordsFault) -> u8 {
     let status = fault.status();
-    let _ = if status == 0 {
-        rt.print(fault)
-    } else {
-        rt.eprint(fault)
-    };
-    status
+    if status != 0 {
+        let _ = rt.eprint(fault);
+        return status;
+    }
+    if rt.print(fault).is_err() {
+        let _ = rt.eprintln("write fault");
+        return 3;
+    }
+    0
+}
+
+/// Tells why the words cannot be had.
+fn tell_unreadable(rt: &HostRuntime, fault: &io::Error) -> u8 {
+    if fault.kind() == io::ErrorKind::InvalidData {
+        let _ = rt.eprintln("error: a word is not UTF-8");
+        return 2;
+    }
+    let _ = rt.eprintln("no memory");
+    3
+}
+
+/// The words of the command line.
+fn own_words(rt: &HostRuntime) -> io::Result<Vec<String>> {
+    Ok(env::args(rt)?.collect(rt.alloc())?)
 }
 
 /// Reads the words, executes their command, and answers what the program ends with.
-fn run(rt: &HostRuntime) -> io::Result<u8> {
-    let words: Vec<String> = env::args(rt)?.collect(rt.alloc())?;
-    Ok(match read_words(rt.alloc(), &words) {
+fn run(rt: &HostRuntime) -> u8 {
+    let words = match own_words(rt) {
+        Ok(words) => words,
+        Err(fault) => return tell_unreadable(rt, &fault),
+    };
+    match read_words(rt.alloc(), &words) {
         Ok(command) => execute(
             rt.alloc(),
             command,
@@ -32,17 +54,11 @@ fn run(rt: &HostRuntime) -> io::Result<u8> {
             &mut rt.stderr(),
         ),
         Err(fault) => tell(rt, &fault),
-    })
+    }
 }
 
 fn main(rt: HostRuntime) -> ExitCode {
-    match run(&rt) {
-        Ok(status) => ExitCode::from(status),
-        Err(fault) => {
-            let _ = rt.eprintln(fault);
-            ExitCode::from(3)
-        }
-    }
+    ExitCode::from(run(&rt))
 }
 
 #[cfg(test)]

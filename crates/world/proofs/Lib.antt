@@ -9,3 +9,4 @@ pub mod Logged
 pub mod TheLaws
 pub mod Reaching
 pub mod Prompt
+pub mod Telling

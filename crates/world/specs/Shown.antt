@@ -31,10 +31,14 @@ pub record CanStart (grace : GraceState) : Type 0 where
   pub seq : grace.seq ≤ 2 ^ 62
   pub word : grace.word ≤ 2 ^ 62
 
--- the answer and the world after are those of the table, or memory was refused and nothing changed
+-- the log or the list of objects is longer
+abbrev pub Grows : {P : Type 0} → BoardView P → BoardView P → Type 0
+Grows old new = (length old.log < length new.log) ⊎ (length old.objects < length new.objects)
+
+-- the answer and the world after are those of the table, or memory for a growth was refused; an error changes nothing
 abbrev pub Meets : {P : Type 0} → Outcome P → BoardView P → BoardView P → Result Answer Refusal → Type 0
 Meets outcome old new (Ok a) = (outcome.answer ≡ Ok a) × (new ≡ outcome.world)
-Meets outcome old new (Err e) = (new ≡ old) × ((outcome.answer ≡ Err e) ⊎ (e ≡ Memory))
+Meets outcome old new (Err e) = (new ≡ old) × (((outcome.answer ≡ Err e) × (outcome.world ≡ old)) ⊎ ((e ≡ Memory) × Grows old outcome.world))
 
 -- the numbers of the world are small enough for its next step
 pub record IsInRange {P : Type 0} (qsbr : Bool) (w : BoardView P) : Type 0 where

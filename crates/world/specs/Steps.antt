@@ -1,5 +1,5 @@
 -- A world of either flavour, and the step table as its callers see it.
-use Rattle.std.specs.Prelude.{◌≡◌, ◌⊎◌, ◌%◌, ◌^◌, ℕ, ◌==◌, ◌&&◌, nat_le, Bool, true, false, List, [], ◌∷◌, Result, Ok, Err}
+use Rattle.std.specs.Prelude.{◌≡◌, ◌⊎◌, ◌%◌, ◌^◌, ℕ, ◌==◌, ◌&&◌, nat_le, length, ◌<◌, Bool, true, false, List, [], ◌∷◌, ◌++◌, Result, Ok, Err}
 use Rattle.rcu_model.specs.declared.event.Event.{Event}
 use Rattle.rcu_model.specs.declared.refusal.Refusal.{Refusal}
 use Rattle.rcu_model.specs.declared.refusal.Refusal.TheVariants.{Memory}
@@ -15,7 +15,7 @@ use Rattle.world_state.specs.declared.line.Answer.TheVariants.{Events, Quiet, Wa
 use Rattle.world_state.specs.declared.line.Line.{Line}
 use Rattle.world_state.specs.declared.line.Line.TheVariants.{Reader, Updater, Worker}
 use Rattle.world_state.specs.Limits.{is_within_limits}
-use Rattle.world_state.specs.View.{Plans, BoardView, plans_of, fresh_at}
+use Rattle.world_state.specs.View.{Plans, BoardView, plans_of, fresh_at, told}
 use Rattle.world.specs.Lines.{Outcome as BoardOutcome, outcome_of}
 use Rattle.world.specs.Reached.{IsReached}
 
@@ -72,20 +72,38 @@ abbrev pub step_of : WorldView → Line → Outcome
 step_of (OfMemb w) line = seen_as OfMemb (outcome_of memb_plans w line)
 step_of (OfQsbr w) line = seen_as OfQsbr (outcome_of qsbr_plans w line)
 
--- the answer and the world after are those of the table, or memory was refused and nothing changed
-abbrev pub Meets : Outcome → WorldView → WorldView → Result Answer Refusal → Type 0
-Meets outcome old new (Ok a) = (outcome.answer ≡ Ok a) × (new ≡ outcome.world)
-Meets outcome old new (Err e) = (new ≡ old) × ((outcome.answer ≡ Err e) ⊎ (e ≡ Memory))
-
 -- the events that the steps told
 abbrev pub log_of : WorldView → List Event
 log_of (OfMemb w) = w.log
 log_of (OfQsbr w) = w.log
 
+-- how many objects were made
+abbrev pub objects_of : WorldView → ℕ
+objects_of (OfMemb w) = length w.objects
+objects_of (OfQsbr w) = length w.objects
+
+-- the log or the list of objects is longer
+abbrev pub Grows : WorldView → WorldView → Type 0
+Grows old new = (length (log_of old) < length (log_of new)) ⊎ (objects_of old < objects_of new)
+
+-- the answer and the world after are those of the table, or memory for a growth was refused; an error changes nothing
+abbrev pub Meets : Outcome → WorldView → WorldView → Result Answer Refusal → Type 0
+Meets outcome old new (Ok a) = (outcome.answer ≡ Ok a) × (new ≡ outcome.world)
+Meets outcome old new (Err e) = (new ≡ old) × (((outcome.answer ≡ Err e) × (outcome.world ≡ old)) ⊎ ((e ≡ Memory) × Grows old outcome.world))
+
 -- the world after these lines
 abbrev pub world_after_lines : WorldView → List Line → WorldView
 world_after_lines w [] = w
 world_after_lines w (line ∷ lines) = world_after_lines ((step_of w line).world) lines
+
+-- the events of an answer, and of the answers to these lines
+abbrev pub events_of : Result Answer Refusal → List Event
+events_of (Ok answer) = told answer
+events_of (Err e) = []
+
+abbrev pub answered_events : WorldView → List Line → List Event
+answered_events w [] = []
+answered_events w (line ∷ lines) = events_of (step_of w line).answer ++ answered_events ((step_of w line).world) lines
 
 -- some lines lead to the world from one in which nothing has happened
 abbrev pub IsReachedWorld : WorldView → Type 0

@@ -1,6 +1,6 @@
 //! The board: what is kept between two lines, and one step of it.
 
-ghost use Rattle.std.specs.Prelude.{◌≡◌, ◌+◌, ◌≤◌, ◌<◌, ◌^◌, ◌++◌, slice_set, OnOk, OnErr, IfOk, IfErr};
+ghost use Rattle.std.specs.Prelude.{◌≡◌, ◌+◌, ◌≤◌, ◌<◌, ◌^◌, ◌++◌, length, slice_set, OnOk, OnErr, IfOk, IfErr};
 
 use rcu_model::{Event, ObjectId, Refusal};
 use std::alloc::Global;
@@ -27,7 +27,7 @@ impl<P: WorldPlan + Drop> Board<P> {
     ghost use Rattle.world_state.specs.View.{fresh_at, changed, answer_of, told, plans_of};
     ghost use Rattle.world_state.specs.Objects.{spliced_heads, spliced_objects};
     ghost use Rattle.world.specs.Lines.{change_of, outcome_of};
-    ghost use Rattle.world.specs.Shown.{shown, Meets, IsInRange};
+    ghost use Rattle.world.specs.Shown.{shown, Grows, Meets, IsInRange};
 
     /// A board on which nothing has happened.
     pub fn new(alloc: Global, config: Config, seq: u64) -> Result<Board<P>, Refusal>
@@ -117,7 +117,7 @@ impl<P: WorldPlan + Drop> Board<P> {
         ensures ok { OnOk result (shown self.new ≡ changed (shown self.old) change) }
         ensures answer { IfOk result (λ a. a ≡ answer_of change) }
         ensures err { OnErr result (shown self.new ≡ shown self.old) }
-        ensures memory { IfErr result (λ e. e ≡ refusal.Memory) }
+        ensures memory { IfErr result (λ e. (e ≡ refusal.Memory) × Grows (shown self.old) (changed (shown self.old) change)) }
     {
         match change {
             Change::Read { reader, step } => {
@@ -192,7 +192,7 @@ impl<P: WorldPlan + Drop> Board<P> {
     fn tell(&mut self, answer: Answer) -> Result<(), StepError>
         ensures ok { OnOk result (shown self.new ≡ record (shown self.old) { log = (shown self.old).log ++ told answer }) }
         ensures err { OnErr result (shown self.new ≡ shown self.old) }
-        ensures memory { IfErr result (λ e. e ≡ refusal.Memory) }
+        ensures memory { IfErr result (λ e. (e ≡ refusal.Memory) × (0 < length (told answer))) }
     {
         let Answer::Events { first, second } = answer else {
             return Ok(());

@@ -9,7 +9,10 @@ ghost use Rattle.world_state.specs.View.{BoardView, fresh_at, plans_of};
 ghost use Rattle.world.specs.Lines.{world_after};
 ghost use Rattle.world.specs.Reached.{IsReached};
 ghost use Rattle.world.specs.Shown.{IsInRange};
+ghost use Rattle.world.specs.Steps.{is_supported, fresh_world, world_after_lines, log_of, answered_events};
 
+use gp_memb::MembPlan;
+use gp_qsbr::QsbrPlan;
 use world_state::WorldPlan;
 
 /// The schedule theorem: for every schedule within the limits, whatever the plan and wherever the sequence numbers
@@ -22,3 +25,13 @@ pub fn log_is_a_run<P: WorldPlan>()
 pub(crate) fn numbers_stay_in_range<P: WorldPlan>()
     ensures { (w : BoardView P) → IsReached (plans_of P.QSBR P.made P.action P.turn P.taken) w → IsInRange P.QSBR w }
 {}
+
+/// What a schedule is answered is its log, and its log is a run: for every config that makes a world and all lines, the
+/// log after them holds the events of their answers in order, and is a run of the abstract machine.
+pub fn answers_are_a_run()
+    ensures run { (config : Config) (lines : List Line) → IsTrue (is_supported config) → IsRun (log_of (world_after_lines (fresh_world config) lines)) }
+    ensures events { (config : Config) (lines : List Line) → log_of (world_after_lines (fresh_world config) lines) ≡ answered_events (fresh_world config) lines }
+{
+    log_is_a_run::<MembPlan>();
+    log_is_a_run::<QsbrPlan>();
+}

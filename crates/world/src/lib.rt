@@ -9,8 +9,11 @@ mod reading;
 mod waiting;
 mod world;
 
-pub use laws::log_is_a_run;
+pub use laws::{answers_are_a_run, log_is_a_run};
 pub use world::World;
 pub use world_state::{
     Answer, Config, Flavour, Layout, Line, ReaderVerb, StepError, UpdaterVerb, WorkerVerb,
 };
+
+#[cfg(test)]
+mod tests;

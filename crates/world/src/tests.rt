@@ -1,0 +1,66 @@
+//! Worlds made by their callers, to the end of the sequence numbers.
+
+use super::{Answer, Config, Flavour, Layout, Line, UpdaterVerb, World};
+use rcu_model::{Event, Refusal};
+
+const SMALL: Config = Config {
+    layout: Layout::Narrow,
+    flavour: Flavour::Memb,
+    readers: 1,
+    updaters: 1,
+    workers: 1,
+    chains: 1,
+};
+
+/// What a step answers that tells one event.
+fn told(event: Event) -> Result<Answer, Refusal> {
+    Ok(Answer::Events {
+        first: event,
+        second: None,
+    })
+}
+
+#[test]
+fn some_worlds_are_refused(rt: HostRuntime) {
+    let too_many = Config {
+        readers: 65,
+        ..SMALL
+    };
+    for (config, seq) in [
+        (too_many, 0),
+        (SMALL, 1),
+        (SMALL, 4_611_686_018_427_387_906),
+    ] {
+        match World::new_at(rt.alloc(), config, seq) {
+            Ok(_) => assert!(rt; false),
+            Err(refusal) => assert_eq!(rt; refusal, Refusal::BadConfig),
+        }
+    }
+}
+
+#[test]
+fn a_fresh_world_has_told_nothing(rt: HostRuntime) {
+    match World::new(rt.alloc(), SMALL) {
+        Ok(world) => assert!(rt; world.log().is_empty()),
+        Err(_) => assert!(rt; false),
+    }
+}
+
+#[test]
+fn the_last_grace_period_is_answered(rt: HostRuntime) {
+    let sync = Line::Updater(0, UpdaterVerb::Sync);
+    let on = Line::Updater(0, UpdaterVerb::GoOn);
+    match World::new_at(rt.alloc(), SMALL, 4_611_686_018_427_387_902) {
+        Ok(mut world) => {
+            assert_eq!(rt; world.step(&sync), told(Event::Ask(1)));
+            for _ in 0..7 {
+                assert_eq!(rt; world.step(&on), Ok(Answer::Quiet));
+            }
+            assert_eq!(rt; world.step(&on), told(Event::Answer(1)));
+            assert_eq!(rt; world.step(&on), Ok(Answer::Quiet));
+            assert_eq!(rt; world.step(&sync), Err(Refusal::Exhausted));
+            assert_eq!(rt; world.log(), [Event::Ask(1), Event::Answer(1)].as_slice());
+        }
+        Err(_) => assert!(rt; false),
+    }
+}
