@@ -1,5 +1,5 @@
 -- The header is read exactly.
-use Rattle.std.proofs.Common.{◌≡◌, ℕ, List, [], ◌∷◌, ◌++◌, true, false, Err, refl, sym, ap, subst, ◌∙◌, inl, inr, lit<}
+use Rattle.std.proofs.Common.{◌≡◌, ℕ, List, [], ◌∷◌, ◌++◌, true, false, Err, refl, sym, subst, ◌∙◌, inl, inr, lit<}
 use Rattle.std.specs.Prelude.{codes}
 use Rattle.std.specs.Fmt.{decimal}
 use Rattle.std.proofs.lemmas.List.{append-nil}
@@ -10,7 +10,7 @@ use Rattle.reader_word.specs.declared.layout.Layout.{Layout}
 use Rattle.reader_word.specs.declared.layout.Layout.TheVariants.{Narrow, Wide}
 use Rattle.world_state.specs.declared.config.Config.{Config}
 use Rattle.world_state.specs.declared.config.Flavour.{Flavour}
-use Rattle.world_state.specs.declared.config.Flavour.TheVariants.{Memb}
+use Rattle.world_state.specs.declared.config.Flavour.TheVariants.{Memb, Qsbr}
 use Rattle.std.specs.Char.{is_ascii_digit}
 use Rattle.schedule.proofs.Exact.{Reads, Done, Then, done_reads, then_reads, reads_as}
 use Rattle.schedule.proofs.Tables.{InTable, is_prefix_free, table_reads}
@@ -74,22 +74,23 @@ flavour_lang l = then_lang (InTable flavours) (ReadersText l) (word_at flavours)
 layout_is : (l : Layout) (w : List ℕ) → InTable layouts l w → w ≡ version l
 layout_is l w i = each_row (λ v k. v ≡ version k) layouts l w (refl, (refl, tt)) i
 
-flavour_is : (f : Flavour) (w : List ℕ) → InTable flavours f w → (w ≡ flavour_text f) × (f ≡ Memb)
-flavour_is f w i = each_row (λ v k. (v ≡ flavour_text k) × (k ≡ Memb)) flavours f w ((refl, refl), tt) i
+flavour_is : (f : Flavour) (w : List ℕ) → InTable flavours f w → w ≡ flavour_text f
+flavour_is f w i = each_row (λ v k. v ≡ flavour_text k) flavours f w (refl, (refl, tt)) i
 
 layout_in : (l : Layout) → InTable layouts l (version l)
 layout_in Narrow = inl (refl, refl)
 layout_in Wide = inr (inl (refl, refl))
 
-flavour_in : (f : Flavour) → f ≡ Memb → InTable flavours f (flavour_text f)
-flavour_in f is = inl (ap flavour_text (sym is), sym is)
+flavour_in : (f : Flavour) → InTable flavours f (flavour_text f)
+flavour_in Memb = inl (refl, refl)
+flavour_in Qsbr = inr (inl (refl, refl))
 
 header_spelled : (c : Config) (text : List ℕ) → Then (InTable layouts) FlavourText c text → HeaderText c text
 header_spelled c text s =
     let f = s.4 in let r = f.4 in let u = r.4 in let w = u.4 in let n = w.4 in
     let is : made s.0 f.0 r.0 u.0 w.0 n.0 ≡ c = n.4.0 in
-    let t : text ≡ header (made s.0 f.0 r.0 u.0 w.0 n.0) = s.5 ∙ rw (layout_is s.0 s.1 s.3, f.5, (flavour_is f.0 f.1 f.3).0, r.5, r.3.1, u.5, u.3.1, w.5, w.3.1, n.5, n.3.1, n.4.1) (simp append-nil) in
-    subst (λ (d : Config). HeaderText d text) is (record { flavour = (flavour_is f.0 f.1 f.3).1; readers = r.3.0; updaters = u.3.0; workers = w.3.0; chains = n.3.0 }, t)
+    let t : text ≡ header (made s.0 f.0 r.0 u.0 w.0 n.0) = s.5 ∙ rw (layout_is s.0 s.1 s.3, f.5, flavour_is f.0 f.1 f.3, r.5, r.3.1, u.5, u.3.1, w.5, w.3.1, n.5, n.3.1, n.4.1) (simp append-nil) in
+    subst (λ (d : Config). HeaderText d text) is (record { readers = r.3.0; updaters = u.3.0; workers = w.3.0; chains = n.3.0 }, t)
 
 header_unspelled : (c : Config) (text : List ℕ) → HeaderText c text → Then (InTable layouts) FlavourText c text
 header_unspelled c text s =
@@ -106,7 +107,7 @@ header_unspelled c text s =
         c.flavour,
         flavour_text c.flavour,
         readers,
-        flavour_in c.flavour h.flavour,
+        flavour_in c.flavour,
         (
           c.readers,
           decimal c.readers ++ 32 ∷ [],

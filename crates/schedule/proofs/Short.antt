@@ -48,6 +48,8 @@ updater_short (updater.Push c) h = with_number (codes "push c") c (omega arith) 
 updater_short (updater.Replace o) h = with_number (codes "replace o") o.0 (omega arith) h
 updater_short (updater.Cut o) h = with_number (codes "cut o") o.0 (omega arith) h
 updater_short updater.Sync h = omega arith
+updater_short updater.Start h = omega arith
+updater_short updater.Poll h = omega arith
 updater_short updater.GoOn h = omega arith
 
 worker_short : (v : WorkerVerb) → length (worker_verb v) ≤ 20

@@ -157,7 +157,10 @@ updater_rows = (
   after_argument updater.Push IsUpdaterVerb updater_verb (codes "push c") (λ n h. (h, refl)),
   (
     after_argument replace_of IsUpdaterVerb updater_verb (codes "replace o") (λ n h. (h, refl)),
-    (after_argument cut_of IsUpdaterVerb updater_verb (codes "cut o") (λ n h. (h, refl)), (whole_updater updater.Sync tt, (whole_updater updater.GoOn tt, tt))),
+    (
+      after_argument cut_of IsUpdaterVerb updater_verb (codes "cut o") (λ n h. (h, refl)),
+      (whole_updater updater.Sync tt, (whole_updater updater.Start tt, (whole_updater updater.Poll tt, (whole_updater updater.GoOn tt, tt)))),
+    ),
   ),
 )
 
@@ -174,7 +177,9 @@ updater_unspelled (updater.Push n) text s = (updater_words.PushTo, codes "push c
 updater_unspelled (updater.Replace o) text s = (updater_words.ReplaceOf, codes "replace o", decimal o.0 ++ 10 ∷ [], inr (inl (refl, refl)), argument_is replace_of o.0 s.0, s.1)
 updater_unspelled (updater.Cut o) text s = (updater_words.CutOf, codes "cut o", decimal o.0 ++ 10 ∷ [], inr (inr (inl (refl, refl))), argument_is cut_of o.0 s.0, s.1)
 updater_unspelled updater.Sync text s = updater_whole updater.Sync text (inr (inr (inr (inl (refl, refl))))) s.1
-updater_unspelled updater.GoOn text s = updater_whole updater.GoOn text (inr (inr (inr (inr (inl (refl, refl)))))) s.1
+updater_unspelled updater.Start text s = updater_whole updater.Start text (inr (inr (inr (inr (inl (refl, refl)))))) s.1
+updater_unspelled updater.Poll text s = updater_whole updater.Poll text (inr (inr (inr (inr (inr (inl (refl, refl))))))) s.1
+updater_unspelled updater.GoOn text s = updater_whole updater.GoOn text (inr (inr (inr (inr (inr (inr (inl (refl, refl)))))))) s.1
 
 pub updater_verb_reads : Reads UpdaterText updater_verb_at
 unfolding updater_verb_at

@@ -25,7 +25,6 @@ header c = version c.layout ++ (flavour_text c.flavour ++ (field c.readers (code
 
 -- the header has a text
 pub record IsHeader (c : Config) : Type 0 where
-  pub flavour : c.flavour ≡ Memb
   pub readers : IsNumber c.readers
   pub updaters : IsNumber c.updaters
   pub workers : IsNumber c.workers

@@ -26,6 +26,8 @@ updater_verb (updater.Push c) = codes "push c" ++ decimal c ++ codes "\n"
 updater_verb (updater.Replace o) = codes "replace o" ++ decimal o.0 ++ codes "\n"
 updater_verb (updater.Cut o) = codes "cut o" ++ decimal o.0 ++ codes "\n"
 updater_verb updater.Sync = codes "sync\n"
+updater_verb updater.Start = codes "start\n"
+updater_verb updater.Poll = codes "poll\n"
 updater_verb updater.GoOn = codes ".\n"
 
 abbrev pub worker_verb : WorkerVerb → List ℕ

@@ -32,7 +32,7 @@ pub const LAYOUTS: [(&[u8], Layout); 2] = [
     (b"schedule 2 ", Layout::Wide),
 ];
 
-pub const FLAVOURS: [(&[u8], Flavour); 1] = [(b"memb ", Flavour::Memb)];
+pub const FLAVOURS: [(&[u8], Flavour); 2] = [(b"memb ", Flavour::Memb), (b"qsbr ", Flavour::Qsbr)];
 
 pub const ACTORS: [(&[u8], ActorWord); 3] = [
     (b"r", ActorWord::Reader),
@@ -52,11 +52,13 @@ pub const READER_WORDS: [(&[u8], ReaderWord); 9] = [
     (b".\n", ReaderWord::Whole(ReaderVerb::GoOn)),
 ];
 
-pub const UPDATER_WORDS: [(&[u8], UpdaterWord); 5] = [
+pub const UPDATER_WORDS: [(&[u8], UpdaterWord); 7] = [
     (b"push c", UpdaterWord::PushTo),
     (b"replace o", UpdaterWord::ReplaceOf),
     (b"cut o", UpdaterWord::CutOf),
     (b"sync\n", UpdaterWord::Whole(UpdaterVerb::Sync)),
+    (b"start\n", UpdaterWord::Whole(UpdaterVerb::Start)),
+    (b"poll\n", UpdaterWord::Whole(UpdaterVerb::Poll)),
     (b".\n", UpdaterWord::Whole(UpdaterVerb::GoOn)),
 ];
 

@@ -53,14 +53,17 @@ const REPLAY_ABOUT: &str = "Reads a schedule and answers each of its lines";
 const REPLAY_HELP: &str =
     "Reads a schedule from standard input and writes the answer of each line, then an end line, to standard output.
 
-The first line is the header: `schedule 1 memb R U W C` for narrow reader words or `schedule 2 memb R U W C` for wide ones, with the numbers of readers (1 to 64), updaters (1 to 16), workers (1 to 8) and chains (1 to 64). Then each line is one atomic step:
+The first line is the header: `schedule 1 memb R U W C` for narrow reader words or `schedule 2 memb R U W C` for wide ones, `qsbr` in place of `memb` for the quiescent-state flavour, with the numbers of readers (1 to 64), updaters (1 to 16), workers (1 to 8) and chains (1 to 64). Then each line is one atomic step:
 
-  r0 lock, r0 unlock         open and close a read-side section of reader 0
+  r0 lock, r0 unlock         open and close a read-side section of reader 0 (memb)
+  r0 online, r0 offline      the same in the quiescent-state flavour (qsbr)
+  r0 quiescent               announce a quiescent state (qsbr)
   r0 first c0, r0 next       load the first record of chain 0, the one after it
   r0 touch                   read the record loaded last
   u0 push c0                 updater 0 puts a new record at the front of chain 0
   u0 replace o1, u0 cut o1   put a new record in the place of record 1, take record 1 out
   u0 sync                    wait for a grace period
+  u0 start, u0 poll          take a cookie, ask whether a grace period has passed since
   r0 ., u0 .                 go on with what the line before began
 
 Exit status: 0 good, 2 a bad schedule or bad words, 3 a fault of reading, writing or memory.";

@@ -63,11 +63,11 @@ module _ {P : Type 0} (plans : Plans P) (layout : Layout) (slots : ℕ) (laws : 
       }
 
   -- an updater that rests goes on resting
-  rests_still : (u : ℕ) (x x' : UpdaterState P) → There u x → place_work x.place ≡ Rests → place_work x'.place ≡ Rests → PartFor (slice_set w.updaters u x')
-  rests_still u x x' t was is = subst (λ (works : Asker → Work P). Part plans layout slots laws decide_asker (holder_of w.grace.holder) works (word_at w.readers) w.grace.asks w.grace.seq w.grace.word now.asked now.answered now.asked_sections now.sections) same k.part
+  rests_still : (u : ℕ) (x x' : UpdaterState P) → There u x → x'.started ≡ x.started → place_work x.place ≡ Rests → place_work x'.place ≡ Rests → PartFor (slice_set w.updaters u x')
+  rests_still u x x' t polls was is = subst (λ (works : Asker → Work P). Part plans layout slots laws decide_asker (holder_of w.grace.holder) works (word_at w.readers) w.grace.asks w.grace.seq w.grace.word now.asked now.answered now.asked_sections now.sections) same k.part
     where
       s : Sets (work_of w.updaters) (work_of (slice_set w.updaters u x')) (Syncing u) (place_work x'.place)
-      s = work_set plans layout slots laws w.updaters u x' t.inside
+      s = work_set plans layout slots laws w.updaters u x' t.inside (polls ∙ sym (ap (λ (y : UpdaterState P). y.started) t.is))
 
       each : (y : Asker) → work_of w.updaters y ≡ work_of (slice_set w.updaters u x') y
       each y = ⊎_elim
@@ -100,9 +100,9 @@ module _ {P : Type 0} (plans : Plans P) (layout : Layout) (slots : ℕ) (laws : 
   over_places heads' os' v f (Syncs ask core) h = h
 
   -- an operation begins
-  owes_begin : (u : ℕ) (x x' : UpdaterState P) (y : ObjectState) → There u x → place_work x.place ≡ Rests → place_work x'.place ≡ Rests → y.stage ≡ Fresh → UpdaterKept w.heads (w.objects ++ y ∷ []) count u x'.place →
+  owes_begin : (u : ℕ) (x x' : UpdaterState P) (y : ObjectState) → There u x → x'.started ≡ x.started → place_work x.place ≡ Rests → place_work x'.place ≡ Rests → y.stage ≡ Fresh → UpdaterKept w.heads (w.objects ++ y ∷ []) count u x'.place →
       Owes plans layout slots laws w now (Ok (Begin u x' y))
-  owes_begin u x x' y t was is new mine = (
+  owes_begin u x x' y t polls was is new mine = (
     tt,
     record {
       laid = k.laid;
@@ -111,7 +111,7 @@ module _ {P : Type 0} (plans : Plans P) (layout : Layout) (slots : ℕ) (laws : 
       links_kept = links_grown w.objects y new w.heads now.chain now.used now.cut now.successor links;
       places_kept = places_set w.heads (w.objects ++ y ∷ []) u x' t.inside mine (λ v p _ h. over_places w.heads (w.objects ++ y ∷ []) v (λ q. place_grown w.objects y new w.heads count v q) p h);
       readers_kept = readers_over plans.qsbr layout w.readers w.grace.word w.grace.word w.objects (w.objects ++ y ∷ []) now.sections now.seen now.held (λ _. omega arith) (λ o known e. known (sym (stage_grown w.objects y new o) ∙ e)) k.readers_kept;
-      part = rests_still u x x' t was is;
+      part = rests_still u x x' t polls was is;
       ordinals = k.ordinals;
       asks_low = k.asks_low;
       seq_low = k.seq_low;
@@ -138,7 +138,7 @@ module _ {P : Type 0} (plans : Plans P) (layout : Layout) (slots : ℕ) (laws : 
       by_test : (b : Bool) → ((b ≡ true) × (c % count ≡ u)) ⊎ ((b ≡ false) × (c % count ≢ u)) → Owes plans layout slots laws w now (cond b (Ok (Begin u x' y)) (Err NoPlace))
       by_test false n = tt
       by_test true (inr n) = absurd (true≢false n.0)
-      by_test true (inl e) = owes_begin u x x' y t was refl refl (
+      by_test true (inl e) = owes_begin u x x' y t refl was refl refl (
         (ap (λ (o : ObjectState). o.stage) is, new_within w.objects y refl m refl),
         subst (λ (o : ObjectState). o.chain % count ≡ u) (sym is) e.1,
         subst (λ (o : ObjectState). o.chain < length w.heads) (sym is) (slice_get_within w.heads c head at_c),
@@ -194,7 +194,7 @@ module _ {P : Type 0} (plans : Plans P) (layout : Layout) (slots : ℕ) (laws : 
 
   pub owes_replace : (u : ℕ) (x : UpdaterState P) (o : ObjectId) → There u x → place_work x.place ≡ Rests → (z : Option ObjectState) → linked_by w u (slice_get w.objects o.0) ≡ z → Owes plans layout slots laws w now (replace_row w u x o z)
   owes_replace u x o t was None e = tt
-  owes_replace u x o t was (Some z) e = owes_begin u x x' y t was refl refl (
+  owes_replace u x o t was (Some z) e = owes_begin u x x' y t refl was refl refl (
     (ap (λ (q : ObjectState). q.stage) is, new_within w.objects y refl m refl),
     ap (λ (q : ObjectState). q.chain % count) is ∙ ap (λ (q : ObjectState). q.chain % count) (sym g.is) ∙ g.home,
     ap (λ (q : ObjectState). q.stage) at_o ∙ g.linked,
@@ -221,10 +221,10 @@ module _ {P : Type 0} (plans : Plans P) (layout : Layout) (slots : ℕ) (laws : 
       x' = record x { place = Publishes (publishing.Replace o m) }
 
   -- a store into a chain
-  owes_publish : (u : ℕ) (x x' : UpdaterState P) (s : Splice) (e : Event) (ys : List ObjectId) → There u x → place_work x.place ≡ Rests → x'.place ≡ Idle → s.chain % count ≡ u → Fits w.heads w.objects now.chain s ys →
+  owes_publish : (u : ℕ) (x x' : UpdaterState P) (s : Splice) (e : Event) (ys : List ObjectId) → There u x → x'.started ≡ x.started → place_work x.place ≡ Rests → x'.place ≡ Idle → s.chain % count ≡ u → Fits w.heads w.objects now.chain s ys →
       IsAllowed now e → (chain' : ℕ → List ObjectId) (used' cut' : List ObjectId) (successor' : ObjectId → Option ObjectId) → Follows now.chain chain' now.used used' now.cut cut' now.successor successor' s ys →
       after now e ≡ record now { chain = chain'; used = used'; cut = cut'; successor = successor' } → Owes plans layout slots laws w now (Ok (Publish u x' s e))
-  owes_publish u x x' s e ys t was is home fits allowed chain' used' cut' successor' follows same = (
+  owes_publish u x x' s e ys t polls was is home fits allowed chain' used' cut' successor' follows same = (
     (allowed, tt),
     subst (Kept plans layout slots laws (changed w (Publish u x' s e))) (sym same)
         (record {
@@ -237,7 +237,7 @@ module _ {P : Type 0} (plans : Plans P) (layout : Layout) (slots : ℕ) (laws : 
               (λ v p apart h. over_places (spliced_heads w.heads s) (spliced_objects w.objects s) v (λ q. place_spliced w.heads w.objects now.chain now.used now.cut now.successor s ys links fits count u v q home apart) p h);
           readers_kept = readers_over plans.qsbr layout w.readers w.grace.word w.grace.word w.objects (spliced_objects w.objects s) now.sections now.seen now.held (λ _. omega arith)
               (monotone w.heads w.objects now.chain now.used now.cut now.successor s ys links fits) k.readers_kept;
-          part = rests_still u x x' t was (ap place_work is);
+          part = rests_still u x x' t polls was (ap place_work is);
           ordinals = λ r. log_longer w.log (e ∷ []) (reader_at w.readers r).ordinal (k.ordinals r);
           asks_low = log_longer w.log (e ∷ []) w.grace.asks k.asks_low;
           seq_low = k.seq_low;
@@ -277,7 +277,7 @@ module _ {P : Type 0} (plans : Plans P) (layout : Layout) (slots : ℕ) (laws : 
       s = record { chain = c; before = before_of w.objects o; after = link_of w.objects o; leaves = Some o; enters = None }
 
       done : Owes plans layout slots laws w now (Ok (Publish u x s (Cut c o)))
-      done = owes_publish u x x s (Cut c o) (without_object o xs) t (ap place_work was) was g.home
+      done = owes_publish u x x s (Cut c o) (without_object o xs) t refl (ap place_work was) was g.home
           (record {
             spliced = subst (λ (n : Option ObjectId). Spliced xs (without_object o xs) (before_of w.objects o) n (Some o) None) (sym link) (cut_splices xs o (before_of w.objects o) ck.once h (ck.befores o h).0 (ck.befores o h).1);
             in_chains = (links.linked c o h).2;
@@ -326,7 +326,7 @@ module _ {P : Type 0} (plans : Plans P) (layout : Layout) (slots : ℕ) (laws : 
       s = record { chain = c; before = None; after = link_of w.objects m; leaves = None; enters = Some m }
 
       done : Owes plans layout slots laws w now (Ok (Publish u x' s (Push c m)))
-      done = owes_publish u x x' s (Push c m) (m ∷ xs) t was refl mine.1
+      done = owes_publish u x x' s (Push c m) (m ∷ xs) t refl was refl mine.1
           (record {
             spliced = subst (λ (n : Option ObjectId). Spliced xs (m ∷ xs) None n None (Some m)) (sym link) (push_splices xs m ck.once new);
             in_chains = mine.2;
@@ -378,7 +378,7 @@ module _ {P : Type 0} (plans : Plans P) (layout : Layout) (slots : ℕ) (laws : 
       s = record { chain = c; before = before_of w.objects o; after = link_of w.objects o; leaves = Some o; enters = Some m }
 
       done : Owes plans layout slots laws w now (Ok (Publish u x' s (Replace c o m)))
-      done = owes_publish u x x' s (Replace c o m) (replaced o m xs) t was refl (ap (λ d. d % count) mine.3 ∙ mine.1)
+      done = owes_publish u x x' s (Replace c o m) (replaced o m xs) t refl was refl (ap (λ d. d % count) mine.3 ∙ mine.1)
           (record {
             spliced = subst (λ (n : Option ObjectId). Spliced xs (replaced o m xs) (before_of w.objects o) n (Some o) (Some m)) (sym link) (replace_splices xs o m (before_of w.objects o) ck.once new h (ck.befores o h).0 (ck.befores o h).1);
             in_chains = (links.linked c o h).2;

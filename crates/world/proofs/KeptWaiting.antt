@@ -17,7 +17,7 @@ use Rattle.gp_memb.specs.declared.plan.Action.TheVariants.{Load, StorePhase, Sto
 use Rattle.gp_memb.specs.declared.plan.Turn.{Turn}
 use Rattle.gp_memb.specs.declared.plan.Turn.TheVariants as turns
 use Rattle.gp_memb.specs.Plan.{StoresInOrder, MayStore, present_after}
-use Rattle.poll_cookie.specs.Cookie.{even_below}
+use Rattle.poll_cookie.specs.Cookie.{even_below, cookie_for}
 use Rattle.call_rcu_worker.specs.declared.sync.SyncCore.{SyncCore}
 use Rattle.call_rcu_worker.specs.declared.sync.SyncCore.TheVariants as core
 use Rattle.call_rcu_worker.specs.declared.sync.Told.TheVariants as what
@@ -28,6 +28,7 @@ use Rattle.world_state.specs.declared.reader.ReaderState.{ReaderState}
 use Rattle.world_state.specs.declared.updater.GraceState.{GraceState}
 use Rattle.world_state.specs.declared.updater.Holder.{Holder}
 use Rattle.world_state.specs.declared.updater.Holder.TheVariants as holder
+use Rattle.world_state.specs.declared.updater.Started.{Started}
 use Rattle.world_state.specs.declared.updater.UpdaterState.{UpdaterState}
 use Rattle.world_state.specs.declared.updater.UpdaterPlace.{UpdaterPlace}
 use Rattle.world_state.specs.declared.updater.UpdaterPlace.TheVariants.{Idle, Syncs}
@@ -37,11 +38,11 @@ use Rattle.world_state.specs.View.{Plans, BoardView, told, changed}
 use Rattle.world_state.proofs.Writes.{get_past, past_or_within}
 use Rattle.world_state.proofs.Reading.{reader_at, readers_over}
 use Rattle.world.specs.declared.grace.GraceStep.{GraceStep}
-use Rattle.world.specs.Grace.{stepped, loaded_word, action_row, hold_row, plan_now, grace_row}
+use Rattle.world.specs.Grace.{stepped, loaded_word, action_row, hold_row, plan_now, grace_row, start_row, poll_row}
 use Rattle.world.specs.Lines.{synced}
-use Rattle.world.proofs.Fence.{Work, Rests, Waits, Checks, Starts, Runs, Frees, Pending, Laws, Sets, Running, cookie-above, cookie-near, cookie-even}
-use Rattle.world.proofs.Periods.{Part, Marks, reached_empty, part_asked, part_locked, part_answered, part_checked, part_freed, part_turned, part_begun, part_ended}
-use Rattle.world.proofs.State.{Asker, Syncing, decide_asker, core_work, place_work, work_of, holder_of, word_at, UpdaterKept, IsUnderWay, Kept, Owes, marks_of, work_set}
+use Rattle.world.proofs.Fence.{Work, Rests, Waits, Checks, Starts, Runs, Frees, Pending, RunsNone, Laws, Sets, Running, cookie-above, cookie-near, cookie-even}
+use Rattle.world.proofs.Periods.{Part, Marks, reached_empty, part_asked, part_locked, part_answered, part_polled, part_checked, part_freed, part_turned, part_begun, part_ended}
+use Rattle.world.proofs.State.{Asker, Syncing, Polling, decide_asker, core_work, place_work, started_work, work_of, holder_of, word_at, UpdaterKept, IsUnderWay, Kept, Owes, marks_of, work_set, started_set}
 use Rattle.world.proofs.KeptReaders.{log_longer, log_one}
 use Rattle.world.proofs.KeptPublishing.{There, places_set}
 
@@ -85,7 +86,7 @@ module _ {P : Type 0} (plans : Plans P) (layout : Layout) (slots : ℕ) (laws : 
     with_place p = record x { place = p }
 
     sets : (p : UpdaterPlace P) → Sets (work_of w.updaters) (work_of (slice_set w.updaters u (with_place p))) (Syncing u) (place_work p)
-    sets p = work_set plans layout slots laws w.updaters u (with_place p) t.inside
+    sets p = work_set plans layout slots laws w.updaters u (with_place p) t.inside (sym (ap (λ (y : UpdaterState P). y.started) t.is))
 
     -- nothing changes
     owes_wait : Owes plans layout slots laws w now (Ok (Stay Wait))
@@ -106,6 +107,12 @@ module _ {P : Type 0} (plans : Plans P) (layout : Layout) (slots : ℕ) (laws : 
       where
         seq : ℕ
         seq = w.grace.seq
+
+        rests_runs : (a d : ℕ) (p : P) → (let v : Work P = Rests in v) ≡ Runs a d p → ⊥
+        rests_runs a d p e = cc
+
+        runs_none : work_of w.updaters (Syncing u) ≡ Rests → RunsNone (work_of w.updaters (Syncing u))
+        runs_none e a d p is = rests_runs a d p (sym e ∙ is)
 
         c : ℕ
         c = even_below (seq + 3)
@@ -131,7 +138,7 @@ module _ {P : Type 0} (plans : Plans P) (layout : Layout) (slots : ℕ) (laws : 
         part : seq < 2 ^ 62 → PartOf (holder_of w.grace.holder) (work_of (slice_set w.updaters u waiting)) ask seq w.grace.word (ask ∷ now.asked) now.answered awaited
         part below = subst (λ n. PartOf (holder_of w.grace.holder) (work_of (slice_set w.updaters u (with_place (Syncs n (core.Waits c))))) n seq w.grace.word (n ∷ now.asked) now.answered (at_number n now.sections now.asked_sections)) (sym is)
             (part_asked plans layout slots laws decide_asker (holder_of w.grace.holder) (work_of w.updaters) (work_of (slice_set w.updaters u (with_place (Syncs (w.grace.asks + 1) (core.Waits c))))) words w.grace.asks seq w.grace.word c now.asked now.answered now.asked_sections
-            (at_number (w.grace.asks + 1) now.sections now.asked_sections) now.sections (Syncing u) rests (sets (Syncs (w.grace.asks + 1) (core.Waits c)))
+            (at_number (w.grace.asks + 1) now.sections now.asked_sections) now.sections (Syncing u) (runs_none rests) (sets (Syncs (w.grace.asks + 1) (core.Waits c)))
             (cookie-above seq, cookie-near seq, cookie-even seq, let near = cookie-near seq in let even = cookie-even seq in omega (arith, near, even, below))
             (λ a n. at_number_other (w.grace.asks + 1) a now.sections now.asked_sections n)
             (λ a s h. opens a s (subst (λ n. In (at_number n now.sections now.asked_sections a) s) (sym is) h)) k.part)
@@ -385,3 +392,94 @@ module _ {P : Type 0} (plans : Plans P) (layout : Layout) (slots : ℕ) (laws : 
     owes_sync (core.Runs c p) is h = owes_action c p is (plans.action p) refl
     owes_sync core.Frees is h = owes_free is
     owes_sync core.Done is h = absurd h
+
+  -- the cookies of `start` and `poll`
+  module _ (u : ℕ) (x : UpdaterState P) (t : Here u x) where
+    started_is : work_of w.updaters (Polling u) ≡ started_work x.started
+    started_is = ap (λ (y : UpdaterState P). started_work y.started) t.is
+
+    started_runs : (s : Option Started) → RunsNone {P = P} (started_work s)
+    started_runs None a c p e = cc
+    started_runs (Some s) a c p e = cc
+
+    cookies : (s : Option Started) → Sets (work_of w.updaters) (work_of (slice_set w.updaters u (record x { started = s }))) (Polling u) (started_work s)
+    cookies s = started_set plans layout slots laws w.updaters u (record x { started = s }) t.inside (sym (ap (λ (y : UpdaterState P). y.place) t.is))
+
+    steady : plans.qsbr ≡ true → w.grace.word ≤ w.grace.word
+    steady q = omega arith
+
+    pub owes_start : Owes plans layout slots laws w now (start_row w u x (cookie_for w.grace.seq))
+    owes_start = by (ltb w.grace.seq (2 ^ 62)) (leb_tells (2 ^ 62) w.grace.seq) refl
+      where
+        seq : ℕ
+        seq = w.grace.seq
+
+        c : ℕ
+        c = even_below (seq + 3)
+
+        ask : ℕ
+        ask = w.grace.asks + 1
+
+        noted : Option Started
+        noted = Some (record { ask = ask; cookie = c })
+
+        awaited : ℕ → List SectionId
+        awaited = at_number ask now.sections now.asked_sections
+
+        opens : (a : ℕ) (s : SectionId) → In (awaited a) s → In now.sections s
+        opens a s h = ⊎_elim
+            (λ (e : a ≡ ask). subst (λ (l : List SectionId). In l s) (ap awaited e ∙ at_number_same ask now.sections now.asked_sections) h)
+            (λ (n : a ≢ ask). k.part.awaited_open a s (subst (λ (l : List SectionId). In l s) (at_number_other ask a now.sections now.asked_sections n) h))
+            (decide_number a ask)
+
+        fresh : ¬ In now.asked ask
+        fresh h = let low = k.part.asks_kept.asked_low ask h in omega (arith, low)
+
+        part : seq < 2 ^ 62 → PartOf (holder_of w.grace.holder) (work_of (slice_set w.updaters u (record x { started = noted }))) ask seq w.grace.word (ask ∷ now.asked) now.answered awaited
+        part below = part_asked plans layout slots laws decide_asker (holder_of w.grace.holder) (work_of w.updaters) (work_of (slice_set w.updaters u (record x { started = noted }))) words w.grace.asks seq w.grace.word c now.asked now.answered now.asked_sections
+            awaited now.sections (Polling u) (subst (λ (v : Work P). RunsNone v) (sym started_is) (started_runs x.started)) (cookies noted)
+            (cookie-above seq, cookie-near seq, cookie-even seq, let near = cookie-near seq in let even = cookie-even seq in omega (arith, near, even, below))
+            (λ a n. at_number_other ask a now.sections now.asked_sections n) opens k.part
+
+        done : seq < 2 ^ 62 → Owes plans layout slots laws w now (start_row w u x (Ok c))
+        done below = (
+          ((λ h. fresh (in_numbers now.asked ask h)), tt),
+          kept_grace u x (record x { started = noted }) (record w.grace { asks = ask }) (Events (events.Ask ask) None) (ask ∷ now.asked) now.answered awaited t t.mine steady k.phase_low k.seq_low
+              (let l = log_one w.log (events.Ask ask) [] w.grace.asks k.asks_low in omega (arith, l)) (part below),
+        )
+
+        below_not : 2 ^ 62 ≤ seq → ltb seq (2 ^ 62) ≡ true → ⊥
+        below_not le lt = let h : seq < 2 ^ 62 = (Decides-ltb seq (2 ^ 62)).0 lt in omega (arith, h, le)
+
+        by : (b : Bool) → ((leb (2 ^ 62) seq ≡ true) × (2 ^ 62 ≤ seq)) ⊎ ((leb (2 ^ 62) seq ≡ false) × (seq < 2 ^ 62)) → ltb seq (2 ^ 62) ≡ b → Owes plans layout slots laws w now (start_row w u x (cond b (Ok c) (Err Exhausted)))
+        by false d e = tt
+        by true (inr n) e = done n.1
+        by true (inl y) e = absurd (below_not y.1 e)
+
+    pub owes_poll : (s : Option Started) → x.started ≡ s → Owes plans layout slots laws w now (poll_row w u x s)
+    owes_poll None is = tt
+    owes_poll (Some s) is = by (leb s.cookie w.grace.seq) (leb_tells s.cookie w.grace.seq) refl
+      where
+        spent : UpdaterState P
+        spent = record x { started = None }
+
+        waits : work_of w.updaters (Polling u) ≡ Waits s.ask s.cookie
+        waits = started_is ∙ ap started_work is
+
+        pending : Pending (work_of w.updaters (Polling u)) s.ask s.cookie
+        pending = subst (λ (v : Work P). Pending v s.ask s.cookie) (sym waits) (refl, refl)
+
+        reached : s.cookie ≤ w.grace.seq → Owes plans layout slots laws w now (Ok (Grace u spent w.grace (Events (events.Answer s.ask) None)))
+        reached up =
+            let p = k.part.asks_kept.pending (Polling u) s.ask s.cookie pending in
+            let none = reached_empty plans layout slots laws decide_asker (work_of w.updaters) words w.grace.seq now.asked_sections (Polling u) s.ask s.cookie k.part.fenced pending up in (
+              ((has_number_in now.asked s.ask p.0, (λ h. p.1 (in_numbers now.answered s.ask h)), none), tt),
+              kept_grace u x spent w.grace (Events (events.Answer s.ask) None) now.asked (s.ask ∷ now.answered) now.asked_sections t t.mine steady k.phase_low k.seq_low (log_longer w.log (events.Answer s.ask ∷ []) w.grace.asks k.asks_low)
+                  (part_polled plans layout slots laws decide_asker (holder_of w.grace.holder) (work_of w.updaters) (work_of (slice_set w.updaters u spent)) words w.grace.asks w.grace.seq w.grace.word now.asked now.answered now.asked_sections now.sections (Polling u) s.ask s.cookie waits (cookies None) k.part),
+            )
+
+        by : (b : Bool) → ((leb s.cookie w.grace.seq ≡ true) × (s.cookie ≤ w.grace.seq)) ⊎ ((leb s.cookie w.grace.seq ≡ false) × (w.grace.seq < s.cookie)) → leb s.cookie w.grace.seq ≡ b →
+            Owes plans layout slots laws w now (cond b (Ok (Grace u spent w.grace (Events (events.Answer s.ask) None))) (Ok (Stay Wait)))
+        by true (inl y) e = reached y.1
+        by true (inr n) e = absurd (true≢false (sym e ∙ n.0))
+        by false y e = (tt, k)

@@ -36,10 +36,10 @@ use Rattle.world.specs.Chains.{linked_by}
 use Rattle.world.specs.Lines.{updater_on, updater_begins, is_idle, updater_line, of_updater, worker_line, change_of, with_change, outcome_of, world_after}
 use Rattle.world.specs.Shown.{CanStart, IsInRange}
 use Rattle.world.proofs.Fence.{Work, Rests, Starts, Runs, Pending, Holds, Laws, even_at}
-use Rattle.world.proofs.State.{Asker, Syncing, Polling, Working, decide_asker, place_work, work_of, holder_of, UpdaterKept, Kept, Owes}
+use Rattle.world.proofs.State.{Asker, Syncing, Polling, Working, decide_asker, place_work, started_work, work_of, holder_of, UpdaterKept, Kept, Owes}
 use Rattle.world.proofs.KeptReading.{kept_reader}
 use Rattle.world.proofs.KeptPublishing.{There, there, owes_push, owes_replace, owes_cut, owes_pushed, owes_replaced}
-use Rattle.world.proofs.KeptWaiting.{owes_ask, owes_sync}
+use Rattle.world.proofs.KeptWaiting.{owes_ask, owes_sync, owes_start, owes_poll}
 
 append_none : {X : Type 0} (xs : List X) → xs ≡ xs ++ []
 append_none [] = refl
@@ -77,6 +77,8 @@ module _ {P : Type 0} (plans : Plans P) (layout : Layout) (slots : ℕ) (laws : 
     kept_begins u x (updater.Replace o) is t = owes_replace plans layout slots laws w now k u x o t (ap place_work is) (linked_by w u (slice_get w.objects o.0)) refl
     kept_begins u x (updater.Cut o) is t = owes_cut plans layout slots laws w now k u x o t is (linked_by w u (slice_get w.objects o.0)) refl
     kept_begins u x updater.Sync is t = owes_ask plans layout slots laws w now k u x (w.grace.asks + 1) t (its_work u x t ∙ ap place_work is) refl
+    kept_begins u x updater.Start is t = owes_start plans layout slots laws w now k u x t
+    kept_begins u x updater.Poll is t = owes_poll plans layout slots laws w now k u x t x.started refl
     kept_begins u x updater.GoOn is t = tt
 
     idle_tells : (place : UpdaterPlace P) → is_idle place ≡ true → place ≡ Idle
@@ -94,6 +96,8 @@ module _ {P : Type 0} (plans : Plans P) (layout : Layout) (slots : ℕ) (laws : 
     kept_updater_line u x (updater.Replace o) t = busy_or u x (updater.Replace o) t (is_idle x.place) refl
     kept_updater_line u x (updater.Cut o) t = busy_or u x (updater.Cut o) t (is_idle x.place) refl
     kept_updater_line u x updater.Sync t = busy_or u x updater.Sync t (is_idle x.place) refl
+    kept_updater_line u x updater.Start t = busy_or u x updater.Start t (is_idle x.place) refl
+    kept_updater_line u x updater.Poll t = busy_or u x updater.Poll t (is_idle x.place) refl
 
     kept_updater : (u : ℕ) (verb : UpdaterVerb) (x : Option (UpdaterState P)) → slice_get w.updaters u ≡ x → OwesNow (of_updater plans w u verb x)
     kept_updater u verb None is = tt
@@ -206,7 +210,7 @@ module _ {P : Type 0} (plans : Plans P) (layout : Layout) (slots : ℕ) (laws : 
 
       rests : (x : Asker) → work_of {P = P} (replicate config.updaters idle) x ≡ Rests
       rests (Syncing u) = ap (λ (x : UpdaterState P). place_work x.place) (get_replicate idle config.updaters u)
-      rests (Polling u) = refl
+      rests (Polling u) = ap (λ (x : UpdaterState P). started_work x.started) (get_replicate idle config.updaters u)
       rests (Working n) = refl
 
       words : (c : ℕ) (q : Option ObjectId) → IsPlace [] q → word_of (replicate config.chains None) (fresh_object 0 None ∷ []) c q ≡ follows [] q

@@ -51,12 +51,12 @@ module _ {P : Type 0} (plans : Plans P) (layout : Layout) (slots : ℕ) (laws : 
   at_runs works x w is none a c p e = none a c p (sym is ∙ e)
 
   pub part_asked : (holder : Option A) (works works' : A → Work P) (words : ℕ → ℕ) (asks seq number c : ℕ) (asked answered : List ℕ) (awaited awaited' : ℕ → List SectionId) (sections : List SectionId) (x : A) →
-      works x ≡ Rests → Sets works works' x (Waits (asks + 1) c) → (seq + 1 < c) × (c ≤ seq + 3) × (c % 2 ≡ 0) × (c ≤ 2 ^ 62 + 2) →
+      RunsNone (works x) → Sets works works' x (Waits (asks + 1) c) → (seq + 1 < c) × (c ≤ seq + 3) × (c % 2 ≡ 0) × (c ≤ 2 ^ 62 + 2) →
       ((a : ℕ) → a ≢ asks + 1 → awaited' a ≡ awaited a) → ((a : ℕ) (s : SectionId) → In (awaited' a) s → In sections s) →
       Part holder works words asks seq number asked answered awaited sections → Part holder works' words (asks + 1) seq number ((asks + 1) ∷ asked) answered awaited' sections
-  part_asked holder works works' words asks seq number c asked answered awaited awaited' sections x is s fine others opens k = record {
+  part_asked holder works works' words asks seq number c asked answered awaited awaited' sections x rests s fine others opens k = record {
     asks_kept = asks_asked plans layout slots laws decide works works' asks seq c asked answered x s (fine.1, fine.2, fine.3) k.asks_kept;
-    grace_kept = grace_set plans layout slots laws decide holder holder works works' seq number x (Waits (asks + 1) c) s (at_runs works x Rests is rests_runs) (waits_none (asks + 1) c)
+    grace_kept = grace_set plans layout slots laws decide holder holder works works' seq number x (Waits (asks + 1) c) s rests (waits_none (asks + 1) c)
         (λ a d e. absurd (waits_starts (asks + 1) c a d e)) (λ h. absurd h) (λ y _ h. k.grace_kept.held y h) k.grace_kept;
     fenced = fenced_asked plans layout slots laws decide works works' words asks seq c asked answered awaited awaited' x s fine.0 others k.asks_kept k.fenced;
     awaited_open = opens;
@@ -103,6 +103,20 @@ module _ {P : Type 0} (plans : Plans P) (layout : Layout) (slots : ℕ) (laws : 
     grace_kept = grace_set plans layout slots laws decide holder holder works works' seq number x Frees s (at_runs works x (Checks a c) is (checks_runs a c)) frees_runs
         (λ b d e. absurd (frees_starts b d e)) (λ _. k.grace_kept.held x (subst (λ (u : Work P). Holds u) (sym is) tt)) (λ y _ h. k.grace_kept.held y h) k.grace_kept;
     fenced = fenced_set plans layout slots laws decide works works' words seq awaited x Frees s (λ b d h. absurd h) frees_runs k.fenced;
+    awaited_open = k.awaited_open;
+  }
+
+  -- a poll answers
+  rests_starts : StartsNone {P = P} Rests
+  rests_starts a c e = cc
+
+  pub part_polled : (holder : Option A) (works works' : A → Work P) (words : ℕ → ℕ) (asks seq number : ℕ) (asked answered : List ℕ) (awaited : ℕ → List SectionId) (sections : List SectionId) (x : A) (a c : ℕ) →
+      works x ≡ Waits a c → Sets works works' x Rests → Part holder works words asks seq number asked answered awaited sections → Part holder works' words asks seq number asked (a ∷ answered) awaited sections
+  part_polled holder works works' words asks seq number asked answered awaited sections x a c is s k = record {
+    asks_kept = asks_answered plans layout slots laws decide works works' asks seq x Rests a c asked answered s (λ b d h. h) (subst (λ (u : Work P). Pending u a c) (sym is) (refl, refl)) k.asks_kept;
+    grace_kept = grace_set plans layout slots laws decide holder holder works works' seq number x Rests s (at_runs works x (Waits a c) is (waits_none a c)) rests_runs
+        (λ b d e. absurd (rests_starts b d e)) (λ h. absurd h) (λ y _ h. k.grace_kept.held y h) k.grace_kept;
+    fenced = fenced_set plans layout slots laws decide works works' words seq awaited x Rests s (λ b d h. absurd h) rests_runs k.fenced;
     awaited_open = k.awaited_open;
   }
 

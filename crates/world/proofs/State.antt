@@ -16,6 +16,7 @@ use Rattle.world_state.specs.declared.updater.Holder.{Holder}
 use Rattle.world_state.specs.declared.updater.Holder.TheVariants as holder
 use Rattle.world_state.specs.declared.updater.UpdaterPlace.{UpdaterPlace}
 use Rattle.world_state.specs.declared.updater.UpdaterPlace.TheVariants.{Idle, Publishes, Syncs}
+use Rattle.world_state.specs.declared.updater.Started.{Started}
 use Rattle.world_state.specs.declared.updater.UpdaterState.{UpdaterState}
 use Rattle.world_state.specs.declared.change.Change.{Change}
 use Rattle.world_state.specs.declared.change.Change.TheVariants.{Read, Begin, Publish, Grace, Stay}
@@ -58,12 +59,16 @@ place_work Idle = Rests
 place_work (Publishes what) = Rests
 place_work (Syncs ask core) = core_work ask core
 
+abbrev pub started_work : {P : Type 0} → Option Started → Work P
+started_work None = Rests
+started_work (Some s) = Waits s.ask s.cookie
+
 abbrev pub updater_at : {P : Type 0} → List (UpdaterState P) → ℕ → UpdaterState P
 updater_at updaters u = get_or updaters u idle
 
 abbrev pub work_of : {P : Type 0} → List (UpdaterState P) → Asker → Work P
 work_of updaters (Syncing u) = place_work (updater_at updaters u).place
-work_of updaters (Polling u) = Rests
+work_of updaters (Polling u) = started_work (updater_at updaters u).started
 work_of updaters (Working k) = Rests
 
 abbrev pub asker_of : Holder → Asker
@@ -143,14 +148,34 @@ module _ {P : Type 0} (plans : Plans P) (layout : Layout) (slots : ℕ) (laws : 
         mark_shown plans.qsbr w.grace.word (word_at w.readers s.reader) (mine.opens s.ordinal h).1 mine.marked,
       )
 
-  -- one updater's state is set
-  pub work_set : (updaters : List (UpdaterState P)) (u : ℕ) (x : UpdaterState P) → u < length updaters → Sets (work_of updaters) (work_of (slice_set updaters u x)) (Syncing u) (place_work x.place)
-  work_set updaters u x inside = record {
+  -- one updater's place is set
+  pub work_set : (updaters : List (UpdaterState P)) (u : ℕ) (x : UpdaterState P) → u < length updaters → x.started ≡ (updater_at updaters u).started → Sets (work_of updaters) (work_of (slice_set updaters u x)) (Syncing u) (place_work x.place)
+  work_set updaters u x inside same = record {
     here = ap (λ (y : UpdaterState P). place_work y.place) (get_or-set_same updaters u x idle inside);
     others = others;
   }
     where
+      polls : (v : ℕ) → (v ≡ u) ⊎ (v ≢ u) → (updater_at (slice_set updaters u x) v).started ≡ (updater_at updaters v).started
+      polls v (inl e) = ap (λ n. (updater_at (slice_set updaters u x) n).started) e ∙ ap (λ (y : UpdaterState P). y.started) (get_or-set_same updaters u x idle inside) ∙ same ∙ ap (λ n. (updater_at updaters n).started) (sym e)
+      polls v (inr n) = ap (λ (y : UpdaterState P). y.started) (get_or-set_other updaters u v x idle n)
+
       others : (y : Asker) → y ≢ Syncing u → work_of (slice_set updaters u x) y ≡ work_of updaters y
       others (Syncing v) apart = ap (λ (y : UpdaterState P). place_work y.place) (get_or-set_other updaters u v x idle (λ e. apart (ap Syncing e)))
-      others (Polling v) apart = refl
+      others (Polling v) apart = ap started_work (polls v (decide_number v u))
+      others (Working v) apart = refl
+
+  -- one updater's cookie is set
+  pub started_set : (updaters : List (UpdaterState P)) (u : ℕ) (x : UpdaterState P) → u < length updaters → x.place ≡ (updater_at updaters u).place → Sets (work_of updaters) (work_of (slice_set updaters u x)) (Polling u) (started_work x.started)
+  started_set updaters u x inside same = record {
+    here = ap (λ (y : UpdaterState P). started_work y.started) (get_or-set_same updaters u x idle inside);
+    others = others;
+  }
+    where
+      places : (v : ℕ) → (v ≡ u) ⊎ (v ≢ u) → (updater_at (slice_set updaters u x) v).place ≡ (updater_at updaters v).place
+      places v (inl e) = ap (λ n. (updater_at (slice_set updaters u x) n).place) e ∙ ap (λ (y : UpdaterState P). y.place) (get_or-set_same updaters u x idle inside) ∙ same ∙ ap (λ n. (updater_at updaters n).place) (sym e)
+      places v (inr n) = ap (λ (y : UpdaterState P). y.place) (get_or-set_other updaters u v x idle n)
+
+      others : (y : Asker) → y ≢ Polling u → work_of (slice_set updaters u x) y ≡ work_of updaters y
+      others (Syncing v) apart = ap place_work (places v (decide_number v u))
+      others (Polling v) apart = ap (λ (y : UpdaterState P). started_work y.started) (get_or-set_other updaters u v x idle (λ e. apart (ap Polling e)))
       others (Working v) apart = refl

@@ -1,5 +1,5 @@
 -- The log after lines is what they were answered.
-use Rattle.std.proofs.Common.{◌≡◌, ℕ, ◌+◌, cond, Bool, true, false, List, [], ◌∷◌, ◌++◌, Option, Some, None, Result, Ok, Err, slice_get, nat_lt, refl, sym, ap, ◌∙◌, subst}
+use Rattle.std.proofs.Common.{◌≡◌, ℕ, ◌+◌, leb, cond, Bool, true, false, List, [], ◌∷◌, ◌++◌, Option, Some, None, Result, Ok, Err, slice_get, nat_lt, refl, sym, ap, ◌∙◌, subst}
 use Rattle.std.proofs.lemmas.List.{append-nil, append_assoc}
 use Rattle.rcu_model.specs.declared.refusal.Refusal.{Refusal}
 use Rattle.rcu_model.specs.declared.event.Event.{Event}
@@ -32,7 +32,9 @@ use Rattle.world_state.specs.declared.change.Change.TheVariants.{Read, Begin, Pu
 use Rattle.world_state.specs.View.{Plans, BoardView, told, fresh_at}
 use Rattle.world.specs.declared.grace.GraceStep.{GraceStep}
 use Rattle.world.specs.Chains.{writes, push_row, replace_row, cut_row, pushed_row, replaced_row, published, linked_by}
-use Rattle.world.specs.Grace.{grace_row}
+use Rattle.poll_cookie.specs.Cookie.{cookie_for}
+use Rattle.world_state.specs.declared.updater.Started.{Started}
+use Rattle.world.specs.Grace.{grace_row, start_row, poll_row}
 use Rattle.call_rcu_worker.specs.Sync.{new_core}
 use Rattle.world.specs.Lines.{reader_line, read_by, of_reader, is_idle, grace_change, synced, updater_on, updater_begins, updater_line, of_updater, change_of, with_change, outcome_of, world_after}
 use Rattle.world.specs.Steps.{WorldView, OfMemb, OfQsbr, memb_plans, qsbr_plans, step_of, log_of, fresh_in, world_after_lines, events_of, answered_events}
@@ -100,11 +102,21 @@ module _ {P : Type 0} (plans : Plans P) (w : BoardView P) where
     silent_cut o None = tt
     silent_cut o (Some y) = tt
 
+    silent_start : (cookie : Result ℕ Refusal) → Silent (start_row w u x cookie)
+    silent_start (Ok c) = tt
+    silent_start (Err e) = tt
+
+    silent_poll : (s : Option Started) → Silent (poll_row w u x s)
+    silent_poll None = tt
+    silent_poll (Some s) = either (leb s.cookie w.grace.seq) _ _ tt refl
+
     silent_begins : (verb : UpdaterVerb) → Silent (updater_begins plans w u x verb)
     silent_begins (updater.Push c) = silent_push c (slice_get w.heads c)
     silent_begins (updater.Replace o) = silent_replace o (linked_by w u (slice_get w.objects o.0))
     silent_begins (updater.Cut o) = silent_cut o (linked_by w u (slice_get w.objects o.0))
     silent_begins updater.Sync = silent_synced (w.grace.asks + 1) (grace_row plans w (holder.Updater u) (w.grace.asks + 1) new_core)
+    silent_begins updater.Start = silent_start (cookie_for w.grace.seq)
+    silent_begins updater.Poll = silent_poll x.started
     silent_begins updater.GoOn = tt
 
     silent_line : (verb : UpdaterVerb) → Silent (updater_line plans w u x verb)
@@ -113,6 +125,8 @@ module _ {P : Type 0} (plans : Plans P) (w : BoardView P) where
     silent_line (updater.Replace o) = either (is_idle x.place) _ _ (silent_begins (updater.Replace o)) tt
     silent_line (updater.Cut o) = either (is_idle x.place) _ _ (silent_begins (updater.Cut o)) tt
     silent_line updater.Sync = either (is_idle x.place) _ _ (silent_begins updater.Sync) tt
+    silent_line updater.Start = either (is_idle x.place) _ _ (silent_begins updater.Start) tt
+    silent_line updater.Poll = either (is_idle x.place) _ _ (silent_begins updater.Poll) tt
 
   silent_of_updater : (u : ℕ) (verb : UpdaterVerb) (x : Option (UpdaterState P)) → Silent (of_updater plans w u verb x)
   silent_of_updater u verb None = tt

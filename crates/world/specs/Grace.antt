@@ -1,6 +1,8 @@
 -- The step table's rows of a grace period.
-use Rattle.std.specs.Prelude.{ℕ, length, slice_get, Option, Some, None, Result, Ok, Err}
+use Rattle.std.specs.Prelude.{ℕ, ◌+◌, nat_le, if◌then◌else◌, length, slice_get, Option, Some, None, Result, Ok, Err}
+use Rattle.rcu_model.specs.declared.event.Event.TheVariants.{Ask as Asked, Answer as Answered}
 use Rattle.rcu_model.specs.declared.refusal.Refusal.{Refusal}
+use Rattle.rcu_model.specs.declared.refusal.Refusal.TheVariants.{NotOpen}
 use Rattle.gp_memb.specs.declared.plan.Action.{Action}
 use Rattle.gp_memb.specs.declared.plan.Action.TheVariants.{Load, StorePhase, StoreSeq, Finished}
 use Rattle.call_rcu_worker.specs.declared.sync.SyncCore.{SyncCore}
@@ -8,12 +10,16 @@ use Rattle.call_rcu_worker.specs.declared.sync.SyncStep.{SyncStep}
 use Rattle.call_rcu_worker.specs.declared.sync.SyncStep.TheVariants.{Ask, TakeLock, Check, Begin, Plan, FreeLock, Nothing}
 use Rattle.call_rcu_worker.specs.Sync.{Telling, step_of, told_of, begun_with}
 use Rattle.world.specs.declared.grace.GraceStep.{GraceStep}
-use Rattle.world_state.specs.declared.line.Answer.TheVariants.{Blocked}
+use Rattle.world_state.specs.declared.line.Answer.TheVariants.{Events, Wait, Blocked}
 use Rattle.world_state.specs.declared.reader.ReaderState.{ReaderState}
 use Rattle.world_state.specs.declared.updater.GraceState.{GraceState}
 use Rattle.world_state.specs.declared.updater.Holder.{Holder}
 use Rattle.world_state.specs.declared.updater.UpdaterPlace.{UpdaterPlace}
 use Rattle.world_state.specs.declared.updater.UpdaterPlace.TheVariants.{Idle, Syncs}
+use Rattle.world_state.specs.declared.updater.UpdaterState.{UpdaterState}
+use Rattle.world_state.specs.declared.updater.Started.{Started}
+use Rattle.world_state.specs.declared.change.Change.{Change}
+use Rattle.world_state.specs.declared.change.Change.TheVariants.{Grace, Stay}
 use Rattle.world_state.specs.View.{Plans, BoardView}
 use Rattle.world.specs.Answers.{answer_to}
 
@@ -63,3 +69,14 @@ place_at ask core step = Syncs ask core
 
 abbrev pub sync_place : {P : Type 0} → Plans P → ℕ → SyncCore P → UpdaterPlace P
 sync_place plans ask core = place_at ask core (step_of plans.action core)
+
+-- `start`, with the cookie of the number that it loads
+abbrev pub start_row : {P : Type 0} → BoardView P → ℕ → UpdaterState P → Result ℕ Refusal → Result (Change P) Refusal
+start_row w u x (Ok c) =
+    Ok (Grace u (record x { started = Some (record { ask = w.grace.asks + 1; cookie = c }) }) (record w.grace { asks = w.grace.asks + 1 }) (Events (Asked (w.grace.asks + 1)) None))
+start_row w u x (Err e) = Err e
+
+-- `poll`, which spends a cookie that is reached
+abbrev pub poll_row : {P : Type 0} → BoardView P → ℕ → UpdaterState P → Option Started → Result (Change P) Refusal
+poll_row w u x None = Err NotOpen
+poll_row w u x (Some s) = if nat_le s.cookie w.grace.seq then Ok (Grace u (record x { started = None }) w.grace (Events (Answered s.ask) None)) else Ok (Stay Wait)

@@ -3,6 +3,7 @@ use Rattle.std.specs.Prelude.{ℕ, ◌+◌, nat_lt, Bool, true, false, if◌then
 use Rattle.rcu_model.specs.declared.refusal.Refusal.{Refusal}
 use Rattle.rcu_model.specs.declared.refusal.Refusal.TheVariants.{NotOpen, Busy, WrongFlavour, NoActor}
 use Rattle.reader_word.specs.Quiescent.{is_online}
+use Rattle.poll_cookie.specs.Cookie.{cookie_for}
 use Rattle.call_rcu_worker.specs.Sync.{new_core}
 use Rattle.world_state.specs.declared.line.Answer.{Answer}
 use Rattle.world_state.specs.declared.line.Answer.TheVariants.{Wait, Blocked}
@@ -26,7 +27,7 @@ use Rattle.world_state.specs.Readers.{is_open_in, lock_row, enter_row, unlock_ro
 use Rattle.world_state.specs.View.{Plans, BoardView, changed, answer_of}
 use Rattle.world.specs.declared.grace.GraceStep.{GraceStep}
 use Rattle.world.specs.Chains.{first_row, next_from, linked_by, push_row, replace_row, cut_row, published}
-use Rattle.world.specs.Grace.{grace_row, sync_place}
+use Rattle.world.specs.Grace.{grace_row, sync_place, start_row, poll_row}
 
 -- readers: a verb of the flavour, of the other one, and in an open section
 abbrev pub of_memb : Bool → Result ReaderStep Refusal → Result ReaderStep Refusal
@@ -84,6 +85,8 @@ updater_begins plans w u x (updater.Push c) = push_row w u x c (slice_get w.head
 updater_begins plans w u x (updater.Replace o) = replace_row w u x o (linked_by w u (slice_get w.objects o.0))
 updater_begins plans w u x (updater.Cut o) = cut_row u x o (linked_by w u (slice_get w.objects o.0))
 updater_begins plans w u x updater.Sync = synced plans u x (w.grace.asks + 1) (grace_row plans w (holder.Updater u) (w.grace.asks + 1) new_core)
+updater_begins plans w u x updater.Start = start_row w u x (cookie_for w.grace.seq)
+updater_begins plans w u x updater.Poll = poll_row w u x x.started
 updater_begins plans w u x updater.GoOn = Err NotOpen
 
 abbrev pub is_idle : {P : Type 0} → UpdaterPlace P → Bool

@@ -6,7 +6,7 @@ use rcu_model::{Event, ObjectId, Refusal};
 use std::alloc::Global;
 use world_state::{
     Answer, Change, Config, GraceState, Layout, Line, ObjectState, ReaderState, Splice, StepError,
-    UpdaterPlace, UpdaterState, WorkerVerb, WorldPlan, put, splice_heads, splice_objects,
+    UpdaterState, WorkerVerb, WorldPlan, put, splice_heads, splice_objects,
 };
 
 /// The words, the bookkeeping beside them, and the log.
@@ -37,10 +37,7 @@ impl<P: WorldPlan + Drop> Board<P> {
         let Ok(readers) = vec![in alloc; ReaderState::new(); config.readers as usize] else {
             return Err(Refusal::Memory);
         };
-        let idle = UpdaterState {
-            place: UpdaterPlace::Idle,
-        };
-        let Ok(updaters) = vec![in alloc; idle; config.updaters as usize] else {
+        let Ok(updaters) = vec![in alloc; UpdaterState::new(); config.updaters as usize] else {
             return Err(Refusal::Memory);
         };
         let Ok(heads) = vec![in alloc; None; config.chains as usize] else {

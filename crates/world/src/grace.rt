@@ -1,6 +1,7 @@
 //! The steps of a grace period in the world.
 
-ghost use Rattle.std.specs.Prelude.{◌≡◌};
+ghost use Rattle.std.specs.Prelude.{◌≡◌, None};
+ghost use Rattle.world_state.specs.declared.line.Answer.TheVariants.{Events};
 ghost use Rattle.world.specs.Answers.{answer_to};
 
 use call_rcu_worker::{SyncCore, Told};
@@ -25,6 +26,13 @@ pub fn answer_to(ask: u64, told: Told) -> Answer
         Told::Answered => Event::Answer(ask),
         Told::Waiting => return Answer::Wait,
     };
+    one_event(event)
+}
+
+/// The answer that tells this event alone.
+pub fn one_event(event: Event) -> Answer
+    ensures { result ≡ Events event None }
+{
     Answer::Events {
         first: event,
         second: None,

@@ -64,3 +64,38 @@ fn the_last_grace_period_is_answered(rt: HostRuntime) {
         Err(_) => assert!(rt; false),
     }
 }
+
+/// Two updaters share the last grace periods; each row has the answer of so many steps.
+#[test]
+fn sequence_numbers_end(rt: HostRuntime) {
+    let config = Config {
+        updaters: 2,
+        ..SMALL
+    };
+    let quiet = Ok(Answer::Quiet);
+    let exhausted = Err(Refusal::Exhausted);
+    let rows = [
+        (0, UpdaterVerb::Sync, 1, told(Event::Ask(1))),
+        (0, UpdaterVerb::GoOn, 3, quiet),
+        (1, UpdaterVerb::Sync, 1, told(Event::Ask(2))),
+        (0, UpdaterVerb::GoOn, 4, quiet),
+        (0, UpdaterVerb::GoOn, 1, told(Event::Answer(1))),
+        (0, UpdaterVerb::GoOn, 1, quiet),
+        (0, UpdaterVerb::Sync, 1, exhausted),
+        (1, UpdaterVerb::GoOn, 7, quiet),
+        (1, UpdaterVerb::GoOn, 1, told(Event::Answer(2))),
+        (1, UpdaterVerb::GoOn, 1, quiet),
+        (0, UpdaterVerb::Start, 1, exhausted),
+        (1, UpdaterVerb::Sync, 1, exhausted),
+    ];
+    match World::new_at(rt.alloc(), config, 4_611_686_018_427_387_902) {
+        Ok(mut world) => {
+            for (updater, verb, steps, answer) in rows {
+                for _ in 0..steps {
+                    assert_eq!(rt; world.step(&Line::Updater(updater, verb)), answer);
+                }
+            }
+        }
+        Err(_) => assert!(rt; false),
+    }
+}

@@ -5,12 +5,13 @@ ghost use Rattle.call_rcu_worker.specs.Sync.{told_of};
 ghost use Rattle.world.specs.Grace.{stepped};
 
 use crate::board::Board;
-use crate::grace::{GraceStep, answer_to};
+use crate::grace::{GraceStep, answer_to, one_event};
 use call_rcu_worker::{SyncCore, SyncStep};
 use gp_memb::Action;
-use rcu_model::Refusal;
+use poll_cookie::{cookie_of, is_past};
+use rcu_model::{Event, Refusal};
 use world_state::{
-    Answer, Change, GraceState, Holder, UpdaterPlace, UpdaterState, UpdaterVerb, WorldPlan,
+    Answer, Change, GraceState, Holder, Started, UpdaterPlace, UpdaterState, UpdaterVerb, WorldPlan,
 };
 
 impl<P: WorldPlan + Drop> Board<P> {
@@ -18,8 +19,9 @@ impl<P: WorldPlan + Drop> Board<P> {
     ghost use Rattle.call_rcu_worker.specs.Sync.{step_of};
     ghost use Rattle.world_state.specs.declared.updater.Holder.TheVariants.{Updater};
     ghost use Rattle.world_state.specs.View.{plans_of};
-    ghost use Rattle.world.specs.Grace.{action_row, hold_row, grace_row, sync_place};
+    ghost use Rattle.world.specs.Grace.{action_row, hold_row, grace_row, sync_place, start_row, poll_row};
     ghost use Rattle.world.specs.Lines.{updater_line, updater_begins, updater_on, synced};
+    ghost use Rattle.poll_cookie.specs.Cookie.{cookie_for};
     ghost use Rattle.world.specs.Shown.{shown, IsInRange, CanStart};
 
     /// A line of an updater.
@@ -75,8 +77,48 @@ impl<P: WorldPlan + Drop> Board<P> {
                 let ask = self.grace.asks + 1;
                 self.sync(updater, state, ask, SyncCore::new())
             }
+            UpdaterVerb::Start => self.start(updater, state),
+            UpdaterVerb::Poll => self.poll(updater, state),
             UpdaterVerb::GoOn => Err(Refusal::NotOpen),
         }
+    }
+
+    /// Takes a cookie, in place of an older one.
+    fn start(&self, updater: u32, mut state: UpdaterState<P>) -> Result<Change<P>, Refusal>
+        requires range { IsInRange P.QSBR (shown self.now) }
+        ensures { result ≡ start_row (shown self.now) updater state (cookie_for (shown self.now).grace.seq) }
+    {
+        let cookie = cookie_of(self.grace.seq)?;
+        let mut grace = self.grace;
+        let ask = grace.asks + 1;
+        grace.asks = ask;
+        state.started = Some(Started { ask, cookie });
+        Ok(Change::Grace {
+            updater,
+            state,
+            grace,
+            answer: one_event(Event::Ask(ask)),
+        })
+    }
+
+    /// Asks whether the cookie is reached, which is then spent.
+    fn poll(&self, updater: u32, mut state: UpdaterState<P>) -> Result<Change<P>, Refusal>
+        ensures { result ≡ poll_row (shown self.now) updater state state.started }
+    {
+        let noted = state.started;
+        let Some(started) = noted else {
+            return Err(Refusal::NotOpen);
+        };
+        if !is_past(started.cookie, self.grace.seq) {
+            return Ok(Change::Stay(Answer::Wait));
+        }
+        state.started = None;
+        Ok(Change::Grace {
+            updater,
+            state,
+            grace: self.grace,
+            answer: one_event(Event::Answer(started.ask)),
+        })
     }
 
     /// A step of an updater's grace period.

@@ -38,7 +38,7 @@ pub record BoardView (P : Type 0) : Type 0 where
 
 -- an updater in no operation
 abbrev pub idle : {P : Type 0} → UpdaterState P
-idle = record { place = Idle }
+idle = record { place = Idle; started = None }
 
 -- a world in which nothing has happened, and whose sequence numbers begin here
 abbrev pub fresh_at : {P : Type 0} → Config → ℕ → BoardView P

@@ -18,4 +18,4 @@ pub use object::{Life, ObjectState, Splice, Stage};
 pub use plan::WorldPlan;
 pub use reader::{ReaderState, ReaderStep};
 pub use reader_word::Layout;
-pub use updater::{GraceState, Holder, Publishing, UpdaterPlace, UpdaterState};
+pub use updater::{GraceState, Holder, Publishing, Started, UpdaterPlace, UpdaterState};

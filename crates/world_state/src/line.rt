@@ -37,6 +37,10 @@ pub enum UpdaterVerb {
     Cut(ObjectId),
     /// Waits for a grace period: liburcu's `synchronize_rcu`.
     Sync,
+    /// Takes a cookie, in place of an older one: liburcu's `start_poll_synchronize_rcu`.
+    Start,
+    /// Asks whether a grace period has passed since the cookie was taken: liburcu's `poll_state_synchronize_rcu`.
+    Poll,
     /// The next step of the operation that the updater is in.
     GoOn,
 }

@@ -1,6 +1,9 @@
 //! What the world keeps of an updater and of grace periods.
 
+ghost use Rattle.std.specs.Prelude.{◌≡◌};
+
 use call_rcu_worker::SyncCore;
+use poll_cookie::Cookie;
 use rcu_model::ObjectId;
 
 /// What an updater is about to publish, between the two steps of `push` or `replace`.
@@ -19,10 +22,32 @@ pub enum UpdaterPlace<P> {
     Syncs { ask: u64, core: SyncCore<P> },
 }
 
+/// An ask that `start` made, and its cookie, which `poll` has not spent.
+#[derive(Clone, Copy, Debug, PartialEq, Eq, Drop)]
+pub struct Started {
+    pub ask: u64,
+    pub cookie: Cookie,
+}
+
 /// What the world keeps of an updater.
 #[derive(Clone, Copy, Debug, PartialEq, Eq, Drop)]
 pub struct UpdaterState<P> {
     pub place: UpdaterPlace<P>,
+    pub started: Option<Started>,
+}
+
+impl<P> UpdaterState<P> {
+    ghost use Rattle.world_state.specs.View.{idle};
+
+    /// An updater in no operation, with no cookie.
+    pub fn new() -> UpdaterState<P>
+        ensures { result ≡ idle }
+    {
+        UpdaterState {
+            place: UpdaterPlace::Idle,
+            started: None,
+        }
+    }
 }
 
 /// Who may hold a lock.

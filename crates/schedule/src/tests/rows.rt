@@ -2,7 +2,7 @@
 
 use super::Row;
 
-pub const GOOD: [Row<'static>; 7] = [
+pub const GOOD: [Row<'static>; 11] = [
     // thin-path
     Row {
         text: b"\
@@ -67,6 +67,47 @@ pub const GOOD: [Row<'static>; 7] = [
         printed: b"\
             ask a1\nask a2\n.\nblocked\n.\n.\n.\n.\n.\n.\nanswer a1\nblocked\n.\n.\nanswer a2\n.\n\
             end open=0 waiting=0 run=0\n",
+        fault: "",
+    },
+    // quiescent-state
+    Row {
+        text: b"\
+            schedule 1 qsbr 1 1 1 1\nr0 online\nr0 .\nu0 sync\nu0 .\nu0 .\nu0 .\nu0 .\nu0 .\n\
+            r0 quiescent\nu0 .\nr0 .\nu0 .\nu0 .\nu0 .\nr0 offline\n",
+        printed: b"\
+            .\nopen r0.1\nask a1\n.\n.\n.\n.\nwait\n.\nwait\nclose r0.1; open r0.2\n.\nanswer a1\n\
+            .\nclose r0.2\nend open=0 waiting=0 run=0\n",
+        fault: "",
+    },
+    // delayed-announcement
+    Row {
+        text: b"\
+            schedule 1 qsbr 1 1 1 1\nr0 online\nr0 .\nr0 quiescent\nu0 sync\nu0 .\nu0 .\nu0 .\n\
+            u0 .\nr0 .\nu0 .\n",
+        printed: b"\
+            .\nopen r0.1\n.\nask a1\n.\n.\n.\n.\nclose r0.1; open r0.2\nwait\n\
+            end open=1 waiting=0 run=0\n",
+        fault: "",
+    },
+    // grace-period-of-another
+    Row {
+        text: b"\
+            schedule 1 memb 1 2 1 1\nu0 start\nu0 poll\nu1 sync\nu1 .\nu1 .\nu1 .\nu1 .\nu1 .\n\
+            u1 .\nu1 .\nu1 .\nu1 .\nu0 poll\nu0 poll\n",
+        printed: b"\
+            ask a1\nwait\nask a2\n.\n.\n.\n.\n.\n.\n.\nanswer a2\n.\nanswer a1\nrefused E6\n\
+            end open=0 waiting=0 run=0\n",
+        fault: "",
+    },
+    // cookie-of-odd-number
+    Row {
+        text: b"\
+            schedule 1 memb 1 2 1 1\nu1 sync\nu1 .\nu1 .\nu1 .\nu0 start\nu1 .\nu1 .\nu1 .\nu1 .\n\
+            u1 .\nu1 .\nu0 poll\nu1 sync\nu1 .\nu1 .\nu1 .\nu0 poll\nu1 .\nu1 .\nu1 .\nu1 .\nu1 .\n\
+            u0 poll\n",
+        printed: b"\
+            ask a1\n.\n.\n.\nask a2\n.\n.\n.\n.\nanswer a1\n.\nwait\nask a3\n.\n.\n.\nwait\n.\n.\n\
+            .\n.\nanswer a3\nanswer a2\nend open=0 waiting=0 run=0\n",
         fault: "",
     },
 ];
