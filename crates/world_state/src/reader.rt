@@ -104,13 +104,13 @@ impl ReaderState {
     }
 
     /// `quiescent`, first step: loads the number.
-    pub fn quiescent(self, number: u64) -> Result<ReaderStep, Refusal>
-        ensures { result ≡ quiescent_row number self }
+    pub fn quiescent(self, loaded: u64) -> Result<ReaderStep, Refusal>
+        ensures { result ≡ quiescent_row loaded self }
     {
         if !qs_is_online(self.word) {
             return Err(Refusal::NotOpen);
         }
-        Ok(self.copying(number))
+        Ok(self.copying(loaded))
     }
 
     /// `quiescent`, second step: stores the word that closes the section and opens the next one.
