@@ -2,6 +2,8 @@
 
 use super::{Answer, Config, Flavour, Layout, Line, UpdaterVerb, World};
 use rcu_model::{Event, Refusal};
+use std::alloc::Global;
+use std::process::Abort;
 
 const SMALL: Config = Config {
     layout: Layout::Narrow,
@@ -65,10 +67,25 @@ fn the_last_grace_period_is_answered(rt: HostRuntime) {
     }
 }
 
-/// Two updaters share the last grace periods; each row has the answer of so many steps.
 #[test]
-fn sequence_numbers_end(rt: HostRuntime) {
+fn the_greatest_start_leaves_no_ask(rt: HostRuntime) {
+    match World::new_at(rt.alloc(), SMALL, 4_611_686_018_427_387_904) {
+        Ok(mut world) => {
+            for verb in [UpdaterVerb::Sync, UpdaterVerb::Start] {
+                let answer = world.step(&Line::Updater(0, verb));
+                assert_eq!(rt; answer, Err(Refusal::Exhausted));
+            }
+            assert!(rt; world.log().is_empty());
+        }
+        Err(_) => assert!(rt; false),
+    }
+}
+
+/// Two updaters share the last grace periods; each row has the answer of so many steps. The plan of the flavour makes
+/// so many steps between its two stores of the sequence number.
+fn check_the_end(rt: &impl Abort, alloc: Global, flavour: Flavour, between: u32) {
     let config = Config {
+        flavour,
         updaters: 2,
         ..SMALL
     };
@@ -78,24 +95,44 @@ fn sequence_numbers_end(rt: HostRuntime) {
         (0, UpdaterVerb::Sync, 1, told(Event::Ask(1))),
         (0, UpdaterVerb::GoOn, 3, quiet),
         (1, UpdaterVerb::Sync, 1, told(Event::Ask(2))),
-        (0, UpdaterVerb::GoOn, 4, quiet),
+        (0, UpdaterVerb::GoOn, between, quiet),
         (0, UpdaterVerb::GoOn, 1, told(Event::Answer(1))),
         (0, UpdaterVerb::GoOn, 1, quiet),
         (0, UpdaterVerb::Sync, 1, exhausted),
-        (1, UpdaterVerb::GoOn, 7, quiet),
+        (1, UpdaterVerb::GoOn, 3, quiet),
+        (1, UpdaterVerb::GoOn, between, quiet),
         (1, UpdaterVerb::GoOn, 1, told(Event::Answer(2))),
         (1, UpdaterVerb::GoOn, 1, quiet),
         (0, UpdaterVerb::Start, 1, exhausted),
         (1, UpdaterVerb::Sync, 1, exhausted),
     ];
-    match World::new_at(rt.alloc(), config, 4_611_686_018_427_387_902) {
+    let log = [
+        Event::Ask(1),
+        Event::Ask(2),
+        Event::Answer(1),
+        Event::Answer(2),
+    ];
+    match World::new_at(alloc, config, 4_611_686_018_427_387_902) {
         Ok(mut world) => {
             for (updater, verb, steps, answer) in rows {
                 for _ in 0..steps {
                     assert_eq!(rt; world.step(&Line::Updater(updater, verb)), answer);
                 }
             }
+            assert_eq!(rt; world.log(), log.as_slice());
         }
         Err(_) => assert!(rt; false),
     }
+}
+
+/// With one reader, the phase is flipped, the slot scanned, and both once more.
+#[test]
+fn sequence_numbers_end(rt: HostRuntime) {
+    check_the_end(&rt, rt.alloc(), Flavour::Memb, 4);
+}
+
+/// With one reader, the number is raised and the slot scanned.
+#[test]
+fn sequence_numbers_end_in_the_quiescent_state_flavour(rt: HostRuntime) {
+    check_the_end(&rt, rt.alloc(), Flavour::Qsbr, 2);
 }
