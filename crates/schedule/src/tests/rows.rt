@@ -2,7 +2,7 @@
 
 use super::Row;
 
-pub const GOOD: [Row<'static>; 11] = [
+pub const GOOD: [Row<'static>; 12] = [
     // thin-path
     Row {
         text: b"\
@@ -108,6 +108,15 @@ pub const GOOD: [Row<'static>; 11] = [
         printed: b"\
             ask a1\n.\n.\n.\nask a2\n.\n.\n.\n.\nanswer a1\n.\nwait\nask a3\n.\n.\n.\nwait\n.\n.\n\
             .\n.\nanswer a3\nanswer a2\nend open=0 waiting=0 run=0\n",
+        fault: "",
+    },
+    // refusals-of-a-quiescent-state-reader
+    Row {
+        text: b"\
+            schedule 1 qsbr 1 1 1 1\nr0 lock\nr0 offline\nr0 online\nr0 lock\nr0 .\nr0 online\n",
+        printed: b"\
+            refused E9\nrefused E6\n.\nrefused E7\nopen r0.1\nrefused E7\n\
+            end open=1 waiting=0 run=0\n",
         fault: "",
     },
 ];
