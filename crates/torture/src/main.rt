@@ -1,6 +1,12 @@
 #![tactic(auto)]
 //! `torture`: replays schedules of atomic steps.
 
+ghost use Rattle.std.specs.Prelude.{◌≡◌};
+ghost use Rattle.std.specs.IoError.{error_kind};
+ghost use Rattle.clap.specs.Words.{kind_of};
+ghost use Rattle.torture.specs.Status.{IsStatus, status_of_words};
+ghost use Rattle.torture.specs.Words.{EndsBy};
+
 mod execution;
 mod words;
 
@@ -11,7 +17,9 @@ use words::{WordsFault, read_words};
 
 /// Tells why the words give no command: help on standard output, all else on standard error, where a write fault is
 /// passed over.
-fn tell(rt: &HostRuntime, fault: &WordsFault) -> u8 {
+fn tell(rt: &HostRuntime, fault: &WordsFault) -> u8
+    ensures { EndsBy (kind_of fault.now.error) result }
+{
     let status = fault.status();
     if status != 0 {
         let _ = rt.eprint(fault);
@@ -25,7 +33,9 @@ fn tell(rt: &HostRuntime, fault: &WordsFault) -> u8 {
 }
 
 /// Tells why the words cannot be had.
-fn tell_unreadable(rt: &HostRuntime, fault: &io::Error) -> u8 {
+fn tell_unreadable(rt: &HostRuntime, fault: &io::Error) -> u8
+    ensures { result ≡ status_of_words (error_kind fault.now) }
+{
     if fault.kind() == io::ErrorKind::InvalidData {
         let _ = rt.eprintln("error: a word is not UTF-8");
         return 2;
@@ -40,7 +50,9 @@ fn own_words(rt: &HostRuntime) -> io::Result<Vec<String>> {
 }
 
 /// Reads the words, executes their command, and answers what the program ends with.
-fn run(rt: &HostRuntime) -> u8 {
+fn run(rt: &HostRuntime) -> u8
+    ensures { IsStatus result }
+{
     let words = match own_words(rt) {
         Ok(words) => words,
         Err(fault) => return tell_unreadable(rt, &fault),

@@ -2,7 +2,7 @@
 
 ghost use Rattle.std.specs.Prelude.{◌≡◌, [], map, IfOk, IfErr};
 ghost use Rattle.clap.specs.Words.{app_of, fault_of, kind_of, FailsBy, HasKind};
-ghost use Rattle.torture.specs.Words.{torture_app, status_of_kind};
+ghost use Rattle.torture.specs.Words.{torture_app, status_of_kind, text_of_kind};
 
 use clap::error::ErrorKind;
 use clap::{ArgMatches, Command as Program, Error};
@@ -38,6 +38,8 @@ impl WordsFault {
 
 /// Writes the text for the user, with its line feeds.
 impl fmt::Display for WordsFault {
+    ghost output = { λ fault. text_of_kind (kind_of fault.error) };
+
     fn fmt<W: fmt::Write>(&self, f: &mut fmt::Formatter<W>) -> fmt::Result {
         match self.error.kind() {
             ErrorKind::OutOfMemory => f.write_str("no memory\n"),
