@@ -1,6 +1,7 @@
 //! A queue of callbacks: one list in the order of tickets, with two marks, so that it is ready, waiting, and fresh.
 
-ghost use Rattle.std.specs.Prelude.{◌≡◌, ◌+◌, ◌-◌, ◌<◌, ◌≤◌, ◌^◌, ◌↔◌, ◌++◌, true, false, [], length, vec_len, vec_capacity, IsTrue, IsOk, IfOk, IfErr, OnOk};
+ghost use Rattle.std.specs.Prelude.{◌≡◌, ◌+◌, ◌-◌, ◌<◌, ◌≤◌, ◌^◌, ◌↔◌, ◌++◌, true, false, [], length, take, drop, vec_len, vec_capacity, IsTrue, IsOk, IfOk, IfErr, OnOk};
+ghost use Rattle.std.specs.VecDeque.{deque_capacity};
 ghost use Rattle.callback_queue.specs.Queue.{empty_queue, items_of, given_of, next_ticket, with_place, push_refusal, pushed, sealed, noted, is_due, after_advance, first_of, popped, object_of_first, taken_out, segments_of, closed_queue};
 ghost use Rattle.rcu_model.specs.declared.refusal.Refusal.TheVariants.{Closed, Memory};
 
@@ -30,11 +31,10 @@ impl<J> Model for CallbackQueue<J> {
 
     ghost Value = { Queue (Item J) };
 
-    ghost use Rattle.std.specs.Prelude.{◌+◌, take, drop};
     ghost use Rattle.std.specs.VecDeque.{deque_capacity};
-    ghost use Rattle.callback_queue.specs.Layout.{IsLaidOut};
+    ghost use Rattle.callback_queue.specs.Layout.{laid_out, IsLaidOut};
 
-    ghost view = { λ q. record { gone = q.gone; ready = take q.ready q.items.items; waiting = take q.waiting (drop q.ready q.items.items); fresh = drop (q.ready + q.waiting) q.items.items; cookie = q.cookie; closed = q.closed; reserved = q.reserved } };
+    ghost view = { λ q. laid_out q.items.items q.gone q.ready q.waiting q.cookie q.closed q.reserved };
 
     ghost invariant = { λ q. IsLaidOut q.items.items (deque_capacity q.items) q.gone q.ready q.waiting q.reserved };
 }
@@ -166,11 +166,8 @@ impl<J> CallbackQueue<J> {
         ensures moved { list.new.items ≡ list.old.items ++ self.old.waiting }
         ensures left { self.new ≡ taken_out self.old }
     {
-        for _ in 0..self.waiting {
-            if let Some(item) = self.items.pop_front() {
-                list.push_reserved(item);
-            }
-        }
+        // Where items wait none are ready, so the waiting ones come first.
+        move_first(&mut self.items, self.waiting, list);
         self.gone += self.waiting as u64;
         self.waiting = 0;
         self.cookie = None;
@@ -207,5 +204,20 @@ impl<J> CallbackQueue<J> {
         ensures { result ≡ self.now.closed }
     {
         self.closed
+    }
+}
+
+/// Moves this many items from the front of the one list to the end of the other, which has room for them.
+fn move_first<T>(from: &mut VecDeque<T>, count: usize, to: &mut Vec<T>)
+    requires there { count ≤ length from.old.items }
+    requires room { vec_len to.old + count ≤ vec_capacity to.old }
+    ensures moved { to.new.items ≡ to.old.items ++ take count from.old.items }
+    ensures rest { from.new.items ≡ drop count from.old.items }
+    ensures room { deque_capacity from.new ≡ deque_capacity from.old }
+{
+    for _ in 0..count {
+        if let Some(item) = from.pop_front() {
+            to.push_reserved(item);
+        }
     }
 }
