@@ -16,6 +16,11 @@ use Rattle.call_rcu_worker.specs.declared.worker.WorkerCore.{WorkerCore}
 use Rattle.call_rcu_worker.specs.declared.worker.WorkerCore.TheVariants.{Idle, Syncs, Pops, Runs, Ran, Counts}
 use Rattle.call_rcu_worker.specs.Sync.{Telling, new_core, step_of, told_of, begun_with}
 
+-- what came of a step, and where the worker stands then
+pub record WorkerTelling (P J : Type 0) : Type 0 where
+  pub told : Told
+  pub core : WorkerCore P J
+
 module _ {P J : Type 0} where
   abbrev pub new_worker : WorkerCore P J
   new_worker = Idle
@@ -57,20 +62,15 @@ module _ {P J : Type 0} where
   item_done (Ran tickets ticket item) = Ran tickets ticket item
   item_done (Counts tickets ticket) = if nat_lt 1 tickets then Pops (tickets - 1) else Idle
 
-  -- what came of a step, and where the worker stands then
-  pub record WorkerTelling : Type 0 where
-    pub told : Told
-    pub core : WorkerCore P J
-
-  abbrev pub in_batch : ℕ → Result (Telling P) Refusal → Result WorkerTelling Refusal
+  abbrev pub in_batch : ℕ → Result (Telling P) Refusal → Result (WorkerTelling P J) Refusal
   in_batch tickets (Ok telling) = Ok (record { told = telling.told; core = synced telling.core tickets })
   in_batch tickets (Err e) = Err e
 
-  abbrev pub quiet : WorkerCore P J → Result WorkerTelling Refusal
+  abbrev pub quiet : WorkerCore P J → Result (WorkerTelling P J) Refusal
   quiet core = Ok (record { told = Quiet; core = core })
 
   -- what it makes of a step that loaded this
-  abbrev pub worker_told : (P → Action) → (P → ℕ → Turn) → (P → ℕ → P) → WorkerCore P J → ℕ → Result WorkerTelling Refusal
+  abbrev pub worker_told : (P → Action) → (P → ℕ → Turn) → (P → ℕ → P) → WorkerCore P J → ℕ → Result (WorkerTelling P J) Refusal
   worker_told action turn taken Idle loaded = quiet Idle
   worker_told action turn taken (Syncs sync tickets) loaded = in_batch tickets (told_of action turn taken sync loaded)
   worker_told action turn taken (Pops tickets) loaded = quiet (Pops tickets)
@@ -79,7 +79,7 @@ module _ {P J : Type 0} where
   worker_told action turn taken (Counts tickets ticket) loaded = quiet (item_done (Counts tickets ticket))
 
   -- the answer and the core after are those, or it was refused and is as it was
-  abbrev pub MeetsWorkerTold : Result WorkerTelling Refusal → WorkerCore P J → WorkerCore P J → Result Told Refusal → Type 0
+  abbrev pub MeetsWorkerTold : Result (WorkerTelling P J) Refusal → WorkerCore P J → WorkerCore P J → Result Told Refusal → Type 0
   MeetsWorkerTold outcome old new (Ok told) = outcome ≡ Ok (record { told = told; core = new })
   MeetsWorkerTold outcome old new (Err e) = (outcome ≡ Err e) × (new ≡ old)
 

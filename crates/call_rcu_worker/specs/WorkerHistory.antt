@@ -35,12 +35,16 @@ event_told Asked = AskMade ∷ []
 event_told Answered = AskAnswered ∷ []
 event_told Waiting = []
 
+abbrev pub event_of_job : {J : Type 0} → Option (Ticket × Item J) → List WorkerEvent
+event_of_job None = []
+event_of_job (Some given) = JobOut given.0 ∷ []
+
 module _ {P J : Type 0} where
-  abbrev pub event_of_answer : Result (WorkerTelling {P = P} {J = J}) Refusal → List WorkerEvent
+  abbrev pub event_of_answer : Result (WorkerTelling P J) Refusal → List WorkerEvent
   event_of_answer (Ok telling) = event_told telling.told
   event_of_answer (Err e) = []
 
-  abbrev pub core_of_answer : WorkerCore P J → Result (WorkerTelling {P = P} {J = J}) Refusal → WorkerCore P J
+  abbrev pub core_of_answer : WorkerCore P J → Result (WorkerTelling P J) Refusal → WorkerCore P J
   core_of_answer core (Ok telling) = telling.core
   core_of_answer core (Err e) = core
 
@@ -61,10 +65,6 @@ module _ {P J : Type 0} where
   event_of_item (Runs tickets ticket item) = ItemRun ticket ∷ []
   event_of_item (Ran tickets ticket item) = []
   event_of_item (Counts tickets ticket) = ItemCounted ticket ∷ []
-
-  abbrev pub event_of_job : Option (Ticket × Item J) → List WorkerEvent
-  event_of_job None = []
-  event_of_job (Some given) = JobOut given.0 ∷ []
 
   module _ (action : P → Action) (turn : P → ℕ → Turn) (taken : P → ℕ → P) where
     abbrev pub core_after : WorkerCore P J → WorkerCall P J → WorkerCore P J
