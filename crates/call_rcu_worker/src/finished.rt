@@ -2,7 +2,7 @@
 
 ghost use Rattle.std.specs.Prelude.{◌≡◌};
 
-use callback_queue::{Callback, Ripe, Ticket};
+use callback_queue::{Call, Callback, Ripe, Ticket};
 use rcu_model::ObjectId;
 
 /// An item whose callback was called. The code is the callback's answer.
@@ -17,7 +17,7 @@ pub struct Finished {
 pub fn run_item(ticket: Ticket, ripe: Ripe, callback: Callback) -> Finished
     ensures ticket { result.ticket ≡ ticket }
     ensures object { result.object ≡ ripe.object }
-    ensures code { post callback.call ripe result.code }
+    ensures code { ⟦<Call as FnOnce(Ripe) -> u64>⟧.post callback.call ripe result.code }
 {
     let object = ripe.object;
     let code = (callback.call)(ripe);

@@ -22,9 +22,12 @@ pub struct Ripe {
     pub payload: [u64; 4],
 }
 
-/// What is called with an object once it is ripe, and answers a code. It may be called on every `Ripe`.
+/// What is called with an object once it is ripe, and answers a code.
+pub type Call = Box<dyn FnOnce(Ripe) -> u64 + Send + Drop>;
+
+/// A call that may be made of every `Ripe`.
 #[derive(Drop)]
 pub struct Callback {
-    pub call: Box<dyn FnOnce(Ripe) -> u64 + Send + Drop>,
-    ghost callable: { (ripe : Ripe) → pre call ripe },
+    pub call: Call,
+    ghost callable: { (ripe : Ripe) → Call.pre call ripe },
 }

@@ -5,7 +5,7 @@ mod item;
 mod laws;
 mod queue;
 
-pub use item::{Callback, Item, Ripe, Ticket};
+pub use item::{Call, Callback, Item, Ripe, Ticket};
 pub use laws::items_leave_in_ticket_order;
 pub use queue::CallbackQueue;
 
