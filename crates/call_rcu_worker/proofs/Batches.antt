@@ -66,7 +66,7 @@ then_event : {tickets : ℕ} {so_far past : List WorkerEvent} (event : WorkerEve
 then_event {tickets} {so_far} event w = record {
   earlier = w.earlier;
   split = ap (λ p. p ++ event ∷ []) w.split ∙ append_assoc w.earlier (BatchTaken tickets ∷ so_far) (event ∷ []);
-  some = w.some
+  some = w.some;
 }
 
 answered : {tickets : ℕ} {past : List WorkerEvent} → WaitsSo tickets (AskMade ∷ AskAnswered ∷ []) past → IsAnswered tickets past
@@ -81,9 +81,9 @@ counted {tickets} {ticket} {past} more out =
     let done : List WorkerEvent = ItemRun ticket ∷ JobOut ticket ∷ ItemCounted ticket ∷ [] in
     let a = out.run.answered in
     let all : past ++ ItemCounted ticket ∷ [] ≡ out.run.before ++ done =
-        ap (λ p. p ++ ItemCounted ticket ∷ []) (out.split ∙ ap (λ p. p ++ JobOut ticket ∷ []) out.run.split)
-        ∙ append_assoc (out.run.before ++ ItemRun ticket ∷ []) (JobOut ticket ∷ []) (ItemCounted ticket ∷ [])
-        ∙ append_assoc out.run.before (ItemRun ticket ∷ []) (JobOut ticket ∷ ItemCounted ticket ∷ []) in
+    ap (λ p. p ++ ItemCounted ticket ∷ []) (out.split ∙ ap (λ p. p ++ JobOut ticket ∷ []) out.run.split)
+    ∙ append_assoc (out.run.before ++ ItemRun ticket ∷ []) (JobOut ticket ∷ []) (ItemCounted ticket ∷ [])
+    ∙ append_assoc out.run.before (ItemRun ticket ∷ []) (JobOut ticket ∷ ItemCounted ticket ∷ []) in
     record {
       earlier = a.earlier;
       batch = a.batch;
@@ -91,7 +91,7 @@ counted {tickets} {ticket} {past} more out =
       split = all ∙ ap (λ p. p ++ done) a.split ∙ append_assoc a.earlier (BatchTaken a.batch ∷ AskMade ∷ AskAnswered ∷ a.since) done;
       same_batch = all-append a.since done a.same_batch (tt, (tt, (tt, tt)));
       left = omega (arith, runs_in-append a.since done, a.left, more);
-      some = omega (arith, more)
+      some = omega (arith, more);
     }
 
 module _ {P J : Type 0} where
@@ -152,6 +152,7 @@ module _ {P J : Type 0} where
             Steps (core_of_answer (Syncs (waits.Runs cookie plan) tickets) answer) past (event_of_answer answer ++ [])
         over true = (tt, then_event AskAnswered fits)
         over false = fits
+
         by : (went : Turn) → let answer : Result (WorkerTelling P J) Refusal = in_batch tickets (turned action cookie plan (taken plan loaded) went) in
             Steps (core_of_answer (Syncs (waits.Runs cookie plan) tickets) answer) past (event_of_answer answer ++ [])
         by turns.Wait = fits
@@ -211,12 +212,12 @@ module _ {P J : Type 0} where
     holds core [] event after past (b ∷ before) fits e = absurd (cc)
     holds core (call ∷ calls) event after past before fits e =
         passes (core_after action turn taken core call) event after (events_of action turn taken (core_after action turn taken core call) calls)
-          (λ past' before' fits' e'. holds (core_after action turn taken core call) calls event after past' before' fits' e')
-          past (event_of action turn taken core call) before (steps core call past fits) e
+        (λ past' before' fits' e'. holds (core_after action turn taken core call) calls event after past' before' fits' e')
+        past (event_of action turn taken core call) before (steps core call past fits) e
 
     pub runs_items : (calls : List (WorkerCall P J)) → RunsItemsAfterTheirAnswer (events_of action turn taken new_worker calls)
     runs_items calls = record {
       run = λ before after ticket e. holds new_worker calls (ItemRun ticket) after [] before tt e;
       job = λ before after ticket e. holds new_worker calls (JobOut ticket) after [] before tt e;
-      count = λ before after ticket e. holds new_worker calls (ItemCounted ticket) after [] before tt e
+      count = λ before after ticket e. holds new_worker calls (ItemCounted ticket) after [] before tt e;
     }

@@ -60,7 +60,7 @@ impl<P: GracePlan + Drop, J: Drop> WorkerCore<P, J> {
     pub fn new() -> WorkerCore<P, J>
         ensures { result ≡ new_worker }
     {
-        WorkerCore::Idle
+        Self::Idle
     }
 
     /// The next step.

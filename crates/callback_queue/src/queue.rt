@@ -79,7 +79,7 @@ impl<J> CallbackQueue<J> {
         ensures err { IfErr result (λ e. (e ≡ (push_refusal self.old, item)) × (self.new ≡ self.old)) }
         ensures reserved { self.old.closed ≡ false → self.old.reserved ≡ true → IsOk result }
     {
-        if self.closed {
+        if self.is_closed() {
             return Err((Refusal::Closed, item));
         }
         if let Err(refused) = self.items.push_back(item) {
