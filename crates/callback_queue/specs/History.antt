@@ -1,5 +1,5 @@
 -- The histories of a queue, and which items have left it.
-use Rattle.std.specs.Prelude.{◌≡◌, ℕ, ◌+◌, ◌<◌, Bool, true, false, List, [], ◌∷◌, ◌++◌, length, Option, Some, None}
+use Rattle.std.specs.Prelude.{◌≡◌, ℕ, ◌+◌, ◌<◌, List, [], ◌∷◌, ◌++◌, length, Option, Some, None}
 use Rattle.callback_queue.specs.declared.item.Ticket.{Ticket}
 use Rattle.callback_queue.specs.Queue.{Queue, with_place, pushed, sealed, noted, after_advance, first_of, popped, taken_out, closed_queue}
 
