@@ -55,7 +55,7 @@ impl<P: GracePlan + Drop> SyncCore<P> {
     pub fn new() -> SyncCore<P>
         ensures { result ≡ new_core }
     {
-        SyncCore::Asks
+        Self::Asks
     }
 
     /// The next step.

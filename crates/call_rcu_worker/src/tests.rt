@@ -1,8 +1,10 @@
-//! A whole wait for a grace period, over the plan of the general-purpose flavour.
+//! A whole wait for a grace period, and a whole batch of a worker, over the plan of the general-purpose flavour.
 
-use crate::{SyncCore, SyncStep, Told};
+use crate::{Finished, SyncCore, SyncStep, Told, WorkerCore, WorkerStep, run_item};
+use callback_queue::{Callback, CallbackQueue, Item, Ripe, Ticket};
 use gp_memb::{Action, GracePlan, MembPlan};
-use rcu_model::Refusal;
+use poll_cookie::cookie_of;
+use rcu_model::{ObjectId, Refusal};
 
 #[test]
 fn no_reader_in_the_way(rt: HostRuntime) {
@@ -52,4 +54,105 @@ fn an_ask_too_late(rt: HostRuntime) {
         Err(Refusal::Exhausted)
     );
     assert_eq!(rt; core.next(), SyncStep::Ask);
+}
+
+type Worker = WorkerCore<MembPlan, u64>;
+
+fn item(object: u64) -> Item<u64> {
+    Item {
+        object: ObjectId(object),
+        job: u64::MAX - object,
+    }
+}
+
+/// Hands over an item where the worker asks for one.
+fn hold_where_due(worker: &mut Worker, popped: Option<(Ticket, Item<u64>)>) -> bool {
+    let Some((ticket, item)) = popped else {
+        return false;
+    };
+    if let WorkerStep::Pop = worker.next() {
+        worker.hold(ticket, item);
+        return true;
+    }
+    false
+}
+
+#[test]
+fn a_batch_of_two(rt: HostRuntime) {
+    let mut queue = CallbackQueue::new(rt.alloc());
+    assert_eq!(rt; queue.push(item(1)), Ok(Ticket(1)));
+    assert_eq!(rt; queue.push(item(2)), Ok(Ticket(2)));
+    let mut worker: Worker = WorkerCore::new();
+    assert_eq!(rt; worker.next(), WorkerStep::Take);
+    worker.took(queue.seal());
+    let ten_steps = [
+        (SyncStep::Ask, Told::Asked),
+        (SyncStep::TakeLock, Told::Quiet),
+        (SyncStep::Check, Told::Quiet),
+        (SyncStep::Plan(Action::StoreSeq(1)), Told::Quiet),
+        (SyncStep::Plan(Action::StorePhase(1)), Told::Quiet),
+        (SyncStep::Plan(Action::Load(0)), Told::Quiet),
+        (SyncStep::Plan(Action::StorePhase(0)), Told::Quiet),
+        (SyncStep::Plan(Action::Load(0)), Told::Quiet),
+        (SyncStep::Plan(Action::StoreSeq(2)), Told::Answered),
+        (SyncStep::FreeLock, Told::Quiet),
+    ];
+    for (step, told) in ten_steps {
+        if worker.next() == WorkerStep::Sync(SyncStep::Begin) {
+            worker.begin(MembPlan::start(1, 0, 0));
+        }
+        assert_eq!(rt; worker.next(), WorkerStep::Sync(step));
+        assert_eq!(rt; worker.told(0), Ok(told));
+    }
+    queue.note(cookie_of(0).expect(&rt, "0 is below 2^62"));
+    assert!(rt; queue.advance(2));
+    for object in 1..3 {
+        let ticket = Ticket(object);
+        assert!(rt; hold_where_due(&mut worker, queue.pop_ready()));
+        assert_eq!(rt; worker.next(), WorkerStep::Run);
+        assert_eq!(rt; worker.object(), Some(ObjectId(object)));
+        assert_eq!(rt; worker.job().copied(), Some(u64::MAX - object));
+        assert_eq!(rt; worker.give_out(), None);
+        assert_eq!(rt; worker.told(0), Ok(Told::Quiet));
+        assert_eq!(rt; worker.next(), WorkerStep::Call);
+        assert_eq!(rt; worker.job().copied(), None);
+        assert_eq!(rt; worker.give_out(), Some((ticket, item(object))));
+        assert_eq!(rt; worker.give_out(), None);
+        assert_eq!(rt; worker.next(), WorkerStep::Count(ticket));
+        assert_eq!(rt; worker.told(0), Ok(Told::Quiet));
+    }
+    assert_eq!(rt; worker.next(), WorkerStep::Take);
+}
+
+#[test]
+fn nothing_taken(rt: HostRuntime) {
+    let mut worker: Worker = WorkerCore::new();
+    worker.took(0);
+    assert_eq!(rt; worker.next(), WorkerStep::Take);
+}
+
+#[test]
+fn a_batch_too_late(rt: HostRuntime) {
+    let mut worker: Worker = WorkerCore::new();
+    worker.took(1);
+    assert_eq!(rt;
+        worker.told(4_611_686_018_427_387_904),
+        Err(Refusal::Exhausted)
+    );
+    assert_eq!(rt; worker.next(), WorkerStep::Sync(SyncStep::Ask));
+}
+
+#[test]
+fn code_of_a_callback(rt: HostRuntime) {
+    let call = Box::new(rt.alloc(), |ripe: Ripe| ripe.payload[0]).expect(&rt, "ample memory");
+    let ripe = Ripe {
+        object: ObjectId(1),
+        payload: [5, 0, 0, 0],
+    };
+    let finished = Finished {
+        ticket: Ticket(1),
+        object: ObjectId(1),
+        code: 5,
+    };
+    assert_eq!(rt; run_item(Ticket(1), ripe, Callback { call }), finished);
 }
