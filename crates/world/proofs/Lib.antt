@@ -4,6 +4,7 @@ pub mod State
 pub mod KeptReaders
 pub mod KeptReading
 pub mod KeptPublishing
+pub mod Asking
 pub mod KeptWaiting
 pub mod Logged
 pub mod TheLaws

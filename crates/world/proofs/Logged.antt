@@ -33,13 +33,15 @@ use Rattle.world_state.proofs.Writes.{no_object}
 use Rattle.world_state.proofs.Linking.{word_of}
 use Rattle.world_state.proofs.Reading.{ReaderKept, not_new}
 use Rattle.world.specs.Chains.{linked_by}
-use Rattle.world.specs.Lines.{updater_on, updater_begins, is_idle, updater_line, of_updater, worker_line, change_of, with_change, outcome_of, world_after}
+use Rattle.world_state.specs.declared.updater.Holder.TheVariants as holder
+use Rattle.world.specs.Lines.{synced, updater_on, updater_begins, is_idle, updater_line, of_updater, worker_line, change_of, with_change, outcome_of, world_after}
 use Rattle.world.specs.Shown.{CanStart, IsInRange}
 use Rattle.world.proofs.Fence.{Work, Rests, Starts, Runs, Pending, Holds, Laws, even_at}
 use Rattle.world.proofs.State.{Asker, Syncing, Polling, Working, decide_asker, place_work, started_work, work_of, holder_of, UpdaterKept, Kept, Owes}
 use Rattle.world.proofs.KeptReading.{kept_reader}
 use Rattle.world.proofs.KeptPublishing.{There, there, owes_push, owes_replace, owes_cut, owes_pushed, owes_replaced}
-use Rattle.world.proofs.KeptWaiting.{owes_ask, owes_sync, owes_start, owes_poll}
+use Rattle.world.proofs.Asking.{owes_ask, owes_sync}
+use Rattle.world.proofs.KeptWaiting.{syncing, owes_start, owes_poll}
 
 append_none : {X : Type 0} (xs : List X) → xs ≡ xs ++ []
 append_none [] = refl
@@ -70,13 +72,13 @@ module _ {P : Type 0} (plans : Plans P) (layout : Layout) (slots : ℕ) (laws : 
     kept_on u x (Publishes (publishing.Replace o m)) is t =
         owes_replaced plans layout slots laws w now k u x o m t (ap place_work is) (subst (UpdaterKept w.heads w.objects (length w.updaters) u) is t.mine) (slice_get w.objects o.0) refl
     kept_on u x (Syncs ask place) is t =
-        owes_sync plans layout slots laws w now k u x ask t place (its_work u x t ∙ ap place_work is) (subst (UpdaterKept w.heads w.objects (length w.updaters) u) is t.mine)
+        owes_sync plans layout slots laws w now k (holder.Updater u) ask (λ r. OwesNow (synced plans u x ask r)) (syncing plans layout slots laws w now k u x ask t) place (its_work u x t ∙ ap place_work is) (subst (UpdaterKept w.heads w.objects (length w.updaters) u) is t.mine)
 
     kept_begins : (u : ℕ) (x : UpdaterState P) (verb : UpdaterVerb) → x.place ≡ Idle → There plans layout slots laws w now k u x → OwesNow (updater_begins plans w u x verb)
     kept_begins u x (updater.Push c) is t = owes_push plans layout slots laws w now k u x c t (ap place_work is) (slice_get w.heads c) refl
     kept_begins u x (updater.Replace o) is t = owes_replace plans layout slots laws w now k u x o t (ap place_work is) (linked_by w u (slice_get w.objects o.0)) refl
     kept_begins u x (updater.Cut o) is t = owes_cut plans layout slots laws w now k u x o t is (linked_by w u (slice_get w.objects o.0)) refl
-    kept_begins u x updater.Sync is t = owes_ask plans layout slots laws w now k u x (w.grace.asks + 1) t (its_work u x t ∙ ap place_work is) refl
+    kept_begins u x updater.Sync is t = owes_ask plans layout slots laws w now k (holder.Updater u) (w.grace.asks + 1) (λ r. OwesNow (synced plans u x (w.grace.asks + 1) r)) (syncing plans layout slots laws w now k u x (w.grace.asks + 1) t) (its_work u x t ∙ ap place_work is) refl
     kept_begins u x updater.Start is t = owes_start plans layout slots laws w now k u x t
     kept_begins u x updater.Poll is t = owes_poll plans layout slots laws w now k u x t x.started refl
     kept_begins u x updater.GoOn is t = tt

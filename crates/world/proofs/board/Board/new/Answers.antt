@@ -1,9 +1,9 @@
-use Rattle.std.proofs.Common.{rules, ◌≡◌, refl, sym, ap, ap₂, ◌∙◌, List, Option, Some, None, cond, replicate}
+use Rattle.std.proofs.Common.{◌≡◌, refl, ap₂, Option, Some, None}
 use Rattle.world_state.specs.declared.updater.Started.{Started}
 use Rattle.world_state.specs.declared.updater.UpdaterState.{UpdaterState}
 use Rattle.world_state.specs.declared.updater.UpdaterPlace.{UpdaterPlace}
 use Rattle.world_state.specs.declared.updater.UpdaterPlace.TheVariants.{Idle, Publishes, Syncs}
-use Rattle.world_state.specs.View.{BoardView, idle, fresh_at}
+use Rattle.world_state.specs.View.{idle}
 use Rattle.world.proofs.board.Board.new.Goals as goal
 
 abbrev IsIdle : {P : Type 0} → UpdaterPlace P → Type 0
