@@ -69,9 +69,12 @@ without_first q (item ∷ items) = record q { gone = q.gone + 1; ready = items }
 abbrev pub popped : {T : Type 0} → Queue T → Queue T
 popped q = without_first q q.ready
 
-abbrev pub object_of_first : {J : Type 0} → List (Item J) → Option ObjectId
-object_of_first [] = None
-object_of_first (item ∷ items) = Some item.object
+abbrev pub object_with : {J : Type 0} → ℕ → List (Item J) → Option (Ticket × ObjectId)
+object_with ticket [] = None
+object_with ticket (item ∷ items) = Some (record { 0 = ticket }, item.object)
+
+abbrev pub object_of_first : {J : Type 0} → Queue (Item J) → Option (Ticket × ObjectId)
+object_of_first q = object_with (q.gone + 1) q.ready
 
 -- the waiting items have left, and their cookie is spent
 abbrev pub taken_out : {T : Type 0} → Queue T → Queue T

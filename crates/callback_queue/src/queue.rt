@@ -149,15 +149,15 @@ impl<J> CallbackQueue<J> {
         Some((Ticket(self.gone), item))
     }
 
-    /// The object of the first ready item.
-    pub fn first_ready(&self) -> Option<ObjectId>
-        ensures { result ≡ object_of_first self.now.ready }
+    /// The ticket and the object of the first ready item.
+    pub fn first_ready(&self) -> Option<(Ticket, ObjectId)>
+        ensures { result ≡ object_of_first self.now }
     {
         if self.ready == 0 {
             return None;
         }
         let first = self.items.front()?;
-        Some(first.object)
+        Some((Ticket(self.gone + 1), first.object))
     }
 
     /// Moves the waiting items, in order, to the end of a list that has room for them, and spends their cookie.

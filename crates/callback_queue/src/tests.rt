@@ -27,7 +27,7 @@ fn segments(rt: HostRuntime) {
     assert!(rt; !queue.advance(1));
     assert!(rt; queue.advance(2));
     assert_eq!(rt; queue.segments(), (3, 0, 1));
-    assert_eq!(rt; queue.first_ready(), Some(ObjectId(1)));
+    assert_eq!(rt; queue.first_ready(), Some((Ticket(1), ObjectId(1))));
     assert_eq!(rt; queue.pop_ready(), Some((Ticket(1), item(1))));
     assert_eq!(rt; queue.segments(), (2, 0, 1));
     assert_eq!(rt; queue.given(), 4);
