@@ -121,7 +121,7 @@ module _ {P : Type 0} (plans : Plans P) (layout : Layout) (slots : ℕ) (laws : 
         reached : s.cookie ≤ w.grace.seq → Owes plans layout slots laws w now (Ok (Grace u (record x { started = None }) w.grace (Events (events.Answer s.ask) None)))
         reached up =
             let step = reached_kept plans layout slots laws w now k (Polling u) Rests s.ask s.cookie pending up
-                (λ works' t'. part_polled plans layout slots laws decide_asker (holder_of w.grace.holder) (work_of w.updaters) works' (word_at w.readers) w.grace.asks w.grace.seq w.grace.word now.asked now.answered now.asked_sections now.sections (Polling u) s.ask s.cookie waits t' k.part) in (
+            (λ works' t'. part_polled plans layout slots laws decide_asker (holder_of w.grace.holder) (work_of w.updaters) works' (word_at w.readers) w.grace.asks w.grace.seq w.grace.word now.asked now.answered now.asked_sections now.sections (Polling u) s.ask s.cookie waits t' k.part) in (
               step.allowed,
               set None w.grace (Events (events.Answer s.ask) None) now.asked (s.ask ∷ now.answered) now.asked_sections step,
             )
