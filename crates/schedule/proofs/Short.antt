@@ -47,12 +47,15 @@ updater_short : (v : UpdaterVerb) → IsUpdaterVerb v → length (updater_verb v
 updater_short (updater.Push c) h = with_number (codes "push c") c (omega arith) h
 updater_short (updater.Replace o) h = with_number (codes "replace o") o.0 (omega arith) h
 updater_short (updater.Cut o) h = with_number (codes "cut o") o.0 (omega arith) h
+updater_short (updater.Retire o) h = with_number (codes "retire o") o.0 (omega arith) h
 updater_short updater.Sync h = omega arith
 updater_short updater.Start h = omega arith
 updater_short updater.Poll h = omega arith
+updater_short updater.Barrier h = omega arith
 updater_short updater.GoOn h = omega arith
 
 worker_short : (v : WorkerVerb) → length (worker_verb v) ≤ 20
+worker_short worker.Take = omega arith
 worker_short worker.GoOn = omega arith
 
 actor_short : (a : ℕ) (n : ℕ) (verb : List ℕ) → IsNumber n → length verb ≤ 20 → length ((a ∷ []) ++ decimal n ++ 32 ∷ [] ++ verb) ≤ 31

@@ -125,23 +125,29 @@ replace_of n = updater.Replace (object n)
 abbrev cut_of : ℕ → UpdaterVerb
 cut_of n = updater.Cut (object n)
 
+abbrev retire_of : ℕ → UpdaterVerb
+retire_of n = updater.Retire (object n)
+
 abbrev UpdaterRest : UpdaterWord → UpdaterVerb → List ℕ → Type 0
 UpdaterRest (updater_words.Whole verb) = Done verb
 UpdaterRest updater_words.PushTo = Argument updater.Push
 UpdaterRest updater_words.ReplaceOf = Argument replace_of
 UpdaterRest updater_words.CutOf = Argument cut_of
+UpdaterRest updater_words.RetireOf = Argument retire_of
 
 updater_rest_reads : (w : UpdaterWord) → Reads (UpdaterRest w) (updater_rest w)
 updater_rest_reads (updater_words.Whole verb) = done_reads verb
 updater_rest_reads updater_words.PushTo = argument_reads updater.Push
 updater_rest_reads updater_words.ReplaceOf = argument_reads replace_of
 updater_rest_reads updater_words.CutOf = argument_reads cut_of
+updater_rest_reads updater_words.RetireOf = argument_reads retire_of
 
 updater_rest_some : (w : UpdaterWord) → (v : UpdaterVerb) × (text : List ℕ) × UpdaterRest w v text
 updater_rest_some (updater_words.Whole verb) = (verb, [], (refl, refl))
 updater_rest_some updater_words.PushTo = some_argument updater.Push
 updater_rest_some updater_words.ReplaceOf = some_argument replace_of
 updater_rest_some updater_words.CutOf = some_argument cut_of
+updater_rest_some updater_words.RetireOf = some_argument retire_of
 
 abbrev pub UpdaterText : UpdaterVerb → List ℕ → Type 0
 UpdaterText verb text = IsUpdaterVerb verb × (text ≡ updater_verb verb)
@@ -159,7 +165,10 @@ updater_rows = (
     after_argument replace_of IsUpdaterVerb updater_verb (codes "replace o") (λ n h. (h, refl)),
     (
       after_argument cut_of IsUpdaterVerb updater_verb (codes "cut o") (λ n h. (h, refl)),
-      (whole_updater updater.Sync tt, (whole_updater updater.Start tt, (whole_updater updater.Poll tt, (whole_updater updater.GoOn tt, tt)))),
+      (
+        after_argument retire_of IsUpdaterVerb updater_verb (codes "retire o") (λ n h. (h, refl)),
+        (whole_updater updater.Sync tt, (whole_updater updater.Start tt, (whole_updater updater.Poll tt, (whole_updater updater.Barrier tt, (whole_updater updater.GoOn tt, tt))))),
+      ),
     ),
   ),
 )
@@ -176,10 +185,12 @@ updater_unspelled : (verb : UpdaterVerb) (text : List ℕ) → UpdaterText verb 
 updater_unspelled (updater.Push n) text s = (updater_words.PushTo, codes "push c", decimal n ++ 10 ∷ [], inl (refl, refl), argument_is updater.Push n s.0, s.1)
 updater_unspelled (updater.Replace o) text s = (updater_words.ReplaceOf, codes "replace o", decimal o.0 ++ 10 ∷ [], inr (inl (refl, refl)), argument_is replace_of o.0 s.0, s.1)
 updater_unspelled (updater.Cut o) text s = (updater_words.CutOf, codes "cut o", decimal o.0 ++ 10 ∷ [], inr (inr (inl (refl, refl))), argument_is cut_of o.0 s.0, s.1)
-updater_unspelled updater.Sync text s = updater_whole updater.Sync text (inr (inr (inr (inl (refl, refl))))) s.1
-updater_unspelled updater.Start text s = updater_whole updater.Start text (inr (inr (inr (inr (inl (refl, refl)))))) s.1
-updater_unspelled updater.Poll text s = updater_whole updater.Poll text (inr (inr (inr (inr (inr (inl (refl, refl))))))) s.1
-updater_unspelled updater.GoOn text s = updater_whole updater.GoOn text (inr (inr (inr (inr (inr (inr (inl (refl, refl)))))))) s.1
+updater_unspelled (updater.Retire o) text s = (updater_words.RetireOf, codes "retire o", decimal o.0 ++ 10 ∷ [], inr (inr (inr (inl (refl, refl)))), argument_is retire_of o.0 s.0, s.1)
+updater_unspelled updater.Sync text s = updater_whole updater.Sync text (inr (inr (inr (inr (inl (refl, refl)))))) s.1
+updater_unspelled updater.Start text s = updater_whole updater.Start text (inr (inr (inr (inr (inr (inl (refl, refl))))))) s.1
+updater_unspelled updater.Poll text s = updater_whole updater.Poll text (inr (inr (inr (inr (inr (inr (inl (refl, refl)))))))) s.1
+updater_unspelled updater.Barrier text s = updater_whole updater.Barrier text (inr (inr (inr (inr (inr (inr (inr (inl (refl, refl))))))))) s.1
+updater_unspelled updater.GoOn text s = updater_whole updater.GoOn text (inr (inr (inr (inr (inr (inr (inr (inr (inl (refl, refl)))))))))) s.1
 
 pub updater_verb_reads : Reads UpdaterText updater_verb_at
 unfolding updater_verb_at
@@ -193,11 +204,12 @@ abbrev pub WorkerText : WorkerVerb → List ℕ → Type 0
 WorkerText verb text = text ≡ worker_verb verb
 
 worker_spelled : (verb : WorkerVerb) (text : List ℕ) → InTable worker_words verb text → WorkerText verb text
-worker_spelled verb text i = each_row (λ w v. w ≡ worker_verb v) worker_words verb text (refl, tt) i
+worker_spelled verb text i = each_row (λ w v. w ≡ worker_verb v) worker_words verb text (refl, (refl, tt)) i
 
 worker_unspelled : (verb : WorkerVerb) (text : List ℕ) → WorkerText verb text → InTable worker_words verb text
-worker_unspelled worker.GoOn text e = inl (sym e, refl)
+worker_unspelled worker.Take text e = inl (sym e, refl)
+worker_unspelled worker.GoOn text e = inr (inl (sym e, refl))
 
 pub worker_verb_reads : Reads WorkerText worker_verb_at
 unfolding worker_verb_at
-worker_verb_reads = reads_as (table_reads worker_words refl (worker.GoOn, codes ".\n", inl (refl, refl))) worker_spelled worker_unspelled
+worker_verb_reads = reads_as (table_reads worker_words refl (worker.Take, codes "take\n", inl (refl, refl))) worker_spelled worker_unspelled

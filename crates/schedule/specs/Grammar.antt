@@ -61,6 +61,7 @@ updater_rest (updater_words.Whole verb) text = done verb text
 updater_rest updater_words.PushTo text = argument_at updater.Push text
 updater_rest updater_words.ReplaceOf text = argument_at (λ n. updater.Replace (object n)) text
 updater_rest updater_words.CutOf text = argument_at (λ n. updater.Cut (object n)) text
+updater_rest updater_words.RetireOf text = argument_at (λ n. updater.Retire (object n)) text
 
 unfoldable pub reader_verb_at : List ℕ → Reading ReaderVerb
 reader_verb_at text = word_at reader_words_of text >>= λ w. reader_rest w.0 w.1

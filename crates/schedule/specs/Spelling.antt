@@ -25,12 +25,15 @@ abbrev pub updater_verb : UpdaterVerb → List ℕ
 updater_verb (updater.Push c) = codes "push c" ++ decimal c ++ codes "\n"
 updater_verb (updater.Replace o) = codes "replace o" ++ decimal o.0 ++ codes "\n"
 updater_verb (updater.Cut o) = codes "cut o" ++ decimal o.0 ++ codes "\n"
+updater_verb (updater.Retire o) = codes "retire o" ++ decimal o.0 ++ codes "\n"
 updater_verb updater.Sync = codes "sync\n"
 updater_verb updater.Start = codes "start\n"
 updater_verb updater.Poll = codes "poll\n"
+updater_verb updater.Barrier = codes "barrier\n"
 updater_verb updater.GoOn = codes ".\n"
 
 abbrev pub worker_verb : WorkerVerb → List ℕ
+worker_verb worker.Take = codes "take\n"
 worker_verb worker.GoOn = codes ".\n"
 
 abbrev pub spelling : Line → List ℕ
@@ -50,6 +53,7 @@ abbrev pub IsUpdaterVerb : UpdaterVerb → Type 0
 IsUpdaterVerb (updater.Push c) = IsNumber c
 IsUpdaterVerb (updater.Replace o) = IsNumber o.0
 IsUpdaterVerb (updater.Cut o) = IsNumber o.0
+IsUpdaterVerb (updater.Retire o) = IsNumber o.0
 IsUpdaterVerb _ = Unit {0}
 
 abbrev pub IsLine : Line → Type 0

@@ -48,6 +48,10 @@ fn updater_verb(text: &[u8]) -> Result<(UpdaterVerb, &[u8]), &[u8]>
             let (object, rest) = number(b'\n', rest)?;
             Ok((UpdaterVerb::Cut(ObjectId(u64::from(object))), rest))
         }
+        UpdaterWord::RetireOf => {
+            let (object, rest) = number(b'\n', rest)?;
+            Ok((UpdaterVerb::Retire(ObjectId(u64::from(object))), rest))
+        }
     }
 }
 

@@ -2,6 +2,7 @@
 
 mod paced;
 mod rows;
+mod verbs;
 
 use super::*;
 use rcu_model::{Event, ObjectId, SectionId};
@@ -102,7 +103,7 @@ fn check_row(rt: &impl Abort, alloc: Global, row: &Row) -> Result<(), Fail> {
     Ok(())
 }
 
-const ROWS: [Row<'static>; 16] = [
+const ROWS: [Row<'static>; 17] = [
     Row {
         text: b"schedule 1 memb 1 1 1 1\n",
         printed: b"end open=0 waiting=0 run=0\n",
@@ -182,6 +183,15 @@ const ROWS: [Row<'static>; 16] = [
         text: b"schedule 1 memb 1 1 1 1\nr0 lock\nu0 push c0\nr0 lo",
         printed: b".\n.\n",
         fault: "line 4 column 6: bad text",
+    },
+    // refused-and-truncated
+    Row {
+        text: b"\
+            schedule 1 memb 1 1 1 1\nr0 unlock\nr9 lock\nu0 push c0\nu0 .\nu0 retire o1\nu0 .\n\
+            r0 online\nr0 lo",
+        printed: b"\
+            refused E6\nrefused E12\n.\npush c0 o1\nrefused E8\nrefused E6\nrefused E9\n",
+        fault: "line 9 column 6: bad text",
     },
 ];
 
@@ -328,7 +338,7 @@ fn a_whole_schedule_is_read(rt: HostRuntime) -> Result<(), Fail> {
         read_line(b"u0 cut o0\n"),
         Ok(Line::Updater(0, UpdaterVerb::Cut(ObjectId(0))))
     );
-    assert_eq!(rt; read_line(b"w0 take\n"), Err(TextFault { column: 4 }));
+    assert_eq!(rt; read_line(b"w0 push c0\n"), Err(TextFault { column: 4 }));
     Ok(())
 }
 

@@ -25,6 +25,7 @@ pub enum UpdaterWord {
     PushTo,
     ReplaceOf,
     CutOf,
+    RetireOf,
 }
 
 pub const LAYOUTS: [(&[u8], Layout); 2] = [
@@ -52,14 +53,19 @@ pub const READER_WORDS: [(&[u8], ReaderWord); 9] = [
     (b".\n", ReaderWord::Whole(ReaderVerb::GoOn)),
 ];
 
-pub const UPDATER_WORDS: [(&[u8], UpdaterWord); 7] = [
+pub const UPDATER_WORDS: [(&[u8], UpdaterWord); 9] = [
     (b"push c", UpdaterWord::PushTo),
     (b"replace o", UpdaterWord::ReplaceOf),
     (b"cut o", UpdaterWord::CutOf),
+    (b"retire o", UpdaterWord::RetireOf),
     (b"sync\n", UpdaterWord::Whole(UpdaterVerb::Sync)),
     (b"start\n", UpdaterWord::Whole(UpdaterVerb::Start)),
     (b"poll\n", UpdaterWord::Whole(UpdaterVerb::Poll)),
+    (b"barrier\n", UpdaterWord::Whole(UpdaterVerb::Barrier)),
     (b".\n", UpdaterWord::Whole(UpdaterVerb::GoOn)),
 ];
 
-pub const WORKER_WORDS: [(&[u8], WorkerVerb); 1] = [(b".\n", WorkerVerb::GoOn)];
+pub const WORKER_WORDS: [(&[u8], WorkerVerb); 2] = [
+    (b"take\n", WorkerVerb::Take),
+    (b".\n", WorkerVerb::GoOn),
+];

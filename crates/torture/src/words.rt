@@ -64,9 +64,12 @@ The first line is the header: `schedule 1 memb R U W C` for narrow reader words 
   r0 touch                   read the record loaded last
   u0 push c0                 updater 0 puts a new record at the front of chain 0
   u0 replace o1, u0 cut o1   put a new record in the place of record 1, take record 1 out
+  u0 retire o1               queue record 1, which is out of its chain, to be reclaimed
   u0 sync                    wait for a grace period
   u0 start, u0 poll          take a cookie, ask whether a grace period has passed since
-  r0 ., u0 .                 go on with what the line before began
+  u0 barrier                 wait until all that is queued has been reclaimed
+  w0 take                    worker 0 takes what is queued, waits for a grace period and reclaims it
+  r0 ., u0 ., w0 .           go on with what an earlier line of the same actor began
 
 Exit status: 0 good, 2 a bad schedule or bad words, 3 a fault of reading, writing or memory.";
 

@@ -31,7 +31,7 @@ use Rattle.world_state.specs.Readers.{new_reader}
 use Rattle.world_state.specs.View.{Plans, BoardView, told}
 use Rattle.world_state.proofs.Writes.{get_past, past_or_within}
 use Rattle.world.specs.declared.grace.GraceStep.{GraceStep}
-use Rattle.world.specs.Grace.{stepped, loaded_word, action_row, hold_row, plan_now, grace_row}
+use Rattle.world.specs.Grace.{stepped, loaded_word, action_effect, lock_effect, done_with, plan_now, grace_row}
 use Rattle.world.proofs.Fence.{Work, Rests, Waits, Checks, Starts, Runs, Frees, Pending, RunsNone, Laws, Sets, Running, cookie-above, cookie-near, cookie-even}
 use Rattle.world.proofs.Periods.{Part, Marks, reached_empty, part_asked, part_locked, part_answered, part_checked, part_freed, part_turned, part_begun, part_ended}
 use Rattle.world.proofs.State.{Asker, decide_asker, asker_of, core_work, work_of, holder_of, word_at, IsUnderWay, Kept, marks_of}
@@ -42,7 +42,7 @@ module _ {P : Type 0} (plans : Plans P) (layout : Layout) (slots : ℕ) (laws : 
   words = word_at w.readers
 
   abbrev works : Asker → Work P
-  works = work_of w.updaters
+  works = work_of w.updaters w.workers
 
   abbrev pub PartOf : Option Asker → (Asker → Work P) → ℕ → ℕ → ℕ → List ℕ → List ℕ → (ℕ → List SectionId) → Type 0
   PartOf held works' asks seq number asked answered awaited = Part plans layout slots laws decide_asker held works' words asks seq number asked answered awaited now.sections
@@ -147,22 +147,22 @@ module _ {P : Type 0} (plans : Plans P) (layout : Layout) (slots : ℕ) (laws : 
       by true (inl y) e = absurd (below_seq (2 ^ 62) y.1 e)
 
   -- what is owed of a step of this ask, by what comes of it
-  abbrev pub IsOn : SyncCore P → Type 0
-  IsOn core.Asks = ⊥
-  IsOn (core.Waits c) = ⊥
-  IsOn (core.Checks c) = Unit {0}
-  IsOn (core.Starts c) = Unit {0}
-  IsOn (core.Runs c p) = Unit {0}
-  IsOn core.Frees = ⊥
-  IsOn core.Done = Unit {0}
+  abbrev pub IsOn : Asker → SyncCore P → Type 0
+  IsOn y core.Asks = ⊥
+  IsOn y (core.Waits c) = ⊥
+  IsOn y (core.Checks c) = Unit {0}
+  IsOn y (core.Starts c) = Unit {0}
+  IsOn y (core.Runs c p) = Unit {0}
+  IsOn y core.Frees = ⊥
+  IsOn y core.Done = works y ≡ Frees
 
   pub record Owing (y : Asker) (ask : ℕ) (Owed : Result (GraceStep P) Refusal → Type 0) : Type 0 where
     pub refused : (e : Refusal) → Owed (Err e)
     pub stays : (place : SyncCore P) (grace : GraceState) → Owed (Ok (record { core = place; grace = grace; answer = Wait }))
     pub blocks : (place : SyncCore P) (grace : GraceState) → Owed (Ok (record { core = place; grace = grace; answer = Blocked }))
-    pub goes : (place : SyncCore P) (grace : GraceState) → IsOn place → ((a c : ℕ) → Pending (core_work ask place) a c → Pending (works y) a c) →
+    pub goes : (place : SyncCore P) (grace : GraceState) → IsOn y place → ((a c : ℕ) → Pending (core_work ask place) a c → Pending (works y) a c) →
         StepKept y (core_work ask place) grace Quiet now.asked now.answered now.asked_sections → Owed (Ok (record { core = place; grace = grace; answer = Quiet }))
-    pub asks : (c : ℕ) (grace : GraceState) → ask ≡ w.grace.asks + 1 →
+    pub asks : (c : ℕ) (grace : GraceState) → works y ≡ Rests → ask ≡ w.grace.asks + 1 →
         StepKept y (Waits ask c) grace (Events (events.Ask ask) None) (ask ∷ now.asked) now.answered (at_number ask now.sections now.asked_sections) →
         Owed (Ok (record { core = core.Waits c; grace = grace; answer = Events (events.Ask ask) None }))
     pub answers : (c : ℕ) (grace : GraceState) → Pending (works y) ask c → c ≤ grace.seq → now.asked_sections ask ≡ [] →
@@ -188,7 +188,7 @@ module _ {P : Type 0} (plans : Plans P) (layout : Layout) (slots : ℕ) (laws : 
         c = even_below (w.grace.seq + 3)
 
         done : w.grace.seq < 2 ^ 62 → Owed (Ok (record { core = core.Waits c; grace = record w.grace { asks = ask }; answer = Events (events.Ask ask) None }))
-        done below = o.asks c (record w.grace { asks = ask }) is
+        done below = o.asks c (record w.grace { asks = ask }) rests is
             (subst (λ n. StepKept y (Waits n c) (record w.grace { asks = n }) (Events (events.Ask n) None) (n ∷ now.asked) now.answered (at_number n now.sections now.asked_sections)) (sym is)
             (asked_kept y (rests_runs (works y) rests) below))
 
@@ -209,7 +209,7 @@ module _ {P : Type 0} (plans : Plans P) (layout : Layout) (slots : ℕ) (laws : 
     same_pending v a c b d is h e = subst (λ n. Pending (works y) n d) e.0 (subst (λ n. Pending (works y) a n) e.1 (pending_at y v a c is h))
 
     -- the lock
-    owes_lock : (c : ℕ) → works y ≡ Waits ask c → (held : Option Holder) → w.grace.holder ≡ held → Owed (hold_row plans w me ask (core.Waits c) held)
+    owes_lock : (c : ℕ) → works y ≡ Waits ask c → (held : Option Holder) → w.grace.holder ≡ held → Owed (done_with plans w ask (core.Waits c) (lock_effect w me held))
     owes_lock c is (Some other) free = o.blocks (core.Waits c) w.grace
     owes_lock c is None free = o.goes (core.Checks c) (record w.grace { holder = Some me }) tt
         (λ b d e. same_pending (Waits ask c) ask c b d is (refl, refl) e)
@@ -243,7 +243,7 @@ module _ {P : Type 0} (plans : Plans P) (layout : Layout) (slots : ℕ) (laws : 
 
     -- the lock is freed
     owes_free : works y ≡ Frees → Owed (grace_row plans w me ask core.Frees)
-    owes_free is = o.goes core.Done (record w.grace { holder = None }) tt (λ b d h. absurd h)
+    owes_free is = o.goes core.Done (record w.grace { holder = None }) is (λ b d h. absurd h)
         (quietly Rests (record w.grace { holder = None }) steady k.phase_low k.seq_low refl
         (λ works' s. part_freed plans layout slots laws decide_asker (holder_of w.grace.holder) works works' words w.grace.asks w.grace.seq w.grace.word now.asked now.answered now.asked_sections now.sections y is s k.part))
 
@@ -266,7 +266,7 @@ module _ {P : Type 0} (plans : Plans P) (layout : Layout) (slots : ℕ) (laws : 
 
     -- the first turn
     owes_begin : (c : ℕ) → works y ≡ Starts ask c → Owed (grace_row plans w me ask (core.Starts c))
-    owes_begin c is = subst (λ a. Owed (action_row plans w ask (core.Runs c p) a)) (sym first) (owes_turn (record w.grace { seq = seq + 1 }) c p (plans.taken p 0) ends goes (plans.turn p 0))
+    owes_begin c is = subst (λ a. Owed (done_with plans w ask (core.Starts c) (Some (record (action_effect w a) { plan = Some p })))) (sym first) (owes_turn (record w.grace { seq = seq + 1 }) c p (plans.taken p 0) ends goes (plans.turn p 0))
       where
         seq : ℕ
         seq = w.grace.seq
@@ -398,7 +398,7 @@ module _ {P : Type 0} (plans : Plans P) (layout : Layout) (slots : ℕ) (laws : 
           goes : is_finished (plans.action (plans.taken p 0)) ≡ false → Owed (stepped (record w.grace { seq = value }) ask (telling what.Quiet (core.Runs c (plans.taken p 0))))
           goes e = absurd (true≢false (sym (ap is_finished done) ∙ e))
 
-      owes_action : (a : Action) → plans.action p ≡ a → Owed (action_row plans w ask (core.Runs c p) a)
+      owes_action : (a : Action) → plans.action p ≡ a → Owed (done_with plans w ask (core.Runs c p) (Some (action_effect w a)))
       owes_action (Load slot) does = owes_middle w.grace (loaded_word (slice_get w.readers slot)) (λ v e. load_store v (sym does ∙ e)) (λ s e. loaded_is slot ∙ ap words (same_slot s (sym does ∙ e)))
           (sym (ap (present_after w.grace.word) does)) steady (λ q. k.part.grace_kept.number_low q) k.phase_low refl refl refl
         where

@@ -21,7 +21,7 @@ use Rattle.world_state.specs.declared.updater.Publishing.{Publishing}
 use Rattle.world_state.specs.declared.updater.Publishing.TheVariants as publishing
 use Rattle.world_state.specs.declared.updater.UpdaterState.{UpdaterState}
 use Rattle.world_state.specs.declared.updater.UpdaterPlace.{UpdaterPlace}
-use Rattle.world_state.specs.declared.updater.UpdaterPlace.TheVariants.{Idle, Publishes, Syncs}
+use Rattle.world_state.specs.declared.updater.UpdaterPlace.TheVariants.{Idle, Publishes, Syncs, Retires, Bars}
 use Rattle.world_state.specs.declared.change.Change.{Change}
 use Rattle.world_state.specs.declared.change.Change.TheVariants.{Begin, Publish}
 use Rattle.world_state.specs.Objects.{fresh_object, is_linked, spliced_heads, spliced_objects}
@@ -45,7 +45,7 @@ module _ {P : Type 0} (plans : Plans P) (layout : Layout) (slots : ℕ) (laws : 
 
   abbrev PartFor : List (UpdaterState P) → Type 0
   PartFor updaters =
-      Part plans layout slots laws decide_asker (holder_of w.grace.holder) (work_of updaters) (word_at w.readers) w.grace.asks w.grace.seq w.grace.word now.asked now.answered now.asked_sections now.sections
+      Part plans layout slots laws decide_asker (holder_of w.grace.holder) (work_of updaters w.workers) (word_at w.readers) w.grace.asks w.grace.seq w.grace.word now.asked now.answered now.asked_sections now.sections
 
   -- the state of an updater that is there
   pub record There (u : ℕ) (x : UpdaterState P) : Type 0 where
@@ -63,19 +63,19 @@ module _ {P : Type 0} (plans : Plans P) (layout : Layout) (slots : ℕ) (laws : 
       }
 
   -- an updater that rests goes on resting
-  rests_still : (u : ℕ) (x x' : UpdaterState P) → There u x → x'.started ≡ x.started → place_work x.place ≡ Rests → place_work x'.place ≡ Rests → PartFor (slice_set w.updaters u x')
+  pub rests_still : (u : ℕ) (x x' : UpdaterState P) → There u x → x'.started ≡ x.started → place_work x.place ≡ Rests → place_work x'.place ≡ Rests → PartFor (slice_set w.updaters u x')
   rests_still u x x' t polls was is = subst (λ (works : Asker → Work P). Part plans layout slots laws decide_asker (holder_of w.grace.holder) works (word_at w.readers) w.grace.asks w.grace.seq w.grace.word now.asked now.answered now.asked_sections now.sections) same k.part
     where
-      s : Sets (work_of w.updaters) (work_of (slice_set w.updaters u x')) (Syncing u) (place_work x'.place)
-      s = work_set plans layout slots laws w.updaters u x' t.inside (polls ∙ sym (ap (λ (y : UpdaterState P). y.started) t.is))
+      s : Sets (work_of w.updaters w.workers) (work_of (slice_set w.updaters u x') w.workers) (Syncing u) (place_work x'.place)
+      s = work_set plans layout slots laws w.updaters w.workers u x' t.inside (polls ∙ sym (ap (λ (y : UpdaterState P). y.started) t.is))
 
-      each : (y : Asker) → work_of w.updaters y ≡ work_of (slice_set w.updaters u x') y
+      each : (y : Asker) → work_of w.updaters w.workers y ≡ work_of (slice_set w.updaters u x') w.workers y
       each y = ⊎_elim
-          (λ (e : y ≡ Syncing u). ap (work_of w.updaters) e ∙ ap (λ (z : UpdaterState P). place_work z.place) t.is ∙ was ∙ sym is ∙ sym s.here ∙ ap (work_of (slice_set w.updaters u x')) (sym e))
+          (λ (e : y ≡ Syncing u). ap (work_of w.updaters w.workers) e ∙ ap (λ (z : UpdaterState P). place_work z.place) t.is ∙ was ∙ sym is ∙ sym s.here ∙ ap (work_of (slice_set w.updaters u x') w.workers) (sym e))
           (λ (n : y ≢ Syncing u). sym (s.others y n))
           (decide_asker y (Syncing u))
 
-      same : work_of w.updaters ≡ work_of (slice_set w.updaters u x')
+      same : work_of w.updaters w.workers ≡ work_of (slice_set w.updaters u x') w.workers
       same = λ i y. each y i
 
   -- a state is set, and the others are as before
@@ -98,6 +98,8 @@ module _ {P : Type 0} (plans : Plans P) (layout : Layout) (slots : ℕ) (laws : 
   over_places heads' os' v f Idle h = tt
   over_places heads' os' v f (Publishes p) h = f p h
   over_places heads' os' v f (Syncs ask core) h = h
+  over_places heads' os' v f (Retires o due) h = tt
+  over_places heads' os' v f (Bars b) h = tt
 
   -- an operation begins
   owes_begin : (u : ℕ) (x x' : UpdaterState P) (y : ObjectState) → There u x → x'.started ≡ x.started → place_work x.place ≡ Rests → place_work x'.place ≡ Rests → y.stage ≡ Fresh → UpdaterKept w.heads (w.objects ++ y ∷ []) count u x'.place →

@@ -105,7 +105,7 @@ module _ {P : Type 0} (plans : Plans P) (layout : Layout) (slots : ℕ) (laws : 
     links_kept = k.links_kept;
     places_kept = k.places_kept;
     readers_kept = readers_set plans.qsbr layout w.readers number w.objects now.sections sections' now.seen seen' now.held held' r v' t.inside c.mine c.sees c.opens c.closes c.holds k.readers_kept;
-    part = part_words plans layout slots laws decide_asker (holder_of w.grace.holder) (work_of w.updaters) (word_at w.readers) (word_at (slice_set w.readers r v')) w.grace.asks w.grace.seq number now.asked now.answered now.asked_sections asked' now.sections sections'
+    part = part_words plans layout slots laws decide_asker (holder_of w.grace.holder) (work_of w.updaters w.workers) (word_at w.readers) (word_at (slice_set w.readers r v')) w.grace.asks w.grace.seq number now.asked now.answered now.asked_sections asked' now.sections sections'
         words c.awaits k.part;
     ordinals = λ x. ordinals x (decide_number x r);
     asks_low = log_longer w.log (told answer) w.grace.asks k.asks_low;

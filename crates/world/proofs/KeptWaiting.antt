@@ -37,7 +37,7 @@ module _ {P : Type 0} (plans : Plans P) (layout : Layout) (slots : ℕ) (laws : 
 
   -- the updater's state is set, with what is kept of grace periods
   kept_grace : (u : ℕ) (x x' : UpdaterState P) (y : Asker) (work : Work P) (grace : GraceState) (answer : Answer) (asked answered : List ℕ) (awaited : ℕ → List SectionId) → Here u x → UpdaterKept w.heads w.objects (length w.updaters) u x'.place →
-      Sets (work_of w.updaters) (work_of (slice_set w.updaters u x')) y work → Step y work grace answer asked answered awaited →
+      Sets (work_of w.updaters w.workers) (work_of (slice_set w.updaters u x') w.workers) y work → Step y work grace answer asked answered awaited →
       Kept plans layout slots laws (changed w (Grace u x' grace answer)) (record now { asked = asked; answered = answered; asked_sections = awaited })
   kept_grace u x x' y work grace answer asked answered awaited t place sets s = record {
     laid = k.laid;
@@ -46,7 +46,7 @@ module _ {P : Type 0} (plans : Plans P) (layout : Layout) (slots : ℕ) (laws : 
     links_kept = k.links_kept;
     places_kept = places_set plans layout slots laws w now k w.heads w.objects u x' t.inside place (λ v p _ h. h);
     readers_kept = readers_over plans.qsbr layout w.readers w.grace.word grace.word w.objects w.objects now.sections now.seen now.held s.rises (λ o known. known) k.readers_kept;
-    part = s.part (work_of (slice_set w.updaters u x')) sets;
+    part = s.part (work_of (slice_set w.updaters u x') w.workers) sets;
     ordinals = λ r. log_longer w.log (told answer) (reader_at w.readers r).ordinal (k.ordinals r);
     asks_low = s.asks_low;
     seq_low = s.seq_low;
@@ -60,20 +60,20 @@ module _ {P : Type 0} (plans : Plans P) (layout : Layout) (slots : ℕ) (laws : 
     stays = λ place grace. (tt, k);
     blocks = λ place grace. (tt, k);
     goes = goes;
-    asks = λ c grace is s. (s.allowed, set (Syncs ask (core.Waits c)) grace (Events (events.Ask ask) None) (ask ∷ now.asked) now.answered (at_number ask now.sections now.asked_sections) tt s);
+    asks = λ c grace rests is s. (s.allowed, set (Syncs ask (core.Waits c)) grace (Events (events.Ask ask) None) (ask ∷ now.asked) now.answered (at_number ask now.sections now.asked_sections) tt s);
     answers = λ c grace pending up none s. (s.allowed, set (Syncs ask core.Frees) grace (Events (events.Answer ask) None) now.asked (ask ∷ now.answered) now.asked_sections tt s);
   }
     where
       set : (p : UpdaterPlace P) (grace : GraceState) (answer : Answer) (asked answered : List ℕ) (awaited : ℕ → List SectionId) → UpdaterKept w.heads w.objects (length w.updaters) u p → Step (Syncing u) (place_work p) grace answer asked answered awaited →
           Kept plans layout slots laws (changed w (Grace u (record x { place = p }) grace answer)) (record now { asked = asked; answered = answered; asked_sections = awaited })
       set p grace answer asked answered awaited place s = kept_grace u x (record x { place = p }) (Syncing u) (place_work p) grace answer asked answered awaited t place
-          (work_set plans layout slots laws w.updaters u (record x { place = p }) t.inside (sym (ap (λ (y : UpdaterState P). y.started) t.is))) s
+          (work_set plans layout slots laws w.updaters w.workers u (record x { place = p }) t.inside (sym (ap (λ (y : UpdaterState P). y.started) t.is))) s
 
       quiet : (p : UpdaterPlace P) (grace : GraceState) → UpdaterKept w.heads w.objects (length w.updaters) u p → Step (Syncing u) (place_work p) grace Quiet now.asked now.answered now.asked_sections →
           Owes plans layout slots laws w now (Ok (Grace u (record x { place = p }) grace Quiet))
       quiet p grace place s = (tt, set p grace Quiet now.asked now.answered now.asked_sections place s)
 
-      goes : (place : SyncCore P) (grace : GraceState) → IsOn plans layout slots laws w now k place → ((a c : ℕ) → Pending (core_work ask place) a c → Pending (work_of w.updaters (Syncing u)) a c) →
+      goes : (place : SyncCore P) (grace : GraceState) → IsOn plans layout slots laws w now k (Syncing u) place → ((a c : ℕ) → Pending (core_work ask place) a c → Pending (work_of w.updaters w.workers (Syncing u)) a c) →
           Step (Syncing u) (core_work ask place) grace Quiet now.asked now.answered now.asked_sections → Owes plans layout slots laws w now (synced plans u x ask (Ok (record { core = place; grace = grace; answer = Quiet })))
       goes core.Asks grace on same s = absurd on
       goes (core.Waits c) grace on same s = absurd on
@@ -85,7 +85,7 @@ module _ {P : Type 0} (plans : Plans P) (layout : Layout) (slots : ℕ) (laws : 
 
   -- the cookies of `start` and `poll`
   module _ (u : ℕ) (x : UpdaterState P) (t : Here u x) where
-    started_is : work_of w.updaters (Polling u) ≡ started_work x.started
+    started_is : work_of w.updaters w.workers (Polling u) ≡ started_work x.started
     started_is = ap (λ (y : UpdaterState P). started_work y.started) t.is
 
     started_runs : (s : Option Started) → RunsNone {P = P} (started_work s)
@@ -95,7 +95,7 @@ module _ {P : Type 0} (plans : Plans P) (layout : Layout) (slots : ℕ) (laws : 
     set : (s : Option Started) (grace : GraceState) (answer : Answer) (asked answered : List ℕ) (awaited : ℕ → List SectionId) → Step (Polling u) (started_work s) grace answer asked answered awaited →
         Kept plans layout slots laws (changed w (Grace u (record x { started = s }) grace answer)) (record now { asked = asked; answered = answered; asked_sections = awaited })
     set s grace answer asked answered awaited step = kept_grace u x (record x { started = s }) (Polling u) (started_work s) grace answer asked answered awaited t t.mine
-        (started_set plans layout slots laws w.updaters u (record x { started = s }) t.inside (sym (ap (λ (y : UpdaterState P). y.place) t.is))) step
+        (started_set plans layout slots laws w.updaters w.workers u (record x { started = s }) t.inside (sym (ap (λ (y : UpdaterState P). y.place) t.is))) step
 
     pub owes_start : Owes plans layout slots laws w now (start_row w u x (cookie_for w.grace.seq))
     owes_start = asked_or plans layout slots laws w now k (λ r. Owes plans layout slots laws w now r)
@@ -112,16 +112,16 @@ module _ {P : Type 0} (plans : Plans P) (layout : Layout) (slots : ℕ) (laws : 
     owes_poll None is = tt
     owes_poll (Some s) is = by (leb s.cookie w.grace.seq) (leb_tells s.cookie w.grace.seq) refl
       where
-        waits : work_of w.updaters (Polling u) ≡ Waits s.ask s.cookie
+        waits : work_of w.updaters w.workers (Polling u) ≡ Waits s.ask s.cookie
         waits = started_is ∙ ap started_work is
 
-        pending : Pending (work_of w.updaters (Polling u)) s.ask s.cookie
+        pending : Pending (work_of w.updaters w.workers (Polling u)) s.ask s.cookie
         pending = subst (λ (v : Work P). Pending v s.ask s.cookie) (sym waits) (refl, refl)
 
         reached : s.cookie ≤ w.grace.seq → Owes plans layout slots laws w now (Ok (Grace u (record x { started = None }) w.grace (Events (events.Answer s.ask) None)))
         reached up =
             let step = reached_kept plans layout slots laws w now k (Polling u) Rests s.ask s.cookie pending up
-            (λ works' t'. part_polled plans layout slots laws decide_asker (holder_of w.grace.holder) (work_of w.updaters) works' (word_at w.readers) w.grace.asks w.grace.seq w.grace.word now.asked now.answered now.asked_sections now.sections (Polling u) s.ask s.cookie waits t' k.part) in (
+            (λ works' t'. part_polled plans layout slots laws decide_asker (holder_of w.grace.holder) (work_of w.updaters w.workers) works' (word_at w.readers) w.grace.asks w.grace.seq w.grace.word now.asked now.answered now.asked_sections now.sections (Polling u) s.ask s.cookie waits t' k.part) in (
               step.allowed,
               set None w.grace (Events (events.Answer s.ask) None) now.asked (s.ask ∷ now.answered) now.asked_sections step,
             )

@@ -15,11 +15,15 @@ use Rattle.world_state.specs.declared.object.ObjectState.{ObjectState}
 use Rattle.world_state.specs.declared.updater.Holder.{Holder}
 use Rattle.world_state.specs.declared.updater.Holder.TheVariants as holder
 use Rattle.world_state.specs.declared.updater.UpdaterPlace.{UpdaterPlace}
-use Rattle.world_state.specs.declared.updater.UpdaterPlace.TheVariants.{Idle, Publishes, Syncs}
+use Rattle.world_state.specs.declared.updater.UpdaterPlace.TheVariants.{Idle, Publishes, Syncs, Retires, Bars}
 use Rattle.world_state.specs.declared.updater.Started.{Started}
 use Rattle.world_state.specs.declared.updater.UpdaterState.{UpdaterState}
 use Rattle.world_state.specs.declared.change.Change.{Change}
-use Rattle.world_state.specs.declared.change.Change.TheVariants.{Read, Begin, Publish, Grace, Stay}
+use Rattle.world_state.specs.declared.change.Change.TheVariants.{Read, Begin, Publish, Grace, Hold, Retire, Bar, Work as Works, Stay}
+use Rattle.call_rcu_worker.specs.declared.worker.WorkerCore.{WorkerCore}
+use Rattle.call_rcu_worker.specs.declared.worker.WorkerCore.TheVariants as worker
+use Rattle.world_state.specs.declared.worker.WorkerState.{WorkerState}
+use Rattle.world_state.specs.Queues.{new_worker}
 use Rattle.world_state.specs.View.{Plans, BoardView, idle, told, changed}
 use Rattle.world_state.specs.Readers.{is_open_in}
 use Rattle.world_state.proofs.Linking.{LinksKept, PlaceKept, decide_number}
@@ -58,6 +62,16 @@ abbrev pub place_work : {P : Type 0} → UpdaterPlace P → Work P
 place_work Idle = Rests
 place_work (Publishes what) = Rests
 place_work (Syncs ask core) = core_work ask core
+place_work (Retires o due) = Rests
+place_work (Bars b) = Rests
+
+abbrev pub worker_work : {P : Type 0} → ℕ → WorkerCore P Unit → Work P
+worker_work ask worker.Idle = Rests
+worker_work ask (worker.Syncs core tickets) = core_work ask core
+worker_work ask (worker.Pops tickets) = Rests
+worker_work ask (worker.Runs tickets ticket item) = Rests
+worker_work ask (worker.Ran tickets ticket item) = Rests
+worker_work ask (worker.Counts tickets ticket) = Rests
 
 abbrev pub started_work : {P : Type 0} → Option Started → Work P
 started_work None = Rests
@@ -66,13 +80,17 @@ started_work (Some s) = Waits s.ask s.cookie
 abbrev pub updater_at : {P : Type 0} → List (UpdaterState P) → ℕ → UpdaterState P
 updater_at updaters u = get_or updaters u idle
 
-abbrev pub work_of : {P : Type 0} → List (UpdaterState P) → Asker → Work P
-work_of updaters (Syncing u) = place_work (updater_at updaters u).place
-work_of updaters (Polling u) = started_work (updater_at updaters u).started
-work_of updaters (Working k) = Rests
+abbrev pub worker_at : {P : Type 0} → List (WorkerState P) → ℕ → WorkerState P
+worker_at workers k = get_or workers k new_worker
+
+abbrev pub work_of : {P : Type 0} → List (UpdaterState P) → List (WorkerState P) → Asker → Work P
+work_of updaters workers (Syncing u) = place_work (updater_at updaters u).place
+work_of updaters workers (Polling u) = started_work (updater_at updaters u).started
+work_of updaters workers (Working k) = worker_work (worker_at workers k).ask (worker_at workers k).core
 
 abbrev pub asker_of : Holder → Asker
 asker_of (holder.Updater u) = Syncing u
+asker_of (holder.Worker k) = Working k
 
 abbrev pub holder_of : Option Holder → Option Asker
 holder_of None = None
@@ -96,6 +114,8 @@ abbrev pub UpdaterKept : {P : Type 0} → List (Option ObjectId) → List Object
 UpdaterKept heads os n u Idle = Unit {0}
 UpdaterKept heads os n u (Publishes what) = PlaceKept heads os n u what
 UpdaterKept heads os n u (Syncs ask core) = IsUnderWay core
+UpdaterKept heads os n u (Retires o due) = Unit {0}
+UpdaterKept heads os n u (Bars b) = Unit {0}
 
 -- what a change tells
 abbrev pub told_by : {P : Type 0} → Change P → List Event
@@ -103,6 +123,10 @@ told_by (Read r step) = told step.answer
 told_by (Begin u x object) = []
 told_by (Publish u x splice event) = event ∷ []
 told_by (Grace u x grace answer) = told answer
+told_by (Hold u x q) = []
+told_by (Retire u x q act mark answer) = told answer
+told_by (Bar u x barriers answer) = told answer
+told_by (Works k x grace act mark answer) = told answer
 told_by (Stay answer) = []
 
 module _ {P : Type 0} (plans : Plans P) (layout : Layout) (slots : ℕ) (laws : Laws plans layout slots) where
@@ -113,7 +137,7 @@ module _ {P : Type 0} (plans : Plans P) (layout : Layout) (slots : ℕ) (laws : 
     pub links_kept : LinksKept w.heads w.objects now.chain now.used now.cut now.successor
     pub places_kept : (u : ℕ) → UpdaterKept w.heads w.objects (length w.updaters) u (updater_at w.updaters u).place
     pub readers_kept : ReadersKept plans.qsbr layout w.readers w.grace.word w.objects now.sections now.seen now.held
-    pub part : Part plans layout slots laws decide_asker (holder_of w.grace.holder) (work_of w.updaters) (word_at w.readers) w.grace.asks w.grace.seq w.grace.word now.asked now.answered now.asked_sections now.sections
+    pub part : Part plans layout slots laws decide_asker (holder_of w.grace.holder) (work_of w.updaters w.workers) (word_at w.readers) w.grace.asks w.grace.seq w.grace.word now.asked now.answered now.asked_sections now.sections
     pub ordinals : (r : ℕ) → (reader_at w.readers r).ordinal ≤ length w.log
     pub asks_low : w.grace.asks ≤ length w.log
     pub seq_low : w.grace.seq ≤ 2 ^ 62 + 2
@@ -149,8 +173,8 @@ module _ {P : Type 0} (plans : Plans P) (layout : Layout) (slots : ℕ) (laws : 
       )
 
   -- one updater's place is set
-  pub work_set : (updaters : List (UpdaterState P)) (u : ℕ) (x : UpdaterState P) → u < length updaters → x.started ≡ (updater_at updaters u).started → Sets (work_of updaters) (work_of (slice_set updaters u x)) (Syncing u) (place_work x.place)
-  work_set updaters u x inside same = record {
+  pub work_set : (updaters : List (UpdaterState P)) (workers : List (WorkerState P)) (u : ℕ) (x : UpdaterState P) → u < length updaters → x.started ≡ (updater_at updaters u).started → Sets (work_of updaters workers) (work_of (slice_set updaters u x) workers) (Syncing u) (place_work x.place)
+  work_set updaters workers u x inside same = record {
     here = ap (λ (y : UpdaterState P). place_work y.place) (get_or-set_same updaters u x idle inside);
     others = others;
   }
@@ -159,14 +183,14 @@ module _ {P : Type 0} (plans : Plans P) (layout : Layout) (slots : ℕ) (laws : 
       polls v (inl e) = ap (λ n. (updater_at (slice_set updaters u x) n).started) e ∙ ap (λ (y : UpdaterState P). y.started) (get_or-set_same updaters u x idle inside) ∙ same ∙ ap (λ n. (updater_at updaters n).started) (sym e)
       polls v (inr n) = ap (λ (y : UpdaterState P). y.started) (get_or-set_other updaters u v x idle n)
 
-      others : (y : Asker) → y ≢ Syncing u → work_of (slice_set updaters u x) y ≡ work_of updaters y
+      others : (y : Asker) → y ≢ Syncing u → work_of (slice_set updaters u x) workers y ≡ work_of updaters workers y
       others (Syncing v) apart = ap (λ (y : UpdaterState P). place_work y.place) (get_or-set_other updaters u v x idle (λ e. apart (ap Syncing e)))
       others (Polling v) apart = ap started_work (polls v (decide_number v u))
       others (Working v) apart = refl
 
   -- one updater's cookie is set
-  pub started_set : (updaters : List (UpdaterState P)) (u : ℕ) (x : UpdaterState P) → u < length updaters → x.place ≡ (updater_at updaters u).place → Sets (work_of updaters) (work_of (slice_set updaters u x)) (Polling u) (started_work x.started)
-  started_set updaters u x inside same = record {
+  pub started_set : (updaters : List (UpdaterState P)) (workers : List (WorkerState P)) (u : ℕ) (x : UpdaterState P) → u < length updaters → x.place ≡ (updater_at updaters u).place → Sets (work_of updaters workers) (work_of (slice_set updaters u x) workers) (Polling u) (started_work x.started)
+  started_set updaters workers u x inside same = record {
     here = ap (λ (y : UpdaterState P). started_work y.started) (get_or-set_same updaters u x idle inside);
     others = others;
   }
@@ -175,7 +199,7 @@ module _ {P : Type 0} (plans : Plans P) (layout : Layout) (slots : ℕ) (laws : 
       places v (inl e) = ap (λ n. (updater_at (slice_set updaters u x) n).place) e ∙ ap (λ (y : UpdaterState P). y.place) (get_or-set_same updaters u x idle inside) ∙ same ∙ ap (λ n. (updater_at updaters n).place) (sym e)
       places v (inr n) = ap (λ (y : UpdaterState P). y.place) (get_or-set_other updaters u v x idle n)
 
-      others : (y : Asker) → y ≢ Polling u → work_of (slice_set updaters u x) y ≡ work_of updaters y
+      others : (y : Asker) → y ≢ Polling u → work_of (slice_set updaters u x) workers y ≡ work_of updaters workers y
       others (Syncing v) apart = ap place_work (places v (decide_number v u))
       others (Polling v) apart = ap (λ (y : UpdaterState P). started_work y.started) (get_or-set_other updaters u v x idle (λ e. apart (ap Polling e)))
       others (Working v) apart = refl

@@ -1,5 +1,5 @@
 -- The log after lines is what they were answered.
-use Rattle.std.proofs.Common.{◌≡◌, ℕ, ◌+◌, leb, cond, Bool, true, false, List, [], ◌∷◌, ◌++◌, Option, Some, None, Result, Ok, Err, slice_get, nat_lt, refl, sym, ap, ◌∙◌, subst}
+use Rattle.std.proofs.Common.{◌≡◌, ℕ, is_some, List, [], ◌∷◌, ◌++◌, Option, Some, None, Result, Ok, Err, slice_get, refl, sym, ap, ◌∙◌, subst}
 use Rattle.std.proofs.lemmas.List.{append-nil, append_assoc}
 use Rattle.rcu_model.specs.declared.refusal.Refusal.{Refusal}
 use Rattle.rcu_model.specs.declared.event.Event.{Event}
@@ -13,135 +13,107 @@ use Rattle.world_state.specs.declared.config.Flavour.TheVariants.{Memb, Qsbr}
 use Rattle.world_state.specs.declared.line.Answer.{Answer}
 use Rattle.world_state.specs.declared.line.Answer.TheVariants.{Events, Quiet, Wait, Blocked, Idle as NothingThere}
 use Rattle.world_state.specs.declared.line.Line.{Line}
-use Rattle.world_state.specs.declared.line.Line.TheVariants.{Reader, Updater, Worker}
-use Rattle.world_state.specs.declared.line.ReaderVerb.{ReaderVerb}
-use Rattle.world_state.specs.declared.line.UpdaterVerb.{UpdaterVerb}
-use Rattle.world_state.specs.declared.line.UpdaterVerb.TheVariants as updater
-use Rattle.world_state.specs.declared.line.WorkerVerb.TheVariants as worker
-use Rattle.world_state.specs.declared.object.ObjectState.{ObjectState}
-use Rattle.world_state.specs.declared.reader.ReaderState.{ReaderState}
-use Rattle.world_state.specs.declared.reader.ReaderStep.{ReaderStep}
+use Rattle.world_state.specs.declared.line.WorkerVerb.{WorkerVerb}
+use Rattle.world_state.specs.declared.line.WorkerVerb.TheVariants as verb
+use Rattle.callback_queue.specs.declared.item.Ticket.{Ticket}
+use Rattle.callback_queue.specs.Queue.{items_of}
+use Rattle.call_rcu_worker.specs.declared.worker.WorkerCore.{WorkerCore}
+use Rattle.call_rcu_worker.specs.declared.worker.WorkerCore.TheVariants as worker
+use Rattle.world_state.specs.declared.queue.QueueState.{QueueState}
+use Rattle.world_state.specs.declared.updater.RetireStep.{RetireStep}
+use Rattle.world_state.specs.declared.updater.RetireStep.TheVariants as due
+use Rattle.world_state.specs.declared.worker.WorkerState.{WorkerState}
 use Rattle.world_state.specs.declared.updater.Holder.TheVariants as holder
-use Rattle.world_state.specs.declared.updater.Publishing.{Publishing}
-use Rattle.world_state.specs.declared.updater.Publishing.TheVariants as publishing
 use Rattle.world_state.specs.declared.updater.UpdaterState.{UpdaterState}
-use Rattle.world_state.specs.declared.updater.UpdaterPlace.{UpdaterPlace}
-use Rattle.world_state.specs.declared.updater.UpdaterPlace.TheVariants.{Idle, Publishes, Syncs}
 use Rattle.world_state.specs.declared.change.Change.{Change}
-use Rattle.world_state.specs.declared.change.Change.TheVariants.{Read, Begin, Publish, Grace, Stay}
+use Rattle.world_state.specs.declared.change.Change.TheVariants.{Read, Begin, Publish, Grace, Hold, Retire, Bar, Work, Stay}
 use Rattle.world_state.specs.View.{Plans, BoardView, told, fresh_at}
 use Rattle.world.specs.declared.grace.GraceStep.{GraceStep}
-use Rattle.world.specs.Chains.{writes, push_row, replace_row, cut_row, pushed_row, replaced_row, published, linked_by}
-use Rattle.poll_cookie.specs.Cookie.{cookie_for}
-use Rattle.world_state.specs.declared.updater.Started.{Started}
-use Rattle.world.specs.Grace.{grace_row, start_row, poll_row}
-use Rattle.call_rcu_worker.specs.Sync.{new_core}
-use Rattle.world.specs.Lines.{reader_line, read_by, of_reader, is_idle, grace_change, synced, updater_on, updater_begins, updater_line, of_updater, change_of, with_change, outcome_of, world_after}
+use Rattle.world.specs.Grace.{grace_row}
+use Rattle.world.specs.Queues.{retire_on}
+use Rattle.world.specs.Workers.{is_none_left, first_in, take_row, ask_for, work_change, worked, run_row, worker_on, is_resting}
+use Rattle.world.specs.Lines.{worker_line, change_of, with_change, outcome_of, world_after}
+use Rattle.world.proofs.Sweeping.{Each, each_if, OfOthers, each_line}
 use Rattle.world.specs.Steps.{WorldView, OfMemb, OfQsbr, memb_plans, qsbr_plans, step_of, log_of, fresh_in, world_after_lines, events_of, answered_events}
 
 -- a step that changes nothing tells nothing
-abbrev Silent : {P : Type 0} → Result (Change P) Refusal → Type 0
-Silent (Ok (Stay answer)) = told answer ≡ []
-Silent (Ok (Read r step)) = Unit {0}
-Silent (Ok (Begin u x object)) = Unit {0}
-Silent (Ok (Publish u x splice event)) = Unit {0}
-Silent (Ok (Grace u x grace answer)) = Unit {0}
-Silent (Err e) = Unit {0}
+abbrev IsSilent : {P : Type 0} → Change P → Type 0
+IsSilent (Stay answer) = told answer ≡ []
+IsSilent (Read r step) = Unit {0}
+IsSilent (Begin u x object) = Unit {0}
+IsSilent (Publish u x splice event) = Unit {0}
+IsSilent (Grace u x grace answer) = Unit {0}
+IsSilent (Hold u x q) = Unit {0}
+IsSilent (Retire u x q act mark answer) = Unit {0}
+IsSilent (Bar u x barriers answer) = Unit {0}
+IsSilent (Work k x grace act mark answer) = Unit {0}
 
-either : {P : Type 0} (b : Bool) (x y : Result (Change P) Refusal) → Silent x → Silent y → Silent (cond b x y)
-either true x y p q = p
-either false x y p q = q
+abbrev Silent : {P : Type 0} → Result (Change P) Refusal → Type 0
+Silent = Each IsSilent
 
 module _ {P : Type 0} (plans : Plans P) (w : BoardView P) where
-  silent_reader : (r : ℕ) (x : Result ReaderStep Refusal) → Silent {P = P} (read_by {P = P} r x)
-  silent_reader r (Ok step) = tt
-  silent_reader r (Err e) = tt
+  silent_retire : (u : ℕ) (x : UpdaterState P) (o : ObjectId) (step : RetireStep) → IsSilent (retire_on w u x o step)
+  silent_retire u x o due.Mark = tt
+  silent_retire u x o due.Count = tt
+  silent_retire u x o due.Push = tt
+  silent_retire u x o due.Free = tt
 
-  silent_of_reader : (r : ℕ) (verb : ReaderVerb) (x : Option ReaderState) → Silent (of_reader plans.qsbr w r verb x)
-  silent_of_reader r verb None = tt
-  silent_of_reader r verb (Some v) = silent_reader r (reader_line plans.qsbr w r v verb)
+  module _ (k : ℕ) (x : WorkerState P) where
+    silent_take : (q : Option QueueState) → Silent (take_row w k x q)
+    silent_take None = tt
+    silent_take (Some q) = each_if IsSilent (is_some q.holder) _ _ refl (each_if IsSilent (is_none_left (items_of q.items)) _ _ refl tt)
 
-  module _ (u : ℕ) (x : UpdaterState P) where
-    silent_grace : (ask : ℕ) (step : GraceStep P) (answer : Answer) → Silent (Ok (grace_change plans u x ask step answer))
-    silent_grace ask step (Events first second) = tt
-    silent_grace ask step Quiet = tt
-    silent_grace ask step Wait = refl
-    silent_grace ask step Blocked = refl
-    silent_grace ask step NothingThere = tt
+    silent_work : (ask tickets : ℕ) (step : GraceStep P) (answer : Answer) → Silent (Ok (work_change k ask tickets step answer))
+    silent_work ask tickets step (Events first second) = tt
+    silent_work ask tickets step Quiet = tt
+    silent_work ask tickets step Wait = refl
+    silent_work ask tickets step Blocked = refl
+    silent_work ask tickets step NothingThere = tt
 
-    silent_synced : (ask : ℕ) (r : Result (GraceStep P) Refusal) → Silent (synced plans u x ask r)
-    silent_synced ask (Ok step) = silent_grace ask step step.answer
-    silent_synced ask (Err e) = tt
+    silent_worked : (ask tickets : ℕ) (r : Result (GraceStep P) Refusal) → Silent (worked k ask tickets r)
+    silent_worked ask tickets (Ok step) = silent_work ask tickets step step.answer
+    silent_worked ask tickets (Err e) = tt
 
-    silent_pushed : (y : UpdaterState P) (new : ObjectId) (o : Option ObjectState) → Silent (pushed_row u y new o)
-    silent_pushed y new None = tt
-    silent_pushed y new (Some z) = tt
+    silent_run : (tickets : ℕ) (first : Option (Ticket × ObjectId)) → Silent (run_row w k x tickets first)
+    silent_run tickets None = tt
+    silent_run tickets (Some first) = tt
 
-    silent_replaced : (y : UpdaterState P) (old new : ObjectId) (o : Option ObjectState) → Silent (replaced_row u y old new o)
-    silent_replaced y old new None = tt
-    silent_replaced y old new (Some z) = tt
+    silent_works : (place : WorkerCore P Unit) → Silent (worker_on plans w k x place)
+    silent_works worker.Idle = tt
+    silent_works (worker.Syncs sync tickets) = silent_worked (ask_for w x.ask sync) tickets (grace_row plans w (holder.Worker k) (ask_for w x.ask sync) sync)
+    silent_works (worker.Pops tickets) = silent_run tickets (first_in (slice_get w.queues k))
+    silent_works (worker.Runs tickets ticket item) = tt
+    silent_works (worker.Ran tickets ticket item) = tt
+    silent_works (worker.Counts tickets ticket) = tt
 
-    silent_published : (what : Publishing) → Silent (published w u x what)
-    silent_published (publishing.Push new) = silent_pushed (record x { place = Idle }) new (slice_get w.objects new.0)
-    silent_published (publishing.Replace old new) = silent_replaced (record x { place = Idle }) old new (slice_get w.objects old.0)
-
-    silent_on : (place : UpdaterPlace P) → Silent (updater_on plans w u x place)
-    silent_on Idle = tt
-    silent_on (Publishes what) = silent_published what
-    silent_on (Syncs ask core) = silent_synced ask (grace_row plans w (holder.Updater u) ask core)
-
-    silent_push : (c : ℕ) (head : Option (Option ObjectId)) → Silent (push_row w u x c head)
-    silent_push c None = tt
-    silent_push c (Some head) = either (writes w u c) _ _ tt tt
-
-    silent_replace : (o : ObjectId) (y : Option ObjectState) → Silent (replace_row w u x o y)
-    silent_replace o None = tt
-    silent_replace o (Some y) = tt
-
-    silent_cut : (o : ObjectId) (y : Option ObjectState) → Silent (cut_row u x o y)
-    silent_cut o None = tt
-    silent_cut o (Some y) = tt
-
-    silent_start : (cookie : Result ℕ Refusal) → Silent (start_row w u x cookie)
-    silent_start (Ok c) = tt
-    silent_start (Err e) = tt
-
-    silent_poll : (s : Option Started) → Silent (poll_row w u x s)
-    silent_poll None = tt
-    silent_poll (Some s) = either (leb s.cookie w.grace.seq) _ _ tt refl
-
-    silent_begins : (verb : UpdaterVerb) → Silent (updater_begins plans w u x verb)
-    silent_begins (updater.Push c) = silent_push c (slice_get w.heads c)
-    silent_begins (updater.Replace o) = silent_replace o (linked_by w u (slice_get w.objects o.0))
-    silent_begins (updater.Cut o) = silent_cut o (linked_by w u (slice_get w.objects o.0))
-    silent_begins updater.Sync = silent_synced (w.grace.asks + 1) (grace_row plans w (holder.Updater u) (w.grace.asks + 1) new_core)
-    silent_begins updater.Start = silent_start (cookie_for w.grace.seq)
-    silent_begins updater.Poll = silent_poll x.started
-    silent_begins updater.GoOn = tt
-
-    silent_line : (verb : UpdaterVerb) → Silent (updater_line plans w u x verb)
-    silent_line updater.GoOn = silent_on x.place
-    silent_line (updater.Push c) = either (is_idle x.place) _ _ (silent_begins (updater.Push c)) tt
-    silent_line (updater.Replace o) = either (is_idle x.place) _ _ (silent_begins (updater.Replace o)) tt
-    silent_line (updater.Cut o) = either (is_idle x.place) _ _ (silent_begins (updater.Cut o)) tt
-    silent_line updater.Sync = either (is_idle x.place) _ _ (silent_begins updater.Sync) tt
-    silent_line updater.Start = either (is_idle x.place) _ _ (silent_begins updater.Start) tt
-    silent_line updater.Poll = either (is_idle x.place) _ _ (silent_begins updater.Poll) tt
-
-  silent_of_updater : (u : ℕ) (verb : UpdaterVerb) (x : Option (UpdaterState P)) → Silent (of_updater plans w u verb x)
-  silent_of_updater u verb None = tt
-  silent_of_updater u verb (Some x) = silent_line u x verb
+    silent_worker : (v : WorkerVerb) → Silent (worker_line plans w k x v)
+    silent_worker verb.Take = each_if IsSilent (is_resting x.core) _ _ (silent_take (slice_get w.queues k)) tt
+    silent_worker verb.GoOn = silent_works x.core
 
   silent : (line : Line) → Silent (change_of plans w line)
-  silent (Reader r verb) = silent_of_reader r verb (slice_get w.readers r)
-  silent (Updater u verb) = silent_of_updater u verb (slice_get w.updaters u)
-  silent (Worker k worker.GoOn) = either (nat_lt k w.workers) _ _ tt tt
+  silent = each_line plans w IsSilent others (λ u x o step e place. silent_retire u x o step) (λ k v x e. silent_worker k x v)
+    where
+      others : OfOthers {P = P} IsSilent
+      others = record {
+        reads = λ r step. tt;
+        begins = λ u x object. tt;
+        publishes = λ u x splice event. tt;
+        asks = λ u x grace answer. tt;
+        holds = λ u x q. tt;
+        bars = λ u x barriers answer. tt;
+        waits = refl;
+        blocked = refl;
+      }
 
   log_after : (x : Result (Change P) Refusal) → Silent x → (with_change w x).world.log ≡ w.log ++ events_of (with_change w x).answer
   log_after (Ok (Read r step)) s = refl
   log_after (Ok (Begin u x object)) s = sym (append-nil w.log)
   log_after (Ok (Publish u x splice event)) s = refl
   log_after (Ok (Grace u x grace answer)) s = refl
+  log_after (Ok (Hold u x q)) s = sym (append-nil w.log)
+  log_after (Ok (Retire u x q act mark answer)) s = refl
+  log_after (Ok (Bar u x barriers answer)) s = refl
+  log_after (Ok (Work k x grace act mark answer)) s = refl
   log_after (Ok (Stay answer)) s = sym (ap (λ (es : List Event). w.log ++ es) s ∙ append-nil w.log)
   log_after (Err e) s = sym (append-nil w.log)
 

@@ -9,6 +9,7 @@ use Rattle.call_rcu_worker.specs.declared.sync.SyncCore.{SyncCore}
 use Rattle.call_rcu_worker.specs.declared.sync.SyncStep.{SyncStep}
 use Rattle.call_rcu_worker.specs.declared.sync.SyncStep.TheVariants.{Ask, TakeLock, Check, Begin, Plan, FreeLock, Nothing}
 use Rattle.call_rcu_worker.specs.Sync.{Telling, step_of, told_of, begun_with}
+use Rattle.world.specs.declared.grace.Effect.{Effect}
 use Rattle.world.specs.declared.grace.GraceStep.{GraceStep}
 use Rattle.world_state.specs.declared.line.Answer.TheVariants.{Events, Wait, Blocked}
 use Rattle.world_state.specs.declared.reader.ReaderState.{ReaderState}
@@ -32,35 +33,43 @@ abbrev pub loaded_word : Option ReaderState → ℕ
 loaded_word None = 0
 loaded_word (Some v) = v.word
 
--- an action of the plan
-abbrev pub action_row : {P : Type 0} → Plans P → BoardView P → ℕ → SyncCore P → Action → Result (GraceStep P) Refusal
-action_row plans w ask core (Load slot) =
-    stepped w.grace ask (told_of plans.action plans.turn plans.taken core (loaded_word (slice_get w.readers slot)))
-action_row plans w ask core (StorePhase value) = stepped (record w.grace { word = value }) ask (told_of plans.action plans.turn plans.taken core 0)
-action_row plans w ask core (StoreSeq value) = stepped (record w.grace { seq = value }) ask (told_of plans.action plans.turn plans.taken core 0)
-action_row plans w ask core Finished = stepped w.grace ask (told_of plans.action plans.turn plans.taken core 0)
+-- what an action of the plan loads and stores
+abbrev pub action_effect : {P : Type 0} → BoardView P → Action → Effect P
+action_effect w (Load slot) = record { grace = w.grace; loaded = loaded_word (slice_get w.readers slot); plan = None }
+action_effect w (StorePhase value) = record { grace = record w.grace { word = value }; loaded = 0; plan = None }
+action_effect w (StoreSeq value) = record { grace = record w.grace { seq = value }; loaded = 0; plan = None }
+action_effect w Finished = record { grace = w.grace; loaded = 0; plan = None }
 
 -- the lock is taken, unless it is held
-abbrev pub hold_row : {P : Type 0} → Plans P → BoardView P → Holder → ℕ → SyncCore P → Option Holder → Result (GraceStep P) Refusal
-hold_row plans w me ask core (Some other) = Ok (record { core = core; grace = w.grace; answer = Blocked })
-hold_row plans w me ask core None = stepped (record w.grace { holder = Some me }) ask (told_of plans.action plans.turn plans.taken core 0)
+abbrev pub lock_effect : {P : Type 0} → BoardView P → Holder → Option Holder → Option (Effect P)
+lock_effect w me (Some other) = None
+lock_effect w me None = Some (record { grace = record w.grace { holder = Some me }; loaded = 0; plan = None })
 
 -- the plan that is made now
 abbrev pub plan_now : {P : Type 0} → Plans P → BoardView P → P
 plan_now plans w = plans.made w.layout (length w.readers) w.grace.seq w.grace.word
 
--- the steps of a grace period, from the ask to the unlock
-abbrev pub row_at : {P : Type 0} → Plans P → BoardView P → Holder → ℕ → SyncCore P → SyncStep → Result (GraceStep P) Refusal
-row_at plans w me ask core Ask = stepped (record w.grace { asks = ask }) ask (told_of plans.action plans.turn plans.taken core w.grace.seq)
-row_at plans w me ask core TakeLock = hold_row plans w me ask core w.grace.holder
-row_at plans w me ask core Check = stepped w.grace ask (told_of plans.action plans.turn plans.taken core w.grace.seq)
-row_at plans w me ask core Begin = action_row plans w ask (begun_with core (plan_now plans w)) (plans.action (plan_now plans w))
-row_at plans w me ask core (Plan action) = action_row plans w ask core action
-row_at plans w me ask core FreeLock = stepped (record w.grace { holder = None }) ask (told_of plans.action plans.turn plans.taken core 0)
-row_at plans w me ask core Nothing = stepped w.grace ask (told_of plans.action plans.turn plans.taken core 0)
+-- what each step of a grace period loads and stores, from the ask to the unlock; nothing where it is blocked
+abbrev pub effect_of : {P : Type 0} → Plans P → BoardView P → Holder → ℕ → SyncStep → Option (Effect P)
+effect_of plans w me ask Ask = Some (record { grace = record w.grace { asks = ask }; loaded = w.grace.seq; plan = None })
+effect_of plans w me ask TakeLock = lock_effect w me w.grace.holder
+effect_of plans w me ask Check = Some (record { grace = w.grace; loaded = w.grace.seq; plan = None })
+effect_of plans w me ask Begin = Some (record (action_effect w (plans.action (plan_now plans w))) { plan = Some (plan_now plans w) })
+effect_of plans w me ask (Plan action) = Some (action_effect w action)
+effect_of plans w me ask FreeLock = Some (record { grace = record w.grace { holder = None }; loaded = 0; plan = None })
+effect_of plans w me ask Nothing = Some (record { grace = w.grace; loaded = 0; plan = None })
+
+-- the core with the plan that was made, if one was
+abbrev pub planned : {P : Type 0} → SyncCore P → Option P → SyncCore P
+planned core None = core
+planned core (Some plan) = begun_with core plan
+
+abbrev pub done_with : {P : Type 0} → Plans P → BoardView P → ℕ → SyncCore P → Option (Effect P) → Result (GraceStep P) Refusal
+done_with plans w ask core None = Ok (record { core = core; grace = w.grace; answer = Blocked })
+done_with plans w ask core (Some e) = stepped e.grace ask (told_of plans.action plans.turn plans.taken (planned core e.plan) e.loaded)
 
 abbrev pub grace_row : {P : Type 0} → Plans P → BoardView P → Holder → ℕ → SyncCore P → Result (GraceStep P) Refusal
-grace_row plans w me ask core = row_at plans w me ask core (step_of plans.action core)
+grace_row plans w me ask core = done_with plans w ask core (effect_of plans w me ask (step_of plans.action core))
 
 -- the place of an updater whose grace period stands here
 abbrev pub place_at : {P : Type 0} → ℕ → SyncCore P → SyncStep → UpdaterPlace P

@@ -1,6 +1,8 @@
 pub mod Answers
 pub mod Chains
 pub mod Grace
+pub mod Queues
+pub mod Workers
 pub mod Lines
 pub mod Shown
 pub mod Reached

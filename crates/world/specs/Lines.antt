@@ -1,5 +1,5 @@
 -- The step table: what a line makes of the world, and what it answers.
-use Rattle.std.specs.Prelude.{ℕ, ◌+◌, nat_lt, Bool, true, false, if◌then◌else◌, is_some, List, [], ◌∷◌, slice_get, Option, Some, None, Result, Ok, Err}
+use Rattle.std.specs.Prelude.{ℕ, ◌+◌, Bool, true, false, if◌then◌else◌, is_some, List, [], ◌∷◌, slice_get, Option, Some, None, Result, Ok, Err}
 use Rattle.rcu_model.specs.declared.refusal.Refusal.{Refusal}
 use Rattle.rcu_model.specs.declared.refusal.Refusal.TheVariants.{NotOpen, Busy, WrongFlavour, NoActor}
 use Rattle.reader_word.specs.Quiescent.{is_online}
@@ -20,14 +20,17 @@ use Rattle.world_state.specs.declared.reader.ReaderStep.{ReaderStep}
 use Rattle.world_state.specs.declared.updater.Holder.TheVariants as holder
 use Rattle.world_state.specs.declared.updater.UpdaterState.{UpdaterState}
 use Rattle.world_state.specs.declared.updater.UpdaterPlace.{UpdaterPlace}
-use Rattle.world_state.specs.declared.updater.UpdaterPlace.TheVariants.{Idle, Publishes, Syncs}
+use Rattle.world_state.specs.declared.updater.UpdaterPlace.TheVariants.{Idle, Publishes, Syncs, Retires, Bars}
 use Rattle.world_state.specs.declared.change.Change.{Change}
 use Rattle.world_state.specs.declared.change.Change.TheVariants.{Read, Grace, Stay}
 use Rattle.world_state.specs.Readers.{is_open_in, lock_row, enter_row, unlock_row, online_row, go_online_row, quiescent_row, announce_row, offline_row, touch_row}
 use Rattle.world_state.specs.View.{Plans, BoardView, changed, answer_of}
 use Rattle.world.specs.declared.grace.GraceStep.{GraceStep}
 use Rattle.world.specs.Chains.{first_row, next_from, linked_by, push_row, replace_row, cut_row, published}
+use Rattle.world_state.specs.declared.worker.WorkerState.{WorkerState}
 use Rattle.world.specs.Grace.{grace_row, sync_place, start_row, poll_row}
+use Rattle.world.specs.Queues.{may_retire, retire_row, retire_on, barrier_row, barrier_on}
+use Rattle.world.specs.Workers.{take_row, worker_on, is_resting}
 
 -- readers: a verb of the flavour, of the other one, and in an open section
 abbrev pub of_memb : Bool → Result ReaderStep Refusal → Result ReaderStep Refusal
@@ -78,29 +81,36 @@ abbrev pub updater_on : {P : Type 0} → Plans P → BoardView P → ℕ → Upd
 updater_on plans w u x Idle = Err NotOpen
 updater_on plans w u x (Publishes what) = published w u x what
 updater_on plans w u x (Syncs ask core) = synced plans u x ask (grace_row plans w (holder.Updater u) ask core)
+updater_on plans w u x (Retires o due) = Ok (retire_on w u x o due)
+updater_on plans w u x (Bars b) = Ok (barrier_on w u x b b.due)
 
 -- an updater in no operation
 abbrev pub updater_begins : {P : Type 0} → Plans P → BoardView P → ℕ → UpdaterState P → UpdaterVerb → Result (Change P) Refusal
 updater_begins plans w u x (updater.Push c) = push_row w u x c (slice_get w.heads c)
 updater_begins plans w u x (updater.Replace o) = replace_row w u x o (linked_by w u (slice_get w.objects o.0))
 updater_begins plans w u x (updater.Cut o) = cut_row u x o (linked_by w u (slice_get w.objects o.0))
+updater_begins plans w u x (updater.Retire o) = retire_row w u x o (may_retire w u (slice_get w.objects o.0))
 updater_begins plans w u x updater.Sync = synced plans u x (w.grace.asks + 1) (grace_row plans w (holder.Updater u) (w.grace.asks + 1) new_core)
 updater_begins plans w u x updater.Start = start_row w u x (cookie_for w.grace.seq)
 updater_begins plans w u x updater.Poll = poll_row w u x x.started
+updater_begins plans w u x updater.Barrier = Ok (barrier_row w u x)
 updater_begins plans w u x updater.GoOn = Err NotOpen
 
 abbrev pub is_idle : {P : Type 0} → UpdaterPlace P → Bool
 is_idle Idle = true
 is_idle (Publishes what) = false
 is_idle (Syncs ask core) = false
+is_idle (Retires o due) = false
+is_idle (Bars b) = false
 
 abbrev pub updater_line : {P : Type 0} → Plans P → BoardView P → ℕ → UpdaterState P → UpdaterVerb → Result (Change P) Refusal
 updater_line plans w u x updater.GoOn = updater_on plans w u x x.place
 updater_line plans w u x verb = if is_idle x.place then updater_begins plans w u x verb else Err Busy
 
--- workers have no operation
-abbrev pub worker_line : {P : Type 0} → BoardView P → WorkerVerb → Result (Change P) Refusal
-worker_line w worker.GoOn = Err NotOpen
+-- workers
+abbrev pub worker_line : {P : Type 0} → Plans P → BoardView P → ℕ → WorkerState P → WorkerVerb → Result (Change P) Refusal
+worker_line plans w k x worker.Take = if is_resting x.core then take_row w k x (slice_get w.queues k) else Err Busy
+worker_line plans w k x worker.GoOn = worker_on plans w k x x.core
 
 -- a line of an actor, if there is such an actor
 abbrev pub read_by : {P : Type 0} → ℕ → Result ReaderStep Refusal → Result (Change P) Refusal
@@ -115,10 +125,14 @@ abbrev pub of_updater : {P : Type 0} → Plans P → BoardView P → ℕ → Upd
 of_updater plans w u verb None = Err NoActor
 of_updater plans w u verb (Some x) = updater_line plans w u x verb
 
+abbrev pub of_worker : {P : Type 0} → Plans P → BoardView P → ℕ → WorkerVerb → Option (WorkerState P) → Result (Change P) Refusal
+of_worker plans w k verb None = Err NoActor
+of_worker plans w k verb (Some x) = worker_line plans w k x verb
+
 abbrev pub change_of : {P : Type 0} → Plans P → BoardView P → Line → Result (Change P) Refusal
 change_of plans w (Reader r verb) = of_reader plans.qsbr w r verb (slice_get w.readers r)
 change_of plans w (Updater u verb) = of_updater plans w u verb (slice_get w.updaters u)
-change_of plans w (Worker k verb) = if nat_lt k w.workers then worker_line w verb else Err NoActor
+change_of plans w (Worker k verb) = of_worker plans w k verb (slice_get w.workers k)
 
 -- the world after a step, and the answer
 pub record Outcome (P : Type 0) : Type 0 where

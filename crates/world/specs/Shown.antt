@@ -1,16 +1,26 @@
 -- The world as the step table sees it.
-use Rattle.std.specs.Prelude.{◌≡◌, ◌⊎◌, ◌≤◌, ◌<◌, ◌^◌, ◌%◌, ℕ, Bool, true, Result, Ok, Err, length, slice_get, Some}
+use Rattle.std.specs.Prelude.{◌≡◌, ◌⊎◌, ◌≤◌, ◌<◌, ◌^◌, ◌%◌, ℕ, true, false, List, Result, Ok, Err, length, slice_get, Some}
 use Rattle.rcu_model.specs.declared.refusal.Refusal.{Refusal}
 use Rattle.rcu_model.specs.declared.refusal.Refusal.TheVariants.{Memory}
 use Rattle.world_state.specs.declared.line.Answer.{Answer}
 use Rattle.world_state.specs.declared.reader.ReaderState.{ReaderState}
 use Rattle.world_state.specs.declared.updater.GraceState.{GraceState}
 use Rattle.world_state.specs.declared.updater.UpdaterState.{UpdaterState}
-use Rattle.world_state.specs.declared.updater.UpdaterPlace.TheVariants.{Syncs}
+use Rattle.world_state.specs.declared.updater.UpdaterPlace.TheVariants.{Syncs, Bars}
+use Rattle.world_state.specs.declared.updater.Barrier.{Barrier}
+use Rattle.world_state.specs.declared.updater.BarrierStep.{BarrierStep}
+use Rattle.world_state.specs.declared.updater.BarrierStep.TheVariants.{Note, Check}
+use Rattle.world_state.specs.declared.queue.QueueState.{QueueState}
+use Rattle.world_state.specs.declared.worker.WorkerState.{WorkerState}
+use Rattle.world_state.specs.declared.line.Line.{Line}
+use Rattle.world_state.specs.declared.change.Change.{Change}
+use Rattle.world_state.specs.declared.change.Change.TheVariants.{Read, Begin, Publish, Grace, Hold, Retire, Bar, Work, Stay}
+use Rattle.world_state.specs.Queues.{MayActAt}
+use Rattle.call_rcu_worker.specs.declared.worker.WorkerCore.TheVariants as worker
 use Rattle.call_rcu_worker.specs.declared.sync.SyncCore.TheVariants.{Starts}
-use Rattle.world_state.specs.View.{BoardView}
+use Rattle.world_state.specs.View.{Plans, BoardView}
 use Rattle.world.specs.declared.board.Board.{Board}
-use Rattle.world.specs.Lines.{Outcome}
+use Rattle.world.specs.Lines.{Outcome, change_of}
 
 abbrev pub shown : {P : Type 0} → Board P → BoardView P
 shown b =
@@ -18,7 +28,9 @@ shown b =
       layout = b.layout;
       readers = b.readers.items;
       updaters = b.updaters.items;
-      workers = b.workers;
+      workers = b.workers.items;
+      queues = b.queues.items;
+      barriers = b.barriers;
       grace = b.grace;
       heads = b.heads.items;
       objects = b.objects.items;
@@ -31,19 +43,56 @@ pub record CanStart (grace : GraceState) : Type 0 where
   pub seq : grace.seq ≤ 2 ^ 62
   pub word : grace.word ≤ 2 ^ 62
 
--- the log or the list of objects is longer
+-- a queue has a place for one more item, and had none
+pub record Reserves (old new : List QueueState) : Type 0 where
+  pub queue : ℕ
+  pub before : QueueState
+  pub was : slice_get old queue ≡ Some before
+  pub had_none : before.items.reserved ≡ false
+  pub after : QueueState
+  pub is : slice_get new queue ≡ Some after
+  pub has : after.items.reserved ≡ true
+
+-- the log or the list of objects is longer, or a queue has a place for one more item
 abbrev pub Grows : {P : Type 0} → BoardView P → BoardView P → Type 0
-Grows old new = (length old.log < length new.log) ⊎ (length old.objects < length new.objects)
+Grows old new = (length old.log < length new.log) ⊎ ((length old.objects < length new.objects) ⊎ Reserves old.queues new.queues)
 
 -- the answer and the world after are those of the table, or memory for a growth was refused; an error changes nothing
 abbrev pub Meets : {P : Type 0} → Outcome P → BoardView P → BoardView P → Result Answer Refusal → Type 0
 Meets outcome old new (Ok a) = (outcome.answer ≡ Ok a) × (new ≡ outcome.world)
 Meets outcome old new (Err e) = (new ≡ old) × (((outcome.answer ≡ Err e) × (outcome.world ≡ old)) ⊎ ((e ≡ Memory) × Grows old outcome.world))
 
+-- there are queues, at most eight
+pub record HasQueues {P : Type 0} (w : BoardView P) : Type 0 where
+  pub some : 1 ≤ length w.queues
+  pub few : length w.queues ≤ 8
+
+-- the barrier's next step is with one of the queues
+abbrev pub IsAtQueue : {P : Type 0} → BoardView P → BarrierStep → Type 0
+IsAtQueue w (Note q) = q < length w.queues
+IsAtQueue w (Check q) = q < length w.queues
+
+-- the change asks no more of its queue than the queue has
+abbrev pub MayMake : {P : Type 0} → BoardView P → Change P → Type 0
+MayMake w (Read r step) = Unit {0}
+MayMake w (Begin u x object) = Unit {0}
+MayMake w (Publish u x splice event) = Unit {0}
+MayMake w (Grace u x grace answer) = Unit {0}
+MayMake w (Hold u x q) = Unit {0}
+MayMake w (Retire u x q act mark answer) = MayActAt act (slice_get w.queues q)
+MayMake w (Bar u x barriers answer) = Unit {0}
+MayMake w (Work k x grace act mark answer) = MayActAt act (slice_get w.queues k)
+MayMake w (Stay answer) = Unit {0}
+
 -- the numbers of the world are small enough for its next step
-pub record IsInRange {P : Type 0} (qsbr : Bool) (w : BoardView P) : Type 0 where
+pub record IsInRange {P : Type 0} (plans : Plans P) (w : BoardView P) : Type 0 where
   pub some_reader : 1 ≤ length w.readers
+  pub queues : HasQueues w
   pub ordinals : (r : ℕ) (v : ReaderState) → slice_get w.readers r ≡ Some v → v.ordinal ≤ length w.log
-  pub copies : qsbr ≡ true → (r : ℕ) (v : ReaderState) (copy : ℕ) → slice_get w.readers r ≡ Some v → v.copy ≡ Some copy → copy < 2 ^ 63
+  pub copies : plans.qsbr ≡ true → (r : ℕ) (v : ReaderState) (copy : ℕ) → slice_get w.readers r ≡ Some v → v.copy ≡ Some copy → copy < 2 ^ 63
   pub asks : w.grace.asks ≤ length w.log
+  pub barriers : w.barriers ≤ length w.log
   pub starts : (u : ℕ) (x : UpdaterState P) (ask cookie : ℕ) → slice_get w.updaters u ≡ Some x → x.place ≡ Syncs ask (Starts cookie) → CanStart w.grace
+  pub worker_starts : (k : ℕ) (x : WorkerState P) (cookie tickets : ℕ) → slice_get w.workers k ≡ Some x → x.core ≡ worker.Syncs (Starts cookie) tickets → CanStart w.grace
+  pub bars : (u : ℕ) (x : UpdaterState P) (b : Barrier) → slice_get w.updaters u ≡ Some x → x.place ≡ Bars b → IsAtQueue w b.due
+  pub may_make : length w.log < 2 ^ 63 → (line : Line) (change : Change P) → change_of plans w line ≡ Ok change → MayMake w change

@@ -1,5 +1,5 @@
 -- A world of either flavour, and the step table as its callers see it.
-use Rattle.std.specs.Prelude.{◌≡◌, ◌⊎◌, ◌%◌, ◌^◌, ℕ, ◌==◌, ◌&&◌, nat_le, length, ◌<◌, Bool, true, false, List, [], ◌∷◌, ◌++◌, Result, Ok, Err}
+use Rattle.std.specs.Prelude.{◌≡◌, ◌⊎◌, ◌%◌, ◌^◌, ℕ, ◌==◌, ◌&&◌, nat_le, Bool, true, false, List, [], ◌∷◌, ◌++◌, Result, Ok, Err}
 use Rattle.rcu_model.specs.declared.event.Event.{Event}
 use Rattle.rcu_model.specs.declared.refusal.Refusal.{Refusal}
 use Rattle.rcu_model.specs.declared.refusal.Refusal.TheVariants.{Memory}
@@ -18,6 +18,7 @@ use Rattle.world_state.specs.Limits.{is_within_limits}
 use Rattle.world_state.specs.View.{Plans, BoardView, plans_of, fresh_at, told}
 use Rattle.world.specs.Lines.{Outcome as BoardOutcome, outcome_of}
 use Rattle.world.specs.Reached.{IsReached}
+use Rattle.world.specs.Shown.{Grows as BoardGrows}
 
 abbrev pub memb_plans : Plans MembPlan
 memb_plans = plans_of false (λ layout slots seq word. memb_begun layout slots seq (word == 1)) memb_action memb_turn memb_taken
@@ -77,14 +78,12 @@ abbrev pub log_of : WorldView → List Event
 log_of (OfMemb w) = w.log
 log_of (OfQsbr w) = w.log
 
--- how many objects were made
-abbrev pub objects_of : WorldView → ℕ
-objects_of (OfMemb w) = length w.objects
-objects_of (OfQsbr w) = length w.objects
-
--- the log or the list of objects is longer
+-- the log or the list of objects is longer, or a queue has a place for one more item
 abbrev pub Grows : WorldView → WorldView → Type 0
-Grows old new = (length (log_of old) < length (log_of new)) ⊎ (objects_of old < objects_of new)
+Grows (OfMemb old) (OfMemb new) = BoardGrows old new
+Grows (OfQsbr old) (OfQsbr new) = BoardGrows old new
+Grows (OfMemb old) (OfQsbr new) = ⊥
+Grows (OfQsbr old) (OfMemb new) = ⊥
 
 -- the answer and the world after are those of the table, or memory for a growth was refused; an error changes nothing
 abbrev pub Meets : Outcome → WorldView → WorldView → Result Answer Refusal → Type 0

@@ -1,12 +1,15 @@
 //! The board: what is kept between two lines, and one step of it.
 
-ghost use Rattle.std.specs.Prelude.{◌≡◌, ◌+◌, ◌≤◌, ◌<◌, ◌^◌, ◌++◌, length, slice_set, OnOk, OnErr, IfOk, IfErr};
+ghost use Rattle.std.specs.Prelude.{◌≡◌, ◌+◌, ◌≤◌, ◌<◌, ◌^◌, ◌++◌, length, slice_get, slice_set, replicate, OnOk, OnErr, IfOk, IfErr};
+ghost use Rattle.rcu_model.specs.declared.refusal.Refusal.TheVariants as refusal;
+ghost use Rattle.world_state.specs.Queues.{empty_queue_state};
 
 use rcu_model::{Event, ObjectId, Refusal};
 use std::alloc::Global;
 use world_state::{
-    Answer, Change, Config, GraceState, Layout, Line, ObjectState, ReaderState, Splice, StepError,
-    UpdaterState, WorkerVerb, WorldPlan, put, splice_heads, splice_objects,
+    Answer, Change, Config, GraceState, Layout, Line, Mark, ObjectState, QueueAct, QueueState,
+    ReaderState, Splice, StepError, UpdaterState, WorkerState, WorldPlan, act_on, hold_queue,
+    mark_object, put, splice_heads, splice_objects,
 };
 
 /// The words, the bookkeeping beside them, and the log.
@@ -15,7 +18,11 @@ pub struct Board<P> {
     pub(crate) layout: Layout,
     pub(crate) readers: Vec<ReaderState>,
     pub(crate) updaters: Vec<UpdaterState<P>>,
-    workers: u32,
+    pub(crate) workers: Vec<WorkerState<P>>,
+    /// One for each worker.
+    pub(crate) queues: Vec<QueueState>,
+    /// How many barriers were begun.
+    pub(crate) barriers: u64,
     pub(crate) grace: GraceState,
     pub(crate) heads: Vec<Option<ObjectId>>,
     pub(crate) objects: Vec<ObjectState>,
@@ -23,11 +30,11 @@ pub struct Board<P> {
 }
 
 impl<P: WorldPlan + Drop> Board<P> {
-    ghost use Rattle.rcu_model.specs.declared.refusal.Refusal.TheVariants as refusal;
     ghost use Rattle.world_state.specs.View.{fresh_at, changed, answer_of, told, plans_of};
-    ghost use Rattle.world_state.specs.Objects.{spliced_heads, spliced_objects};
+    ghost use Rattle.world_state.specs.Objects.{spliced_heads, spliced_objects, marked_life};
+    ghost use Rattle.world_state.specs.Queues.{acted_at, MayActAt};
     ghost use Rattle.world.specs.Lines.{change_of, outcome_of};
-    ghost use Rattle.world.specs.Shown.{shown, Grows, Meets, IsInRange};
+    ghost use Rattle.world.specs.Shown.{shown, Grows, Meets, MayMake, IsInRange};
 
     /// A board on which nothing has happened.
     pub fn new(alloc: Global, config: Config, seq: u64) -> Result<Board<P>, Refusal>
@@ -40,6 +47,10 @@ impl<P: WorldPlan + Drop> Board<P> {
         let Ok(updaters) = vec![in alloc; UpdaterState::new(); config.updaters as usize] else {
             return Err(Refusal::Memory);
         };
+        let Ok(workers) = vec![in alloc; WorkerState::new(); config.workers as usize] else {
+            return Err(Refusal::Memory);
+        };
+        let queues = new_queues(alloc, config.workers)?;
         let Ok(heads) = vec![in alloc; None; config.chains as usize] else {
             return Err(Refusal::Memory);
         };
@@ -50,7 +61,9 @@ impl<P: WorldPlan + Drop> Board<P> {
             layout: config.layout,
             readers,
             updaters,
-            workers: config.workers,
+            workers,
+            queues,
+            barriers: 0,
             grace: GraceState {
                 seq,
                 word: 0,
@@ -65,7 +78,7 @@ impl<P: WorldPlan + Drop> Board<P> {
 
     /// One step of the world.
     pub fn step(&mut self, line: &Line) -> Result<Answer, StepError>
-        requires { IsInRange P.QSBR (shown self.old) }
+        requires { IsInRange (plans_of P.QSBR P.made P.action P.turn P.taken) (shown self.old) }
         ensures { Meets (outcome_of (plans_of P.QSBR P.made P.action P.turn P.taken) (shown self.old) line.now) (shown self.old) (shown self.new) result }
     {
         let change = self.change(line)?;
@@ -81,7 +94,7 @@ impl<P: WorldPlan + Drop> Board<P> {
 
     /// What a line makes of the world.
     fn change(&self, line: &Line) -> Result<Change<P>, Refusal>
-        requires { IsInRange P.QSBR (shown self.now) }
+        requires { IsInRange (plans_of P.QSBR P.made P.action P.turn P.taken) (shown self.now) }
         ensures { result ≡ change_of (plans_of P.QSBR P.made P.action P.turn P.taken) (shown self.now) line.now }
     {
         match *line {
@@ -99,18 +112,17 @@ impl<P: WorldPlan + Drop> Board<P> {
                 self.updater_line(updater, state, verb)
             }
             Line::Worker(worker, verb) => {
-                if worker >= self.workers {
+                let Some(state) = self.workers.get(worker as usize).copied() else {
                     return Err(Refusal::NoActor);
-                }
-                match verb {
-                    WorkerVerb::GoOn => Err(Refusal::NotOpen),
-                }
+                };
+                self.worker_line(worker, state, verb)
             }
         }
     }
 
     /// A change, unless there is no memory for what it adds. That comes first, so a refusal leaves all as it was.
     fn commit(&mut self, change: Change<P>) -> Result<Answer, StepError>
+        requires { MayMake (shown self.old) change }
         ensures ok { OnOk result (shown self.new ≡ changed (shown self.old) change) }
         ensures answer { IfOk result (λ a. a ≡ answer_of change) }
         ensures err { OnErr result (shown self.new ≡ shown self.old) }
@@ -158,8 +170,64 @@ impl<P: WorldPlan + Drop> Board<P> {
                 self.grace = grace;
                 Ok(answer)
             }
+            Change::Hold {
+                updater,
+                state,
+                queue,
+            } => {
+                hold_queue(&mut self.queues, queue as usize, updater)?;
+                put(&mut self.updaters, updater as usize, state);
+                Ok(Answer::Quiet)
+            }
+            Change::Retire {
+                updater,
+                state,
+                queue,
+                act,
+                mark,
+                answer,
+            } => {
+                self.tell(answer)?;
+                self.act_now(queue, act, mark);
+                put(&mut self.updaters, updater as usize, state);
+                Ok(answer)
+            }
+            Change::Bar {
+                updater,
+                state,
+                barriers,
+                answer,
+            } => {
+                self.tell(answer)?;
+                put(&mut self.updaters, updater as usize, state);
+                self.barriers = barriers;
+                Ok(answer)
+            }
+            Change::Work {
+                worker,
+                state,
+                grace,
+                act,
+                mark,
+                answer,
+            } => {
+                self.tell(answer)?;
+                self.act_now(worker, act, mark);
+                put(&mut self.workers, worker as usize, state);
+                self.grace = grace;
+                Ok(answer)
+            }
             Change::Stay(answer) => Ok(answer),
         }
+    }
+
+    /// What a step changes of a queue, and of an object with it.
+    fn act_now(&mut self, queue: u32, act: QueueAct, mark: Option<Mark>)
+        requires { MayActAt act (slice_get (shown self.old).queues queue) }
+        ensures { shown self.new ≡ record (shown self.old) { queues = acted_at (shown self.old).queues queue act; objects = marked_life (shown self.old).objects mark } }
+    {
+        act_on(&mut self.queues, queue as usize, act);
+        mark_object(&mut self.objects, mark);
     }
 
     /// An updater's store into a chain.
@@ -178,6 +246,8 @@ impl<P: WorldPlan + Drop> Board<P> {
         ensures readers { self.new.readers ≡ self.old.readers }
         ensures updaters { self.new.updaters ≡ self.old.updaters }
         ensures workers { self.new.workers ≡ self.old.workers }
+        ensures queues { self.new.queues ≡ self.old.queues }
+        ensures barriers { self.new.barriers ≡ self.old.barriers }
         ensures grace { self.new.grace ≡ self.old.grace }
         ensures log { self.new.log ≡ self.old.log }
     {
@@ -206,4 +276,18 @@ impl<P: WorldPlan + Drop> Board<P> {
         prove!(is_first && is_second);
         Ok(())
     }
+}
+
+/// A queue for each worker.
+fn new_queues(alloc: Global, workers: u32) -> Result<Vec<QueueState>, Refusal>
+    ensures ok { IfOk result (λ queues. queues.items ≡ replicate workers empty_queue_state) }
+    ensures memory { IfErr result (λ e. e ≡ refusal.Memory) }
+{
+    let mut queues = Vec::new(alloc);
+    for _ in 0..workers {
+        if queues.push(QueueState::new(alloc)).is_err() {
+            return Err(Refusal::Memory);
+        }
+    }
+    Ok(queues)
 }

@@ -8,6 +8,15 @@ use call_rcu_worker::{SyncCore, Told};
 use rcu_model::Event;
 use world_state::{Answer, GraceState};
 
+/// What a step of a grace period does: what the world keeps of grace periods then, the word that it loads, and the plan
+/// that it makes.
+#[derive(Clone, Copy, Debug, PartialEq, Eq, Drop)]
+pub struct Effect<P> {
+    pub grace: GraceState,
+    pub loaded: u64,
+    pub plan: Option<P>,
+}
+
 /// Where a grace period stands after a step, what the world keeps of grace periods then, and the answer.
 #[derive(Clone, Copy, Debug, PartialEq, Eq, Drop)]
 pub struct GraceStep<P> {

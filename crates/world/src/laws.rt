@@ -23,7 +23,7 @@ pub fn log_is_a_run<P: WorldPlan>()
 
 /// The numbers of a world that lines led to are small enough for its next step.
 pub(crate) fn numbers_stay_in_range<P: WorldPlan>()
-    ensures { (w : BoardView P) → IsReached (plans_of P.QSBR P.made P.action P.turn P.taken) w → IsInRange P.QSBR w }
+    ensures { (w : BoardView P) → IsReached (plans_of P.QSBR P.made P.action P.turn P.taken) w → IsInRange (plans_of P.QSBR P.made P.action P.turn P.taken) w }
 {}
 
 /// What a schedule is answered is its log, and its log is a run: for every config that makes a world and all lines, the

@@ -1,12 +1,15 @@
 #![tactic(auto)]
 //! The world of schedules: readers, updaters and workers that make one atomic step a line.
 
+mod barring;
 mod board;
 mod grace;
 mod laws;
 mod publishing;
 mod reading;
+mod retiring;
 mod waiting;
+mod working;
 mod world;
 
 pub use laws::{answers_are_a_run, log_is_a_run};

@@ -11,6 +11,7 @@ impl<P: WorldPlan + Drop> Board<P> {
     ghost use Rattle.world.specs.Chains.{first_row, next_from};
     ghost use Rattle.world.specs.Lines.{reader_line, reader_begins, reader_on};
     ghost use Rattle.world.specs.Shown.{shown, IsInRange};
+    ghost use Rattle.world_state.specs.View.{plans_of};
     ghost use Rattle.world_state.specs.Readers.{touch_row};
 
     /// A line of a reader.
@@ -20,7 +21,7 @@ impl<P: WorldPlan + Drop> Board<P> {
         state: ReaderState,
         verb: ReaderVerb,
     ) -> Result<ReaderStep, Refusal>
-        requires range { IsInRange P.QSBR (shown self.now) }
+        requires range { IsInRange (plans_of P.QSBR P.made P.action P.turn P.taken) (shown self.now) }
         requires there { slice_get (shown self.now).readers reader ≡ Some state }
         ensures { result ≡ reader_line P.QSBR (shown self.now) reader state verb }
     {
@@ -35,7 +36,7 @@ impl<P: WorldPlan + Drop> Board<P> {
 
     /// The second step of `lock`, `online` or `quiescent`.
     fn reader_on(&self, reader: u32, state: ReaderState) -> Result<ReaderStep, Refusal>
-        requires range { IsInRange P.QSBR (shown self.now) }
+        requires range { IsInRange (plans_of P.QSBR P.made P.action P.turn P.taken) (shown self.now) }
         requires there { slice_get (shown self.now).readers reader ≡ Some state }
         ensures { result ≡ reader_on P.QSBR (shown self.now) reader state state.copy }
     {

@@ -1,7 +1,7 @@
-//! Worlds made by their callers, to the end of the sequence numbers.
+//! Worlds made by their callers, to the end of the sequence numbers, and the worked rows of retirements and barriers.
 
-use super::{Answer, Config, Flavour, Layout, Line, UpdaterVerb, World};
-use rcu_model::{Event, Refusal};
+use super::{Answer, Config, Flavour, Layout, Line, ReaderVerb, UpdaterVerb, WorkerVerb, World};
+use rcu_model::{Event, ObjectId, Refusal, SectionId};
 use std::alloc::Global;
 use std::process::Abort;
 
@@ -135,4 +135,298 @@ fn sequence_numbers_end(rt: HostRuntime) {
 #[test]
 fn sequence_numbers_end_in_the_quiescent_state_flavour(rt: HostRuntime) {
     check_the_end(&rt, rt.alloc(), Flavour::Qsbr, 2);
+}
+
+/// A line, how often it is stepped, and what each of these steps answers.
+type Row = (Line, u32, Result<Answer, Refusal>);
+
+fn check_steps(rt: &impl Abort, world: &mut World, row: Row) {
+    let (line, steps, answer) = row;
+    for _ in 0..steps {
+        assert_eq!(rt; world.step(&line), answer);
+    }
+}
+
+fn check_rows(rt: &impl Abort, world: &mut World, rows: &[Row]) {
+    for row in rows {
+        check_steps(rt, world, *row);
+    }
+}
+
+const FIRST: ObjectId = ObjectId(1);
+
+const SECOND: ObjectId = ObjectId(2);
+
+/// The updater pushes the object into the chain of its own number.
+fn push_rows(updater: u32, object: ObjectId) -> [Row; 2] {
+    let pushed = Event::Push {
+        chain: updater,
+        object,
+    };
+    [
+        (
+            Line::Updater(updater, UpdaterVerb::Push(updater)),
+            1,
+            Ok(Answer::Quiet),
+        ),
+        (Line::Updater(updater, UpdaterVerb::GoOn), 1, told(pushed)),
+    ]
+}
+
+/// The updater cuts the object from that chain.
+fn cut_rows(updater: u32, object: ObjectId) -> [Row; 1] {
+    let cut = Event::Cut {
+        chain: updater,
+        object,
+    };
+    [(
+        Line::Updater(updater, UpdaterVerb::Cut(object)),
+        1,
+        told(cut),
+    )]
+}
+
+/// The updater retires the object, into the queue of its own number.
+fn retire_rows(updater: u32, object: ObjectId) -> [Row; 5] {
+    let quiet = Ok(Answer::Quiet);
+    let on = Line::Updater(updater, UpdaterVerb::GoOn);
+    let queued = Event::Queue {
+        object,
+        queue: updater,
+    };
+    [
+        (
+            Line::Updater(updater, UpdaterVerb::Retire(object)),
+            1,
+            quiet,
+        ),
+        (on, 1, told(Event::Retire(object))),
+        (on, 1, quiet),
+        (on, 1, told(queued)),
+        (on, 1, quiet),
+    ]
+}
+
+fn take_rows(worker: u32) -> [Row; 1] {
+    [(Line::Worker(worker, WorkerVerb::Take), 1, Ok(Answer::Quiet))]
+}
+
+/// The worker asks, finds nobody in the way, and runs its first item, up to the count.
+fn run_rows(worker: u32, ask: u64, object: ObjectId) -> [Row; 5] {
+    let quiet = Ok(Answer::Quiet);
+    let on = Line::Worker(worker, WorkerVerb::GoOn);
+    [
+        (on, 1, told(Event::Ask(ask))),
+        (on, 7, quiet),
+        (on, 1, told(Event::Answer(ask))),
+        (on, 1, quiet),
+        (on, 1, told(Event::Run(object))),
+    ]
+}
+
+const SECTION: SectionId = SectionId {
+    reader: 0,
+    ordinal: 1,
+};
+
+/// A reader loads the phase before a whole grace period, and comes to the object after it.
+fn check_delayed_reader(rt: &impl Abort, world: &mut World) {
+    let quiet = Ok(Answer::Quiet);
+    let on = Line::Updater(0, UpdaterVerb::GoOn);
+    let found = Event::First {
+        section: SECTION,
+        chain: 0,
+        found: Some(FIRST),
+    };
+    let rows = [
+        (Line::Reader(0, ReaderVerb::Lock), 1, quiet),
+        (Line::Updater(0, UpdaterVerb::Sync), 1, told(Event::Ask(1))),
+        (on, 7, quiet),
+        (on, 1, told(Event::Answer(1))),
+        (on, 1, quiet),
+        (
+            Line::Reader(0, ReaderVerb::GoOn),
+            1,
+            told(Event::Open(SECTION)),
+        ),
+        (Line::Reader(0, ReaderVerb::First(0)), 1, told(found)),
+    ];
+    check_rows(rt, world, &rows);
+}
+
+/// The worker's scan waits for the reader's section to end.
+fn check_delayed_run(rt: &impl Abort, world: &mut World) {
+    let quiet = Ok(Answer::Quiet);
+    let on = Line::Worker(0, WorkerVerb::GoOn);
+    let touched = Event::Touch {
+        section: SECTION,
+        object: FIRST,
+    };
+    let rows = [
+        (on, 1, told(Event::Ask(2))),
+        (on, 4, quiet),
+        (on, 1, Ok(Answer::Wait)),
+        (Line::Reader(0, ReaderVerb::Touch), 1, told(touched)),
+        (
+            Line::Reader(0, ReaderVerb::Unlock),
+            1,
+            told(Event::Close(SECTION)),
+        ),
+        (on, 3, quiet),
+        (on, 1, told(Event::Answer(2))),
+        (on, 1, quiet),
+        (on, 1, told(Event::Run(FIRST))),
+        (on, 1, quiet),
+        (on, 1, Err(Refusal::NotOpen)),
+    ];
+    check_rows(rt, world, &rows);
+}
+
+#[test]
+fn a_delayed_reader_is_awaited(rt: HostRuntime) {
+    match World::new(rt.alloc(), SMALL) {
+        Ok(mut world) => {
+            check_rows(&rt, &mut world, &push_rows(0, FIRST));
+            check_delayed_reader(&rt, &mut world);
+            check_rows(&rt, &mut world, &cut_rows(0, FIRST));
+            check_rows(&rt, &mut world, &retire_rows(0, FIRST));
+            check_rows(&rt, &mut world, &take_rows(0));
+            check_delayed_run(&rt, &mut world);
+            assert_eq!(rt; world.log().len(), 13);
+        }
+        Err(_) => assert!(rt; false),
+    }
+}
+
+/// What is queued after the take is no part of the batch, and is taken the next time.
+#[test]
+fn an_item_queued_after_the_take_stays(rt: HostRuntime) {
+    let counted = [(Line::Worker(0, WorkerVerb::GoOn), 1, Ok(Answer::Quiet))];
+    match World::new(rt.alloc(), SMALL) {
+        Ok(mut world) => {
+            check_rows(&rt, &mut world, &push_rows(0, FIRST));
+            check_rows(&rt, &mut world, &push_rows(0, SECOND));
+            check_rows(&rt, &mut world, &cut_rows(0, FIRST));
+            check_rows(&rt, &mut world, &cut_rows(0, SECOND));
+            check_rows(&rt, &mut world, &retire_rows(0, FIRST));
+            check_rows(&rt, &mut world, &take_rows(0));
+            check_rows(&rt, &mut world, &retire_rows(0, SECOND));
+            check_rows(&rt, &mut world, &run_rows(0, 1, FIRST));
+            check_rows(&rt, &mut world, &counted);
+            check_rows(&rt, &mut world, &take_rows(0));
+            check_rows(&rt, &mut world, &run_rows(0, 2, SECOND));
+        }
+        Err(_) => assert!(rt; false),
+    }
+}
+
+/// The barrier notes two queues and waits for each until its item is run and counted.
+fn check_barrier(rt: &impl Abort, world: &mut World) {
+    let quiet = Ok(Answer::Quiet);
+    let wait = Ok(Answer::Wait);
+    let on = Line::Updater(0, UpdaterVerb::GoOn);
+    let begun = [
+        (
+            Line::Updater(0, UpdaterVerb::Barrier),
+            1,
+            told(Event::Bar(1)),
+        ),
+        (on, 1, quiet),
+        (on, 1, wait),
+    ];
+    let first_counted = [
+        (on, 1, wait),
+        (Line::Worker(0, WorkerVerb::GoOn), 1, quiet),
+        (on, 1, quiet),
+        (on, 1, wait),
+    ];
+    let second_counted = [
+        (on, 1, wait),
+        (Line::Worker(1, WorkerVerb::GoOn), 1, quiet),
+        (on, 1, told(Event::Clear(1))),
+        (on, 1, Err(Refusal::NotOpen)),
+    ];
+    check_rows(rt, world, &begun);
+    check_rows(rt, world, &take_rows(0));
+    check_rows(rt, world, &run_rows(0, 1, FIRST));
+    check_rows(rt, world, &first_counted);
+    check_rows(rt, world, &take_rows(1));
+    check_rows(rt, world, &run_rows(1, 2, SECOND));
+    check_rows(rt, world, &second_counted);
+}
+
+#[test]
+fn a_barrier_waits_for_both_queues(rt: HostRuntime) {
+    let config = Config {
+        updaters: 2,
+        workers: 2,
+        chains: 2,
+        ..SMALL
+    };
+    match World::new(rt.alloc(), config) {
+        Ok(mut world) => {
+            check_rows(&rt, &mut world, &push_rows(0, FIRST));
+            check_rows(&rt, &mut world, &push_rows(1, SECOND));
+            check_rows(&rt, &mut world, &cut_rows(0, FIRST));
+            check_rows(&rt, &mut world, &cut_rows(1, SECOND));
+            check_rows(&rt, &mut world, &retire_rows(0, FIRST));
+            check_rows(&rt, &mut world, &retire_rows(1, SECOND));
+            check_barrier(&rt, &mut world);
+        }
+        Err(_) => assert!(rt; false),
+    }
+}
+
+/// A queue is idle while it is empty, and blocked while an updater has locked it.
+#[test]
+fn a_take_is_idle_and_then_blocked(rt: HostRuntime) {
+    let take = Line::Worker(0, WorkerVerb::Take);
+    let cut = Line::Updater(0, UpdaterVerb::Cut(FIRST));
+    let idle = [(take, 1, Ok(Answer::Idle))];
+    let busy = [(cut, 1, Err(Refusal::Busy))];
+    let blocked = [(take, 1, Ok(Answer::Blocked))];
+    match World::new(rt.alloc(), SMALL) {
+        Ok(mut world) => {
+            check_rows(&rt, &mut world, &idle);
+            check_rows(&rt, &mut world, &push_rows(0, FIRST)[..1]);
+            check_rows(&rt, &mut world, &busy);
+            check_rows(&rt, &mut world, &push_rows(0, FIRST)[1..]);
+            check_rows(&rt, &mut world, &cut_rows(0, FIRST));
+            check_rows(&rt, &mut world, &retire_rows(0, FIRST)[..1]);
+            check_rows(&rt, &mut world, &blocked);
+            check_rows(&rt, &mut world, &retire_rows(0, FIRST)[1..2]);
+        }
+        Err(_) => assert!(rt; false),
+    }
+}
+
+/// An object is retired once, after it is cut, and by the writer of its chain.
+#[test]
+fn only_a_cut_object_is_retired(rt: HostRuntime) {
+    let config = Config {
+        updaters: 2,
+        ..SMALL
+    };
+    let refused = [(
+        Line::Updater(0, UpdaterVerb::Retire(FIRST)),
+        1,
+        Err(Refusal::NoPlace),
+    )];
+    let foreign = [(
+        Line::Updater(1, UpdaterVerb::Retire(FIRST)),
+        1,
+        Err(Refusal::NoPlace),
+    )];
+    match World::new(rt.alloc(), config) {
+        Ok(mut world) => {
+            check_rows(&rt, &mut world, &refused);
+            check_rows(&rt, &mut world, &push_rows(0, FIRST));
+            check_rows(&rt, &mut world, &refused);
+            check_rows(&rt, &mut world, &cut_rows(0, FIRST));
+            check_rows(&rt, &mut world, &foreign);
+            check_rows(&rt, &mut world, &retire_rows(0, FIRST));
+            check_rows(&rt, &mut world, &refused);
+        }
+        Err(_) => assert!(rt; false),
+    }
 }

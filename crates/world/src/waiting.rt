@@ -1,11 +1,9 @@
 //! The lines of updaters, and the steps of their grace periods.
 
 ghost use Rattle.std.specs.Prelude.{◌≡◌, ◌+◌, ◌≤◌, ◌<◌, ◌^◌, length, slice_get, Some};
-ghost use Rattle.call_rcu_worker.specs.Sync.{told_of};
-ghost use Rattle.world.specs.Grace.{stepped};
 
 use crate::board::Board;
-use crate::grace::{GraceStep, answer_to, one_event};
+use crate::grace::{Effect, GraceStep, answer_to, one_event};
 use call_rcu_worker::{SyncCore, SyncStep};
 use gp_memb::Action;
 use poll_cookie::{cookie_of, is_past};
@@ -19,7 +17,7 @@ impl<P: WorldPlan + Drop> Board<P> {
     ghost use Rattle.call_rcu_worker.specs.Sync.{step_of};
     ghost use Rattle.world_state.specs.declared.updater.Holder.TheVariants.{Updater};
     ghost use Rattle.world_state.specs.View.{plans_of};
-    ghost use Rattle.world.specs.Grace.{action_row, hold_row, grace_row, sync_place, start_row, poll_row};
+    ghost use Rattle.world.specs.Grace.{action_effect, effect_of, plan_now, grace_row, sync_place, start_row, poll_row};
     ghost use Rattle.world.specs.Lines.{updater_line, updater_begins, updater_on, synced};
     ghost use Rattle.poll_cookie.specs.Cookie.{cookie_for};
     ghost use Rattle.world.specs.Shown.{shown, IsInRange, CanStart};
@@ -31,7 +29,7 @@ impl<P: WorldPlan + Drop> Board<P> {
         state: UpdaterState<P>,
         verb: UpdaterVerb,
     ) -> Result<Change<P>, Refusal>
-        requires range { IsInRange P.QSBR (shown self.now) }
+        requires range { IsInRange (plans_of P.QSBR P.made P.action P.turn P.taken) (shown self.now) }
         requires there { slice_get (shown self.now).updaters updater ≡ Some state }
         ensures { result ≡ updater_line (plans_of P.QSBR P.made P.action P.turn P.taken) (shown self.now) updater state verb }
     {
@@ -46,7 +44,7 @@ impl<P: WorldPlan + Drop> Board<P> {
 
     /// The next step of an updater's operation.
     fn updater_on(&self, updater: u32, state: UpdaterState<P>) -> Result<Change<P>, Refusal>
-        requires range { IsInRange P.QSBR (shown self.now) }
+        requires range { IsInRange (plans_of P.QSBR P.made P.action P.turn P.taken) (shown self.now) }
         requires there { slice_get (shown self.now).updaters updater ≡ Some state }
         ensures { result ≡ updater_on (plans_of P.QSBR P.made P.action P.turn P.taken) (shown self.now) updater state state.place }
     {
@@ -55,6 +53,10 @@ impl<P: WorldPlan + Drop> Board<P> {
             UpdaterPlace::Idle => Err(Refusal::NotOpen),
             UpdaterPlace::Publishes(publishing) => self.publish(updater, state, publishing),
             UpdaterPlace::Syncs { ask, core } => self.sync(updater, state, ask, core),
+            UpdaterPlace::Retires { object, due } => Ok(self.retire_on(
+                updater, state, object, due,
+            )),
+            UpdaterPlace::Bars(barrier) => Ok(self.barrier_on(updater, state, barrier)),
         }
     }
 
@@ -65,7 +67,7 @@ impl<P: WorldPlan + Drop> Board<P> {
         state: UpdaterState<P>,
         verb: UpdaterVerb,
     ) -> Result<Change<P>, Refusal>
-        requires range { IsInRange P.QSBR (shown self.now) }
+        requires range { IsInRange (plans_of P.QSBR P.made P.action P.turn P.taken) (shown self.now) }
         requires some { 0 < length (shown self.now).updaters }
         ensures { result ≡ updater_begins (plans_of P.QSBR P.made P.action P.turn P.taken) (shown self.now) updater state verb }
     {
@@ -73,19 +75,21 @@ impl<P: WorldPlan + Drop> Board<P> {
             UpdaterVerb::Push(chain) => self.push(updater, state, chain),
             UpdaterVerb::Replace(object) => self.replace(updater, state, object),
             UpdaterVerb::Cut(object) => self.cut(updater, state, object),
+            UpdaterVerb::Retire(object) => self.retire(updater, state, object),
             UpdaterVerb::Sync => {
                 let ask = self.grace.asks + 1;
                 self.sync(updater, state, ask, SyncCore::new())
             }
             UpdaterVerb::Start => self.start(updater, state),
             UpdaterVerb::Poll => self.poll(updater, state),
+            UpdaterVerb::Barrier => Ok(self.barrier(updater, state)),
             UpdaterVerb::GoOn => Err(Refusal::NotOpen),
         }
     }
 
     /// Takes a cookie, in place of an older one.
     fn start(&self, updater: u32, mut state: UpdaterState<P>) -> Result<Change<P>, Refusal>
-        requires range { IsInRange P.QSBR (shown self.now) }
+        requires range { IsInRange (plans_of P.QSBR P.made P.action P.turn P.taken) (shown self.now) }
         ensures { result ≡ start_row (shown self.now) updater state (cookie_for (shown self.now).grace.seq) }
     {
         let cookie = cookie_of(self.grace.seq)?;
@@ -152,7 +156,7 @@ impl<P: WorldPlan + Drop> Board<P> {
         })
     }
 
-    /// A step of somebody's grace period.
+    /// A step of an updater's grace period.
     fn grace_step(
         &self,
         me: Holder,
@@ -163,48 +167,72 @@ impl<P: WorldPlan + Drop> Board<P> {
         requires start { step_of P.action core ≡ due.Begin → CanStart (shown self.now).grace }
         ensures { result ≡ grace_row (plans_of P.QSBR P.made P.action P.turn P.taken) (shown self.now) me ask core }
     {
-        let mut grace = self.grace;
-        match core.next() {
-            SyncStep::Ask => {
-                grace.asks = ask;
-                tell(grace, ask, core, self.grace.seq)
-            }
-            SyncStep::TakeLock => self.take_lock(me, ask, core),
-            SyncStep::Check => tell(grace, ask, core, self.grace.seq),
-            SyncStep::Begin => {
-                let plan = P::make(self.layout, self.readers.len(), grace.seq, grace.word);
-                let action = plan.next();
-                core.begin(plan);
-                self.act(ask, core, action)
-            }
-            SyncStep::Plan(action) => self.act(ask, core, action),
-            SyncStep::FreeLock => {
-                grace.holder = None;
-                tell(grace, ask, core, 0)
-            }
-            SyncStep::Nothing => tell(grace, ask, core, 0),
-        }
-    }
-
-    /// Takes the grace lock, unless it is held.
-    fn take_lock(&self, me: Holder, ask: u64, core: SyncCore<P>) -> Result<GraceStep<P>, Refusal>
-        ensures { result ≡ hold_row (plans_of P.QSBR P.made P.action P.turn P.taken) (shown self.now) me ask core (shown self.now).grace.holder }
-    {
-        let mut grace = self.grace;
-        if grace.holder.is_some() {
+        let Some(effect) = self.effect(me, ask, core.next()) else {
             return Ok(GraceStep {
                 core,
-                grace,
+                grace: self.grace,
                 answer: Answer::Blocked,
             });
+        };
+        if let Some(plan) = effect.plan {
+            core.begin(plan);
         }
-        grace.holder = Some(me);
-        tell(grace, ask, core, 0)
+        let told = core.told(effect.loaded)?;
+        Ok(GraceStep {
+            core,
+            grace: effect.grace,
+            answer: answer_to(ask, told),
+        })
+    }
+
+    /// What a step of somebody's grace period does, or nothing where the lock that it needs is held.
+    pub fn effect(&self, me: Holder, ask: u64, step: SyncStep) -> Option<Effect<P>>
+        requires some { 1 ≤ length (shown self.now).readers }
+        requires start { step ≡ due.Begin → CanStart (shown self.now).grace }
+        ensures { result ≡ effect_of (plans_of P.QSBR P.made P.action P.turn P.taken) (shown self.now) me ask step }
+    {
+        let mut grace = self.grace;
+        let mut loaded = 0;
+        match step {
+            SyncStep::Ask => {
+                grace.asks = ask;
+                loaded = grace.seq;
+            }
+            SyncStep::TakeLock if grace.holder.is_some() => return None,
+            SyncStep::TakeLock => grace.holder = Some(me),
+            SyncStep::Check => loaded = grace.seq,
+            SyncStep::Begin => return Some(self.begin()),
+            SyncStep::Plan(action) => return Some(self.act(action)),
+            SyncStep::FreeLock => grace.holder = None,
+            SyncStep::Nothing => {}
+        }
+        Some(Effect {
+            grace,
+            loaded,
+            plan: None,
+        })
+    }
+
+    /// Makes a plan, and does its first action.
+    fn begin(&self) -> Effect<P>
+        requires some { 1 ≤ length (shown self.now).readers }
+        requires start { CanStart (shown self.now).grace }
+        ensures { result ≡ record (action_effect (shown self.now) (P.action (plan_now (plans_of P.QSBR P.made P.action P.turn P.taken) (shown self.now)))) { plan = Some (plan_now (plans_of P.QSBR P.made P.action P.turn P.taken) (shown self.now)) } }
+    {
+        let plan = P::make(
+            self.layout,
+            self.readers.len(),
+            self.grace.seq,
+            self.grace.word,
+        );
+        let mut effect = self.act(plan.next());
+        effect.plan = Some(plan);
+        effect
     }
 
     /// Does an action of the plan.
-    fn act(&self, ask: u64, core: SyncCore<P>, action: Action) -> Result<GraceStep<P>, Refusal>
-        ensures { result ≡ action_row (plans_of P.QSBR P.made P.action P.turn P.taken) (shown self.now) ask core action }
+    fn act(&self, action: Action) -> Effect<P>
+        ensures { result ≡ action_effect (shown self.now) action }
     {
         let mut grace = self.grace;
         let mut loaded = 0;
@@ -218,23 +246,10 @@ impl<P: WorldPlan + Drop> Board<P> {
             Action::StoreSeq(value) => grace.seq = value,
             Action::Finished => {}
         }
-        tell(grace, ask, core, loaded)
+        Effect {
+            grace,
+            loaded,
+            plan: None,
+        }
     }
-}
-
-/// Tells the core what was loaded. The grace state is the one after the step.
-fn tell<P: WorldPlan + Drop>(
-    grace: GraceState,
-    ask: u64,
-    mut core: SyncCore<P>,
-    loaded: u64,
-) -> Result<GraceStep<P>, Refusal>
-    ensures { result ≡ stepped grace ask (told_of P.action P.turn P.taken core loaded) }
-{
-    let told = core.told(loaded)?;
-    Ok(GraceStep {
-        core,
-        grace,
-        answer: answer_to(ask, told),
-    })
 }

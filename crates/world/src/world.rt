@@ -82,7 +82,12 @@ impl World {
         Ok(World { boards })
     }
 
-    /// One step.
+    /// What the actor of this line does next, as one atomic step, and what it is answered. The call itself never waits.
+    ///
+    /// `Wait`, `Blocked`, `Idle` and a refusal leave the world as it was. The tests come in this order: `NoActor` for an
+    /// actor that is not there; `Busy` for a verb in an operation, and `NotOpen` to go on in none; `WrongFlavour`; then
+    /// `NestFull`, `NotOpen`, `Busy`, `NoPlace` and `Exhausted` of the verb; and last `Memory`, where the log, the list of
+    /// objects or a queue would grow. Where both are possible, `Blocked` comes before `Idle`.
     pub fn step(&mut self, line: &Line) -> Result<Answer, StepError>
         ensures table { Meets (step_of self.old line.now) self.old self.new result }
         // A reader waits for nobody.

@@ -1,4 +1,6 @@
 pub mod Writes
+pub mod Queueing
 pub mod Linking
 pub mod Growing
+pub mod Marking
 pub mod Reading

@@ -1,4 +1,5 @@
 pub mod Limits
 pub mod Readers
 pub mod Objects
+pub mod Queues
 pub mod View

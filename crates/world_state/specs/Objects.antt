@@ -7,6 +7,7 @@ use Rattle.world_state.specs.declared.object.Stage.TheVariants.{Fresh, Linked, C
 use Rattle.world_state.specs.declared.object.Life.TheVariants.{Kept}
 use Rattle.world_state.specs.declared.object.ObjectState.{ObjectState}
 use Rattle.world_state.specs.declared.object.Splice.{Splice}
+use Rattle.world_state.specs.declared.object.Mark.{Mark}
 
 abbrev pub fresh_object : ℕ → Option ObjectId → ObjectState
 fresh_object c link = record { chain = c; link = link; before = None; stage = Fresh; life = Kept }
@@ -48,3 +49,8 @@ entered_objects os s = written os s.enters (λ x. record x { before = s.before; 
 
 abbrev pub spliced_objects : List ObjectState → Splice → List ObjectState
 spliced_objects os s = entered_objects (left_objects (marked_objects (linked_objects os s) s) s) s
+
+-- what becomes of an object
+abbrev pub marked_life : List ObjectState → Option Mark → List ObjectState
+marked_life os None = os
+marked_life os (Some m) = written os (Some m.object) (λ x. record x { life = m.life })

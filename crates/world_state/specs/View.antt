@@ -14,9 +14,12 @@ use Rattle.world_state.specs.declared.updater.UpdaterPlace.TheVariants.{Idle}
 use Rattle.world_state.specs.declared.updater.UpdaterState.{UpdaterState}
 use Rattle.world_state.specs.declared.updater.GraceState.{GraceState}
 use Rattle.world_state.specs.declared.change.Change.{Change}
-use Rattle.world_state.specs.declared.change.Change.TheVariants.{Read, Begin, Publish, Grace, Stay}
+use Rattle.world_state.specs.declared.queue.QueueState.{QueueState}
+use Rattle.world_state.specs.declared.worker.WorkerState.{WorkerState}
+use Rattle.world_state.specs.declared.change.Change.TheVariants.{Read, Begin, Publish, Grace, Hold, Retire, Bar, Work, Stay}
 use Rattle.world_state.specs.Readers.{new_reader}
-use Rattle.world_state.specs.Objects.{fresh_object, spliced_heads, spliced_objects}
+use Rattle.world_state.specs.Objects.{fresh_object, spliced_heads, spliced_objects, marked_life}
+use Rattle.world_state.specs.Queues.{new_worker, empty_queue_state, held_at, acted_at}
 
 -- the words of a plan of grace periods
 pub record Plans (P : Type 0) : Type 0 where
@@ -30,7 +33,9 @@ pub record BoardView (P : Type 0) : Type 0 where
   pub layout : Layout
   pub readers : List ReaderState
   pub updaters : List (UpdaterState P)
-  pub workers : ℕ  -- how many there are
+  pub workers : List (WorkerState P)
+  pub queues : List QueueState  -- by the workers' numbers
+  pub barriers : ℕ  -- how many were begun
   pub grace : GraceState
   pub heads : List (Option ObjectId)  -- by the chains' numbers
   pub objects : List ObjectState  -- by their numbers; at 0 stands one that is none
@@ -47,7 +52,9 @@ fresh_at config seq =
       layout = config.layout;
       readers = replicate config.readers new_reader;
       updaters = replicate config.updaters idle;
-      workers = config.workers;
+      workers = replicate config.workers new_worker;
+      queues = replicate config.workers empty_queue_state;
+      barriers = 0;
       grace = record { seq = seq; word = 0; holder = None; asks = 0 };
       heads = replicate config.chains None;
       objects = fresh_object 0 None ∷ [];
@@ -67,6 +74,10 @@ answer_of (Read r step) = step.answer
 answer_of (Begin u x object) = Quiet
 answer_of (Publish u x splice event) = Events event None
 answer_of (Grace u x grace answer) = answer
+answer_of (Hold u x q) = Quiet
+answer_of (Retire u x q act mark answer) = answer
+answer_of (Bar u x barriers answer) = answer
+answer_of (Work k x grace act mark answer) = answer
 answer_of (Stay answer) = answer
 
 abbrev pub changed : {P : Type 0} → BoardView P → Change P → BoardView P
@@ -80,6 +91,23 @@ changed w (Publish u x splice event) =
       log = w.log ++ event ∷ [];
     }
 changed w (Grace u x grace answer) = record w { updaters = slice_set w.updaters u x; grace = grace; log = w.log ++ told answer }
+changed w (Hold u x q) = record w { updaters = slice_set w.updaters u x; queues = held_at w.queues q u }
+changed w (Retire u x q act mark answer) =
+    record w {
+      updaters = slice_set w.updaters u x;
+      queues = acted_at w.queues q act;
+      objects = marked_life w.objects mark;
+      log = w.log ++ told answer;
+    }
+changed w (Bar u x barriers answer) = record w { updaters = slice_set w.updaters u x; barriers = barriers; log = w.log ++ told answer }
+changed w (Work k x grace act mark answer) =
+    record w {
+      workers = slice_set w.workers k x;
+      queues = acted_at w.queues k act;
+      objects = marked_life w.objects mark;
+      grace = grace;
+      log = w.log ++ told answer;
+    }
 changed w (Stay answer) = w
 
 abbrev pub plans_of : {P : Type 0} → Bool → (Layout → ℕ → ℕ → ℕ → P) → (P → Action) → (P → ℕ → Turn) → (P → ℕ → P) → Plans P

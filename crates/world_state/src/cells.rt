@@ -3,9 +3,9 @@
 ghost use Rattle.std.specs.Prelude.{◌≡◌, slice_set};
 ghost use Rattle.world_state.specs.declared.object.Stage.TheVariants.{Linked};
 ghost use Rattle.world_state.specs.declared.object.ObjectState.{ObjectState};
-ghost use Rattle.world_state.specs.Objects.{written, spliced_heads, spliced_objects};
+ghost use Rattle.world_state.specs.Objects.{written, spliced_heads, spliced_objects, marked_life};
 
-use crate::object::{ObjectState, Splice, Stage};
+use crate::object::{Mark, ObjectState, Splice, Stage};
 use rcu_model::ObjectId;
 
 /// Writes an element, where it is there.
@@ -90,4 +90,17 @@ pub fn splice_objects(objects: &mut Vec<ObjectState>, splice: Splice)
     put_before(objects, splice.after, splice.mark());
     put_stage(objects, splice.leaves, Stage::Cut);
     enter(objects, splice.enters, splice.before);
+}
+
+/// What becomes of an object, among the objects, which are kept by their numbers.
+pub fn mark_object(objects: &mut Vec<ObjectState>, mark: Option<Mark>)
+    ensures { objects.new.items ≡ marked_life objects.old.items mark }
+{
+    let Some(mark) = mark else {
+        return;
+    };
+    let place = mark.object.0 as usize;
+    if place < objects.len() {
+        objects[place].life = mark.life;
+    }
 }

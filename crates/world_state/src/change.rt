@@ -1,9 +1,11 @@
 //! What a step makes of the world.
 
 use crate::line::Answer;
-use crate::object::{ObjectState, Splice};
+use crate::object::{Mark, ObjectState, Splice};
+use crate::queue::QueueAct;
 use crate::reader::ReaderStep;
 use crate::updater::{GraceState, UpdaterState};
+use crate::worker::WorkerState;
 use rcu_model::Event;
 
 /// What a step makes of the world.
@@ -32,6 +34,37 @@ pub enum Change<P> {
         updater: u32,
         state: UpdaterState<P>,
         grace: GraceState,
+        answer: Answer,
+    },
+    /// An updater takes a queue's lock, and a place in the queue is reserved.
+    Hold {
+        updater: u32,
+        state: UpdaterState<P>,
+        queue: u32,
+    },
+    /// An updater's step with a queue that it has locked.
+    Retire {
+        updater: u32,
+        state: UpdaterState<P>,
+        queue: u32,
+        act: QueueAct,
+        mark: Option<Mark>,
+        answer: Answer,
+    },
+    /// An updater's step of a barrier.
+    Bar {
+        updater: u32,
+        state: UpdaterState<P>,
+        barriers: u64,
+        answer: Answer,
+    },
+    /// A worker's step with its queue.
+    Work {
+        worker: u32,
+        state: WorkerState<P>,
+        grace: GraceState,
+        act: QueueAct,
+        mark: Option<Mark>,
         answer: Answer,
     },
     /// Nothing, but an answer.

@@ -35,18 +35,24 @@ pub enum UpdaterVerb {
     Replace(ObjectId),
     /// Takes a linked object out of its chain.
     Cut(ObjectId),
+    /// Queues a cut object, to be reclaimed after a grace period: liburcu's `call_rcu`.
+    Retire(ObjectId),
     /// Waits for a grace period: liburcu's `synchronize_rcu`.
     Sync,
     /// Takes a cookie, in place of an older one: liburcu's `start_poll_synchronize_rcu`.
     Start,
     /// Asks whether a grace period has passed since the cookie was taken: liburcu's `poll_state_synchronize_rcu`.
     Poll,
+    /// Waits until all that was queued has run: liburcu's `rcu_barrier`.
+    Barrier,
     /// The next step of the operation that the updater is in.
     GoOn,
 }
 
 #[derive(Clone, Copy, Debug, PartialEq, Eq, Drop)]
 pub enum WorkerVerb {
+    /// Takes all that is queued, as a batch.
+    Take,
     /// The next step of the operation that the worker is in.
     GoOn,
 }

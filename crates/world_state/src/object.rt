@@ -36,6 +36,13 @@ pub struct ObjectState {
     pub life: Life,
 }
 
+/// What becomes of an object: the store of its header, or, for `Queued`, the push of its item.
+#[derive(Clone, Copy, Debug, PartialEq, Eq, Drop)]
+pub struct Mark {
+    pub object: ObjectId,
+    pub life: Life,
+}
+
 /// One store into a chain: what leaves it and what enters it, between two neighbours.
 #[derive(Clone, Copy, Debug, PartialEq, Eq, Drop)]
 pub struct Splice {

@@ -13,6 +13,39 @@ pub enum Publishing {
     Replace { old: ObjectId, new: ObjectId },
 }
 
+/// What is due next of a retirement, whose queue is locked.
+#[derive(Clone, Copy, Debug, PartialEq, Eq, Drop)]
+pub enum RetireStep {
+    /// Store the object's header.
+    Mark,
+    /// Store the queued count.
+    Count,
+    /// Push the item.
+    Push,
+    /// Free the queue's lock.
+    Free,
+}
+
+/// The most queues that a world has.
+pub const QUEUES: usize = 8;
+
+/// What is due next of a barrier.
+#[derive(Clone, Copy, Debug, PartialEq, Eq, Drop)]
+pub enum BarrierStep {
+    /// Load the queued count of this queue.
+    Note(u32),
+    /// Load the finished count of this queue.
+    Check(u32),
+}
+
+/// A barrier under way, with the queued counts that it has loaded so far.
+#[derive(Clone, Copy, Debug, PartialEq, Eq, Drop)]
+pub struct Barrier {
+    pub number: u64,
+    pub counts: [u64; QUEUES],
+    pub due: BarrierStep,
+}
+
 /// Where an updater stands in its operation.
 #[derive(Clone, Copy, Debug, PartialEq, Eq, Drop)]
 pub enum UpdaterPlace<P> {
@@ -20,6 +53,9 @@ pub enum UpdaterPlace<P> {
     Publishes(Publishing),
     /// Waits for a grace period, by the ask of this number.
     Syncs { ask: u64, core: SyncCore<P> },
+    Retires { object: ObjectId, due: RetireStep },
+    /// Waits until all that was queued has run.
+    Bars(Barrier),
 }
 
 /// An ask that `start` made, and its cookie, which `poll` has not spent.
@@ -50,10 +86,11 @@ impl<P> UpdaterState<P> {
     }
 }
 
-/// Who may hold a lock.
+/// Who may hold the grace lock.
 #[derive(Clone, Copy, Debug, PartialEq, Eq, Drop)]
 pub enum Holder {
     Updater(u32),
+    Worker(u32),
 }
 
 /// What the world keeps of grace periods.

@@ -1,7 +1,7 @@
 use Rattle.std.proofs.Common.{◌<◌, ℕ, length, take, subst, arith}
 use Rattle.std.specs.Io.KnownBytes.{Consumes}
 use Rattle.std.proofs.lemmas.Result.{err_from_is_err_and}
-use Rattle.schedule.proofs.Passing.{replays_end, replays_fault, replaying_more}
+use Rattle.schedule.proofs.Passing.{replays_end, replays_fault, replays_read, replaying_more}
 use Rattle.schedule.proofs.stream.replay.Goals as goal
 
 pub returns-in-Ok-eq0 : goal.returns-in-Ok-eq0
@@ -22,3 +22,6 @@ returns-in_err-pass-in-Ok g c =
 pub loop-preserved : goal.loop-preserved
 loop-preserved g c =
     replaying_more (g.R.Read.remaining c.args.reader.now) (g.R.Read.remaining c.loop.reader) (g.R.Read.remaining c.read.new.self) (g.W.Write.contents c.args.writer.now) (g.W.Write.contents c.loop.writer) (g.W.Write.contents c.pass.new.writer) c.loop.replay c.pass.new.replay _ c.pass.result tt c.in_ok-pass-in-Ok.was c.loop.invariant c.in-Ok.ensures.bytes.0 c.in_ok-pass-in-Ok.ensures
+
+pub returns-in-Err : goal.returns-in-Err
+returns-in-Err g c = replays_read (g.R.Read.remaining c.args.reader.now) (g.R.Read.remaining c.loop.reader) (g.R.Read.remaining c.read.new.self) (g.W.Write.contents c.args.writer.now) (g.W.Write.contents c.loop.writer) c.loop.replay c.loop.invariant c.in-Err.ensures.bytes

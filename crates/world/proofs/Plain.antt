@@ -1,0 +1,223 @@
+-- What lines that retire nothing, await no barrier and are no worker's keep of callbacks.
+use Rattle.std.proofs.Common.{◌≡◌, inr, ℕ, ◌%◌, ◌<◌, ◌≤◌, Bool, List, [], ◌∷◌, ◌++◌, length, slice_set, Some, None, Result, Ok, Err, refl, sym, ap, ◌∙◌, subst, arith, length-append}
+use Rattle.std.proofs.Math.ListN.{length-set}
+use Rattle.rcu_model.specs.declared.event.Event.{Event}
+use Rattle.rcu_model.specs.declared.event.Event.TheVariants as events
+use Rattle.rcu_model.specs.declared.event.ObjectId.{ObjectId}
+use Rattle.rcu_model.specs.declared.event.SectionId.{SectionId}
+use Rattle.world_state.specs.declared.worker.WorkerState.{WorkerState}
+use Rattle.rcu_model.specs.declared.refusal.Refusal.{Refusal}
+use Rattle.rcu_model.specs.Machine.{State, after, AreAllowed, after_all}
+use Rattle.rcu_model.proofs.Members.{In}
+use Rattle.reader_word.specs.declared.layout.Layout.{Layout}
+use Rattle.callback_queue.specs.Queue.{given_of}
+use Rattle.world_state.specs.declared.object.Life.{Life}
+use Rattle.world_state.specs.declared.object.Life.TheVariants as life
+use Rattle.world_state.specs.declared.object.Stage.TheVariants as stage
+use Rattle.world_state.specs.declared.object.ObjectState.{ObjectState}
+use Rattle.world_state.specs.declared.queue.QueueState.{QueueState}
+use Rattle.world_state.specs.declared.updater.RetireStep.{RetireStep}
+use Rattle.world_state.specs.declared.updater.RetireStep.TheVariants as due
+use Rattle.world_state.specs.declared.updater.UpdaterPlace.{UpdaterPlace}
+use Rattle.world_state.specs.declared.updater.UpdaterPlace.TheVariants.{Idle, Publishes, Syncs, Retires, Bars}
+use Rattle.world_state.specs.declared.updater.UpdaterState.{UpdaterState}
+use Rattle.world_state.specs.declared.change.Change.{Change}
+use Rattle.world_state.specs.declared.change.Change.TheVariants.{Read, Begin, Publish, Grace, Hold, Retire, Bar, Work as Works, Stay}
+use Rattle.world_state.specs.Objects.{spliced_objects}
+use Rattle.world_state.specs.View.{Plans, BoardView, told, changed}
+use Rattle.world_state.proofs.Writes.{stage_of, chain_of, within, grown_same, spliced_chain}
+use Rattle.world_state.proofs.Growing.{stage_grown}
+use Rattle.world_state.proofs.Marking.{life_of, life_within, life_grown, life_spliced}
+use Rattle.world_state.proofs.Queueing.{queue_at}
+use Rattle.world.proofs.Fence.{Laws}
+use Rattle.world.proofs.State.{updater_at, told_by, Kept, Owes}
+use Rattle.world.proofs.Callbacks.{LifeKept, DueKept, RetireKept, BarKept, Barring, CallbacksKept, Callbacks, at_updaters, queue_kept, IsOther, over_event}
+
+-- the updater neither retires nor waits for all
+abbrev pub IsPlain : {P : Type 0} → UpdaterPlace P → Type 0
+IsPlain Idle = Unit {0}
+IsPlain (Publishes what) = Unit {0}
+IsPlain (Syncs ask place) = Unit {0}
+IsPlain (Retires o due) = ⊥
+IsPlain (Bars b) = ⊥
+
+pub plain_retire : {P : Type 0} (os : List ObjectState) (qs : List QueueState) (count u : ℕ) (p : UpdaterPlace P) → IsPlain p → RetireKept os qs count u p
+plain_retire os qs count u Idle h = tt
+plain_retire os qs count u (Publishes what) h = tt
+plain_retire os qs count u (Syncs ask place) h = tt
+plain_retire os qs count u (Retires o due) h = absurd h
+plain_retire os qs count u (Bars b) h = absurd h
+
+pub plain_bar : {P : Type 0} (qs : List QueueState) (noted cleared : List ℕ) (noted_objects : ℕ → List ObjectId) (p : UpdaterPlace P) → IsPlain p → BarKept qs noted cleared noted_objects p
+plain_bar qs noted cleared noted_objects Idle h = tt
+plain_bar qs noted cleared noted_objects (Publishes what) h = tt
+plain_bar qs noted cleared noted_objects (Syncs ask place) h = tt
+plain_bar qs noted cleared noted_objects (Retires o due) h = absurd h
+plain_bar qs noted cleared noted_objects (Bars b) h = absurd h
+
+pub plain_none : {P : Type 0} (p : UpdaterPlace P) (n : ℕ) → IsPlain p → ¬ Barring p n
+plain_none Idle n h b = b
+plain_none (Publishes what) n h b = b
+plain_none (Syncs ask place) n h b = b
+plain_none (Retires o due) n h b = h
+plain_none (Bars b) n h c = h
+
+-- one updater is set, of which no barrier was or is under way
+pub one_barrier_set : {P : Type 0} (updaters : List (UpdaterState P)) (u : ℕ) (x : UpdaterState P) → u < length updaters → ((n : ℕ) → ¬ Barring x.place n) →
+    ((i j n : ℕ) → Barring (updater_at updaters i).place n → Barring (updater_at updaters j).place n → i ≡ j) →
+    (i j n : ℕ) → Barring (updater_at (slice_set updaters u x) i).place n → Barring (updater_at (slice_set updaters u x) j).place n → i ≡ j
+one_barrier_set {P} updaters u x inside none k i j n a b = k i j n (was i a) (was j b)
+  where
+    was : (v : ℕ) → Barring (updater_at (slice_set updaters u x) v).place n → Barring (updater_at updaters v).place n
+    was = at_updaters (λ v y. Barring y.place n → Barring (updater_at updaters v).place n) updaters u x inside (λ h. absurd (none n h)) (λ v apart h. h)
+
+-- a retirement keeps its place where the table keeps what it looks at
+due_over : (os os' : List ObjectState) (reserved : Bool) (queued given count u : ℕ) (o : ObjectId) (d : RetireStep) → ((p : ObjectId) → life_of os' p ≡ life_of os p) → ((p : ObjectId) → p.0 < length os → chain_of os' p ≡ chain_of os p) →
+    ((p : ObjectId) → stage_of os p ≡ stage.Cut → stage_of os' p ≡ stage.Cut) → DueKept os reserved queued given count u o d → DueKept os' reserved queued given count u o d
+due_over os os' reserved queued given count u o d lives chains cuts h = by d h
+  where
+    retired_kept : life.Retired ≡ life.Kept → ⊥
+    retired_kept e = cc
+
+    cut_fresh : stage.Cut ≡ stage.Fresh → ⊥
+    cut_fresh e = cc
+
+    home : o.0 < length os → chain_of os o % count ≡ u → chain_of os' o % count ≡ u
+    home inside e = ap (λ c. c % count) (chains o inside) ∙ e
+
+    by : (d : RetireStep) → DueKept os reserved queued given count u o d → DueKept os' reserved queued given count u o d
+    by due.Mark h = (cuts o h.0, lives o ∙ h.1, home (within os o (λ e. cut_fresh (sym h.0 ∙ e))) h.2, h.3, h.4)
+    by due.Count h = (lives o ∙ h.0, home (life_within os o (λ e. retired_kept (sym h.0 ∙ e))) h.1, h.2, h.3)
+    by due.Push h = (lives o ∙ h.0, home (life_within os o (λ e. retired_kept (sym h.0 ∙ e))) h.1, h.2, h.3)
+    by due.Free h = h
+
+pub retire_over : {P : Type 0} (os os' : List ObjectState) (qs : List QueueState) (count u : ℕ) (p : UpdaterPlace P) → ((p : ObjectId) → life_of os' p ≡ life_of os p) → ((p : ObjectId) → p.0 < length os → chain_of os' p ≡ chain_of os p) →
+    ((p : ObjectId) → stage_of os p ≡ stage.Cut → stage_of os' p ≡ stage.Cut) → RetireKept os qs count u p → RetireKept os' qs count u p
+retire_over os os' qs count u Idle lives chains cuts h = tt
+retire_over os os' qs count u (Publishes what) lives chains cuts h = tt
+retire_over os os' qs count u (Syncs ask place) lives chains cuts h = tt
+retire_over os os' qs count u (Retires o d) lives chains cuts h = (h.0, due_over os os' (queue_at qs (u % length qs)).items.reserved (queue_at qs (u % length qs)).queued (given_of (queue_at qs (u % length qs)).items) count u o d lives chains cuts h.1)
+retire_over os os' qs count u (Bars b) lives chains cuts h = tt
+
+module _ {P : Type 0} (w : BoardView P) (now : State) (k : Callbacks w now) where
+  -- only readers, chains and grace periods change
+  over_table : (os' : List ObjectState) (u : ℕ) (x : UpdaterState P) (logged' : ℕ) → u < length w.updaters → IsPlain x.place → length w.log ≤ logged' →
+      ((o : ObjectId) → life_of os' o ≡ life_of w.objects o) → ((o : ObjectId) → o.0 < length w.objects → chain_of os' o ≡ chain_of w.objects o) → ((o : ObjectId) → stage_of w.objects o ≡ stage.Cut → stage_of os' o ≡ stage.Cut) →
+      CallbacksKept os' w.queues (slice_set w.updaters u x) w.workers w.barriers logged' now.sections now.retired now.queued now.reclaimed now.awaited now.asked now.asked_sections now.noted now.cleared now.noted_objects
+  over_table os' u x logged' inside plain longer lives chains cuts = record {
+    some = k.some;
+    few = k.few;
+    manned = k.manned;
+    items = record {
+      lives = λ o. subst (λ (l : Life). LifeKept l o now.retired now.queued now.reclaimed) (sym (lives o)) (k.items.lives o);
+      found = λ o e. k.items.found o (sym (lives o) ∙ e);
+      there = λ j t o h. lives o ∙ k.items.there j t o h;
+      one_place = k.items.one_place;
+    };
+    queues = λ j. queue_kept (queue_at w.queues j) (length w.log) logged' now.awaited now.awaited longer (λ o e. e) (k.queues j);
+    awaits_open = k.awaits_open;
+    retiring = subst (λ n. (v : ℕ) → RetireKept os' w.queues n v (updater_at (slice_set w.updaters u x) v).place) (sym (length-set w.updaters u x))
+        (at_updaters (λ v y. RetireKept os' w.queues (length w.updaters) v y.place) w.updaters u x inside (plain_retire os' w.queues (length w.updaters) u x.place plain)
+        (λ v apart. retire_over w.objects os' w.queues (length w.updaters) v (updater_at w.updaters v).place lives chains cuts (k.retiring v)));
+    working = k.working;
+    barring = at_updaters (λ v y. BarKept w.queues now.noted now.cleared now.noted_objects y.place) w.updaters u x inside (plain_bar w.queues now.noted now.cleared now.noted_objects x.place plain) (λ v apart. k.barring v);
+    one_barrier = one_barrier_set w.updaters u x inside (λ n. plain_none x.place n plain) k.one_barrier;
+    noted_low = k.noted_low;
+    cleared_noted = k.cleared_noted;
+    barriers_low = let low = k.barriers_low in omega (arith, low, longer);
+  }
+
+-- more is logged
+pub logged_more : {P : Type 0} {os : List ObjectState} {qs : List QueueState} {updaters : List (UpdaterState P)} {workers : List (WorkerState P)} {barriers logged : ℕ}
+    {sections : List SectionId} {retired queued reclaimed : List ObjectId} {awaited : ObjectId → List SectionId} {asked : List ℕ} {asked_sections : ℕ → List SectionId} {noted cleared : List ℕ} {noted_objects : ℕ → List ObjectId}
+    (logged' : ℕ) → logged ≤ logged' → CallbacksKept os qs updaters workers barriers logged sections retired queued reclaimed awaited asked asked_sections noted cleared noted_objects →
+    CallbacksKept os qs updaters workers barriers logged' sections retired queued reclaimed awaited asked asked_sections noted cleared noted_objects
+logged_more {qs = qs} {logged = logged} {awaited = awaited} logged' longer k = record {
+  some = k.some;
+  few = k.few;
+  manned = k.manned;
+  items = k.items;
+  queues = λ j. queue_kept (queue_at qs j) logged logged' awaited awaited longer (λ o e. e) (k.queues j);
+  awaits_open = k.awaits_open;
+  retiring = k.retiring;
+  working = k.working;
+  barring = k.barring;
+  one_barrier = k.one_barrier;
+  noted_low = k.noted_low;
+  cleared_noted = k.cleared_noted;
+  barriers_low = let low = k.barriers_low in omega (arith, low, longer);
+}
+
+abbrev pub AreOther : List Event → Type 0
+AreOther [] = Unit {0}
+AreOther (e ∷ es) = IsOther e × AreOther es
+
+over_events : {P : Type 0} (w : BoardView P) (now : State) (es : List Event) → AreOther es → AreAllowed now es → Callbacks w now → Callbacks w (after_all now es)
+over_events w now [] is allowed k = k
+over_events w now (e ∷ es) is allowed k = over_events w (after now e) es is.1 allowed.1 (over_event w now k e is.0 allowed.0)
+
+-- what was cut stays cut
+cut_grows : (now : State) (e : Event) (o : ObjectId) → In now.cut o → In (after now e).cut o
+cut_grows now (events.Open s) o h = h
+cut_grows now (events.Close s) o h = h
+cut_grows now (events.First s c None) o h = h
+cut_grows now (events.First s c (Some p)) o h = h
+cut_grows now (events.Next s p None) o h = h
+cut_grows now (events.Next s p (Some q)) o h = h
+cut_grows now (events.Touch s p) o h = h
+cut_grows now (events.Push c p) o h = h
+cut_grows now (events.Replace c p q) o h = inr h
+cut_grows now (events.Cut c p) o h = inr h
+cut_grows now (events.Retire p) o h = h
+cut_grows now (events.Queue p q) o h = h
+cut_grows now (events.Run p) o h = h
+cut_grows now (events.Ask a) o h = h
+cut_grows now (events.Answer a) o h = h
+cut_grows now (events.Bar b) o h = h
+cut_grows now (events.Clear b) o h = h
+
+-- changes that callbacks do not notice
+abbrev pub PlainChange : {P : Type 0} → BoardView P → Change P → Type 0
+PlainChange w (Read r step) = AreOther (told step.answer)
+PlainChange w (Begin u x y) = (u < length w.updaters) × IsPlain x.place × (y.life ≡ life.Kept) × (y.stage ≡ stage.Fresh)
+PlainChange w (Publish u x s e) = (u < length w.updaters) × IsPlain x.place × IsOther e
+PlainChange w (Grace u x grace answer) = (u < length w.updaters) × IsPlain x.place × AreOther (told answer)
+PlainChange w (Hold u x q) = ⊥
+PlainChange w (Retire u x q act mark answer) = ⊥
+PlainChange w (Bar u x barriers answer) = ⊥
+PlainChange w (Works n x grace act mark answer) = ⊥
+PlainChange w (Stay answer) = Unit {0}
+
+module _ {P : Type 0} (plans : Plans P) (layout : Layout) (slots : ℕ) (laws : Laws plans layout slots) (w : BoardView P) (now : State) (kept : Kept plans layout slots laws w now) (k : Callbacks w now) where
+  -- what a change owes, with its callbacks
+  abbrev pub OwesAll : Result (Change P) Refusal → Type 0
+  OwesAll (Err e) = Unit {0}
+  OwesAll (Ok change) = AreAllowed now (told_by change) × Kept plans layout slots laws (changed w change) (after_all now (told_by change)) × Callbacks (changed w change) (after_all now (told_by change))
+
+  longer : (es : List Event) → length w.log ≤ length (w.log ++ es)
+  longer es = omega (arith, length-append w.log es)
+
+  pub plainly : (change : Change P) → PlainChange w change → Owes plans layout slots laws w now (Ok change) → OwesAll (Ok change)
+  plainly (Read r step) is owed = (owed.0, owed.1, logged_more (length (w.log ++ told step.answer)) (longer (told step.answer)) (over_events w now (told step.answer) is owed.0 k))
+  plainly (Begin u x y) is owed = (
+    owed.0,
+    owed.1,
+    over_table w now k (w.objects ++ y ∷ []) u x (length w.log) is.0 is.1 (omega arith) (λ o. life_grown w.objects y o is.2)
+        (λ o inside. ap (λ (z : ObjectState). z.chain) (grown_same w.objects y o inside)) (λ o e. stage_grown w.objects y is.3 o ∙ e),
+  )
+  plainly (Publish u x s e) is owed = (
+    owed.0,
+    owed.1,
+    over_table w (after now e) (over_event w now k e is.2 owed.0.0) (spliced_objects w.objects s) u x (length (w.log ++ e ∷ [])) is.0 is.1 (longer (e ∷ [])) (life_spliced w.objects s)
+        (λ o inside. spliced_chain w.objects s o) (λ o was. (owed.1.links_kept.was_cut o (cut_grows now e o (kept.links_kept.cuts o was))).0),
+  )
+  plainly (Grace u x grace answer) is owed = (
+    owed.0,
+    owed.1,
+    over_table w (after_all now (told answer)) (over_events w now (told answer) is.2 owed.0 k) w.objects u x (length (w.log ++ told answer)) is.0 is.1 (longer (told answer)) (λ o. refl) (λ o inside. refl) (λ o e. e),
+  )
+  plainly (Hold u x q) is owed = absurd is
+  plainly (Retire u x q act mark answer) is owed = absurd is
+  plainly (Bar u x barriers answer) is owed = absurd is
+  plainly (Works n x grace act mark answer) is owed = absurd is
+  plainly (Stay answer) is owed = (owed.0, owed.1, k)

@@ -1,0 +1,141 @@
+-- What a change of one queue keeps of items, of other updaters and of barriers.
+use Rattle.std.proofs.Common.{◌≡◌, ◌≢◌, ◌⊎◌, inl, inr, ℕ, ◌%◌, ◌<◌, ◌≤◌, Bool, List, length, slice_get, Some, sym, ap, ◌∙◌, subst}
+use Rattle.rcu_model.specs.declared.event.ObjectId.{ObjectId}
+use Rattle.callback_queue.specs.Queue.{items_of, given_of}
+use Rattle.world_state.specs.declared.object.Life.TheVariants as life
+use Rattle.world_state.specs.declared.object.Mark.{Mark}
+use Rattle.world_state.specs.declared.object.ObjectState.{ObjectState}
+use Rattle.world_state.specs.declared.queue.QueueState.{QueueState}
+use Rattle.world_state.specs.declared.updater.BarrierStep.{BarrierStep}
+use Rattle.world_state.specs.declared.updater.RetireStep.{RetireStep}
+use Rattle.world_state.specs.declared.updater.RetireStep.TheVariants as due
+use Rattle.world_state.specs.declared.updater.UpdaterPlace.{UpdaterPlace}
+use Rattle.world_state.specs.declared.updater.UpdaterPlace.TheVariants.{Idle, Publishes, Syncs, Retires, Bars}
+use Rattle.world_state.specs.Objects.{marked_life}
+use Rattle.world_state.specs.Queues.{changed_at}
+use Rattle.world_state.proofs.Writes.{chain_of}
+use Rattle.world_state.proofs.Linking.{decide_number}
+use Rattle.world_state.proofs.Marking.{life_of, life_else, stage_marked, chain_marked}
+use Rattle.world_state.proofs.Queueing.{Stands, InQueue, queue_at, changed_here, changed_else, changed_length}
+use Rattle.rcu_model.proofs.Members.{In}
+use Rattle.world.proofs.Callbacks.{ItemsKept, DueKept, Retiring, RetireKept, Faces, IsAt, BarKept, at_queues}
+
+-- a header that is stored is none that another updater's retirement looks at
+pub due_marked : (os : List ObjectState) (m : Mark) (reserved : Bool) (queued given count v : ℕ) (o : ObjectId) (d : RetireStep) →
+    ((life_of os o ≡ life.Kept) ⊎ (life_of os o ≡ life.Retired) → chain_of os o % count ≡ v → o ≢ m.object) → DueKept os reserved queued given count v o d → DueKept (marked_life os (Some m)) reserved queued given count v o d
+due_marked os m reserved queued given count v o due.Mark apart h = (
+  stage_marked os (Some m) o ∙ h.0,
+  life_else os m o (apart (inl h.1) h.2) ∙ h.1,
+  ap (λ c. c % count) (chain_marked os (Some m) o) ∙ h.2,
+  h.3,
+  h.4,
+)
+due_marked os m reserved queued given count v o due.Count apart h = (
+  life_else os m o (apart (inr h.0) h.1) ∙ h.0,
+  ap (λ c. c % count) (chain_marked os (Some m) o) ∙ h.1,
+  h.2,
+  h.3,
+)
+due_marked os m reserved queued given count v o due.Push apart h = (
+  life_else os m o (apart (inr h.0) h.1) ∙ h.0,
+  ap (λ c. c % count) (chain_marked os (Some m) o) ∙ h.1,
+  h.2,
+  h.3,
+)
+due_marked os m reserved queued given count v o due.Free apart h = h
+
+pub retire_marked : {P : Type 0} (os : List ObjectState) (m : Mark) (qs : List QueueState) (count v : ℕ) (p : UpdaterPlace P) →
+    ((o : ObjectId) → (life_of os o ≡ life.Kept) ⊎ (life_of os o ≡ life.Retired) → chain_of os o % count ≡ v → o ≢ m.object) → RetireKept os qs count v p → RetireKept (marked_life os (Some m)) qs count v p
+retire_marked os m qs count v Idle apart h = tt
+retire_marked os m qs count v (Publishes what) apart h = tt
+retire_marked os m qs count v (Syncs ask place) apart h = tt
+retire_marked os m qs count v (Retires o d) apart h =
+    (h.0, due_marked os m (queue_at qs (v % length qs)).items.reserved (queue_at qs (v % length qs)).queued (given_of (queue_at qs (v % length qs)).items) count v o d (apart o) h.1)
+retire_marked os m qs count v (Bars b) apart h = tt
+
+-- a barrier over other queues, in which each object that it waits for keeps its place
+pub faces_over : (qs qs' : List QueueState) (counts : List ℕ) (d : BarrierStep) (o : ObjectId) → length qs' ≡ length qs → ((j t : ℕ) → InQueue (queue_at qs j) t o → InQueue (queue_at qs' j) t o) → Faces qs counts d o → Faces qs' counts d o
+faces_over qs qs' counts d o same stays (j, t, low, here, facing) = (j, t, subst (λ n. j < n) (sym same) low, stays j t here, facing)
+
+pub bar_over : {P : Type 0} (qs qs' : List QueueState) (noted cleared : List ℕ) (noted_objects noted_objects' : ℕ → List ObjectId) (p : UpdaterPlace P) → length qs' ≡ length qs →
+    ((b : ℕ) (o : ObjectId) → In (noted_objects' b) o → In (noted_objects b) o × ((j t : ℕ) → InQueue (queue_at qs j) t o → InQueue (queue_at qs' j) t o)) →
+    BarKept qs noted cleared noted_objects p → BarKept qs' noted cleared noted_objects' p
+bar_over qs qs' noted cleared noted_objects noted_objects' Idle same stays h = tt
+bar_over qs qs' noted cleared noted_objects noted_objects' (Publishes what) same stays h = tt
+bar_over qs qs' noted cleared noted_objects noted_objects' (Syncs ask place) same stays h = tt
+bar_over qs qs' noted cleared noted_objects noted_objects' (Retires o d) same stays h = tt
+bar_over qs qs' noted cleared noted_objects noted_objects' (Bars b) same stays h = (
+  h.0,
+  h.1,
+  subst (λ n. n ≤ length b.counts) (sym same) h.2,
+  subst (IsAt b.due) (sym same) h.3,
+  λ o g. let was = stays b.number o g in faces_over qs qs' b.counts b.due o same was.1 (h.4 o was.0),
+)
+
+module _ (qs : List QueueState) (j : ℕ) (f : QueueState → QueueState) (inside : j < length qs) where
+  abbrev pub qs' : List QueueState
+  qs' = changed_at f qs j (slice_get qs j)
+
+  abbrev q : QueueState
+  q = queue_at qs j
+
+  -- who does not hold the queue's lock is not concerned
+  pub retire_apart : {P : Type 0} (os : List ObjectState) (count v : ℕ) (p : UpdaterPlace P) → (q.holder ≢ Some v) → RetireKept os qs count v p → RetireKept os qs' count v p
+  retire_apart os count v Idle other h = tt
+  retire_apart os count v (Publishes what) other h = tt
+  retire_apart os count v (Syncs ask place) other h = tt
+  retire_apart os count v (Retires o d) other h = subst (λ n. Retiring os (queue_at qs' (v % n)) count v o d) (sym (changed_length f qs j)) (by (decide_number (v % length qs) j))
+    where
+      by : (v % length qs ≡ j) ⊎ (v % length qs ≢ j) → Retiring os (queue_at qs' (v % length qs)) count v o d
+      by (inl e) = absurd (other (subst (λ n. (queue_at qs n).holder ≡ Some v) e h.0))
+      by (inr n) = subst (λ (r : QueueState). Retiring os r count v o d) (sym (changed_else f qs j (v % length qs) n)) h
+  retire_apart os count v (Bars b) other h = tt
+
+  -- nor is anybody where lock, place and counts stay
+  pub retire_through : {P : Type 0} (os : List ObjectState) (count v : ℕ) (p : UpdaterPlace P) → (f q).holder ≡ q.holder → (f q).items.reserved ≡ q.items.reserved → (f q).queued ≡ q.queued → given_of (f q).items ≡ given_of q.items →
+      RetireKept os qs count v p → RetireKept os qs' count v p
+  retire_through os count v Idle lock place count_same given h = tt
+  retire_through os count v (Publishes what) lock place count_same given h = tt
+  retire_through os count v (Syncs ask place') lock place count_same given h = tt
+  retire_through os count v (Retires o d) lock place count_same given h = subst (λ n. Retiring os (queue_at qs' (v % n)) count v o d) (sym (changed_length f qs j)) (by (decide_number (v % length qs) j))
+    where
+      due_same : (reserved reserved' : Bool) (queued queued' given given' : ℕ) → reserved' ≡ reserved → queued' ≡ queued → given' ≡ given → DueKept os reserved queued given count v o d → DueKept os reserved' queued' given' count v o d
+      due_same reserved reserved' queued queued' given given' a b c g =
+          subst (λ r. DueKept os r queued' given' count v o d) (sym a) (subst (λ n. DueKept os reserved n given' count v o d) (sym b) (subst (λ n. DueKept os reserved queued n count v o d) (sym c) g))
+
+      by : (v % length qs ≡ j) ⊎ (v % length qs ≢ j) → Retiring os (queue_at qs' (v % length qs)) count v o d
+      by (inl e) =
+          let was : Retiring os q count v o d = subst (λ n. Retiring os (queue_at qs n) count v o d) e h in
+          subst (λ (r : QueueState). Retiring os r count v o d) (sym (ap (λ n. queue_at qs' n) e ∙ changed_here f qs j inside))
+          (lock ∙ was.0, due_same q.items.reserved (f q).items.reserved q.queued (f q).queued (given_of q.items) (given_of (f q).items) place count_same given was.1)
+      by (inr n) = subst (λ (r : QueueState). Retiring os r count v o d) (sym (changed_else f qs j (v % length qs) n)) h
+  retire_through os count v (Bars b) lock place count_same given h = tt
+
+  -- the updater that holds the lock
+  pub retire_here : (os : List ObjectState) (count u : ℕ) (o : ObjectId) (d : RetireStep) → u % length qs ≡ j → Retiring os (f q) count u o d → Retiring os (queue_at qs' (u % length qs')) count u o d
+  retire_here os count u o d is h =
+      subst (λ (r : QueueState). Retiring os r count u o d)
+      (sym (ap (λ n. queue_at qs' (u % n)) (changed_length f qs j) ∙ ap (λ n. queue_at qs' n) is ∙ changed_here f qs j inside)) h
+
+  -- items that stay where they are
+  module _ (gone : (f q).items.gone ≡ q.items.gone) (items : items_of (f q).items ≡ items_of q.items) where
+    pub stays : (i t : ℕ) (o : ObjectId) → InQueue (queue_at qs i) t o → InQueue (queue_at qs' i) t o
+    stays i t o =
+        at_queues (λ i r. InQueue (queue_at qs i) t o → InQueue r t o) f qs j inside
+        (λ h. subst (λ n. Stands n (items_of (f q).items) t o) (sym gone) (subst (λ l. Stands q.items.gone l t o) (sym items) h)) (λ i n h. h) i
+
+    pub was_there : (i t : ℕ) (o : ObjectId) → InQueue (queue_at qs' i) t o → InQueue (queue_at qs i) t o
+    was_there i t o =
+        at_queues (λ i r. InQueue r t o → InQueue (queue_at qs i) t o) f qs j inside
+        (λ h. subst (λ l. Stands q.items.gone l t o) items (subst (λ n. Stands n (items_of (f q).items) t o) gone h)) (λ i n h. h) i
+
+    pub items_stay : (os : List ObjectState) (retired queued reclaimed : List ObjectId) → ItemsKept os qs retired queued reclaimed → ItemsKept os qs' retired queued reclaimed
+    items_stay os retired queued reclaimed k = record {
+      lives = k.lives;
+      found = λ o e. found o (k.found o e);
+      there = λ i t o h. k.there i t o (was_there i t o h);
+      one_place = λ a b s t o g h. k.one_place a b s t o (was_there a s o g) (was_there b t o h);
+    }
+      where
+        found : (o : ObjectId) → (i : ℕ) × (t : ℕ) × (i < length qs) × InQueue (queue_at qs i) t o → (i : ℕ) × (t : ℕ) × (i < length qs') × InQueue (queue_at qs' i) t o
+        found o (i, t, low, h) = (i, t, subst (λ n. i < n) (sym (changed_length f qs j)) low, stays i t o h)

@@ -1,0 +1,109 @@
+-- The step table's rows of workers.
+use Rattle.std.specs.Prelude.{ℕ, ◌+◌, Bool, true, false, is_some, if◌then◌else◌, List, [], ◌∷◌, length, slice_get, Option, Some, None, Result, Ok, Err}
+use Rattle.rcu_model.specs.declared.event.Event.TheVariants as events
+use Rattle.rcu_model.specs.declared.refusal.Refusal.{Refusal}
+use Rattle.rcu_model.specs.declared.refusal.Refusal.TheVariants.{NotOpen, NoActor}
+use Rattle.callback_queue.specs.declared.item.Ticket.{Ticket}
+use Rattle.callback_queue.specs.Queue.{items_of, object_of_first}
+use Rattle.rcu_model.specs.declared.event.ObjectId.{ObjectId}
+use Rattle.call_rcu_worker.specs.declared.sync.SyncCore.{SyncCore}
+use Rattle.call_rcu_worker.specs.declared.sync.SyncCore.TheVariants.{Asks, Waits, Checks, Starts, Runs, Frees, Done}
+use Rattle.call_rcu_worker.specs.declared.worker.WorkerCore.{WorkerCore}
+use Rattle.call_rcu_worker.specs.declared.worker.WorkerCore.TheVariants as worker
+use Rattle.call_rcu_worker.specs.Worker.{after_take, synced, item_done}
+use Rattle.world_state.specs.declared.line.Answer.{Answer}
+use Rattle.world_state.specs.declared.line.Answer.TheVariants.{Quiet, Wait, Blocked, Idle as NothingThere}
+use Rattle.world_state.specs.declared.object.Life.TheVariants as life
+use Rattle.world_state.specs.declared.queue.QueueAct.{QueueAct}
+use Rattle.world_state.specs.declared.queue.QueueAct.TheVariants as act
+use Rattle.world_state.specs.declared.queue.QueueState.{QueueState}
+use Rattle.world_state.specs.declared.updater.Holder.TheVariants as holder
+use Rattle.world_state.specs.declared.worker.WorkerState.{WorkerState}
+use Rattle.world_state.specs.declared.change.Change.{Change}
+use Rattle.world_state.specs.declared.change.Change.TheVariants.{Work, Stay}
+use Rattle.world_state.specs.Queues.{item_of}
+use Rattle.world_state.specs.View.{Plans, BoardView}
+use Rattle.world.specs.declared.grace.GraceStep.{GraceStep}
+use Rattle.world.specs.Answers.{one}
+use Rattle.world.specs.Grace.{grace_row}
+
+abbrev pub is_none_left : {T : Type 0} → List T → Bool
+is_none_left [] = true
+is_none_left (item ∷ items) = false
+
+-- the first ready item's ticket and object
+abbrev pub first_in : Option QueueState → Option (Ticket × ObjectId)
+first_in None = None
+first_in (Some q) = object_of_first q.items
+
+module _ {P : Type 0} where
+  abbrev pub with_core : WorkerState P → WorkerCore P Unit → WorkerState P
+  with_core x core = record x { core = core }
+
+  -- `take`: all fresh items wait from now on
+  abbrev pub take_row : BoardView P → ℕ → WorkerState P → Option QueueState → Result (Change P) Refusal
+  take_row w k x None = Err NoActor
+  take_row w k x (Some q) =
+      if is_some q.holder then Ok (Stay Blocked)
+      else if is_none_left (items_of q.items) then Ok (Stay NothingThere)
+      else Ok (Work k (with_core x (after_take x.core (length q.items.fresh))) w.grace act.Seal None Quiet)
+
+  -- the number of the ask that the step is of
+  abbrev pub ask_for : BoardView P → ℕ → SyncCore P → ℕ
+  ask_for w ask Asks = w.grace.asks + 1
+  ask_for w ask (Waits cookie) = ask
+  ask_for w ask (Checks cookie) = ask
+  ask_for w ask (Starts cookie) = ask
+  ask_for w ask (Runs cookie plan) = ask
+  ask_for w ask Frees = ask
+  ask_for w ask Done = ask
+
+  -- what the queue is told: the cookie that was taken, and the number that answered
+  abbrev pub act_for : ℕ → SyncCore P → QueueAct
+  act_for seq Asks = act.Leave
+  act_for seq (Waits cookie) = act.Note cookie
+  act_for seq (Checks cookie) = act.Leave
+  act_for seq (Starts cookie) = act.Leave
+  act_for seq (Runs cookie plan) = act.Leave
+  act_for seq Frees = act.Advance seq
+  act_for seq Done = act.Leave
+
+  abbrev pub worker_act : ℕ → WorkerCore P Unit → QueueAct
+  worker_act seq worker.Idle = act.Leave
+  worker_act seq (worker.Syncs sync tickets) = act_for seq sync
+  worker_act seq (worker.Pops tickets) = act.Leave
+  worker_act seq (worker.Runs tickets ticket item) = act.Leave
+  worker_act seq (worker.Ran tickets ticket item) = act.Leave
+  worker_act seq (worker.Counts tickets ticket) = act.Leave
+
+  -- a step of the worker's grace period, of which `wait` and `blocked` change nothing
+  abbrev pub work_change : ℕ → ℕ → ℕ → GraceStep P → Answer → Change P
+  work_change k ask tickets step Wait = Stay Wait
+  work_change k ask tickets step Blocked = Stay Blocked
+  work_change k ask tickets step answer = Work k (record { ask = ask; core = synced step.core tickets }) step.grace (worker_act step.grace.seq (synced step.core tickets)) None answer
+
+  abbrev pub worked : ℕ → ℕ → ℕ → Result (GraceStep P) Refusal → Result (Change P) Refusal
+  worked k ask tickets (Ok step) = Ok (work_change k ask tickets step step.answer)
+  worked k ask tickets (Err e) = Err e
+
+  -- the first ready item is popped and run, and then counted
+  abbrev pub run_row : BoardView P → ℕ → WorkerState P → ℕ → Option (Ticket × ObjectId) → Result (Change P) Refusal
+  run_row w k x tickets None = Err NotOpen
+  run_row w k x tickets (Some first) = Ok (Work k (with_core x (worker.Ran tickets first.0 (item_of first.1))) w.grace act.Pop (Some (record { object = first.1; life = life.Reclaimed })) (one (events.Run first.1)))
+
+  -- a worker's next step; between two lines it holds no item that it did not run
+  abbrev pub worker_on : Plans P → BoardView P → ℕ → WorkerState P → WorkerCore P Unit → Result (Change P) Refusal
+  worker_on plans w k x worker.Idle = Err NotOpen
+  worker_on plans w k x (worker.Syncs sync tickets) = worked k (ask_for w x.ask sync) tickets (grace_row plans w (holder.Worker k) (ask_for w x.ask sync) sync)
+  worker_on plans w k x (worker.Pops tickets) = run_row w k x tickets (first_in (slice_get w.queues k))
+  worker_on plans w k x (worker.Runs tickets ticket item) = Err NotOpen
+  worker_on plans w k x (worker.Ran tickets ticket item) = Ok (Work k (with_core x (item_done (worker.Counts tickets ticket))) w.grace act.Finish None Quiet)
+  worker_on plans w k x (worker.Counts tickets ticket) = Err NotOpen
+
+  abbrev pub is_resting : WorkerCore P Unit → Bool
+  is_resting worker.Idle = true
+  is_resting (worker.Syncs sync tickets) = false
+  is_resting (worker.Pops tickets) = false
+  is_resting (worker.Runs tickets ticket item) = false
+  is_resting (worker.Ran tickets ticket item) = false
+  is_resting (worker.Counts tickets ticket) = false

@@ -1,0 +1,207 @@
+//! The lines of workers.
+
+ghost use Rattle.std.specs.Prelude.{◌≡◌, ◌+◌, ◌<◌, ◌≤◌, length, slice_get, Some};
+ghost use Rattle.call_rcu_worker.specs.Sync.{told_of};
+ghost use Rattle.world.specs.Grace.{planned, stepped};
+ghost use Rattle.world.specs.Workers.{worker_act, worked};
+
+use crate::board::Board;
+use crate::grace::{Effect, answer_to, one_event};
+use call_rcu_worker::{SyncCore, Told, WorkerCore};
+use callback_queue::Item;
+use rcu_model::{Event, Refusal};
+use world_state::{
+    Answer, Change, Holder, Life, Mark, QueueAct, WorkerState, WorkerVerb, WorldPlan,
+};
+
+impl<P: WorldPlan + Drop> Board<P> {
+    ghost use Rattle.call_rcu_worker.specs.declared.worker.WorkerCore.TheVariants as place;
+    ghost use Rattle.call_rcu_worker.specs.declared.sync.SyncStep.TheVariants as due;
+    ghost use Rattle.call_rcu_worker.specs.Sync.{step_of as sync_step};
+    ghost use Rattle.world_state.specs.declared.updater.Holder.TheVariants.{Worker};
+    ghost use Rattle.world_state.specs.View.{plans_of};
+    ghost use Rattle.world.specs.Grace.{grace_row};
+    ghost use Rattle.world.specs.Workers.{take_row, ask_for, run_row, first_in, worker_on};
+    ghost use Rattle.world.specs.Lines.{worker_line};
+    ghost use Rattle.world.specs.Shown.{shown, IsInRange, CanStart};
+
+    /// A line of a worker.
+    pub fn worker_line(
+        &self,
+        worker: u32,
+        state: WorkerState<P>,
+        verb: WorkerVerb,
+    ) -> Result<Change<P>, Refusal>
+        requires range { IsInRange (plans_of P.QSBR P.made P.action P.turn P.taken) (shown self.now) }
+        requires there { slice_get (shown self.now).workers worker ≡ Some state }
+        ensures { result ≡ worker_line (plans_of P.QSBR P.made P.action P.turn P.taken) (shown self.now) worker state verb }
+    {
+        match verb {
+            WorkerVerb::GoOn => self.worker_on(worker, state),
+            WorkerVerb::Take if matches!(state.core, WorkerCore::Idle) => self.take(worker, state),
+            WorkerVerb::Take => Err(Refusal::Busy),
+        }
+    }
+
+    /// Takes all that is queued, unless the queue is locked or empty.
+    fn take(&self, worker: u32, mut state: WorkerState<P>) -> Result<Change<P>, Refusal>
+        ensures { result ≡ take_row (shown self.now) worker state (slice_get (shown self.now).queues worker) }
+    {
+        let Some(queue) = self.queues.get(worker as usize) else {
+            return Err(Refusal::NoActor);
+        };
+        if queue.holder.is_some() {
+            return Ok(Change::Stay(Answer::Blocked));
+        }
+        if queue.items.is_empty() {
+            return Ok(Change::Stay(Answer::Idle));
+        }
+        let (_, _, fresh) = queue.items.segments();
+        state.core.took(fresh);
+        Ok(Change::Work {
+            worker,
+            state,
+            grace: self.grace,
+            act: QueueAct::Seal,
+            mark: None,
+            answer: Answer::Quiet,
+        })
+    }
+
+    /// The next step of a worker's operation.
+    fn worker_on(&self, worker: u32, mut state: WorkerState<P>) -> Result<Change<P>, Refusal>
+        requires range { IsInRange (plans_of P.QSBR P.made P.action P.turn P.taken) (shown self.now) }
+        requires there { slice_get (shown self.now).workers worker ≡ Some state }
+        ensures { result ≡ worker_on (plans_of P.QSBR P.made P.action P.turn P.taken) (shown self.now) worker state state.core }
+    {
+        let core = state.core;
+        match core {
+            WorkerCore::Syncs { sync, tickets } => {
+                let ask = self.ask_for(state.ask, sync);
+                self.worker_syncs(worker, ask, sync, tickets)
+            }
+            WorkerCore::Pops { tickets } => self.run(worker, state, tickets),
+            WorkerCore::Ran { .. } => {
+                state.core.give_out();
+                state.core.told(0)?;
+                Ok(Change::Work {
+                    worker,
+                    state,
+                    grace: self.grace,
+                    act: QueueAct::Finish,
+                    mark: None,
+                    answer: Answer::Quiet,
+                })
+            }
+            WorkerCore::Idle | WorkerCore::Runs { .. } | WorkerCore::Counts { .. } => {
+                Err(Refusal::NotOpen)
+            }
+        }
+    }
+
+    /// The number of the ask that a step of the worker's grace period is of.
+    fn ask_for(&self, ask: u64, sync: SyncCore<P>) -> u64
+        requires asks { (shown self.now).grace.asks ≤ length (shown self.now).log }
+        ensures { result ≡ ask_for (shown self.now) ask sync }
+    {
+        match sync {
+            SyncCore::Asks => self.grace.asks + 1,
+            _ => ask,
+        }
+    }
+
+    /// A step of a worker's grace period.
+    fn worker_syncs(
+        &self,
+        worker: u32,
+        ask: u64,
+        sync: SyncCore<P>,
+        tickets: u64,
+    ) -> Result<Change<P>, Refusal>
+        requires some { 1 ≤ length (shown self.now).readers }
+        requires start { sync_step P.action sync ≡ due.Begin → CanStart (shown self.now).grace }
+        ensures { result ≡ worked worker ask tickets (grace_row (plans_of P.QSBR P.made P.action P.turn P.taken) (shown self.now) (Worker worker) ask sync) }
+    {
+        let Some(effect) = self.effect(Holder::Worker(worker), ask, sync.next()) else {
+            return Ok(Change::Stay(Answer::Blocked));
+        };
+        work_told(worker, ask, sync, tickets, effect)
+    }
+
+    /// Pops the first ready item and runs it.
+    fn run(
+        &self,
+        worker: u32,
+        mut state: WorkerState<P>,
+        tickets: u64,
+    ) -> Result<Change<P>, Refusal>
+        requires { state.core ≡ place.Pops tickets }
+        ensures { result ≡ run_row (shown self.now) worker state tickets (first_in (slice_get (shown self.now).queues worker)) }
+    {
+        let Some(queue) = self.queues.get(worker as usize) else {
+            return Err(Refusal::NotOpen);
+        };
+        let Some((ticket, object)) = queue.items.first_ready() else {
+            return Err(Refusal::NotOpen);
+        };
+        state.core.hold(ticket, Item { object, job: () });
+        state.core.told(0)?;
+        Ok(Change::Work {
+            worker,
+            state,
+            grace: self.grace,
+            act: QueueAct::Pop,
+            mark: Some(Mark {
+                object,
+                life: Life::Reclaimed,
+            }),
+            answer: one_event(Event::Run(object)),
+        })
+    }
+}
+
+/// What comes of a step of the grace period of a worker's batch, with what the step loaded.
+fn work_told<P: WorldPlan + Drop>(
+    worker: u32,
+    ask: u64,
+    sync: SyncCore<P>,
+    tickets: u64,
+    effect: Effect<P>,
+) -> Result<Change<P>, Refusal>
+    ensures { result ≡ worked worker ask tickets (stepped effect.grace ask (told_of P.action P.turn P.taken (planned sync effect.plan) effect.loaded)) }
+{
+    let mut core = WorkerCore::Syncs { sync, tickets };
+    if let Some(plan) = effect.plan {
+        core.begin(plan);
+    }
+    let told = core.told(effect.loaded)?;
+    if told == Told::Waiting {
+        return Ok(Change::Stay(Answer::Wait));
+    }
+    Ok(Change::Work {
+        worker,
+        state: WorkerState { ask, core },
+        grace: effect.grace,
+        act: act_for(effect.grace.seq, &core),
+        mark: None,
+        answer: answer_to(ask, told),
+    })
+}
+
+/// What the queue is told after a step of its worker's grace period: the cookie that was taken, and the number that
+/// answered.
+fn act_for<P>(seq: u64, core: &WorkerCore<P, ()>) -> QueueAct
+    ensures { result ≡ worker_act seq core.now }
+{
+    match core {
+        WorkerCore::Syncs {
+            sync: SyncCore::Waits { cookie },
+            ..
+        } => QueueAct::Note(*cookie),
+        WorkerCore::Syncs {
+            sync: SyncCore::Frees,
+            ..
+        } => QueueAct::Advance(seq),
+        _ => QueueAct::Leave,
+    }
+}
