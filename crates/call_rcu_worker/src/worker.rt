@@ -24,7 +24,7 @@ pub enum WorkerStep {
     Run,
     /// Take the job by `give_out`, and call it.
     Call,
-    /// Store the number of this ticket as the finished count.
+    /// Raise the finished count by one: it is then the number of this ticket.
     Count(Ticket),
 }
 

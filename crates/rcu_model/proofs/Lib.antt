@@ -4,3 +4,4 @@ pub mod Safety
 pub mod Follows
 pub mod Covering
 pub mod Runs
+pub mod Headline

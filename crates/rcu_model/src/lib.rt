@@ -7,5 +7,5 @@ mod printing;
 mod refusal;
 
 pub use event::{Event, ObjectId, SectionId};
-pub use laws::held_is_not_reclaimed;
+pub use laws::{callbacks_run_once_after_their_sections, held_is_not_reclaimed};
 pub use refusal::Refusal;

@@ -5,6 +5,7 @@ pub mod Fault
 pub mod Grammar
 pub mod Answers
 pub mod Printed
+pub mod Safety
 pub mod Stream
 pub mod Next
 pub mod Play

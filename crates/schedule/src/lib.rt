@@ -20,7 +20,7 @@ pub use answers::print_event;
 pub use counts::Counts;
 pub use fault::{ReplayFault, ScheduleFault};
 pub use feeding::Replay;
-pub use laws::each_text_prints_once;
+pub use laws::{each_text_prints_once, each_text_reclaims_safely};
 pub use reading::{TextFault, read_line};
 pub use stream::replay;
 pub use whole::{Schedule, read_schedule};

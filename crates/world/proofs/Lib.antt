@@ -21,6 +21,10 @@ pub mod Reaching
 pub mod ReaderAnswers
 pub mod Prompt
 pub mod Telling
+mod DrainSteps
+mod DrainTrail
+mod DrainWorld
+mod DrainSettled
 pub mod Reserving
 pub mod Making
 pub mod Ranging

@@ -131,12 +131,12 @@ lines_told w (line ∷ lines) =
     ∙ ap (λ (es : List Event). es ++ answered_events ((step_of w line).world) lines) (step_told w line)
     ∙ append_assoc (log_of w) (events_of (step_of w line).answer) (answered_events ((step_of w line).world) lines)
 
-told_in : (flavour : Flavour) (config : Config) (lines : List Line) → log_of (world_after_lines (fresh_in flavour config 0) lines) ≡ answered_events (fresh_in flavour config 0) lines
-told_in Memb config lines = lines_told (fresh_in Memb config 0) lines
-told_in Qsbr config lines = lines_told (fresh_in Qsbr config 0) lines
+told_in : (flavour : Flavour) (config : Config) (seq : ℕ) (lines : List Line) → log_of (world_after_lines (fresh_in flavour config seq) lines) ≡ answered_events (fresh_in flavour config seq) lines
+told_in Memb config seq lines = lines_told (fresh_in Memb config seq) lines
+told_in Qsbr config seq lines = lines_told (fresh_in Qsbr config seq) lines
 
-pub log_answered : (config : Config) (lines : List Line) → log_of (world_after_lines (fresh_in config.flavour config 0) lines) ≡ answered_events (fresh_in config.flavour config 0) lines
-log_answered config lines = told_in config.flavour config lines
+pub log_answered : (config : Config) (seq : ℕ) (lines : List Line) → log_of (world_after_lines (fresh_in config.flavour config seq) lines) ≡ answered_events (fresh_in config.flavour config seq) lines
+log_answered config seq lines = told_in config.flavour config seq lines
 
 memb_lines : (w : BoardView MembPlan) (lines : List Line) → world_after_lines (OfMemb w) lines ≡ OfMemb (world_after memb_plans w lines)
 memb_lines w [] = refl
@@ -147,7 +147,7 @@ qsbr_lines w [] = refl
 qsbr_lines w (line ∷ lines) = qsbr_lines ((outcome_of qsbr_plans w line).world) lines
 
 -- either flavour's runs
-pub run_in : (flavour : Flavour) (config : Config) (lines : List Line) → IsRun (world_after memb_plans (fresh_at config 0) lines).log → IsRun (world_after qsbr_plans (fresh_at config 0) lines).log →
-    IsRun (log_of (world_after_lines (fresh_in flavour config 0) lines))
-run_in Memb config lines memb qsbr = subst (λ (w : WorldView). IsRun (log_of w)) (sym (memb_lines (fresh_at config 0) lines)) memb
-run_in Qsbr config lines memb qsbr = subst (λ (w : WorldView). IsRun (log_of w)) (sym (qsbr_lines (fresh_at config 0) lines)) qsbr
+pub run_in : (flavour : Flavour) (config : Config) (seq : ℕ) (lines : List Line) → IsRun (world_after memb_plans (fresh_at config seq) lines).log → IsRun (world_after qsbr_plans (fresh_at config seq) lines).log →
+    IsRun (log_of (world_after_lines (fresh_in flavour config seq) lines))
+run_in Memb config seq lines memb qsbr = subst (λ (w : WorldView). IsRun (log_of w)) (sym (memb_lines (fresh_at config seq) lines)) memb
+run_in Qsbr config seq lines memb qsbr = subst (λ (w : WorldView). IsRun (log_of w)) (sym (qsbr_lines (fresh_at config seq) lines)) qsbr

@@ -8,3 +8,4 @@ pub mod Shown
 pub mod Reached
 pub mod Steps
 pub mod Seen
+pub mod Drain

@@ -26,7 +26,7 @@ pub struct Board<P> {
     pub(crate) grace: GraceState,
     pub(crate) heads: Vec<Option<ObjectId>>,
     pub(crate) objects: Vec<ObjectState>,
-    log: Vec<Event>,
+    pub(crate) log: Vec<Event>,
 }
 
 impl<P: WorldPlan + Drop> Board<P> {
@@ -93,7 +93,7 @@ impl<P: WorldPlan + Drop> Board<P> {
     }
 
     /// What a line makes of the world.
-    fn change(&self, line: &Line) -> Result<Change<P>, Refusal>
+    pub(crate) fn change(&self, line: &Line) -> Result<Change<P>, Refusal>
         requires { IsInRange (plans_of P.QSBR P.made P.action P.turn P.taken) (shown self.now) }
         ensures { result ≡ change_of (plans_of P.QSBR P.made P.action P.turn P.taken) (shown self.now) line.now }
     {

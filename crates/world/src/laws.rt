@@ -9,10 +9,12 @@ ghost use Rattle.world_state.specs.View.{BoardView, fresh_at, plans_of};
 ghost use Rattle.world.specs.Lines.{world_after};
 ghost use Rattle.world.specs.Reached.{IsReached};
 ghost use Rattle.world.specs.Shown.{IsInRange};
-ghost use Rattle.world.specs.Steps.{is_supported, fresh_world, world_after_lines, log_of, answered_events};
+ghost use Rattle.rcu_model.specs.Headline.{RunsOnceAfterItsSections, UsesNoReclaimed};
+ghost use Rattle.world.specs.Steps.{is_supported_at, fresh_world_at, world_after_lines, log_of, answered_events};
 
 use gp_memb::MembPlan;
 use gp_qsbr::QsbrPlan;
+use rcu_model::callbacks_run_once_after_their_sections;
 use world_state::WorldPlan;
 
 /// The schedule theorem: for every schedule within the limits, whatever the plan and wherever the sequence numbers
@@ -26,12 +28,16 @@ pub(crate) fn numbers_stay_in_range<P: WorldPlan>()
     ensures { (w : BoardView P) → IsReached (plans_of P.QSBR P.made P.action P.turn P.taken) w → IsInRange (plans_of P.QSBR P.made P.action P.turn P.taken) w }
 {}
 
-/// What a schedule is answered is its log, and its log is a run: for every config that makes a world and all lines, the
-/// log after them holds the events of their answers in order, and is a run of the abstract machine.
-pub fn answers_are_a_run()
-    ensures run { (config : Config) (lines : List Line) → IsTrue (is_supported config) → IsRun (log_of (world_after_lines (fresh_world config) lines)) }
-    ensures events { (config : Config) (lines : List Line) → log_of (world_after_lines (fresh_world config) lines) ≡ answered_events (fresh_world config) lines }
+/// The headline, for every config and first sequence number that make a world, and all lines: the log holds the events of
+/// the answers in order, and is a run of the abstract machine, in which an object's callback runs at most once and only
+/// after every section open at its retirement has ended, so no section ever reads or finds a reclaimed object.
+pub fn every_schedule_reclaims_safely()
+    ensures events { (config : Config) (seq : ℕ) (lines : List Line) → log_of (world_after_lines (fresh_world_at config seq) lines) ≡ answered_events (fresh_world_at config seq) lines }
+    ensures run { (config : Config) (seq : ℕ) (lines : List Line) → IsTrue (is_supported_at config seq) → IsRun (log_of (world_after_lines (fresh_world_at config seq) lines)) }
+    ensures once { (config : Config) (seq : ℕ) (lines : List Line) → IsTrue (is_supported_at config seq) → RunsOnceAfterItsSections (log_of (world_after_lines (fresh_world_at config seq) lines)) }
+    ensures unused { (config : Config) (seq : ℕ) (lines : List Line) → IsTrue (is_supported_at config seq) → UsesNoReclaimed (log_of (world_after_lines (fresh_world_at config seq) lines)) }
 {
     log_is_a_run::<MembPlan>();
     log_is_a_run::<QsbrPlan>();
+    callbacks_run_once_after_their_sections();
 }

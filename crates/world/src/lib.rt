@@ -3,6 +3,7 @@
 
 mod barring;
 mod board;
+mod draining;
 mod grace;
 mod laws;
 mod publishing;
@@ -12,7 +13,7 @@ mod waiting;
 mod working;
 mod world;
 
-pub use laws::{answers_are_a_run, log_is_a_run};
+pub use laws::{every_schedule_reclaims_safely, log_is_a_run};
 pub use world::World;
 pub use world_state::{
     Answer, Config, Flavour, Layout, Line, ReaderVerb, StepError, UpdaterVerb, WorkerVerb,

@@ -10,6 +10,7 @@ impl<P: WorldPlan + Drop> Board<P> {
     ghost use Rattle.world.specs.Chains.{writes, next_object, linked_by, push_row, replace_row, cut_row, published, pushed_row, replaced_row};
     ghost use Rattle.world.specs.Shown.{shown};
 
+    /// Whether the updater is the one that writes the chain.
     pub fn writes(&self, updater: u32, chain: u32) -> bool
         requires { 0 < length (shown self.now).updaters }
         ensures { result ≡ writes (shown self.now) updater chain }

@@ -1,4 +1,5 @@
-//! Worlds made by their callers, to the end of the sequence numbers, and the worked rows of retirements and barriers.
+//! Worlds made by their callers, to the end of the sequence numbers, and the worked rows of retirements, barriers
+//! and drains.
 
 use super::{Answer, Config, Flavour, Layout, Line, ReaderVerb, UpdaterVerb, WorkerVerb, World};
 use rcu_model::{Event, ObjectId, Refusal, SectionId};
@@ -377,6 +378,26 @@ fn a_barrier_waits_for_both_queues(rt: HostRuntime) {
     }
 }
 
+/// A worker that asks too late stays before its ask, with its batch.
+#[test]
+fn a_worker_asks_too_late(rt: HostRuntime) {
+    let exhausted = Err(Refusal::Exhausted);
+    let on = [(Line::Worker(0, WorkerVerb::GoOn), 2, exhausted)];
+    let busy = [(Line::Worker(0, WorkerVerb::Take), 1, Err(Refusal::Busy))];
+    match World::new_at(rt.alloc(), SMALL, 4_611_686_018_427_387_904) {
+        Ok(mut world) => {
+            check_rows(&rt, &mut world, &push_rows(0, FIRST));
+            check_rows(&rt, &mut world, &cut_rows(0, FIRST));
+            check_rows(&rt, &mut world, &retire_rows(0, FIRST));
+            check_rows(&rt, &mut world, &take_rows(0));
+            check_rows(&rt, &mut world, &on);
+            check_rows(&rt, &mut world, &busy);
+            assert_eq!(rt; world.log().len(), 4);
+        }
+        Err(_) => assert!(rt; false),
+    }
+}
+
 /// A queue is idle while it is empty, and blocked while an updater has locked it.
 #[test]
 fn a_take_is_idle_and_then_blocked(rt: HostRuntime) {
@@ -426,6 +447,98 @@ fn only_a_cut_object_is_retired(rt: HostRuntime) {
             check_rows(&rt, &mut world, &foreign);
             check_rows(&rt, &mut world, &retire_rows(0, FIRST));
             check_rows(&rt, &mut world, &refused);
+        }
+        Err(_) => assert!(rt; false),
+    }
+}
+
+/// The first updater pushes, cuts and retires the object.
+fn retire_one(rt: &impl Abort, world: &mut World, object: ObjectId) {
+    check_rows(rt, world, &push_rows(0, object));
+    check_rows(rt, world, &cut_rows(0, object));
+    check_rows(rt, world, &retire_rows(0, object));
+}
+
+#[test]
+fn one_item_is_drained(rt: HostRuntime) {
+    match World::new(rt.alloc(), SMALL) {
+        Ok(mut world) => {
+            retire_one(&rt, &mut world, FIRST);
+            assert_eq!(rt; world.drain(0), Ok(13));
+            let object = FIRST;
+            let log = [
+                Event::Push { chain: 0, object },
+                Event::Cut { chain: 0, object },
+                Event::Retire(object),
+                Event::Queue { object, queue: 0 },
+                Event::Ask(1),
+                Event::Answer(1),
+                Event::Run(object),
+            ];
+            assert_eq!(rt; world.log(), log.as_slice());
+            assert_eq!(rt; world.drain(0), Ok(0));
+        }
+        Err(_) => assert!(rt; false),
+    }
+}
+
+#[test]
+fn two_items_are_drained_past_offline_readers(rt: HostRuntime) {
+    let config = Config {
+        flavour: Flavour::Qsbr,
+        readers: 3,
+        ..SMALL
+    };
+    match World::new(rt.alloc(), config) {
+        Ok(mut world) => {
+            retire_one(&rt, &mut world, FIRST);
+            retire_one(&rt, &mut world, SECOND);
+            assert_eq!(rt; world.drain(0), Ok(15));
+            assert_eq!(rt; world.drain(0), Ok(0));
+        }
+        Err(_) => assert!(rt; false),
+    }
+}
+
+#[test]
+fn no_drain_past_an_open_section(rt: HostRuntime) {
+    match World::new(rt.alloc(), SMALL) {
+        Ok(mut world) => {
+            retire_one(&rt, &mut world, FIRST);
+            assert!(rt; world.step(&Line::Reader(0, ReaderVerb::Lock)).is_ok());
+            assert!(rt; world.step(&Line::Reader(0, ReaderVerb::GoOn)).is_ok());
+            assert_eq!(rt; world.drain(0), Err(Refusal::Busy));
+            assert_eq!(rt; world.drain(1), Err(Refusal::NoActor));
+            assert!(rt; world.step(&Line::Reader(0, ReaderVerb::Unlock)).is_ok());
+            assert_eq!(rt; world.drain(0), Ok(13));
+        }
+        Err(_) => assert!(rt; false),
+    }
+}
+
+#[test]
+fn no_drain_beside_an_operation(rt: HostRuntime) {
+    match World::new(rt.alloc(), SMALL) {
+        Ok(mut world) => {
+            assert_eq!(rt; world.drain(0), Ok(0));
+            retire_one(&rt, &mut world, FIRST);
+            assert_eq!(rt;
+                world.step(&Line::Worker(0, WorkerVerb::Take)),
+                Ok(Answer::Quiet)
+            );
+            assert_eq!(rt; world.drain(0), Err(Refusal::Busy));
+        }
+        Err(_) => assert!(rt; false),
+    }
+}
+
+#[test]
+fn no_drain_at_the_end_of_the_numbers(rt: HostRuntime) {
+    match World::new_at(rt.alloc(), SMALL, 4_611_686_018_427_387_904) {
+        Ok(mut world) => {
+            assert_eq!(rt; world.drain(0), Ok(0));
+            retire_one(&rt, &mut world, FIRST);
+            assert_eq!(rt; world.drain(0), Err(Refusal::Exhausted));
         }
         Err(_) => assert!(rt; false),
     }

@@ -2,14 +2,16 @@
 
 ghost use Rattle.std.specs.Prelude.{◌≡◌, ◌⊎◌, ◌≤◌, ◌%◌, ◌^◌, IsTrue, IfOk, IfErr, false};
 ghost use Rattle.rcu_model.specs.Machine.{IsRun};
+ghost use Rattle.rcu_model.specs.Headline.{RunsOnceAfterItsSections, UsesNoReclaimed};
 ghost use Rattle.rcu_model.specs.declared.refusal.Refusal.TheVariants.{BadConfig, Memory};
+ghost use Rattle.world.specs.Drain.{MeetsDrain};
 ghost use Rattle.world.specs.Steps.{fresh_world, fresh_world_at, is_supported, is_supported_at, step_of, Meets, log_of, IsOfReader, IsPrompt};
 
 use crate::board::Board;
 use crate::laws::{log_is_a_run, numbers_stay_in_range};
 use gp_memb::MembPlan;
 use gp_qsbr::QsbrPlan;
-use rcu_model::{Event, Refusal};
+use rcu_model::{Event, Refusal, callbacks_run_once_after_their_sections};
 use std::alloc::Global;
 use std::marker::Model;
 use world_state::{Answer, Config, Flavour, Line, StepError};
@@ -101,11 +103,33 @@ impl World {
         }
     }
 
-    /// What the steps told, in order: always a run of the abstract machine.
+    /// Steps one worker alone from its `take` until its batch is counted, and answers the number of steps: with `R`
+    /// readers and `n` queued items `2R + 9 + 2n`, in the quiescent-state flavour `R + 8 + 2n`, where a step is one
+    /// line; 0 where its queue is empty. It waits for nobody. liburcu has no such call: it is the world's bound on
+    /// reclaiming.
+    ///
+    /// Refused before its first step, and then the world is as it was, in this order: with `NoActor` where there is no
+    /// such worker; with `Busy` where a reader is in a section, the grace lock or the queue's lock is held, or the
+    /// worker is in an operation; where items are queued, with `Exhausted` where the sequence number is 2^62 or more,
+    /// and with `Memory`.
+    pub fn drain(&mut self, worker: u32) -> Result<u64, StepError>
+        ensures { MeetsDrain worker self.old self.new result }
+    {
+        match &mut self.boards {
+            Boards::Memb(board) => board.drain(worker),
+            Boards::Qsbr(board) => board.drain(worker),
+        }
+    }
+
+    /// What the steps told, in order: always a run of the abstract machine, in which an object's callback runs at most
+    /// once and only after every section open at its retirement has ended, and no section uses a reclaimed object.
     pub fn log(&self) -> &[Event]
         ensures log { result.now ≡ log_of self.now }
         ensures run { IsRun result.now }
+        ensures once { RunsOnceAfterItsSections result.now }
+        ensures unused { UsesNoReclaimed result.now }
     {
+        callbacks_run_once_after_their_sections();
         log_is_a_run::<MembPlan>();
         log_is_a_run::<QsbrPlan>();
         match &self.boards {

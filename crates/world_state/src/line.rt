@@ -10,6 +10,7 @@ pub enum Line {
     Worker(u32, WorkerVerb),
 }
 
+/// What a reader does: the first step of an operation, or the next one.
 #[derive(Clone, Copy, Debug, PartialEq, Eq, Drop)]
 pub enum ReaderVerb {
     Lock,
@@ -27,6 +28,7 @@ pub enum ReaderVerb {
     GoOn,
 }
 
+/// What an updater does: the first step of an operation, or the next one.
 #[derive(Clone, Copy, Debug, PartialEq, Eq, Drop)]
 pub enum UpdaterVerb {
     /// Publishes a new object at the front of a chain.
@@ -49,6 +51,7 @@ pub enum UpdaterVerb {
     GoOn,
 }
 
+/// What a worker does: the first step of its operation, or the next one.
 #[derive(Clone, Copy, Debug, PartialEq, Eq, Drop)]
 pub enum WorkerVerb {
     /// Takes all that is queued, as a batch.

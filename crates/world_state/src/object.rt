@@ -14,7 +14,8 @@ pub enum Stage {
     Cut,
 }
 
-/// What was done with an object since it was cut. Its header says this much.
+/// What was done with an object since it was cut. `Retired` and `Reclaimed` are stores of its header, `Queued` is the
+/// push of its item.
 #[derive(Clone, Copy, Debug, PartialEq, Eq, Drop)]
 pub enum Life {
     Kept,

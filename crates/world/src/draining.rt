@@ -1,0 +1,170 @@
+//! A drain: one worker alone, until its batch is counted.
+
+ghost use Rattle.std.specs.Prelude.{◌≡◌, ◌≤◌, ◌<◌, ◌^◌, ◌++◌, ℕ, length, vec_capacity};
+ghost use Rattle.world_state.specs.declared.line.Line.TheVariants.{Worker as WorkerLine};
+ghost use Rattle.world_state.specs.View.{BoardView, plans_of};
+ghost use Rattle.world.specs.Reached.{IsReached};
+ghost use Rattle.world.specs.Drain.{IsSettled};
+
+use crate::board::Board;
+use crate::laws::numbers_stay_in_range;
+use call_rcu_worker::WorkerCore;
+use rcu_model::Refusal;
+use world_state::{
+    Answer, Change, Line, QueueState, StepError, WorkerState, WorkerVerb, WorldPlan, act_on,
+    mark_object, put,
+};
+
+/// From here on no grace period can be asked for: 2^62.
+const END_OF_NUMBERS: u64 = 1 << 62;
+
+/// What a worker finds that rests between two lines.
+fn workers_rest<P: WorldPlan>()
+    ensures { (w : BoardView P) → IsReached (plans_of P.QSBR P.made P.action P.turn P.taken) w → IsSettled w }
+{}
+
+impl<P: WorldPlan + Drop> Board<P> {
+    ghost use Rattle.world_state.specs.View.{told, changed};
+    ghost use Rattle.world.specs.Lines.{change_of, outcome_of};
+    ghost use Rattle.world.specs.Shown.{shown, IsInRange, MayMake};
+    ghost use Rattle.world.specs.Drain.{some_open, is_busy, steps_for, items_to_drain, Drains, IsWork, IsWorkChange};
+
+    /// Steps one worker alone from its `take` until its batch is counted, and answers the number of steps.
+    pub fn drain(&mut self, worker: u32) -> Result<u64, StepError>
+        requires { IsReached (plans_of P.QSBR P.made P.action P.turn P.taken) (shown self.old) }
+        ensures { Drains (plans_of P.QSBR P.made P.action P.turn P.taken) worker (shown self.old) (shown self.new) result }
+    {
+        numbers_stay_in_range::<P>();
+        workers_rest::<P>();
+        let items = self.items_to_drain(worker)?;
+        if items == 0 {
+            return Ok(0);
+        }
+        // The log has room for the ask, its answer, and a run of each item, or it is refused; no memory has 2^62 events.
+        if items >= END_OF_NUMBERS || self.log.reserve(items as usize + 2).is_err() {
+            return Err(Refusal::Memory);
+        }
+        let steps = self.steps_for(items);
+        self.work(worker, WorkerVerb::Take);
+        for _ in 1..steps {
+            self.work(worker, WorkerVerb::GoOn);
+        }
+        Ok(steps)
+    }
+
+    /// How many items a drain runs.
+    fn items_to_drain(&self, worker: u32) -> Result<u64, Refusal>
+        requires { IsSettled (shown self.now) }
+        ensures { result ≡ items_to_drain P.QSBR (shown self.now) worker }
+    {
+        let Some(state) = self.workers.get(worker as usize) else {
+            return Err(Refusal::NoActor);
+        };
+        let Some(queue) = self.queues.get(worker as usize) else {
+            return Err(Refusal::NoActor);
+        };
+        if self.is_busy(*state, queue) {
+            return Err(Refusal::Busy);
+        }
+        if queue.items.is_empty() {
+            return Ok(0);
+        }
+        if self.grace.seq >= END_OF_NUMBERS {
+            return Err(Refusal::Exhausted);
+        }
+        // All of them are fresh, since the worker rests.
+        let (_, _, fresh) = queue.items.segments();
+        Ok(fresh)
+    }
+
+    /// Whether somebody is in the way, or the worker is in an operation.
+    fn is_busy(&self, state: WorkerState<P>, queue: &QueueState) -> bool
+        ensures { result ≡ is_busy P.QSBR (shown self.now) state queue.now }
+    {
+        let is_resting = matches!(state.core, WorkerCore::Idle);
+        self.has_open_section()
+            || self.grace.holder.is_some()
+            || queue.holder.is_some()
+            || !is_resting
+    }
+
+    /// Whether some reader is in a section.
+    fn has_open_section(&self) -> bool
+        ensures { result ≡ some_open P.QSBR (shown self.now).layout (shown self.now).readers }
+    {
+        for reader in &self.readers {
+            if reader.is_in_section(P::QSBR, self.layout) {
+                return true;
+            }
+        }
+        false
+    }
+
+    /// How many steps drain this many items.
+    fn steps_for(&self, items: u64) -> u64
+        requires some { 1 ≤ items }
+        requires few { items < 2 ^ 62 }
+        requires readers { length (shown self.now).readers ≤ 64 }
+        ensures { result ≡ steps_for P.QSBR (length (shown self.now).readers) items }
+    {
+        let readers = self.readers.len() as u64;
+        if P::QSBR {
+            readers + 8 + 2 * items
+        } else {
+            2 * readers + 9 + 2 * items
+        }
+    }
+
+    /// A step of a worker that changes something, for whose events the log has room.
+    fn work(&mut self, worker: u32, verb: WorkerVerb)
+        requires range { IsInRange (plans_of P.QSBR P.made P.action P.turn P.taken) (shown self.old) }
+        requires work { IsWork (change_of (plans_of P.QSBR P.made P.action P.turn P.taken) (shown self.old) (WorkerLine worker verb)) }
+        requires room { length (outcome_of (plans_of P.QSBR P.made P.action P.turn P.taken) (shown self.old) (WorkerLine worker verb)).world.log ≤ vec_capacity self.old.log }
+        ensures world { shown self.new ≡ (outcome_of (plans_of P.QSBR P.made P.action P.turn P.taken) (shown self.old) (WorkerLine worker verb)).world }
+        ensures room { vec_capacity self.new.log ≡ vec_capacity self.old.log }
+    {
+        if let Ok(change) = self.change(&Line::Worker(worker, verb)) {
+            self.commit_work(change);
+        }
+    }
+
+    /// Makes a change of a worker, for whose events the log has room.
+    fn commit_work(&mut self, change: Change<P>)
+        requires may { MayMake (shown self.old) change }
+        requires room { length (changed (shown self.old) change).log ≤ vec_capacity self.old.log }
+        ensures world { IsWorkChange change → shown self.new ≡ changed (shown self.old) change }
+        ensures room { vec_capacity self.new.log ≡ vec_capacity self.old.log }
+    {
+        let Change::Work {
+            worker,
+            state,
+            grace,
+            act,
+            mark,
+            answer,
+        } = change
+        else {
+            return;
+        };
+        self.tell_in_place(answer);
+        act_on(&mut self.queues, worker as usize, act);
+        mark_object(&mut self.objects, mark);
+        put(&mut self.workers, worker as usize, state);
+        self.grace = grace;
+    }
+
+    /// Adds the events of an answer to the log, which has room for them.
+    fn tell_in_place(&mut self, answer: Answer)
+        requires { length ((shown self.old).log ++ told answer) ≤ vec_capacity self.old.log }
+        ensures log { shown self.new ≡ record (shown self.old) { log = (shown self.old).log ++ told answer } }
+        ensures room { vec_capacity self.new.log ≡ vec_capacity self.old.log }
+    {
+        let Answer::Events { first, second } = answer else {
+            return;
+        };
+        self.log.push_reserved(first);
+        if let Some(event) = second {
+            self.log.push_reserved(event);
+        }
+    }
+}
