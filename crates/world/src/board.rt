@@ -34,7 +34,8 @@ impl<P: WorldPlan + Drop> Board<P> {
     ghost use Rattle.world_state.specs.Objects.{spliced_heads, spliced_objects, marked_life};
     ghost use Rattle.world_state.specs.Queues.{acted_at, MayActAt};
     ghost use Rattle.world.specs.Lines.{change_of, outcome_of};
-    ghost use Rattle.world.specs.Shown.{shown, Grows, Meets, MayMake, IsInRange};
+    ghost use Rattle.world.specs.Shown.{shown, Grows, Meets, MayMake, IsInRange, PartOf};
+    ghost use Rattle.world.specs.Shown.{Publishing, Waiting, Retiring, Working};
 
     /// A board on which nothing has happened.
     pub fn new(alloc: Global, config: Config, seq: u64) -> Result<Board<P>, Refusal>
@@ -134,6 +135,22 @@ impl<P: WorldPlan + Drop> Board<P> {
                 put(&mut self.readers, reader as usize, step.state);
                 Ok(step.answer)
             }
+            Change::Begin { .. } | Change::Publish { .. } => self.commit_publishing(change),
+            Change::Grace { .. } | Change::Bar { .. } => self.commit_waiting(change),
+            Change::Hold { .. } | Change::Retire { .. } => self.commit_retirement(change),
+            Change::Work { .. } => self.commit_worker(change),
+            Change::Stay(answer) => Ok(answer),
+        }
+    }
+
+    /// A change of one who publishes; any other changes nothing.
+    fn commit_publishing(&mut self, change: Change<P>) -> Result<Answer, StepError>
+        ensures ok { PartOf Publishing change → OnOk result (shown self.new ≡ changed (shown self.old) change) }
+        ensures answer { PartOf Publishing change → IfOk result (λ a. a ≡ answer_of change) }
+        ensures err { PartOf Publishing change → OnErr result (shown self.new ≡ shown self.old) }
+        ensures memory { PartOf Publishing change → IfErr result (λ e. (e ≡ refusal.Memory) × Grows (shown self.old) (changed (shown self.old) change)) }
+    {
+        match change {
             Change::Begin {
                 updater,
                 state,
@@ -159,6 +176,18 @@ impl<P: WorldPlan + Drop> Board<P> {
                 self.publish_now(updater, state, splice);
                 Ok(answer)
             }
+            _ => Ok(Answer::Quiet),
+        }
+    }
+
+    /// A change of one who waits for a grace period or a barrier; any other changes nothing.
+    fn commit_waiting(&mut self, change: Change<P>) -> Result<Answer, StepError>
+        ensures ok { PartOf Waiting change → OnOk result (shown self.new ≡ changed (shown self.old) change) }
+        ensures answer { PartOf Waiting change → IfOk result (λ a. a ≡ answer_of change) }
+        ensures err { PartOf Waiting change → OnErr result (shown self.new ≡ shown self.old) }
+        ensures memory { PartOf Waiting change → IfErr result (λ e. (e ≡ refusal.Memory) × Grows (shown self.old) (changed (shown self.old) change)) }
+    {
+        match change {
             Change::Grace {
                 updater,
                 state,
@@ -170,6 +199,30 @@ impl<P: WorldPlan + Drop> Board<P> {
                 self.grace = grace;
                 Ok(answer)
             }
+            Change::Bar {
+                updater,
+                state,
+                barriers,
+                answer,
+            } => {
+                self.tell(answer)?;
+                put(&mut self.updaters, updater as usize, state);
+                self.barriers = barriers;
+                Ok(answer)
+            }
+            _ => Ok(Answer::Quiet),
+        }
+    }
+
+    /// A change of one who retires; any other changes nothing.
+    fn commit_retirement(&mut self, change: Change<P>) -> Result<Answer, StepError>
+        requires { MayMake (shown self.old) change }
+        ensures ok { PartOf Retiring change → OnOk result (shown self.new ≡ changed (shown self.old) change) }
+        ensures answer { PartOf Retiring change → IfOk result (λ a. a ≡ answer_of change) }
+        ensures err { PartOf Retiring change → OnErr result (shown self.new ≡ shown self.old) }
+        ensures memory { PartOf Retiring change → IfErr result (λ e. (e ≡ refusal.Memory) × Grows (shown self.old) (changed (shown self.old) change)) }
+    {
+        match change {
             Change::Hold {
                 updater,
                 state,
@@ -192,33 +245,34 @@ impl<P: WorldPlan + Drop> Board<P> {
                 put(&mut self.updaters, updater as usize, state);
                 Ok(answer)
             }
-            Change::Bar {
-                updater,
-                state,
-                barriers,
-                answer,
-            } => {
-                self.tell(answer)?;
-                put(&mut self.updaters, updater as usize, state);
-                self.barriers = barriers;
-                Ok(answer)
-            }
-            Change::Work {
-                worker,
-                state,
-                grace,
-                act,
-                mark,
-                answer,
-            } => {
-                self.tell(answer)?;
-                self.act_now(worker, act, mark);
-                put(&mut self.workers, worker as usize, state);
-                self.grace = grace;
-                Ok(answer)
-            }
-            Change::Stay(answer) => Ok(answer),
+            _ => Ok(Answer::Quiet),
         }
+    }
+
+    /// A change of a worker; any other changes nothing.
+    fn commit_worker(&mut self, change: Change<P>) -> Result<Answer, StepError>
+        requires { MayMake (shown self.old) change }
+        ensures ok { PartOf Working change → OnOk result (shown self.new ≡ changed (shown self.old) change) }
+        ensures answer { PartOf Working change → IfOk result (λ a. a ≡ answer_of change) }
+        ensures err { PartOf Working change → OnErr result (shown self.new ≡ shown self.old) }
+        ensures memory { PartOf Working change → IfErr result (λ e. (e ≡ refusal.Memory) × Grows (shown self.old) (changed (shown self.old) change)) }
+    {
+        let Change::Work {
+            worker,
+            state,
+            grace,
+            act,
+            mark,
+            answer,
+        } = change
+        else {
+            return Ok(Answer::Quiet);
+        };
+        self.tell(answer)?;
+        self.act_now(worker, act, mark);
+        put(&mut self.workers, worker as usize, state);
+        self.grace = grace;
+        Ok(answer)
     }
 
     /// What a step changes of a queue, and of an object with it.
