@@ -1,12 +1,12 @@
 -- An object's callback runs at most once, and only after every section open at its retirement has ended.
-use Rattle.std.proofs.Common.{◌≡◌, ◌≢◌, ◌⊎◌, inl, inr, ⊎_elim, ℕ, zero, suc, ◌<◌, List, [], ◌∷◌, ◌++◌, length, get_or, Some, None, refl, sym, ap, ◌∙◌, subst, arith}
+use Rattle.std.proofs.Common.{◌≡◌, ◌≢◌, ◌⊎◌, inl, inr, ⊎_elim, zero, suc, List, [], ◌∷◌, ◌++◌, Some, None, refl, sym, ap, ◌∙◌, subst, arith}
 use Rattle.std.specs.List.{Contains}
 use Rattle.rcu_model.specs.declared.event.Event.{Event}
 use Rattle.rcu_model.specs.declared.event.Event.TheVariants.{Open, Close, First, Next, Touch, Push, Replace, Cut, Retire, Queue, Run, Ask, Answer, Bar, Clear}
 use Rattle.rcu_model.specs.declared.event.SectionId.{SectionId}
 use Rattle.rcu_model.specs.declared.event.ObjectId.{ObjectId}
 use Rattle.rcu_model.specs.Machine.{State, start, IsAllowed, AreAllowed, IsRun, after, after_all, state_after}
-use Rattle.rcu_model.specs.Headline.{IsOpenAfter, LetsRun, Uses, RunsOnceAfterItsSections, UsesNoReclaimed}
+use Rattle.rcu_model.specs.Headline.{Uses, RunsOnceAfterItsSections, UsesNoReclaimed}
 use Rattle.rcu_model.proofs.Members.{In, section_tells, Tells, in_objects, has_object_in, in_left, in_last}
 use Rattle.rcu_model.proofs.SetLemmas.{at_object_same, at_object_other, at_section_same, has_without_section}
 use Rattle.rcu_model.specs.Sets.{same_section}

@@ -5,3 +5,13 @@ pub mod Follows
 pub mod Covering
 pub mod Runs
 pub mod Headline
+pub mod Rosters
+pub mod SectionLemmas
+pub mod WaitLemmas
+pub mod HoldingLemmas
+pub mod Steps
+pub mod Judging
+pub mod ObjectsTables
+pub mod ObjectsLinking
+pub mod ObjectsStores
+pub mod ObjectsStages

@@ -3,3 +3,10 @@ pub mod Sets
 pub mod Machine
 pub mod EventText
 pub mod Headline
+pub mod Verdict
+pub mod Roster
+pub mod Sections
+pub mod Waits
+pub mod Holdings
+pub mod Checker
+pub mod Objects

@@ -1,11 +1,26 @@
 #![tactic(auto)]
-//! The events of the library, the abstract machine that they go by, and the refusals of every call.
+//! The events of the library, the abstract machine that they go by, its checker, and the refusals of every call.
 
+mod checker;
 mod event;
+mod holdings;
 mod laws;
+mod object;
+#[cfg(test)]
+mod object_tests;
+mod objects;
 mod printing;
 mod refusal;
+mod roster;
+mod sections;
+mod states;
+#[cfg(test)]
+mod tests;
+mod verdict;
+mod waits;
 
+pub use checker::check_log;
 pub use event::{Event, ObjectId, SectionId};
 pub use laws::{callbacks_run_once_after_their_sections, held_is_not_reclaimed};
 pub use refusal::Refusal;
+pub use verdict::{LogFault, Rule, Verdict};

@@ -1,9 +1,9 @@
 -- The header is read exactly.
-use Rattle.std.proofs.Common.{◌≡◌, ℕ, List, [], ◌∷◌, ◌++◌, true, false, Err, refl, sym, subst, ◌∙◌, inl, inr, lit<}
+use Rattle.std.proofs.Common.{◌≡◌, ℕ, List, [], ◌∷◌, ◌++◌, Err, refl, sym, subst, ◌∙◌, inl, inr}
 use Rattle.std.specs.Prelude.{codes}
 use Rattle.std.specs.Fmt.{decimal}
 use Rattle.std.proofs.lemmas.List.{append-nil}
-use Rattle.schedule.specs.Reading.{Reading, ◌>>=◌, word_from, word_on, word_at, number_at}
+use Rattle.schedule.specs.Reading.{◌>>=◌, word_from, word_on, word_at, number_at}
 use Rattle.schedule.specs.Grammar.{done, layouts, flavours, header_at}
 use Rattle.schedule.specs.Header.{version, flavour_text, header, HeaderText}
 use Rattle.reader_word.specs.declared.layout.Layout.{Layout}
@@ -11,31 +11,11 @@ use Rattle.reader_word.specs.declared.layout.Layout.TheVariants.{Narrow, Wide}
 use Rattle.world_state.specs.declared.config.Config.{Config}
 use Rattle.world_state.specs.declared.config.Flavour.{Flavour}
 use Rattle.world_state.specs.declared.config.Flavour.TheVariants.{Memb, Qsbr}
-use Rattle.std.specs.Char.{is_ascii_digit}
-use Rattle.schedule.proofs.Exact.{Reads, Done, Then, done_reads, then_reads, reads_as}
-use Rattle.schedule.proofs.Tables.{InTable, is_prefix_free, table_reads}
-use Rattle.schedule.proofs.Numbers.{NumberText, number_reads}
+use Rattle.schedule.proofs.Exact.{Reads, Done, Then, reads_as}
+use Rattle.schedule.proofs.Tables.{InTable}
+use Rattle.schedule.proofs.Numbers.{NumberText}
 use Rattle.schedule.proofs.Verbs.{each_row}
-
--- a language that is read exactly, and has a text
-record Lang {A : Type 0} (T : A → List ℕ → Type 0) (read : List ℕ → Reading A) : Type 0 where
-  reads : Reads T read
-  some : (x : A) × (text : List ℕ) × T x text
-
-then_lang : {A B : Type 0} (S : A → List ℕ → Type 0) (T : A → B → List ℕ → Type 0) (read : List ℕ → Reading A) (next : A → List ℕ → Reading B) → Lang S read → ((x : A) → Lang (T x) (next x)) → Lang (Then S T) (λ text. read text >>= λ p. next p.0 p.1)
-then_lang S T read next first second = record {
-  reads = then_reads S T read next first.reads (λ x. (second x).reads) (λ x. (second x).some);
-  some = let a = first.some in let b = (second a.0).some in (b.0, a.1 ++ b.1, (a.0, a.1, b.1, a.2, b.2, refl));
-}
-
-done_lang : {A : Type 0} (x : A) → Lang (Done x) (done x)
-done_lang x = record { reads = done_reads x; some = (x, [], (refl, refl)) }
-
-number_lang : (end : ℕ) → is_ascii_digit end ≡ false → Lang (NumberText end) (number_at end)
-number_lang end nd = record { reads = number_reads end nd; some = (0, decimal 0 ++ end ∷ [], (lit< tt, refl)) }
-
-table_lang : {K : Type 0} (table : List (List ℕ × K)) → is_prefix_free table ≡ true → (some : (k : K) × (w : List ℕ) × InTable table k w) → Lang (InTable table) (word_at table)
-table_lang table free some = record { reads = table_reads table free some; some = some }
+use Rattle.schedule.proofs.Langs.{Lang, then_lang, done_lang, number_lang, table_lang}
 
 abbrev made : Layout → Flavour → ℕ → ℕ → ℕ → ℕ → Config
 made l f r u w c = record { layout = l; flavour = f; readers = r; updaters = u; workers = w; chains = c }

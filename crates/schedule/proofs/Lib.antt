@@ -5,6 +5,11 @@ pub mod Numbers
 pub mod Verbs
 pub mod Lines
 pub mod Columns
+pub mod Langs
+pub mod EventPieces
+pub mod Events
+pub mod AnswerTexts
+pub mod AnswerLogs
 pub mod Headers
 pub mod More
 pub mod Short
@@ -12,6 +17,8 @@ pub mod Bytes
 pub mod Playing
 pub mod Standing
 pub mod Once
-pub mod Ports
+pub mod KnownBytes
 pub mod Passing
 pub mod Wholes
+pub mod RoundTrip
+pub mod Starting

@@ -11,7 +11,7 @@ use Rattle.schedule.specs.Stream.{Progress, Header, Lines, Failed, Stands, Leads
 use Rattle.schedule.specs.Ports.{Tells, Writes, Passed, PassesOn, Closed, ClosesWith, Replayed, Replays, Replaying}
 use Rattle.schedule.proofs.Standing.{mid_begins, mid_answered}
 use Rattle.schedule.proofs.Once.{begins}
-use Rattle.schedule.proofs.Ports.{appends_more, consumes_kept, consumes_more, tells_more, tells_all}
+use Rattle.schedule.proofs.KnownBytes.{appends_more, consumes_kept, consumes_more, tells_more, tells_all}
 
 -- ---- beginnings
 

@@ -11,3 +11,6 @@ pub mod Next
 pub mod Play
 pub mod Ports
 pub mod Whole
+pub mod AnswerLines
+pub mod AnswerGrammar
+pub mod RoundTrip

@@ -1,9 +1,9 @@
 -- A replay from a reader to a writer, which may tell their bytes.
-use Rattle.std.specs.Prelude.{◌≡◌, ℕ, List, ◌++◌, Option, None, Some, Result, Ok, Err}
+use Rattle.std.specs.Prelude.{◌≡◌, ◌⊎◌, ℕ, List, ◌++◌, Option, None, Some, Result, Ok, Err}
 use Rattle.std.specs.Io.KnownBytes.{Appends, Consumes}
 use Rattle.schedule.specs.declared.counts.Counts.{Counts}
 use Rattle.schedule.specs.declared.fault.ReplayFault.{ReplayFault}
-use Rattle.schedule.specs.declared.fault.ReplayFault.TheVariants.{Read, Write}
+use Rattle.schedule.specs.declared.fault.ReplayFault.TheVariants.{Read, Write, Memory}
 use Rattle.schedule.specs.Printed.{IsBeginning, Ends}
 use Rattle.schedule.specs.Stream.{Progress, Failed, Stands, IsSound}
 
@@ -22,6 +22,10 @@ pub record WroteFront (before after : Option (List ℕ)) (bytes rest : List ℕ)
 abbrev pub Writes : Option (List ℕ) → Option (List ℕ) → List ℕ → Result (Unit {0}) ReplayFault → Type 0
 Writes before after bytes (Ok _) = Appends before after bytes
 Writes before after bytes (Err fault) = (fault ≡ Write) × ((rest : List ℕ) × WroteFront before after bytes rest)
+
+-- a reader fails, or memory for its bytes was refused, and some of its bytes were read
+abbrev pub ReadsNoMore : Option (List ℕ) → Option (List ℕ) → ReplayFault → Type 0
+ReadsNoMore given left fault = ((fault ≡ Read) ⊎ (fault ≡ Memory)) × ((read : List ℕ) × Consumes given left read)
 
 -- where a replay stands after a piece, and what it makes of what follows
 abbrev pub Passed : Progress → List ℕ → List ℕ → Result (Unit {0}) ReplayFault → Type 0

@@ -1,5 +1,5 @@
 -- Reading from left to right: a value and the bytes after it, or the bytes from the first bad one on.
-use Rattle.std.specs.Prelude.{◌≡◌, ℕ, ◌+◌, ◌-◌, ◌*◌, List, [], ◌∷◌, length, Result, Ok, Err, nat_lt, ◌==◌, ◌&&◌, if◌then◌else◌}
+use Rattle.std.specs.Prelude.{◌≡◌, ℕ, ◌+◌, ◌-◌, ◌*◌, List, [], ◌∷◌, length, Result, Ok, Err, nat_lt, Bool, ◌==◌, ◌&&◌, ◌||◌, if◌then◌else◌}
 use Rattle.std.specs.Borrow.{Bor}
 use Rattle.std.specs.Char.{is_ascii_digit}
 
@@ -36,16 +36,24 @@ word_at table text = word_on text table text
 
 -- ---- numbers
 
--- more digits of a number, of which there are some, and the byte that ends it
-unfoldable pub digits_on : ℕ → ℕ → List ℕ → Reading ℕ
-digits_on value end [] = Err []
-digits_on value end (b ∷ bs) =
-    if b == end then Ok (value, bs)
-    else (if is_ascii_digit b && (nat_lt 0 value && nat_lt value 100000000) then digits_on (10 * value + (b - 48)) end bs else Err (b ∷ bs))
+-- one of the two bytes that may end a number
+abbrev pub is_end : ℕ → ℕ → ℕ → Bool
+is_end end other b = (b == end) || (b == other)
 
+-- more digits of a number, of which there are some, and the byte that ends it; a value below `room` takes one more
+unfoldable pub digits_on : ℕ → ℕ → ℕ → ℕ → List ℕ → Reading (ℕ × ℕ)
+digits_on room value end other [] = Err []
+digits_on room value end other (b ∷ bs) =
+    if is_end end other b then Ok ((value, b), bs)
+    else (if is_ascii_digit b && (nat_lt 0 value && nat_lt value room) then digits_on room (10 * value + (b - 48)) end other bs else Err (b ∷ bs))
+
+unfoldable pub ended_number_at : ℕ → ℕ → ℕ → List ℕ → Reading (ℕ × ℕ)
+ended_number_at room end other [] = Err []
+ended_number_at room end other (b ∷ bs) = if is_ascii_digit b then digits_on room (b - 48) end other bs else Err (b ∷ bs)
+
+-- a number of at most nine digits, with one byte that ends it
 unfoldable pub number_at : ℕ → List ℕ → Reading ℕ
-number_at end [] = Err []
-number_at end (b ∷ bs) = if is_ascii_digit b then digits_on (b - 48) end bs else Err (b ∷ bs)
+number_at end text = ended_number_at 100000000 end end text >>= λ n. Ok (n.0.0, n.1)
 
 -- ---- what code returned
 

@@ -3,6 +3,7 @@
 ghost use Rattle.std.specs.Prelude.{◌≡◌};
 ghost use Rattle.schedule.specs.declared.fault.ReplayFault.TheVariants as replay_faults;
 ghost use Rattle.schedule.specs.declared.fault.ScheduleFault.TheVariants as schedule_faults;
+ghost use Rattle.schedule.specs.declared.fault.AnswersFault.TheVariants as answers_faults;
 
 use std::alloc::{AllocError, AllocFailed};
 use thiserror::Error;
@@ -37,6 +38,16 @@ pub enum ScheduleFault {
     Memory,
 }
 
+/// Why a text is no log of answers. Lines and columns count from 1.
+#[derive(Clone, Copy, Debug, PartialEq, Eq, Drop, Error)]
+pub enum AnswersFault {
+    /// The first byte with which no line of answers goes on, or the place after a line that has no end.
+    #[error("line {line} column {column}: bad text")]
+    BadText { line: u64, column: usize },
+    #[error("no memory")]
+    Memory,
+}
+
 impl From<AllocError> for ReplayFault {
     ghost from_gives = { λ _ e. e ≡ replay_faults.Memory };
 
@@ -50,5 +61,13 @@ impl<T: Drop> From<AllocFailed<T>> for ScheduleFault {
 
     fn from(_e: AllocFailed<T>) -> ScheduleFault {
         ScheduleFault::Memory
+    }
+}
+
+impl<T: Drop> From<AllocFailed<T>> for AnswersFault {
+    ghost from_gives = { λ _ e. e ≡ answers_faults.Memory };
+
+    fn from(_e: AllocFailed<T>) -> AnswersFault {
+        AnswersFault::Memory
     }
 }

@@ -1,8 +1,8 @@
 //! The pieces of a line: words of a table, and numbers.
 //! Each reads at the front of the text, and gives the bytes after it, or the bytes from the first bad one on.
 
-ghost use Rattle.std.specs.Prelude.{◌≡◌, map};
-ghost use Rattle.schedule.specs.Reading.{Gives, GivesRest, further, word_at, word_from, number_at, value_row};
+ghost use Rattle.std.specs.Prelude.{◌≡◌, ◌<◌, ◌≤◌, ◌*◌, map, IfOk};
+ghost use Rattle.schedule.specs.Reading.{Gives, GivesRest, further, word_at, word_from, ended_number_at, number_at, value_row};
 
 /// What comes after the word.
 #[tactic(auto, unfolding(crate::specs::Reading::word_from))]
@@ -44,10 +44,20 @@ pub fn word<'a, K: Copy>(table: &[(&[u8], K)], text: &'a [u8]) -> Result<(K, &'a
     Err(bad)
 }
 
-/// A number of at most nine digits with no zero before others, and the byte that ends it.
-#[tactic(auto, unfolding(crate::specs::Reading::number_at, crate::specs::Reading::digits_on))]
-pub fn number(end: u8, text: &[u8]) -> Result<(u32, &[u8]), &[u8]>
-    ensures { Gives (λ n. n) result (number_at end text.now) }
+/// A value below this takes one more digit, where a number has nine at most.
+pub const NINE: u64 = 100_000_000;
+
+/// A value below this takes one more digit, where a number has nineteen at most.
+pub const NINETEEN: u64 = 1_000_000_000_000_000_000;
+
+/// A number with no zero before others, and the byte that ends it, which is one of two. A value below `room` takes one
+/// more digit.
+#[tactic(auto, unfolding(crate::specs::Reading::ended_number_at, crate::specs::Reading::digits_on))]
+pub fn ended_number(room: u64, end: u8, other: u8, text: &[u8]) -> Result<((u64, u8), &[u8]), &[u8]>
+    requires some { 0 < room }
+    requires most { room ≤ 1000000000000000000 }
+    ensures read { Gives (λ n. n) result (ended_number_at room end other text.now) }
+    ensures within { IfOk result (λ n. n.0.0 < 10 * room) }
 {
     let [first, after @ ..] = text else {
         return Err(text);
@@ -55,17 +65,26 @@ pub fn number(end: u8, text: &[u8]) -> Result<(u32, &[u8]), &[u8]>
     if !first.is_ascii_digit() {
         return Err(text);
     }
-    let mut value = u32::from(*first - b'0');
+    let mut value = u64::from(*first - b'0');
     let mut rest = after;
     while let [digit, after @ ..] = rest {
-        if *digit == end {
-            return Ok((value, after));
+        if *digit == end || *digit == other {
+            return Ok(((value, *digit), after));
         }
-        if !digit.is_ascii_digit() || value == 0 || value >= 100_000_000 {
+        if !digit.is_ascii_digit() || value == 0 || value >= room {
             return Err(rest);
         }
-        value = 10 * value + u32::from(*digit - b'0');
+        value = 10 * value + u64::from(*digit - b'0');
         rest = after;
     }
     Err(rest)
+}
+
+/// A number of at most nine digits with no zero before others, and the byte that ends it.
+#[tactic(auto, unfolding(crate::specs::Reading::number_at))]
+pub fn number(end: u8, text: &[u8]) -> Result<(u32, &[u8]), &[u8]>
+    ensures { Gives (λ n. n) result (number_at end text.now) }
+{
+    let ((value, _), rest) = ended_number(NINE, end, end, text)?;
+    Ok((value as u32, rest))
 }

@@ -1,30 +1,14 @@
 //! A schedule that comes from a reader, replayed into a writer.
 
 ghost use Rattle.std.specs.Prelude.{◌≡◌, ◌≤◌, length, IfErr};
-ghost use Rattle.schedule.specs.Ports.{Writes, Passes, Closes, Replays};
+ghost use Rattle.schedule.specs.Ports.{Passes, Closes, Replays};
 
 use crate::counts::Counts;
 use crate::fault::ReplayFault;
 use crate::feeding::Replay;
+use crate::ports::{PIECE, write_whole};
 use std::alloc::Global;
 use std::io::{Read, Write};
-
-/// As many bytes as are read at once, at most.
-const PIECE: usize = 4096;
-
-/// Writes all the bytes. `Write` at the first error, and where a write takes nothing.
-fn write_whole<W: Write>(writer: &mut W, bytes: &[u8]) -> Result<(), ReplayFault>
-    ensures { Writes (W.contents writer.old) (W.contents writer.new) bytes.now result }
-{
-    let mut rest = bytes;
-    while !rest.is_empty() {
-        match writer.write(rest) {
-            Ok(0) | Err(_) => return Err(ReplayFault::Write),
-            Ok(taken) => rest = &rest[taken..],
-        }
-    }
-    Ok(())
-}
 
 /// Feeds a piece, and writes what it gives.
 fn pass<W: Write>(

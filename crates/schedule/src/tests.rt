@@ -1,6 +1,8 @@
 //! Texts and what they print, whole and in pieces, and what fails in the middle.
 
 mod paced;
+mod printing;
+mod reading_back;
 mod rows;
 mod verbs;
 

@@ -1,2 +1,6 @@
+pub mod Limits
+pub mod Drawing
+pub mod Checking
+pub mod Walking
 pub mod Words
 pub mod Status

@@ -1,15 +1,89 @@
 -- The words that the program takes.
-use Rattle.std.specs.Prelude.{◌≡◌, ℕ, ◌⊎◌, true, List, Option, Some, None, codes}
-use Rattle.clap.specs.Words.{App, new_app, with_subcommand}
+use Rattle.std.specs.Prelude.{◌≡◌, ℕ, ◌⊎◌, true, List, [], ◌∷◌, map, Option, Some, None, codes, ◌^◌, ◌-◌}
+use Rattle.clap.specs.Words.{App, Shape, Rule, Text, app_of, fault_of, kind_of, new_app, new_rule, with_rule, with_subcommand, HasKind}
+use Rattle.clap.specs.declared.builder.action.ArgAction.TheVariants.{SetTrue}
+use Rattle.clap.specs.declared.builder.command.Command.{Command}
+use Rattle.clap.specs.declared.builder.value_parser.ValueParser.TheVariants.{Names, Unsigned}
+use Rattle.clap.specs.declared.error.Error.{Error}
 use Rattle.clap.specs.declared.error.kind.ErrorKind.{ErrorKind}
-use Rattle.clap.specs.declared.error.kind.ErrorKind.TheVariants.{DisplayHelp, DisplayVersion, OutOfMemory}
+use Rattle.clap.specs.declared.error.kind.ErrorKind.TheVariants.{DisplayHelp, DisplayVersion, OutOfMemory, ValueValidation}
+use Rattle.clap.specs.declared.builder.command.Command.TheViews.{out-Command as fields_of}
+use Rattle.std.specs.Borrow.{Bor}
 
--- `torture`, which wants a subcommand, and the subcommand `replay`
-abbrev bare : App
+-- an option of a number between limits
+abbrev pub number_rule : Text → ℕ → ℕ → Rule
+number_rule name least most = record (new_rule name) { long = Some name; value_names = 1; parser = Some (Unsigned least most) }
+
+-- with the number that it has where no word says one
+abbrev pub or_else : Text → Rule → Rule
+or_else text rule = record rule { defaults = text ∷ [] }
+
+-- the names of the flavours, wherever they stand
+abbrev pub AreFlavours : Bor (List (Bor (List ℕ))) → Type 0
+AreFlavours names = map (λ name. name.now) names.now ≡ codes "memb" ∷ codes "qsbr" ∷ []
+
+abbrev pub flavour_rule : Bor (List (Bor (List ℕ))) → Rule
+flavour_rule names = record (new_rule (codes "flavour")) { long = Some (codes "flavour"); value_names = 1; parser = Some (Names names) }
+
+abbrev pub IsFlavourRule : Rule → Type 0
+IsFlavourRule rule = (flavours : Bor (List (Bor (List ℕ)))) × AreFlavours flavours × (rule ≡ or_else (codes "memb") (flavour_rule flavours))
+
+abbrev pub schedule_rule : Rule
+schedule_rule = record (new_rule (codes "schedule")) { long = Some (codes "schedule"); action = Some SetTrue }
+
+-- the options of `walk`: in which world, and how
+abbrev pub with_world : Bor (List (Bor (List ℕ))) → App → App
+with_world flavours app =
+    with_rule (with_rule (with_rule (with_rule (with_rule (with_rule app
+    (or_else (codes "memb") (flavour_rule flavours)))
+    (or_else (codes "2") (number_rule (codes "readers") 1 64)))
+    (or_else (codes "1") (number_rule (codes "updaters") 1 16)))
+    (or_else (codes "1") (number_rule (codes "workers") 1 8)))
+    (or_else (codes "1") (number_rule (codes "chains") 1 64)))
+    (or_else (codes "1") (number_rule (codes "format") 1 2))
+
+abbrev pub with_course : App → App
+with_course app =
+    with_rule (with_rule (with_rule (with_rule (with_rule app
+    (or_else (codes "1000") (number_rule (codes "lines") 0 1000000)))
+    (or_else (codes "1") (number_rule (codes "seed") 0 (2 ^ 64 - 1))))
+    schedule_rule)
+    (number_rule (codes "stop") 0 87))
+    (or_else (codes "1") (number_rule (codes "from") 1 1000000))
+
+-- `torture`, which wants a subcommand, and its subcommands
+abbrev pub bare : App
 bare = new_app (codes "torture")
 
-abbrev pub torture_app : App
-torture_app = with_subcommand (record bare { top = record (bare.top) { subcommand_required = true; arg_required_else_help = true } }) ((new_app (codes "replay")).top)
+abbrev pub torture_app : Bor (List (Bor (List ℕ))) → App
+torture_app flavours =
+    with_subcommand (with_subcommand (with_subcommand
+    (record bare { top = record (bare.top) { subcommand_required = true; arg_required_else_help = true } })
+    ((new_app (codes "replay")).top))
+    ((new_app (codes "check")).top))
+    ((with_course (with_world flavours (new_app (codes "walk")))).top)
+
+-- what the program is to `clap`
+abbrev pub IsTorture : App → Type 0
+IsTorture app = (flavours : Bor (List (Bor (List ℕ)))) × AreFlavours flavours × (app ≡ torture_app flavours)
+
+-- what adds options to a command that has no global ones
+abbrev pub AddsWorld : Command → Command → Type 0
+AddsWorld old new = (flavours : Bor (List (Bor (List ℕ)))) × AreFlavours flavours × (app_of new ≡ with_world flavours (app_of old)) × ((fields_of new).has_globals ≡ (fields_of old).has_globals)
+
+abbrev pub AddsCourse : Command → Command → Type 0
+AddsCourse old new = (app_of new ≡ with_course (app_of old)) × ((fields_of new).has_globals ≡ (fields_of old).has_globals)
+
+-- `clap` takes the words
+abbrev pub IsTaken : List Text → Type 0
+IsTaken words = (app : App) × IsTorture app × (fault_of app words ≡ [])
+
+-- `clap` refuses the words; or it takes them, and who stops is not there; or memory was refused
+abbrev pub IsRefused : List Text → Error → Type 0
+IsRefused words error =
+    ((app : App) × IsTorture app × HasKind (fault_of app words) error)
+    ⊎ ((IsTaken words × (kind_of error ≡ ValueValidation))
+    ⊎ (kind_of error ≡ OutOfMemory))
 
 -- what the program ends with
 abbrev pub status_of_kind : ErrorKind → ℕ

@@ -1,5 +1,5 @@
 #![tactic(auto)]
-//! `torture`: replays schedules of atomic steps.
+//! `torture`: replays schedules of atomic steps, checks their answers, and draws schedules.
 
 ghost use Rattle.std.specs.Prelude.{◌≡◌};
 ghost use Rattle.std.specs.IoError.{error_kind};
@@ -7,7 +7,12 @@ ghost use Rattle.clap.specs.Words.{kind_of};
 ghost use Rattle.torture.specs.Status.{IsStatus, status_of_words};
 ghost use Rattle.torture.specs.Words.{EndsBy};
 
+mod checking;
+mod command;
+mod drawing;
 mod execution;
+mod program;
+mod walking;
 mod words;
 
 use execution::execute;

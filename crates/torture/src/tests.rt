@@ -1,70 +1,66 @@
 //! Words, and what commands write and end with.
 
+mod streams;
+mod words;
+
+use crate::command::{Command, Stop, Walk};
 use crate::execution::execute;
-use crate::words::{Command, read_words};
-use std::io;
+use std::alloc::Global;
 use std::io::{Read, Write};
 use std::test::Fail;
+use streams::{Pieces, Sink};
+use world::{Config, Flavour, Layout};
 
-/// A reader or a writer that always fails.
+/// What the words say where they say nothing.
+const DEFAULT: Walk = Walk {
+    config: Config {
+        layout: Layout::Narrow,
+        flavour: Flavour::Memb,
+        readers: 2,
+        updaters: 1,
+        workers: 1,
+        chains: 1,
+    },
+    lines: 1000,
+    seed: 1,
+    schedule: false,
+    stop: None,
+};
+
+/// What a command writes, tells and ends with.
 #[derive(Drop)]
-struct Broken;
+struct Ended {
+    printed: Vec<u8>,
+    told: Vec<u8>,
+    status: u8,
+}
 
-impl Read for Broken {
-    fn read(&mut self, _buf: &mut [u8]) -> io::Result<usize> {
-        Err(io::ErrorKind::PermissionDenied.into())
+/// Executes a command that is within its limits. No command ends with 9.
+fn executed_on<R: Read, W: Write>(
+    alloc: Global,
+    command: Command,
+    reader: &mut R,
+    writer: &mut W,
+    told: &mut Vec<u8>,
+) -> u8 {
+    if command.is_within_limits() {
+        execute(alloc, command, reader, writer, told)
+    } else {
+        9
     }
 }
 
-impl Write for Broken {
-    fn write(&mut self, _buf: &[u8]) -> io::Result<usize> {
-        Err(io::ErrorKind::PermissionDenied.into())
+/// Executes a command on a text that is read whole.
+fn executed(alloc: Global, command: Command, text: &[u8]) -> Ended {
+    let mut reader = text;
+    let mut printed: Vec<u8> = Vec::new(alloc);
+    let mut told: Vec<u8> = Vec::new(alloc);
+    let status = executed_on(alloc, command, &mut reader, &mut printed, &mut told);
+    Ended {
+        printed,
+        told,
+        status,
     }
-
-    fn flush(&mut self) -> io::Result<()> {
-        Ok(())
-    }
-}
-
-#[test]
-fn words_name_a_command(rt: HostRuntime) -> Result<(), Fail> {
-    match read_words(rt.alloc(), &["torture", "replay"]) {
-        Ok(command) => assert_eq!(rt; command, Command::Replay),
-        Err(_) => assert!(rt; false),
-    }
-    Ok(())
-}
-
-#[test]
-fn other_words_are_told(rt: HostRuntime) -> Result<(), Fail> {
-    let rows: [(&[&str], u8, &str); 4] = [
-        (
-            &["torture", "repla"],
-            2,
-            "error: unrecognized subcommand 'repla'\n\n  tip: a similar subcommand exists: 'replay'\n\nUsage: torture <COMMAND>\n\nFor more information, try '--help'.\n",
-        ),
-        (
-            &["torture", "replay", "x"],
-            2,
-            "error: unexpected argument 'x' found\n\nUsage: torture replay\n\nFor more information, try '--help'.\n",
-        ),
-        (&["torture"], 2, "Replays schedules of read-copy-update"),
-        (
-            &["torture", "--help"],
-            0,
-            "Replays schedules of read-copy-update",
-        ),
-    ];
-    for (words, status, text) in rows {
-        match read_words(rt.alloc(), words) {
-            Ok(_) => assert!(rt; false),
-            Err(fault) => {
-                assert_eq!(rt; fault.status(), status);
-                assert!(rt; fault.to_string(rt.alloc())?.as_str().starts_with(text));
-            }
-        }
-    }
-    Ok(())
 }
 
 #[test]
@@ -91,55 +87,224 @@ fn a_replay_ends_by_its_fault(rt: HostRuntime) -> Result<(), Fail> {
         (b"", b"", b"line 1 column 1: bad text\n", 2),
     ];
     for (text, printed, told, status) in rows {
-        let mut reader = text;
-        let mut out: Vec<u8> = Vec::new(rt.alloc());
-        let mut faults: Vec<u8> = Vec::new(rt.alloc());
-        let ended = execute(
-            rt.alloc(),
-            Command::Replay,
-            &mut reader,
-            &mut out,
-            &mut faults,
-        );
-        assert_eq!(rt; ended, status);
-        assert_eq!(rt; out.as_slice(), printed);
-        assert_eq!(rt; faults.as_slice(), told);
+        let ended = executed(rt.alloc(), Command::Replay, text);
+        assert_eq!(rt; ended.status, status);
+        assert_eq!(rt; ended.printed.as_slice(), printed);
+        assert_eq!(rt; ended.told.as_slice(), told);
     }
     Ok(())
 }
 
 #[test]
-fn broken_streams_end_with_three(rt: HostRuntime) -> Result<(), Fail> {
+fn a_check_ends_by_its_verdict(rt: HostRuntime) -> Result<(), Fail> {
+    let rows: [(&[u8], &[u8], &[u8], u8); 7] = [
+        (b"", b"yes events=0\n", b"", 0),
+        (b"end open=0 waiting=0 run=0\n", b"yes events=0\n", b"", 0),
+        (
+            b".\nopen r0.1\nwait\nclose r0.1; open r0.2\nrefused E99\n",
+            b"yes events=3\n",
+            b"",
+            0,
+        ),
+        (
+            b"push c0 o1\nopen r0.1\ncut c0 o1\nretire o1\nqueue o1 q0\nrun o1\n",
+            b"no event=6 rule=D7\n",
+            b"",
+            1,
+        ),
+        (
+            b"ask a1\nanswer a1\nopen r0.1\nask a2\nanswer a2\n",
+            b"no event=5 rule=D8\n",
+            b"",
+            1,
+        ),
+        // A bad line is a fault even after an event that breaks its rule.
+        (b"close r0.1\nx", b"", b"line 2 column 1: bad text\n", 2),
+        (b"idle", b"", b"line 1 column 5: bad text\n", 2),
+    ];
+    for (text, printed, told, status) in rows {
+        let ended = executed(rt.alloc(), Command::Check, text);
+        assert_eq!(rt; ended.status, status);
+        assert_eq!(rt; ended.printed.as_slice(), printed);
+        assert_eq!(rt; ended.told.as_slice(), told);
+    }
+    Ok(())
+}
+
+#[test]
+fn a_walk_of_no_lines_is_a_run(rt: HostRuntime) -> Result<(), Fail> {
+    let walk = Walk {
+        lines: 0,
+        ..DEFAULT
+    };
+    let ended = executed(rt.alloc(), Command::Walk(walk), b"");
+    let line = b"walk lines=0 events=0 open=0 waiting=0 run=0 verdict=yes\n";
+    assert_eq!(rt; ended.printed.as_slice(), line.as_slice());
+    assert!(rt; ended.told.is_empty());
+    assert_eq!(rt; ended.status, 0);
+    Ok(())
+}
+
+#[test]
+fn a_walk_tells_what_happened(rt: HostRuntime) -> Result<(), Fail> {
+    let ended = executed(rt.alloc(), Command::Walk(DEFAULT), b"");
+    let line = b"walk lines=1000 events=116 open=2 waiting=0 run=0 verdict=yes\n";
+    assert_eq!(rt; ended.printed.as_slice(), line.as_slice());
+    assert_eq!(rt; ended.status, 0);
+    Ok(())
+}
+
+#[test]
+fn a_schedule_begins_with_its_header(rt: HostRuntime) -> Result<(), Fail> {
+    let rows: [(Layout, Flavour, &[u8]); 2] = [
+        (Layout::Narrow, Flavour::Memb, b"schedule 1 memb 2 1 1 1\n"),
+        (Layout::Wide, Flavour::Qsbr, b"schedule 2 qsbr 2 1 1 1\n"),
+    ];
+    for (layout, flavour, header) in rows {
+        let config = Config {
+            layout,
+            flavour,
+            ..DEFAULT.config
+        };
+        let bare = Walk {
+            config,
+            schedule: true,
+            lines: 0,
+            ..DEFAULT
+        };
+        let ended = executed(rt.alloc(), Command::Walk(bare), b"");
+        assert_eq!(rt; ended.printed.as_slice(), header);
+        assert_eq!(rt; ended.status, 0);
+        let ended = executed(rt.alloc(), Command::Walk(Walk { lines: 500, ..bare }), b"");
+        let printed = ended.printed.as_slice();
+        assert!(rt; printed.starts_with(header));
+        let lines = printed.iter().filter(|byte| **byte == b'\n').count();
+        assert_eq!(rt; lines, 501);
+        assert_eq!(rt; ended.status, 0);
+        let replayed = executed(rt.alloc(), Command::Replay, printed);
+        assert_eq!(rt; replayed.status, 0);
+    }
+    Ok(())
+}
+
+#[test]
+fn who_stops_gets_no_line(rt: HostRuntime) -> Result<(), Fail> {
+    for (actor, name) in [(0, b'r'), (2, b'u'), (3, b'w')] {
+        let walk = Walk {
+            schedule: true,
+            stop: Some(Stop { actor, from: 1 }),
+            ..DEFAULT
+        };
+        let ended = executed(rt.alloc(), Command::Walk(walk), b"");
+        assert_eq!(rt; ended.status, 0);
+        let printed = ended.printed.as_slice();
+        // Reader 1 goes on where reader 0 has stopped.
+        let told = printed
+            .windows(3)
+            .filter(|bytes| bytes[0] == b'\n' && bytes[1] == name && bytes[2] == b'0')
+            .count();
+        assert_eq!(rt; told, 0);
+    }
+    Ok(())
+}
+
+/// The commands that write, each with a text that it is read.
+const WRITERS: [(Command, &[u8]); 4] = [
+    (Command::Replay, b"schedule 1 memb 1 1 1 1\n"),
+    (Command::Check, b".\n"),
+    (Command::Walk(DEFAULT), b""),
+    (
+        Command::Walk(Walk {
+            schedule: true,
+            ..DEFAULT
+        }),
+        b"",
+    ),
+];
+
+#[test]
+fn writers_may_take_one_byte_at_a_time(rt: HostRuntime) -> Result<(), Fail> {
+    for (command, text) in WRITERS {
+        let whole = executed(rt.alloc(), command, text);
+        let mut reader = Pieces::new(text, 1);
+        let mut slow = Sink::new(rt.alloc(), 1);
+        let mut told: Vec<u8> = Vec::new(rt.alloc());
+        let status = executed_on(rt.alloc(), command, &mut reader, &mut slow, &mut told);
+        assert_eq!(rt; status, 0);
+        assert_eq!(rt; slow.bytes.as_slice(), whole.printed.as_slice());
+        assert!(rt; told.is_empty());
+    }
+    Ok(())
+}
+
+#[test]
+fn writers_that_fail_end_with_three(rt: HostRuntime) -> Result<(), Fail> {
+    for (command, text) in WRITERS {
+        let whole = executed(rt.alloc(), command, text);
+        // At the first write, at the eleventh, and at one that takes nothing.
+        for (before, most, written) in [(Some(0), 9, 0), (Some(10), 1, 10), (None, 0, 0)] {
+            let mut reader = text;
+            let mut broken = Sink {
+                bytes: Vec::new(rt.alloc()),
+                most,
+                before,
+            };
+            let mut told: Vec<u8> = Vec::new(rt.alloc());
+            let status = executed_on(rt.alloc(), command, &mut reader, &mut broken, &mut told);
+            assert_eq!(rt; status, 3);
+            assert_eq!(rt; told.as_slice(), b"write fault\n".as_slice());
+            assert_eq!(rt; broken.bytes.len(), written);
+            assert!(rt; whole.printed.starts_with(&broken.bytes));
+        }
+    }
+    Ok(())
+}
+
+#[test]
+fn readers_that_fail_end_with_three(rt: HostRuntime) -> Result<(), Fail> {
+    let rows: [(Command, &[u8], &[u8]); 2] = [
+        (
+            Command::Replay,
+            b"schedule 1 memb 1 1 1 1\nr0 lock\n",
+            b".\n",
+        ),
+        (Command::Check, b"open r0.1\nclose r0.1\n", b""),
+    ];
+    for (command, text, printed) in rows {
+        // At the first read, in the middle, and at the end.
+        for before in [0, 3, text.len()] {
+            let mut reader = Pieces {
+                before: Some(before),
+                ..Pieces::new(text, 1)
+            };
+            let mut out: Vec<u8> = Vec::new(rt.alloc());
+            let mut told: Vec<u8> = Vec::new(rt.alloc());
+            let status = executed_on(rt.alloc(), command, &mut reader, &mut out, &mut told);
+            assert_eq!(rt; status, 3);
+            assert_eq!(rt; told.as_slice(), b"read fault\n".as_slice());
+            let wanted = if before == text.len() { printed } else { b"" };
+            assert_eq!(rt; out.as_slice(), wanted);
+        }
+    }
+    Ok(())
+}
+
+#[test]
+fn a_fault_that_cannot_be_told_is_passed_over(rt: HostRuntime) -> Result<(), Fail> {
+    let mut reader = Pieces {
+        before: Some(0),
+        ..Pieces::new(b"", 1)
+    };
     let mut out: Vec<u8> = Vec::new(rt.alloc());
-    let mut faults: Vec<u8> = Vec::new(rt.alloc());
-    let ended = execute(
+    let mut broken = Sink::new(rt.alloc(), 0);
+    let status = execute(
         rt.alloc(),
-        Command::Replay,
-        &mut Broken,
-        &mut out,
-        &mut faults,
-    );
-    assert_eq!(rt; ended, 3);
-    assert_eq!(rt; faults.as_slice(), b"read fault\n".as_slice());
-    faults.clear();
-    let mut reader = b"schedule 1 memb 1 1 1 1\n".as_slice();
-    let ended = execute(
-        rt.alloc(),
-        Command::Replay,
+        Command::Check,
         &mut reader,
-        &mut Broken,
-        &mut faults,
-    );
-    assert_eq!(rt; ended, 3);
-    assert_eq!(rt; faults.as_slice(), b"write fault\n".as_slice());
-    // A fault that cannot be told is passed over.
-    let ended = execute(
-        rt.alloc(),
-        Command::Replay,
-        &mut Broken,
         &mut out,
-        &mut Broken,
+        &mut broken,
     );
-    assert_eq!(rt; ended, 3);
+    assert_eq!(rt; status, 3);
+    assert!(rt; out.is_empty());
     Ok(())
 }

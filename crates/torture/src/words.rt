@@ -1,21 +1,19 @@
 //! The words of the command line.
 
-ghost use Rattle.std.specs.Prelude.{◌≡◌, [], map, IfOk, IfErr};
-ghost use Rattle.clap.specs.Words.{app_of, fault_of, kind_of, FailsBy, HasKind};
-ghost use Rattle.torture.specs.Words.{torture_app, status_of_kind, text_of_kind};
+ghost use Rattle.std.specs.Prelude.{◌≡◌, map, IfOk, IfErr};
+ghost use Rattle.clap.specs.Words.{kind_of};
+ghost use Rattle.clap.specs.declared.error.kind.ErrorKind.TheVariants.{ValueValidation};
+ghost use Rattle.torture.specs.Limits.{IsWithin};
+ghost use Rattle.torture.specs.Words.{status_of_kind, text_of_kind, IsTaken, IsRefused};
 
+use crate::command::{Command, Stop, Walk};
+use crate::program::program;
 use clap::error::ErrorKind;
-use clap::{ArgMatches, Command as Program, Error};
+use clap::{ArgMatches, Error};
 use std::alloc::{AllocError, Global};
 use std::convert::AsStr;
 use std::fmt;
-
-/// What the program is asked to do.
-#[derive(Clone, Copy, Debug, PartialEq, Eq, Drop)]
-pub enum Command {
-    /// Answers each line of a schedule.
-    Replay,
-}
+use world::{Config, Flavour, Layout};
 
 /// Why the words give no command: a mistake, a call for help, or want of memory.
 #[derive(Debug, Drop)]
@@ -48,60 +46,90 @@ impl fmt::Display for WordsFault {
     }
 }
 
-const ABOUT: &str = "Replays schedules of read-copy-update, one atomic step a line";
+/// A number that an option has, or else this one.
+fn number_or(matches: &ArgMatches, name: &str, other: u32) -> u32 {
+    matches.get_one::<u32>(name).unwrap_or(other)
+}
 
-const REPLAY_ABOUT: &str = "Reads a schedule and answers each of its lines";
+/// The config that the options of `walk` say.
+fn config_of(matches: &ArgMatches) -> Config {
+    let layout = match number_or(matches, "format", 1) {
+        2 => Layout::Wide,
+        _ => Layout::Narrow,
+    };
+    let flavour = match matches.get_str("flavour") {
+        Some("qsbr") => Flavour::Qsbr,
+        _ => Flavour::Memb,
+    };
+    Config {
+        layout,
+        flavour,
+        readers: number_or(matches, "readers", 2),
+        updaters: number_or(matches, "updaters", 1),
+        workers: number_or(matches, "workers", 1),
+        chains: number_or(matches, "chains", 1),
+    }
+}
 
-const REPLAY_HELP: &str =
-    "Reads a schedule from standard input and writes the answer of each line, then an end line, to standard output.
+/// The walk that the options of `walk` say.
+fn walk_of(matches: &ArgMatches) -> Walk {
+    let from = number_or(matches, "from", 1);
+    Walk {
+        config: config_of(matches),
+        lines: number_or(matches, "lines", 1000),
+        seed: matches.get_one::<u64>("seed").unwrap_or(1),
+        schedule: matches.get_flag("schedule"),
+        stop: matches
+            .get_one::<u32>("stop")
+            .map(|actor| Stop { actor, from }),
+    }
+}
 
-The first line is the header: `schedule 1 memb R U W C` for narrow reader words or `schedule 2 memb R U W C` for wide ones, `qsbr` in place of `memb` for the quiescent-state flavour, with the numbers of readers (1 to 64), updaters (1 to 16), workers (1 to 8) and chains (1 to 64). Then each line is one atomic step:
-
-  r0 lock, r0 unlock         open and close a read-side section of reader 0 (memb)
-  r0 online, r0 offline      the same in the quiescent-state flavour (qsbr)
-  r0 quiescent               announce a quiescent state (qsbr)
-  r0 first c0, r0 next       load the first record of chain 0, the one after it
-  r0 touch                   read the record loaded last
-  u0 push c0                 updater 0 puts a new record at the front of chain 0
-  u0 replace o1, u0 cut o1   put a new record in the place of record 1, take record 1 out
-  u0 retire o1               queue record 1, which is out of its chain, to be reclaimed
-  u0 sync                    wait for a grace period
-  u0 start, u0 poll          take a cookie, ask whether a grace period has passed since
-  u0 barrier                 wait until all that is queued has been reclaimed
-  w0 take                    worker 0 takes what is queued, waits for a grace period and reclaims it
-  r0 ., u0 ., w0 .           go on with what an earlier line of the same actor began
-
-Exit status: 0 good, 2 a bad schedule or bad words, 3 a fault of reading, writing or memory.";
-
-/// The program's own description.
-fn program<'a>(alloc: Global) -> Result<Program<'a>, AllocError>
-    ensures { IfOk result (λ c. app_of c ≡ torture_app) }
-{
-    let replay = Program::new(alloc, "replay")
-        .about(REPLAY_ABOUT)
-        .long_about(REPLAY_HELP);
-    Program::new(alloc, "torture")
-        .about(ABOUT)
-        .subcommand_required(true)
-        .arg_required_else_help(true)
-        .subcommand(replay)
+/// The command that the matches say.
+fn command_of(matches: &ArgMatches) -> Command {
+    match matches.subcommand() {
+        Some(("check", _)) => Command::Check,
+        Some(("walk", options)) => Command::Walk(walk_of(options)),
+        _ => Command::Replay,
+    }
 }
 
 /// What `clap` makes of the words.
 fn parsed<'a, S: AsStr>(alloc: Global, words: &'a [S]) -> Result<ArgMatches<'a>, Error>
-    ensures { FailsBy (fault_of torture_app (map S.text words.entry.now)) result }
+    ensures taken { IfOk result (λ _. IsTaken (map S.text words.entry.now)) }
+    ensures refused { IfErr result (λ e. IsRefused (map S.text words.entry.now) e) }
 {
     program(alloc)?.try_get_matches_from(words)
+}
+
+/// The fault of a walk in which nobody is who stops.
+fn no_such_actor(alloc: Global) -> Result<Error, AllocError>
+    ensures { IfOk result (λ e. kind_of e ≡ ValueValidation) }
+{
+    program(alloc)?.error(
+        ErrorKind::ValueValidation,
+        "invalid value for '--stop <N>': there is no such actor",
+    )
 }
 
 /// The command that the words ask for; the first word is the program's name. The fault has the text and the status with
 /// which the program ends.
 pub fn read_words<S: AsStr>(alloc: Global, words: &[S]) -> Result<Command, WordsFault>
-    ensures given { IfOk result (λ _. fault_of torture_app (map S.text words.now) ≡ []) }
-    ensures refused { IfErr result (λ fault. HasKind (fault_of torture_app (map S.text words.now)) fault.error) }
+    ensures given { IfOk result (λ _. IsTaken (map S.text words.now)) }
+    ensures within { IfOk result IsWithin }
+    ensures refused { IfErr result (λ fault. IsRefused (map S.text words.now) fault.error) }
 {
-    match parsed(alloc, words) {
-        Ok(_) => Ok(Command::Replay),
-        Err(error) => Err(WordsFault { error }),
+    let command = match parsed(alloc, words) {
+        Ok(matches) => command_of(&matches),
+        Err(error) => return Err(WordsFault { error }),
+    };
+    if command.is_within_limits() {
+        return Ok(command);
+    }
+    match no_such_actor(alloc) {
+        Ok(error) => Err(WordsFault { error }),
+        Err(refused) => Err(WordsFault {
+            error: Error::from(refused),
+        }),
     }
 }

@@ -29,3 +29,7 @@ pub mod Reserving
 pub mod Making
 pub mod Ranging
 pub mod Sweeping
+pub mod Naming
+pub mod Placing
+pub mod Counting
+pub mod Starting

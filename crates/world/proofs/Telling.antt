@@ -138,11 +138,11 @@ told_in Qsbr config seq lines = lines_told (fresh_in Qsbr config seq) lines
 pub log_answered : (config : Config) (seq : ℕ) (lines : List Line) → log_of (world_after_lines (fresh_in config.flavour config seq) lines) ≡ answered_events (fresh_in config.flavour config seq) lines
 log_answered config seq lines = told_in config.flavour config seq lines
 
-memb_lines : (w : BoardView MembPlan) (lines : List Line) → world_after_lines (OfMemb w) lines ≡ OfMemb (world_after memb_plans w lines)
+pub memb_lines : (w : BoardView MembPlan) (lines : List Line) → world_after_lines (OfMemb w) lines ≡ OfMemb (world_after memb_plans w lines)
 memb_lines w [] = refl
 memb_lines w (line ∷ lines) = memb_lines ((outcome_of memb_plans w line).world) lines
 
-qsbr_lines : (w : BoardView QsbrPlan) (lines : List Line) → world_after_lines (OfQsbr w) lines ≡ OfQsbr (world_after qsbr_plans w lines)
+pub qsbr_lines : (w : BoardView QsbrPlan) (lines : List Line) → world_after_lines (OfQsbr w) lines ≡ OfQsbr (world_after qsbr_plans w lines)
 qsbr_lines w [] = refl
 qsbr_lines w (line ∷ lines) = qsbr_lines ((outcome_of qsbr_plans w line).world) lines
 

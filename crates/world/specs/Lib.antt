@@ -9,3 +9,5 @@ pub mod Reached
 pub mod Steps
 pub mod Seen
 pub mod Drain
+pub mod Numbering
+pub mod Actors

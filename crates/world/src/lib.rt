@@ -1,11 +1,13 @@
 #![tactic(auto)]
 //! The world of schedules: readers, updaters and workers that make one atomic step a line.
 
+mod actor;
 mod barring;
 mod board;
 mod draining;
 mod grace;
 mod laws;
+mod numbering;
 mod publishing;
 mod reading;
 mod retiring;
@@ -13,7 +15,9 @@ mod waiting;
 mod working;
 mod world;
 
+pub use actor::Actor;
 pub use laws::{every_schedule_reclaims_safely, log_is_a_run};
+pub use numbering::numbers_count_lines;
 pub use world::World;
 pub use world_state::{
     Answer, Config, Flavour, Layout, Line, ReaderVerb, StepError, UpdaterVerb, WorkerVerb,

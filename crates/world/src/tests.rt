@@ -1,7 +1,9 @@
 //! Worlds made by their callers, to the end of the sequence numbers, and the worked rows of retirements, barriers
 //! and drains.
 
-use super::{Answer, Config, Flavour, Layout, Line, ReaderVerb, UpdaterVerb, WorkerVerb, World};
+use super::{
+    Actor, Answer, Config, Flavour, Layout, Line, ReaderVerb, UpdaterVerb, WorkerVerb, World,
+};
 use rcu_model::{Event, ObjectId, Refusal, SectionId};
 use std::alloc::Global;
 use std::process::Abort;
@@ -541,5 +543,39 @@ fn no_drain_at_the_end_of_the_numbers(rt: HostRuntime) {
             assert_eq!(rt; world.drain(0), Err(Refusal::Exhausted));
         }
         Err(_) => assert!(rt; false),
+    }
+}
+
+#[test]
+fn actors_are_in_operations_between_their_steps(rt: HostRuntime) {
+    let rows = [
+        (
+            Actor::Reader(0),
+            Line::Reader(0, ReaderVerb::Lock),
+            Line::Reader(0, ReaderVerb::GoOn),
+            0,
+        ),
+        (
+            Actor::Updater(0),
+            Line::Updater(0, UpdaterVerb::Push(0)),
+            Line::Updater(0, UpdaterVerb::GoOn),
+            1,
+        ),
+    ];
+    for (actor, begins, ends, objects) in rows {
+        match World::new(rt.alloc(), SMALL) {
+            Ok(mut world) => {
+                assert!(rt; !world.is_in_operation(actor));
+                assert!(rt; world.step(&begins).is_ok());
+                assert!(rt; world.is_in_operation(actor));
+                assert!(rt; !world.is_in_operation(Actor::Reader(1)));
+                // The first step gives the number.
+                assert_eq!(rt; world.objects_given(), objects);
+                assert!(rt; world.step(&ends).is_ok());
+                assert!(rt; !world.is_in_operation(actor));
+                assert_eq!(rt; world.objects_given(), objects);
+            }
+            Err(_) => assert!(rt; false),
+        }
     }
 }

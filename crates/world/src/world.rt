@@ -4,9 +4,11 @@ ghost use Rattle.std.specs.Prelude.{◌≡◌, ◌⊎◌, ◌≤◌, ◌%◌, �
 ghost use Rattle.rcu_model.specs.Machine.{IsRun};
 ghost use Rattle.rcu_model.specs.Headline.{RunsOnceAfterItsSections, UsesNoReclaimed};
 ghost use Rattle.rcu_model.specs.declared.refusal.Refusal.TheVariants.{BadConfig, Memory};
+ghost use Rattle.world.specs.Actors.{is_in_operation, objects_given};
 ghost use Rattle.world.specs.Drain.{MeetsDrain};
 ghost use Rattle.world.specs.Steps.{fresh_world, fresh_world_at, is_supported, is_supported_at, step_of, Meets, log_of, IsOfReader, IsPrompt};
 
+use crate::actor::Actor;
 use crate::board::Board;
 use crate::laws::{log_is_a_run, numbers_stay_in_range};
 use gp_memb::MembPlan;
@@ -118,6 +120,28 @@ impl World {
         match &mut self.boards {
             Boards::Memb(board) => board.drain(worker),
             Boards::Qsbr(board) => board.drain(worker),
+        }
+    }
+
+    /// Whether the actor is there and in an operation, which its next line goes on with: `.` is then the one line of it
+    /// that is not `Busy`.
+    pub fn is_in_operation(&self, actor: Actor) -> bool
+        ensures { result ≡ is_in_operation self.now actor }
+    {
+        match &self.boards {
+            Boards::Memb(board) => board.is_in_operation(actor),
+            Boards::Qsbr(board) => board.is_in_operation(actor),
+        }
+    }
+
+    /// How many object numbers were given: they count from 1, and each is given by the first step of a `push` or
+    /// `replace`.
+    pub fn objects_given(&self) -> u64
+        ensures { result ≡ objects_given self.now }
+    {
+        match &self.boards {
+            Boards::Memb(board) => board.objects_given(),
+            Boards::Qsbr(board) => board.objects_given(),
         }
     }
 

@@ -1,22 +1,15 @@
-use Rattle.std.proofs.Common.{◌≡◌, ◌⊎◌, inl, inr, ℕ, ◌&&◌, Bool, true, false, List, [], ◌++◌, Result, Ok, Err, refl, sym, ◌∙◌, subst, true≢false}
+use Rattle.std.proofs.Common.{◌≡◌, inl, inr, ℕ, true, List, [], Result, Ok, Err, sym, ◌∙◌, subst}
 use Rattle.std.proofs.lemmas.List.{append-nil}
-use Rattle.rcu_model.specs.declared.event.Event.{Event}
 use Rattle.world_state.specs.declared.config.Config.{Config}
 use Rattle.world_state.specs.declared.line.Line.{Line}
-use Rattle.world.specs.Steps.{is_supported, is_supported_at, fresh_world, answered_events}
+use Rattle.world.specs.Steps.{is_supported, fresh_world, answered_events}
 use Rattle.schedule.specs.declared.counts.Counts.{Counts}
 use Rattle.schedule.specs.declared.fault.ReplayFault.{ReplayFault}
 use Rattle.schedule.specs.declared.fault.ReplayFault.TheVariants.{BadText, BadConfig, Read, Write, Memory}
-use Rattle.schedule.specs.Printed.{Prints, BadHeader, BadLine}
+use Rattle.schedule.specs.Printed.{Prints}
 use Rattle.schedule.specs.Safety.{IsSafeLog, IsSafelyPrinted}
+use Rattle.schedule.proofs.Starting.{begins_at_zero}
 use Rattle.schedule.proofs.laws.each_text_reclaims_safely.Goals as goal
-
-begins_at_zero : (config : Config) → is_supported config ≡ true → is_supported_at config 0 ≡ true
-begins_at_zero config e = by (is_supported config) e
-  where
-    by : (b : Bool) → b ≡ true → (b && (true && true)) ≡ true
-    by true f = refl
-    by false f = absurd (true≢false (sym f))
 
 printed_safely : ((config : Config) (lines : List Line) → is_supported config ≡ true → IsSafeLog (answered_events (fresh_world config) lines)) →
     (text printed : List ℕ) (result : Result Counts ReplayFault) → Prints text printed result → IsSafelyPrinted printed

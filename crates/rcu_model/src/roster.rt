@@ -1,0 +1,98 @@
+//! Who came, in order, and who has left since.
+
+ghost use Rattle.std.specs.Prelude.{◌≡◌, ◌≤◌, ◌↔◌, ◌++◌, ◌∷◌, [], true, false, length, slice_set, IsTrue, IfOk, OnOk};
+ghost use Rattle.rcu_model.specs.Roster.{IsThere, HaveLeft, IsNext};
+
+use std::alloc::{AllocError, Global};
+use std::marker::Model;
+
+/// Those that came, each at its place, in the order of their coming, from 0: whether they are still there.
+#[derive(Drop)]
+pub(crate) struct Roster {
+    present: Vec<bool>,
+    // The first place whose holder is still there.
+    oldest: usize,
+}
+
+impl Model for Roster {
+    ghost use Rattle.std.specs.Prelude.{List, Bool};
+    ghost use Rattle.rcu_model.specs.Roster.{IsFront};
+
+    ghost Value = { List Bool };
+
+    ghost view = { λ r. r.present.items };
+
+    ghost invariant = { λ r. IsFront r.present.items r.oldest };
+}
+
+impl Roster {
+    /// Nobody came.
+    pub(crate) fn new(alloc: Global) -> Self
+        ensures { result ≡ [] }
+    {
+        Roster {
+            present: Vec::new(alloc),
+            oldest: 0,
+        }
+    }
+
+    /// Somebody comes: answers the place.
+    ///
+    /// # Errors
+    /// `AllocError` where memory was refused.
+    pub(crate) fn arrive(&mut self) -> Result<usize, AllocError>
+        ensures place { IfOk result (λ place. place ≡ length self.old) }
+        ensures came { OnOk result (self.new ≡ self.old ++ true ∷ []) }
+    {
+        let place = self.present.len();
+        self.present.push(true)?;
+        Ok(place)
+    }
+
+    /// The one at the place leaves: whether it was there.
+    pub(crate) fn leave(&mut self, place: usize) -> bool
+        ensures was { IsTrue result ↔ IsThere self.old place }
+        ensures left { self.new ≡ slice_set self.old place false }
+    {
+        if !self.is_there(place) {
+            return false;
+        }
+        self.present[place] = false;
+        self.oldest = first_present(&self.present, self.oldest);
+        true
+    }
+
+    /// Whether the one at the place came and has not left.
+    pub(crate) fn is_there(&self, place: usize) -> bool
+        ensures { IsTrue result ↔ IsThere self.now place }
+    {
+        place < self.present.len() && self.present[place]
+    }
+
+    /// How many came so far.
+    pub(crate) fn moment(&self) -> usize
+        ensures { result ≡ length self.now }
+    {
+        self.present.len()
+    }
+
+    /// Whether all that came before the moment have left.
+    pub(crate) fn all_left(&self, moment: usize) -> bool
+        ensures { IsTrue result ↔ HaveLeft self.now moment }
+    {
+        moment <= self.oldest || self.oldest == self.present.len()
+    }
+}
+
+// The first place from here on whose holder is still there, or the number of places. What `leave` passes over it never
+// passes over again.
+fn first_present(present: &[bool], from: usize) -> usize
+    requires within { from ≤ length present.now }
+    ensures front { IsNext present.now from result }
+{
+    let mut place = from;
+    while place < present.len() && !present[place] {
+        place += 1;
+    }
+    place
+}

@@ -1,0 +1,76 @@
+//! The sections of a log: which were ever opened, and which are open.
+
+ghost use Rattle.std.specs.Prelude.{◌≡◌, ◌↔◌, [], List, IsTrue, IfOk};
+ghost use Rattle.rcu_model.specs.declared.event.SectionId.{SectionId};
+ghost use Rattle.rcu_model.specs.Sets.{HasSection};
+ghost use Rattle.rcu_model.specs.Sections.{AreSections, AwaitsSections, Opens, Closes};
+
+use crate::event::SectionId;
+use crate::roster::Roster;
+use std::alloc::{AllocError, Global};
+use std::collections::HashMap;
+
+/// The sections that were ever opened, each with its place in the order of opening.
+#[derive(Drop)]
+pub(crate) struct Sections {
+    places: HashMap<SectionId, usize>,
+    roster: Roster,
+}
+
+impl Sections {
+    /// None was opened.
+    pub(crate) fn new(alloc: Global) -> Self
+        ensures { AreSections result [] [] }
+    {
+        Sections {
+            places: HashMap::new(alloc),
+            roster: Roster::new(alloc),
+        }
+    }
+
+    /// Opens a section: false where it was opened before, and then the sections are of no more use.
+    ///
+    /// # Errors
+    /// `AllocError` where memory was refused.
+    pub(crate) fn open(&mut self, section: SectionId) -> Result<bool, AllocError>
+        ensures { IfOk result (λ opened. (seen still : List SectionId) → AreSections self.old seen still → Opens self.old self.new seen still section opened) }
+    {
+        let place = self.roster.arrive()?;
+        let before = self.places.insert(section, place)?;
+        Ok(before.is_none())
+    }
+
+    /// Closes a section: whether it was open.
+    pub(crate) fn close(&mut self, section: SectionId) -> bool
+        ensures { (seen still : List SectionId) → AreSections self.old seen still → Closes self.old self.new seen still section result }
+    {
+        match self.places.get(&section) {
+            Some(place) => self.roster.leave(*place),
+            None => false,
+        }
+    }
+
+    /// Whether a section is open.
+    pub(crate) fn is_open(&self, section: SectionId) -> bool
+        ensures { (seen still : List SectionId) → AreSections self.now seen still → (IsTrue result ↔ HasSection still section) }
+    {
+        match self.places.get(&section) {
+            Some(place) => self.roster.is_there(*place),
+            None => false,
+        }
+    }
+
+    /// The moment from which on sections that open are not awaited.
+    pub(crate) fn moment(&self) -> usize
+        ensures { (seen still : List SectionId) → AreSections self.now seen still → AwaitsSections self.now still still result }
+    {
+        self.roster.moment()
+    }
+
+    /// Whether every section that was opened before the moment has been closed.
+    pub(crate) fn all_closed(&self, moment: usize) -> bool
+        ensures { (seen still awaited : List SectionId) → AreSections self.now seen still → AwaitsSections self.now still awaited moment → (IsTrue result ↔ (awaited ≡ [])) }
+    {
+        self.roster.all_left(moment)
+    }
+}

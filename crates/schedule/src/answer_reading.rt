@@ -1,0 +1,142 @@
+//! Lines of answers as the events that they tell.
+
+ghost use Rattle.std.specs.Prelude.{◌≡◌, ◌++◌, List, Err, OnOk, OnErr, IfOk, IfErr};
+ghost use Rattle.rcu_model.specs.declared.event.Event.{Event};
+ghost use Rattle.schedule.specs.Reading.{Gives};
+ghost use Rattle.schedule.specs.AnswerGrammar.{event_word_at, answer_word_at, second_at, events_at, end_at, refused_at, answer_line_at};
+ghost use Rattle.schedule.specs.AnswerLines.{TellsLog, IsNoAnswers, told_by};
+ghost use Rattle.schedule.specs.declared.fault.AnswersFault.TheVariants.{Memory};
+
+use crate::answer_line::AnswerLine;
+use crate::answer_words::{ANSWER_WORDS, AnswerWord, EVENT_WORDS, EventWord, RUN, WAITING};
+use crate::counts::Counts;
+use crate::event_reading::{byte, event, long};
+use crate::fault::AnswersFault;
+use crate::pieces::word;
+use crate::reading::column_of;
+use rcu_model::Event;
+use std::alloc::Global;
+
+/// The word of an event.
+fn event_word(text: &[u8]) -> Result<(EventWord, &[u8]), &[u8]>
+    ensures { Gives (λ w. w) result (event_word_at text.now) }
+{
+    word(&EVENT_WORDS, text)
+}
+
+/// The word with which a line begins.
+fn answer_word(text: &[u8]) -> Result<(AnswerWord, &[u8]), &[u8]>
+    ensures { Gives (λ w. w) result (answer_word_at text.now) }
+{
+    word(&ANSWER_WORDS, text)
+}
+
+/// The second of two events, which ends the line.
+#[tactic(auto, unfolding(crate::specs::AnswerGrammar::second_at))]
+fn second(first: Event, text: &[u8]) -> Result<(AnswerLine, &[u8]), &[u8]>
+    ensures { Gives (λ l. l) result (second_at first text.now) }
+{
+    let (_, rest) = byte(b' ', b' ', text)?;
+    let (word, rest) = event_word(rest)?;
+    let ((second, _), rest) = event(word, b'\n', rest)?;
+    let second = Some(second);
+    Ok((AnswerLine::Events { first, second }, rest))
+}
+
+/// An event that ends the line, or two.
+#[tactic(auto, unfolding(crate::specs::AnswerGrammar::events_at))]
+fn events(word: EventWord, text: &[u8]) -> Result<(AnswerLine, &[u8]), &[u8]>
+    ensures { Gives (λ l. l) result (events_at word text.now) }
+{
+    let ((first, end), rest) = event(word, b';', text)?;
+    if end == b'\n' {
+        let second = None;
+        Ok((AnswerLine::Events { first, second }, rest))
+    } else {
+        second(first, rest)
+    }
+}
+
+/// The end line, after its first word.
+#[tactic(auto, unfolding(crate::specs::AnswerGrammar::end_at))]
+fn end(text: &[u8]) -> Result<(AnswerLine, &[u8]), &[u8]>
+    ensures { Gives (λ l. l) result (end_at text.now) }
+{
+    let ((sections, _), rest) = long(b' ', b' ', text)?;
+    let (_, rest) = word(&WAITING, rest)?;
+    let ((waiting, _), rest) = long(b' ', b' ', rest)?;
+    let (_, rest) = word(&RUN, rest)?;
+    let ((runs, _), rest) = long(b'\n', b'\n', rest)?;
+    let counts = Counts {
+        sections,
+        waiting,
+        runs,
+    };
+    Ok((AnswerLine::End(counts), rest))
+}
+
+/// A refusal, after its word.
+#[tactic(auto, unfolding(crate::specs::AnswerGrammar::refused_at))]
+fn refused(text: &[u8]) -> Result<(AnswerLine, &[u8]), &[u8]>
+    ensures { Gives (λ l. l) result (refused_at text.now) }
+{
+    let ((number, _), rest) = long(b'\n', b'\n', text)?;
+    Ok((AnswerLine::Refused(number), rest))
+}
+
+/// The line of answers at the front of the text, and what comes after it; or the bytes from the first bad one on.
+#[tactic(auto, unfolding(crate::specs::AnswerGrammar::answer_line_at))]
+fn front_answer(text: &[u8]) -> Result<(AnswerLine, &[u8]), &[u8]>
+    ensures { Gives (λ l. l) result (answer_line_at text.now) }
+{
+    let (word, rest) = answer_word(text)?;
+    match word {
+        AnswerWord::Event(word) => events(word, rest),
+        AnswerWord::Whole(line) => Ok((line, rest)),
+        AnswerWord::Refused => refused(rest),
+        AnswerWord::End => end(rest),
+    }
+}
+
+/// Writes what the line says happened at the end.
+fn note(line: AnswerLine, log: &mut Vec<Event>) -> Result<(), AnswersFault>
+    ensures noted { OnOk result (log.new.items ≡ log.old.items ++ told_by line) }
+    ensures memory { OnErr result (result ≡ Err Memory) }
+{
+    if let AnswerLine::Events { first, second } = line {
+        log.push(first)?;
+        if let Some(second) = second {
+            log.push(second)?;
+        }
+    }
+    Ok(())
+}
+
+/// The log that the text tells: the events of its lines of answers, in order. An empty text tells a log of no events.
+///
+/// # Errors
+/// `BadText` at the first byte with which no line of answers goes on, or after a line that has no end; `Memory` where
+/// memory was refused.
+pub fn read_answers(alloc: Global, text: &[u8]) -> Result<Vec<Event>, AnswersFault>
+    ensures found { IfOk result (λ log. TellsLog text.now log.items) }
+    ensures only { (log : List Event) → TellsLog text.now log → IfOk result (λ read. read.items ≡ log) × IfErr result (λ fault. fault ≡ Memory) }
+    ensures fault { IfErr result (λ fault. IsNoAnswers text.now fault) }
+{
+    let mut log = Vec::new(alloc);
+    let mut line = 1u64;
+    let mut rest = text;
+    while !rest.is_empty() {
+        match front_answer(rest) {
+            Ok((answer, after)) => {
+                note(answer, &mut log)?;
+                line = line.saturating_add(1);
+                rest = after;
+            }
+            Err(bad) => {
+                let column = column_of(rest, bad);
+                return Err(AnswersFault::BadText { line, column });
+            }
+        }
+    }
+    Ok(log)
+}

@@ -1,0 +1,109 @@
+//! Headers and lines as they are printed, and streams that are read and written whole.
+
+use super::{Pieces, Sink};
+use crate::{ReplayFault, print_header, print_line, read_schedule, read_whole, write_whole};
+use rcu_model::ObjectId;
+use std::test::Fail;
+use world::{Config, Flavour, Layout, Line, ReaderVerb, UpdaterVerb, WorkerVerb};
+
+const LINES: [(Line, &[u8]); 11] = [
+    (Line::Reader(0, ReaderVerb::Lock), b"r0 lock\n"),
+    (Line::Reader(63, ReaderVerb::First(7)), b"r63 first c7\n"),
+    (Line::Reader(1, ReaderVerb::Quiescent), b"r1 quiescent\n"),
+    (Line::Reader(1, ReaderVerb::GoOn), b"r1 .\n"),
+    (Line::Updater(2, UpdaterVerb::Push(10)), b"u2 push c10\n"),
+    (
+        Line::Updater(2, UpdaterVerb::Replace(ObjectId(0))),
+        b"u2 replace o0\n",
+    ),
+    (
+        Line::Updater(2, UpdaterVerb::Cut(ObjectId(999_999_999))),
+        b"u2 cut o999999999\n",
+    ),
+    (
+        Line::Updater(2, UpdaterVerb::Retire(ObjectId(3))),
+        b"u2 retire o3\n",
+    ),
+    (Line::Updater(15, UpdaterVerb::Barrier), b"u15 barrier\n"),
+    (Line::Worker(7, WorkerVerb::Take), b"w7 take\n"),
+    (Line::Worker(0, WorkerVerb::GoOn), b"w0 .\n"),
+];
+
+#[test]
+fn each_line_has_its_text(rt: HostRuntime) -> Result<(), Fail> {
+    for (line, text) in LINES {
+        let mut out: Vec<u8> = Vec::new(rt.alloc());
+        print_line(rt.alloc(), &line, &mut out)?;
+        assert_eq!(rt; out.as_slice(), text);
+    }
+    Ok(())
+}
+
+#[test]
+fn what_is_printed_is_read_again(rt: HostRuntime) -> Result<(), Fail> {
+    let config = Config {
+        layout: Layout::Wide,
+        flavour: Flavour::Qsbr,
+        readers: 64,
+        updaters: 16,
+        workers: 8,
+        chains: 1,
+    };
+    let mut out: Vec<u8> = Vec::new(rt.alloc());
+    print_header(rt.alloc(), &config, &mut out)?;
+    assert_eq!(rt; out.as_slice(), b"schedule 2 qsbr 64 16 8 1\n".as_slice());
+    for (line, _) in LINES {
+        print_line(rt.alloc(), &line, &mut out)?;
+    }
+    match read_schedule(rt.alloc(), &out) {
+        Ok(schedule) => {
+            assert_eq!(rt; schedule.config, config);
+            for (at, (line, _)) in LINES.iter().enumerate() {
+                assert_eq!(rt; schedule.lines.get(at), Some(line));
+            }
+        }
+        Err(_) => assert!(rt; false),
+    }
+    Ok(())
+}
+
+#[test]
+fn streams_are_read_and_written_whole(rt: HostRuntime) -> Result<(), Fail> {
+    for most in [1, 7, 4096] {
+        let mut reader = Pieces {
+            text: b"one text",
+            most,
+            before: None,
+        };
+        match read_whole(rt.alloc(), &mut reader) {
+            Ok(text) => assert_eq!(rt; text.as_slice(), b"one text".as_slice()),
+            Err(_) => assert!(rt; false),
+        }
+        let mut sink = Sink {
+            bytes: Vec::new(rt.alloc()),
+            most,
+            before: None,
+        };
+        assert!(rt; write_whole(&mut sink, b"one text").is_ok());
+        assert_eq!(rt; sink.bytes.as_slice(), b"one text".as_slice());
+    }
+    let mut reader = Pieces {
+        text: b"one text",
+        most: 1,
+        before: Some(3),
+    };
+    match read_whole(rt.alloc(), &mut reader) {
+        Ok(_) => assert!(rt; false),
+        Err(fault) => assert_eq!(rt; fault, ReplayFault::Read),
+    }
+    for (most, before, written) in [(0, None, b"".as_slice()), (2, Some(2), b"one ".as_slice())] {
+        let mut sink = Sink {
+            bytes: Vec::new(rt.alloc()),
+            most,
+            before,
+        };
+        assert!(rt; write_whole(&mut sink, b"one text").is_err());
+        assert_eq!(rt; sink.bytes.as_slice(), written);
+    }
+    Ok(())
+}

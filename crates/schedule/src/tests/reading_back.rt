@@ -1,0 +1,231 @@
+//! Answers read back: the log of the world that gave them, each form of a line, and the place of the first bad byte.
+
+use super::{Pieces, replayed, rows};
+use crate::{AnswersFault, read_answers, read_schedule};
+use rcu_model::{Event, ObjectId, SectionId};
+use std::alloc::Global;
+use std::process::Abort;
+use std::test::Fail;
+use world::{StepError, World};
+
+/// What `replay` writes of the schedule is read back as the log of a world in which its lines were played.
+fn check_log(rt: &impl Abort, alloc: Global, text: &[u8]) -> Result<(), Fail> {
+    let schedule = read_schedule(alloc, text)?;
+    let mut world = World::new(alloc, schedule.config)?;
+    for line in &schedule.lines {
+        assert!(rt; world.step(line) != Err(StepError::Memory));
+    }
+    let reader = Pieces {
+        text,
+        most: 4096,
+        before: None,
+    };
+    let (fault, printed) = replayed(alloc, reader, 4096, None)?;
+    assert_eq!(rt; fault.as_str(), "");
+    let log = read_answers(alloc, printed.as_slice())?;
+    assert_eq!(rt; log.as_slice(), world.log());
+    Ok(())
+}
+
+#[test]
+fn what_is_written_tells_the_log(rt: HostRuntime) -> Result<(), Fail> {
+    for row in &rows::GOOD {
+        check_log(&rt, rt.alloc(), row.text)?;
+    }
+    Ok(())
+}
+
+const SECTION: SectionId = SectionId {
+    reader: 3,
+    ordinal: 2,
+};
+
+/// Each form of a line, and the events of them all.
+const FORMS: &[u8] = b"\
+    open r3.2\nclose r3.2\nfirst r3.2 c4 o5\nfirst r3.2 c4 none\nnext r3.2 o5 o6\nnext r3.2 o5 none\n\
+    touch r3.2 o5\npush c4 o5\nreplace c4 o5 o6\ncut c4 o5\nretire o5\nqueue o5 q7\nrun o5\nask a8\n\
+    answer a8\nbar b9\nclear b9\n.\nwait\nblocked\nidle\nrefused E6\nclose r3.2; open r3.2\n\
+    end open=1 waiting=20 run=300\n";
+
+const EVENTS: [Event; 19] = [
+    Event::Open(SECTION),
+    Event::Close(SECTION),
+    Event::First {
+        section: SECTION,
+        chain: 4,
+        found: Some(ObjectId(5)),
+    },
+    Event::First {
+        section: SECTION,
+        chain: 4,
+        found: None,
+    },
+    Event::Next {
+        section: SECTION,
+        from: ObjectId(5),
+        found: Some(ObjectId(6)),
+    },
+    Event::Next {
+        section: SECTION,
+        from: ObjectId(5),
+        found: None,
+    },
+    Event::Touch {
+        section: SECTION,
+        object: ObjectId(5),
+    },
+    Event::Push {
+        chain: 4,
+        object: ObjectId(5),
+    },
+    Event::Replace {
+        chain: 4,
+        old: ObjectId(5),
+        new: ObjectId(6),
+    },
+    Event::Cut {
+        chain: 4,
+        object: ObjectId(5),
+    },
+    Event::Retire(ObjectId(5)),
+    Event::Queue {
+        object: ObjectId(5),
+        queue: 7,
+    },
+    Event::Run(ObjectId(5)),
+    Event::Ask(8),
+    Event::Answer(8),
+    Event::Bar(9),
+    Event::Clear(9),
+    Event::Close(SECTION),
+    Event::Open(SECTION),
+];
+
+#[test]
+fn each_form_of_a_line_is_read(rt: HostRuntime) -> Result<(), Fail> {
+    let log = read_answers(rt.alloc(), FORMS)?;
+    assert_eq!(rt; log.as_slice(), EVENTS.as_slice());
+    Ok(())
+}
+
+#[test]
+fn lines_without_events_tell_none(rt: HostRuntime) -> Result<(), Fail> {
+    for text in [
+        b"".as_slice(),
+        b"end open=0 waiting=0 run=0\n",
+        b"end open=9999999999999999999 waiting=9999999999999999999 run=9999999999999999999\n.\n",
+        b"refused E0\nrefused E9999999999999999999\n",
+    ] {
+        let log = read_answers(rt.alloc(), text)?;
+        assert_eq!(rt; log.len(), 0);
+    }
+    Ok(())
+}
+
+/// 0, and the most digits that a number has in its place.
+const NUMBERS: &[u8] = b"\
+    open r0.0\nopen r999999999.9999999999999999999\npush c0 o0\npush c999999999 o9999999999999999999\n\
+    queue o0 q0\nqueue o1 q999999999\nask a9999999999999999999\n";
+
+#[test]
+fn numbers_are_read(rt: HostRuntime) -> Result<(), Fail> {
+    let log = read_answers(rt.alloc(), NUMBERS)?;
+    let events = [
+        Event::Open(SectionId {
+            reader: 0,
+            ordinal: 0,
+        }),
+        Event::Open(SectionId {
+            reader: 999_999_999,
+            ordinal: 9_999_999_999_999_999_999,
+        }),
+        Event::Push {
+            chain: 0,
+            object: ObjectId(0),
+        },
+        Event::Push {
+            chain: 999_999_999,
+            object: ObjectId(9_999_999_999_999_999_999),
+        },
+        Event::Queue {
+            object: ObjectId(0),
+            queue: 0,
+        },
+        Event::Queue {
+            object: ObjectId(1),
+            queue: 999_999_999,
+        },
+        Event::Ask(9_999_999_999_999_999_999),
+    ];
+    assert_eq!(rt; log.as_slice(), events.as_slice());
+    Ok(())
+}
+
+#[test]
+fn a_fault_is_at_the_first_byte_that_no_line_has(rt: HostRuntime) -> Result<(), Fail> {
+    for (text, line, column) in [
+        // what no line begins with
+        (b"\n".as_slice(), 1, 1),
+        (b".\n\n", 2, 1),
+        (b" .\n", 1, 1),
+        (b"schedule 1 memb 1 1 1 1\n", 1, 1),
+        (b"\xff", 1, 1),
+        (b"run o1\nrun o\xb1\n", 2, 6),
+        (b"Run o1\n", 1, 1),
+        (b"rx\n", 1, 2),
+        (b"refused e6\n", 1, 9),
+        // what does not end
+        (b"wait", 1, 5),
+        (b".\nidle", 2, 5),
+        (b"run o1", 1, 7),
+        (b"run o1; run o2", 1, 15),
+        (b"end open=1 waiting=2\n", 1, 21),
+        (b"run o1\nend", 2, 4),
+        // what ends otherwise
+        (b".\r\n", 1, 2),
+        (b"run o1\r\n", 1, 7),
+        (b"run o1 \n", 1, 7),
+        (b"..\n", 1, 2),
+        (b"waiting\n", 1, 5),
+        // spaces
+        (b"open  r0.1\n", 1, 6),
+        (b"touch r0.1  o1\n", 1, 12),
+        (b"cut c0\to1\n", 1, 7),
+        // numbers
+        (b"ask a01\n", 1, 7),
+        (b"refused E01\n", 1, 11),
+        (b"refused E\n", 1, 10),
+        (b"ask a\n", 1, 6),
+        (b"ask a-1\n", 1, 6),
+        (b"open r0\n", 1, 8),
+        (b"open r0.\n", 1, 9),
+        (b"ask a10000000000000000000\n", 1, 25),
+        (b"end open=10000000000000000000 waiting=0 run=0\n", 1, 29),
+        (b"open r1000000000.1\n", 1, 16),
+        (b"push c1000000000 o1\n", 1, 16),
+        (b"queue o1 q1000000000\n", 1, 20),
+        // pieces of another event
+        (b"retire r0.1\n", 1, 8),
+        (b"bar a1\n", 1, 5),
+        (b"next r0.1 none o1\n", 1, 11),
+        (b"first r0.1 c0 no\n", 1, 17),
+        (b"touch r0.1 o1\ntouch r0.1\n", 2, 11),
+        // two events
+        (b"run o1;run o2\n", 1, 8),
+        (b"run o1; \n", 1, 9),
+        (b"run o1;\n", 1, 8),
+        (b"run o1; wait\n", 1, 9),
+        (b"wait; run o1\n", 1, 5),
+        (b"run o1; run o2; run o3\n", 1, 15),
+        (b"run o1; run o2;\n", 1, 15),
+    ] {
+        match read_answers(rt.alloc(), text) {
+            Ok(_) => assert!(rt; false, "no fault at line {line} column {column}"),
+            Err(fault) => {
+                let place = AnswersFault::BadText { line, column };
+                assert_eq!(rt; fault, place, "line {line} column {column}");
+            }
+        }
+    }
+    Ok(())
+}

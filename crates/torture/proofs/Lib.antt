@@ -1,0 +1,3 @@
+pub mod Verdicts
+pub mod Courses
+pub mod Options

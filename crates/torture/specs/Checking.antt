@@ -1,0 +1,49 @@
+-- What `check` writes of the answers that it reads.
+use Rattle.std.specs.Prelude.{◌≡◌, ℕ, List, [], ◌++◌, codes, length, Option, Result, Ok, Err}
+use Rattle.std.specs.Fmt.{decimal}
+use Rattle.std.specs.Io.KnownBytes.{Appends, Consumes}
+use Rattle.rcu_model.specs.declared.event.Event.{Event}
+use Rattle.rcu_model.specs.declared.verdict.Verdict.{Verdict}
+use Rattle.rcu_model.specs.declared.verdict.Verdict.TheVariants.{Yes, No}
+use Rattle.rcu_model.specs.Verdict.{Judges, name_of}
+use Rattle.schedule.specs.declared.fault.ReplayFault.{ReplayFault}
+use Rattle.schedule.specs.declared.fault.ReplayFault.TheVariants.{BadText, BadConfig, Read, Write, Memory}
+use Rattle.schedule.specs.AnswerLines.{TellsLog, BreaksOffAnswers}
+use Rattle.schedule.specs.Ports.{Tells}
+
+-- the line of a verdict on a log of so many events
+abbrev pub verdict_line : Verdict → ℕ → List ℕ
+verdict_line Yes events = codes "yes events=" ++ decimal events ++ codes "\n"
+verdict_line (No at rule) events = codes "no event=" ++ decimal at ++ codes " rule=" ++ name_of rule ++ codes "\n"
+
+-- why a text tells no log: memory may be refused at any text
+abbrev pub TellsNoLog : List ℕ → ReplayFault → Type 0
+TellsNoLog text (BadText line column) = BreaksOffAnswers text line column
+TellsNoLog text Memory = Unit {0}
+TellsNoLog text _ = ⊥
+
+-- the text tells a log, of which this verdict is so and this line is printed
+pub record Judged (text : List ℕ) (verdict : Verdict) (printed : List ℕ) : Type 0 where
+  pub log : List Event
+  pub told : TellsLog text log
+  pub judged : Judges verdict log
+  pub line : printed ≡ verdict_line verdict (length log)
+
+-- the line of some verdict that is so begins like this
+abbrev pub IsFrontOfVerdict : List ℕ → List ℕ → Type 0
+IsFrontOfVerdict text printed = (verdict : Verdict) × ((more : List ℕ) × Judged text verdict (printed ++ more))
+
+-- Where all was read and written, the verdict's line is printed. A bad text prints nothing.
+abbrev pub Checked : Option (List ℕ) → Option (List ℕ) → List ℕ → List ℕ → Result Verdict ReplayFault → Type 0
+Checked given left text printed (Ok verdict) = Tells given text × Judged text verdict printed
+Checked given left text printed (Err (BadText line column)) = Tells given text × (BreaksOffAnswers text line column × (printed ≡ []))
+Checked given left text printed (Err Write) = Tells given text × IsFrontOfVerdict text printed
+Checked given left text printed (Err Read) = Consumes given left text × (printed ≡ [])
+Checked given left text printed (Err Memory) = printed ≡ []
+Checked given left text printed (Err BadConfig) = ⊥
+
+pub record Checks (given left before after : Option (List ℕ)) (result : Result Verdict ReplayFault) : Type 0 where
+  pub text : List ℕ
+  pub printed : List ℕ
+  pub writes : Appends before after printed
+  pub checked : Checked given left text printed result

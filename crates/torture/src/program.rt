@@ -1,0 +1,154 @@
+//! What the program says of itself: its commands, their words and their help.
+
+ghost use Rattle.std.specs.Prelude.{◌≡◌, IfOk, false};
+ghost use Rattle.clap.specs.Words.{app_of, rule_of};
+ghost use Rattle.torture.specs.Words.{IsTorture, number_rule, IsFlavourRule, AddsWorld, AddsCourse};
+
+use clap::builder::ValueParser;
+use clap::{Arg, ArgAction, Command as Program};
+use std::alloc::{AllocError, Global};
+
+const ABOUT: &str =
+    "Replays, checks and draws schedules of read-copy-update, one atomic step a line";
+
+const REPLAY_ABOUT: &str = "Reads a schedule and answers each of its lines";
+
+const REPLAY_HELP: &str =
+    "Reads a schedule from standard input and writes the answer of each line, then an end line, to standard output.
+
+The first line is the header: `schedule 1 memb R U W C` for narrow reader words or `schedule 2 memb R U W C` for wide ones, `qsbr` in place of `memb` for the quiescent-state flavour, with the numbers of readers (1 to 64), updaters (1 to 16), workers (1 to 8) and chains (1 to 64). Then each line is one atomic step:
+
+  r0 lock, r0 unlock         open and close a read-side section of reader 0 (memb)
+  r0 online, r0 offline      the same in the quiescent-state flavour (qsbr)
+  r0 quiescent               announce a quiescent state (qsbr)
+  r0 first c0, r0 next       load the first record of chain 0, the one after it
+  r0 touch                   read the record loaded last
+  u0 push c0                 updater 0 puts a new record at the front of chain 0
+  u0 replace o1, u0 cut o1   put a new record in the place of record 1, take record 1 out
+  u0 retire o1               queue record 1, which is out of its chain, to be reclaimed
+  u0 sync                    wait for a grace period
+  u0 start, u0 poll          take a cookie, ask whether a grace period has passed since
+  u0 barrier                 wait until all that is queued has been reclaimed
+  w0 take                    worker 0 takes what is queued, waits for a grace period and reclaims it
+  r0 ., u0 ., w0 .           go on with what an earlier line of the same actor began
+
+Example: printf 'schedule 1 memb 1 1 1 1\\nr0 lock\\nr0 .\\n' | torture replay
+
+Exit status: 0 good, 2 a bad schedule or bad words, 3 a fault of reading, writing or memory.";
+
+const CHECK_ABOUT: &str = "Reads answers and judges the log that they tell";
+
+const CHECK_HELP: &str =
+    "Reads lines of answers, as `replay` writes them, from standard input, and judges the log of their events. The answers may come from any program.
+
+It writes `yes events=N` where the log, of N events, is a run of read-copy-update, or else `no event=K rule=Dn`: the first event, counted from 1, that breaks its rule, and that rule.
+
+  D3   a read-side section opens once, and closes while it is open
+  D4   a section follows the links of the records that it holds
+  D5   a record is published once, and leaves its chain while it is linked
+  D6   a record that was cut is retired once
+  D7   a retired record is queued once, and its callback runs once, when no section that it awaits is left
+  D8   a grace period or a barrier is over once, when nothing that it awaits is left
+
+Lines without events and end lines are passed over.
+
+Example: torture replay < SCHEDULE | torture check
+
+Exit status: 0 the log is a run, 1 it is none, 2 bad answers or bad words, 3 a fault of reading, writing or memory.";
+
+const WALK_ABOUT: &str = "Draws a schedule, steps it and judges its log";
+
+const WALK_HELP: &str =
+    "Draws a schedule by the seed, steps each line before it draws the next, and judges the log of what happened. The same words draw the same schedule.
+
+It writes `walk lines=N events=E open=A waiting=B run=C verdict=yes`: the lines drawn, the events told, the sections still open, the objects retired and not run, and the objects run. With `--schedule` it writes the schedule instead, for `torture replay`.
+
+Example: torture walk --lines 5000 --seed 7 --stop 0 --from 100
+
+Exit status: 0 good, 1 the log is no run, 2 bad words, 3 a fault of writing or memory.";
+
+const FORMAT_HELP: &str = "The version of the schedule: 1 has narrow reader words, 2 wide ones";
+
+const STOP_HELP: &str = "An actor that stops for good: readers from 0, then updaters, then workers";
+
+const FROM_HELP: &str = "The first line that who stops does not get";
+
+/// The names of the flavours.
+pub const FLAVOURS: &[&str] = &["memb", "qsbr"];
+
+/// An option of a number between limits, both included.
+fn number<'a>(alloc: Global, name: &'a str, least: u64, most: u64, help: &'a str) -> Arg<'a>
+    ensures rule { rule_of result ≡ number_rule name.entry.now least most }
+    ensures own { result.global ≡ false }
+{
+    Arg::new(alloc, name)
+        .long(name)
+        .value_name("N")
+        .value_parser(ValueParser::unsigned(least, most))
+        .help(help)
+}
+
+/// The option of a flavour.
+fn flavour<'a>(alloc: Global) -> Arg<'a>
+    ensures rule { IsFlavourRule (rule_of result) }
+    ensures own { result.global ≡ false }
+{
+    Arg::new(alloc, "flavour")
+        .long("flavour")
+        .value_name("F")
+        .value_parser(FLAVOURS)
+        .default_value("memb")
+        .help("memb: readers lock and unlock; qsbr: they announce quiescent states")
+}
+
+/// The options that say in which world a walk goes.
+fn with_world<'a>(alloc: Global, program: Program<'a>) -> Result<Program<'a>, AllocError>
+    ensures { IfOk result (λ c. AddsWorld program.entry c) }
+{
+    program
+        .arg(flavour(alloc))?
+        .arg(number(alloc, "readers", 1, 64, "How many readers").default_value("2"))?
+        .arg(number(alloc, "updaters", 1, 16, "How many updaters").default_value("1"))?
+        .arg(number(alloc, "workers", 1, 8, "How many workers").default_value("1"))?
+        .arg(number(alloc, "chains", 1, 64, "How many chains").default_value("1"))?
+        .arg(number(alloc, "format", 1, 2, FORMAT_HELP).default_value("1"))
+}
+
+/// The options that say how a walk goes.
+fn with_course<'a>(alloc: Global, program: Program<'a>) -> Result<Program<'a>, AllocError>
+    ensures { IfOk result (λ c. AddsCourse program.entry c) }
+{
+    let schedule = Arg::new(alloc, "schedule")
+        .long("schedule")
+        .action(ArgAction::SetTrue)
+        .help("Write the schedule, in place of what became of it");
+    program
+        .arg(number(alloc, "lines", 0, 1_000_000, "How many lines to draw").default_value("1000"))?
+        .arg(number(alloc, "seed", 0, u64::MAX, "What to draw them by").default_value("1"))?
+        .arg(schedule)?
+        .arg(number(alloc, "stop", 0, 87, STOP_HELP))?
+        .arg(number(alloc, "from", 1, 1_000_000, FROM_HELP).default_value("1"))
+}
+
+/// The program's own description.
+pub fn program<'a>(alloc: Global) -> Result<Program<'a>, AllocError>
+    ensures { IfOk result (λ c. IsTorture (app_of c)) }
+{
+    let replay = Program::new(alloc, "replay")
+        .about(REPLAY_ABOUT)
+        .long_about(REPLAY_HELP);
+    let check = Program::new(alloc, "check")
+        .about(CHECK_ABOUT)
+        .long_about(CHECK_HELP);
+    let walk = Program::new(alloc, "walk")
+        .about(WALK_ABOUT)
+        .long_about(WALK_HELP);
+    let walk = with_course(alloc, with_world(alloc, walk)?)?;
+    Program::new(alloc, "torture")
+        .about(ABOUT)
+        .subcommand_required(true)
+        .arg_required_else_help(true)
+        .subcommand(replay)?
+        .subcommand(check)?
+        .subcommand(walk)
+}

@@ -1,0 +1,74 @@
+//! Readers and writers that are slow, or fail.
+
+use std::alloc::Global;
+use std::io;
+use std::io::{Read, Write};
+use std::process::Abort;
+
+/// Gives its text in pieces of at most so many bytes. A count of reads may stand before one that fails.
+#[derive(Drop)]
+pub struct Pieces<'a> {
+    pub text: &'a [u8],
+    pub most: usize,
+    pub before: Option<usize>,
+}
+
+impl<'a> Pieces<'a> {
+    pub fn new(text: &'a [u8], most: usize) -> Pieces<'a> {
+        Pieces {
+            text,
+            most,
+            before: None,
+        }
+    }
+}
+
+impl Read for Pieces<'_> {
+    fn read(&mut self, buf: &mut [u8]) -> io::Result<usize> {
+        match self.before {
+            Some(0) => return Err(io::ErrorKind::Interrupted.into()),
+            Some(left) => self.before = Some(left - 1),
+            None => {}
+        }
+        let len = self.text.len().min(self.most).min(buf.len());
+        let (piece, rest) = self.text.split_at(len);
+        buf[..len].copy_from_slice(piece);
+        self.text = rest;
+        Ok(len)
+    }
+}
+
+/// Takes at most so many bytes at once. A count of writes may stand before one that fails.
+#[derive(Drop)]
+pub struct Sink {
+    pub bytes: Vec<u8>,
+    pub most: usize,
+    pub before: Option<usize>,
+}
+
+impl Sink {
+    pub fn new(alloc: Global, most: usize) -> Sink {
+        Sink {
+            bytes: Vec::new(alloc),
+            most,
+            before: None,
+        }
+    }
+}
+
+impl Write for Sink {
+    fn write(&mut self, buf: &[u8]) -> io::Result<usize> {
+        match self.before {
+            Some(0) => return Err(io::ErrorKind::Interrupted.into()),
+            Some(left) => self.before = Some(left - 1),
+            None => {}
+        }
+        let len = self.most.min(buf.len());
+        self.bytes.extend_from_slice(&buf[..len])?;
+        Ok(len)
+    }
+
+    fn flush(&mut self) -> io::Result<()> {
+        Ok(())
+    }
+}

@@ -1,0 +1,230 @@
+//! Words, and what they ask for.
+
+use super::DEFAULT;
+use crate::command::{Command, Stop, Walk};
+use crate::words::read_words;
+use std::test::Fail;
+use world::{Config, Flavour, Layout};
+
+#[test]
+fn words_name_a_command(rt: HostRuntime) -> Result<(), Fail> {
+    let all = Walk {
+        config: Config {
+            layout: Layout::Wide,
+            flavour: Flavour::Qsbr,
+            readers: 64,
+            updaters: 16,
+            workers: 8,
+            chains: 63,
+        },
+        lines: 1_000_000,
+        seed: 18_446_744_073_709_551_615,
+        schedule: true,
+        stop: Some(Stop {
+            actor: 87,
+            from: 1_000_000,
+        }),
+    };
+    let rows: [(&[&str], Command); 9] = [
+        (&["torture", "replay"], Command::Replay),
+        (&["torture", "check"], Command::Check),
+        (&["torture", "walk"], Command::Walk(DEFAULT)),
+        (
+            &[
+                "torture",
+                "walk",
+                "--flavour",
+                "qsbr",
+                "--readers",
+                "64",
+                "--updaters",
+                "16",
+                "--workers",
+                "8",
+                "--chains",
+                "63",
+                "--lines",
+                "1000000",
+                "--seed",
+                "18446744073709551615",
+                "--schedule",
+                "--stop",
+                "87",
+                "--from",
+                "1000000",
+                "--format",
+                "2",
+            ],
+            Command::Walk(all),
+        ),
+        (
+            &[
+                "torture",
+                "walk",
+                "--lines=0",
+                "--seed=0",
+                "--format=1",
+                "--flavour=memb",
+            ],
+            Command::Walk(Walk {
+                lines: 0,
+                seed: 0,
+                ..DEFAULT
+            }),
+        ),
+        (
+            &["torture", "walk", "--stop", "3"],
+            Command::Walk(Walk {
+                stop: Some(Stop { actor: 3, from: 1 }),
+                ..DEFAULT
+            }),
+        ),
+        (
+            &["torture", "walk", "--stop", "0", "--from", "100"],
+            Command::Walk(Walk {
+                stop: Some(Stop {
+                    actor: 0,
+                    from: 100,
+                }),
+                ..DEFAULT
+            }),
+        ),
+        // Nobody stops.
+        (
+            &["torture", "walk", "--from", "100"],
+            Command::Walk(DEFAULT),
+        ),
+        (
+            &[
+                "torture",
+                "walk",
+                "--readers",
+                "1",
+                "--updaters",
+                "1",
+                "--workers",
+                "1",
+                "--stop",
+                "2",
+            ],
+            Command::Walk(Walk {
+                config: Config {
+                    readers: 1,
+                    ..DEFAULT.config
+                },
+                stop: Some(Stop { actor: 2, from: 1 }),
+                ..DEFAULT
+            }),
+        ),
+    ];
+    for (words, wanted) in rows {
+        match read_words(rt.alloc(), words) {
+            Ok(command) => assert_eq!(rt; command, wanted),
+            Err(_) => assert!(rt; false),
+        }
+    }
+    Ok(())
+}
+
+#[test]
+fn each_limit_is_kept(rt: HostRuntime) -> Result<(), Fail> {
+    let rows: [(&str, &[&str], &[&str]); 9] = [
+        ("--readers", &["1", "63", "64"], &["0", "65", "-1", "x", ""]),
+        ("--updaters", &["1", "15", "16"], &["0", "17"]),
+        ("--workers", &["1", "7", "8"], &["0", "9"]),
+        ("--chains", &["1", "63", "64"], &["0", "65"]),
+        ("--lines", &["0", "1", "1000000"], &["1000001", "-1"]),
+        (
+            "--seed",
+            &["0", "18446744073709551615"],
+            &["18446744073709551616", "-1"],
+        ),
+        ("--stop", &["0", "3"], &["4", "87", "88", "-1"]),
+        ("--from", &["1", "1000000"], &["0", "1000001"]),
+        ("--format", &["1", "2"], &["0", "3"]),
+    ];
+    for (option, good, bad) in rows {
+        for word in good {
+            assert!(rt; read_words(rt.alloc(), &["torture", "walk", option, *word]).is_ok());
+        }
+        for word in bad {
+            match read_words(rt.alloc(), &["torture", "walk", option, *word]) {
+                Ok(_) => assert!(rt; false),
+                Err(fault) => assert_eq!(rt; fault.status(), 2),
+            }
+        }
+    }
+    Ok(())
+}
+
+#[test]
+fn other_words_are_told(rt: HostRuntime) -> Result<(), Fail> {
+    let rows: [(&[&str], u8, &str); 12] = [
+        (
+            &["torture", "repla"],
+            2,
+            "error: unrecognized subcommand 'repla'\n\n  tip: a similar subcommand exists: 'replay'\n\nUsage: torture <COMMAND>\n\nFor more information, try '--help'.\n",
+        ),
+        (
+            &["torture", "replay", "x"],
+            2,
+            "error: unexpected argument 'x' found\n\nUsage: torture replay\n\nFor more information, try '--help'.\n",
+        ),
+        (
+            &["torture", "check", "x"],
+            2,
+            "error: unexpected argument 'x' found\n",
+        ),
+        (
+            &["torture", "walk", "x"],
+            2,
+            "error: unexpected argument 'x' found\n",
+        ),
+        (
+            &["torture", "walk", "--flavour", "membr"],
+            2,
+            "error: invalid value 'membr' for '--flavour <F>'\n  [possible values: memb, qsbr]\n",
+        ),
+        (
+            &["torture", "walk", "--readers", "65"],
+            2,
+            "error: invalid value '65' for '--readers <N>': 65 is not in 1..=64\n",
+        ),
+        (
+            &["torture", "walk", "--stop", "4"],
+            2,
+            "error: invalid value for '--stop <N>': there is no such actor\n",
+        ),
+        (
+            &["torture", "walk", "--seed", "1", "--seed", "2"],
+            2,
+            "error: the argument '--seed <N>' cannot be used multiple times\n",
+        ),
+        (&["torture"], 2, "Replays, checks and draws schedules"),
+        (
+            &["torture", "--help"],
+            0,
+            "Replays, checks and draws schedules",
+        ),
+        (
+            &["torture", "check", "--help"],
+            0,
+            "Reads lines of answers, as `replay` writes them",
+        ),
+        (
+            &["torture", "walk", "--help"],
+            0,
+            "Draws a schedule by the seed",
+        ),
+    ];
+    for (words, status, text) in rows {
+        match read_words(rt.alloc(), words) {
+            Ok(_) => assert!(rt; false),
+            Err(fault) => {
+                assert_eq!(rt; fault.status(), status);
+                assert!(rt; fault.to_string(rt.alloc())?.as_str().starts_with(text));
+            }
+        }
+    }
+    Ok(())
+}

@@ -1,0 +1,31 @@
+//! How large the numbers in logs are.
+
+ghost use Rattle.std.specs.Prelude.{◌≡◌, ◌≤◌, ◌%◌, ◌*◌, ◌^◌, ℕ, List, length, All, IsTrue};
+ghost use Rattle.world_state.specs.declared.config.Config.{Config};
+ghost use Rattle.world_state.specs.declared.line.Line.{Line};
+ghost use Rattle.world_state.specs.Limits.{is_within_limits};
+ghost use Rattle.world_state.specs.View.{fresh_at, plans_of};
+ghost use Rattle.world.specs.Lines.{world_after};
+ghost use Rattle.world.specs.Numbering.{IsNumberedWithin};
+ghost use Rattle.world.specs.Steps.{is_supported_at, fresh_world_at, answered_events};
+
+use crate::laws::every_schedule_reclaims_safely;
+use gp_memb::MembPlan;
+use gp_qsbr::QsbrPlan;
+use world_state::WorldPlan;
+
+/// The numbers that the log of a board gives are at most twice the number of the lines that led to it.
+pub(crate) fn board_numbers_count_lines<P: WorldPlan>()
+    ensures { (config : Config) (seq : ℕ) (lines : List Line) → IsTrue (is_within_limits config) → seq % 2 ≡ 0 → seq ≤ 2 ^ 62 → All (IsNumberedWithin (2 * length lines)) (world_after (plans_of P.QSBR P.made P.action P.turn P.taken) (fresh_at config seq) lines).log }
+{}
+
+/// For every config and first sequence number that make a world, and all lines, no event of the answers gives a large number:
+/// readers and chains are below 64 and queues below 8, and ordinals, objects, asks and barriers are at most twice the number
+/// of lines.
+pub fn numbers_count_lines()
+    ensures { (config : Config) (seq : ℕ) (lines : List Line) → IsTrue (is_supported_at config seq) → All (IsNumberedWithin (2 * length lines)) (answered_events (fresh_world_at config seq) lines) }
+{
+    board_numbers_count_lines::<MembPlan>();
+    board_numbers_count_lines::<QsbrPlan>();
+    every_schedule_reclaims_safely();
+}
