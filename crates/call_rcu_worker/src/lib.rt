@@ -7,7 +7,7 @@ mod sync;
 mod worker;
 
 pub use finished::{Finished, run_item};
-pub use laws::items_run_after_their_answer;
+pub use laws::{items_run_after_their_answer, wait_holds_the_lock_until_its_answer};
 pub use sync::{SyncCore, SyncStep, Told};
 pub use worker::{WorkerCore, WorkerStep};
 

@@ -6,22 +6,24 @@ use gp_memb::{Action, GracePlan, MembPlan};
 use poll_cookie::cookie_of;
 use rcu_model::{ObjectId, Refusal};
 
+/// A whole wait of one reader's world, in which nobody is in the way.
+const TEN_STEPS: [(SyncStep, Told); 10] = [
+    (SyncStep::Ask, Told::Asked),
+    (SyncStep::TakeLock, Told::Quiet),
+    (SyncStep::Check, Told::Quiet),
+    (SyncStep::Plan(Action::StoreSeq(1)), Told::Quiet),
+    (SyncStep::Plan(Action::StorePhase(1)), Told::Quiet),
+    (SyncStep::Plan(Action::Load(0)), Told::Quiet),
+    (SyncStep::Plan(Action::StorePhase(0)), Told::Quiet),
+    (SyncStep::Plan(Action::Load(0)), Told::Quiet),
+    (SyncStep::Plan(Action::StoreSeq(2)), Told::Answered),
+    (SyncStep::FreeLock, Told::Quiet),
+];
+
 #[test]
 fn no_reader_in_the_way(rt: HostRuntime) {
     let mut core = SyncCore::new();
-    let ten_steps = [
-        (SyncStep::Ask, Told::Asked),
-        (SyncStep::TakeLock, Told::Quiet),
-        (SyncStep::Check, Told::Quiet),
-        (SyncStep::Plan(Action::StoreSeq(1)), Told::Quiet),
-        (SyncStep::Plan(Action::StorePhase(1)), Told::Quiet),
-        (SyncStep::Plan(Action::Load(0)), Told::Quiet),
-        (SyncStep::Plan(Action::StorePhase(0)), Told::Quiet),
-        (SyncStep::Plan(Action::Load(0)), Told::Quiet),
-        (SyncStep::Plan(Action::StoreSeq(2)), Told::Answered),
-        (SyncStep::FreeLock, Told::Quiet),
-    ];
-    for (step, told) in ten_steps {
+    for (step, told) in TEN_STEPS {
         if core.next() == SyncStep::Begin {
             core.begin(MembPlan::start(1, 0, 0));
         }
@@ -85,19 +87,7 @@ fn a_batch_of_two(rt: HostRuntime) {
     let mut worker: Worker = WorkerCore::new();
     assert_eq!(rt; worker.next(), WorkerStep::Take);
     worker.took(queue.seal());
-    let ten_steps = [
-        (SyncStep::Ask, Told::Asked),
-        (SyncStep::TakeLock, Told::Quiet),
-        (SyncStep::Check, Told::Quiet),
-        (SyncStep::Plan(Action::StoreSeq(1)), Told::Quiet),
-        (SyncStep::Plan(Action::StorePhase(1)), Told::Quiet),
-        (SyncStep::Plan(Action::Load(0)), Told::Quiet),
-        (SyncStep::Plan(Action::StorePhase(0)), Told::Quiet),
-        (SyncStep::Plan(Action::Load(0)), Told::Quiet),
-        (SyncStep::Plan(Action::StoreSeq(2)), Told::Answered),
-        (SyncStep::FreeLock, Told::Quiet),
-    ];
-    for (step, told) in ten_steps {
+    for (step, told) in TEN_STEPS {
         if worker.next() == WorkerStep::Sync(SyncStep::Begin) {
             worker.begin(MembPlan::start(1, 0, 0));
         }

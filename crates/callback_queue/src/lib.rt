@@ -6,7 +6,7 @@ mod laws;
 mod queue;
 
 pub use item::{Call, Callback, Item, Ripe, Ticket};
-pub use laws::items_leave_in_ticket_order;
+pub use laws::{items_leave_in_ticket_order, items_ripen_past_their_cookie};
 pub use queue::CallbackQueue;
 
 #[cfg(test)]

@@ -14,24 +14,24 @@ use Rattle.rcu_model.proofs.Runs.{after_append}
 use Rattle.rcu_model.proofs.Safety.{Kept, kept_log, kept_step, not_reclaimed}
 
 -- the words of a log
-contains_in : {X : Type 0} (xs : List X) (x : X) → Contains xs x → In xs x
+pub contains_in : {X : Type 0} (xs : List X) (x : X) → Contains xs x → In xs x
 contains_in [] x (i, low, is) = absurd (omega (arith, low))
 contains_in (y ∷ ys) x (zero, low, is) = inl is
 contains_in (y ∷ ys) x (suc i, low, is) = inr (contains_in ys x (i, omega (arith, low), is))
 
-in_contains : {X : Type 0} (xs : List X) (x : X) → In xs x → Contains xs x
+pub in_contains : {X : Type 0} (xs : List X) (x : X) → In xs x → Contains xs x
 in_contains [] x h = absurd h
 in_contains (y ∷ ys) x (inl e) = (zero, omega arith, e)
 in_contains (y ∷ ys) x (inr h) = let c = in_contains ys x h in (suc c.0, let low = c.1 in omega (arith, low), c.2)
 
-decide_section : (s t : SectionId) → (s ≡ t) ⊎ (s ≢ t)
+pub decide_section : (s t : SectionId) → (s ≡ t) ⊎ (s ≢ t)
 decide_section s t = by (section_tells s t)
   where
     by : Tells (same_section s t) s t → (s ≡ t) ⊎ (s ≢ t)
     by (inl y) = inl y.1
     by (inr n) = inr n.1
 
-allowed_split : (now : State) (es fs : List Event) → AreAllowed now (es ++ fs) → AreAllowed now es × AreAllowed (after_all now es) fs
+pub allowed_split : (now : State) (es fs : List Event) → AreAllowed now (es ++ fs) → AreAllowed now es × AreAllowed (after_all now es) fs
 allowed_split now [] fs a = (tt, a)
 allowed_split now (e ∷ es) fs a = let rest = allowed_split (after now e) es fs a.1 in ((a.0, rest.0), rest.1)
 
@@ -63,7 +63,7 @@ open_left now (e ∷ es) s h =
     (λ (g : In (after now e).sections s). ⊎_elim (λ (l : In es (Close s)). inl (inr l)) (λ (r : In (after_all (after now e) es).sections s). inr r) (open_left (after now e) es s g))
     (open_step now e s h)
 
-opened_left : (now : State) (es : List Event) (s : SectionId) → In es (Open s) → ¬ In es (Close s) → In (after_all now es).sections s
+pub opened_left : (now : State) (es : List Event) (s : SectionId) → In es (Open s) → ¬ In es (Close s) → In (after_all now es).sections s
 opened_left now [] s h none = absurd h
 opened_left now (e ∷ es) s (inl is) none =
     ⊎_elim (λ (c : In es (Close s)). absurd (none (inr c))) (λ (r : In (after_all (after now e) es).sections s). r)
@@ -108,7 +108,7 @@ retired_or now (e ∷ es) o h =
     (retired_or (after now e) es o h)
 
 -- who is retired was not before, and was retired by these events
-retired_told : (now : State) (es : List Event) (o : ObjectId) → (¬ In now.retired o) → In (after_all now es).retired o → In es (Retire o)
+pub retired_told : (now : State) (es : List Event) (o : ObjectId) → (¬ In now.retired o) → In (after_all now es).retired o → In es (Retire o)
 retired_told now es o none h = ⊎_elim (λ (l : In now.retired o). absurd (none l)) (λ (r : In es (Retire o)). r) (retired_or now es o h)
 
 -- a section that a retired object awaits is closed, or still awaited
@@ -140,7 +140,7 @@ awaited_left now (e ∷ es) o s a r h =
     (awaited_step now e o s a.0 r h)
 
 -- a run at its event
-at_event : (log before later : List Event) (e : Event) → IsRun log → log ≡ before ++ e ∷ later → IsRun before × IsAllowed (state_after before) e
+pub at_event : (log before later : List Event) (e : Event) → IsRun log → log ≡ before ++ e ∷ later → IsRun before × IsAllowed (state_after before) e
 at_event log before later e run is = let parts = allowed_split start before (e ∷ later) (subst (λ (l : List Event). IsRun l) is run) in (parts.0, parts.1.0)
 
 pub runs_once : (log : List Event) → IsRun log → RunsOnceAfterItsSections log

@@ -5,6 +5,7 @@ pub mod Follows
 pub mod Covering
 pub mod Runs
 pub mod Headline
+pub mod Endings
 pub mod Rosters
 pub mod SectionLemmas
 pub mod WaitLemmas

@@ -1,6 +1,6 @@
--- What a log says of callbacks, by its events alone: [saferecl.rcu], where an evaluation is scheduled by `Retire` and done
--- by `Run`.
-use Rattle.std.specs.Prelude.{◌≡◌, ◌⊎◌, List, ◌∷◌, ◌++◌, Some}
+-- What a log says of callbacks, asks and barriers, by its events alone: [saferecl.rcu], where an evaluation is scheduled by
+-- `Retire` and done by `Run`.
+use Rattle.std.specs.Prelude.{◌≡◌, ◌⊎◌, ℕ, List, ◌∷◌, ◌++◌, Some}
 use Rattle.std.specs.List.{Contains}
 use Rattle.rcu_model.specs.declared.event.SectionId.{SectionId}
 use Rattle.rcu_model.specs.declared.event.ObjectId.{ObjectId}
@@ -22,6 +22,51 @@ pub record LetsRun (log : List Event) (o : ObjectId) : Type 0 where
 -- an object's callback runs at most once, and only after every section open at its retirement has ended
 abbrev pub RunsOnceAfterItsSections : List Event → Type 0
 RunsOnceAfterItsSections log = (before later : List Event) (o : ObjectId) → log ≡ before ++ Run o ∷ later → LetsRun before o
+
+-- these events let the ask be answered: it was made, every section that was open then has been closed since, and it has
+-- not been answered before
+pub record LetsAnswer (log : List Event) (a : ℕ) : Type 0 where
+  pub asked : Contains log (Ask a)
+  pub closed : (earlier since : List Event) (s : SectionId) → log ≡ earlier ++ Ask a ∷ since → IsOpenAfter earlier s → Contains since (Close s)
+  pub not_yet_answered : ¬ Contains log (Answer a)
+
+-- an ask is answered at most once, and only after every section open when it was made has ended: `synchronize_rcu`
+abbrev pub AnswersOnceAfterItsSections : List Event → Type 0
+AnswersOnceAfterItsSections log = (before later : List Event) (a : ℕ) → log ≡ before ++ Answer a ∷ later → LetsAnswer before a
+
+-- the object's callback was queued, and has not run
+pub record IsQueuedAfter (log : List Event) (o : ObjectId) : Type 0 where
+  pub queue : ℕ
+  pub queued : Contains log (Queue o queue)
+  pub not_run : ¬ Contains log (Run o)
+
+-- these events let the barrier be over: it was begun, every callback that was queued then has run since, and it was not
+-- over before
+pub record LetsClear (log : List Event) (b : ℕ) : Type 0 where
+  pub begun : Contains log (Bar b)
+  pub run : (earlier since : List Event) (o : ObjectId) → log ≡ earlier ++ Bar b ∷ since → IsQueuedAfter earlier o → Contains since (Run o)
+  pub not_yet_cleared : ¬ Contains log (Clear b)
+
+-- a barrier is over at most once, and only after every callback queued when it began has run: `rcu_barrier`
+abbrev pub ClearsOnceAfterItsCallbacks : List Event → Type 0
+ClearsOnceAfterItsCallbacks log = (before later : List Event) (b : ℕ) → log ≡ before ++ Clear b ∷ later → LetsClear before b
+
+-- these events let the object's callback be queued: it was retired, and its callback has not been queued
+pub record LetsQueue (log : List Event) (o : ObjectId) : Type 0 where
+  pub retired : Contains log (Retire o)
+  pub not_yet_queued : (q : ℕ) → ¬ Contains log (Queue o q)
+
+-- a callback is queued at most once, and only after its object was retired: `call_rcu`
+abbrev pub QueuesOnceAfterRetirement : List Event → Type 0
+QueuesOnceAfterRetirement log = (before later : List Event) (o : ObjectId) (q : ℕ) → log ≡ before ++ Queue o q ∷ later → LetsQueue before o
+
+-- a callback runs only after it was queued
+abbrev pub RunsAfterItsQueueing : List Event → Type 0
+RunsAfterItsQueueing log = (before later : List Event) (o : ObjectId) → log ≡ before ++ Run o ∷ later → (q : ℕ) × Contains before (Queue o q)
+
+-- a section is opened at most once
+abbrev pub OpensOnce : List Event → Type 0
+OpensOnce log = (before later : List Event) (s : SectionId) → log ≡ before ++ Open s ∷ later → ¬ Contains before (Open s)
 
 -- the event reads the object, or finds it
 abbrev pub Uses : Event → ObjectId → Type 0

@@ -6,7 +6,7 @@ ghost use Rattle.rcu_model.specs.declared.event.SectionId.{SectionId};
 ghost use Rattle.rcu_model.specs.declared.event.ObjectId.{ObjectId};
 ghost use Rattle.rcu_model.specs.Machine.{IsRun, IsOpen, state_after, Holds};
 ghost use Rattle.rcu_model.specs.Sets.{HasObject};
-ghost use Rattle.rcu_model.specs.Headline.{RunsOnceAfterItsSections, UsesNoReclaimed};
+ghost use Rattle.rcu_model.specs.Headline.{RunsOnceAfterItsSections, UsesNoReclaimed, AnswersOnceAfterItsSections, ClearsOnceAfterItsCallbacks, QueuesOnceAfterRetirement, RunsAfterItsQueueing, OpensOnce};
 
 /// The protection law: in every run, an object that a section holds is not reclaimed, and the section is open.
 pub fn held_is_not_reclaimed()
@@ -15,8 +15,29 @@ pub fn held_is_not_reclaimed()
 {}
 
 /// In every run, an object's callback runs at most once, and only after every section open at its retirement has ended;
-/// and no section reads or finds an object whose callback has run. This is the promise of [saferecl.rcu], over the log alone.
+/// and no section reads or finds an object whose callback has run. This is the promise of [saferecl.rcu], over the log
+/// alone.
 pub fn callbacks_run_once_after_their_sections()
     ensures once { (log : List Event) → IsRun log → RunsOnceAfterItsSections log }
     ensures unused { (log : List Event) → IsRun log → UsesNoReclaimed log }
+{}
+
+/// In every run, an ask is answered at most once, and only after every section open at the ask has ended, as
+/// `synchronize_rcu` promises; and a barrier is over at most once, and only after every callback that was queued at its
+/// beginning has run, as `rcu_barrier` promises.
+pub fn waits_end_once_after_what_they_await()
+    ensures answers { (log : List Event) → IsRun log → AnswersOnceAfterItsSections log }
+    ensures clears { (log : List Event) → IsRun log → ClearsOnceAfterItsCallbacks log }
+{}
+
+/// In every run, a callback is queued at most once, after its object was retired and before it runs, as `call_rcu` has
+/// it.
+pub fn callbacks_are_queued_once_before_they_run()
+    ensures queued { (log : List Event) → IsRun log → QueuesOnceAfterRetirement log }
+    ensures runs { (log : List Event) → IsRun log → RunsAfterItsQueueing log }
+{}
+
+/// In every run, a section is opened at most once.
+pub fn sections_open_once()
+    ensures { (log : List Event) → IsRun log → OpensOnce log }
 {}

@@ -69,6 +69,7 @@ pub enum FoundWord {
     Nothing,
 }
 
+/// How an event begins, after `; ` as at the front of a line.
 pub const EVENT_WORDS: [(&[u8], EventWord); 15] = [
     (b"open r", EventWord::Section(SectionWord::Open)),
     (b"close r", EventWord::Section(SectionWord::Close)),
@@ -87,6 +88,7 @@ pub const EVENT_WORDS: [(&[u8], EventWord); 15] = [
     (b"clear b", EventWord::Wait(WaitWord::Clear)),
 ];
 
+/// How a line of answers begins.
 pub const ANSWER_WORDS: [(&[u8], AnswerWord); 21] = [
     (b".\n", AnswerWord::Whole(AnswerLine::Quiet)),
     (
@@ -150,11 +152,14 @@ pub const ANSWER_WORDS: [(&[u8], AnswerWord); 21] = [
     (b"end open=", AnswerWord::End),
 ];
 
+/// What a section found.
 pub const FOUND_WORDS: [(&[u8], FoundWord); 2] = [
     (b"o", FoundWord::Object),
     (b"none", FoundWord::Nothing),
 ];
 
+/// What stands before the second number of an end line.
 pub const WAITING: [(&[u8], ()); 1] = [(b"waiting=", ())];
 
+/// What stands before its third number.
 pub const RUN: [(&[u8], ()); 1] = [(b"run=", ())];

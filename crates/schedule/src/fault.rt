@@ -17,10 +17,13 @@ pub enum ReplayFault {
     /// A number of the header is out of its limits.
     #[error("line 1: bad config")]
     BadConfig,
+    /// The reader failed. It is not asked again.
     #[error("read fault")]
     Read,
+    /// The writer failed, or took nothing. What it took before is a beginning of the text.
     #[error("write fault")]
     Write,
+    /// The allocator refused.
     #[error("no memory")]
     Memory,
 }
@@ -34,6 +37,7 @@ pub enum ScheduleFault {
     /// A number of the header is out of its limits.
     #[error("line 1: bad config")]
     BadConfig,
+    /// The allocator refused.
     #[error("no memory")]
     Memory,
 }
@@ -44,6 +48,7 @@ pub enum AnswersFault {
     /// The first byte with which no line of answers goes on, or the place after a line that has no end.
     #[error("line {line} column {column}: bad text")]
     BadText { line: u64, column: usize },
+    /// The allocator refused.
     #[error("no memory")]
     Memory,
 }

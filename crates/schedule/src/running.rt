@@ -18,9 +18,11 @@ use world::{Config, Line, World};
 /// A world, and where its schedule stands.
 #[derive(Drop)]
 pub struct Running {
+    /// The world after the lines so far.
     pub world: World,
     /// The number of the next line.
     pub line: u64,
+    /// The bytes of a line that has not ended.
     pub held: Held,
 }
 

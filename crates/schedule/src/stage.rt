@@ -9,6 +9,7 @@ use crate::running::Running;
 pub enum Stage {
     /// The header has not ended.
     Header(Held),
+    /// The header has ended.
     Lines(Running),
     /// A fault came. It is answered again and again.
     Failed(ReplayFault),

@@ -1,5 +1,6 @@
 //! Texts and what they print, whole and in pieces, and what fails in the middle.
 
+mod failing;
 mod paced;
 mod printing;
 mod reading_back;
@@ -23,21 +24,15 @@ struct Row<'a> {
     fault: &'a str,
 }
 
-/// Gives its text in pieces of at most so many bytes. A count of reads may stand before one that fails.
+/// Gives its text in pieces of at most so many bytes.
 #[derive(Drop)]
 struct Pieces<'a> {
     text: &'a [u8],
     most: usize,
-    before: Option<usize>,
 }
 
 impl Read for Pieces<'_> {
     fn read(&mut self, buf: &mut [u8]) -> io::Result<usize> {
-        match self.before {
-            Some(0) => return Err(io::ErrorKind::Interrupted.into()),
-            Some(left) => self.before = Some(left - 1),
-            None => {}
-        }
         let len = self.text.len().min(self.most).min(buf.len());
         let (piece, rest) = self.text.split_at(len);
         buf[..len].copy_from_slice(piece);
@@ -46,21 +41,15 @@ impl Read for Pieces<'_> {
     }
 }
 
-/// Takes at most so many bytes at once. A count of writes may stand before one that fails.
+/// Takes at most so many bytes at once.
 #[derive(Drop)]
 struct Sink {
     bytes: Vec<u8>,
     most: usize,
-    before: Option<usize>,
 }
 
 impl Write for Sink {
     fn write(&mut self, buf: &[u8]) -> io::Result<usize> {
-        match self.before {
-            Some(0) => return Err(io::ErrorKind::Interrupted.into()),
-            Some(left) => self.before = Some(left - 1),
-            None => {}
-        }
         let len = buf.len().min(self.most);
         self.bytes.extend_from_slice(&buf[..len])?;
         Ok(len)
@@ -72,16 +61,10 @@ impl Write for Sink {
 }
 
 /// What a replay answers: the counts or the text of the fault, and what it wrote.
-fn replayed(
-    alloc: Global,
-    mut reader: Pieces,
-    most: usize,
-    before: Option<usize>,
-) -> Result<(String, Vec<u8>), Fail> {
+fn replayed(alloc: Global, mut reader: Pieces) -> Result<(String, Vec<u8>), Fail> {
     let mut sink = Sink {
         bytes: Vec::new(alloc),
-        most,
-        before,
+        most: 4096,
     };
     let fault = match replay(alloc, &mut reader, &mut sink) {
         Ok(_) => String::new(alloc),
@@ -96,9 +79,8 @@ fn check_row(rt: &impl Abort, alloc: Global, row: &Row) -> Result<(), Fail> {
         let reader = Pieces {
             text: row.text,
             most,
-            before: None,
         };
-        let (fault, printed) = replayed(alloc, reader, 4096, None)?;
+        let (fault, printed) = replayed(alloc, reader)?;
         assert_eq!(rt; fault.as_str(), row.fault, "in pieces of {most}");
         assert_eq!(rt; printed.as_slice(), row.printed, "in pieces of {most}");
     }
@@ -269,47 +251,6 @@ fn a_fault_is_answered_at_its_byte_and_again(rt: HostRuntime) -> Result<(), Fail
         Err(ReplayFault::BadText { line: 6, column: 5 })
     );
     assert_eq!(rt; out.as_slice(), b".\n.\n.\n.\n".as_slice());
-    Ok(())
-}
-
-#[test]
-fn a_read_that_fails_leaves_the_lines_before_it(rt: HostRuntime) -> Result<(), Fail> {
-    // The lines end at the bytes 24, 32, 40, 51 and 62.
-    for (reads, lines) in [(0, 0), (4, 0), (5, 1), (6, 2), (7, 2), (8, 3), (9, 4)] {
-        let reader = Pieces {
-            text: QUIET,
-            most: 7,
-            before: Some(reads),
-        };
-        let (fault, printed) = replayed(rt.alloc(), reader, 4096, None)?;
-        assert_eq!(rt; fault.as_str(), "read fault");
-        assert_eq!(rt; printed.len(), 2 * lines, "after {reads} reads");
-        assert!(rt; QUIET_PRINTED.starts_with(printed.as_slice()));
-    }
-    Ok(())
-}
-
-#[test]
-fn a_write_that_fails_leaves_a_beginning(rt: HostRuntime) -> Result<(), Fail> {
-    for writes in 0..QUIET_PRINTED.len() {
-        let reader = Pieces {
-            text: QUIET,
-            most: 7,
-            before: None,
-        };
-        let (fault, printed) = replayed(rt.alloc(), reader, 1, Some(writes))?;
-        assert_eq!(rt; fault.as_str(), "write fault");
-        assert_eq!(rt; printed.len(), writes);
-        assert!(rt; QUIET_PRINTED.starts_with(printed.as_slice()));
-    }
-    let reader = Pieces {
-        text: QUIET,
-        most: 7,
-        before: None,
-    };
-    let (fault, printed) = replayed(rt.alloc(), reader, 0, None)?;
-    assert_eq!(rt; fault.as_str(), "write fault");
-    assert_eq!(rt; printed.len(), 0);
     Ok(())
 }
 

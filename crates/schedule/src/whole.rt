@@ -14,7 +14,9 @@ use world::{Config, Line};
 /// What the text of a schedule says.
 #[derive(Debug, Drop)]
 pub struct Schedule {
+    /// What its header says.
     pub config: Config,
+    /// The lines after the header, in order.
     pub lines: Vec<Line>,
 }
 

@@ -21,26 +21,32 @@ pub enum ReaderWord {
 /// What an updater's word stands for.
 #[derive(Clone, Copy, Debug, PartialEq, Eq)]
 pub enum UpdaterWord {
+    /// A verb with its line feed.
     Whole(UpdaterVerb),
+    /// A chain's number comes next; after the other three, an object's.
     PushTo,
     ReplaceOf,
     CutOf,
     RetireOf,
 }
 
+/// How a header begins, by the layout of the reader words.
 pub const LAYOUTS: [(&[u8], Layout); 2] = [
     (b"schedule 1 ", Layout::Narrow),
     (b"schedule 2 ", Layout::Wide),
 ];
 
+/// The flavour, in a header.
 pub const FLAVOURS: [(&[u8], Flavour); 2] = [(b"memb ", Flavour::Memb), (b"qsbr ", Flavour::Qsbr)];
 
+/// Who acts, before the actor's number.
 pub const ACTORS: [(&[u8], ActorWord); 3] = [
     (b"r", ActorWord::Reader),
     (b"u", ActorWord::Updater),
     (b"w", ActorWord::Worker),
 ];
 
+/// What a reader does.
 pub const READER_WORDS: [(&[u8], ReaderWord); 9] = [
     (b"lock\n", ReaderWord::Whole(ReaderVerb::Lock)),
     (b"unlock\n", ReaderWord::Whole(ReaderVerb::Unlock)),
@@ -53,6 +59,7 @@ pub const READER_WORDS: [(&[u8], ReaderWord); 9] = [
     (b".\n", ReaderWord::Whole(ReaderVerb::GoOn)),
 ];
 
+/// What an updater does.
 pub const UPDATER_WORDS: [(&[u8], UpdaterWord); 9] = [
     (b"push c", UpdaterWord::PushTo),
     (b"replace o", UpdaterWord::ReplaceOf),
@@ -65,6 +72,7 @@ pub const UPDATER_WORDS: [(&[u8], UpdaterWord); 9] = [
     (b".\n", UpdaterWord::Whole(UpdaterVerb::GoOn)),
 ];
 
+/// What a worker does.
 pub const WORKER_WORDS: [(&[u8], WorkerVerb); 2] = [
     (b"take\n", WorkerVerb::Take),
     (b".\n", WorkerVerb::GoOn),

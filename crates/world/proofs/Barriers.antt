@@ -61,11 +61,11 @@ finished_at qs i = ⊎_elim
 -- no more was finished than has left the queue
 pub finished_low : {P : Type 0} (ready waiting : Items) (noted : Option ℕ) (gone finished : ℕ) (asked : List ℕ) (awaited : ObjectId → List SectionId) (asked_sections : ℕ → List SectionId) (ask : ℕ) (place : WorkerCore P Unit) →
     WorkKept ready waiting noted gone finished asked awaited asked_sections ask place → finished ≤ gone
-finished_low ready waiting noted gone finished asked awaited asked_sections ask worker.Idle h = h.2
-finished_low ready waiting noted gone finished asked awaited asked_sections ask (worker.Syncs place tickets) h = h.1
-finished_low ready waiting noted gone finished asked awaited asked_sections ask (worker.Pops tickets) h = h.3
+finished_low ready waiting noted gone finished asked awaited asked_sections ask worker.Idle h = let all = h.2 in omega (arith, all)
+finished_low ready waiting noted gone finished asked awaited asked_sections ask (worker.Syncs place tickets) h = let all = h.1 in omega (arith, all)
+finished_low ready waiting noted gone finished asked awaited asked_sections ask (worker.Pops tickets) h = let all = h.3 in omega (arith, all)
 finished_low ready waiting noted gone finished asked awaited asked_sections ask (worker.Runs tickets ticket item) h = absurd h
-finished_low ready waiting noted gone finished asked awaited asked_sections ask (worker.Ran tickets ticket item) h = let low = h.2 in omega (arith, low)
+finished_low ready waiting noted gone finished asked awaited asked_sections ask (worker.Ran tickets ticket item) h = let all = h.2 in omega (arith, all)
 finished_low ready waiting noted gone finished asked awaited asked_sections ask (worker.Counts tickets ticket) h = absurd h
 
 -- a barrier where the machine's barriers change beside it

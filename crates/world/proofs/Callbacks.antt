@@ -98,11 +98,11 @@ BatchKept ready waiting noted asked awaited asked_sections ask tickets core.Done
 
 -- a worker, beside what its queue says
 abbrev pub WorkKept : {P : Type 0} → Items → Items → Option ℕ → ℕ → ℕ → List ℕ → (ObjectId → List SectionId) → (ℕ → List SectionId) → ℕ → WorkerCore P Unit → Type 0
-WorkKept ready waiting noted gone finished asked awaited asked_sections ask worker.Idle = (ready ≡ []) × (waiting ≡ []) × (finished ≤ gone)
-WorkKept ready waiting noted gone finished asked awaited asked_sections ask (worker.Syncs place tickets) = BatchKept ready waiting noted asked awaited asked_sections ask tickets place × (finished ≤ gone)
-WorkKept ready waiting noted gone finished asked awaited asked_sections ask (worker.Pops tickets) = (waiting ≡ []) × (tickets ≡ length ready) × (1 ≤ tickets) × (finished ≤ gone)
+WorkKept ready waiting noted gone finished asked awaited asked_sections ask worker.Idle = (ready ≡ []) × (waiting ≡ []) × (finished ≡ gone)
+WorkKept ready waiting noted gone finished asked awaited asked_sections ask (worker.Syncs place tickets) = BatchKept ready waiting noted asked awaited asked_sections ask tickets place × (finished ≡ gone)
+WorkKept ready waiting noted gone finished asked awaited asked_sections ask (worker.Pops tickets) = (waiting ≡ []) × (tickets ≡ length ready) × (1 ≤ tickets) × (finished ≡ gone)
 WorkKept ready waiting noted gone finished asked awaited asked_sections ask (worker.Runs tickets ticket item) = ⊥
-WorkKept ready waiting noted gone finished asked awaited asked_sections ask (worker.Ran tickets ticket item) = (waiting ≡ []) × (tickets ≡ length ready + 1) × (finished + 1 ≤ gone)
+WorkKept ready waiting noted gone finished asked awaited asked_sections ask (worker.Ran tickets ticket item) = (waiting ≡ []) × (tickets ≡ length ready + 1) × (finished + 1 ≡ gone)
 WorkKept ready waiting noted gone finished asked awaited asked_sections ask (worker.Counts tickets ticket) = ⊥
 
 abbrev pub WorkAt : {P : Type 0} → QueueState → List ℕ → (ObjectId → List SectionId) → (ℕ → List SectionId) → WorkerState P → Type 0

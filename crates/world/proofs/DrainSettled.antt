@@ -53,8 +53,8 @@ module _ {P : Type 0} (plans : Plans P) (layout : Layout) (slots : ℕ) (laws : 
       nobody_runs : w.grace.holder ≡ None → (x : Asker) (a c : ℕ) (p : P) → work_of w.updaters w.workers x ≢ Runs a c p
       nobody_runs free x a c p e = none_holds x (sym (ap holder_of free) ∙ k.part.grace_kept.held x (subst (λ (v : Work P). Holds v) (sym e) tt))
 
-      rests : (q : QueueState) (x : WorkerState P) → WorkAt q now.asked now.awaited now.asked_sections x → x.core ≡ worker.Idle → (q.items.ready ≡ []) × (q.items.waiting ≡ [])
-      rests q x h idle = let r = subst (λ c. WorkAt q now.asked now.awaited now.asked_sections (record x { core = c })) idle h in (r.0, r.1)
+      rests : (q : QueueState) (x : WorkerState P) → WorkAt q now.asked now.awaited now.asked_sections x → x.core ≡ worker.Idle → (q.items.ready ≡ []) × (q.items.waiting ≡ []) × (q.finished ≡ q.items.gone)
+      rests q x h idle = let r = subst (λ c. WorkAt q now.asked now.awaited now.asked_sections (record x { core = c })) idle h in (r.0, r.1, r.2)
 
 module _ {P : Type 0} (plans : Plans P) (laws : (layout : Layout) (slots : ℕ) → 1 ≤ slots → Laws plans layout slots) where
   pub settles : (w : BoardView P) → IsReached plans w → IsSettled w

@@ -151,11 +151,11 @@ module _ {P : Type 0} (plans : Plans P) (layout : Layout) (slots : ℕ) where
   Syncing g i t left told core.Done = ⊥
 
   abbrev pub Stands : GraceState → Queue (Item Unit) → ℕ → ℕ → WorkerCore P Unit → Type 0
-  Stands g i left told worker.Idle = (i.ready ≡ []) × (i.waiting ≡ []) × (i.fresh ≡ []) × Left left 0 told 0
+  Stands g i left told worker.Idle = (i.ready ≡ []) × (i.waiting ≡ []) × (i.fresh ≡ []) × Left left 0 told 0 × (g.holder ≡ None)
   Stands g i left told (worker.Syncs sync t) = Syncing g i t left told sync
-  Stands g i left told (worker.Pops t) = (1 ≤ t) × (t ≡ length i.ready) × (i.waiting ≡ []) × (i.fresh ≡ []) × Left left (2 * t) told t
+  Stands g i left told (worker.Pops t) = (1 ≤ t) × (t ≡ length i.ready) × (i.waiting ≡ []) × (i.fresh ≡ []) × Left left (2 * t) told t × (g.holder ≡ None)
   Stands g i left told (worker.Runs t ticket item) = ⊥
-  Stands g i left told (worker.Ran t ticket item) = (t ≡ length i.ready + 1) × (i.waiting ≡ []) × (i.fresh ≡ []) × Left left (2 * length i.ready + 1) told (length i.ready)
+  Stands g i left told (worker.Ran t ticket item) = (t ≡ length i.ready + 1) × (i.waiting ≡ []) × (i.fresh ≡ []) × Left left (2 * length i.ready + 1) told (length i.ready) × (g.holder ≡ None)
   Stands g i left told (worker.Counts t ticket) = ⊥
 
   -- a worker and its queue where nobody is in a section
@@ -416,7 +416,7 @@ module _ {P : Type 0} (plans : Plans P) (layout : Layout) (slots : ℕ) where
           prompt = tt;
           later = told_before;
           tells = omega arith;
-          stands = (s.0, s.1, s.2, s.3, record { steps_left = omega (arith, steps_left); events_left = l.events_left });
+          stands = (s.0, s.1, s.2, s.3, record { steps_left = omega (arith, steps_left); events_left = l.events_left }, refl);
         }
 
     pops : (t : ℕ) → Stands w.grace q.items (suc left) told_before (worker.Pops t) → Made (worker_on plans w k x (worker.Pops t))
@@ -444,6 +444,7 @@ module _ {P : Type 0} (plans : Plans P) (layout : Layout) (slots : ℕ) where
                 s.2,
                 s.3,
                 record { steps_left = omega (arith, steps_left, all); events_left = refl },
+                s.5,
               );
             }
 
@@ -474,7 +475,7 @@ module _ {P : Type 0} (plans : Plans P) (layout : Layout) (slots : ℕ) where
             let steps_left = l.steps_left in
             let events_left = l.events_left in
             let all = s.0 in
-            made_with false (ap (ltb 1) (let one : t ≡ 1 = omega (arith, all, none) in one)) (e, s.1, s.2, record { steps_left = omega (arith, steps_left, none); events_left = omega (arith, events_left, none) })
+            made_with false (ap (ltb 1) (let one : t ≡ 1 = omega (arith, all, none) in one)) (e, s.1, s.2, record { steps_left = omega (arith, steps_left, none); events_left = omega (arith, events_left, none) }, s.4)
         by (next ∷ items) e =
             let l = s.3 in
             let some = ap length e in
@@ -482,7 +483,7 @@ module _ {P : Type 0} (plans : Plans P) (layout : Layout) (slots : ℕ) where
             let events_left = l.events_left in
             let all = s.0 in
             made_with true ((Decides-ltb 1 t).1 (let two : 1 < t = omega (arith, all, some) in two))
-            (omega (arith, all, some), omega (arith, all), s.1, s.2, record { steps_left = omega (arith, steps_left, all); events_left = omega (arith, events_left, all) })
+            (omega (arith, all, some), omega (arith, all), s.1, s.2, record { steps_left = omega (arith, steps_left, all); events_left = omega (arith, events_left, all) }, s.4)
 
     goes_sync : (t : ℕ) (sync : SyncCore P) → Syncing w.grace q.items t (suc left) told_before sync → Made (worker_on plans w k x (worker.Syncs sync t))
     goes_sync t core.Asks s = asks t s

@@ -118,8 +118,8 @@ module _ {P : Type 0} where
           counts false none d = asks (ltb w.grace.seq (2 ^ 62)) refl d
 
   -- nothing was queued
-  pub nothing_queued : (qsbr : Bool) (w : BoardView P) (k items : ℕ) → Begins qsbr w k items → items ≡ 0 → HasDrained w k
-  nothing_queued qsbr w k items b e = (subst Rests (sym b.is) b.idle, subst HasNone (sym b.has) (empty_from (items_of b.q.items) (sym b.count ∙ e)))
+  pub nothing_queued : (qsbr : Bool) (w : BoardView P) (k items : ℕ) → Begins qsbr w k items → IsSettled w → items ≡ 0 → HasDrained w k
+  nothing_queued qsbr w k items b s e = (subst Rests (sym b.is) b.idle, subst HasNone (sym b.has) (empty_from (items_of b.q.items) (sym b.count ∙ e), (s.rested k b.x b.q b.is b.has b.idle).2), b.free)
 
 module _ {P : Type 0} (plans : Plans P) where
   flavour_steps : (qsbr : Bool) (slots n : ℕ) → steps_of_flavour qsbr slots n ≡ turn_count qsbr slots + 5 + 2 * n
@@ -213,7 +213,7 @@ module _ {P : Type 0} (plans : Plans P) where
     abbrev steps_behind : ℕ
     steps_behind = turn_count plans.qsbr (length w.readers) + 4 + 2 * items
 
-    empty : (b.q.items.ready ≡ []) × (b.q.items.waiting ≡ [])
+    empty : (b.q.items.ready ≡ []) × (b.q.items.waiting ≡ []) × (b.q.finished ≡ b.q.items.gone)
     empty = s.rested k b.x b.q b.is b.has b.idle
 
     all_fresh : items_of b.q.items ≡ b.q.items.fresh
@@ -293,19 +293,27 @@ module _ {P : Type 0} (plans : Plans P) where
     ended_sync g i t events core.Frees s = let l = s.4 in let e = l.steps_left in omega (arith, e)
     ended_sync g i t events core.Done s = s
 
-    ended : (g : GraceState) (i : Queue (Item Unit)) (events : ℕ) (c : WorkerCore P Unit) → Stands plans layout slots g i 0 events c → (c ≡ worker.Idle) × (items_of i ≡ []) × (events ≡ 0)
-    ended g i events worker.Idle s = (refl, ap (λ (l : Items). l ++ i.waiting ++ i.fresh) s.0 ∙ ap (λ (l : Items). l ++ i.fresh) s.1 ∙ s.2, let l = s.3 in l.events_left)
+    ended : (g : GraceState) (i : Queue (Item Unit)) (events : ℕ) (c : WorkerCore P Unit) → Stands plans layout slots g i 0 events c → (c ≡ worker.Idle) × (items_of i ≡ []) × (events ≡ 0) × (g.holder ≡ None)
+    ended g i events worker.Idle s = (refl, ap (λ (l : Items). l ++ i.waiting ++ i.fresh) s.0 ∙ ap (λ (l : Items). l ++ i.fresh) s.1 ∙ s.2, let l = s.3 in l.events_left, s.4)
     ended g i events (worker.Syncs sync t) s = absurd (ended_sync g i t events sync s)
     ended g i events (worker.Pops t) s = let some = s.0 in let l = s.4 in let e = l.steps_left in absurd (omega (arith, e, some))
     ended g i events (worker.Runs t ticket item) s = absurd s
     ended g i events (worker.Ran t ticket item) s = let l = s.3 in let e = l.steps_left in absurd (omega (arith, e))
     ended g i events (worker.Counts t ticket) s = absurd s
 
-  pub trail_drained : (old w : BoardView P) (k done goal : ℕ) → Trail old w k done 0 goal → HasDrained w k × (length w.log ≡ goal)
-  trail_drained old w k done goal t =
+  pub trail_drained : (old w : BoardView P) (k done goal : ℕ) → IsSettled w → Trail old w k done 0 goal → HasDrained w k
+  trail_drained old w k done goal s t =
       let d = t.drain in
       let e = ended old.layout (length old.readers) w.grace d.q.items t.told d.x.core d.stands in
-      ((subst Rests (sym d.alone.is) e.0, subst HasNone (sym d.alone.has) e.1), let none = e.2 in let logged = t.logged in omega (arith, none, logged))
+      (subst Rests (sym d.alone.is) e.0, subst HasNone (sym d.alone.has) (e.1, (s.rested k d.x d.q d.alone.is d.alone.has e.0).2), e.3)
+
+  -- and all is told
+  trail_told : (old w : BoardView P) (k done goal : ℕ) → Trail old w k done 0 goal → length w.log ≡ goal
+  trail_told old w k done goal t =
+      let d = t.drain in
+      let none = (ended old.layout (length old.readers) w.grace d.q.items t.told d.x.core d.stands).2 in
+      let logged = t.logged in
+      omega (arith, none, logged)
 
   -- all of its steps
   pub trail_whole : AreSound plans → (old w : BoardView P) (k done left goal : ℕ) → Trail old w k done left goal → (v : BoardView P) × Trail old v k (done + left) 0 goal
@@ -402,22 +410,30 @@ module _ {P : Type 0} (plans : Plans P) where
         count = let c = steps_count (length w.readers) items some_item in omega (arith, c)
 
         goal_met : length (world_after plans w (drain_lines k (1 + behind))).log ≡ length w.log + (items + 2)
-        goal_met = ap (λ (v : BoardView P). length v.log) (sym whole.1.here) ∙ (trail_drained w whole.0 k (1 + behind) (length w.log + (items + 2)) whole.1).1
+        goal_met = ap (λ (v : BoardView P). length v.log) (sym whole.1.here) ∙ trail_told w whole.0 k (1 + behind) (length w.log + (items + 2)) whole.1
 
         longer : length w.log < length (world_after plans w (drain_lines k number)).log
         longer = subst (λ n. length w.log < length (world_after plans w (drain_lines k n)).log) count (let met = goal_met in omega (arith, met))
 
     -- a drain that came to its end
-    pub drained : (v : BoardView P) (done room : ℕ) → Under w v k done (number - done) (length w.log + (items + 2)) room → number ≤ done → done ≤ number → Drains plans k w v (Ok number)
-    drained v done room u up low = (ap (steps_with plans.qsbr (length w.readers)) e, t.here, t.made, (trail_drained w v k number (length w.log + (items + 2)) t).0)
+    drained : (v : BoardView P) (done room : ℕ) → IsSettled v → Under w v k done (number - done) (length w.log + (items + 2)) room → number ≤ done → done ≤ number → Drains plans k w v (Ok number)
+    drained v done room settled u up low = (ap (steps_with plans.qsbr (length w.readers)) e, t.here, t.made, trail_drained w v k number (length w.log + (items + 2)) settled t)
       where
         t : Trail w v k number 0 (length w.log + (items + 2))
         t = subst (λ n. Trail w v k n 0 (length w.log + (items + 2))) (let same : done ≡ number = omega (arith, up, low) in same)
             (subst (λ n. Trail w v k done n (length w.log + (items + 2))) (let none : number - done ≡ 0 = omega (arith, up) in none) u.trail)
 
+    pub some_step : 1 ≤ number
+    some_step = let c = steps_count (length w.readers) items some_item in omega (arith, c)
+
+    pub drained_after : (v : BoardView P) (done steps room : ℕ) → IsSettled v → steps ≡ number → Under w v k done (steps - done) (length w.log + (items + 2)) room → steps ≤ done → done ≤ steps → Drains plans k w v (Ok steps)
+    drained_after v done steps room settled is u up low =
+        subst (λ n. Drains plans k w v (Ok n)) (sym is)
+        (drained v done room settled (subst (λ n. Under w v k done (n - done) (length w.log + (items + 2)) room) is u) (omega (arith, is, up)) (omega (arith, is, low)))
+
   -- nothing was queued
-  pub drained_none : (w : BoardView P) (k items : ℕ) → items_to_drain plans.qsbr w k ≡ Ok items → items ≡ 0 → Drains plans k w w (Ok 0)
-  drained_none w k items e none = (ap (steps_with plans.qsbr (length w.readers)) (e ∙ ap Ok none), refl, tt, nothing_queued plans.qsbr w k items (begins plans.qsbr w k items e) none)
+  pub drained_none : (w : BoardView P) (k items : ℕ) → items_to_drain plans.qsbr w k ≡ Ok items → IsSettled w → items ≡ 0 → Drains plans k w w (Ok 0)
+  drained_none w k items e s none = (ap (steps_with plans.qsbr (length w.readers)) (e ∙ ap Ok none), refl, tt, nothing_queued plans.qsbr w k items (begins plans.qsbr w k items e) s none)
 
   -- all items are fresh where the worker rests
   pub drains_fresh : (qsbr : Bool) (w : BoardView P) (k : ℕ) (x : WorkerState P) (q : QueueState) → slice_get w.workers k ≡ Some x → slice_get w.queues k ≡ Some q → is_busy qsbr w x q ≡ false → items_of q.items ≢ [] → w.grace.seq < 2 ^ 62 → IsSettled w → items_to_drain qsbr w k ≡ Ok (length q.items.fresh)
@@ -436,5 +452,5 @@ module _ {P : Type 0} (plans : Plans P) where
       some_there [] n = absurd (n refl)
       some_there (y ∷ ys) n = refl
 
-      empty : (q.items.ready ≡ []) × (q.items.waiting ≡ [])
+      empty : (q.items.ready ≡ []) × (q.items.waiting ≡ []) × (q.finished ≡ q.items.gone)
       empty = s.rested k x q is has (resting x.core (not_false _ (or_right (is_some q.holder) _ (or_right (is_some w.grace.holder) _ (or_right (some_open qsbr w.layout w.readers) _ free)))))

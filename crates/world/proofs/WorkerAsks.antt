@@ -67,7 +67,7 @@ module _ {P : Type 0} (plans : Plans P) (layout : Layout) (slots : ℕ) (laws : 
   still_kept es = more_kept plans layout slots laws w now kept k n x at es
 
   module _ (place : SyncCore P) (tickets : ℕ) (syncs : x.core ≡ worker.Syncs place tickets) where
-    batch : BatchKept mine.items.ready mine.items.waiting mine.items.cookie now.asked now.awaited now.asked_sections x.ask tickets place × (mine.finished ≤ mine.items.gone)
+    batch : BatchKept mine.items.ready mine.items.waiting mine.items.cookie now.asked now.awaited now.asked_sections x.ask tickets place × (mine.finished ≡ mine.items.gone)
     batch = subst (λ (p : WorkerCore P Unit). WorkKept mine.items.ready mine.items.waiting mine.items.cookie mine.items.gone mine.finished now.asked now.awaited now.asked_sections x.ask p) syncs (my_work plans layout slots laws w now kept k n x at)
 
     asks_now : works (Working n) ≡ core_work x.ask place
@@ -151,7 +151,7 @@ module _ {P : Type 0} (plans : Plans P) (layout : Layout) (slots : ℕ) (laws : 
               ready_free = λ o h. free o (subst (λ (l : Items). Has l o) (field (λ r. r.ready)) h);
             })
             refl (field (λ r. r.reserved)) refl
-            ((field (λ r. r.waiting), b.count ∙ ap (λ (l : Items). length l) (sym ready_is), b.some), subst (λ m. mine.finished ≤ m) (sym (field (λ r. r.gone))) batch.1),
+            ((field (λ r. r.waiting), b.count ∙ ap (λ (l : Items). length l) (sym ready_is), b.some), subst (λ m. mine.finished ≡ m) (sym (field (λ r. r.gone))) batch.1),
       )
         where
           x' : WorkerState P

@@ -261,7 +261,7 @@ module _ {P : Type 0} (plans : Plans P) (layout : Layout) (slots : ℕ) (laws : 
 
   -- `take`
   module _ (idle : x.core ≡ worker.Idle) where
-    empty : (mine.items.ready ≡ []) × (mine.items.waiting ≡ []) × (mine.finished ≤ mine.items.gone)
+    empty : (mine.items.ready ≡ []) × (mine.items.waiting ≡ []) × (mine.finished ≡ mine.items.gone)
     empty = subst (λ (p : WorkerCore P Unit). WorkKept mine.items.ready mine.items.waiting mine.items.cookie mine.items.gone mine.finished now.asked now.awaited now.asked_sections x.ask p) idle my_work
 
     all_fresh : items_of mine.items ≡ mine.items.fresh
@@ -305,7 +305,7 @@ module _ {P : Type 0} (plans : Plans P) (layout : Layout) (slots : ℕ) (laws : 
 
   -- an item is run
   module _ (tickets : ℕ) (pops : x.core ≡ worker.Pops tickets) where
-    batch : (mine.items.waiting ≡ []) × (tickets ≡ length mine.items.ready) × (1 ≤ tickets) × (mine.finished ≤ mine.items.gone)
+    batch : (mine.items.waiting ≡ []) × (tickets ≡ length mine.items.ready) × (1 ≤ tickets) × (mine.finished ≡ mine.items.gone)
     batch = subst (λ (p : WorkerCore P Unit). WorkKept mine.items.ready mine.items.waiting mine.items.cookie mine.items.gone mine.finished now.asked now.awaited now.asked_sections x.ask p) pops my_work
 
     runs : (i : Item Unit) (rest : Items) → mine.items.ready ≡ i ∷ rest → Owed (run_row w n x tickets (Some (record { 0 = mine.items.gone + 1 }, i.object)))
@@ -409,7 +409,7 @@ module _ {P : Type 0} (plans : Plans P) (layout : Layout) (slots : ℕ) (laws : 
         ran = (
           waiting_is ∙ batch.0,
           batch.1 ∙ ap (λ (l : Items). length l) ready ∙ (let l : length (i ∷ rest) ≡ length rest + 1 = omega arith in l) ∙ ap (λ (l : Items). length l + 1) (sym ready_is),
-          subst (λ g. mine.finished + 1 ≤ g) (sym gone_is) (let low = batch.3 in omega (arith, low)),
+          subst (λ g. mine.finished + 1 ≡ g) (sym gone_is) (let all = batch.3 in omega (arith, all)),
         )
 
         other : {v : ℕ} (p : ObjectId) → (life_of w.objects p ≡ life.Kept) ⊎ (life_of w.objects p ≡ life.Retired) → chain_of w.objects p % length w.updaters ≡ v → p ≢ o
@@ -435,7 +435,7 @@ module _ {P : Type 0} (plans : Plans P) (layout : Layout) (slots : ℕ) (laws : 
   pub owes_count : (tickets : ℕ) (ticket : Ticket) (item : Item Unit) → x.core ≡ worker.Ran tickets ticket item → Owed (Ok (Works n (with_core x (item_done (worker.Counts tickets ticket))) w.grace act.Finish None Quiet))
   owes_count tickets ticket item ran = by (ltb 1 tickets) (leb_tells tickets 1) refl
     where
-      batch : (mine.items.waiting ≡ []) × (tickets ≡ length mine.items.ready + 1) × (mine.finished + 1 ≤ mine.items.gone)
+      batch : (mine.items.waiting ≡ []) × (tickets ≡ length mine.items.ready + 1) × (mine.finished + 1 ≡ mine.items.gone)
       batch = subst (λ (p : WorkerCore P Unit). WorkKept mine.items.ready mine.items.waiting mine.items.cookie mine.items.gone mine.finished now.asked now.awaited now.asked_sections x.ask p) ran my_work
 
       none_left : (l : Items) → length l ≡ 0 → l ≡ []

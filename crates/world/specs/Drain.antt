@@ -84,10 +84,10 @@ module _ {P : Type 0} where
   Rests None = ⊥
   Rests (Some x) = x.core ≡ Idle
 
--- no item is left there
+-- no item is left there, and each that has left is counted
 abbrev pub HasNone : Option QueueState → Type 0
 HasNone None = ⊥
-HasNone (Some q) = items_of q.items ≡ []
+HasNone (Some q) = (items_of q.items ≡ []) × (q.finished ≡ q.items.gone)
 
 -- the step was made: it told events or nothing, and did not wait, was not blocked, and found something to do
 abbrev pub IsMade : Result Answer Refusal → Type 0
@@ -95,9 +95,9 @@ IsMade (Ok answer) = IsPrompt answer
 IsMade (Err e) = ⊥
 
 module _ {P : Type 0} where
-  -- the worker is in no operation again, and has run and counted all
+  -- the worker is in no operation again, has run and counted all, and has freed the grace lock
   abbrev pub HasDrained : BoardView P → ℕ → Type 0
-  HasDrained w k = Rests (slice_get w.workers k) × HasNone (slice_get w.queues k)
+  HasDrained w k = Rests (slice_get w.workers k) × HasNone (slice_get w.queues k) × (w.grace.holder ≡ None)
 
   abbrev pub AreMadeFrom : Plans P → BoardView P → List Line → Type 0
   AreMadeFrom plans w [] = Unit {0}
@@ -115,7 +115,7 @@ module _ {P : Type 0} where
   -- what a worker that rests finds
   pub record IsSettled (w : BoardView P) : Type 0 where
     pub even : w.grace.holder ≡ None → w.grace.seq % 2 ≡ 0
-    pub rested : (k : ℕ) (x : WorkerState P) (q : QueueState) → slice_get w.workers k ≡ Some x → slice_get w.queues k ≡ Some q → x.core ≡ Idle → (q.items.ready ≡ []) × (q.items.waiting ≡ [])
+    pub rested : (k : ℕ) (x : WorkerState P) (q : QueueState) → slice_get w.workers k ≡ Some x → slice_get w.queues k ≡ Some q → x.core ≡ Idle → (q.items.ready ≡ []) × (q.items.waiting ≡ []) × (q.finished ≡ q.items.gone)
     pub few_readers : length w.readers ≤ 64
 
 -- a drain of the world

@@ -8,20 +8,25 @@ use call_rcu_worker::{SyncCore, Told};
 use rcu_model::Event;
 use world_state::{Answer, GraceState};
 
-/// What a step of a grace period does: what the world keeps of grace periods then, the word that it loads, and the plan
-/// that it makes.
+/// What a step of a grace period does.
 #[derive(Clone, Copy, Debug, PartialEq, Eq, Drop)]
 pub struct Effect<P> {
+    /// What the world keeps of grace periods then.
     pub grace: GraceState,
+    /// The word that it loads, or 0.
     pub loaded: u64,
+    /// The plan that it makes, if it begins a grace period.
     pub plan: Option<P>,
 }
 
-/// Where a grace period stands after a step, what the world keeps of grace periods then, and the answer.
+/// What a step makes of a grace period.
 #[derive(Clone, Copy, Debug, PartialEq, Eq, Drop)]
 pub struct GraceStep<P> {
+    /// Where the grace period stands after it.
     pub core: SyncCore<P>,
+    /// What the world keeps of grace periods then.
     pub grace: GraceState,
+    /// What the step answers.
     pub answer: Answer,
 }
 

@@ -84,6 +84,14 @@ fn the_greatest_start_leaves_no_ask(rt: HostRuntime) {
     }
 }
 
+/// What the last grace periods tell.
+const LAST_EVENTS: [Event; 4] = [
+    Event::Ask(1),
+    Event::Ask(2),
+    Event::Answer(1),
+    Event::Answer(2),
+];
+
 /// Two updaters share the last grace periods; each row has the answer of so many steps. The plan of the flavour makes
 /// so many steps between its two stores of the sequence number.
 fn check_the_end(rt: &impl Abort, alloc: Global, flavour: Flavour, between: u32) {
@@ -109,12 +117,6 @@ fn check_the_end(rt: &impl Abort, alloc: Global, flavour: Flavour, between: u32)
         (0, UpdaterVerb::Start, 1, exhausted),
         (1, UpdaterVerb::Sync, 1, exhausted),
     ];
-    let log = [
-        Event::Ask(1),
-        Event::Ask(2),
-        Event::Answer(1),
-        Event::Answer(2),
-    ];
     match World::new_at(alloc, config, 4_611_686_018_427_387_902) {
         Ok(mut world) => {
             for (updater, verb, steps, answer) in rows {
@@ -122,7 +124,7 @@ fn check_the_end(rt: &impl Abort, alloc: Global, flavour: Flavour, between: u32)
                     assert_eq!(rt; world.step(&Line::Updater(updater, verb)), answer);
                 }
             }
-            assert_eq!(rt; world.log(), log.as_slice());
+            assert_eq!(rt; world.log(), LAST_EVENTS.as_slice());
         }
         Err(_) => assert!(rt; false),
     }

@@ -88,10 +88,10 @@ impl World {
 
     /// What the actor of this line does next, as one atomic step, and what it is answered. The call itself never waits.
     ///
-    /// `Wait`, `Blocked`, `Idle` and a refusal leave the world as it was. The tests come in this order: `NoActor` for an
-    /// actor that is not there; `Busy` for a verb in an operation, and `NotOpen` to go on in none; `WrongFlavour`; then
-    /// `NestFull`, `NotOpen`, `Busy`, `NoPlace` and `Exhausted` of the verb; and last `Memory`, where the log, the list of
-    /// objects or a queue would grow. Where both are possible, `Blocked` comes before `Idle`.
+    /// `Wait`, `Blocked`, `Idle` and a refusal leave the world as it was. The tests come in this order: `NoActor` for
+    /// an actor that is not there; `Busy` for a verb in an operation, and `NotOpen` to go on in none; `WrongFlavour`;
+    /// then `NestFull`, `NotOpen`, `Busy`, `NoPlace` and `Exhausted` of the verb; and last `Memory`, where the log, the
+    /// list of objects or a queue would grow. Where both are possible, `Blocked` comes before `Idle`.
     pub fn step(&mut self, line: &Line) -> Result<Answer, StepError>
         ensures table { Meets (step_of self.old line.now) self.old self.new result }
         // A reader waits for nobody.
@@ -107,8 +107,9 @@ impl World {
 
     /// Steps one worker alone from its `take` until its batch is counted, and answers the number of steps: with `R`
     /// readers and `n` queued items `2R + 9 + 2n`, in the quiescent-state flavour `R + 8 + 2n`, where a step is one
-    /// line; 0 where its queue is empty. It waits for nobody. liburcu has no such call: it is the world's bound on
-    /// reclaiming.
+    /// line; 0 where its queue is empty. It waits for nobody, and leaves the worker in no operation, its queue empty,
+    /// each item that has left it counted, and the grace lock free. liburcu has no such call: it is the world's bound
+    /// on reclaiming.
     ///
     /// Refused before its first step, and then the world is as it was, in this order: with `NoActor` where there is no
     /// such worker; with `Busy` where a reader is in a section, the grace lock or the queue's lock is held, or the

@@ -16,11 +16,17 @@ pub enum Flavour {
 /// What a schedule's header says.
 #[derive(Clone, Copy, Debug, PartialEq, Eq, Drop)]
 pub struct Config {
+    /// How reader words are laid out, in the general-purpose flavour.
     pub layout: Layout,
+    /// What readers go by.
     pub flavour: Flavour,
+    /// 1 to 64.
     pub readers: u32,
+    /// 1 to 16. Updater u retires into queue `u mod workers`.
     pub updaters: u32,
+    /// 1 to 8, each with a queue of its own.
     pub workers: u32,
+    /// 1 to 64. Chain c has one writer, updater `c mod updaters`.
     pub chains: u32,
 }
 

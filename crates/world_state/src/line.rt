@@ -13,10 +13,15 @@ pub enum Line {
 /// What a reader does: the first step of an operation, or the next one.
 #[derive(Clone, Copy, Debug, PartialEq, Eq, Drop)]
 pub enum ReaderVerb {
+    /// Opens a section, or nests: liburcu's `rcu_read_lock`.
     Lock,
+    /// Closes the innermost lock: liburcu's `rcu_read_unlock`.
     Unlock,
+    /// Comes back from rest: liburcu's `rcu_thread_online`.
     Online,
+    /// Announces that it stands on nothing: liburcu's `rcu_quiescent_state`.
     Quiescent,
+    /// Rests, so that no grace period waits for it: liburcu's `rcu_thread_offline`.
     Offline,
     /// Goes to the first object of a chain.
     First(u32),

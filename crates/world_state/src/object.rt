@@ -10,7 +10,9 @@ use rcu_model::ObjectId;
 pub enum Stage {
     /// In no chain yet.
     Fresh,
+    /// In its chain: readers may find it.
     Linked,
+    /// Out of its chain: only those who found it before may stand on it.
     Cut,
 }
 
@@ -18,9 +20,13 @@ pub enum Stage {
 /// push of its item.
 #[derive(Clone, Copy, Debug, PartialEq, Eq, Drop)]
 pub enum Life {
+    /// Nothing: it is in use, or nobody has retired it.
     Kept,
+    /// Its updater gave it up.
     Retired,
+    /// It waits in its queue.
     Queued,
+    /// Its callback has run.
     Reclaimed,
 }
 
@@ -33,25 +39,33 @@ pub struct ObjectState {
     pub link: Option<ObjectId>,
     /// The object whose link leads to it while it is linked, or none for the head. No word, and no reader loads it.
     pub before: Option<ObjectId>,
+    /// Where it is.
     pub stage: Stage,
+    /// What was done with it since it was cut.
     pub life: Life,
 }
 
 /// What becomes of an object: the store of its header, or, for `Queued`, the push of its item.
 #[derive(Clone, Copy, Debug, PartialEq, Eq, Drop)]
 pub struct Mark {
+    /// Of which object.
     pub object: ObjectId,
+    /// What becomes of it.
     pub life: Life,
 }
 
 /// One store into a chain: what leaves it and what enters it, between two neighbours.
 #[derive(Clone, Copy, Debug, PartialEq, Eq, Drop)]
 pub struct Splice {
+    /// The chain.
     pub chain: u32,
     /// The object whose link is stored, or none for the head.
     pub before: Option<ObjectId>,
+    /// The object that follows then, or none at the end.
     pub after: Option<ObjectId>,
+    /// The object that leaves, if one does.
     pub leaves: Option<ObjectId>,
+    /// The object that enters, if one does.
     pub enters: Option<ObjectId>,
 }
 

@@ -14,6 +14,7 @@ use std::alloc::Global;
 pub struct QueueState {
     /// The updater that holds the queue's lock.
     pub holder: Option<u32>,
+    /// What was pushed and not popped.
     pub items: CallbackQueue<()>,
     /// The queued count: how many items were announced.
     pub queued: u64,
@@ -24,6 +25,7 @@ pub struct QueueState {
 /// What a step changes of a queue.
 #[derive(Clone, Copy, Debug, PartialEq, Eq, Drop)]
 pub enum QueueAct {
+    /// Leaves it as it is.
     Leave,
     /// Adds one to the queued count.
     Count,

@@ -22,7 +22,9 @@ pub struct ReaderState {
 /// What a step makes of a reader, and what it answers.
 #[derive(Clone, Copy, Debug, PartialEq, Eq, Drop)]
 pub struct ReaderStep {
+    /// The reader after it.
     pub state: ReaderState,
+    /// What it answers.
     pub answer: Answer,
 }
 

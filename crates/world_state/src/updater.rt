@@ -9,7 +9,9 @@ use rcu_model::ObjectId;
 /// What an updater is about to publish, between the two steps of `push` or `replace`.
 #[derive(Clone, Copy, Debug, PartialEq, Eq, Drop)]
 pub enum Publishing {
+    /// This one, at the front of its chain.
     Push(ObjectId),
+    /// A new one in the place of a linked one.
     Replace { old: ObjectId, new: ObjectId },
 }
 
@@ -41,18 +43,24 @@ pub enum BarrierStep {
 /// A barrier under way, with the queued counts that it has loaded so far.
 #[derive(Clone, Copy, Debug, PartialEq, Eq, Drop)]
 pub struct Barrier {
+    /// Its number among barriers, from 1.
     pub number: u64,
+    /// The queued count of each queue, 0 where none was loaded yet.
     pub counts: [u64; QUEUES],
+    /// What it does next.
     pub due: BarrierStep,
 }
 
 /// Where an updater stands in its operation.
 #[derive(Clone, Copy, Debug, PartialEq, Eq, Drop)]
 pub enum UpdaterPlace<P> {
+    /// In no operation.
     Idle,
+    /// Has filled a new object, and is to publish it.
     Publishes(Publishing),
     /// Waits for a grace period, by the ask of this number.
     Syncs { ask: u64, core: SyncCore<P> },
+    /// Has locked the queue of the object's chain.
     Retires { object: ObjectId, due: RetireStep },
     /// Waits until all that was queued has run.
     Bars(Barrier),
@@ -61,14 +69,18 @@ pub enum UpdaterPlace<P> {
 /// An ask that `start` made, and its cookie, which `poll` has not spent.
 #[derive(Clone, Copy, Debug, PartialEq, Eq, Drop)]
 pub struct Started {
+    /// The number of the ask.
     pub ask: u64,
+    /// What the sequence number has to reach.
     pub cookie: Cookie,
 }
 
 /// What the world keeps of an updater.
 #[derive(Clone, Copy, Debug, PartialEq, Eq, Drop)]
 pub struct UpdaterState<P> {
+    /// Where it stands.
     pub place: UpdaterPlace<P>,
+    /// Its pending poll, if it has one.
     pub started: Option<Started>,
 }
 

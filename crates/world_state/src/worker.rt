@@ -9,6 +9,7 @@ use call_rcu_worker::WorkerCore;
 pub struct WorkerState<P> {
     /// The number of its last ask.
     pub ask: u64,
+    /// Where it stands.
     pub core: WorkerCore<P, ()>,
 }
 

@@ -1,10 +1,11 @@
-use Rattle.std.proofs.Common.{◌≡◌, ◌+◌, List, length, Result, Ok, Err, false, true≢false, inr, sym, ap, ◌∙◌, subst, refl, arith, vec_capacity}
+use Rattle.std.proofs.Common.{◌≡◌, ◌≤◌, ◌+◌, List, length, Result, Ok, Err, false, true≢false, inr, sym, ap, ◌∙◌, subst, refl, arith, vec_capacity}
 use Rattle.std.specs.Prelude.{is_err, OnOk}
 use Rattle.rcu_model.specs.declared.event.Event.{Event}
 use Rattle.world_state.specs.View.{Plans, plans_of}
+use Rattle.world.specs.Drain.{items_to_drain, steps_for}
 use Rattle.world.specs.Shown.{shown, IsInRange}
 use Rattle.world.proofs.DrainSteps.{AreSound, sound_goes_on}
-use Rattle.world.proofs.DrainTrail.{loop_first, loop_makes, loop_room, loop_on, tells}
+use Rattle.world.proofs.DrainTrail.{loop_first, loop_makes, loop_room, loop_on, tells, some_step, drained_after, drained_none}
 use Rattle.world.proofs.board.Board.drain.Given as given
 use Rattle.world.proofs.board.Board.drain.Goals.{then-items-ge-END_OF_NUMBERS-via-then-items-ge-END_OF_NUMBERS, then-items-ge-END_OF_NUMBERS-via-else-items-ge-END_OF_NUMBERS+then-is_err}
 use Rattle.world.proofs.board.Board.drain.Goals as goal
@@ -79,3 +80,29 @@ loop-preserved g c =
     let p = g.P.GracePlan in
     loop_on (plans_of p.QSBR g.P.WorldPlan.made p.action p.turn p.taken) (sound g) (shown c.args.self.now) (shown c.loop.self) (shown c.work-in-loop.new.self) c.args.worker c.loop.counter c.steps_for-steps.result (length (shown c.args.self.now).log + (c.in_ok-items.items + 2))
     (vec_capacity c.loop.self.log) (vec_capacity c.work-in-loop.new.self.log) c.loop-test.true c.loop.invariant c.work-in-loop.ensures.world c.work-in-loop.ensures.room
+
+pub returns-then-items-eq0 : goal.returns-then-items-eq0
+returns-then-items-eq0 g c =
+    let p = g.P.GracePlan in
+    let plans : Plans g.row.P.Denot = plans_of p.QSBR g.P.WorldPlan.made p.action p.turn p.taken in
+    let old = shown c.args.self.now in
+    let none = c.if-items-eq0.true in
+    drained_none plans old c.args.worker c.in_ok-items.items (sym c.items_to_drain.ensures ∙ c.in_ok-items.was) (c.workers_rest.ensures old c.requires) (omega (arith, none))
+
+pub returns : goal.returns
+returns g c =
+    let p = g.P.GracePlan in
+    let plans : Plans g.row.P.Denot = plans_of p.QSBR g.P.WorldPlan.made p.action p.turn p.taken in
+    let old = shown c.args.self.now in
+    let items = c.in_ok-items.items in
+    let drains : items_to_drain p.QSBR old c.args.worker ≡ Ok items = sym c.items_to_drain.ensures ∙ c.in_ok-items.was in
+    let settled = c.workers_rest.ensures old c.requires in
+    let some_reader = (c.numbers_stay_in_range.ensures old c.requires).some_reader in
+    let nonzero = c.if-items-eq0.false in
+    let some_item : 1 ≤ items = omega (arith, nonzero) in
+    let count : c.steps_for-steps.result ≡ steps_for p.QSBR (length old.readers) items = c.steps_for-steps.ensures in
+    let some = some_step plans old c.args.worker items drains settled some_reader some_item in
+    let past = c.loop-test.false in
+    let within = c.loop.auto.counter-end in
+    drained_after plans old c.args.worker items drains settled some_reader some_item
+    (shown c.loop.self) c.loop.counter c.steps_for-steps.result (vec_capacity c.loop.self.log) (c.workers_rest.ensures (shown c.loop.self) c.loop.invariant.reached) count c.loop.invariant (omega (arith, past)) (omega (arith, within, count, some))
