@@ -1,3 +1,4 @@
 pub mod Verdicts
 pub mod Courses
 pub mod Options
+pub mod Readings

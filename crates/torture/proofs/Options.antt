@@ -4,7 +4,8 @@ use Rattle.std.specs.Borrow.{Bor}
 use Rattle.std.specs.Prelude.{Result, Ok, Err, IfOk, IfErr}
 use Rattle.std.proofs.Common.{inl}
 use Rattle.clap.specs.declared.error.Error.{Error}
-use Rattle.clap.specs.Words.{FailsBy, Text, fault_of, App, Rule, AddsArg, AddsSubcommand, app_of, new_rule, rule_of, with_rule}
+use Rattle.clap.specs.declared.parser.matches.ArgMatches.{ArgMatches}
+use Rattle.clap.specs.Words.{FailsBy, Text, fault_of, App, Rule, AddsArg, AddsSubcommand, HasMatchesOf, app_of, is_simple, new_rule, rule_of, subcommand_rows_of, with_rule}
 use Rattle.clap.specs.declared.builder.arg.Arg.{Arg}
 use Rattle.clap.specs.declared.builder.command.Command.{Command}
 use Rattle.clap.specs.declared.builder.command.Command.TheViews.{out-Command as fields_of}
@@ -41,9 +42,9 @@ flavour_known a b d e q long name names is to_b to_d to_e has named =
     ∙ ap (λ (r : Rule). record r { parser = Some (Names names) }) (ap rule_of to_d ∙ ap (λ (r : Rule). record r { value_names = 1 }) (ap rule_of to_b ∙ ap (λ (r : Rule). record r { long = Some long.now }) is))
 
 -- what `clap` says of the words
-pub taken : {T : Type 0} (app : App) (words : List Text) → IsTorture app → (r : Result T Error) → FailsBy (fault_of app words) r → IfOk r (λ _. IsTaken words)
-taken app words is (Ok m) f = (app, is, f)
-taken app words is (Err e) f = tt
+pub taken : (app : App) (words : List Text) → IsTorture app → is_simple app ≡ true → (r : Result ArgMatches Error) → FailsBy (fault_of app words) r → IfOk r (HasMatchesOf app words) → IfOk r (λ m. IsTaken words (subcommand_rows_of m))
+taken app words is simple (Ok m) f has = (app, is, f, (has simple).1)
+taken app words is simple (Err e) f has = tt
 
 pub refused : {T : Type 0} (app : App) (words : List Text) → IsTorture app → (r : Result T Error) → FailsBy (fault_of app words) r → IfErr r (λ e. IsRefused words e)
 refused app words is (Ok m) f = tt
@@ -55,3 +56,9 @@ about_app a b d to_b to_d = ap app_of_fields to_d ∙ ap app_of_fields to_b
 
 pub about_local : (a b d : Command) {short long : Bor (List ℕ)} → fields_of b ≡ record (fields_of a) { about = Some short } → fields_of d ≡ record (fields_of b) { long_about = Some long } → (fields_of d).has_globals ≡ (fields_of a).has_globals
 about_local a b d to_b to_d = ap (λ f. f.has_globals) to_d ∙ ap (λ f. f.has_globals) to_b
+
+pub usage_app : (a b : Command) {usage : Bor (List ℕ)} → fields_of b ≡ record (fields_of a) { usage_str = Some usage } → app_of b ≡ app_of a
+usage_app a b to_b = ap app_of_fields to_b
+
+pub usage_local : (a b : Command) {usage : Bor (List ℕ)} → fields_of b ≡ record (fields_of a) { usage_str = Some usage } → (fields_of b).has_globals ≡ (fields_of a).has_globals
+usage_local a b to_b = ap (λ f. f.has_globals) to_b

@@ -2,5 +2,6 @@ pub mod Limits
 pub mod Drawing
 pub mod Checking
 pub mod Walking
+pub mod Said
 pub mod Words
 pub mod Status

@@ -1,6 +1,6 @@
 -- The words that the program takes.
-use Rattle.std.specs.Prelude.{◌≡◌, ℕ, ◌⊎◌, true, List, [], ◌∷◌, map, Option, Some, None, codes, ◌^◌, ◌-◌}
-use Rattle.clap.specs.Words.{App, Shape, Rule, Text, app_of, fault_of, kind_of, new_app, new_rule, with_rule, with_subcommand, HasKind}
+use Rattle.std.specs.Prelude.{◌≡◌, ℕ, ◌⊎◌, true, false, List, [], ◌∷◌, map, Option, Some, None, codes, ◌^◌, ◌-◌}
+use Rattle.clap.specs.Words.{App, Row, Shape, Rule, Text, subcommand_of, app_of, fault_of, kind_of, new_app, new_rule, with_rule, with_subcommand, HasKind}
 use Rattle.clap.specs.declared.builder.action.ArgAction.TheVariants.{SetTrue}
 use Rattle.clap.specs.declared.builder.command.Command.{Command}
 use Rattle.clap.specs.declared.builder.value_parser.ValueParser.TheVariants.{Names, Unsigned}
@@ -9,6 +9,9 @@ use Rattle.clap.specs.declared.error.kind.ErrorKind.{ErrorKind}
 use Rattle.clap.specs.declared.error.kind.ErrorKind.TheVariants.{DisplayHelp, DisplayVersion, OutOfMemory, ValueValidation}
 use Rattle.clap.specs.declared.builder.command.Command.TheViews.{out-Command as fields_of}
 use Rattle.std.specs.Borrow.{Bor}
+use Rattle.torture.specs.declared.command.Command.{Command as Asked}
+use Rattle.torture.specs.Limits.{is_within}
+use Rattle.torture.specs.Said.{command_said}
 
 -- an option of a number between limits
 abbrev pub number_rule : Text → ℕ → ℕ → Rule
@@ -74,15 +77,19 @@ AddsWorld old new = (flavours : Bor (List (Bor (List ℕ)))) × AreFlavours flav
 abbrev pub AddsCourse : Command → Command → Type 0
 AddsCourse old new = (app_of new ≡ with_course (app_of old)) × ((fields_of new).has_globals ≡ (fields_of old).has_globals)
 
--- `clap` takes the words
-abbrev pub IsTaken : List Text → Type 0
-IsTaken words = (app : App) × IsTorture app × (fault_of app words ≡ [])
+-- `clap` takes the words, and finds this subcommand in them, with what is told of its options
+abbrev pub IsTaken : List Text → Option (Text × List Row) → Type 0
+IsTaken words found = (app : App) × IsTorture app × (fault_of app words ≡ []) × (found ≡ subcommand_of app words)
+
+-- `clap` takes the words, and they say this command
+abbrev pub SayCommand : List Text → Asked → Type 0
+SayCommand words command = (found : Option (Text × List Row)) × IsTaken words found × (command ≡ command_said found)
 
 -- `clap` refuses the words; or it takes them, and who stops is not there; or memory was refused
 abbrev pub IsRefused : List Text → Error → Type 0
 IsRefused words error =
     ((app : App) × IsTorture app × HasKind (fault_of app words) error)
-    ⊎ ((IsTaken words × (kind_of error ≡ ValueValidation))
+    ⊎ (((command : Asked) × SayCommand words command × (is_within command ≡ false) × (kind_of error ≡ ValueValidation))
     ⊎ (kind_of error ≡ OutOfMemory))
 
 -- what the program ends with

@@ -22,9 +22,11 @@ pub enum Command {
 /// A schedule that is to be drawn.
 #[derive(Clone, Copy, Debug, PartialEq, Eq, Drop)]
 pub struct Walk {
+    /// The world in which it goes.
     pub config: Config,
     /// How many lines are drawn, at most 1,000,000.
     pub lines: u32,
+    /// What it is drawn by: the same seed draws the same lines.
     pub seed: u64,
     /// Whether the schedule is printed, in place of what became of it.
     pub schedule: bool,

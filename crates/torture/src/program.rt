@@ -11,6 +11,15 @@ use std::alloc::{AllocError, Global};
 const ABOUT: &str =
     "Replays, checks and draws schedules of read-copy-update, one atomic step a line";
 
+const EXAMPLES: &str = "Examples:
+  torture replay < examples/replaced-while-read
+  torture replay < examples/replaced-while-read | torture check
+  torture walk --lines 5000 --seed 7
+
+`torture help COMMAND` says more; docs/FORMATS.md has the texts.";
+
+const REPLAY_USAGE: &str = "torture replay < SCHEDULE";
+
 const REPLAY_ABOUT: &str = "Reads a schedule and answers each of its lines";
 
 const REPLAY_HELP: &str =
@@ -20,7 +29,7 @@ The first line is the header: `schedule 1 memb R U W C` for narrow reader words 
 
   r0 lock, r0 unlock         open and close a read-side section of reader 0 (memb)
   r0 online, r0 offline      the same in the quiescent-state flavour (qsbr)
-  r0 quiescent               announce a quiescent state (qsbr)
+  r0 quiescent               announce a quiescent state: end one section, open the next (qsbr)
   r0 first c0, r0 next       load the first record of chain 0, the one after it
   r0 touch                   read the record loaded last
   u0 push c0                 updater 0 puts a new record at the front of chain 0
@@ -28,13 +37,25 @@ The first line is the header: `schedule 1 memb R U W C` for narrow reader words 
   u0 retire o1               queue record 1, which is out of its chain, to be reclaimed
   u0 sync                    wait for a grace period
   u0 start, u0 poll          take a cookie, ask whether a grace period has passed since
-  u0 barrier                 wait until all that is queued has been reclaimed
+  u0 barrier                 wait until all that is queued now has been reclaimed
   w0 take                    worker 0 takes what is queued, waits for a grace period and reclaims it
   r0 ., u0 ., w0 .           go on with what an earlier line of the same actor began
+
+Each line is answered by what happened, such as `open r0.1` or `run o1` (two events are joined by `; `), or by
+
+  .            the step was made, and tells nothing
+  wait         a reader's word stands in the way, or what is waited for is not reached
+  blocked      a lock is held
+  idle         there is nothing to take
+  refused E7   not made: E2 nested too deep, E5 no sequence number left, E6 nothing open or begun, E7 in an operation or online, E8 no such chain or record in the needed state, E9 a verb of the other flavour, E12 no such actor
+
+After `wait`, `blocked`, `idle` and a refusal all is as it was. The end line counts the open sections, the records retired and not run, and the records run.
 
 Example: printf 'schedule 1 memb 1 1 1 1\\nr0 lock\\nr0 .\\n' | torture replay
 
 Exit status: 0 good, 2 a bad schedule or bad words, 3 a fault of reading, writing or memory.";
+
+const CHECK_USAGE: &str = "torture check < ANSWERS";
 
 const CHECK_ABOUT: &str = "Reads answers and judges the log that they tell";
 
@@ -61,7 +82,7 @@ const WALK_ABOUT: &str = "Draws a schedule, steps it and judges its log";
 const WALK_HELP: &str =
     "Draws a schedule by the seed, steps each line before it draws the next, and judges the log of what happened. The same words draw the same schedule.
 
-It writes `walk lines=N events=E open=A waiting=B run=C verdict=yes`: the lines drawn, the events told, the sections still open, the objects retired and not run, and the objects run. With `--schedule` it writes the schedule instead, for `torture replay`.
+It writes `walk lines=N events=E open=A waiting=B run=C verdict=yes`: the lines drawn, the events told, the sections still open, the records retired and not run, and the records run. With `--schedule` it writes the schedule instead, for `torture replay`.
 
 Example: torture walk --lines 5000 --seed 7 --stop 0 --from 100
 
@@ -71,7 +92,7 @@ const FORMAT_HELP: &str = "The version of the schedule: 1 has narrow reader word
 
 const STOP_HELP: &str = "An actor that stops for good: readers from 0, then updaters, then workers";
 
-const FROM_HELP: &str = "The first line that who stops does not get";
+const FROM_HELP: &str = "The first line that the actor of --stop does not get, 1 to 1,000,000";
 
 /// The names of the flavours.
 pub const FLAVOURS: &[&str] = &["memb", "qsbr"];
@@ -107,10 +128,10 @@ fn with_world<'a>(alloc: Global, program: Program<'a>) -> Result<Program<'a>, Al
 {
     program
         .arg(flavour(alloc))?
-        .arg(number(alloc, "readers", 1, 64, "How many readers").default_value("2"))?
-        .arg(number(alloc, "updaters", 1, 16, "How many updaters").default_value("1"))?
-        .arg(number(alloc, "workers", 1, 8, "How many workers").default_value("1"))?
-        .arg(number(alloc, "chains", 1, 64, "How many chains").default_value("1"))?
+        .arg(number(alloc, "readers", 1, 64, "How many readers, 1 to 64").default_value("2"))?
+        .arg(number(alloc, "updaters", 1, 16, "How many updaters, 1 to 16").default_value("1"))?
+        .arg(number(alloc, "workers", 1, 8, "How many workers, 1 to 8").default_value("1"))?
+        .arg(number(alloc, "chains", 1, 64, "How many chains, 1 to 64").default_value("1"))?
         .arg(number(alloc, "format", 1, 2, FORMAT_HELP).default_value("1"))
 }
 
@@ -123,8 +144,22 @@ fn with_course<'a>(alloc: Global, program: Program<'a>) -> Result<Program<'a>, A
         .action(ArgAction::SetTrue)
         .help("Write the schedule, in place of what became of it");
     program
-        .arg(number(alloc, "lines", 0, 1_000_000, "How many lines to draw").default_value("1000"))?
-        .arg(number(alloc, "seed", 0, u64::MAX, "What to draw them by").default_value("1"))?
+        .arg(number(
+            alloc,
+            "lines",
+            0,
+            1_000_000,
+            "How many lines to draw, 0 to 1,000,000",
+        )
+        .default_value("1000"))?
+        .arg(number(
+            alloc,
+            "seed",
+            0,
+            u64::MAX,
+            "What to draw them by, any number below 2^64",
+        )
+        .default_value("1"))?
         .arg(schedule)?
         .arg(number(alloc, "stop", 0, 87, STOP_HELP))?
         .arg(number(alloc, "from", 1, 1_000_000, FROM_HELP).default_value("1"))
@@ -135,9 +170,11 @@ pub fn program<'a>(alloc: Global) -> Result<Program<'a>, AllocError>
     ensures { IfOk result (λ c. IsTorture (app_of c)) }
 {
     let replay = Program::new(alloc, "replay")
+        .override_usage(REPLAY_USAGE)
         .about(REPLAY_ABOUT)
         .long_about(REPLAY_HELP);
     let check = Program::new(alloc, "check")
+        .override_usage(CHECK_USAGE)
         .about(CHECK_ABOUT)
         .long_about(CHECK_HELP);
     let walk = Program::new(alloc, "walk")
@@ -146,6 +183,7 @@ pub fn program<'a>(alloc: Global) -> Result<Program<'a>, AllocError>
     let walk = with_course(alloc, with_world(alloc, walk)?)?;
     Program::new(alloc, "torture")
         .about(ABOUT)
+        .after_help(EXAMPLES)
         .subcommand_required(true)
         .arg_required_else_help(true)
         .subcommand(replay)?

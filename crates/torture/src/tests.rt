@@ -7,6 +7,7 @@ use crate::command::{Command, Stop, Walk};
 use crate::execution::execute;
 use std::alloc::Global;
 use std::io::{Read, Write};
+use std::process::Abort;
 use std::test::Fail;
 use streams::{Pieces, Sink};
 use world::{Config, Flavour, Layout};
@@ -222,6 +223,25 @@ const WRITERS: [(Command, &[u8]); 4] = [
     ),
 ];
 
+const SHORT: Walk = Walk {
+    lines: 12,
+    ..DEFAULT
+};
+
+/// The same, which write short texts.
+const SHORT_WRITERS: [(Command, &[u8]); 4] = [
+    (Command::Replay, b"schedule 1 memb 1 1 1 1\nr0 lock\nr0 .\n"),
+    (Command::Check, b"open r0.1\n"),
+    (Command::Walk(SHORT), b""),
+    (
+        Command::Walk(Walk {
+            schedule: true,
+            ..SHORT
+        }),
+        b"",
+    ),
+];
+
 #[test]
 fn writers_may_take_one_byte_at_a_time(rt: HostRuntime) -> Result<(), Fail> {
     for (command, text) in WRITERS {
@@ -237,25 +257,48 @@ fn writers_may_take_one_byte_at_a_time(rt: HostRuntime) -> Result<(), Fail> {
     Ok(())
 }
 
+/// The command ends with 3 where its writer fails after so many bytes, or takes nothing then, and is not called again.
+fn check_broken(
+    rt: &impl Abort,
+    alloc: Global,
+    command: Command,
+    text: &[u8],
+    printed: &[u8],
+    before: usize,
+) {
+    for takes_nothing in [false, true] {
+        let mut reader = text;
+        let mut broken = Sink {
+            before: Some(before),
+            takes_nothing,
+            ..Sink::new(alloc, 1)
+        };
+        let mut told: Vec<u8> = Vec::new(alloc);
+        let status = executed_on(alloc, command, &mut reader, &mut broken, &mut told);
+        assert_eq!(rt; status, 3);
+        assert_eq!(rt; told.as_slice(), b"write fault\n".as_slice());
+        assert_eq!(rt; broken.faults, 1, "after {before} bytes");
+        assert_eq!(rt; broken.bytes.len(), before);
+        assert!(rt; printed.starts_with(&broken.bytes));
+    }
+}
+
+/// Each place of a short text, and some of a long one, which is written in two pieces.
 #[test]
 fn writers_that_fail_end_with_three(rt: HostRuntime) -> Result<(), Fail> {
-    for (command, text) in WRITERS {
+    for (command, text) in SHORT_WRITERS {
         let whole = executed(rt.alloc(), command, text);
-        // At the first write, at the eleventh, and at one that takes nothing.
-        for (before, most, written) in [(Some(0), 9, 0), (Some(10), 1, 10), (None, 0, 0)] {
-            let mut reader = text;
-            let mut broken = Sink {
-                bytes: Vec::new(rt.alloc()),
-                most,
-                before,
-            };
-            let mut told: Vec<u8> = Vec::new(rt.alloc());
-            let status = executed_on(rt.alloc(), command, &mut reader, &mut broken, &mut told);
-            assert_eq!(rt; status, 3);
-            assert_eq!(rt; told.as_slice(), b"write fault\n".as_slice());
-            assert_eq!(rt; broken.bytes.len(), written);
-            assert!(rt; whole.printed.starts_with(&broken.bytes));
+        for before in 0..whole.printed.len() {
+            check_broken(&rt, rt.alloc(), command, text, &whole.printed, before);
         }
+    }
+    let long = Command::Walk(Walk {
+        schedule: true,
+        ..DEFAULT
+    });
+    let whole = executed(rt.alloc(), long, b"");
+    for before in [0, 4095, 4096, 5000] {
+        check_broken(&rt, rt.alloc(), long, b"", &whole.printed, before);
     }
     Ok(())
 }
@@ -271,8 +314,7 @@ fn readers_that_fail_end_with_three(rt: HostRuntime) -> Result<(), Fail> {
         (Command::Check, b"open r0.1\nclose r0.1\n", b""),
     ];
     for (command, text, printed) in rows {
-        // At the first read, in the middle, and at the end.
-        for before in [0, 3, text.len()] {
+        for before in 0..=text.len() {
             let mut reader = Pieces {
                 before: Some(before),
                 ..Pieces::new(text, 1)
@@ -282,6 +324,7 @@ fn readers_that_fail_end_with_three(rt: HostRuntime) -> Result<(), Fail> {
             let status = executed_on(rt.alloc(), command, &mut reader, &mut out, &mut told);
             assert_eq!(rt; status, 3);
             assert_eq!(rt; told.as_slice(), b"read fault\n".as_slice());
+            assert_eq!(rt; reader.faults, 1, "after {before} bytes");
             let wanted = if before == text.len() { printed } else { b"" };
             assert_eq!(rt; out.as_slice(), wanted);
         }

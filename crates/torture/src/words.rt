@@ -1,10 +1,11 @@
 //! The words of the command line.
 
-ghost use Rattle.std.specs.Prelude.{◌≡◌, map, IfOk, IfErr};
-ghost use Rattle.clap.specs.Words.{kind_of};
+ghost use Rattle.std.specs.Prelude.{◌≡◌, codes, map, IfOk, IfErr};
+ghost use Rattle.clap.specs.Words.{first_of, found_of, kind_of, rows_of, subcommand_rows_of};
 ghost use Rattle.clap.specs.declared.error.kind.ErrorKind.TheVariants.{ValueValidation};
 ghost use Rattle.torture.specs.Limits.{IsWithin};
-ghost use Rattle.torture.specs.Words.{status_of_kind, text_of_kind, IsTaken, IsRefused};
+ghost use Rattle.torture.specs.Said.{number_of, number_or, flag_of, layout_said, flavour_said, config_said, walk_said, command_said};
+ghost use Rattle.torture.specs.Words.{status_of_kind, text_of_kind, IsTaken, IsRefused, SayCommand};
 
 use crate::command::{Command, Stop, Walk};
 use crate::program::program;
@@ -46,24 +47,47 @@ impl fmt::Display for WordsFault {
     }
 }
 
-/// A number that an option has, or else this one.
-fn number_or(matches: &ArgMatches, name: &str, other: u32) -> u32 {
-    matches.get_one::<u32>(name).unwrap_or(other)
+/// The number that an option says.
+fn number_of(matches: &ArgMatches, name: &str) -> Option<u32>
+    ensures { result ≡ number_of 32 (rows_of (found_of matches.now)) name.now }
+{
+    matches.get_one(name)
+}
+
+/// The number that an option says, or else this one.
+fn number_or(matches: &ArgMatches, name: &str, other: u32) -> u32
+    ensures { result ≡ number_or 32 (rows_of (found_of matches.now)) name.now other }
+{
+    number_of(matches, name).unwrap_or(other)
+}
+
+/// The layout of the reader words that `--format` says.
+fn layout_of(matches: &ArgMatches) -> Layout
+    ensures { result ≡ layout_said (number_or 32 (rows_of (found_of matches.now)) (codes "format") 1) }
+{
+    match number_or(matches, "format", 1) {
+        2 => Layout::Wide,
+        _ => Layout::Narrow,
+    }
+}
+
+/// The flavour that `--flavour` says.
+fn flavour_of(matches: &ArgMatches) -> Flavour
+    ensures { result ≡ flavour_said (first_of (codes "flavour") (rows_of (found_of matches.now))) }
+{
+    match matches.get_str("flavour") {
+        Some("qsbr") => Flavour::Qsbr,
+        _ => Flavour::Memb,
+    }
 }
 
 /// The config that the options of `walk` say.
-fn config_of(matches: &ArgMatches) -> Config {
-    let layout = match number_or(matches, "format", 1) {
-        2 => Layout::Wide,
-        _ => Layout::Narrow,
-    };
-    let flavour = match matches.get_str("flavour") {
-        Some("qsbr") => Flavour::Qsbr,
-        _ => Flavour::Memb,
-    };
+fn config_of(matches: &ArgMatches) -> Config
+    ensures { result ≡ config_said (rows_of (found_of matches.now)) }
+{
     Config {
-        layout,
-        flavour,
+        layout: layout_of(matches),
+        flavour: flavour_of(matches),
         readers: number_or(matches, "readers", 2),
         updaters: number_or(matches, "updaters", 1),
         workers: number_or(matches, "workers", 1),
@@ -71,22 +95,38 @@ fn config_of(matches: &ArgMatches) -> Config {
     }
 }
 
+/// The seed that `--seed` says.
+fn seed_of(matches: &ArgMatches) -> u64
+    ensures { result ≡ number_or 64 (rows_of (found_of matches.now)) (codes "seed") 1 }
+{
+    matches.get_one("seed").unwrap_or(1)
+}
+
+/// Whether `--schedule` stands there.
+fn schedule_of(matches: &ArgMatches) -> bool
+    ensures { result ≡ flag_of (rows_of (found_of matches.now)) (codes "schedule") }
+{
+    matches.get_one("schedule").unwrap_or(false)
+}
+
 /// The walk that the options of `walk` say.
-fn walk_of(matches: &ArgMatches) -> Walk {
+fn walk_of(matches: &ArgMatches) -> Walk
+    ensures { result ≡ walk_said (rows_of (found_of matches.now)) }
+{
     let from = number_or(matches, "from", 1);
     Walk {
         config: config_of(matches),
         lines: number_or(matches, "lines", 1000),
-        seed: matches.get_one::<u64>("seed").unwrap_or(1),
-        schedule: matches.get_flag("schedule"),
-        stop: matches
-            .get_one::<u32>("stop")
-            .map(|actor| Stop { actor, from }),
+        seed: seed_of(matches),
+        schedule: schedule_of(matches),
+        stop: number_of(matches, "stop").map(|actor| Stop { actor, from }),
     }
 }
 
 /// The command that the matches say.
-fn command_of(matches: &ArgMatches) -> Command {
+fn command_of(matches: &ArgMatches) -> Command
+    ensures { result ≡ command_said (subcommand_rows_of matches.now) }
+{
     match matches.subcommand() {
         Some(("check", _)) => Command::Check,
         Some(("walk", options)) => Command::Walk(walk_of(options)),
@@ -96,7 +136,7 @@ fn command_of(matches: &ArgMatches) -> Command {
 
 /// What `clap` makes of the words.
 fn parsed<'a, S: AsStr>(alloc: Global, words: &'a [S]) -> Result<ArgMatches<'a>, Error>
-    ensures taken { IfOk result (λ _. IsTaken (map S.text words.entry.now)) }
+    ensures taken { IfOk result (λ matches. IsTaken (map S.text words.entry.now) (subcommand_rows_of matches)) }
     ensures refused { IfErr result (λ e. IsRefused (map S.text words.entry.now) e) }
 {
     program(alloc)?.try_get_matches_from(words)
@@ -115,7 +155,7 @@ fn no_such_actor(alloc: Global) -> Result<Error, AllocError>
 /// The command that the words ask for; the first word is the program's name. The fault has the text and the status with
 /// which the program ends.
 pub fn read_words<S: AsStr>(alloc: Global, words: &[S]) -> Result<Command, WordsFault>
-    ensures given { IfOk result (λ _. IsTaken (map S.text words.now)) }
+    ensures said { IfOk result (λ command. SayCommand (map S.text words.now) command) }
     ensures within { IfOk result IsWithin }
     ensures refused { IfErr result (λ fault. IsRefused (map S.text words.now) fault.error) }
 {

@@ -11,6 +11,8 @@ pub struct Pieces<'a> {
     pub text: &'a [u8],
     pub most: usize,
     pub before: Option<usize>,
+    /// How many reads failed.
+    pub faults: usize,
 }
 
 impl<'a> Pieces<'a> {
@@ -19,6 +21,7 @@ impl<'a> Pieces<'a> {
             text,
             most,
             before: None,
+            faults: 0,
         }
     }
 }
@@ -26,7 +29,10 @@ impl<'a> Pieces<'a> {
 impl Read for Pieces<'_> {
     fn read(&mut self, buf: &mut [u8]) -> io::Result<usize> {
         match self.before {
-            Some(0) => return Err(io::ErrorKind::Interrupted.into()),
+            Some(0) => {
+                self.faults = self.faults.saturating_add(1);
+                return Err(io::ErrorKind::Interrupted.into());
+            }
             Some(left) => self.before = Some(left - 1),
             None => {}
         }
@@ -38,12 +44,15 @@ impl Read for Pieces<'_> {
     }
 }
 
-/// Takes at most so many bytes at once. A count of writes may stand before one that fails.
+/// Takes at most so many bytes at once. A count of writes may stand before one that fails, or takes nothing.
 #[derive(Drop)]
 pub struct Sink {
     pub bytes: Vec<u8>,
     pub most: usize,
     pub before: Option<usize>,
+    pub takes_nothing: bool,
+    /// How many writes failed, or took nothing.
+    pub faults: usize,
 }
 
 impl Sink {
@@ -52,6 +61,8 @@ impl Sink {
             bytes: Vec::new(alloc),
             most,
             before: None,
+            takes_nothing: false,
+            faults: 0,
         }
     }
 }
@@ -59,7 +70,13 @@ impl Sink {
 impl Write for Sink {
     fn write(&mut self, buf: &[u8]) -> io::Result<usize> {
         match self.before {
-            Some(0) => return Err(io::ErrorKind::Interrupted.into()),
+            Some(0) => {
+                self.faults = self.faults.saturating_add(1);
+                if self.takes_nothing {
+                    return Ok(0);
+                }
+                return Err(io::ErrorKind::Interrupted.into());
+            }
             Some(left) => self.before = Some(left - 1),
             None => {}
         }

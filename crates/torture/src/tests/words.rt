@@ -3,125 +3,120 @@
 use super::DEFAULT;
 use crate::command::{Command, Stop, Walk};
 use crate::words::read_words;
+use std::alloc::Global;
+use std::process::Abort;
 use std::test::Fail;
 use world::{Config, Flavour, Layout};
 
+/// Takes the words as this command.
+fn check_words(
+    rt: &impl Abort,
+    alloc: Global,
+    words: &[&str],
+    wanted: Command,
+) -> Result<(), Fail> {
+    match read_words(alloc, words) {
+        Ok(command) => assert_eq!(rt; command, wanted),
+        Err(_) => assert!(rt; false),
+    }
+    Ok(())
+}
+
 #[test]
 fn words_name_a_command(rt: HostRuntime) -> Result<(), Fail> {
-    let all = Walk {
-        config: Config {
-            layout: Layout::Wide,
-            flavour: Flavour::Qsbr,
-            readers: 64,
-            updaters: 16,
-            workers: 8,
-            chains: 63,
-        },
+    check_words(&rt, rt.alloc(), &["torture", "replay"], Command::Replay)?;
+    check_words(&rt, rt.alloc(), &["torture", "check"], Command::Check)?;
+    check_words(
+        &rt,
+        rt.alloc(),
+        &["torture", "walk"],
+        Command::Walk(DEFAULT),
+    )
+}
+
+#[test]
+fn each_option_says_its_own(rt: HostRuntime) -> Result<(), Fail> {
+    let words = [
+        "torture",
+        "walk",
+        "--flavour=qsbr",
+        "--readers=64",
+        "--updaters=16",
+        "--workers=8",
+        "--chains=63",
+        "--lines=1000000",
+        "--seed=18446744073709551615",
+        "--schedule",
+        "--stop=87",
+        "--from=999999",
+        "--format=2",
+    ];
+    let config = Config {
+        layout: Layout::Wide,
+        flavour: Flavour::Qsbr,
+        readers: 64,
+        updaters: 16,
+        workers: 8,
+        chains: 63,
+    };
+    let walk = Walk {
+        config,
         lines: 1_000_000,
         seed: 18_446_744_073_709_551_615,
         schedule: true,
         stop: Some(Stop {
             actor: 87,
-            from: 1_000_000,
+            from: 999_999,
         }),
     };
-    let rows: [(&[&str], Command); 9] = [
-        (&["torture", "replay"], Command::Replay),
-        (&["torture", "check"], Command::Check),
-        (&["torture", "walk"], Command::Walk(DEFAULT)),
-        (
-            &[
-                "torture",
-                "walk",
-                "--flavour",
-                "qsbr",
-                "--readers",
-                "64",
-                "--updaters",
-                "16",
-                "--workers",
-                "8",
-                "--chains",
-                "63",
-                "--lines",
-                "1000000",
-                "--seed",
-                "18446744073709551615",
-                "--schedule",
-                "--stop",
-                "87",
-                "--from",
-                "1000000",
-                "--format",
-                "2",
-            ],
-            Command::Walk(all),
-        ),
-        (
-            &[
-                "torture",
-                "walk",
-                "--lines=0",
-                "--seed=0",
-                "--format=1",
-                "--flavour=memb",
-            ],
-            Command::Walk(Walk {
-                lines: 0,
-                seed: 0,
-                ..DEFAULT
-            }),
-        ),
-        (
-            &["torture", "walk", "--stop", "3"],
-            Command::Walk(Walk {
-                stop: Some(Stop { actor: 3, from: 1 }),
-                ..DEFAULT
-            }),
-        ),
+    check_words(&rt, rt.alloc(), &words, Command::Walk(walk))
+}
+
+#[test]
+fn a_number_may_be_a_word_of_its_own(rt: HostRuntime) -> Result<(), Fail> {
+    let words = [
+        "torture",
+        "walk",
+        "--lines",
+        "0",
+        "--seed",
+        "0",
+        "--format",
+        "1",
+        "--flavour",
+        "memb",
+    ];
+    let walk = Walk {
+        lines: 0,
+        seed: 0,
+        ..DEFAULT
+    };
+    check_words(&rt, rt.alloc(), &words, Command::Walk(walk))
+}
+
+#[test]
+fn an_actor_may_stop(rt: HostRuntime) -> Result<(), Fail> {
+    let rows: [(&[&str], Option<(u32, u32)>); 4] = [
+        (&["torture", "walk", "--stop", "3"], Some((3, 1))),
         (
             &["torture", "walk", "--stop", "0", "--from", "100"],
-            Command::Walk(Walk {
-                stop: Some(Stop {
-                    actor: 0,
-                    from: 100,
-                }),
-                ..DEFAULT
-            }),
+            Some((0, 100)),
+        ),
+        (
+            &["torture", "walk", "--stop=2", "--readers=2", "--workers=1"],
+            Some((2, 1)),
         ),
         // Nobody stops.
-        (
-            &["torture", "walk", "--from", "100"],
-            Command::Walk(DEFAULT),
-        ),
-        (
-            &[
-                "torture",
-                "walk",
-                "--readers",
-                "1",
-                "--updaters",
-                "1",
-                "--workers",
-                "1",
-                "--stop",
-                "2",
-            ],
-            Command::Walk(Walk {
-                config: Config {
-                    readers: 1,
-                    ..DEFAULT.config
-                },
-                stop: Some(Stop { actor: 2, from: 1 }),
-                ..DEFAULT
-            }),
-        ),
+        (&["torture", "walk", "--from", "100"], None),
     ];
     for (words, wanted) in rows {
-        match read_words(rt.alloc(), words) {
-            Ok(command) => assert_eq!(rt; command, wanted),
-            Err(_) => assert!(rt; false),
-        }
+        let stop = wanted.map(|(actor, from)| Stop { actor, from });
+        check_words(
+            &rt,
+            rt.alloc(),
+            words,
+            Command::Walk(Walk { stop, ..DEFAULT }),
+        )?;
     }
     Ok(())
 }
@@ -157,67 +152,69 @@ fn each_limit_is_kept(rt: HostRuntime) -> Result<(), Fail> {
     Ok(())
 }
 
+/// Mistakes and calls for help, with the status and how the text begins.
+const OTHER_WORDS: [(&[&str], u8, &str); 12] = [
+    (
+        &["torture", "repla"],
+        2,
+        "error: unrecognized subcommand 'repla'\n\n  tip: a similar subcommand exists: 'replay'\n\nUsage: torture <COMMAND>\n\nFor more information, try '--help'.\n",
+    ),
+    (
+        &["torture", "replay", "x"],
+        2,
+        "error: unexpected argument 'x' found\n\nUsage: torture replay < SCHEDULE\n\nFor more information, try '--help'.\n",
+    ),
+    (
+        &["torture", "check", "x"],
+        2,
+        "error: unexpected argument 'x' found\n",
+    ),
+    (
+        &["torture", "walk", "x"],
+        2,
+        "error: unexpected argument 'x' found\n",
+    ),
+    (
+        &["torture", "walk", "--flavour", "membr"],
+        2,
+        "error: invalid value 'membr' for '--flavour <F>'\n  [possible values: memb, qsbr]\n",
+    ),
+    (
+        &["torture", "walk", "--readers", "65"],
+        2,
+        "error: invalid value '65' for '--readers <N>': 65 is not in 1..=64\n",
+    ),
+    (
+        &["torture", "walk", "--stop", "4"],
+        2,
+        "error: invalid value for '--stop <N>': there is no such actor\n",
+    ),
+    (
+        &["torture", "walk", "--seed", "1", "--seed", "2"],
+        2,
+        "error: the argument '--seed <N>' cannot be used multiple times\n",
+    ),
+    (&["torture"], 2, "Replays, checks and draws schedules"),
+    (
+        &["torture", "--help"],
+        0,
+        "Replays, checks and draws schedules",
+    ),
+    (
+        &["torture", "check", "--help"],
+        0,
+        "Reads lines of answers, as `replay` writes them",
+    ),
+    (
+        &["torture", "walk", "--help"],
+        0,
+        "Draws a schedule by the seed",
+    ),
+];
+
 #[test]
 fn other_words_are_told(rt: HostRuntime) -> Result<(), Fail> {
-    let rows: [(&[&str], u8, &str); 12] = [
-        (
-            &["torture", "repla"],
-            2,
-            "error: unrecognized subcommand 'repla'\n\n  tip: a similar subcommand exists: 'replay'\n\nUsage: torture <COMMAND>\n\nFor more information, try '--help'.\n",
-        ),
-        (
-            &["torture", "replay", "x"],
-            2,
-            "error: unexpected argument 'x' found\n\nUsage: torture replay\n\nFor more information, try '--help'.\n",
-        ),
-        (
-            &["torture", "check", "x"],
-            2,
-            "error: unexpected argument 'x' found\n",
-        ),
-        (
-            &["torture", "walk", "x"],
-            2,
-            "error: unexpected argument 'x' found\n",
-        ),
-        (
-            &["torture", "walk", "--flavour", "membr"],
-            2,
-            "error: invalid value 'membr' for '--flavour <F>'\n  [possible values: memb, qsbr]\n",
-        ),
-        (
-            &["torture", "walk", "--readers", "65"],
-            2,
-            "error: invalid value '65' for '--readers <N>': 65 is not in 1..=64\n",
-        ),
-        (
-            &["torture", "walk", "--stop", "4"],
-            2,
-            "error: invalid value for '--stop <N>': there is no such actor\n",
-        ),
-        (
-            &["torture", "walk", "--seed", "1", "--seed", "2"],
-            2,
-            "error: the argument '--seed <N>' cannot be used multiple times\n",
-        ),
-        (&["torture"], 2, "Replays, checks and draws schedules"),
-        (
-            &["torture", "--help"],
-            0,
-            "Replays, checks and draws schedules",
-        ),
-        (
-            &["torture", "check", "--help"],
-            0,
-            "Reads lines of answers, as `replay` writes them",
-        ),
-        (
-            &["torture", "walk", "--help"],
-            0,
-            "Draws a schedule by the seed",
-        ),
-    ];
-    for (words, status, text) in rows {
+    for (words, status, text) in OTHER_WORDS {
         match read_words(rt.alloc(), words) {
             Ok(_) => assert!(rt; false),
             Err(fault) => {

@@ -3,17 +3,17 @@ use Rattle.std.proofs.lemmas.Result.{IfOk-weaker}
 use Rattle.clap.specs.Words.{App, app_of, new_app, with_subcommand}
 use Rattle.clap.specs.declared.builder.command.Command.TheViews.{out-Command as fields_of}
 use Rattle.torture.specs.Words.{bare, with_world, with_course, IsTorture}
-use Rattle.torture.proofs.Options.{about_app, about_local}
+use Rattle.torture.proofs.Options.{about_app, about_local, usage_app, usage_local}
 use Rattle.torture.proofs.program.program.Goals as goal
 
 pub returns : goal.returns
 returns c =
     let world = c.in_ok-with_world.ensures in
     let course = c.in_ok-walk.ensures in
-    let replay_is : app_of c.long_about-replay.result ≡ new_app (codes "replay") = about_app c.new.result c.about.result c.long_about-replay.result c.about.ensures c.long_about-replay.ensures ∙ c.new.ensures.app in
-    let replay_local = about_local c.new.result c.about.result c.long_about-replay.result c.about.ensures c.long_about-replay.ensures ∙ c.new.ensures.local in
-    let check_is : app_of c.long_about-check.result ≡ new_app (codes "check") = search rules in
-    let check_local : (fields_of c.long_about-check.result).has_globals ≡ false = search rules in
+    let replay_is : app_of c.long_about-replay.result ≡ new_app (codes "replay") = about_app c.override_usage.result c.about.result c.long_about-replay.result c.about.ensures c.long_about-replay.ensures ∙ usage_app c.new.result c.override_usage.result c.override_usage.ensures ∙ c.new.ensures.app in
+    let replay_local = about_local c.override_usage.result c.about.result c.long_about-replay.result c.about.ensures c.long_about-replay.ensures ∙ usage_local c.new.result c.override_usage.result c.override_usage.ensures ∙ c.new.ensures.local in
+    let check_is : app_of c.long_about-check.result ≡ new_app (codes "check") = about_app c.override_usage-2.result c.about-2.result c.long_about-check.result c.about-2.ensures c.long_about-check.ensures ∙ usage_app c.new-2.result c.override_usage-2.result c.override_usage-2.ensures ∙ c.new-2.ensures.app in
+    let check_local : (fields_of c.long_about-check.result).has_globals ≡ false = about_local c.override_usage-2.result c.about-2.result c.long_about-check.result c.about-2.ensures c.long_about-check.ensures ∙ usage_local c.new-2.result c.override_usage-2.result c.override_usage-2.ensures ∙ c.new-2.ensures.local in
     let bare_is : app_of c.long_about-walk.result ≡ new_app (codes "walk") = search rules in
     let bare_local : (fields_of c.long_about-walk.result).has_globals ≡ false = search rules in
     let walk_is = course.0 ∙ ap with_course (world.2 ∙ ap (with_world world.0) bare_is) in

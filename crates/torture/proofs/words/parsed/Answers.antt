@@ -1,6 +1,6 @@
 use Rattle.std.proofs.Common.{◌≡◌, ap, ◌∙◌, inl, inr, refl, true, IfOk, IfErr}
 use Rattle.std.proofs.lemmas.Result.{err_from_is_err_and, IfErr-weaker, IfOk-weaker}
-use Rattle.clap.specs.Words.{is_simple_and_free}
+use Rattle.clap.specs.Words.{is_simple, is_simple_and_free}
 use Rattle.torture.proofs.Options.{taken, refused}
 use Rattle.torture.proofs.words.parsed.Goals as goal
 
@@ -12,7 +12,7 @@ returns-in_err-program-clause-refused g c =
 pub returns-clause-taken : goal.returns-clause-taken
 returns-clause-taken g c =
     let app = c.in_ok-program.ensures in
-    taken _ _ app c.try_get_matches_from.result (c.try_get_matches_from.ensures.kinds (ap is_simple_and_free app.2))
+    taken _ _ app (ap is_simple app.2) c.try_get_matches_from.result (c.try_get_matches_from.ensures.kinds (ap is_simple_and_free app.2)) c.try_get_matches_from.ensures.matches
 
 pub returns-clause-refused : goal.returns-clause-refused
 returns-clause-refused g c =
