@@ -1,7 +1,7 @@
 //! Headers and lines as they are printed, and streams that are read and written whole.
 
 use super::{Pieces, Sink};
-use crate::{ReplayFault, print_header, print_line, read_schedule, read_whole, write_whole};
+use crate::{print_header, print_line, read_schedule, read_whole, write_whole};
 use rcu_model::ObjectId;
 use std::test::Fail;
 use world::{Config, Flavour, Layout, Line, ReaderVerb, UpdaterVerb, WorkerVerb};
@@ -73,7 +73,6 @@ fn streams_are_read_and_written_whole(rt: HostRuntime) -> Result<(), Fail> {
         let mut reader = Pieces {
             text: b"one text",
             most,
-            before: None,
         };
         match read_whole(rt.alloc(), &mut reader) {
             Ok(text) => assert_eq!(rt; text.as_slice(), b"one text".as_slice()),
@@ -82,28 +81,9 @@ fn streams_are_read_and_written_whole(rt: HostRuntime) -> Result<(), Fail> {
         let mut sink = Sink {
             bytes: Vec::new(rt.alloc()),
             most,
-            before: None,
         };
         assert!(rt; write_whole(&mut sink, b"one text").is_ok());
         assert_eq!(rt; sink.bytes.as_slice(), b"one text".as_slice());
-    }
-    let mut reader = Pieces {
-        text: b"one text",
-        most: 1,
-        before: Some(3),
-    };
-    match read_whole(rt.alloc(), &mut reader) {
-        Ok(_) => assert!(rt; false),
-        Err(fault) => assert_eq!(rt; fault, ReplayFault::Read),
-    }
-    for (most, before, written) in [(0, None, b"".as_slice()), (2, Some(2), b"one ".as_slice())] {
-        let mut sink = Sink {
-            bytes: Vec::new(rt.alloc()),
-            most,
-            before,
-        };
-        assert!(rt; write_whole(&mut sink, b"one text").is_err());
-        assert_eq!(rt; sink.bytes.as_slice(), written);
     }
     Ok(())
 }

@@ -15,12 +15,8 @@ fn check_log(rt: &impl Abort, alloc: Global, text: &[u8]) -> Result<(), Fail> {
     for line in &schedule.lines {
         assert!(rt; world.step(line) != Err(StepError::Memory));
     }
-    let reader = Pieces {
-        text,
-        most: 4096,
-        before: None,
-    };
-    let (fault, printed) = replayed(alloc, reader, 4096, None)?;
+    let reader = Pieces { text, most: 4096 };
+    let (fault, printed) = replayed(alloc, reader)?;
     assert_eq!(rt; fault.as_str(), "");
     let log = read_answers(alloc, printed.as_slice())?;
     assert_eq!(rt; log.as_slice(), world.log());
@@ -161,64 +157,67 @@ fn numbers_are_read(rt: HostRuntime) -> Result<(), Fail> {
     Ok(())
 }
 
+/// Texts of answers, with the line and the column of the first byte that no line has there.
+const BAD_TEXTS: [(&[u8], u64, usize); 47] = [
+    // what no line begins with
+    (b"\n", 1, 1),
+    (b".\n\n", 2, 1),
+    (b" .\n", 1, 1),
+    (b"schedule 1 memb 1 1 1 1\n", 1, 1),
+    (b"\xff", 1, 1),
+    (b"run o1\nrun o\xb1\n", 2, 6),
+    (b"Run o1\n", 1, 1),
+    (b"rx\n", 1, 2),
+    (b"refused e6\n", 1, 9),
+    // what does not end
+    (b"wait", 1, 5),
+    (b".\nidle", 2, 5),
+    (b"run o1", 1, 7),
+    (b"run o1; run o2", 1, 15),
+    (b"end open=1 waiting=2\n", 1, 21),
+    (b"run o1\nend", 2, 4),
+    // what ends otherwise
+    (b".\r\n", 1, 2),
+    (b"run o1\r\n", 1, 7),
+    (b"run o1 \n", 1, 7),
+    (b"..\n", 1, 2),
+    (b"waiting\n", 1, 5),
+    // spaces
+    (b"open  r0.1\n", 1, 6),
+    (b"touch r0.1  o1\n", 1, 12),
+    (b"cut c0\to1\n", 1, 7),
+    // numbers
+    (b"ask a01\n", 1, 7),
+    (b"refused E01\n", 1, 11),
+    (b"refused E\n", 1, 10),
+    (b"ask a\n", 1, 6),
+    (b"ask a-1\n", 1, 6),
+    (b"open r0\n", 1, 8),
+    (b"open r0.\n", 1, 9),
+    (b"ask a10000000000000000000\n", 1, 25),
+    (b"end open=10000000000000000000 waiting=0 run=0\n", 1, 29),
+    (b"open r1000000000.1\n", 1, 16),
+    (b"push c1000000000 o1\n", 1, 16),
+    (b"queue o1 q1000000000\n", 1, 20),
+    // pieces of another event
+    (b"retire r0.1\n", 1, 8),
+    (b"bar a1\n", 1, 5),
+    (b"next r0.1 none o1\n", 1, 11),
+    (b"first r0.1 c0 no\n", 1, 17),
+    (b"touch r0.1 o1\ntouch r0.1\n", 2, 11),
+    // two events
+    (b"run o1;run o2\n", 1, 8),
+    (b"run o1; \n", 1, 9),
+    (b"run o1;\n", 1, 8),
+    (b"run o1; wait\n", 1, 9),
+    (b"wait; run o1\n", 1, 5),
+    (b"run o1; run o2; run o3\n", 1, 15),
+    (b"run o1; run o2;\n", 1, 15),
+];
+
 #[test]
 fn a_fault_is_at_the_first_byte_that_no_line_has(rt: HostRuntime) -> Result<(), Fail> {
-    for (text, line, column) in [
-        // what no line begins with
-        (b"\n".as_slice(), 1, 1),
-        (b".\n\n", 2, 1),
-        (b" .\n", 1, 1),
-        (b"schedule 1 memb 1 1 1 1\n", 1, 1),
-        (b"\xff", 1, 1),
-        (b"run o1\nrun o\xb1\n", 2, 6),
-        (b"Run o1\n", 1, 1),
-        (b"rx\n", 1, 2),
-        (b"refused e6\n", 1, 9),
-        // what does not end
-        (b"wait", 1, 5),
-        (b".\nidle", 2, 5),
-        (b"run o1", 1, 7),
-        (b"run o1; run o2", 1, 15),
-        (b"end open=1 waiting=2\n", 1, 21),
-        (b"run o1\nend", 2, 4),
-        // what ends otherwise
-        (b".\r\n", 1, 2),
-        (b"run o1\r\n", 1, 7),
-        (b"run o1 \n", 1, 7),
-        (b"..\n", 1, 2),
-        (b"waiting\n", 1, 5),
-        // spaces
-        (b"open  r0.1\n", 1, 6),
-        (b"touch r0.1  o1\n", 1, 12),
-        (b"cut c0\to1\n", 1, 7),
-        // numbers
-        (b"ask a01\n", 1, 7),
-        (b"refused E01\n", 1, 11),
-        (b"refused E\n", 1, 10),
-        (b"ask a\n", 1, 6),
-        (b"ask a-1\n", 1, 6),
-        (b"open r0\n", 1, 8),
-        (b"open r0.\n", 1, 9),
-        (b"ask a10000000000000000000\n", 1, 25),
-        (b"end open=10000000000000000000 waiting=0 run=0\n", 1, 29),
-        (b"open r1000000000.1\n", 1, 16),
-        (b"push c1000000000 o1\n", 1, 16),
-        (b"queue o1 q1000000000\n", 1, 20),
-        // pieces of another event
-        (b"retire r0.1\n", 1, 8),
-        (b"bar a1\n", 1, 5),
-        (b"next r0.1 none o1\n", 1, 11),
-        (b"first r0.1 c0 no\n", 1, 17),
-        (b"touch r0.1 o1\ntouch r0.1\n", 2, 11),
-        // two events
-        (b"run o1;run o2\n", 1, 8),
-        (b"run o1; \n", 1, 9),
-        (b"run o1;\n", 1, 8),
-        (b"run o1; wait\n", 1, 9),
-        (b"wait; run o1\n", 1, 5),
-        (b"run o1; run o2; run o3\n", 1, 15),
-        (b"run o1; run o2;\n", 1, 15),
-    ] {
+    for (text, line, column) in BAD_TEXTS {
         match read_answers(rt.alloc(), text) {
             Ok(_) => assert!(rt; false, "no fault at line {line} column {column}"),
             Err(fault) => {
