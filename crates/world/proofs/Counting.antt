@@ -50,7 +50,7 @@ log_low log a n low = let few = told_few a in let long = length-append log (told
 objects_low : (os os' : List ObjectState) (n : ℕ) → length os' ≡ length os → length os ≤ n + 1 → length os' ≤ n + 1 + 1
 objects_low os os' n same low = omega (arith, same, low)
 
-marked_length : (os : List ObjectState) (mark : Option Mark) → length (marked_life os mark) ≡ length os
+pub marked_length : (os : List ObjectState) (mark : Option Mark) → length (marked_life os mark) ≡ length os
 marked_length os None = refl
 marked_length os (Some m) = length_written os (Some m.object) (λ x. record x { life = m.life })
 

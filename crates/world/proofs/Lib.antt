@@ -33,3 +33,8 @@ pub mod Naming
 pub mod Placing
 pub mod Counting
 pub mod Starting
+pub mod Rows
+pub mod GraceRows
+pub mod Given
+pub mod Opening
+pub mod InOrder

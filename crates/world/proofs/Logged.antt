@@ -60,7 +60,7 @@ append_none : {X : Type 0} (xs : List X) → xs ≡ xs ++ []
 append_none [] = refl
 append_none (x ∷ xs) = ap (λ (ys : List _). x ∷ ys) (append_none xs)
 
-get_replicate : {X : Type 0} (x : X) (n i : ℕ) → get_or (replicate n x) i x ≡ x
+pub get_replicate : {X : Type 0} (x : X) (n i : ℕ) → get_or (replicate n x) i x ≡ x
 get_replicate x zero i = refl
 get_replicate x (suc n) zero = refl
 get_replicate x (suc n) (suc i) = get_replicate x n i

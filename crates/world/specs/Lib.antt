@@ -10,4 +10,6 @@ pub mod Steps
 pub mod Seen
 pub mod Drain
 pub mod Numbering
+pub mod Given
+pub mod Locks
 pub mod Actors

@@ -17,7 +17,7 @@ mod world;
 
 pub use actor::Actor;
 pub use laws::{every_schedule_reclaims_safely, log_is_a_run};
-pub use numbering::numbers_count_lines;
+pub use numbering::{numbers_are_given_in_order, numbers_count_lines};
 pub use world::World;
 pub use world_state::{
     Answer, Config, Flavour, Layout, Line, ReaderVerb, StepError, UpdaterVerb, WorkerVerb,

@@ -1,13 +1,14 @@
-//! How large the numbers in logs are.
+//! How large the numbers in logs are, and in which order they are given.
 
 ghost use Rattle.std.specs.Prelude.{◌≡◌, ◌≤◌, ◌%◌, ◌*◌, ◌^◌, ℕ, List, length, All, IsTrue};
 ghost use Rattle.world_state.specs.declared.config.Config.{Config};
 ghost use Rattle.world_state.specs.declared.line.Line.{Line};
 ghost use Rattle.world_state.specs.Limits.{is_within_limits};
 ghost use Rattle.world_state.specs.View.{fresh_at, plans_of};
+ghost use Rattle.world.specs.Given.{IsCounted, AreGivenOnce, ObjectsAreGivenOnce};
 ghost use Rattle.world.specs.Lines.{world_after};
 ghost use Rattle.world.specs.Numbering.{IsNumberedWithin};
-ghost use Rattle.world.specs.Steps.{is_supported_at, fresh_world_at, answered_events};
+ghost use Rattle.world.specs.Steps.{is_supported_at, fresh_world_at, world_after_lines, answered_events};
 
 use crate::laws::every_schedule_reclaims_safely;
 use gp_memb::MembPlan;
@@ -27,5 +28,23 @@ pub fn numbers_count_lines()
 {
     board_numbers_count_lines::<MembPlan>();
     board_numbers_count_lines::<QsbrPlan>();
+    every_schedule_reclaims_safely();
+}
+
+/// A board numbers sections, asks and barriers as they begin, and gives each number of an object once.
+pub(crate) fn board_gives_numbers_in_order<P: WorldPlan>()
+    ensures { (config : Config) (seq : ℕ) (lines : List Line) → IsTrue (is_within_limits config) → seq % 2 ≡ 0 → seq ≤ 2 ^ 62 → IsCounted (world_after (plans_of P.QSBR P.made P.action P.turn P.taken) (fresh_at config seq) lines).log × AreGivenOnce (world_after (plans_of P.QSBR P.made P.action P.turn P.taken) (fresh_at config seq) lines) }
+{}
+
+/// For every config and first sequence number that make a world, and all lines: in the events of the answers, sections of
+/// each reader, asks and barriers are numbered 1, 2, 3, .. in the order in which they begin. The objects that
+/// came in, together with those that updaters have made and are yet to bring in, have the numbers from 1 to
+/// `World::objects_given`, each once; an object has its number when it is made, so another one may come in before it.
+pub fn numbers_are_given_in_order()
+    ensures counted { (config : Config) (seq : ℕ) (lines : List Line) → IsTrue (is_supported_at config seq) → IsCounted (answered_events (fresh_world_at config seq) lines) }
+    ensures objects { (config : Config) (seq : ℕ) (lines : List Line) → IsTrue (is_supported_at config seq) → ObjectsAreGivenOnce (world_after_lines (fresh_world_at config seq) lines) }
+{
+    board_gives_numbers_in_order::<MembPlan>();
+    board_gives_numbers_in_order::<QsbrPlan>();
     every_schedule_reclaims_safely();
 }
