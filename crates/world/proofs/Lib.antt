@@ -38,3 +38,4 @@ pub mod GraceRows
 pub mod Given
 pub mod Opening
 pub mod InOrder
+pub mod LockHolders

@@ -7,6 +7,7 @@ mod board;
 mod draining;
 mod grace;
 mod laws;
+mod locking;
 mod numbering;
 mod publishing;
 mod reading;
@@ -17,6 +18,7 @@ mod world;
 
 pub use actor::Actor;
 pub use laws::{every_schedule_reclaims_safely, log_is_a_run};
+pub use locking::locks_are_held_by_those_inside;
 pub use numbering::{numbers_are_given_in_order, numbers_count_lines};
 pub use world::World;
 pub use world_state::{

@@ -1,0 +1,395 @@
+-- Each lock is held by just who is inside.
+use Rattle.std.proofs.Common.{◌≡◌, ◌≢◌, inl, inr, ℕ, ◌%◌, ◌^◌, ◌<◌, ◌≤◌, true, List, [], ◌∷◌, length, slice_get, slice_set, Option, Some, None, Result, Ok, Err, refl, sym, ap, ◌∙◌, subst, arith, get_or-set_same}
+use Rattle.std.proofs.lemmas.Nat.{mod_below}
+use Rattle.std.proofs.lemmas.Option.{get_or_from_slice_get, slice_get_within}
+use Rattle.rcu_model.specs.declared.event.ObjectId.{ObjectId}
+use Rattle.rcu_model.specs.declared.refusal.Refusal.{Refusal}
+use Rattle.reader_word.specs.declared.layout.Layout.{Layout}
+use Rattle.call_rcu_worker.specs.declared.sync.SyncCore.{SyncCore}
+use Rattle.call_rcu_worker.specs.declared.sync.SyncCore.TheVariants as core
+use Rattle.call_rcu_worker.specs.declared.worker.WorkerCore.{WorkerCore}
+use Rattle.call_rcu_worker.specs.declared.worker.WorkerCore.TheVariants as worker
+use Rattle.call_rcu_worker.specs.Worker.{synced as synced_to}
+use Rattle.world_state.specs.declared.config.Config.{Config}
+use Rattle.world_state.specs.declared.line.Line.{Line}
+use Rattle.world_state.specs.declared.object.ObjectState.{ObjectState}
+use Rattle.world_state.specs.declared.queue.QueueAct.{QueueAct}
+use Rattle.world_state.specs.declared.queue.QueueAct.TheVariants as act
+use Rattle.world_state.specs.declared.queue.QueueState.{QueueState}
+use Rattle.world_state.specs.declared.updater.Holder.{Holder}
+use Rattle.world_state.specs.declared.updater.Holder.TheVariants as holder
+use Rattle.world_state.specs.declared.updater.RetireStep.{RetireStep}
+use Rattle.world_state.specs.declared.updater.RetireStep.TheVariants as due
+use Rattle.world_state.specs.declared.updater.UpdaterPlace.{UpdaterPlace}
+use Rattle.world_state.specs.declared.updater.UpdaterPlace.TheVariants.{Idle, Publishes, Syncs, Retires, Bars}
+use Rattle.world_state.specs.declared.updater.UpdaterState.{UpdaterState}
+use Rattle.world_state.specs.declared.worker.WorkerState.{WorkerState}
+use Rattle.world_state.specs.declared.change.Change.{Change}
+use Rattle.world_state.specs.declared.change.Change.TheVariants.{Grace, Work}
+use Rattle.world_state.specs.Limits.{is_within_limits}
+use Rattle.world_state.specs.Queues.{new_worker, empty_queue_state, acted, held_by, changed_at, acted_at, held_at}
+use Rattle.world_state.specs.View.{Plans, BoardView, fresh_at, changed, idle}
+use Rattle.world_state.proofs.Queueing.{queue_at, changed_length}
+use Rattle.world.specs.declared.grace.GraceStep.{GraceStep}
+use Rattle.world.specs.Grace.{sync_place}
+use Rattle.world.specs.Lines.{with_change, outcome_of, world_after, change_of}
+use Rattle.world.specs.Locks.{IsInside, SyncsInside, WorksInside, IsInsideNow, IsRetiring, AreHeldInside}
+use Rattle.world.specs.Queues.{queue_of, retire_on}
+use Rattle.world.specs.Workers.{ask_for, act_for, worker_act}
+use Rattle.world.proofs.Callbacks.{RetireKept, at_updaters, at_workers, at_queues}
+use Rattle.world.proofs.Fence.{Laws, Holds}
+use Rattle.world.proofs.GraceRows.{LockMoves, Fits, fits_step}
+use Rattle.world.proofs.Logged.{get_replicate, Logged, logged_step, logged_lines, logged_fresh, some_reader, few_workers}
+use Rattle.world.proofs.Rows.{WasAt, WorkedAt, SyncsAt, Rows, each_row}
+use Rattle.world.proofs.State.{Asker, Syncing, Working, asker_of, holder_of, core_work, place_work, worker_work, updater_at, worker_at}
+use Rattle.world.proofs.Sweeping.{Each}
+
+-- ---- who holds a lock is inside
+
+abbrev InsideOf : {P : Type 0} → List (UpdaterState P) → List (WorkerState P) → Holder → Type 0
+InsideOf updaters workers (holder.Updater u) = SyncsInside (updater_at updaters u).place
+InsideOf updaters workers (holder.Worker k) = WorksInside (worker_at workers k).core
+
+record Owned {P : Type 0} (updaters : List (UpdaterState P)) (workers : List (WorkerState P)) (qs : List QueueState) (held : Option Holder) : Type 0 where
+  grace : (h : Holder) → held ≡ Some h → InsideOf updaters workers h
+  queues : (q u : ℕ) → (queue_at qs q).holder ≡ Some u → (u % length qs ≡ q) × IsRetiring (updater_at updaters u).place
+
+abbrev IsOwned : {P : Type 0} → BoardView P → Type 0
+IsOwned w = Owned w.updaters w.workers w.queues w.grace.holder
+
+abbrev StaysOwned : {P : Type 0} → BoardView P → Change P → Type 0
+StaysOwned w change = IsOwned w → IsOwned (changed w change)
+
+same_holder : (g h : Holder) → Some g ≡ Some h → g ≡ h
+same_holder g h e = cc
+
+same_updater : (u v : ℕ) → holder.Updater u ≡ holder.Updater v → u ≡ v
+same_updater u v e = cc
+
+same_worker : (u v : ℕ) → holder.Worker u ≡ holder.Worker v → u ≡ v
+same_worker u v e = cc
+
+other_holder : (u k : ℕ) → holder.Updater u ≡ holder.Worker k → ⊥
+other_holder u k e = cc
+
+no_holder : (h : Holder) → None ≡ Some h → ⊥
+no_holder h e = cc
+
+none_some : (u : ℕ) → None ≡ Some u → ⊥
+none_some u e = cc
+
+-- the act leaves the queue's lock as it is
+abbrev KeepsHolder : QueueAct → Type 0
+KeepsHolder act = (q : QueueState) → (acted act q).holder ≡ q.holder
+
+holders_kept : (act : QueueAct) → KeepsHolder act → (qs : List QueueState) (j i : ℕ) → (queue_at (acted_at qs j act) i).holder ≡ (queue_at qs i).holder
+holders_kept act keeps qs j i = by (slice_get qs j) refl
+  where
+    by : (q : Option QueueState) → slice_get qs j ≡ q → (queue_at (acted_at qs j act) i).holder ≡ (queue_at qs i).holder
+    by None is = ap (λ o. (queue_at (changed_at (acted act) qs j o) i).holder) is
+    by (Some q) is = at_queues (λ n x. x.holder ≡ (queue_at qs n).holder) (acted act) qs j (slice_get_within qs j q is) (keeps (queue_at qs j)) (λ n other. refl) i
+
+sync_keeps : {P : Type 0} (seq : ℕ) (sync : SyncCore P) → KeepsHolder (act_for seq sync)
+sync_keeps seq core.Asks = λ q. refl
+sync_keeps seq (core.Waits cookie) = λ q. refl
+sync_keeps seq (core.Checks cookie) = λ q. refl
+sync_keeps seq (core.Starts cookie) = λ q. refl
+sync_keeps seq (core.Runs cookie plan) = λ q. refl
+sync_keeps seq core.Frees = λ q. refl
+sync_keeps seq core.Done = λ q. refl
+
+worker_keeps : {P : Type 0} (seq : ℕ) (core : WorkerCore P Unit) → KeepsHolder (worker_act seq core)
+worker_keeps seq worker.Idle = λ q. refl
+worker_keeps seq (worker.Syncs sync tickets) = sync_keeps seq sync
+worker_keeps seq (worker.Pops tickets) = λ q. refl
+worker_keeps seq (worker.Runs tickets ticket item) = λ q. refl
+worker_keeps seq (worker.Ran tickets ticket item) = λ q. refl
+worker_keeps seq (worker.Counts tickets ticket) = λ q. refl
+
+-- a grace period that is inside rests so
+inside_place : {P : Type 0} (plans : Plans P) (ask : ℕ) (sync : SyncCore P) → IsInside sync → SyncsInside (sync_place plans ask sync)
+inside_place plans ask core.Asks h = h
+inside_place plans ask (core.Waits cookie) h = h
+inside_place plans ask (core.Checks cookie) h = h
+inside_place plans ask (core.Starts cookie) h = h
+inside_place plans ask (core.Runs cookie plan) h = h
+inside_place plans ask core.Frees h = h
+inside_place plans ask core.Done h = h
+
+inside_worker : {P : Type 0} (sync : SyncCore P) (tickets : ℕ) → IsInside sync → WorksInside {P = P} (synced_to sync tickets)
+inside_worker core.Asks tickets h = h
+inside_worker (core.Waits cookie) tickets h = h
+inside_worker (core.Checks cookie) tickets h = h
+inside_worker (core.Starts cookie) tickets h = h
+inside_worker (core.Runs cookie plan) tickets h = h
+inside_worker core.Frees tickets h = h
+inside_worker core.Done tickets h = h
+
+module _ {P : Type 0} (plans : Plans P) (w : BoardView P) where
+  -- who held the lock, or has taken it
+  module _ (me : Holder) (ask : ℕ) (was is : Type 0) (held : Option Holder) (moves : LockMoves plans w me ask was held is) where
+    mine : (w.grace.holder ≡ Some me → was) → held ≡ Some me → is
+    mine old e = by moves
+      where
+        by : LockMoves plans w me ask was held is → is
+        by (inl stays) = stays.1 (old (sym stays.0 ∙ e))
+        by (inr (inl taken)) = taken.1
+        by (inr (inr freed)) = absurd (no_holder me (sym freed ∙ e))
+
+    theirs : (h : Holder) → (h ≡ me → ⊥) → held ≡ Some h → w.grace.holder ≡ Some h
+    theirs h other e = by moves
+      where
+        by : LockMoves plans w me ask was held is → w.grace.holder ≡ Some h
+        by (inl stays) = sym stays.0 ∙ e
+        by (inr (inl taken)) = absurd (other (same_holder h me (sym e ∙ taken.0)))
+        by (inr (inr freed)) = absurd (no_holder h (sym freed ∙ e))
+
+  module _ (u : ℕ) (x y : UpdaterState P) (there : slice_get w.updaters u ≡ Some x) where
+    inside : u < length w.updaters
+    inside = slice_get_within w.updaters u x there
+
+    now : updater_at w.updaters u ≡ x
+    now = get_or_from_slice_get w.updaters u x idle there
+
+    grace_owned : (ask : ℕ) (held : Option Holder) → LockMoves plans w (holder.Updater u) ask (SyncsInside x.place) held (SyncsInside y.place) → IsOwned w → (h : Holder) → held ≡ Some h → InsideOf (slice_set w.updaters u y) w.workers h
+    grace_owned ask held moves k (holder.Worker j) e = k.grace (holder.Worker j) (theirs (holder.Updater u) ask _ _ held moves (holder.Worker j) (λ e. other_holder u j (sym e)) e)
+    grace_owned ask held moves k (holder.Updater v) e =
+        at_updaters (λ n z. held ≡ Some (holder.Updater n) → SyncsInside z.place) w.updaters u y inside
+        (mine (holder.Updater u) ask _ _ held moves (λ f. subst (λ (z : UpdaterState P). SyncsInside z.place) now (k.grace (holder.Updater u) f)))
+        (λ n apart f. k.grace (holder.Updater n) (theirs (holder.Updater u) ask _ _ held moves (holder.Updater n) (λ same. apart (same_updater n u same)) f)) v e
+
+    abbrev Into : List (UpdaterState P) → ℕ → ℕ → Type 0
+    Into updaters q v = (v % length w.queues ≡ q) × IsRetiring (updater_at updaters v).place
+
+    -- another one retires as before
+    carried : (q : ℕ) → (u % length w.queues ≡ q → IsRetiring x.place → IsRetiring y.place) → (v : ℕ) → Into w.updaters q v → Into (slice_set w.updaters u y) q v
+    carried q goes v into = (
+      into.0,
+      at_updaters (λ n z. (n % length w.queues ≡ q) × IsRetiring (updater_at w.updaters n).place → IsRetiring z.place) w.updaters u y inside
+          (λ i. goes i.0 (subst (λ (z : UpdaterState P). IsRetiring z.place) now i.1))
+          (λ n apart i. i.1) v into,
+    )
+
+    -- a step that leaves all locks of queues, and retires no less
+    steps : (ask : ℕ) (held : Option Holder) → LockMoves plans w (holder.Updater u) ask (SyncsInside x.place) held (SyncsInside y.place) → (IsRetiring x.place → IsRetiring y.place) → IsOwned w → Owned (slice_set w.updaters u y) w.workers w.queues held
+    steps ask held moves goes k = record { grace = grace_owned ask held moves k; queues = λ q v e. carried q (λ same. goes) v (k.queues q v e) }
+
+    -- and one from a place that is inside of nothing
+    outside : (SyncsInside x.place → ⊥) → (IsRetiring x.place → ⊥) → IsOwned w → Owned (slice_set w.updaters u y) w.workers w.queues w.grace.holder
+    outside not_inside not_retiring k = steps 0 w.grace.holder (inl (refl, λ h. absurd (not_inside h))) (λ h. absurd (not_retiring h)) k
+
+    -- a step that changes one queue
+    queue_changed : (f : QueueState → QueueState) (j : ℕ) → j < length w.queues → (SyncsInside x.place → ⊥) →
+        ((v : ℕ) → (f (queue_at w.queues j)).holder ≡ Some v → Into (slice_set w.updaters u y) j v) →
+        ((i : ℕ) → i ≢ j → u % length w.queues ≡ i → IsRetiring x.place → IsRetiring y.place) → IsOwned w →
+        Owned (slice_set w.updaters u y) w.workers (changed_at f w.queues j (slice_get w.queues j)) w.grace.holder
+    queue_changed f j within not_inside here goes k = record {
+      grace = grace_owned 0 w.grace.holder (inl (refl, λ h. absurd (not_inside h))) k;
+      queues = λ q v e.
+          let into = at_queues (λ i (z : QueueState). (v : ℕ) → z.holder ≡ Some v → Into (slice_set w.updaters u y) i v) f w.queues j within here
+          (λ i apart v e. carried i (goes i apart) v (k.queues i v e)) q v e in
+          (subst (λ n. v % n ≡ q) (sym (changed_length f w.queues j)) into.0, into.1);
+    }
+
+  module _ (n : ℕ) (x y : WorkerState P) (there : slice_get w.workers n ≡ Some x) where
+    works : (ask : ℕ) (held : Option Holder) (act : QueueAct) → LockMoves plans w (holder.Worker n) ask (WorksInside x.core) held (WorksInside y.core) → KeepsHolder act → IsOwned w →
+        Owned w.updaters (slice_set w.workers n y) (acted_at w.queues n act) held
+    works ask held act moves keeps k = record { grace = grace; queues = queues }
+      where
+        grace : (h : Holder) → held ≡ Some h → InsideOf w.updaters (slice_set w.workers n y) h
+        grace (holder.Updater u) e = k.grace (holder.Updater u) (theirs (holder.Worker n) ask _ _ held moves (holder.Updater u) (other_holder u n) e)
+        grace (holder.Worker j) e =
+            at_workers (λ i z. held ≡ Some (holder.Worker i) → WorksInside z.core) w.workers n y (slice_get_within w.workers n x there)
+            (mine (holder.Worker n) ask _ _ held moves (λ f. subst (λ (z : WorkerState P). WorksInside z.core) (get_or_from_slice_get w.workers n x new_worker there) (k.grace (holder.Worker n) f)))
+            (λ i apart f. k.grace (holder.Worker i) (theirs (holder.Worker n) ask _ _ held moves (holder.Worker i) (λ same. apart (same_worker i n same)) f)) j e
+
+        queues : (q u : ℕ) → (queue_at (acted_at w.queues n act) q).holder ≡ Some u → (u % length (acted_at w.queues n act) ≡ q) × IsRetiring (updater_at w.updaters u).place
+        queues q u e =
+            let into = k.queues q u (sym (holders_kept act keeps w.queues n q) ∙ e) in
+            (subst (λ m. u % m ≡ q) (sym (changed_length (acted act) w.queues n)) into.0, into.1)
+
+-- ---- the rows
+
+module _ {P : Type 0} (plans : Plans P) (layout : Layout) (slots : ℕ) (laws : Laws plans layout slots) (w : BoardView P) (l : Logged plans layout slots laws w) where
+  module _ {u : ℕ} {x : UpdaterState P} {place : UpdaterPlace P} (at : WasAt plans w u x place) where
+    not_inside : (SyncsInside place → ⊥) → SyncsInside x.place → ⊥
+    not_inside never h = never (subst (λ (p : UpdaterPlace P). SyncsInside p) at.at h)
+
+    not_retiring : (IsRetiring place → ⊥) → IsRetiring x.place → ⊥
+    not_retiring never h = never (subst (λ (p : UpdaterPlace P). IsRetiring p) at.at h)
+
+    beside : (y : UpdaterState P) → (SyncsInside place → ⊥) → (IsRetiring place → ⊥) → IsOwned w → Owned (slice_set w.updaters u y) w.workers w.queues w.grace.holder
+    beside y never none k = outside plans w u x y at.was (not_inside never) (not_retiring none) k
+
+  owned_sync : (u : ℕ) (x : UpdaterState P) (ask : ℕ) (sync : SyncCore P) (step : GraceStep P) → SyncsAt plans w u x ask sync → Fits plans w (holder.Updater u) ask sync step →
+      StaysOwned w (Grace u (record x { place = sync_place plans ask step.core }) step.grace step.answer)
+  owned_sync u x ask sync step at fits k = by at
+    where
+      moves : (was : Type 0) → (was → IsInside sync) → LockMoves plans w (holder.Updater u) ask was step.grace.holder (SyncsInside (sync_place plans ask step.core))
+      moves was has = by_lock fits.lock
+        where
+          by_lock : LockMoves plans w (holder.Updater u) ask (IsInside sync) step.grace.holder (IsInside step.core) → LockMoves plans w (holder.Updater u) ask was step.grace.holder (SyncsInside (sync_place plans ask step.core))
+          by_lock (inl stays) = inl (stays.0, λ h. inside_place plans ask step.core (stays.1 (has h)))
+          by_lock (inr (inl taken)) = inr (inl (taken.0, inside_place plans ask step.core taken.1))
+          by_lock (inr (inr freed)) = inr (inr freed)
+
+      by : SyncsAt plans w u x ask sync → Owned (slice_set w.updaters u (record x { place = sync_place plans ask step.core })) w.workers w.queues step.grace.holder
+      by (inl i) = steps plans w u x _ i.0.was ask step.grace.holder (moves (SyncsInside x.place) (λ h. absurd (not_inside i.0 (λ n. n) h))) (λ h. absurd (not_retiring i.0 (λ n. n) h)) k
+      by (inr i) = steps plans w u x _ i.was ask step.grace.holder (moves (SyncsInside x.place) (λ h. subst (λ (p : UpdaterPlace P). SyncsInside p) i.at h)) (λ h. absurd (not_retiring i (λ n. n) h)) k
+
+  owned_work : (n : ℕ) (x : WorkerState P) (sync : SyncCore P) (tickets : ℕ) (step : GraceStep P) → WorkedAt plans w n x (worker.Syncs sync tickets) → Fits plans w (holder.Worker n) (ask_for w x.ask sync) sync step →
+      StaysOwned w (Work n (record { ask = ask_for w x.ask sync; core = synced_to step.core tickets }) step.grace (worker_act step.grace.seq (synced_to step.core tickets)) None step.answer)
+  owned_work n x sync tickets step at fits k =
+      works plans w n x _ at.was (ask_for w x.ask sync) step.grace.holder (worker_act step.grace.seq (synced_to step.core tickets)) (by fits.lock) (worker_keeps step.grace.seq (synced_to step.core tickets)) k
+    where
+      by : LockMoves plans w (holder.Worker n) (ask_for w x.ask sync) (IsInside sync) step.grace.holder (IsInside step.core) →
+          LockMoves plans w (holder.Worker n) (ask_for w x.ask sync) (WorksInside x.core) step.grace.holder (WorksInside (synced_to {J = Unit} step.core tickets))
+      by (inl stays) = inl (stays.0, λ h. inside_worker step.core tickets (stays.1 (subst (λ (c : WorkerCore P Unit). WorksInside c) at.at h)))
+      by (inr (inl taken)) = inr (inl (taken.0, inside_worker step.core tickets taken.1))
+      by (inr (inr freed)) = inr (inr freed)
+
+  -- a worker's step that is none of a grace period
+  owned_item : (n : ℕ) (x y : WorkerState P) (core : WorkerCore P Unit) (a : QueueAct) → WorkedAt plans w n x core → (WorksInside core → ⊥) → KeepsHolder a → IsOwned w → Owned w.updaters (slice_set w.workers n y) (acted_at w.queues n a) w.grace.holder
+  owned_item n x y core a at never keeps k =
+      works plans w n x y at.was 0 w.grace.holder a (inl (refl, λ h. absurd (never (subst (λ (c : WorkerCore P Unit). WorksInside c) at.at h)))) keeps k
+
+  own_queue : (u : ℕ) → queue_of w u < length w.queues
+  own_queue u = let some = l.callbacks.some in mod_below u (length w.queues) (omega (arith, some))
+
+  -- a step of a retirement that goes on holds the lock
+  owned_going : (u : ℕ) (x y : UpdaterState P) (o : ObjectId) (step : RetireStep) (a : QueueAct) → WasAt plans w u x (Retires o step) → IsRetiring y.place → KeepsHolder a → IsOwned w →
+      Owned (slice_set w.updaters u y) w.workers (acted_at w.queues (queue_of w u) a) w.grace.holder
+  owned_going u x y o step a at retires keeps k =
+      queue_changed plans w u x y at.was (acted a) (queue_of w u) (own_queue u) (not_inside at (λ n. n))
+      (λ v e. carried plans w u x y at.was (queue_of w u) (λ same h. retires) v (k.queues (queue_of w u) v (sym (keeps (queue_at w.queues (queue_of w u))) ∙ e)))
+      (λ i apart same h. retires) k
+
+  owned_retire : (u : ℕ) (x : UpdaterState P) (o : ObjectId) (step : RetireStep) → WasAt plans w u x (Retires o step) → StaysOwned w (retire_on w u x o step)
+  owned_retire u x o due.Mark at k = owned_going u x _ o due.Mark act.Leave at tt (λ q. refl) k
+  owned_retire u x o due.Count at k = owned_going u x _ o due.Count act.Count at tt (λ q. refl) k
+  owned_retire u x o due.Push at k = owned_going u x _ o due.Push (act.Push o) at tt (λ q. refl) k
+  owned_retire u x o due.Free at k =
+      queue_changed plans w u x _ at.was (acted act.Free) (queue_of w u) (own_queue u) (not_inside at (λ n. n))
+      (λ v e. absurd (none_some v e)) (λ i apart same h. absurd (apart (sym same))) k
+
+  owned_hold : (u : ℕ) (x y : UpdaterState P) → WasAt plans w u x Idle → IsRetiring y.place → IsOwned w → Owned (slice_set w.updaters u y) w.workers (held_at w.queues (queue_of w u) u) w.grace.holder
+  owned_hold u x y at retires k =
+      queue_changed plans w u x y at.was (held_by u) (queue_of w u) (own_queue u) (not_inside at (λ n. n))
+      (λ v e. subst (λ n. (n % length w.queues ≡ queue_of w u) × IsRetiring (updater_at (slice_set w.updaters u y) n).place) (same_number u v e) (
+        refl,
+        subst (λ (z : UpdaterState P). IsRetiring z.place) (sym (get_or-set_same w.updaters u y idle (slice_get_within w.updaters u x at.was))) retires,
+      ))
+      (λ i apart same h. absurd (not_retiring at (λ n. n) h)) k
+    where
+      same_number : (n v : ℕ) → Some n ≡ Some v → n ≡ v
+      same_number n v e = cc
+
+  rows : Rows plans w (StaysOwned w)
+  rows = record {
+    stays = λ answer k. k;
+    reads = λ r v verb step was is k. record { grace = k.grace; queues = k.queues };
+    begins = λ u x what object at next k. beside at _ (λ n. n) (λ n. n) k;
+    cuts = λ u x splice c o at k. beside at _ (λ n. n) (λ n. n) k;
+    pushes = λ u x new splice c at k. beside at _ (λ n. n) (λ n. n) k;
+    replaces = λ u x old new splice c at k. beside at _ (λ n. n) (λ n. n) k;
+    syncs = λ u x ask sync step at is. owned_sync u x ask sync step at (fits_step plans w (holder.Updater u) ask sync step is);
+    starts = λ u x started at k. beside at _ (λ n. n) (λ n. n) k;
+    polls = λ u x started ask at k. beside at _ (λ n. n) (λ n. n) k;
+    holds = λ u x o q at is k. owned_hold u x _ at tt k;
+    retires = owned_retire;
+    bars = λ u x b at k. beside at _ (λ n. n) (λ n. n) k;
+    awaits = λ u x b b' at k. beside at _ (λ n. n) (λ n. n) k;
+    clears = λ u x b at k. beside at _ (λ n. n) (λ n. n) k;
+    takes = λ n x tickets at k. owned_item n x _ worker.Idle act.Seal at (λ h. h) (λ q. refl) k;
+    works = λ n x sync tickets step at is. owned_work n x sync tickets step at (fits_step plans w (holder.Worker n) (ask_for w x.ask sync) sync step is);
+    runs = λ n x tickets core mark o at k. owned_item n x _ (worker.Pops tickets) act.Pop at (λ h. h) (λ q. refl) k;
+    counts = λ n x tickets ticket item core at k. owned_item n x _ (worker.Ran tickets ticket item) act.Finish at (λ h. h) (λ q. refl) k;
+  }
+
+  owned_step : (line : Line) → IsOwned w → IsOwned ((outcome_of plans w line).world)
+  owned_step line k = by (change_of plans w line) (each_row plans w (StaysOwned w) rows line)
+    where
+      by : (x : Result (Change P) Refusal) → Each (StaysOwned w) x → IsOwned ((with_change w x).world)
+      by (Ok change) stays = stays k
+      by (Err e) stays = k
+
+-- ---- and who is inside holds it
+
+module _ {P : Type 0} (plans : Plans P) (layout : Layout) (slots : ℕ) (laws : Laws plans layout slots) where
+  owned_lines : (w : BoardView P) (lines : List Line) → Logged plans layout slots laws w → IsOwned w → IsOwned (world_after plans w lines)
+  owned_lines w [] l k = k
+  owned_lines w (line ∷ lines) l k = owned_lines ((outcome_of plans w line).world) lines (logged_step plans layout slots laws w line l) (owned_step plans layout slots laws w l line k)
+
+  inside_holds : (ask : ℕ) (sync : SyncCore P) → IsInside sync → Holds (core_work ask sync)
+  inside_holds ask core.Asks h = h
+  inside_holds ask (core.Waits cookie) h = h
+  inside_holds ask (core.Checks cookie) h = h
+  inside_holds ask (core.Starts cookie) h = h
+  inside_holds ask (core.Runs cookie plan) h = h
+  inside_holds ask core.Frees h = h
+  inside_holds ask core.Done h = h
+
+  place_holds : (place : UpdaterPlace P) → SyncsInside place → Holds (place_work place)
+  place_holds Idle h = h
+  place_holds (Publishes what) h = h
+  place_holds (Syncs ask sync) h = inside_holds ask sync h
+  place_holds (Retires o step) h = h
+  place_holds (Bars b) h = h
+
+  worker_holds : (ask : ℕ) (core : WorkerCore P Unit) → WorksInside core → Holds (worker_work ask core)
+  worker_holds ask worker.Idle h = h
+  worker_holds ask (worker.Syncs sync tickets) h = inside_holds ask sync h
+  worker_holds ask (worker.Pops tickets) h = h
+  worker_holds ask (worker.Runs tickets ticket item) h = h
+  worker_holds ask (worker.Ran tickets ticket item) h = h
+  worker_holds ask (worker.Counts tickets ticket) h = h
+
+  asks_as : (held : Option Holder) (h : Holder) → holder_of held ≡ Some (asker_of h) → held ≡ Some h
+  asks_as None h e = absurd (none_asks (asker_of h) e)
+    where
+      none_asks : (x : Asker) → None ≡ Some x → ⊥
+      none_asks x e = cc
+  asks_as (Some (holder.Updater u)) (holder.Updater v) e = cc
+  asks_as (Some (holder.Worker u)) (holder.Worker v) e = cc
+  asks_as (Some (holder.Updater u)) (holder.Worker v) e = cc
+  asks_as (Some (holder.Worker u)) (holder.Updater v) e = cc
+
+  retiring_holds : (os : List ObjectState) (qs : List QueueState) (count u : ℕ) (place : UpdaterPlace P) → RetireKept os qs count u place → IsRetiring place → (queue_at qs (u % length qs)).holder ≡ Some u
+  retiring_holds os qs count u Idle k h = absurd h
+  retiring_holds os qs count u (Publishes what) k h = absurd h
+  retiring_holds os qs count u (Syncs ask sync) k h = absurd h
+  retiring_holds os qs count u (Retires o step) k h = k.0
+  retiring_holds os qs count u (Bars b) k h = absurd h
+
+  held_inside : (w : BoardView P) → Logged plans layout slots laws w → IsOwned w → AreHeldInside w
+  held_inside w l k = record {
+    grace = λ h. (owner h, holds h);
+    queues = λ q u. (k.queues q u, λ i. subst (λ n. (queue_at w.queues n).holder ≡ Some u) i.0 (retiring_holds w.objects w.queues (length w.updaters) u (updater_at w.updaters u).place (l.callbacks.retiring u) i.1));
+  }
+    where
+      owner : (h : Holder) → w.grace.holder ≡ Some h → IsInsideNow w h
+      owner (holder.Updater u) e = k.grace (holder.Updater u) e
+      owner (holder.Worker n) e = k.grace (holder.Worker n) e
+
+      holds : (h : Holder) → IsInsideNow w h → w.grace.holder ≡ Some h
+      holds (holder.Updater u) i = asks_as w.grace.holder (holder.Updater u) (l.kept.part.grace_kept.held (Syncing u) (place_holds (updater_at w.updaters u).place i))
+      holds (holder.Worker n) i = asks_as w.grace.holder (holder.Worker n) (l.kept.part.grace_kept.held (Working n) (worker_holds (worker_at w.workers n).ask (worker_at w.workers n).core i))
+
+fresh_owned : {P : Type 0} (config : Config) (seq : ℕ) → IsOwned (fresh_at {P = P} config seq)
+fresh_owned {P} config seq = record {
+  grace = λ h e. absurd (no_holder h e);
+  queues = λ q u e. absurd (none_some u (sym (ap (λ (x : QueueState). x.holder) (get_replicate empty_queue_state config.workers q)) ∙ e));
+}
+
+module _ {P : Type 0} (plans : Plans P) (laws : (layout : Layout) (slots : ℕ) → 1 ≤ slots → Laws plans layout slots) where
+  pub locks_held : (config : Config) (seq : ℕ) (lines : List Line) → is_within_limits config ≡ true → seq % 2 ≡ 0 → seq ≤ 2 ^ 62 → AreHeldInside (world_after plans (fresh_at config seq) lines)
+  locks_held config seq lines limits even low =
+      held_inside plans config.layout config.readers mine (world_after plans (fresh_at config seq) lines)
+      (logged_lines plans config.layout config.readers mine (fresh_at config seq) lines fresh)
+      (owned_lines plans config.layout config.readers mine (fresh_at config seq) lines fresh (fresh_owned config seq))
+    where
+      mine : Laws plans config.layout config.readers
+      mine = laws config.layout config.readers (some_reader config limits)
+
+      fresh : Logged plans config.layout config.readers mine (fresh_at config seq)
+      fresh = logged_fresh plans config.layout config.readers mine config seq refl refl (some_reader config limits) (few_workers config limits).0 (few_workers config limits).1 even low
