@@ -54,7 +54,9 @@ made_by x = made_at x.place
 -- the objects that came in, and those that updaters are yet to bring in, have the numbers from 1 to the last one given,
 -- each once
 abbrev pub AreGivenOnce : {P : Type 0} → BoardView P → Type 0
-AreGivenOnce w = IsPermutation (range_with_len 1 (length w.objects - 1)) (filter_map object_of w.log ++ filter_map made_by w.updaters)
+AreGivenOnce w =
+    IsPermutation (range_with_len 1 (length w.objects - 1))
+    (filter_map object_of w.log ++ filter_map made_by w.updaters)
 
 abbrev pub ObjectsAreGivenOnce : WorldView → Type 0
 ObjectsAreGivenOnce (OfMemb w) = AreGivenOnce w

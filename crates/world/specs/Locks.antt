@@ -1,5 +1,5 @@
 -- Who holds a lock.
-use Rattle.std.specs.Prelude.{◌≡◌, ◌↔◌, ℕ, get_or, Some}
+use Rattle.std.specs.Prelude.{◌≡◌, ◌↔◌, ℕ, get_or, Option, Some}
 use Rattle.call_rcu_worker.specs.declared.sync.SyncCore.{SyncCore}
 use Rattle.call_rcu_worker.specs.declared.sync.SyncCore.TheVariants.{Asks, Waits, Checks, Starts, Runs, Frees, Done}
 use Rattle.call_rcu_worker.specs.declared.worker.WorkerCore.{WorkerCore}
@@ -41,11 +41,19 @@ abbrev pub IsRetiring : {P : Type 0} → UpdaterPlace P → Type 0
 IsRetiring (Retires o due) = Unit {0}
 IsRetiring place = ⊥
 
+-- and retires it into this queue
+abbrev pub RetiresInto : {P : Type 0} → BoardView P → ℕ → ℕ → Type 0
+RetiresInto w u q = (queue_of w u ≡ q) × IsRetiring (get_or w.updaters u idle).place
+
+-- who holds the lock of this queue
+abbrev pub lock_of : {P : Type 0} → BoardView P → ℕ → Option ℕ
+lock_of w q = (get_or w.queues q empty_queue_state).holder
+
 -- each lock is held by just who is inside: the grace lock by the updater or worker whose grace period is, and a queue's
 -- lock by the updater that retires into this queue
 pub record AreHeldInside {P : Type 0} (w : BoardView P) : Type 0 where
   pub grace : (h : Holder) → (w.grace.holder ≡ Some h) ↔ IsInsideNow w h
-  pub queues : (q u : ℕ) → ((get_or w.queues q empty_queue_state).holder ≡ Some u) ↔ ((queue_of w u ≡ q) × IsRetiring (get_or w.updaters u idle).place)
+  pub queues : (q u : ℕ) → (lock_of w q ≡ Some u) ↔ RetiresInto w u q
 
 abbrev pub LocksAreHeldInside : WorldView → Type 0
 LocksAreHeldInside (OfMemb w) = AreHeldInside w

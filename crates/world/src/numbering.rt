@@ -20,9 +20,9 @@ pub(crate) fn board_numbers_count_lines<P: WorldPlan>()
     ensures { (config : Config) (seq : ℕ) (lines : List Line) → IsTrue (is_within_limits config) → seq % 2 ≡ 0 → seq ≤ 2 ^ 62 → All (IsNumberedWithin (2 * length lines)) (world_after (plans_of P.QSBR P.made P.action P.turn P.taken) (fresh_at config seq) lines).log }
 {}
 
-/// For every config and first sequence number that make a world, and all lines, no event of the answers gives a large number:
-/// readers and chains are below 64 and queues below 8, and ordinals, objects, asks and barriers are at most twice the number
-/// of lines.
+/// For every config and first sequence number that make a world, and all lines, no event of the answers gives a large
+/// number: readers and chains are below 64 and queues below 8, and ordinals, objects, asks and barriers are at most twice
+/// the number of lines.
 pub fn numbers_count_lines()
     ensures { (config : Config) (seq : ℕ) (lines : List Line) → IsTrue (is_supported_at config seq) → All (IsNumberedWithin (2 * length lines)) (answered_events (fresh_world_at config seq) lines) }
 {
@@ -36,9 +36,9 @@ pub(crate) fn board_gives_numbers_in_order<P: WorldPlan>()
     ensures { (config : Config) (seq : ℕ) (lines : List Line) → IsTrue (is_within_limits config) → seq % 2 ≡ 0 → seq ≤ 2 ^ 62 → IsCounted (world_after (plans_of P.QSBR P.made P.action P.turn P.taken) (fresh_at config seq) lines).log × AreGivenOnce (world_after (plans_of P.QSBR P.made P.action P.turn P.taken) (fresh_at config seq) lines) }
 {}
 
-/// For every config and first sequence number that make a world, and all lines: in the events of the answers, sections of
-/// each reader, asks and barriers are numbered 1, 2, 3, .. in the order in which they begin. The objects that
-/// came in, together with those that updaters have made and are yet to bring in, have the numbers from 1 to
+/// For every config and first sequence number that make a world, and all lines: in the events of the answers the
+/// sections of each reader, the asks and the barriers are numbered 1, 2, 3, .. in the order in which they begin. The
+/// objects that came in, together with those that updaters have made and are yet to bring in, have the numbers from 1 to
 /// `World::objects_given`, each once; an object has its number when it is made, so another one may come in before it.
 pub fn numbers_are_given_in_order()
     ensures counted { (config : Config) (seq : ℕ) (lines : List Line) → IsTrue (is_supported_at config seq) → IsCounted (answered_events (fresh_world_at config seq) lines) }
