@@ -6,66 +6,92 @@ use crate::answer_line::AnswerLine;
 /// An event of a section that opens or closes, and no more.
 #[derive(Clone, Copy, Debug, PartialEq, Eq)]
 pub enum SectionWord {
+    /// A section begins: its reader and its ordinal come next.
     Open,
+    /// A section ends: its reader and its ordinal come next.
     Close,
 }
 
 /// An event in which a section reads.
 #[derive(Clone, Copy, Debug, PartialEq, Eq)]
 pub enum ReadingWord {
+    /// It goes to the front of a chain: section, chain and what it found come next.
     First,
+    /// It goes on from an object: section, that object and what it found come next.
     Next,
+    /// It reads an object: section and object come next.
     Touch,
 }
 
 /// An event of a chain.
 #[derive(Clone, Copy, Debug, PartialEq, Eq)]
 pub enum ChainWord {
+    /// A new object stands at the front: chain and object come next.
     Push,
+    /// A new object stands in the place of another: chain, the one that left and the new one come next.
     Replace,
+    /// An object left: chain and object come next.
     Cut,
 }
 
 /// An event of an object that left its chain.
 #[derive(Clone, Copy, Debug, PartialEq, Eq)]
 pub enum ObjectWord {
+    /// It is to be reclaimed: its number comes next.
     Retire,
+    /// It waits for a grace period: its number and its queue's come next.
     Queue,
+    /// Its callback ran: its number comes next.
     Run,
 }
 
 /// An event of a grace period or a barrier, which have numbers.
 #[derive(Clone, Copy, Debug, PartialEq, Eq)]
 pub enum WaitWord {
+    /// A grace period is asked for: the number of the ask comes next, from 1.
     Ask,
+    /// A grace period has passed since that ask.
     Answer,
+    /// A barrier begins: its number comes next, from 1.
     Bar,
+    /// That barrier ends.
     Clear,
 }
 
 /// The word of an event.
 #[derive(Clone, Copy, Debug, PartialEq, Eq)]
 pub enum EventWord {
+    /// A section opens or closes.
     Section(SectionWord),
+    /// A section reads.
     Reading(ReadingWord),
+    /// An object enters or leaves a chain.
     Chain(ChainWord),
+    /// An object is on its way to be reclaimed.
     Object(ObjectWord),
+    /// A grace period or a barrier is asked for or answered.
     Wait(WaitWord),
 }
 
-/// How a line of answers begins: with an event, as a whole line, or with a word whose numbers come next.
+/// How a line of answers begins.
 #[derive(Clone, Copy, Debug, PartialEq, Eq)]
 pub enum AnswerWord {
+    /// With an event, whose numbers come next.
     Event(EventWord),
+    /// As a whole line without numbers, with its line feed.
     Whole(AnswerLine),
+    /// A refusal: its number comes next.
     Refused,
+    /// The end line: the first of its three counts comes next.
     End,
 }
 
-/// What a section found: an object, whose number comes next, or nothing.
+/// What a section found.
 #[derive(Clone, Copy, Debug, PartialEq, Eq)]
 pub enum FoundWord {
+    /// An object, whose number comes next.
     Object,
+    /// The end of the chain.
     Nothing,
 }
 

@@ -89,6 +89,7 @@ pub fn front_line(text: &[u8]) -> Result<(Line, &[u8]), &[u8]>
 #[derive(Clone, Copy, Debug, PartialEq, Eq, Drop, Error)]
 #[error("column {column}: bad text")]
 pub struct TextFault {
+    /// In bytes, from 1. It is one past the last byte where the text has no end.
     pub column: usize,
 }
 

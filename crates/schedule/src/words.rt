@@ -6,15 +6,20 @@ use world::{Flavour, Layout, ReaderVerb, UpdaterVerb, WorkerVerb};
 /// Who acts.
 #[derive(Clone, Copy, Debug, PartialEq, Eq)]
 pub enum ActorWord {
+    /// `r`, before the number of a reader.
     Reader,
+    /// `u`, before the number of an updater.
     Updater,
+    /// `w`, before the number of a worker.
     Worker,
 }
 
-/// What a reader's word stands for: a verb with its line feed, or one whose number comes next.
+/// What a reader's word stands for.
 #[derive(Clone, Copy, Debug, PartialEq, Eq)]
 pub enum ReaderWord {
+    /// A verb with its line feed.
     Whole(ReaderVerb),
+    /// `first`: the chain's number comes next.
     FirstOf,
 }
 
@@ -23,10 +28,13 @@ pub enum ReaderWord {
 pub enum UpdaterWord {
     /// A verb with its line feed.
     Whole(UpdaterVerb),
-    /// A chain's number comes next; after the other three, an object's.
+    /// `push`: the chain's number comes next.
     PushTo,
+    /// `replace`: the number of the object that leaves comes next.
     ReplaceOf,
+    /// `cut`: the number of the object that leaves comes next.
     CutOf,
+    /// `retire`: the number of the object comes next.
     RetireOf,
 }
 

@@ -6,11 +6,14 @@ use crate::board::Board;
 use call_rcu_worker::WorkerCore;
 use world_state::{UpdaterPlace, WorldPlan};
 
-/// Who makes a line, by its number.
+/// Who makes a line, by its number from 0. A world need not have the actor.
 #[derive(Clone, Copy, Debug, PartialEq, Eq, Drop)]
 pub enum Actor {
+    /// One of 1 to 64 readers.
     Reader(u32),
+    /// One of 1 to 16 updaters.
     Updater(u32),
+    /// One of 1 to 8 workers.
     Worker(u32),
 }
 

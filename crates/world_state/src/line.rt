@@ -2,11 +2,14 @@
 
 use rcu_model::{Event, ObjectId, Refusal};
 
-/// One step of an actor, which is named by its number.
+/// One step of an actor, which is named by its number from 0. `NoActor` where the world has none of that number.
 #[derive(Clone, Copy, Debug, PartialEq, Eq, Drop)]
 pub enum Line {
+    /// One of 1 to 64 readers.
     Reader(u32, ReaderVerb),
+    /// One of 1 to 16 updaters.
     Updater(u32, UpdaterVerb),
+    /// One of 1 to 8 workers.
     Worker(u32, WorkerVerb),
 }
 
@@ -80,5 +83,6 @@ pub enum Answer {
     Idle,
 }
 
-/// Why a step was refused: one of `NestFull`, `Exhausted`, `NotOpen`, `Busy`, `NoPlace`, `WrongFlavour`, `NoActor` and `Memory`.
+/// Why a step was refused: one of `NestFull`, `Exhausted`, `NotOpen`, `Busy`, `NoPlace`, `WrongFlavour`, `NoActor` and
+/// `Memory`.
 pub type StepError = Refusal;

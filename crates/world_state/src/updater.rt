@@ -101,7 +101,9 @@ impl<P> UpdaterState<P> {
 /// Who may hold the grace lock.
 #[derive(Clone, Copy, Debug, PartialEq, Eq, Drop)]
 pub enum Holder {
+    /// An updater in `sync`, by its number from 0.
     Updater(u32),
+    /// A worker with a batch, by its number from 0.
     Worker(u32),
 }
 
