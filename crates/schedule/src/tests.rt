@@ -179,18 +179,20 @@ const ROWS: [Row<'static>; 17] = [
     },
 ];
 
-#[test]
-fn rows_hold_in_pieces(rt: HostRuntime) -> Result<(), Fail> {
-    for row in &ROWS {
-        check_row(&rt, rt.alloc(), row)?;
-    }
-    for row in &rows::GOOD {
-        check_row(&rt, rt.alloc(), row)?;
+fn check_rows(rt: &impl Abort, alloc: Global, rows: &[Row]) -> Result<(), Fail> {
+    for row in rows {
+        check_row(rt, alloc, row)?;
     }
     Ok(())
 }
 
-/// What a schedule of 65,536 locks one inside the other prints in pieces of so many bytes, where the last is answered so.
+#[test]
+fn rows_hold_in_pieces(rt: HostRuntime) -> Result<(), Fail> {
+    check_rows(&rt, rt.alloc(), &ROWS)?;
+    check_rows(&rt, rt.alloc(), &rows::GOOD)
+}
+
+/// What a schedule of 65,536 locks, one inside the other, prints where the last is answered so.
 fn check_nesting(
     rt: &impl Abort,
     alloc: Global,

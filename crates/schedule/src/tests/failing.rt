@@ -1,25 +1,26 @@
 //! Readers and writers that fail at each byte in turn. None is called again.
 
-use super::{QUIET, QUIET_PRINTED};
+use super::{Pieces, QUIET, QUIET_PRINTED, Sink};
 use crate::{ReplayFault, read_whole, replay, write_whole};
 use std::alloc::Global;
 use std::io;
 use std::io::{Read, Write};
 use std::process::Abort;
 
-/// Gives so many single bytes, and then fails.
+/// Gives so many pieces, and then fails.
 #[derive(Drop)]
 struct Broken<'a> {
-    text: &'a [u8],
+    pieces: Pieces<'a>,
     left: usize,
     /// How many reads failed.
     faults: usize,
 }
 
 impl<'a> Broken<'a> {
+    /// Its pieces are single bytes.
     fn after(left: usize, text: &'a [u8]) -> Broken<'a> {
         Broken {
-            text,
+            pieces: Pieces { text, most: 1 },
             left,
             faults: 0,
         }
@@ -33,18 +34,14 @@ impl Read for Broken<'_> {
             return Err(io::ErrorKind::Interrupted.into());
         }
         self.left -= 1;
-        let len = self.text.len().min(1).min(buf.len());
-        let (piece, rest) = self.text.split_at(len);
-        buf[..len].copy_from_slice(piece);
-        self.text = rest;
-        Ok(len)
+        self.pieces.read(buf)
     }
 }
 
-/// Takes so many single bytes, and then fails, or takes nothing.
+/// Takes so many pieces, and then fails, or takes nothing.
 #[derive(Drop)]
 struct Full {
-    bytes: Vec<u8>,
+    sink: Sink,
     left: usize,
     takes_nothing: bool,
     /// How many writes failed.
@@ -52,9 +49,13 @@ struct Full {
 }
 
 impl Full {
+    /// Its pieces are single bytes.
     fn after(left: usize, takes_nothing: bool, alloc: Global) -> Full {
         Full {
-            bytes: Vec::new(alloc),
+            sink: Sink {
+                bytes: Vec::new(alloc),
+                most: 1,
+            },
             left,
             takes_nothing,
             faults: 0,
@@ -72,9 +73,7 @@ impl Write for Full {
             return Err(io::ErrorKind::Interrupted.into());
         }
         self.left -= 1;
-        let len = buf.len().min(1);
-        self.bytes.extend_from_slice(&buf[..len])?;
-        Ok(len)
+        self.sink.write(buf)
     }
 
     fn flush(&mut self) -> io::Result<()> {
@@ -120,23 +119,31 @@ fn what_fails_in_the_middle_is_not_whole(rt: HostRuntime) {
 /// What was taken is a beginning of this length, and no write came after the one that failed.
 fn check_full(rt: &impl Abort, writer: &Full, taken: usize) {
     assert_eq!(rt; writer.faults, 1, "after {taken} bytes");
-    assert_eq!(rt; writer.bytes.len(), taken);
-    assert!(rt; QUIET_PRINTED.starts_with(writer.bytes.as_slice()));
+    assert_eq!(rt; writer.sink.bytes.len(), taken);
+    assert!(rt; QUIET_PRINTED.starts_with(writer.sink.bytes.as_slice()));
+}
+
+fn check_replay_to(rt: &impl Abort, alloc: Global, taken: usize, takes_nothing: bool) {
+    let mut reader = QUIET;
+    let mut writer = Full::after(taken, takes_nothing, alloc);
+    let replayed = replay(alloc, &mut reader, &mut writer);
+    assert_eq!(rt; replayed, Err(ReplayFault::Write));
+    check_full(rt, &writer, taken);
+}
+
+fn check_write_to(rt: &impl Abort, alloc: Global, taken: usize, takes_nothing: bool) {
+    let mut writer = Full::after(taken, takes_nothing, alloc);
+    let written = write_whole(&mut writer, QUIET_PRINTED);
+    assert_eq!(rt; written, Err(ReplayFault::Write));
+    check_full(rt, &writer, taken);
 }
 
 #[test]
 fn a_write_that_fails_leaves_a_beginning(rt: HostRuntime) {
     for taken in 0..QUIET_PRINTED.len() {
-        for takes_nothing in [false, true] {
-            let mut reader = QUIET;
-            let mut writer = Full::after(taken, takes_nothing, rt.alloc());
-            let replayed = replay(rt.alloc(), &mut reader, &mut writer);
-            assert_eq!(rt; replayed, Err(ReplayFault::Write));
-            check_full(&rt, &writer, taken);
-            let mut writer = Full::after(taken, takes_nothing, rt.alloc());
-            let written = write_whole(&mut writer, QUIET_PRINTED);
-            assert_eq!(rt; written, Err(ReplayFault::Write));
-            check_full(&rt, &writer, taken);
-        }
+        check_replay_to(&rt, rt.alloc(), taken, false);
+        check_replay_to(&rt, rt.alloc(), taken, true);
+        check_write_to(&rt, rt.alloc(), taken, false);
+        check_write_to(&rt, rt.alloc(), taken, true);
     }
 }

@@ -1,8 +1,10 @@
 //! Headers and lines as they are printed, and streams that are read and written whole.
 
 use super::{Pieces, Sink};
-use crate::{print_header, print_line, read_schedule, read_whole, write_whole};
+use crate::{Schedule, print_header, print_line, read_schedule, read_whole, write_whole};
 use rcu_model::ObjectId;
+use std::alloc::Global;
+use std::process::Abort;
 use std::test::Fail;
 use world::{Config, Flavour, Layout, Line, ReaderVerb, UpdaterVerb, WorkerVerb};
 
@@ -39,6 +41,20 @@ fn each_line_has_its_text(rt: HostRuntime) -> Result<(), Fail> {
     Ok(())
 }
 
+fn print_lines(alloc: Global, out: &mut Vec<u8>) -> Result<(), Fail> {
+    for (line, _) in LINES {
+        print_line(alloc, &line, out)?;
+    }
+    Ok(())
+}
+
+/// The schedule has the lines, in order.
+fn check_lines(rt: &impl Abort, schedule: &Schedule) {
+    for (at, (line, _)) in LINES.iter().enumerate() {
+        assert_eq!(rt; schedule.lines.get(at), Some(line));
+    }
+}
+
 #[test]
 fn what_is_printed_is_read_again(rt: HostRuntime) -> Result<(), Fail> {
     let config = Config {
@@ -52,15 +68,11 @@ fn what_is_printed_is_read_again(rt: HostRuntime) -> Result<(), Fail> {
     let mut out: Vec<u8> = Vec::new(rt.alloc());
     print_header(rt.alloc(), &config, &mut out)?;
     assert_eq!(rt; out.as_slice(), b"schedule 2 qsbr 64 16 8 1\n".as_slice());
-    for (line, _) in LINES {
-        print_line(rt.alloc(), &line, &mut out)?;
-    }
+    print_lines(rt.alloc(), &mut out)?;
     match read_schedule(rt.alloc(), &out) {
         Ok(schedule) => {
             assert_eq!(rt; schedule.config, config);
-            for (at, (line, _)) in LINES.iter().enumerate() {
-                assert_eq!(rt; schedule.lines.get(at), Some(line));
-            }
+            check_lines(&rt, &schedule);
         }
         Err(_) => assert!(rt; false),
     }
