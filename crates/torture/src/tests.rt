@@ -64,9 +64,20 @@ fn executed(alloc: Global, command: Command, text: &[u8]) -> Ended {
     }
 }
 
+/// A text, and what is printed and told of it, with the status.
+type Row<'a> = (&'a [u8], &'a [u8], &'a [u8], u8);
+
+fn check_row(rt: &impl Abort, alloc: Global, command: Command, row: Row) {
+    let (text, printed, told, status) = row;
+    let ended = executed(alloc, command, text);
+    assert_eq!(rt; ended.status, status);
+    assert_eq!(rt; ended.printed.as_slice(), printed);
+    assert_eq!(rt; ended.told.as_slice(), told);
+}
+
 #[test]
-fn a_replay_ends_by_its_fault(rt: HostRuntime) -> Result<(), Fail> {
-    let rows: [(&[u8], &[u8], &[u8], u8); 4] = [
+fn a_replay_ends_by_its_fault(rt: HostRuntime) {
+    let rows: [Row; 4] = [
         (
             b"schedule 1 memb 1 1 1 1\nr0 lock\nr0 .\n",
             b".\nopen r0.1\nend open=1 waiting=0 run=0\n",
@@ -87,18 +98,14 @@ fn a_replay_ends_by_its_fault(rt: HostRuntime) -> Result<(), Fail> {
         ),
         (b"", b"", b"line 1 column 1: bad text\n", 2),
     ];
-    for (text, printed, told, status) in rows {
-        let ended = executed(rt.alloc(), Command::Replay, text);
-        assert_eq!(rt; ended.status, status);
-        assert_eq!(rt; ended.printed.as_slice(), printed);
-        assert_eq!(rt; ended.told.as_slice(), told);
+    for row in rows {
+        check_row(&rt, rt.alloc(), Command::Replay, row);
     }
-    Ok(())
 }
 
 #[test]
-fn a_check_ends_by_its_verdict(rt: HostRuntime) -> Result<(), Fail> {
-    let rows: [(&[u8], &[u8], &[u8], u8); 7] = [
+fn a_check_ends_by_its_verdict(rt: HostRuntime) {
+    let rows: [Row; 7] = [
         (b"", b"yes events=0\n", b"", 0),
         (b"end open=0 waiting=0 run=0\n", b"yes events=0\n", b"", 0),
         (
@@ -123,13 +130,9 @@ fn a_check_ends_by_its_verdict(rt: HostRuntime) -> Result<(), Fail> {
         (b"close r0.1\nx", b"", b"line 2 column 1: bad text\n", 2),
         (b"idle", b"", b"line 1 column 5: bad text\n", 2),
     ];
-    for (text, printed, told, status) in rows {
-        let ended = executed(rt.alloc(), Command::Check, text);
-        assert_eq!(rt; ended.status, status);
-        assert_eq!(rt; ended.printed.as_slice(), printed);
-        assert_eq!(rt; ended.told.as_slice(), told);
+    for row in rows {
+        check_row(&rt, rt.alloc(), Command::Check, row);
     }
-    Ok(())
 }
 
 #[test]
@@ -223,6 +226,7 @@ const WRITERS: [(Command, &[u8]); 4] = [
     ),
 ];
 
+/// A walk that writes a short text.
 const SHORT: Walk = Walk {
     lines: 12,
     ..DEFAULT
@@ -283,28 +287,66 @@ fn check_broken(
     }
 }
 
-/// Each place of a short text, and some of a long one, which is written in two pieces.
-#[test]
-fn writers_that_fail_end_with_three(rt: HostRuntime) -> Result<(), Fail> {
-    for (command, text) in SHORT_WRITERS {
-        let whole = executed(rt.alloc(), command, text);
-        for before in 0..whole.printed.len() {
-            check_broken(&rt, rt.alloc(), command, text, &whole.printed, before);
-        }
+/// Each place of a short text.
+fn check_each_place(rt: &impl Abort, alloc: Global, command: Command, text: &[u8]) {
+    let whole = executed(alloc, command, text);
+    for before in 0..whole.printed.len() {
+        check_broken(rt, alloc, command, text, &whole.printed, before);
     }
+}
+
+/// Some places of a long text, which is written in two pieces.
+fn check_long_text(rt: &impl Abort, alloc: Global) {
     let long = Command::Walk(Walk {
         schedule: true,
         ..DEFAULT
     });
-    let whole = executed(rt.alloc(), long, b"");
+    let whole = executed(alloc, long, b"");
     for before in [0, 4095, 4096, 5000] {
-        check_broken(&rt, rt.alloc(), long, b"", &whole.printed, before);
+        check_broken(rt, alloc, long, b"", &whole.printed, before);
     }
-    Ok(())
 }
 
 #[test]
-fn readers_that_fail_end_with_three(rt: HostRuntime) -> Result<(), Fail> {
+fn writers_that_fail_end_with_three(rt: HostRuntime) {
+    for (command, text) in SHORT_WRITERS {
+        check_each_place(&rt, rt.alloc(), command, text);
+    }
+    check_long_text(&rt, rt.alloc());
+}
+
+/// The command ends with 3 where its reader fails after so many bytes, each of them read alone.
+fn check_cut_off(
+    rt: &impl Abort,
+    alloc: Global,
+    command: Command,
+    text: &[u8],
+    before: usize,
+    wanted: &[u8],
+) {
+    let mut reader = Pieces {
+        before: Some(before),
+        ..Pieces::new(text, 1)
+    };
+    let mut out: Vec<u8> = Vec::new(alloc);
+    let mut told: Vec<u8> = Vec::new(alloc);
+    let status = executed_on(alloc, command, &mut reader, &mut out, &mut told);
+    assert_eq!(rt; status, 3);
+    assert_eq!(rt; told.as_slice(), b"read fault\n".as_slice());
+    assert_eq!(rt; reader.faults, 1, "after {before} bytes");
+    assert_eq!(rt; out.as_slice(), wanted);
+}
+
+/// Nothing is printed where the text is cut off, and this where the fault comes after all of it.
+fn check_each_cut(rt: &impl Abort, alloc: Global, command: Command, text: &[u8], printed: &[u8]) {
+    for before in 0..text.len() {
+        check_cut_off(rt, alloc, command, text, before, b"");
+    }
+    check_cut_off(rt, alloc, command, text, text.len(), printed);
+}
+
+#[test]
+fn readers_that_fail_end_with_three(rt: HostRuntime) {
     let rows: [(Command, &[u8], &[u8]); 2] = [
         (
             Command::Replay,
@@ -314,22 +356,8 @@ fn readers_that_fail_end_with_three(rt: HostRuntime) -> Result<(), Fail> {
         (Command::Check, b"open r0.1\nclose r0.1\n", b""),
     ];
     for (command, text, printed) in rows {
-        for before in 0..=text.len() {
-            let mut reader = Pieces {
-                before: Some(before),
-                ..Pieces::new(text, 1)
-            };
-            let mut out: Vec<u8> = Vec::new(rt.alloc());
-            let mut told: Vec<u8> = Vec::new(rt.alloc());
-            let status = executed_on(rt.alloc(), command, &mut reader, &mut out, &mut told);
-            assert_eq!(rt; status, 3);
-            assert_eq!(rt; told.as_slice(), b"read fault\n".as_slice());
-            assert_eq!(rt; reader.faults, 1, "after {before} bytes");
-            let wanted = if before == text.len() { printed } else { b"" };
-            assert_eq!(rt; out.as_slice(), wanted);
-        }
+        check_each_cut(&rt, rt.alloc(), command, text, printed);
     }
-    Ok(())
 }
 
 #[test]

@@ -9,93 +9,85 @@ use std::test::Fail;
 use world::{Config, Flavour, Layout};
 
 /// Takes the words as this command.
-fn check_words(
-    rt: &impl Abort,
-    alloc: Global,
-    words: &[&str],
-    wanted: Command,
-) -> Result<(), Fail> {
+fn check_words(rt: &impl Abort, alloc: Global, words: &[&str], wanted: Command) {
     match read_words(alloc, words) {
         Ok(command) => assert_eq!(rt; command, wanted),
         Err(_) => assert!(rt; false),
     }
-    Ok(())
 }
 
-#[test]
-fn words_name_a_command(rt: HostRuntime) -> Result<(), Fail> {
-    check_words(&rt, rt.alloc(), &["torture", "replay"], Command::Replay)?;
-    check_words(&rt, rt.alloc(), &["torture", "check"], Command::Check)?;
-    check_words(
-        &rt,
-        rt.alloc(),
-        &["torture", "walk"],
-        Command::Walk(DEFAULT),
-    )
-}
-
-#[test]
-fn each_option_says_its_own(rt: HostRuntime) -> Result<(), Fail> {
-    let words = [
-        "torture",
-        "walk",
-        "--flavour=qsbr",
-        "--readers=64",
-        "--updaters=16",
-        "--workers=8",
-        "--chains=63",
-        "--lines=1000000",
-        "--seed=18446744073709551615",
-        "--schedule",
-        "--stop=87",
-        "--from=999999",
-        "--format=2",
-    ];
-    let config = Config {
+/// Each option with its greatest value.
+const GREATEST: Walk = Walk {
+    config: Config {
         layout: Layout::Wide,
         flavour: Flavour::Qsbr,
         readers: 64,
         updaters: 16,
         workers: 8,
         chains: 63,
-    };
-    let walk = Walk {
-        config,
-        lines: 1_000_000,
-        seed: 18_446_744_073_709_551_615,
-        schedule: true,
-        stop: Some(Stop {
-            actor: 87,
-            from: 999_999,
+    },
+    lines: 1_000_000,
+    seed: 18_446_744_073_709_551_615,
+    schedule: true,
+    stop: Some(Stop {
+        actor: 87,
+        from: 999_999,
+    }),
+};
+
+const COMMANDS: [(&[&str], Command); 5] = [
+    (&["torture", "replay"], Command::Replay),
+    (&["torture", "check"], Command::Check),
+    (&["torture", "walk"], Command::Walk(DEFAULT)),
+    (
+        &[
+            "torture",
+            "walk",
+            "--flavour=qsbr",
+            "--readers=64",
+            "--updaters=16",
+            "--workers=8",
+            "--chains=63",
+            "--lines=1000000",
+            "--seed=18446744073709551615",
+            "--schedule",
+            "--stop=87",
+            "--from=999999",
+            "--format=2",
+        ],
+        Command::Walk(GREATEST),
+    ),
+    // A value may be a word of its own.
+    (
+        &[
+            "torture",
+            "walk",
+            "--lines",
+            "0",
+            "--seed",
+            "0",
+            "--format",
+            "1",
+            "--flavour",
+            "memb",
+        ],
+        Command::Walk(Walk {
+            lines: 0,
+            seed: 0,
+            ..DEFAULT
         }),
-    };
-    check_words(&rt, rt.alloc(), &words, Command::Walk(walk))
+    ),
+];
+
+#[test]
+fn words_name_a_command(rt: HostRuntime) {
+    for (words, command) in COMMANDS {
+        check_words(&rt, rt.alloc(), words, command);
+    }
 }
 
 #[test]
-fn a_number_may_be_a_word_of_its_own(rt: HostRuntime) -> Result<(), Fail> {
-    let words = [
-        "torture",
-        "walk",
-        "--lines",
-        "0",
-        "--seed",
-        "0",
-        "--format",
-        "1",
-        "--flavour",
-        "memb",
-    ];
-    let walk = Walk {
-        lines: 0,
-        seed: 0,
-        ..DEFAULT
-    };
-    check_words(&rt, rt.alloc(), &words, Command::Walk(walk))
-}
-
-#[test]
-fn an_actor_may_stop(rt: HostRuntime) -> Result<(), Fail> {
+fn an_actor_may_stop(rt: HostRuntime) {
     let rows: [(&[&str], Option<(u32, u32)>); 4] = [
         (&["torture", "walk", "--stop", "3"], Some((3, 1))),
         (
@@ -116,13 +108,27 @@ fn an_actor_may_stop(rt: HostRuntime) -> Result<(), Fail> {
             rt.alloc(),
             words,
             Command::Walk(Walk { stop, ..DEFAULT }),
-        )?;
+        );
     }
-    Ok(())
+}
+
+fn check_taken(rt: &impl Abort, alloc: Global, option: &str, values: &[&str]) {
+    for value in values {
+        assert!(rt; read_words(alloc, &["torture", "walk", option, *value]).is_ok());
+    }
+}
+
+fn check_refused(rt: &impl Abort, alloc: Global, option: &str, values: &[&str]) {
+    for value in values {
+        match read_words(alloc, &["torture", "walk", option, *value]) {
+            Ok(_) => assert!(rt; false),
+            Err(fault) => assert_eq!(rt; fault.status(), 2),
+        }
+    }
 }
 
 #[test]
-fn each_limit_is_kept(rt: HostRuntime) -> Result<(), Fail> {
+fn each_limit_is_kept(rt: HostRuntime) {
     let rows: [(&str, &[&str], &[&str]); 9] = [
         ("--readers", &["1", "63", "64"], &["0", "65", "-1", "x", ""]),
         ("--updaters", &["1", "15", "16"], &["0", "17"]),
@@ -139,17 +145,9 @@ fn each_limit_is_kept(rt: HostRuntime) -> Result<(), Fail> {
         ("--format", &["1", "2"], &["0", "3"]),
     ];
     for (option, good, bad) in rows {
-        for word in good {
-            assert!(rt; read_words(rt.alloc(), &["torture", "walk", option, *word]).is_ok());
-        }
-        for word in bad {
-            match read_words(rt.alloc(), &["torture", "walk", option, *word]) {
-                Ok(_) => assert!(rt; false),
-                Err(fault) => assert_eq!(rt; fault.status(), 2),
-            }
-        }
+        check_taken(&rt, rt.alloc(), option, good);
+        check_refused(&rt, rt.alloc(), option, bad);
     }
-    Ok(())
 }
 
 /// Mistakes and calls for help, with the status and how the text begins.
