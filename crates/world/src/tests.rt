@@ -25,6 +25,22 @@ fn told(event: Event) -> Result<Answer, Refusal> {
     })
 }
 
+/// A line, how often it is stepped, and what each of these steps answers.
+type Row = (Line, u32, Result<Answer, Refusal>);
+
+fn check_steps(rt: &impl Abort, world: &mut World, row: Row) {
+    let (line, steps, answer) = row;
+    for _ in 0..steps {
+        assert_eq!(rt; world.step(&line), answer);
+    }
+}
+
+fn check_rows(rt: &impl Abort, world: &mut World, rows: &[Row]) {
+    for row in rows {
+        check_steps(rt, world, *row);
+    }
+}
+
 #[test]
 fn some_worlds_are_refused(rt: HostRuntime) {
     let too_many = Config {
@@ -102,28 +118,26 @@ fn check_the_end(rt: &impl Abort, alloc: Global, flavour: Flavour, between: u32)
     };
     let quiet = Ok(Answer::Quiet);
     let exhausted = Err(Refusal::Exhausted);
+    let first = Line::Updater(0, UpdaterVerb::GoOn);
+    let second = Line::Updater(1, UpdaterVerb::GoOn);
     let rows = [
-        (0, UpdaterVerb::Sync, 1, told(Event::Ask(1))),
-        (0, UpdaterVerb::GoOn, 3, quiet),
-        (1, UpdaterVerb::Sync, 1, told(Event::Ask(2))),
-        (0, UpdaterVerb::GoOn, between, quiet),
-        (0, UpdaterVerb::GoOn, 1, told(Event::Answer(1))),
-        (0, UpdaterVerb::GoOn, 1, quiet),
-        (0, UpdaterVerb::Sync, 1, exhausted),
-        (1, UpdaterVerb::GoOn, 3, quiet),
-        (1, UpdaterVerb::GoOn, between, quiet),
-        (1, UpdaterVerb::GoOn, 1, told(Event::Answer(2))),
-        (1, UpdaterVerb::GoOn, 1, quiet),
-        (0, UpdaterVerb::Start, 1, exhausted),
-        (1, UpdaterVerb::Sync, 1, exhausted),
+        (Line::Updater(0, UpdaterVerb::Sync), 1, told(Event::Ask(1))),
+        (first, 3, quiet),
+        (Line::Updater(1, UpdaterVerb::Sync), 1, told(Event::Ask(2))),
+        (first, between, quiet),
+        (first, 1, told(Event::Answer(1))),
+        (first, 1, quiet),
+        (Line::Updater(0, UpdaterVerb::Sync), 1, exhausted),
+        (second, 3, quiet),
+        (second, between, quiet),
+        (second, 1, told(Event::Answer(2))),
+        (second, 1, quiet),
+        (Line::Updater(0, UpdaterVerb::Start), 1, exhausted),
+        (Line::Updater(1, UpdaterVerb::Sync), 1, exhausted),
     ];
     match World::new_at(alloc, config, 4_611_686_018_427_387_902) {
         Ok(mut world) => {
-            for (updater, verb, steps, answer) in rows {
-                for _ in 0..steps {
-                    assert_eq!(rt; world.step(&Line::Updater(updater, verb)), answer);
-                }
-            }
+            check_rows(rt, &mut world, &rows);
             assert_eq!(rt; world.log(), LAST_EVENTS.as_slice());
         }
         Err(_) => assert!(rt; false),
@@ -140,22 +154,6 @@ fn sequence_numbers_end(rt: HostRuntime) {
 #[test]
 fn sequence_numbers_end_in_the_quiescent_state_flavour(rt: HostRuntime) {
     check_the_end(&rt, rt.alloc(), Flavour::Qsbr, 2);
-}
-
-/// A line, how often it is stepped, and what each of these steps answers.
-type Row = (Line, u32, Result<Answer, Refusal>);
-
-fn check_steps(rt: &impl Abort, world: &mut World, row: Row) {
-    let (line, steps, answer) = row;
-    for _ in 0..steps {
-        assert_eq!(rt; world.step(&line), answer);
-    }
-}
-
-fn check_rows(rt: &impl Abort, world: &mut World, rows: &[Row]) {
-    for row in rows {
-        check_steps(rt, world, *row);
-    }
 }
 
 const FIRST: ObjectId = ObjectId(1);
