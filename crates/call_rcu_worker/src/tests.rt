@@ -5,6 +5,7 @@ use callback_queue::{Callback, CallbackQueue, Item, Ripe, Ticket};
 use gp_memb::{Action, GracePlan, MembPlan};
 use poll_cookie::cookie_of;
 use rcu_model::{ObjectId, Refusal};
+use std::process::Abort;
 
 /// A whole wait of one reader's world, in which nobody is in the way.
 const TEN_STEPS: [(SyncStep, Told); 10] = [
@@ -79,6 +80,37 @@ fn hold_where_due(worker: &mut Worker, popped: Option<(Ticket, Item<u64>)>) -> b
     false
 }
 
+/// The worker waits for a grace period.
+fn check_sync(rt: &impl Abort, worker: &mut Worker) {
+    for (step, told) in TEN_STEPS {
+        if worker.next() == WorkerStep::Sync(SyncStep::Begin) {
+            worker.begin(MembPlan::start(1, 0, 0));
+        }
+        assert_eq!(rt; worker.next(), WorkerStep::Sync(step));
+        assert_eq!(rt; worker.told(0), Ok(told));
+    }
+}
+
+/// The worker holds the object's item, which it does not give out before it has told the run.
+fn check_run(rt: &impl Abort, worker: &mut Worker, object: u64) {
+    assert_eq!(rt; worker.next(), WorkerStep::Run);
+    assert_eq!(rt; worker.object(), Some(ObjectId(object)));
+    assert_eq!(rt; worker.job().copied(), Some(u64::MAX - object));
+    assert_eq!(rt; worker.give_out(), None);
+    assert_eq!(rt; worker.told(0), Ok(Told::Quiet));
+}
+
+/// It gives the item out once, and counts it.
+fn check_call(rt: &impl Abort, worker: &mut Worker, object: u64) {
+    let ticket = Ticket(object);
+    assert_eq!(rt; worker.next(), WorkerStep::Call);
+    assert_eq!(rt; worker.job().copied(), None);
+    assert_eq!(rt; worker.give_out(), Some((ticket, item(object))));
+    assert_eq!(rt; worker.give_out(), None);
+    assert_eq!(rt; worker.next(), WorkerStep::Count(ticket));
+    assert_eq!(rt; worker.told(0), Ok(Told::Quiet));
+}
+
 #[test]
 fn a_batch_of_two(rt: HostRuntime) {
     let mut queue = CallbackQueue::new(rt.alloc());
@@ -87,29 +119,13 @@ fn a_batch_of_two(rt: HostRuntime) {
     let mut worker: Worker = WorkerCore::new();
     assert_eq!(rt; worker.next(), WorkerStep::Take);
     worker.took(queue.seal());
-    for (step, told) in TEN_STEPS {
-        if worker.next() == WorkerStep::Sync(SyncStep::Begin) {
-            worker.begin(MembPlan::start(1, 0, 0));
-        }
-        assert_eq!(rt; worker.next(), WorkerStep::Sync(step));
-        assert_eq!(rt; worker.told(0), Ok(told));
-    }
+    check_sync(&rt, &mut worker);
     queue.note(cookie_of(0).expect(&rt, "0 is below 2^62"));
     assert!(rt; queue.advance(2));
     for object in 1..3 {
-        let ticket = Ticket(object);
         assert!(rt; hold_where_due(&mut worker, queue.pop_ready()));
-        assert_eq!(rt; worker.next(), WorkerStep::Run);
-        assert_eq!(rt; worker.object(), Some(ObjectId(object)));
-        assert_eq!(rt; worker.job().copied(), Some(u64::MAX - object));
-        assert_eq!(rt; worker.give_out(), None);
-        assert_eq!(rt; worker.told(0), Ok(Told::Quiet));
-        assert_eq!(rt; worker.next(), WorkerStep::Call);
-        assert_eq!(rt; worker.job().copied(), None);
-        assert_eq!(rt; worker.give_out(), Some((ticket, item(object))));
-        assert_eq!(rt; worker.give_out(), None);
-        assert_eq!(rt; worker.next(), WorkerStep::Count(ticket));
-        assert_eq!(rt; worker.told(0), Ok(Told::Quiet));
+        check_run(&rt, &mut worker, object);
+        check_call(&rt, &mut worker, object);
     }
     assert_eq!(rt; worker.next(), WorkerStep::Take);
 }
