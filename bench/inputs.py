@@ -113,7 +113,7 @@ def cut_in_the_middle(events):
 
 
 def succession(events):
-    """One object takes the place of another, again and again, in the middle of a chain, under a section that goes on."""
+    """One object takes the place of another, over and over, in the middle of a chain, under a section that goes on."""
     yield from ("push c0 o1", "push c0 o2", "push c0 o3", "open r0.1", "first r0.1 c0 o3", "next r0.1 o3 o2")
     last = 2
     for i in range(events // 2):

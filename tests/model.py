@@ -1,4 +1,4 @@
-"""A second model of schedules, of their worlds and of what `torture replay` prints, that shares nothing with the program.
+"""A second model of schedules, of their worlds and of what `torture replay` prints. It shares nothing with the program.
 
 It is here to differ: `run-random` draws schedules with it, and sets the program's answers against its own.
 """
