@@ -4,7 +4,6 @@ use crate::event::ObjectId;
 use crate::object::Waiting;
 use crate::objects::Objects;
 use std::process::Abort;
-use std::test::Fail;
 
 /// Asserts which objects a chain has, from its first one on.
 fn expect_chain(rt: &impl Abort, objects: &Objects, chain: u32, numbers: &[u64]) {
@@ -16,97 +15,76 @@ fn expect_chain(rt: &impl Abort, objects: &Objects, chain: u32, numbers: &[u64])
     assert_eq!(rt; place, None);
 }
 
-#[test]
-fn objects_are_pushed_first(rt: HostRuntime) -> Result<(), Fail> {
-    let mut objects = Objects::new(rt.alloc());
-    expect_chain(&rt, &objects, 3, &[]);
-    for number in [10, 20, u64::MAX] {
-        let pushed = objects.push(3, ObjectId(number))?;
-        assert!(rt; pushed);
+/// Publishes new objects at the front of a chain.
+fn push_all(rt: &impl Abort, objects: &mut Objects, chain: u32, numbers: &[u64]) {
+    for number in numbers {
+        assert!(rt; objects.push(chain, ObjectId(*number)) == Ok(true));
     }
-    let elsewhere = objects.push(4, ObjectId(30))?;
-    assert!(rt; elsewhere);
-    expect_chain(&rt, &objects, 3, &[u64::MAX, 20, 10]);
-    expect_chain(&rt, &objects, 4, &[30]);
-    assert_eq!(rt; objects.after(ObjectId(40)), None);
-    for chain in [3, 4] {
-        let again = objects.push(chain, ObjectId(20))?;
-        assert!(rt; !again);
+}
+
+/// Asserts whether each new object takes the place of an old one in chain 0.
+fn replace_all(rt: &impl Abort, objects: &mut Objects, pairs: &[(u64, u64)], is_done: bool) {
+    for (old, new) in pairs {
+        assert!(rt; objects.replace(0, ObjectId(*old), ObjectId(*new)) == Ok(is_done));
     }
-    expect_chain(&rt, &objects, 3, &[u64::MAX, 20, 10]);
-    Ok(())
 }
 
 #[test]
-fn objects_are_cut_anywhere(rt: HostRuntime) -> Result<(), Fail> {
+fn objects_are_pushed_first(rt: HostRuntime) {
     let mut objects = Objects::new(rt.alloc());
-    for number in [1, 2, 3, 4] {
-        let pushed = objects.push(0, ObjectId(number))?;
-        assert!(rt; pushed);
-    }
-    let elsewhere = objects.cut(1, ObjectId(2))?;
-    assert!(rt; !elsewhere);
-    let middle = objects.cut(0, ObjectId(3))?;
-    assert!(rt; middle);
+    expect_chain(&rt, &objects, 3, &[]);
+    push_all(&rt, &mut objects, 3, &[10, 20, u64::MAX]);
+    assert!(rt; objects.push(4, ObjectId(30)) == Ok(true));
+    expect_chain(&rt, &objects, 3, &[u64::MAX, 20, 10]);
+    expect_chain(&rt, &objects, 4, &[30]);
+    assert_eq!(rt; objects.after(ObjectId(40)), None);
+    assert!(rt; objects.push(3, ObjectId(20)) == Ok(false));
+    assert!(rt; objects.push(4, ObjectId(20)) == Ok(false));
+    expect_chain(&rt, &objects, 3, &[u64::MAX, 20, 10]);
+}
+
+#[test]
+fn objects_are_cut_anywhere(rt: HostRuntime) {
+    let mut objects = Objects::new(rt.alloc());
+    push_all(&rt, &mut objects, 0, &[1, 2, 3, 4]);
+    assert!(rt; objects.cut(1, ObjectId(2)) == Ok(false));
+    assert!(rt; objects.cut(0, ObjectId(3)) == Ok(true));
     expect_chain(&rt, &objects, 0, &[4, 2, 1]);
-    let last = objects.cut(0, ObjectId(1))?;
-    assert!(rt; last);
-    let first = objects.cut(0, ObjectId(4))?;
-    assert!(rt; first);
+    assert!(rt; objects.cut(0, ObjectId(1)) == Ok(true));
+    assert!(rt; objects.cut(0, ObjectId(4)) == Ok(true));
     expect_chain(&rt, &objects, 0, &[2]);
     // A cut object keeps its successor.
     assert_eq!(rt; objects.after(ObjectId(3)), Some(Some(ObjectId(2))));
     assert_eq!(rt; objects.after(ObjectId(1)), Some(None));
-    let twice = objects.cut(0, ObjectId(3))?;
-    assert!(rt; !twice);
-    let rest = objects.cut(0, ObjectId(2))?;
-    assert!(rt; rest);
+    assert!(rt; objects.cut(0, ObjectId(3)) == Ok(false));
+    assert!(rt; objects.cut(0, ObjectId(2)) == Ok(true));
     expect_chain(&rt, &objects, 0, &[]);
-    Ok(())
 }
 
 #[test]
-fn objects_are_replaced_anywhere(rt: HostRuntime) -> Result<(), Fail> {
+fn objects_are_replaced_anywhere(rt: HostRuntime) {
     let mut objects = Objects::new(rt.alloc());
-    for number in [1, 2, 3] {
-        let pushed = objects.push(0, ObjectId(number))?;
-        assert!(rt; pushed);
-    }
-    for (old, new) in [(2, 5), (3, 6), (1, 7)] {
-        let replaced = objects.replace(0, ObjectId(old), ObjectId(new))?;
-        assert!(rt; replaced);
-    }
+    push_all(&rt, &mut objects, 0, &[1, 2, 3]);
+    replace_all(&rt, &mut objects, &[(2, 5), (3, 6), (1, 7)], true);
     expect_chain(&rt, &objects, 0, &[6, 5, 7]);
     assert_eq!(rt; objects.after(ObjectId(2)), Some(Some(ObjectId(1))));
-    for (old, new) in [(5, 5), (5, 1), (2, 8), (9, 8)] {
-        let replaced = objects.replace(0, ObjectId(old), ObjectId(new))?;
-        assert!(rt; !replaced);
-    }
+    replace_all(&rt, &mut objects, &[(5, 5), (5, 1), (2, 8), (9, 8)], false);
     expect_chain(&rt, &objects, 0, &[6, 5, 7]);
-    Ok(())
 }
 
 #[test]
-fn an_object_goes_its_way_once(rt: HostRuntime) -> Result<(), Fail> {
+fn an_object_goes_its_way_once(rt: HostRuntime) {
     let mut objects = Objects::new(rt.alloc());
     let object = ObjectId(9);
-    let pushed = objects.push(2, object)?;
-    assert!(rt; pushed);
-    let linked = objects.retire(object, 5)?;
-    assert!(rt; !linked);
-    let cut = objects.cut(2, object)?;
-    assert!(rt; cut);
-    let unretired = objects.queue(object, 6)?;
-    assert!(rt; !unretired);
-    let retired = objects.retire(object, 5)?;
-    assert!(rt; retired);
-    let again = objects.retire(object, 7)?;
-    assert!(rt; !again);
+    assert!(rt; objects.push(2, object) == Ok(true));
+    assert!(rt; objects.retire(object, 5) == Ok(false));
+    assert!(rt; objects.cut(2, object) == Ok(true));
+    assert!(rt; objects.queue(object, 6) == Ok(false));
+    assert!(rt; objects.retire(object, 5) == Ok(true));
+    assert!(rt; objects.retire(object, 7) == Ok(false));
     assert_eq!(rt; objects.queued(object), None);
-    let queued = objects.queue(object, 6)?;
-    assert!(rt; queued);
-    let queued_again = objects.queue(object, 8)?;
-    assert!(rt; !queued_again);
+    assert!(rt; objects.queue(object, 6) == Ok(true));
+    assert!(rt; objects.queue(object, 8) == Ok(false));
     assert_eq!(rt;
         objects.queued(object),
         Some(Waiting {
@@ -114,10 +92,8 @@ fn an_object_goes_its_way_once(rt: HostRuntime) -> Result<(), Fail> {
             ticket: 6
         })
     );
-    objects.reclaim(object)?;
+    assert!(rt; objects.reclaim(object).is_ok());
     assert_eq!(rt; objects.queued(object), None);
-    let late = objects.queue(object, 9)?;
-    assert!(rt; !late);
+    assert!(rt; objects.queue(object, 9) == Ok(false));
     assert_eq!(rt; objects.after(object), Some(None));
-    Ok(())
 }

@@ -2,10 +2,9 @@
 
 use crate::checker::check_log;
 use crate::event::{Event, ObjectId, SectionId};
-use crate::verdict::{LogFault, Rule, Verdict};
+use crate::verdict::{Rule, Verdict};
 use std::alloc::Global;
 use std::process::Abort;
-use std::test::Fail;
 
 const FIRST_SECTION: SectionId = SectionId {
     reader: 0,
@@ -62,29 +61,28 @@ fn queue(object: ObjectId) -> Event {
     Event::Queue { object, queue: 0 }
 }
 
-/// Asserts that the log is a run.
-fn expect_run(rt: &impl Abort, alloc: Global, log: &[Event]) -> Result<(), LogFault> {
-    let verdict = check_log(alloc, log)?;
-    assert_eq!(rt; verdict, Verdict::Yes);
-    Ok(())
+/// Asserts that each of the logs is a run.
+fn expect_runs(rt: &impl Abort, alloc: Global, logs: &[&[Event]]) {
+    for log in logs {
+        assert_eq!(rt; check_log(alloc, log), Ok(Verdict::Yes));
+    }
 }
 
-/// Asserts that the last event of the log is the first that breaks its rule.
-fn expect_break(rt: &impl Abort, alloc: Global, log: &[Event], rule: Rule) -> Result<(), LogFault> {
-    let verdict = check_log(alloc, log)?;
-    let at = log.len();
-    assert_eq!(rt; verdict, Verdict::No { at, rule });
-    Ok(())
-}
-
-#[test]
-fn an_empty_log_is_a_run(rt: HostRuntime) -> Result<(), Fail> {
-    expect_run(&rt, rt.alloc(), &[])?;
-    Ok(())
+/// Asserts of each of the logs that its last event is the first that breaks its rule.
+fn expect_breaks(rt: &impl Abort, alloc: Global, rule: Rule, logs: &[&[Event]]) {
+    for log in logs {
+        let at = log.len();
+        assert_eq!(rt; check_log(alloc, log), Ok(Verdict::No { at, rule }));
+    }
 }
 
 #[test]
-fn a_full_log_is_a_run(rt: HostRuntime) -> Result<(), Fail> {
+fn an_empty_log_is_a_run(rt: HostRuntime) {
+    expect_runs(&rt, rt.alloc(), &[&[]]);
+}
+
+#[test]
+fn a_full_log_is_a_run(rt: HostRuntime) {
     let log = [
         push(ONE),
         push(TWO),
@@ -104,110 +102,86 @@ fn a_full_log_is_a_run(rt: HostRuntime) -> Result<(), Fail> {
         Event::Run(ONE),
         Event::Clear(1),
     ];
-    expect_run(&rt, rt.alloc(), &log)?;
-    Ok(())
+    expect_runs(&rt, rt.alloc(), &[&log]);
 }
 
 #[test]
-fn a_log_breaks_at_its_first_wrong_event(rt: HostRuntime) -> Result<(), Fail> {
+fn a_log_breaks_at_its_first_wrong_event(rt: HostRuntime) {
     let log = [
         Event::Open(FIRST_SECTION),
         Event::Answer(7),
         Event::Close(OTHER_SECTION),
         Event::Retire(ONE),
     ];
-    let verdict = check_log(rt.alloc(), &log)?;
     let rule = Rule::Asking;
-    assert_eq!(rt; verdict, Verdict::No { at: 2, rule });
-    Ok(())
+    let verdict = check_log(rt.alloc(), &log);
+    assert_eq!(rt; verdict, Ok(Verdict::No { at: 2, rule }));
 }
 
 #[test]
-fn a_section_opens_once(rt: HostRuntime) -> Result<(), Fail> {
+fn a_section_opens_once(rt: HostRuntime) {
     let open = Event::Open(FIRST_SECTION);
     let close = Event::Close(FIRST_SECTION);
-    expect_break(&rt, rt.alloc(), &[open, open], Rule::Section)?;
-    expect_break(&rt, rt.alloc(), &[open, close, open], Rule::Section)?;
-    expect_run(&rt, rt.alloc(), &[open, Event::Open(SECOND_SECTION)])?;
-    expect_run(&rt, rt.alloc(), &[open, Event::Open(OTHER_SECTION)])?;
-    Ok(())
+    let breaks: [&[Event]; 2] = [&[open, open], &[open, close, open]];
+    expect_breaks(&rt, rt.alloc(), Rule::Section, &breaks);
+    let runs: [&[Event]; 2] = [
+        &[open, Event::Open(SECOND_SECTION)],
+        &[open, Event::Open(OTHER_SECTION)],
+    ];
+    expect_runs(&rt, rt.alloc(), &runs);
 }
 
 #[test]
-fn a_section_closes_while_it_is_open(rt: HostRuntime) -> Result<(), Fail> {
+fn a_section_closes_while_it_is_open(rt: HostRuntime) {
     let open = Event::Open(FIRST_SECTION);
     let close = Event::Close(FIRST_SECTION);
-    expect_break(&rt, rt.alloc(), &[close], Rule::Section)?;
-    expect_break(&rt, rt.alloc(), &[open, close, close], Rule::Section)?;
-    expect_break(
-        &rt,
-        rt.alloc(),
+    let breaks: [&[Event]; 3] = [
+        &[close],
+        &[open, close, close],
         &[open, Event::Close(OTHER_SECTION)],
-        Rule::Section,
-    )?;
-    Ok(())
+    ];
+    expect_breaks(&rt, rt.alloc(), Rule::Section, &breaks);
 }
 
 #[test]
-fn an_open_section_finds_the_first_object(rt: HostRuntime) -> Result<(), Fail> {
+fn an_open_section_finds_the_first_object(rt: HostRuntime) {
     let open = Event::Open(FIRST_SECTION);
     let finds_none = first(FIRST_SECTION, None);
     let finds_one = first(FIRST_SECTION, Some(ONE));
-    expect_break(&rt, rt.alloc(), &[finds_none], Rule::Reading)?;
-    expect_break(&rt, rt.alloc(), &[open, finds_one], Rule::Reading)?;
-    expect_break(
-        &rt,
-        rt.alloc(),
+    let breaks: [&[Event]; 5] = [
+        &[finds_none],
+        &[open, finds_one],
         &[push(ONE), open, finds_none],
-        Rule::Reading,
-    )?;
-    expect_break(
-        &rt,
-        rt.alloc(),
         &[push(ONE), push(TWO), open, finds_one],
-        Rule::Reading,
-    )?;
-    expect_break(
-        &rt,
-        rt.alloc(),
         &[push(ONE), open, Event::Close(FIRST_SECTION), finds_one],
-        Rule::Reading,
-    )?;
-    Ok(())
+    ];
+    expect_breaks(&rt, rt.alloc(), Rule::Reading, &breaks);
 }
 
 #[test]
-fn a_section_goes_on_from_what_it_holds(rt: HostRuntime) -> Result<(), Fail> {
+fn a_section_goes_on_from_what_it_holds(rt: HostRuntime) {
     let open = Event::Open(FIRST_SECTION);
     let close = Event::Close(FIRST_SECTION);
     let finds = first(FIRST_SECTION, Some(TWO));
     let ends = next(FIRST_SECTION, TWO, None);
-    expect_break(&rt, rt.alloc(), &[push(TWO), open, ends], Rule::Reading)?;
-    expect_break(
-        &rt,
-        rt.alloc(),
+    let breaks: [&[Event]; 3] = [
+        &[push(TWO), open, ends],
         &[push(TWO), open, finds, close, ends],
-        Rule::Reading,
-    )?;
-    expect_break(
-        &rt,
-        rt.alloc(),
         &[push(ONE), push(TWO), open, finds, ends],
-        Rule::Reading,
-    )?;
-    Ok(())
+    ];
+    expect_breaks(&rt, rt.alloc(), Rule::Reading, &breaks);
 }
 
 #[test]
-fn a_cut_object_keeps_its_successor(rt: HostRuntime) -> Result<(), Fail> {
+fn a_cut_object_keeps_its_successor(rt: HostRuntime) {
     let open = Event::Open(FIRST_SECTION);
     let finds = first(FIRST_SECTION, Some(TWO));
     let ends = next(FIRST_SECTION, TWO, None);
     let goes_on = next(FIRST_SECTION, TWO, Some(ONE));
-    expect_run(
+    expect_runs(
         &rt,
         rt.alloc(),
-        &[
+        &[&[
             push(ONE),
             push(TWO),
             open,
@@ -215,34 +189,26 @@ fn a_cut_object_keeps_its_successor(rt: HostRuntime) -> Result<(), Fail> {
             cut(TWO),
             cut(ONE),
             goes_on,
-        ],
-    )?;
-    expect_break(
+        ]],
+    );
+    expect_breaks(
         &rt,
         rt.alloc(),
-        &[push(ONE), push(TWO), open, finds, cut(TWO), ends],
         Rule::Reading,
-    )?;
-    Ok(())
+        &[&[push(ONE), push(TWO), open, finds, cut(TWO), ends]],
+    );
 }
 
 #[test]
-fn a_section_reads_what_it_holds(rt: HostRuntime) -> Result<(), Fail> {
+fn a_section_reads_what_it_holds(rt: HostRuntime) {
     let open = Event::Open(FIRST_SECTION);
     let close = Event::Close(FIRST_SECTION);
     let finds = first(FIRST_SECTION, Some(ONE));
     let reads = touch(FIRST_SECTION, ONE);
-    expect_break(&rt, rt.alloc(), &[reads], Rule::Reading)?;
-    expect_break(&rt, rt.alloc(), &[push(ONE), open, reads], Rule::Reading)?;
-    expect_break(
-        &rt,
-        rt.alloc(),
+    let breaks: [&[Event]; 4] = [
+        &[reads],
+        &[push(ONE), open, reads],
         &[push(ONE), open, finds, close, reads],
-        Rule::Reading,
-    )?;
-    expect_break(
-        &rt,
-        rt.alloc(),
         &[
             push(ONE),
             open,
@@ -250,42 +216,28 @@ fn a_section_reads_what_it_holds(rt: HostRuntime) -> Result<(), Fail> {
             finds,
             touch(OTHER_SECTION, ONE),
         ],
-        Rule::Reading,
-    )?;
-    Ok(())
+    ];
+    expect_breaks(&rt, rt.alloc(), Rule::Reading, &breaks);
 }
 
 #[test]
-fn an_object_is_published_once(rt: HostRuntime) -> Result<(), Fail> {
+fn an_object_is_published_once(rt: HostRuntime) {
     let elsewhere = Event::Push {
         chain: 1,
         object: ONE,
     };
-    expect_break(&rt, rt.alloc(), &[push(ONE), push(ONE)], Rule::Publishing)?;
-    expect_break(&rt, rt.alloc(), &[push(ONE), elsewhere], Rule::Publishing)?;
-    expect_break(
-        &rt,
-        rt.alloc(),
+    let breaks: [&[Event]; 5] = [
+        &[push(ONE), push(ONE)],
+        &[push(ONE), elsewhere],
         &[push(ONE), cut(ONE), push(ONE)],
-        Rule::Publishing,
-    )?;
-    expect_break(
-        &rt,
-        rt.alloc(),
         &[push(ONE), push(TWO), replace(ONE, TWO)],
-        Rule::Publishing,
-    )?;
-    expect_break(
-        &rt,
-        rt.alloc(),
         &[push(ONE), replace(ONE, ONE)],
-        Rule::Publishing,
-    )?;
-    Ok(())
+    ];
+    expect_breaks(&rt, rt.alloc(), Rule::Publishing, &breaks);
 }
 
 #[test]
-fn an_object_leaves_its_chain_while_it_is_linked(rt: HostRuntime) -> Result<(), Fail> {
+fn an_object_leaves_its_chain_while_it_is_linked(rt: HostRuntime) {
     let elsewhere = Event::Replace {
         chain: 1,
         old: ONE,
@@ -295,144 +247,97 @@ fn an_object_leaves_its_chain_while_it_is_linked(rt: HostRuntime) -> Result<(), 
         chain: 1,
         object: ONE,
     };
-    expect_break(&rt, rt.alloc(), &[replace(ONE, TWO)], Rule::Publishing)?;
-    expect_break(&rt, rt.alloc(), &[push(ONE), elsewhere], Rule::Publishing)?;
-    expect_break(
-        &rt,
-        rt.alloc(),
+    let breaks: [&[Event]; 6] = [
+        &[replace(ONE, TWO)],
+        &[push(ONE), elsewhere],
         &[push(ONE), cut(ONE), replace(ONE, TWO)],
-        Rule::Publishing,
-    )?;
-    expect_break(&rt, rt.alloc(), &[cut(ONE)], Rule::Publishing)?;
-    expect_break(
-        &rt,
-        rt.alloc(),
+        &[cut(ONE)],
         &[push(ONE), cut_elsewhere],
-        Rule::Publishing,
-    )?;
-    expect_break(
-        &rt,
-        rt.alloc(),
         &[push(ONE), cut(ONE), cut(ONE)],
-        Rule::Publishing,
-    )?;
-    Ok(())
+    ];
+    expect_breaks(&rt, rt.alloc(), Rule::Publishing, &breaks);
 }
 
 #[test]
-fn an_object_that_was_cut_is_retired_once(rt: HostRuntime) -> Result<(), Fail> {
+fn an_object_that_was_cut_is_retired_once(rt: HostRuntime) {
     let retire = Event::Retire(ONE);
-    expect_break(&rt, rt.alloc(), &[retire], Rule::Retirement)?;
-    expect_break(&rt, rt.alloc(), &[push(ONE), retire], Rule::Retirement)?;
-    expect_break(
-        &rt,
-        rt.alloc(),
+    let breaks: [&[Event]; 3] = [
+        &[retire],
+        &[push(ONE), retire],
         &[push(ONE), cut(ONE), retire, retire],
-        Rule::Retirement,
-    )?;
-    Ok(())
+    ];
+    expect_breaks(&rt, rt.alloc(), Rule::Retirement, &breaks);
 }
 
 #[test]
-fn a_retired_object_is_queued_once(rt: HostRuntime) -> Result<(), Fail> {
+fn a_retired_object_is_queued_once(rt: HostRuntime) {
     let retire = Event::Retire(ONE);
     let run = Event::Run(ONE);
-    expect_break(
-        &rt,
-        rt.alloc(),
+    let breaks: [&[Event]; 3] = [
         &[push(ONE), cut(ONE), queue(ONE)],
-        Rule::Reclaiming,
-    )?;
-    expect_break(
-        &rt,
-        rt.alloc(),
         &[push(ONE), cut(ONE), retire, queue(ONE), queue(ONE)],
-        Rule::Reclaiming,
-    )?;
-    expect_break(
-        &rt,
-        rt.alloc(),
         &[push(ONE), cut(ONE), retire, queue(ONE), run, queue(ONE)],
-        Rule::Reclaiming,
-    )?;
-    Ok(())
+    ];
+    expect_breaks(&rt, rt.alloc(), Rule::Reclaiming, &breaks);
 }
 
 #[test]
-fn a_queued_callback_runs_once(rt: HostRuntime) -> Result<(), Fail> {
+fn a_queued_callback_runs_once(rt: HostRuntime) {
     let retire = Event::Retire(ONE);
     let run = Event::Run(ONE);
-    expect_break(&rt, rt.alloc(), &[run], Rule::Reclaiming)?;
-    expect_break(
-        &rt,
-        rt.alloc(),
+    let breaks: [&[Event]; 3] = [
+        &[run],
         &[push(ONE), cut(ONE), retire, run],
-        Rule::Reclaiming,
-    )?;
-    expect_break(
-        &rt,
-        rt.alloc(),
         &[push(ONE), cut(ONE), retire, queue(ONE), run, run],
-        Rule::Reclaiming,
-    )?;
-    Ok(())
+    ];
+    expect_breaks(&rt, rt.alloc(), Rule::Reclaiming, &breaks);
 }
 
 #[test]
-fn a_callback_awaits_the_sections_of_its_retirement(rt: HostRuntime) -> Result<(), Fail> {
+fn a_callback_awaits_the_sections_of_its_retirement(rt: HostRuntime) {
     let open = Event::Open(FIRST_SECTION);
     let close = Event::Close(FIRST_SECTION);
     let newer = Event::Open(SECOND_SECTION);
     let retire = Event::Retire(ONE);
     let run = Event::Run(ONE);
-    expect_break(
+    expect_breaks(
         &rt,
         rt.alloc(),
-        &[push(ONE), open, cut(ONE), retire, queue(ONE), run],
         Rule::Reclaiming,
-    )?;
-    expect_run(
-        &rt,
-        rt.alloc(),
+        &[&[push(ONE), open, cut(ONE), retire, queue(ONE), run]],
+    );
+    let runs: [&[Event]; 2] = [
         &[push(ONE), open, cut(ONE), retire, queue(ONE), close, run],
-    )?;
-    expect_run(
-        &rt,
-        rt.alloc(),
         &[push(ONE), cut(ONE), retire, newer, queue(ONE), run],
-    )?;
-    Ok(())
+    ];
+    expect_runs(&rt, rt.alloc(), &runs);
 }
 
 #[test]
-fn a_grace_period_is_asked_for_once(rt: HostRuntime) -> Result<(), Fail> {
+fn a_grace_period_is_asked_for_once(rt: HostRuntime) {
     let ask = Event::Ask(1);
-    expect_break(&rt, rt.alloc(), &[ask, ask], Rule::Asking)?;
-    expect_break(&rt, rt.alloc(), &[ask, Event::Answer(1), ask], Rule::Asking)?;
-    expect_run(&rt, rt.alloc(), &[ask, Event::Ask(2), Event::Bar(1)])?;
-    Ok(())
+    let breaks: [&[Event]; 2] = [&[ask, ask], &[ask, Event::Answer(1), ask]];
+    expect_breaks(&rt, rt.alloc(), Rule::Asking, &breaks);
+    expect_runs(&rt, rt.alloc(), &[&[ask, Event::Ask(2), Event::Bar(1)]]);
 }
 
 #[test]
-fn a_grace_period_is_over_once(rt: HostRuntime) -> Result<(), Fail> {
+fn a_grace_period_is_over_once(rt: HostRuntime) {
     let ask = Event::Ask(1);
     let answer = Event::Answer(1);
     let open = Event::Open(FIRST_SECTION);
-    expect_break(&rt, rt.alloc(), &[answer], Rule::Asking)?;
-    expect_break(&rt, rt.alloc(), &[ask, answer, answer], Rule::Asking)?;
-    expect_break(&rt, rt.alloc(), &[open, ask, answer], Rule::Asking)?;
-    expect_run(&rt, rt.alloc(), &[ask, open, answer])?;
-    expect_break(
-        &rt,
-        rt.alloc(),
+    let breaks: [&[Event]; 4] = [
+        &[answer],
+        &[ask, answer, answer],
+        &[open, ask, answer],
         &[ask, answer, open, Event::Ask(2), Event::Answer(2)],
-        Rule::Asking,
-    )?;
-    Ok(())
+    ];
+    expect_breaks(&rt, rt.alloc(), Rule::Asking, &breaks);
+    expect_runs(&rt, rt.alloc(), &[&[ask, open, answer]]);
 }
 
 #[test]
-fn sections_close_in_any_order(rt: HostRuntime) -> Result<(), Fail> {
+fn sections_close_in_any_order(rt: HostRuntime) {
     let old = Event::Open(FIRST_SECTION);
     let new = Event::Open(OTHER_SECTION);
     let late = Event::Open(SECOND_SECTION);
@@ -440,69 +345,52 @@ fn sections_close_in_any_order(rt: HostRuntime) -> Result<(), Fail> {
     let close_new = Event::Close(OTHER_SECTION);
     let ask = Event::Ask(1);
     let answer = Event::Answer(1);
-    expect_break(
-        &rt,
-        rt.alloc(),
+    let breaks: [&[Event]; 2] = [
         &[old, new, ask, close_new, answer],
-        Rule::Asking,
-    )?;
-    expect_break(
-        &rt,
-        rt.alloc(),
         &[old, new, ask, close_old, answer],
-        Rule::Asking,
-    )?;
-    expect_run(
-        &rt,
-        rt.alloc(),
+    ];
+    expect_breaks(&rt, rt.alloc(), Rule::Asking, &breaks);
+    let runs: [&[Event]; 2] = [
         &[old, new, ask, close_new, late, close_old, answer],
-    )?;
-    expect_run(
-        &rt,
-        rt.alloc(),
         &[old, new, ask, close_old, late, close_new, answer],
-    )?;
-    Ok(())
+    ];
+    expect_runs(&rt, rt.alloc(), &runs);
 }
 
 #[test]
-fn a_barrier_begins_and_ends_once(rt: HostRuntime) -> Result<(), Fail> {
+fn a_barrier_begins_and_ends_once(rt: HostRuntime) {
     let bar = Event::Bar(1);
     let clear = Event::Clear(1);
-    expect_break(&rt, rt.alloc(), &[bar, bar], Rule::Asking)?;
-    expect_break(&rt, rt.alloc(), &[bar, clear, bar], Rule::Asking)?;
-    expect_break(&rt, rt.alloc(), &[clear], Rule::Asking)?;
-    expect_break(&rt, rt.alloc(), &[bar, clear, clear], Rule::Asking)?;
-    Ok(())
+    let breaks: [&[Event]; 4] = [
+        &[bar, bar],
+        &[bar, clear, bar],
+        &[clear],
+        &[bar, clear, clear],
+    ];
+    expect_breaks(&rt, rt.alloc(), Rule::Asking, &breaks);
 }
 
 #[test]
-fn a_barrier_awaits_the_callbacks_queued_before(rt: HostRuntime) -> Result<(), Fail> {
+fn a_barrier_awaits_the_callbacks_queued_before(rt: HostRuntime) {
     let bar = Event::Bar(1);
     let clear = Event::Clear(1);
     let retire = Event::Retire(ONE);
     let run = Event::Run(ONE);
-    expect_break(
+    expect_breaks(
         &rt,
         rt.alloc(),
-        &[push(ONE), cut(ONE), retire, queue(ONE), bar, clear],
         Rule::Asking,
-    )?;
-    expect_run(
-        &rt,
-        rt.alloc(),
+        &[&[push(ONE), cut(ONE), retire, queue(ONE), bar, clear]],
+    );
+    let runs: [&[Event]; 2] = [
         &[push(ONE), cut(ONE), retire, queue(ONE), bar, run, clear],
-    )?;
-    expect_run(
-        &rt,
-        rt.alloc(),
         &[push(ONE), cut(ONE), retire, bar, queue(ONE), clear],
-    )?;
-    Ok(())
+    ];
+    expect_runs(&rt, rt.alloc(), &runs);
 }
 
 #[test]
-fn numbers_reach_their_limits(rt: HostRuntime) -> Result<(), Fail> {
+fn numbers_reach_their_limits(rt: HostRuntime) {
     let section = SectionId {
         reader: u32::MAX,
         ordinal: u64::MAX,
@@ -529,12 +417,11 @@ fn numbers_reach_their_limits(rt: HostRuntime) -> Result<(), Fail> {
         Event::Run(object),
         Event::Clear(u64::MAX),
     ];
-    expect_run(&rt, rt.alloc(), &log)?;
-    expect_break(
+    expect_runs(&rt, rt.alloc(), &[&log]);
+    expect_breaks(
         &rt,
         rt.alloc(),
-        &[Event::Ask(u64::MAX), Event::Answer(u64::MAX - 1)],
         Rule::Asking,
-    )?;
-    Ok(())
+        &[&[Event::Ask(u64::MAX), Event::Answer(u64::MAX - 1)]],
+    );
 }
