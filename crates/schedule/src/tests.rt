@@ -236,7 +236,7 @@ const QUIET: &[u8] = b"schedule 1 memb 2 2 1 2\nr0 lock\nr1 lock\nu0 push c0\nu1
 const QUIET_PRINTED: &[u8] = b".\n.\n.\n.\nend open=0 waiting=0 run=0\n";
 
 #[test]
-fn a_fault_is_answered_at_its_byte_and_again(rt: HostRuntime) -> Result<(), Fail> {
+fn a_fault_is_answered_at_its_byte_and_again(rt: HostRuntime) {
     let mut replay = Replay::new(rt.alloc());
     let mut out = Vec::new(rt.alloc());
     assert_eq!(rt; replay.feed(QUIET, &mut out), Ok(()));
@@ -253,11 +253,10 @@ fn a_fault_is_answered_at_its_byte_and_again(rt: HostRuntime) -> Result<(), Fail
         Err(ReplayFault::BadText { line: 6, column: 5 })
     );
     assert_eq!(rt; out.as_slice(), b".\n.\n.\n.\n".as_slice());
-    Ok(())
 }
 
 #[test]
-fn a_whole_schedule_is_read(rt: HostRuntime) -> Result<(), Fail> {
+fn a_whole_schedule_is_read(rt: HostRuntime) {
     let text = b"schedule 2 memb 3 2 1 4\nr2 first c3\nu1 replace o17\nw0 .\n";
     match read_schedule(rt.alloc(), text) {
         Ok(schedule) => {
@@ -284,7 +283,6 @@ fn a_whole_schedule_is_read(rt: HostRuntime) -> Result<(), Fail> {
         Ok(Line::Updater(0, UpdaterVerb::Cut(ObjectId(0))))
     );
     assert_eq!(rt; read_line(b"w0 push c0\n"), Err(TextFault { column: 4 }));
-    Ok(())
 }
 
 #[test]

@@ -80,7 +80,7 @@ fn what_is_printed_is_read_again(rt: HostRuntime) -> Result<(), Fail> {
 }
 
 #[test]
-fn streams_are_read_and_written_whole(rt: HostRuntime) -> Result<(), Fail> {
+fn streams_are_read_and_written_whole(rt: HostRuntime) {
     for most in [1, 7, 4096] {
         let mut reader = Pieces {
             text: b"one text",
@@ -97,5 +97,4 @@ fn streams_are_read_and_written_whole(rt: HostRuntime) -> Result<(), Fail> {
         assert!(rt; write_whole(&mut sink, b"one text").is_ok());
         assert_eq!(rt; sink.bytes.as_slice(), b"one text".as_slice());
     }
-    Ok(())
 }

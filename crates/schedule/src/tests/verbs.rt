@@ -2,11 +2,10 @@
 
 use crate::{TextFault, read_line};
 use rcu_model::ObjectId;
-use std::test::Fail;
 use world::{Line, UpdaterVerb, WorkerVerb};
 
 #[test]
-fn lines_of_retiring_are_read(rt: HostRuntime) -> Result<(), Fail> {
+fn lines_of_retiring_are_read(rt: HostRuntime) {
     for (text, line) in [
         (
             b"u2 retire o17\n".as_slice(),
@@ -26,11 +25,10 @@ fn lines_of_retiring_are_read(rt: HostRuntime) -> Result<(), Fail> {
     ] {
         assert_eq!(rt; read_line(text), Ok(line));
     }
-    Ok(())
 }
 
 #[test]
-fn the_column_is_the_first_byte_that_no_line_has(rt: HostRuntime) -> Result<(), Fail> {
+fn the_column_is_the_first_byte_that_no_line_has(rt: HostRuntime) {
     for (text, column) in [
         (b"u0 re\n".as_slice(), 6),
         (b"u0 rex\n", 6),
@@ -62,5 +60,4 @@ fn the_column_is_the_first_byte_that_no_line_has(rt: HostRuntime) -> Result<(), 
             "the bad line of column {column}"
         );
     }
-    Ok(())
 }
