@@ -8,7 +8,6 @@ use crate::execution::execute;
 use std::alloc::Global;
 use std::io::{Read, Write};
 use std::process::Abort;
-use std::test::Fail;
 use streams::{Pieces, Sink};
 use world::{Config, Flavour, Layout};
 
@@ -136,7 +135,7 @@ fn a_check_ends_by_its_verdict(rt: HostRuntime) {
 }
 
 #[test]
-fn a_walk_of_no_lines_is_a_run(rt: HostRuntime) -> Result<(), Fail> {
+fn a_walk_of_no_lines_is_a_run(rt: HostRuntime) {
     let walk = Walk {
         lines: 0,
         ..DEFAULT
@@ -146,20 +145,18 @@ fn a_walk_of_no_lines_is_a_run(rt: HostRuntime) -> Result<(), Fail> {
     assert_eq!(rt; ended.printed.as_slice(), line.as_slice());
     assert!(rt; ended.told.is_empty());
     assert_eq!(rt; ended.status, 0);
-    Ok(())
 }
 
 #[test]
-fn a_walk_tells_what_happened(rt: HostRuntime) -> Result<(), Fail> {
+fn a_walk_tells_what_happened(rt: HostRuntime) {
     let ended = executed(rt.alloc(), Command::Walk(DEFAULT), b"");
     let line = b"walk lines=1000 events=116 open=2 waiting=0 run=0 verdict=yes\n";
     assert_eq!(rt; ended.printed.as_slice(), line.as_slice());
     assert_eq!(rt; ended.status, 0);
-    Ok(())
 }
 
 #[test]
-fn a_schedule_begins_with_its_header(rt: HostRuntime) -> Result<(), Fail> {
+fn a_schedule_begins_with_its_header(rt: HostRuntime) {
     let rows: [(Layout, Flavour, &[u8]); 2] = [
         (Layout::Narrow, Flavour::Memb, b"schedule 1 memb 2 1 1 1\n"),
         (Layout::Wide, Flavour::Qsbr, b"schedule 2 qsbr 2 1 1 1\n"),
@@ -188,11 +185,10 @@ fn a_schedule_begins_with_its_header(rt: HostRuntime) -> Result<(), Fail> {
         let replayed = executed(rt.alloc(), Command::Replay, printed);
         assert_eq!(rt; replayed.status, 0);
     }
-    Ok(())
 }
 
 #[test]
-fn who_stops_gets_no_line(rt: HostRuntime) -> Result<(), Fail> {
+fn who_stops_gets_no_line(rt: HostRuntime) {
     for (actor, name) in [(0, b'r'), (2, b'u'), (3, b'w')] {
         let walk = Walk {
             schedule: true,
@@ -209,7 +205,6 @@ fn who_stops_gets_no_line(rt: HostRuntime) -> Result<(), Fail> {
             .count();
         assert_eq!(rt; told, 0);
     }
-    Ok(())
 }
 
 /// The commands that write, each with a text that it is read.
@@ -247,7 +242,7 @@ const SHORT_WRITERS: [(Command, &[u8]); 4] = [
 ];
 
 #[test]
-fn writers_may_take_one_byte_at_a_time(rt: HostRuntime) -> Result<(), Fail> {
+fn writers_may_take_one_byte_at_a_time(rt: HostRuntime) {
     for (command, text) in WRITERS {
         let whole = executed(rt.alloc(), command, text);
         let mut reader = Pieces::new(text, 1);
@@ -258,7 +253,6 @@ fn writers_may_take_one_byte_at_a_time(rt: HostRuntime) -> Result<(), Fail> {
         assert_eq!(rt; slow.bytes.as_slice(), whole.printed.as_slice());
         assert!(rt; told.is_empty());
     }
-    Ok(())
 }
 
 /// The command ends with 3 where its writer fails after so many bytes, or takes nothing then, and is not called again.
@@ -361,7 +355,7 @@ fn readers_that_fail_end_with_three(rt: HostRuntime) {
 }
 
 #[test]
-fn a_fault_that_cannot_be_told_is_passed_over(rt: HostRuntime) -> Result<(), Fail> {
+fn a_fault_that_cannot_be_told_is_passed_over(rt: HostRuntime) {
     let mut reader = Pieces {
         before: Some(0),
         ..Pieces::new(b"", 1)
@@ -377,5 +371,4 @@ fn a_fault_that_cannot_be_told_is_passed_over(rt: HostRuntime) -> Result<(), Fai
     );
     assert_eq!(rt; status, 3);
     assert!(rt; out.is_empty());
-    Ok(())
 }
