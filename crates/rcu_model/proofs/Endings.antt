@@ -182,48 +182,44 @@ decide_object o p = by (object_tells o p)
     by (inl y) = inl y.1
     by (inr n) = inr n.1
 
-ask_awaits : (a : ℕ) (s : SectionId) (now : State) (e : Event) → IsAllowed now e → In now.asked a → In (now.asked_sections a) s → (e ≡ Close s) ⊎ In ((after now e).asked_sections a) s
-ask_awaits a s now (Open t) may k h = inr h
-ask_awaits a s now (Close t) may k h = ⊎_elim (λ (e : s ≡ t). inl (ap Close (sym e))) (λ (n : s ≢ t). inr (has_without_section t (now.asked_sections a) s h n)) (decide_section s t)
-ask_awaits a s now (First t c None) may k h = inr h
-ask_awaits a s now (First t c (Some p)) may k h = inr h
-ask_awaits a s now (Next t p None) may k h = inr h
-ask_awaits a s now (Next t p (Some q)) may k h = inr h
-ask_awaits a s now (Touch t p) may k h = inr h
-ask_awaits a s now (Push c p) may k h = inr h
-ask_awaits a s now (Replace c p q) may k h = inr h
-ask_awaits a s now (Cut c p) may k h = inr h
-ask_awaits a s now (Retire p) may k h = inr h
-ask_awaits a s now (Queue p q) may k h = inr h
-ask_awaits a s now (Run p) may k h = inr h
-ask_awaits a s now (Ask b) may k h = inr (subst (λ (l : List SectionId). In l s) (sym (at_number_other b a now.sections now.asked_sections (λ e. may (has_number_in now.asked b (subst (In now.asked) e k))))) h)
-ask_awaits a s now (Answer b) may k h = inr h
-ask_awaits a s now (Bar b) may k h = inr h
-ask_awaits a s now (Clear b) may k h = inr h
+-- what an ask or a barrier awaits ends by the event, or is awaited after it too
+abbrev Awaits : State → State → Event → Type 0
+Awaits now later e =
+    ((a : ℕ) (s : SectionId) → In now.asked a → In (now.asked_sections a) s → (e ≡ Close s) ⊎ In (later.asked_sections a) s)
+    × ((b : ℕ) (o : ObjectId) → In now.noted b → In (now.noted_objects b) o → (e ≡ Run o) ⊎ In (later.noted_objects b) o)
 
-barrier_awaits : (b : ℕ) (o : ObjectId) (now : State) (e : Event) → IsAllowed now e → In now.noted b → In (now.noted_objects b) o → (e ≡ Run o) ⊎ In ((after now e).noted_objects b) o
-barrier_awaits b o now (Open t) may k h = inr h
-barrier_awaits b o now (Close t) may k h = inr h
-barrier_awaits b o now (First t c None) may k h = inr h
-barrier_awaits b o now (First t c (Some p)) may k h = inr h
-barrier_awaits b o now (Next t p None) may k h = inr h
-barrier_awaits b o now (Next t p (Some q)) may k h = inr h
-barrier_awaits b o now (Touch t p) may k h = inr h
-barrier_awaits b o now (Push c p) may k h = inr h
-barrier_awaits b o now (Replace c p q) may k h = inr h
-barrier_awaits b o now (Cut c p) may k h = inr h
-barrier_awaits b o now (Retire p) may k h = inr h
-barrier_awaits b o now (Queue p q) may k h = inr h
-barrier_awaits b o now (Run p) may k h = ⊎_elim (λ (e : o ≡ p). inl (ap Run (sym e))) (λ (n : o ≢ p). inr (has_without_object p (now.noted_objects b) o h n)) (decide_object o p)
-barrier_awaits b o now (Ask n) may k h = inr h
-barrier_awaits b o now (Answer n) may k h = inr h
-barrier_awaits b o now (Bar n) may k h = inr (subst (λ (l : List ObjectId). In l o) (sym (at_number_other n b (not_run now) now.noted_objects (λ e. may (has_number_in now.noted n (subst (In now.noted) e k))))) h)
-barrier_awaits b o now (Clear n) may k h = inr h
+awaits : (now : State) (e : Event) → IsAllowed now e → Awaits now (after now e) e
+awaits now (Open t) may = ((λ a s k h. inr h), (λ b o k h. inr h))
+awaits now (Close t) may = ((λ a s k h. ⊎_elim (λ (e : s ≡ t). inl (ap Close (sym e))) (λ (n : s ≢ t). inr (has_without_section t (now.asked_sections a) s h n)) (decide_section s t)), (λ b o k h. inr h))
+awaits now (First t c None) may = ((λ a s k h. inr h), (λ b o k h. inr h))
+awaits now (First t c (Some p)) may = ((λ a s k h. inr h), (λ b o k h. inr h))
+awaits now (Next t p None) may = ((λ a s k h. inr h), (λ b o k h. inr h))
+awaits now (Next t p (Some q)) may = ((λ a s k h. inr h), (λ b o k h. inr h))
+awaits now (Touch t p) may = ((λ a s k h. inr h), (λ b o k h. inr h))
+awaits now (Push c p) may = ((λ a s k h. inr h), (λ b o k h. inr h))
+awaits now (Replace c p q) may = ((λ a s k h. inr h), (λ b o k h. inr h))
+awaits now (Cut c p) may = ((λ a s k h. inr h), (λ b o k h. inr h))
+awaits now (Retire p) may = ((λ a s k h. inr h), (λ b o k h. inr h))
+awaits now (Queue p q) may = ((λ a s k h. inr h), (λ b o k h. inr h))
+awaits now (Run p) may = ((λ a s k h. inr h), (λ b o k h. ⊎_elim (λ (e : o ≡ p). inl (ap Run (sym e))) (λ (n : o ≢ p). inr (has_without_object p (now.noted_objects b) o h n)) (decide_object o p)))
+awaits now (Ask n) may = ((λ a s k h. inr (subst (λ (l : List SectionId). In l s) (sym (at_number_other n a now.sections now.asked_sections (λ e. may (has_number_in now.asked n (subst (In now.asked) e k))))) h)), (λ b o k h. inr h))
+awaits now (Answer n) may = ((λ a s k h. inr h), (λ b o k h. inr h))
+awaits now (Bar n) may = ((λ a s k h. inr h), (λ b o k h. inr (subst (λ (l : List ObjectId). In l o) (sym (at_number_other n b (not_run now) now.noted_objects (λ e. may (has_number_in now.noted n (subst (In now.noted) e k))))) h)))
+awaits now (Clear n) may = ((λ a s k h. inr h), (λ b o k h. inr h))
 
--- a run behind one of its events
-behind : (before earlier since : List Event) (e : Event) → IsRun before → before ≡ earlier ++ e ∷ since → AreAllowed (after (state_after earlier) e) since × (state_after before ≡ after_all (after (state_after earlier) e) since)
-behind before earlier since e run split =
-    ((allowed_split start earlier (e ∷ since) (subst (λ (l : List Event). IsRun l) split run)).1.1, ap (after_all start) split ∙ after_append start earlier (e ∷ since))
+-- what an event of a run had awaited, and nothing awaits at the end of the run, has ended since
+module _ {X : Type 0} (ending e : Event) (Known : State → Type 0) (awaited : State → List X) (x : X)
+    (knows : (now : State) (f : Event) → Known now → Known (after now f))
+    (goes : (now : State) (f : Event) → IsAllowed now f → Known now → In (awaited now) x → (f ≡ ending) ⊎ In (awaited (after now f)) x) where
+  ended_since : (before earlier since : List Event) → IsRun before → before ≡ earlier ++ e ∷ since → Known (after (state_after earlier) e) → In (awaited (after (state_after earlier) e)) x → awaited (state_after before) ≡ [] → In since ending
+  ended_since before earlier since run split known has none =
+      let then = after (state_after earlier) e in
+      let rest = (allowed_split start earlier (e ∷ since) (subst (λ (l : List Event). IsRun l) split run)).1.1 in
+      let whole : state_after before ≡ after_all then since = ap (after_all start) split ∙ after_append start earlier (e ∷ since) in
+      ⊎_elim
+      (λ (c : In since ending). c)
+      (λ (w : In (awaited (after_all then since)) x). absurd (subst (λ (l : List X). In l x) (ap awaited (sym whole) ∙ none) w))
+      (ended ending Known (λ m. In (awaited m) x) knows goes then since rest known has)
 
 pub answers_once : (log : List Event) → IsRun log → AnswersOnceAfterItsSections log
 answers_once log run before later a is = record {
@@ -244,12 +240,8 @@ answers_once log run before later a is = record {
     closes : (earlier since : List Event) (s : SectionId) → before ≡ earlier ++ Ask a ∷ since → In (state_after earlier).sections s → In since (Close s)
     closes earlier since s split h =
         let then = state_after earlier in
-        let rest = behind before earlier since (Ask a) parts.0 split in
-        ⊎_elim
-        (λ (c : In since (Close s)). c)
-        (λ (w : In ((after_all (after then (Ask a)) since).asked_sections a) s). absurd (subst (λ (l : List SectionId). In l s) (ap (λ (m : State). m.asked_sections a) (sym rest.1) ∙ may.2) w))
-        (ended (Close s) (λ m. In m.asked a) (λ m. In (m.asked_sections a) s) (λ m e k. ((adds m e).asked a).1 (inl k)) (ask_awaits a s)
-        (after then (Ask a)) since rest.0 (inl refl) (subst (λ (l : List SectionId). In l s) (sym (at_number_same a then.sections then.asked_sections)) h))
+        ended_since (Close s) (Ask a) (λ m. In m.asked a) (λ m. m.asked_sections a) s (λ m e k. ((adds m e).asked a).1 (inl k)) (λ m e ok k w. (awaits m e ok).0 a s k w)
+        before earlier since parts.0 split (inl refl) (subst (λ (l : List SectionId). In l s) (sym (at_number_same a then.sections then.asked_sections)) h) may.2
 
 not_true : (b : Bool) → ¬ (b ≡ true) → not b ≡ true
 not_true true n = absurd (n refl)
@@ -283,12 +275,8 @@ clears_once log run before later b is = record {
     runs : (earlier since : List Event) (o : ObjectId) → before ≡ earlier ++ Bar b ∷ since → In (not_run (state_after earlier)) o → In since (Run o)
     runs earlier since o split h =
         let then = state_after earlier in
-        let rest = behind before earlier since (Bar b) parts.0 split in
-        ⊎_elim
-        (λ (c : In since (Run o)). c)
-        (λ (w : In ((after_all (after then (Bar b)) since).noted_objects b) o). absurd (subst (λ (l : List ObjectId). In l o) (ap (λ (m : State). m.noted_objects b) (sym rest.1) ∙ may.2) w))
-        (ended (Run o) (λ m. In m.noted b) (λ m. In (m.noted_objects b) o) (λ m e k. ((adds m e).noted b).1 (inl k)) (barrier_awaits b o)
-        (after then (Bar b)) since rest.0 (inl refl) (subst (λ (l : List ObjectId). In l o) (sym (at_number_same b (not_run then) then.noted_objects)) h))
+        ended_since (Run o) (Bar b) (λ m. In m.noted b) (λ m. m.noted_objects b) o (λ m e k. ((adds m e).noted b).1 (inl k)) (λ m e ok k w. (awaits m e ok).1 b o k w)
+        before earlier since parts.0 split (inl refl) (subst (λ (l : List ObjectId). In l o) (sym (at_number_same b (not_run then) then.noted_objects)) h) may.2
 
 pub queues_once : (log : List Event) → IsRun log → QueuesOnceAfterRetirement log
 queues_once log run before later o q is =
