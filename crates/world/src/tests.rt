@@ -61,43 +61,39 @@ fn some_worlds_are_refused(rt: HostRuntime) {
 
 #[test]
 fn a_fresh_world_has_told_nothing(rt: HostRuntime) {
-    match World::new(rt.alloc(), SMALL) {
-        Ok(world) => assert!(rt; world.log().is_empty()),
-        Err(_) => assert!(rt; false),
-    }
+    let world = World::new(rt.alloc(), SMALL).expect(&rt, "ample memory");
+    assert!(rt; world.log().is_empty());
 }
 
 #[test]
 fn the_last_grace_period_is_answered(rt: HostRuntime) {
     let sync = Line::Updater(0, UpdaterVerb::Sync);
     let on = Line::Updater(0, UpdaterVerb::GoOn);
-    match World::new_at(rt.alloc(), SMALL, 4_611_686_018_427_387_902) {
-        Ok(mut world) => {
-            assert_eq!(rt; world.step(&sync), told(Event::Ask(1)));
-            for _ in 0..7 {
-                assert_eq!(rt; world.step(&on), Ok(Answer::Quiet));
-            }
-            assert_eq!(rt; world.step(&on), told(Event::Answer(1)));
-            assert_eq!(rt; world.step(&on), Ok(Answer::Quiet));
-            assert_eq!(rt; world.step(&sync), Err(Refusal::Exhausted));
-            assert_eq!(rt; world.log(), [Event::Ask(1), Event::Answer(1)].as_slice());
-        }
-        Err(_) => assert!(rt; false),
+    let mut world = World::new_at(rt.alloc(), SMALL, 4_611_686_018_427_387_902).expect(
+        &rt,
+        "ample memory",
+    );
+    assert_eq!(rt; world.step(&sync), told(Event::Ask(1)));
+    for _ in 0..7 {
+        assert_eq!(rt; world.step(&on), Ok(Answer::Quiet));
     }
+    assert_eq!(rt; world.step(&on), told(Event::Answer(1)));
+    assert_eq!(rt; world.step(&on), Ok(Answer::Quiet));
+    assert_eq!(rt; world.step(&sync), Err(Refusal::Exhausted));
+    assert_eq!(rt; world.log(), [Event::Ask(1), Event::Answer(1)].as_slice());
 }
 
 #[test]
 fn the_greatest_start_leaves_no_ask(rt: HostRuntime) {
-    match World::new_at(rt.alloc(), SMALL, 4_611_686_018_427_387_904) {
-        Ok(mut world) => {
-            for verb in [UpdaterVerb::Sync, UpdaterVerb::Start] {
-                let answer = world.step(&Line::Updater(0, verb));
-                assert_eq!(rt; answer, Err(Refusal::Exhausted));
-            }
-            assert!(rt; world.log().is_empty());
-        }
-        Err(_) => assert!(rt; false),
+    let mut world = World::new_at(rt.alloc(), SMALL, 4_611_686_018_427_387_904).expect(
+        &rt,
+        "ample memory",
+    );
+    for verb in [UpdaterVerb::Sync, UpdaterVerb::Start] {
+        let answer = world.step(&Line::Updater(0, verb));
+        assert_eq!(rt; answer, Err(Refusal::Exhausted));
     }
+    assert!(rt; world.log().is_empty());
 }
 
 /// What the last grace periods tell.
@@ -135,13 +131,12 @@ fn check_the_end(rt: &impl Abort, alloc: Global, flavour: Flavour, between: u32)
         (Line::Updater(0, UpdaterVerb::Start), 1, exhausted),
         (Line::Updater(1, UpdaterVerb::Sync), 1, exhausted),
     ];
-    match World::new_at(alloc, config, 4_611_686_018_427_387_902) {
-        Ok(mut world) => {
-            check_rows(rt, &mut world, &rows);
-            assert_eq!(rt; world.log(), LAST_EVENTS.as_slice());
-        }
-        Err(_) => assert!(rt; false),
-    }
+    let mut world = World::new_at(alloc, config, 4_611_686_018_427_387_902).expect(
+        rt,
+        "ample memory",
+    );
+    check_rows(rt, &mut world, &rows);
+    assert_eq!(rt; world.log(), LAST_EVENTS.as_slice());
 }
 
 /// With one reader, the phase is flipped, the slot scanned, and both once more.
@@ -287,40 +282,32 @@ fn check_delayed_run(rt: &impl Abort, world: &mut World) {
 
 #[test]
 fn a_delayed_reader_is_awaited(rt: HostRuntime) {
-    match World::new(rt.alloc(), SMALL) {
-        Ok(mut world) => {
-            check_rows(&rt, &mut world, &push_rows(0, FIRST));
-            check_delayed_reader(&rt, &mut world);
-            check_rows(&rt, &mut world, &cut_rows(0, FIRST));
-            check_rows(&rt, &mut world, &retire_rows(0, FIRST));
-            check_rows(&rt, &mut world, &take_rows(0));
-            check_delayed_run(&rt, &mut world);
-            assert_eq!(rt; world.log().len(), 13);
-        }
-        Err(_) => assert!(rt; false),
-    }
+    let mut world = World::new(rt.alloc(), SMALL).expect(&rt, "ample memory");
+    check_rows(&rt, &mut world, &push_rows(0, FIRST));
+    check_delayed_reader(&rt, &mut world);
+    check_rows(&rt, &mut world, &cut_rows(0, FIRST));
+    check_rows(&rt, &mut world, &retire_rows(0, FIRST));
+    check_rows(&rt, &mut world, &take_rows(0));
+    check_delayed_run(&rt, &mut world);
+    assert_eq!(rt; world.log().len(), 13);
 }
 
 /// What is queued after the take is no part of the batch, and is taken the next time.
 #[test]
 fn an_item_queued_after_the_take_stays(rt: HostRuntime) {
     let counted = [(Line::Worker(0, WorkerVerb::GoOn), 1, Ok(Answer::Quiet))];
-    match World::new(rt.alloc(), SMALL) {
-        Ok(mut world) => {
-            check_rows(&rt, &mut world, &push_rows(0, FIRST));
-            check_rows(&rt, &mut world, &push_rows(0, SECOND));
-            check_rows(&rt, &mut world, &cut_rows(0, FIRST));
-            check_rows(&rt, &mut world, &cut_rows(0, SECOND));
-            check_rows(&rt, &mut world, &retire_rows(0, FIRST));
-            check_rows(&rt, &mut world, &take_rows(0));
-            check_rows(&rt, &mut world, &retire_rows(0, SECOND));
-            check_rows(&rt, &mut world, &run_rows(0, 1, FIRST));
-            check_rows(&rt, &mut world, &counted);
-            check_rows(&rt, &mut world, &take_rows(0));
-            check_rows(&rt, &mut world, &run_rows(0, 2, SECOND));
-        }
-        Err(_) => assert!(rt; false),
-    }
+    let mut world = World::new(rt.alloc(), SMALL).expect(&rt, "ample memory");
+    check_rows(&rt, &mut world, &push_rows(0, FIRST));
+    check_rows(&rt, &mut world, &push_rows(0, SECOND));
+    check_rows(&rt, &mut world, &cut_rows(0, FIRST));
+    check_rows(&rt, &mut world, &cut_rows(0, SECOND));
+    check_rows(&rt, &mut world, &retire_rows(0, FIRST));
+    check_rows(&rt, &mut world, &take_rows(0));
+    check_rows(&rt, &mut world, &retire_rows(0, SECOND));
+    check_rows(&rt, &mut world, &run_rows(0, 1, FIRST));
+    check_rows(&rt, &mut world, &counted);
+    check_rows(&rt, &mut world, &take_rows(0));
+    check_rows(&rt, &mut world, &run_rows(0, 2, SECOND));
 }
 
 /// The barrier notes two queues and waits for each until its item is run and counted.
@@ -366,18 +353,14 @@ fn a_barrier_waits_for_both_queues(rt: HostRuntime) {
         chains: 2,
         ..SMALL
     };
-    match World::new(rt.alloc(), config) {
-        Ok(mut world) => {
-            check_rows(&rt, &mut world, &push_rows(0, FIRST));
-            check_rows(&rt, &mut world, &push_rows(1, SECOND));
-            check_rows(&rt, &mut world, &cut_rows(0, FIRST));
-            check_rows(&rt, &mut world, &cut_rows(1, SECOND));
-            check_rows(&rt, &mut world, &retire_rows(0, FIRST));
-            check_rows(&rt, &mut world, &retire_rows(1, SECOND));
-            check_barrier(&rt, &mut world);
-        }
-        Err(_) => assert!(rt; false),
-    }
+    let mut world = World::new(rt.alloc(), config).expect(&rt, "ample memory");
+    check_rows(&rt, &mut world, &push_rows(0, FIRST));
+    check_rows(&rt, &mut world, &push_rows(1, SECOND));
+    check_rows(&rt, &mut world, &cut_rows(0, FIRST));
+    check_rows(&rt, &mut world, &cut_rows(1, SECOND));
+    check_rows(&rt, &mut world, &retire_rows(0, FIRST));
+    check_rows(&rt, &mut world, &retire_rows(1, SECOND));
+    check_barrier(&rt, &mut world);
 }
 
 /// A worker that asks too late stays before its ask, with its batch.
@@ -386,18 +369,17 @@ fn a_worker_asks_too_late(rt: HostRuntime) {
     let exhausted = Err(Refusal::Exhausted);
     let on = [(Line::Worker(0, WorkerVerb::GoOn), 2, exhausted)];
     let busy = [(Line::Worker(0, WorkerVerb::Take), 1, Err(Refusal::Busy))];
-    match World::new_at(rt.alloc(), SMALL, 4_611_686_018_427_387_904) {
-        Ok(mut world) => {
-            check_rows(&rt, &mut world, &push_rows(0, FIRST));
-            check_rows(&rt, &mut world, &cut_rows(0, FIRST));
-            check_rows(&rt, &mut world, &retire_rows(0, FIRST));
-            check_rows(&rt, &mut world, &take_rows(0));
-            check_rows(&rt, &mut world, &on);
-            check_rows(&rt, &mut world, &busy);
-            assert_eq!(rt; world.log().len(), 4);
-        }
-        Err(_) => assert!(rt; false),
-    }
+    let mut world = World::new_at(rt.alloc(), SMALL, 4_611_686_018_427_387_904).expect(
+        &rt,
+        "ample memory",
+    );
+    check_rows(&rt, &mut world, &push_rows(0, FIRST));
+    check_rows(&rt, &mut world, &cut_rows(0, FIRST));
+    check_rows(&rt, &mut world, &retire_rows(0, FIRST));
+    check_rows(&rt, &mut world, &take_rows(0));
+    check_rows(&rt, &mut world, &on);
+    check_rows(&rt, &mut world, &busy);
+    assert_eq!(rt; world.log().len(), 4);
 }
 
 /// A queue is idle while it is empty, and blocked while an updater has locked it.
@@ -408,19 +390,15 @@ fn a_take_is_idle_and_then_blocked(rt: HostRuntime) {
     let idle = [(take, 1, Ok(Answer::Idle))];
     let busy = [(cut, 1, Err(Refusal::Busy))];
     let blocked = [(take, 1, Ok(Answer::Blocked))];
-    match World::new(rt.alloc(), SMALL) {
-        Ok(mut world) => {
-            check_rows(&rt, &mut world, &idle);
-            check_rows(&rt, &mut world, &push_rows(0, FIRST)[..1]);
-            check_rows(&rt, &mut world, &busy);
-            check_rows(&rt, &mut world, &push_rows(0, FIRST)[1..]);
-            check_rows(&rt, &mut world, &cut_rows(0, FIRST));
-            check_rows(&rt, &mut world, &retire_rows(0, FIRST)[..1]);
-            check_rows(&rt, &mut world, &blocked);
-            check_rows(&rt, &mut world, &retire_rows(0, FIRST)[1..2]);
-        }
-        Err(_) => assert!(rt; false),
-    }
+    let mut world = World::new(rt.alloc(), SMALL).expect(&rt, "ample memory");
+    check_rows(&rt, &mut world, &idle);
+    check_rows(&rt, &mut world, &push_rows(0, FIRST)[..1]);
+    check_rows(&rt, &mut world, &busy);
+    check_rows(&rt, &mut world, &push_rows(0, FIRST)[1..]);
+    check_rows(&rt, &mut world, &cut_rows(0, FIRST));
+    check_rows(&rt, &mut world, &retire_rows(0, FIRST)[..1]);
+    check_rows(&rt, &mut world, &blocked);
+    check_rows(&rt, &mut world, &retire_rows(0, FIRST)[1..2]);
 }
 
 /// An object is retired once, after it is cut, and by the writer of its chain.
@@ -440,18 +418,14 @@ fn only_a_cut_object_is_retired(rt: HostRuntime) {
         1,
         Err(Refusal::NoPlace),
     )];
-    match World::new(rt.alloc(), config) {
-        Ok(mut world) => {
-            check_rows(&rt, &mut world, &refused);
-            check_rows(&rt, &mut world, &push_rows(0, FIRST));
-            check_rows(&rt, &mut world, &refused);
-            check_rows(&rt, &mut world, &cut_rows(0, FIRST));
-            check_rows(&rt, &mut world, &foreign);
-            check_rows(&rt, &mut world, &retire_rows(0, FIRST));
-            check_rows(&rt, &mut world, &refused);
-        }
-        Err(_) => assert!(rt; false),
-    }
+    let mut world = World::new(rt.alloc(), config).expect(&rt, "ample memory");
+    check_rows(&rt, &mut world, &refused);
+    check_rows(&rt, &mut world, &push_rows(0, FIRST));
+    check_rows(&rt, &mut world, &refused);
+    check_rows(&rt, &mut world, &cut_rows(0, FIRST));
+    check_rows(&rt, &mut world, &foreign);
+    check_rows(&rt, &mut world, &retire_rows(0, FIRST));
+    check_rows(&rt, &mut world, &refused);
 }
 
 /// The first updater pushes, cuts and retires the object.
@@ -463,25 +437,21 @@ fn retire_one(rt: &impl Abort, world: &mut World, object: ObjectId) {
 
 #[test]
 fn one_item_is_drained(rt: HostRuntime) {
-    match World::new(rt.alloc(), SMALL) {
-        Ok(mut world) => {
-            retire_one(&rt, &mut world, FIRST);
-            assert_eq!(rt; world.drain(0), Ok(13));
-            let object = FIRST;
-            let log = [
-                Event::Push { chain: 0, object },
-                Event::Cut { chain: 0, object },
-                Event::Retire(object),
-                Event::Queue { object, queue: 0 },
-                Event::Ask(1),
-                Event::Answer(1),
-                Event::Run(object),
-            ];
-            assert_eq!(rt; world.log(), log.as_slice());
-            assert_eq!(rt; world.drain(0), Ok(0));
-        }
-        Err(_) => assert!(rt; false),
-    }
+    let mut world = World::new(rt.alloc(), SMALL).expect(&rt, "ample memory");
+    retire_one(&rt, &mut world, FIRST);
+    assert_eq!(rt; world.drain(0), Ok(13));
+    let object = FIRST;
+    let log = [
+        Event::Push { chain: 0, object },
+        Event::Cut { chain: 0, object },
+        Event::Retire(object),
+        Event::Queue { object, queue: 0 },
+        Event::Ask(1),
+        Event::Answer(1),
+        Event::Run(object),
+    ];
+    assert_eq!(rt; world.log(), log.as_slice());
+    assert_eq!(rt; world.drain(0), Ok(0));
 }
 
 #[test]
@@ -491,59 +461,46 @@ fn two_items_are_drained_past_offline_readers(rt: HostRuntime) {
         readers: 3,
         ..SMALL
     };
-    match World::new(rt.alloc(), config) {
-        Ok(mut world) => {
-            retire_one(&rt, &mut world, FIRST);
-            retire_one(&rt, &mut world, SECOND);
-            assert_eq!(rt; world.drain(0), Ok(15));
-            assert_eq!(rt; world.drain(0), Ok(0));
-        }
-        Err(_) => assert!(rt; false),
-    }
+    let mut world = World::new(rt.alloc(), config).expect(&rt, "ample memory");
+    retire_one(&rt, &mut world, FIRST);
+    retire_one(&rt, &mut world, SECOND);
+    assert_eq!(rt; world.drain(0), Ok(15));
+    assert_eq!(rt; world.drain(0), Ok(0));
 }
 
 #[test]
 fn no_drain_past_an_open_section(rt: HostRuntime) {
-    match World::new(rt.alloc(), SMALL) {
-        Ok(mut world) => {
-            retire_one(&rt, &mut world, FIRST);
-            assert!(rt; world.step(&Line::Reader(0, ReaderVerb::Lock)).is_ok());
-            assert!(rt; world.step(&Line::Reader(0, ReaderVerb::GoOn)).is_ok());
-            assert_eq!(rt; world.drain(0), Err(Refusal::Busy));
-            assert_eq!(rt; world.drain(1), Err(Refusal::NoActor));
-            assert!(rt; world.step(&Line::Reader(0, ReaderVerb::Unlock)).is_ok());
-            assert_eq!(rt; world.drain(0), Ok(13));
-        }
-        Err(_) => assert!(rt; false),
-    }
+    let mut world = World::new(rt.alloc(), SMALL).expect(&rt, "ample memory");
+    retire_one(&rt, &mut world, FIRST);
+    assert!(rt; world.step(&Line::Reader(0, ReaderVerb::Lock)).is_ok());
+    assert!(rt; world.step(&Line::Reader(0, ReaderVerb::GoOn)).is_ok());
+    assert_eq!(rt; world.drain(0), Err(Refusal::Busy));
+    assert_eq!(rt; world.drain(1), Err(Refusal::NoActor));
+    assert!(rt; world.step(&Line::Reader(0, ReaderVerb::Unlock)).is_ok());
+    assert_eq!(rt; world.drain(0), Ok(13));
 }
 
 #[test]
 fn no_drain_beside_an_operation(rt: HostRuntime) {
-    match World::new(rt.alloc(), SMALL) {
-        Ok(mut world) => {
-            assert_eq!(rt; world.drain(0), Ok(0));
-            retire_one(&rt, &mut world, FIRST);
-            assert_eq!(rt;
-                world.step(&Line::Worker(0, WorkerVerb::Take)),
-                Ok(Answer::Quiet)
-            );
-            assert_eq!(rt; world.drain(0), Err(Refusal::Busy));
-        }
-        Err(_) => assert!(rt; false),
-    }
+    let mut world = World::new(rt.alloc(), SMALL).expect(&rt, "ample memory");
+    assert_eq!(rt; world.drain(0), Ok(0));
+    retire_one(&rt, &mut world, FIRST);
+    assert_eq!(rt;
+        world.step(&Line::Worker(0, WorkerVerb::Take)),
+        Ok(Answer::Quiet)
+    );
+    assert_eq!(rt; world.drain(0), Err(Refusal::Busy));
 }
 
 #[test]
 fn no_drain_at_the_end_of_the_numbers(rt: HostRuntime) {
-    match World::new_at(rt.alloc(), SMALL, 4_611_686_018_427_387_904) {
-        Ok(mut world) => {
-            assert_eq!(rt; world.drain(0), Ok(0));
-            retire_one(&rt, &mut world, FIRST);
-            assert_eq!(rt; world.drain(0), Err(Refusal::Exhausted));
-        }
-        Err(_) => assert!(rt; false),
-    }
+    let mut world = World::new_at(rt.alloc(), SMALL, 4_611_686_018_427_387_904).expect(
+        &rt,
+        "ample memory",
+    );
+    assert_eq!(rt; world.drain(0), Ok(0));
+    retire_one(&rt, &mut world, FIRST);
+    assert_eq!(rt; world.drain(0), Err(Refusal::Exhausted));
 }
 
 #[test]
@@ -563,19 +520,15 @@ fn actors_are_in_operations_between_their_steps(rt: HostRuntime) {
         ),
     ];
     for (actor, begins, ends, objects) in rows {
-        match World::new(rt.alloc(), SMALL) {
-            Ok(mut world) => {
-                assert!(rt; !world.is_in_operation(actor));
-                assert!(rt; world.step(&begins).is_ok());
-                assert!(rt; world.is_in_operation(actor));
-                assert!(rt; !world.is_in_operation(Actor::Reader(1)));
-                // The first step gives the number.
-                assert_eq!(rt; world.objects_given(), objects);
-                assert!(rt; world.step(&ends).is_ok());
-                assert!(rt; !world.is_in_operation(actor));
-                assert_eq!(rt; world.objects_given(), objects);
-            }
-            Err(_) => assert!(rt; false),
-        }
+        let mut world = World::new(rt.alloc(), SMALL).expect(&rt, "ample memory");
+        assert!(rt; !world.is_in_operation(actor));
+        assert!(rt; world.step(&begins).is_ok());
+        assert!(rt; world.is_in_operation(actor));
+        assert!(rt; !world.is_in_operation(Actor::Reader(1)));
+        // The first step gives the number.
+        assert_eq!(rt; world.objects_given(), objects);
+        assert!(rt; world.step(&ends).is_ok());
+        assert!(rt; !world.is_in_operation(actor));
+        assert_eq!(rt; world.objects_given(), objects);
     }
 }
