@@ -258,26 +258,22 @@ fn a_fault_is_answered_at_its_byte_and_again(rt: HostRuntime) {
 #[test]
 fn a_whole_schedule_is_read(rt: HostRuntime) {
     let text = b"schedule 2 memb 3 2 1 4\nr2 first c3\nu1 replace o17\nw0 .\n";
-    match read_schedule(rt.alloc(), text) {
-        Ok(schedule) => {
-            let config = Config {
-                layout: Layout::Wide,
-                flavour: Flavour::Memb,
-                readers: 3,
-                updaters: 2,
-                workers: 1,
-                chains: 4,
-            };
-            let lines = [
-                Line::Reader(2, ReaderVerb::First(3)),
-                Line::Updater(1, UpdaterVerb::Replace(ObjectId(17))),
-                Line::Worker(0, WorkerVerb::GoOn),
-            ];
-            assert_eq!(rt; schedule.config, config);
-            assert_eq!(rt; schedule.lines.as_slice(), lines.as_slice());
-        }
-        Err(_) => assert!(rt; false),
-    }
+    let config = Config {
+        layout: Layout::Wide,
+        flavour: Flavour::Memb,
+        readers: 3,
+        updaters: 2,
+        workers: 1,
+        chains: 4,
+    };
+    let lines = [
+        Line::Reader(2, ReaderVerb::First(3)),
+        Line::Updater(1, UpdaterVerb::Replace(ObjectId(17))),
+        Line::Worker(0, WorkerVerb::GoOn),
+    ];
+    let schedule = read_schedule(rt.alloc(), text).expect(&rt, "a good text");
+    assert_eq!(rt; schedule.config, config);
+    assert_eq!(rt; schedule.lines.as_slice(), lines.as_slice());
     assert_eq!(rt;
         read_line(b"u0 cut o0\n"),
         Ok(Line::Updater(0, UpdaterVerb::Cut(ObjectId(0))))

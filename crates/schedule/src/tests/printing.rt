@@ -69,13 +69,9 @@ fn what_is_printed_is_read_again(rt: HostRuntime) -> Result<(), Fail> {
     print_header(rt.alloc(), &config, &mut out)?;
     assert_eq!(rt; out.as_slice(), b"schedule 2 qsbr 64 16 8 1\n".as_slice());
     print_lines(rt.alloc(), &mut out)?;
-    match read_schedule(rt.alloc(), &out) {
-        Ok(schedule) => {
-            assert_eq!(rt; schedule.config, config);
-            check_lines(&rt, &schedule);
-        }
-        Err(_) => assert!(rt; false),
-    }
+    let schedule = read_schedule(rt.alloc(), &out)?;
+    assert_eq!(rt; schedule.config, config);
+    check_lines(&rt, &schedule);
     Ok(())
 }
 
@@ -86,10 +82,8 @@ fn streams_are_read_and_written_whole(rt: HostRuntime) {
             text: b"one text",
             most,
         };
-        match read_whole(rt.alloc(), &mut reader) {
-            Ok(text) => assert_eq!(rt; text.as_slice(), b"one text".as_slice()),
-            Err(_) => assert!(rt; false),
-        }
+        let text = read_whole(rt.alloc(), &mut reader).expect(&rt, "a good reader");
+        assert_eq!(rt; text.as_slice(), b"one text".as_slice());
         let mut sink = Sink {
             bytes: Vec::new(rt.alloc()),
             most,
