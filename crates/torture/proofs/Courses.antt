@@ -1,6 +1,5 @@
 -- The lines of a walk, one after the other.
-use Rattle.std.proofs.Common.{◌≡◌, ℕ, ◌+◌, ◌-◌, ◌≤◌, ◌<◌, Bool, true, false, List, [], ◌∷◌, ◌++◌, length, All, Some, None, Ok, Err, Result, refl, sym, ap, subst, ◌∙◌, arith}
-use Rattle.std.specs.Prelude.{IsTrue}
+use Rattle.std.proofs.Common.{◌≡◌, ℕ, ◌+◌, ◌≤◌, ◌<◌, Bool, true, false, List, [], ◌∷◌, ◌++◌, length, Ok, Err, Result, refl, sym, ap, subst, ◌∙◌, arith}
 use Rattle.std.specs.Prelude.{nat_le, ◌&&◌, ◌⊎◌}
 use Rattle.std.specs.Io.KnownBytes.{Appends}
 use Rattle.std.proofs.Common.{inl, inr, leb, true≢false, append_assoc, Option}
@@ -9,16 +8,15 @@ use Rattle.std.proofs.lemmas.List.{append-nil, flat_map_more, length-append}
 use Rattle.std.proofs.lemmas.List.Elements.{All-nil, All-push}
 use Rattle.world_state.specs.Limits.{is_within_limits}
 use Rattle.schedule.specs.declared.fault.ReplayFault.{ReplayFault}
-use Rattle.schedule.specs.declared.fault.ReplayFault.TheVariants.{Write, Memory}
+use Rattle.schedule.specs.declared.fault.ReplayFault.TheVariants.{Memory}
 use Rattle.schedule.specs.Header.{header}
 use Rattle.schedule.specs.Ports.{Writes}
-use Rattle.schedule.specs.Printed.{lines_text}
 use Rattle.schedule.specs.Spelling.{spelling, IsLine}
 use Rattle.schedule.proofs.KnownBytes.{appends_none, appends_more}
 use Rattle.schedule.proofs.Playing.{after_append}
 use Rattle.torture.specs.declared.command.Walk.{Walk}
 use Rattle.torture.specs.Limits.{is_walk_within}
-use Rattle.torture.specs.Walking.{walk_line, IsDrawn, IsUnderWay, IsPrinting, IsFrontOfSchedule, IsWalked, IsWalkLine, Walks, Schedules, Flushes}
+use Rattle.torture.specs.Walking.{walk_line, IsDrawn, IsUnderWay, IsPrinting, IsWalked, IsWalkLine, Walks, Schedules}
 use Rattle.std.specs.Prelude.{◌↔◌}
 use Rattle.rcu_model.specs.declared.event.Event.{Event}
 use Rattle.rcu_model.specs.declared.verdict.Verdict.{Verdict}
@@ -31,11 +29,11 @@ use Rattle.world_state.specs.declared.config.Flavour.TheVariants.{Memb, Qsbr}
 use Rattle.world_state.specs.declared.line.Line.{Line}
 use Rattle.world_state.specs.declared.change.Change.{Change}
 use Rattle.world_state.specs.declared.change.Change.TheVariants.{Read, Begin, Publish, Grace, Hold, Retire, Bar, Work, Stay}
-use Rattle.world_state.specs.View.{BoardView, Plans, changed}
+use Rattle.world_state.specs.View.{BoardView, changed}
 use Rattle.world_state.proofs.Writes.{spliced_length}
 use Rattle.world_state.proofs.Marking.{length_marked}
 use Rattle.world.specs.Actors.{objects_given}
-use Rattle.world.specs.Lines.{change_of, outcome_of, with_change}
+use Rattle.world.specs.Lines.{change_of, with_change}
 use Rattle.world.specs.Steps.{WorldView, OfMemb, OfQsbr, memb_plans, qsbr_plans, fresh_in, fresh_world, step_of, log_of, world_after_lines}
 
 -- ---- the objects given are no more than the lines

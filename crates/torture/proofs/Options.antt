@@ -1,11 +1,11 @@
 -- Options, added one after the other.
-use Rattle.std.proofs.Common.{◌≡◌, ℕ, List, Option, Some, codes, Bool, true, false, ◌||◌, refl, sym, ap, ap₂, ◌∙◌}
+use Rattle.std.proofs.Common.{◌≡◌, ℕ, List, Option, Some, codes, Bool, true, false, ◌||◌, refl, ap, ap₂, ◌∙◌}
 use Rattle.std.specs.Borrow.{Bor}
 use Rattle.std.specs.Prelude.{Result, Ok, Err, IfOk, IfErr}
 use Rattle.std.proofs.Common.{inl}
 use Rattle.clap.specs.declared.error.Error.{Error}
 use Rattle.clap.specs.declared.parser.matches.ArgMatches.{ArgMatches}
-use Rattle.clap.specs.Words.{FailsBy, Text, fault_of, App, Rule, AddsArg, AddsSubcommand, HasMatchesOf, app_of, is_simple, new_rule, rule_of, subcommand_rows_of, with_rule}
+use Rattle.clap.specs.Words.{FailsBy, Text, fault_of, App, Rule, AddsArg, HasMatchesOf, app_of, is_simple, new_rule, rule_of, subcommand_rows_of, with_rule}
 use Rattle.clap.specs.declared.builder.arg.Arg.{Arg}
 use Rattle.clap.specs.declared.builder.command.Command.{Command}
 use Rattle.clap.specs.declared.builder.command.Command.TheViews.{out-Command as fields_of}

@@ -1,5 +1,5 @@
 -- What the getters of `clap` read of an option.
-use Rattle.std.proofs.Common.{◌≡◌, ℕ, Bool, true, false, List, Option, Some, None, refl, sym, ap, ◌∙◌, ◌^◌, ◌-◌, ◌<◌, ◌≤◌, arith, codes}
+use Rattle.std.proofs.Common.{◌≡◌, ℕ, Bool, true, false, Option, Some, None, refl, sym, ap, ◌∙◌, ◌^◌, ◌-◌, ◌<◌, ◌≤◌, arith, codes}
 use Rattle.std.specs.Prelude.{Result, Ok, Err, option_and_then, option_map, unwrap_or}
 use Rattle.std.specs.Str.{bytes_eq}
 use Rattle.std.specs.Option.{option_map_or}

@@ -1,5 +1,5 @@
 -- The limits of what the program is asked to do.
-use Rattle.std.specs.Prelude.{ℕ, ◌+◌, ◌&&◌, nat_le, nat_lt, Bool, true, IsTrue, Option}
+use Rattle.std.specs.Prelude.{◌+◌, ◌&&◌, nat_le, nat_lt, Bool, true, IsTrue}
 use Rattle.std.specs.Option.{option_map_or}
 use Rattle.world_state.specs.declared.config.Config.{Config}
 use Rattle.world_state.specs.Limits.{is_in, is_within_limits}

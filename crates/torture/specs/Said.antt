@@ -12,7 +12,6 @@ use Rattle.world_state.specs.declared.config.Flavour.{Flavour}
 use Rattle.world_state.specs.declared.config.Flavour.TheVariants.{Memb, Qsbr}
 use Rattle.torture.specs.declared.command.Command.{Command}
 use Rattle.torture.specs.declared.command.Command.TheVariants as command
-use Rattle.torture.specs.declared.command.Stop.{Stop}
 use Rattle.torture.specs.declared.command.Walk.{Walk}
 
 -- the number that the text writes, where it is one of so many bits

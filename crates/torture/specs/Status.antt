@@ -4,7 +4,6 @@ use Rattle.std.specs.declared.io.ErrorKind.{ErrorKind}
 use Rattle.std.specs.declared.io.ErrorKind.TheVariants.{InvalidData}
 use Rattle.rcu_model.specs.declared.verdict.Verdict.{Verdict}
 use Rattle.rcu_model.specs.declared.verdict.Verdict.TheVariants.{Yes, No}
-use Rattle.schedule.specs.declared.counts.Counts.{Counts}
 use Rattle.schedule.specs.declared.fault.ReplayFault.{ReplayFault}
 use Rattle.schedule.specs.declared.fault.ReplayFault.TheVariants.{BadText, BadConfig, Read, Write, Memory}
 use Rattle.schedule.specs.Ports.{Replays}

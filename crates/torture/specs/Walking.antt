@@ -10,7 +10,7 @@ use Rattle.world_state.specs.declared.line.Line.{Line}
 use Rattle.world.specs.Steps.{WorldView, fresh_world, log_of, world_after_lines}
 use Rattle.schedule.specs.declared.counts.Counts.{Counts}
 use Rattle.schedule.specs.declared.fault.ReplayFault.{ReplayFault}
-use Rattle.schedule.specs.declared.fault.ReplayFault.TheVariants.{BadText, BadConfig, Read, Write, Memory}
+use Rattle.schedule.specs.declared.fault.ReplayFault.TheVariants.{Write, Memory}
 use Rattle.schedule.specs.Answers.{counts_of}
 use Rattle.schedule.specs.Header.{header}
 use Rattle.schedule.specs.Ports.{Writes}

@@ -1,6 +1,6 @@
 -- The words that the program takes.
 use Rattle.std.specs.Prelude.{◌≡◌, ℕ, ◌⊎◌, true, false, List, [], ◌∷◌, map, Option, Some, None, codes, ◌^◌, ◌-◌}
-use Rattle.clap.specs.Words.{App, Row, Shape, Rule, Text, subcommand_of, app_of, fault_of, kind_of, new_app, new_rule, with_rule, with_subcommand, HasKind}
+use Rattle.clap.specs.Words.{App, Row, Rule, Text, subcommand_of, app_of, fault_of, kind_of, new_app, new_rule, with_rule, with_subcommand, HasKind}
 use Rattle.clap.specs.declared.builder.action.ArgAction.TheVariants.{SetTrue}
 use Rattle.clap.specs.declared.builder.command.Command.{Command}
 use Rattle.clap.specs.declared.builder.value_parser.ValueParser.TheVariants.{Names, Unsigned}

@@ -1,7 +1,6 @@
-use Rattle.std.proofs.Common.{◌≡◌, ap, ◌∙◌, codes, refl, Some, Option}
-use Rattle.clap.specs.Words.{Rule, rule_of}
+use Rattle.std.proofs.Common.{ap, ◌∙◌, codes, refl}
+use Rattle.clap.specs.Words.{rule_of}
 use Rattle.clap.specs.declared.builder.arg.Arg.{Arg}
-use Rattle.clap.specs.declared.builder.value_parser.ValueParser.{ValueParser}
 use Rattle.torture.specs.Words.{or_else}
 use Rattle.torture.proofs.Options.{flavour_known}
 use Rattle.torture.proofs.program.flavour.Goals as goal

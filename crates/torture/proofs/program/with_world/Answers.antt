@@ -1,6 +1,6 @@
-use Rattle.std.proofs.Common.{rules, ◌≡◌, codes, refl, false, ◌^◌, ◌-◌}
+use Rattle.std.proofs.Common.{codes, refl}
 use Rattle.std.proofs.lemmas.Result.{IfOk-weaker}
-use Rattle.clap.specs.Words.{Rule, app_of, rule_of, with_rule}
+use Rattle.clap.specs.Words.{Rule, app_of, with_rule}
 use Rattle.torture.specs.Words.{or_else, number_rule, flavour_rule, AddsWorld}
 use Rattle.torture.proofs.Options.{with_more, default_rule, default_own}
 use Rattle.torture.proofs.program.with_world.Goals as goal
