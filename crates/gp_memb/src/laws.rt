@@ -6,8 +6,9 @@ ghost use Rattle.gp_memb.specs.Plan.{WaitsForOpen};
 ghost use Rattle.gp_memb.specs.Memb.{memb_begun, memb_action};
 ghost use Rattle.gp_memb.specs.Shorter.{one_flip, one_scan, stops_at_empty};
 
-/// A plan of one flip, one of two flips with one scan, and one that stops scanning at the first empty slot each break the
-/// grace-period law, in both layouts: each can be finished while a section is open that was open at its first store.
+/// A plan of one flip, one of two flips with one scan, and one that stops scanning at the first empty slot each break
+/// the grace-period law, in both layouts: each can be finished while a section is open that was open at its first
+/// store.
 pub fn shorter_plans_break_the_law()
     ensures one_flip { (layout : Layout) → ¬ WaitsForOpen false memb_action one_flip layout 1 0 (memb_begun layout 1 0 false) }
     ensures one_scan { (layout : Layout) → ¬ WaitsForOpen false memb_action one_scan layout 1 0 (memb_begun layout 1 0 false) }

@@ -31,7 +31,8 @@ pub enum Turn {
     Wait,
 }
 
-/// The steps of a grace period: what to load and store next, until every section that was open at the first store has ended.
+/// The steps of a grace period: what to load and store next, until every section that was open at the first store has
+/// ended.
 pub trait GracePlan: Sized {
     /// Whether the plan is of the quiescent-state flavour, so that it stores a number and no phase.
     ghost QSBR: { Bool };
@@ -79,7 +80,8 @@ pub trait GracePlan: Sized {
     /// The first turn stores the next sequence number, the last one the number after that, and no other stores one.
     ghost order: { (layout : Layout) (slots seq word : ℕ) (plan : Self) → is_begun layout slots seq word plan → StoresInOrder action taken seq plan };
 
-    /// Over R slots, the plan is finished exactly when 2R + 4 of its turns were steps, or R + 3 in the quiescent-state flavour.
+    /// Over R slots, the plan is finished exactly when 2R + 4 of its turns were steps, or R + 3 in the quiescent-state
+    /// flavour.
     ghost finishes: { (layout : Layout) (slots seq word : ℕ) (plan : Self) → is_begun layout slots seq word plan → 1 ≤ slots → FinishesAfter action turn taken plan (turn_count QSBR slots) };
 
     /// Only slots that are there are loaded.

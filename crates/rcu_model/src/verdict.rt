@@ -21,7 +21,8 @@ pub enum Rule {
     Retirement,
     /// A retired object is queued once, and its callback runs once, when no section that it awaits is left: `call_rcu`.
     Reclaiming,
-    /// A grace period and a barrier are over once, when nothing that they await is left: `synchronize_rcu`, `rcu_barrier`.
+    /// A grace period and a barrier are over once, when nothing that they await is left: `synchronize_rcu`,
+    /// `rcu_barrier`.
     Asking,
 }
 

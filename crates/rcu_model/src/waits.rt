@@ -43,8 +43,8 @@ impl Waits {
         }
     }
 
-    /// Begins a wait for who came before the moment: false where its number has begun before, and then the waits are of no
-    /// more use.
+    /// Begins a wait for who came before the moment: false where its number has begun before, and then the waits are of
+    /// no more use.
     ///
     /// # Errors
     /// `AllocError` where memory was refused.

@@ -1,5 +1,5 @@
-//! The text of an event as an event. Each reads at the front of the text, and gives the byte that ended the event and the
-//! bytes after it, or the bytes from the first bad one on. A line feed may end an event, and one other byte.
+//! The text of an event as an event. Each reads at the front of the text, and gives the byte that ended the event and
+//! the bytes after it, or the bytes from the first bad one on. A line feed may end an event, and one other byte.
 
 ghost use Rattle.schedule.specs.Reading.{Gives};
 ghost use Rattle.schedule.specs.AnswerGrammar.{byte_at, long_at, short_at, object_at, marked_object_at, section_at, found_at, section_event_at, first_at, next_at, touch_at, reading_event_at, push_at, cut_at, replace_at, chain_event_at, queue_at, retire_at, run_at, object_event_at, wait_event_at, event_rest};

@@ -60,9 +60,9 @@ impl Replay {
         }
     }
 
-    /// Takes the next piece, and writes the answer of each line that ends in it at the end of `out`: a piece more of what
-    /// the text prints. `BadText` at the first byte with which no line of its place goes on, `BadConfig` and `Memory`.
-    /// After a fault each call answers the same fault, and writes nothing.
+    /// Takes the next piece, and writes the answer of each line that ends in it at the end of `out`: a piece more of
+    /// what the text prints. `BadText` at the first byte with which no line of its place goes on, `BadConfig` and
+    /// `Memory`. After a fault each call answers the same fault, and writes nothing.
     pub fn feed(&mut self, piece: &[u8], out: &mut Vec<u8>) -> Result<(), ReplayFault>
         ensures feeds { Feeds self.old self.new piece.now out.old.items out.new.items result }
         ensures sound { OnOk result (IsSound self.new) }

@@ -86,8 +86,8 @@ impl Held {
         }
     }
 
-    /// The header that ends in the text, and what follows it, if one does; else the text is held. Or the column of a byte
-    /// with which no header goes on.
+    /// The header that ends in the text, and what follows it, if one does; else the text is held. Or the column of a
+    /// byte with which no header goes on.
     pub fn next_header<'a>(&mut self, text: &'a [u8]) -> Result<Option<(Config, &'a [u8])>, usize>
         ensures { header_at self.old ≡ Err [] → Next header_at self.old text.now self.new result }
     {
@@ -133,8 +133,8 @@ impl Held {
         }
     }
 
-    /// The line that stands first in what is held and the text, and what follows it, if it is whole; else the text is held.
-    /// Or the column of a byte with which no line goes on.
+    /// The line that stands first in what is held and the text, and what follows it, if it is whole; else the text is
+    /// held. Or the column of a byte with which no line goes on.
     pub fn next_line<'a>(&mut self, text: &'a [u8]) -> Result<Option<(Line, &'a [u8])>, usize>
         ensures next { line_at self.old ≡ Err [] → Next line_at self.old text.now self.new result }
         ensures shrinks { IfOk result (λ next. IfSome next (λ x. length x.1.now < length text.now)) }

@@ -10,9 +10,9 @@ ghost use Rattle.schedule.specs.Stream.{IsAnswered};
 
 use world::{every_schedule_reclaims_safely, numbers_count_lines};
 
-/// What a text prints is lines of answers that tell the log of the world after the text's lines, where it is less than 2^63
-/// bytes, as every slice is. So that log is what `read_answers` reads in the answers and end line of a good text, in the
-/// answers to the lines before a bad one, and in what a replay has printed so far.
+/// What a text prints is lines of answers that tell the log of the world after the text's lines, where it is less than
+/// 2^63 bytes, as every slice is. So that log is what `read_answers` reads in the answers and end line of a good text,
+/// in the answers to the lines before a bad one, and in what a replay has printed so far.
 pub fn answers_tell_the_log()
     ensures whole { (text printed : List ℕ) (counts : Counts) → length printed < 2 ^ 63 → (good : Good text printed counts) → TellsTheLogAfter good.config good.lines printed }
     ensures broken_off { (text printed : List ℕ) (line column : ℕ) → length printed < 2 ^ 63 → (bad : BadLine text printed line column) → TellsTheLogAfter bad.config bad.lines printed }

@@ -39,9 +39,9 @@ fn close<W: Write>(
     counts
 }
 
-/// Reads a schedule to its end, writes the answer of each line and then the end line, and answers the counts of that line.
-/// What each piece gives is written before the next one is read. `BadText`, `BadConfig`, `Read`, `Write` and `Memory`
-/// as they come: nothing is read or written again after an error.
+/// Reads a schedule to its end, writes the answer of each line and then the end line, and answers the counts of that
+/// line. What each piece gives is written before the next one is read. `BadText`, `BadConfig`, `Read`, `Write` and
+/// `Memory` as they come: nothing is read or written again after an error.
 pub fn replay<R: Read, W: Write>(
     alloc: Global,
     reader: &mut R,

@@ -46,9 +46,9 @@ fn end<F: Write>(ended: Result<u8, ReplayFault>, faults: &mut F) -> u8
     }
 }
 
-/// Does what the command says, from the reader to the writer. A fault is told on `faults`, where a write error is passed
-/// over. Answers what the program ends with: 0 good, 1 a log that is no run, 2 bad input, 3 a fault of reading, writing
-/// or memory.
+/// Does what the command says, from the reader to the writer. A fault is told on `faults`, where a write error is
+/// passed over. Answers what the program ends with: 0 good, 1 a log that is no run, 2 bad input, 3 a fault of reading,
+/// writing or memory.
 pub fn execute<R: Read, W: Write, F: Write>(
     alloc: Global,
     command: Command,

@@ -124,8 +124,8 @@ fn walked(alloc: Global, walk: &Walk) -> Result<World, ReplayFault>
     Ok(walking.world)
 }
 
-/// Draws and steps the lines, judges the log of the world, and writes one line: what happened, and the verdict, which is
-/// yes. `Memory` writes nothing, and `Write` a beginning of that line.
+/// Draws and steps the lines, judges the log of the world, and writes one line: what happened, and the verdict, which
+/// is yes. `Memory` writes nothing, and `Write` a beginning of that line.
 pub fn walk<W: Write>(alloc: Global, walk: &Walk, writer: &mut W) -> Result<Verdict, ReplayFault>
     requires { IsTrue (is_walk_within walk.now) }
     ensures { Walks walk.now (W.contents writer.old) (W.contents writer.new) result }
@@ -144,8 +144,8 @@ pub fn walk<W: Write>(alloc: Global, walk: &Walk, writer: &mut W) -> Result<Verd
     Ok(verdict)
 }
 
-/// Draws and steps the lines, and writes them as a schedule. They are written as they come: a few thousand bytes are kept.
-/// `Write` and `Memory` write a beginning of it.
+/// Draws and steps the lines, and writes them as a schedule. They are written as they come: a few thousand bytes are
+/// kept. `Write` and `Memory` write a beginning of it.
 pub fn print_schedule<W: Write>(
     alloc: Global,
     walk: &Walk,

@@ -40,7 +40,8 @@ impl<P: WorldPlan + Drop> Board<P> {
         if items == 0 {
             return Ok(0);
         }
-        // The log has room for the ask, its answer, and a run of each item, or it is refused; no memory has 2^62 events.
+        // The log has room for the ask, its answer, and a run of each item, or it is refused; no memory has 2^62
+        // events.
         if items >= END_OF_NUMBERS || self.log.reserve(items as usize + 2).is_err() {
             return Err(Refusal::Memory);
         }

@@ -28,9 +28,9 @@ pub(crate) fn numbers_stay_in_range<P: WorldPlan>()
     ensures { (w : BoardView P) → IsReached (plans_of P.QSBR P.made P.action P.turn P.taken) w → IsInRange (plans_of P.QSBR P.made P.action P.turn P.taken) w }
 {}
 
-/// The headline, for every config and first sequence number that make a world, and all lines: the log holds the events of
-/// the answers in order, and is a run of the abstract machine, in which an object's callback runs at most once and only
-/// after every section open at its retirement has ended, so no section ever reads or finds a reclaimed object.
+/// The headline, for every config and first sequence number that make a world, and all lines: the log holds the events
+/// of the answers in order, and is a run of the abstract machine, in which an object's callback runs at most once and
+/// only after every section open at its retirement has ended, so no section ever reads or finds a reclaimed object.
 pub fn every_schedule_reclaims_safely()
     ensures events { (config : Config) (seq : ℕ) (lines : List Line) → log_of (world_after_lines (fresh_world_at config seq) lines) ≡ answered_events (fresh_world_at config seq) lines }
     ensures run { (config : Config) (seq : ℕ) (lines : List Line) → IsTrue (is_supported_at config seq) → IsRun (log_of (world_after_lines (fresh_world_at config seq) lines)) }
