@@ -1,6 +1,6 @@
 //! All the bytes of a reader, and all the bytes into a writer.
 
-ghost use Rattle.std.specs.Prelude.{IfOk, IfErr};
+ghost use Rattle.std.specs.Prelude.{◌≢◌, [], IfOk, IfErr};
 ghost use Rattle.schedule.specs.Ports.{Tells, Writes, ReadsNoMore};
 
 use crate::fault::ReplayFault;
@@ -31,7 +31,9 @@ pub fn read_whole<R: Read>(alloc: Global, reader: &mut R) -> Result<Vec<u8>, Rep
 
 /// Writes all the bytes. `Write` at the first error, and where a write takes nothing: nothing more is written then.
 pub fn write_whole<W: Write>(writer: &mut W, bytes: &[u8]) -> Result<(), ReplayFault>
-    ensures { Writes (W.contents writer.old) (W.contents writer.new) bytes.now result }
+    ensures written { Writes (W.contents writer.old) (W.contents writer.new) bytes.now result }
+    // There was something to write.
+    ensures some { IfErr result (λ fault. bytes.now ≢ []) }
 {
     let mut rest = bytes;
     while !rest.is_empty() {

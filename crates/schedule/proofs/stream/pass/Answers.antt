@@ -15,7 +15,7 @@ returns-in_err-write_whole g c = λ fed earlier s.
     let new = c.feed-fed.new.self in
     let all = fed ++ c.args.piece.now in
     let leads = subst (λ (b : List ℕ). LeadsTo c.feed-fed.result new all earlier b out) c.clear.ensures.items (c.feed-fed.ensures.feeds fed earlier s) in
-    rw (p.1, p.2) (pass_cut new all earlier out before after c.feed-fed.result c.in_err-write_whole.field-0.0 leads (subst (λ (b : List ℕ). Writes before after b (Err c.in_err-write_whole.field-0.0)) c.deref.ensures.value c.in_err-write_whole.ensures))
+    rw (p.1, p.2) (pass_cut new all earlier out before after c.feed-fed.result c.in_err-write_whole.field-0.0 leads (subst (λ (b : List ℕ). Writes before after b (Err c.in_err-write_whole.field-0.0)) c.deref.ensures.value c.in_err-write_whole.ensures.written))
 
 pub returns : goal.returns
 returns g c = λ fed earlier s.
@@ -25,4 +25,4 @@ returns g c = λ fed earlier s.
     let new = c.feed-fed.new.self in
     let all = fed ++ c.args.piece.now in
     let leads = subst (λ (b : List ℕ). LeadsTo c.feed-fed.result new all earlier b out) c.clear.ensures.items (c.feed-fed.ensures.feeds fed earlier s) in
-    pass_whole new all earlier out before after c.feed-fed.result leads c.feed-fed.ensures.sound (subst (λ (b : List ℕ). Appends before after b) c.deref.ensures.value c.in_ok-write_whole.ensures)
+    pass_whole new all earlier out before after c.feed-fed.result leads c.feed-fed.ensures.sound (subst (λ (b : List ℕ). Appends before after b) c.deref.ensures.value c.in_ok-write_whole.ensures.written)

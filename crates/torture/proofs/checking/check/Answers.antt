@@ -15,4 +15,4 @@ returns-in_err-write_whole g c =
     c.in_ok-text.ensures.whole
     (subst (λ (t : List ℕ). TellsLog t log) c.deref.ensures.value c.in_ok-log.ensures.told)
     (subst (λ (l : List Event). Judges c.in_ok-verdict.verdict l) c.deref-2.ensures.value c.in_ok-verdict.ensures.judged) (c.as_bytes.ensures.value ∙ c.in_ok-line.ensures.ok ∙ ap (λ (n : ℕ). verdict_line c.in_ok-verdict.verdict n) (c.len-events.ensures ∙ c.in_ok-log.log.ok.0))
-    c.in_err-write_whole.ensures)
+    c.in_err-write_whole.ensures.written)

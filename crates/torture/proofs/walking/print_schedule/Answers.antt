@@ -43,4 +43,4 @@ loop-done-preserved g c =
     c.in_ok-flush_full.ensures
 
 pub returns : goal.returns
-returns g c = print_end c.args.walk.now c.loop-done.walking.world c.loop-done.done (g.W.Write.contents c.args.writer.now) (g.W.Write.contents c.loop-done.writer) (g.W.Write.contents c.write_whole.new.writer) c.loop-done.out.items c.deref.result.now c.write_whole.result c.loop-done.invariant (omega (arith, c.loop-done-test.false, c.loop-done.auto.done-end)) c.deref.ensures.value c.write_whole.ensures
+returns g c = print_end c.args.walk.now c.loop-done.walking.world c.loop-done.done (g.W.Write.contents c.args.writer.now) (g.W.Write.contents c.loop-done.writer) (g.W.Write.contents c.write_whole.new.writer) c.loop-done.out.items c.deref.result.now c.write_whole.result c.loop-done.invariant (omega (arith, c.loop-done-test.false, c.loop-done.auto.done-end)) c.deref.ensures.value c.write_whole.ensures.written
