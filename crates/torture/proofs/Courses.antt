@@ -6,7 +6,7 @@ use Rattle.std.proofs.Common.{inl, inr, leb, true≢false, append_assoc, Option}
 use Rattle.std.proofs.lemmas.Bool.Decides.{leb_tells}
 use Rattle.std.proofs.lemmas.List.{append-nil, flat_map_more, length-append}
 use Rattle.std.proofs.lemmas.List.Elements.{All-nil, All-push}
-use Rattle.world_state.specs.Limits.{is_within_limits}
+use Rattle.world_state.specs.Limits.{is_in, is_within_limits}
 use Rattle.schedule.specs.declared.fault.ReplayFault.{ReplayFault}
 use Rattle.schedule.specs.declared.fault.ReplayFault.TheVariants.{Memory}
 use Rattle.schedule.specs.Header.{header}
@@ -84,6 +84,16 @@ at_most a b f = by (leb_tells a b) f
 
 few_lines : (walk : Walk) → is_walk_within walk ≡ true → walk.lines ≤ 1000000
 few_lines walk e = at_most walk.lines 1000000 (both (is_within_limits walk.config) (nat_le walk.lines 1000000) (both (is_within_limits walk.config && nat_le walk.lines 1000000) _ e).0).1
+
+within_config : (walk : Walk) → is_walk_within walk ≡ true → is_within_limits walk.config ≡ true
+within_config walk e = (both (is_within_limits walk.config) (nat_le walk.lines 1000000) (both (is_within_limits walk.config && nat_le walk.lines 1000000) _ e).0).0
+
+pub few_updaters : (walk : Walk) → is_walk_within walk ≡ true → walk.config.updaters ≤ 16
+few_updaters walk e =
+    let c = walk.config in
+    let three = (both (is_in 1 64 c.readers && is_in 1 16 c.updaters && is_in 1 8 c.workers) (is_in 1 64 c.chains) (within_config walk e)).0 in
+    let two = (both (is_in 1 64 c.readers && is_in 1 16 c.updaters) (is_in 1 8 c.workers) three).0 in
+    at_most c.updaters 16 (both (nat_le 1 c.updaters) (nat_le c.updaters 16) (both (is_in 1 64 c.readers) (is_in 1 16 c.updaters) two).1).1
 
 -- ---- from line to line
 

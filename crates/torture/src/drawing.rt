@@ -1,16 +1,19 @@
 //! The draw of a walk: which actor makes the next line, and what it is told.
 
-ghost use Rattle.std.specs.Prelude.{◌<◌, ◌≤◌, ◌+◌, IsTrue};
+ghost use Rattle.std.specs.Prelude.{◌≡◌, ◌<◌, ◌≤◌, ◌+◌, IsTrue};
+ghost use Rattle.rand_pcg.specs.Lcg.{Lcg};
 ghost use Rattle.world_state.specs.Limits.{is_within_limits};
 ghost use Rattle.world.specs.Actors.{objects_given};
 ghost use Rattle.schedule.specs.Spelling.{IsLine, IsReaderVerb, IsUpdaterVerb};
 ghost use Rattle.torture.specs.Limits.{is_walk_within};
-ghost use Rattle.torture.specs.Drawing.{IsNumberedAmong};
+ghost use Rattle.torture.specs.Drawing.{IsNumberedAmong, seeded, draw_below, draw_object, draw_actor, draw_reader_verb, draw_updater_verb, draw_line, actor_numbered, actors_in, who_comes};
 
 use crate::command::{Walk, actors};
-use rand_core::{Rng, SeedableRng};
+use rand_core::SeedableRng;
+use rand_core::utils::NextWord;
 use rand_pcg::Pcg32;
 use rcu_model::ObjectId;
+use std::marker::Model;
 use world::{Actor, Config, Flavour, Line, ReaderVerb, UpdaterVerb, WorkerVerb, World};
 
 /// What a walk draws from.
@@ -19,9 +22,20 @@ pub struct Draw {
     words: Pcg32,
 }
 
+// Contracts see the generator.
+impl Model for Draw {
+    ghost Value = { Lcg };
+
+    ghost view = { λ draw. draw.words };
+
+    ghost inverse = { λ generator. record { words = generator } };
+}
+
 impl Draw {
     /// The draw that the seed begins.
-    pub fn new(seed: u64) -> Draw {
+    pub fn new(seed: u64) -> Draw
+        ensures { result ≡ seeded seed }
+    {
         Draw {
             words: Pcg32::seed_from_u64(seed),
         }
@@ -30,37 +44,36 @@ impl Draw {
     /// The next word's remainder.
     fn below(&mut self, bound: u32) -> u32
         requires { 0 < bound }
-        ensures { result < bound }
+        ensures limit { result < bound }
+        ensures drawn { (result, self.new) ≡ draw_below bound self.old }
     {
-        self.words.next_u32() % bound
+        self.words.next_word() % bound
     }
 
     /// One of the objects given so far, or 0, which is none.
     fn object(&mut self, given: u64) -> ObjectId
         requires { given < 1000000 }
-        ensures { result.0 ≤ given }
+        ensures limit { result.0 ≤ given }
+        ensures drawn { (result, self.new) ≡ draw_object given self.old }
     {
-        ObjectId(u64::from(self.words.next_u32()) % (given + 1))
+        ObjectId(u64::from(self.words.next_word()) % (given + 1))
     }
 
     /// Who makes the line of this number. In the place of one who has stopped it is the next one.
     fn actor(&mut self, walk: &Walk, number: u32) -> Actor
         requires { IsTrue (is_walk_within walk.now) }
-        ensures { IsNumberedAmong walk.now.config result }
+        ensures limit { IsNumberedAmong walk.now.config result }
+        ensures drawn { (result, self.new) ≡ draw_actor walk.now number self.old }
     {
-        let actors = actors(&walk.config);
-        let drawn = self.below(actors);
-        let number = match walk.stop {
-            Some(stop) if stop.actor == drawn && stop.from <= number => (drawn + 1) % actors,
-            _ => drawn,
-        };
-        actor_of(&walk.config, number)
+        let drawn = self.below(actors(&walk.config));
+        actor_of(&walk.config, who_comes(walk, number, drawn))
     }
 
     /// What a reader in no operation is told.
     fn reader_verb(&mut self, config: &Config) -> ReaderVerb
         requires { (0 < config.now.chains) × (config.now.chains ≤ 64) }
-        ensures { IsReaderVerb result }
+        ensures limit { IsReaderVerb result }
+        ensures drawn { (result, self.new) ≡ draw_reader_verb config.now.flavour config.now.chains self.old }
     {
         match config.flavour {
             Flavour::Memb => match self.below(5) {
@@ -85,7 +98,8 @@ impl Draw {
     fn updater_verb(&mut self, config: &Config, given: u64) -> UpdaterVerb
         requires chains { (0 < config.now.chains) × (config.now.chains ≤ 64) }
         requires given { given < 1000000 }
-        ensures { IsUpdaterVerb result }
+        ensures limit { IsUpdaterVerb result }
+        ensures drawn { (result, self.new) ≡ draw_updater_verb config.now.chains given self.old }
     {
         match self.below(8) {
             0 => UpdaterVerb::Push(self.below(config.chains)),
@@ -104,7 +118,8 @@ impl Draw {
     pub fn line(&mut self, walk: &Walk, number: u32, world: &World) -> Line
         requires walk { IsTrue (is_walk_within walk.now) }
         requires given { objects_given world.now < 1000000 }
-        ensures { IsLine result }
+        ensures limit { IsLine result }
+        ensures drawn { (result, self.new) ≡ draw_line walk.now number world.now self.old }
     {
         let actor = self.actor(walk, number);
         let goes_on = world.is_in_operation(actor);
@@ -122,11 +137,27 @@ impl Draw {
     }
 }
 
+/// Who comes to the line of this number where this one was drawn.
+fn who_comes(walk: &Walk, number: u32, drawn: u32) -> u32
+    requires config { IsTrue (is_within_limits walk.now.config) }
+    requires drawn { drawn < actors_in walk.now.config }
+    ensures limit { result < actors_in walk.now.config }
+    ensures comes { result ≡ who_comes walk.now number drawn }
+{
+    match walk.stop {
+        Some(stop) if stop.actor == drawn && stop.from <= number => {
+            (drawn + 1) % actors(&walk.config)
+        }
+        _ => drawn,
+    }
+}
+
 /// The actor of this number: readers first, then updaters, then workers.
 fn actor_of(config: &Config, number: u32) -> Actor
     requires number { number < config.now.readers + config.now.updaters + config.now.workers }
     requires config { IsTrue (is_within_limits config.now) }
-    ensures { IsNumberedAmong config.now result }
+    ensures limit { IsNumberedAmong config.now result }
+    ensures numbered { result ≡ actor_numbered config.now number }
 {
     if number < config.readers {
         return Actor::Reader(number);

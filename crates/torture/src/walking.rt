@@ -6,6 +6,7 @@ ghost use Rattle.world.specs.Steps.{fresh_world, step_of};
 ghost use Rattle.schedule.specs.declared.fault.ReplayFault.TheVariants.{Memory};
 ghost use Rattle.schedule.specs.Spelling.{IsLine};
 ghost use Rattle.torture.specs.Limits.{is_walk_within};
+ghost use Rattle.torture.specs.Drawing.{seeded, draw_line};
 ghost use Rattle.torture.specs.Walking.{counts_text, verdict_text, walk_text, IsWalked, Walks, Schedules, Flushes};
 
 use crate::checking::judge;
@@ -30,6 +31,7 @@ impl Walking {
     fn new(alloc: Global, walk: &Walk) -> Result<Walking, ReplayFault>
         requires { IsTrue (is_walk_within walk.now) }
         ensures ok { IfOk result (λ walking. walking.world ≡ fresh_world walk.now.config) }
+        ensures draw { IfOk result (λ walking. walking.draw ≡ seeded walk.now.seed) }
         ensures memory { IfErr result (λ fault. fault ≡ Memory) }
     {
         match World::new(alloc, walk.config) {
@@ -47,6 +49,7 @@ impl Walking {
         requires walk { IsTrue (is_walk_within walk.now) }
         requires given { objects_given self.old.world < 1000000 }
         ensures line { IfOk result IsLine }
+        ensures drawn { IfOk result (λ line. (line, self.new.draw) ≡ draw_line walk.now number self.old.world self.old.draw) }
         ensures world { IfOk result (λ line. self.new.world ≡ (step_of self.old.world line).world) }
         ensures memory { IfErr result (λ fault. fault ≡ Memory) }
     {
