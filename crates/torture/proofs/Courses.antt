@@ -1,11 +1,12 @@
 -- The lines of a walk, one after the other.
-use Rattle.std.proofs.Common.{◌≡◌, ℕ, ◌+◌, ◌≤◌, ◌<◌, Bool, true, false, List, [], ◌∷◌, ◌++◌, length, Ok, Err, Result, refl, sym, ap, subst, ◌∙◌, arith}
+use Rattle.std.proofs.Common.{◌≡◌, ℕ, suc, ◌+◌, ◌≤◌, ◌<◌, Bool, true, false, List, [], ◌∷◌, ◌++◌, length, Ok, Err, Result, refl, sym, ap, subst, ◌∙◌, arith}
 use Rattle.std.specs.Prelude.{nat_le, ◌&&◌, ◌⊎◌}
 use Rattle.std.specs.Io.KnownBytes.{Appends}
 use Rattle.std.proofs.Common.{inl, inr, leb, true≢false, append_assoc, Option}
 use Rattle.std.proofs.lemmas.Bool.Decides.{leb_tells}
 use Rattle.std.proofs.lemmas.List.{append-nil, flat_map_more, length-append}
 use Rattle.std.proofs.lemmas.List.Elements.{All-nil, All-push}
+use Rattle.rand_pcg.specs.Lcg.{Lcg}
 use Rattle.world_state.specs.Limits.{is_in, is_within_limits}
 use Rattle.schedule.specs.declared.fault.ReplayFault.{ReplayFault}
 use Rattle.schedule.specs.declared.fault.ReplayFault.TheVariants.{Memory}
@@ -16,6 +17,7 @@ use Rattle.schedule.proofs.KnownBytes.{appends_none, appends_more}
 use Rattle.schedule.proofs.Playing.{after_append}
 use Rattle.torture.specs.declared.command.Walk.{Walk}
 use Rattle.torture.specs.Limits.{is_walk_within}
+use Rattle.torture.specs.Drawing.{Drawn, drawn_as, seeded, draw_line, with_next, draw_lines}
 use Rattle.torture.specs.Walking.{walk_line, IsDrawn, IsUnderWay, IsPrinting, IsWalked, IsWalkLine, Walks, Schedules}
 use Rattle.std.specs.Prelude.{◌↔◌}
 use Rattle.rcu_model.specs.declared.event.Event.{Event}
@@ -97,68 +99,92 @@ few_updaters walk e =
 
 -- ---- from line to line
 
-pub begun : (walk : Walk) (world : WorldView) → world ≡ fresh_world walk.config → IsUnderWay walk world 0 []
-begun walk world e = record { count = refl; each = All-nil IsLine; now = e }
+no_lines : (walk : Walk) → draw_lines walk 0 ≡ ([], seeded walk.seed)
+unfolding draw_lines
+no_lines walk = refl
 
-pub room : (walk : Walk) (world : WorldView) (n : ℕ) (lines : List Line) → is_walk_within walk ≡ true → n < walk.lines → IsUnderWay walk world n lines → objects_given world < 1000000
-room walk world n lines within le u = subst (λ (w : WorldView). objects_given w < 1000000) (sym u.now) (omega (arith, few_lines walk within, given_from_fresh walk.config lines, u.count))
+one_more : (walk : Walk) (n : ℕ) → with_next walk (suc n) (draw_lines walk n) ≡ draw_lines walk (suc n)
+unfolding draw_lines
+one_more walk n = refl
 
-pub go_on : (walk : Walk) (world world' : WorldView) (n : ℕ) (lines : List Line) (line : Line) → IsUnderWay walk world n lines → IsLine line → world' ≡ (step_of world line).world → IsUnderWay walk world' (n + 1) (lines ++ line ∷ [])
-go_on walk world world' n lines line u is e = record {
+one_more_of : (walk : Walk) (n : ℕ) → with_next walk (n + 1) (draw_lines walk n) ≡ draw_lines walk (n + 1)
+one_more_of walk n =
+    let e : suc n ≡ n + 1 = omega arith in
+    subst (λ (k : ℕ). with_next walk k (draw_lines walk n) ≡ draw_lines walk k) e (one_more walk n)
+
+pub begun : (walk : Walk) (world : WorldView) (generator : Lcg) → world ≡ fresh_world walk.config → generator ≡ seeded walk.seed → IsUnderWay walk world generator 0 []
+begun walk world generator e g = record { count = refl; each = All-nil IsLine; drawn = ap (λ (x : Lcg). ([], x)) g ∙ sym (no_lines walk); now = e }
+
+pub room : (walk : Walk) (world : WorldView) (generator : Lcg) (n : ℕ) (lines : List Line) → is_walk_within walk ≡ true → n < walk.lines → IsUnderWay walk world generator n lines → objects_given world < 1000000
+room walk world generator n lines within le u = subst (λ (w : WorldView). objects_given w < 1000000) (sym u.now) (omega (arith, few_lines walk within, given_from_fresh walk.config lines, u.count))
+
+next_drawn : (walk : Walk) (world : WorldView) (generator generator' : Lcg) (n : ℕ) (lines : List Line) (line : Line) → IsUnderWay walk world generator n lines → (line, generator') ≡ draw_line walk (n + 1) world generator → (lines ++ line ∷ [], generator') ≡ draw_lines walk (n + 1)
+next_drawn walk world generator generator' n lines line u d =
+    ap (λ (x : Drawn Line). drawn_as (λ next. lines ++ next ∷ []) x) (d ∙ ap (λ (w : WorldView). draw_line walk (n + 1) w generator) u.now)
+    ∙ ap (λ (x : Drawn (List Line)). with_next walk (n + 1) x) u.drawn
+    ∙ one_more_of walk n
+
+-- the lines under way are the first ones of the walk
+first_drawn : (walk : Walk) (world : WorldView) (generator : Lcg) (n : ℕ) (lines : List Line) → IsUnderWay walk world generator n lines → lines ≡ (draw_lines walk (length lines)).0
+first_drawn walk world generator n lines u = ap (λ (x : Drawn (List Line)). x.0) u.drawn ∙ ap (λ (k : ℕ). (draw_lines walk k).0) u.count
+
+pub go_on : (walk : Walk) (world world' : WorldView) (generator generator' : Lcg) (n : ℕ) (lines : List Line) (line : Line) → IsUnderWay walk world generator n lines → IsLine line → world' ≡ (step_of world line).world → (line, generator') ≡ draw_line walk (n + 1) world generator → IsUnderWay walk world' generator' (n + 1) (lines ++ line ∷ [])
+go_on walk world world' generator generator' n lines line u is e d = record {
   count = omega (arith, u.count, length-append lines (line ∷ []));
   each = All-push IsLine lines line u.each is;
+  drawn = next_drawn walk world generator generator' n lines line u d;
   now = e ∙ ap (λ (w : WorldView). (step_of w line).world) u.now ∙ sym (after_append (fresh_world walk.config) lines (line ∷ []));
 }
 
-pub done : (walk : Walk) (world : WorldView) (n : ℕ) (lines : List Line) → IsUnderWay walk world n lines → n ≡ walk.lines → IsDrawn walk lines
-done walk world n lines u e = record { number = omega (arith, u.count, e); each = u.each }
+pub done : (walk : Walk) (world : WorldView) (generator : Lcg) (n : ℕ) (lines : List Line) → IsUnderWay walk world generator n lines → n ≡ walk.lines → IsDrawn walk lines
+done walk world generator n lines u e = record { number = omega (arith, u.count, e); each = u.each; drawn = ap (λ (x : Drawn (List Line)). x.0) u.drawn ∙ ap (λ (k : ℕ). (draw_lines walk k).0) e }
 
 -- ---- the schedule, piece by piece
 
-pub print_begun : (walk : Walk) (world : WorldView) (before : Option (List ℕ)) (kept : List ℕ) → world ≡ fresh_world walk.config → kept ≡ header walk.config → IsPrinting walk world 0 before before kept
-print_begun walk world before kept e k = record {
+pub print_begun : (walk : Walk) (world : WorldView) (generator : Lcg) (before : Option (List ℕ)) (kept : List ℕ) → world ≡ fresh_world walk.config → generator ≡ seeded walk.seed → kept ≡ header walk.config → IsPrinting walk world generator 0 before before kept
+print_begun walk world generator before kept e g k = record {
   lines = [];
-  under_way = begun walk world e;
+  under_way = begun walk world generator e g;
   printed = [];
   writes = appends_none before;
   text = k ∙ sym (append-nil (header walk.config));
 }
 
-pub print_more : (walk : Walk) (world world' : WorldView) (n : ℕ) (before after : Option (List ℕ)) (kept kept' : List ℕ) (line : Line) → IsPrinting walk world n before after kept → IsLine line → world' ≡ (step_of world line).world → kept' ≡ kept ++ spelling line → IsPrinting walk world' (n + 1) before after kept'
-print_more walk world world' n before after kept kept' line p is e k = record {
+pub print_more : (walk : Walk) (world world' : WorldView) (generator generator' : Lcg) (n : ℕ) (before after : Option (List ℕ)) (kept kept' : List ℕ) (line : Line) → IsPrinting walk world generator n before after kept → IsLine line → world' ≡ (step_of world line).world → (line, generator') ≡ draw_line walk (n + 1) world generator → kept' ≡ kept ++ spelling line → IsPrinting walk world' generator' (n + 1) before after kept'
+print_more walk world world' generator generator' n before after kept kept' line p is e d k = record {
   lines = p.lines ++ line ∷ [];
-  under_way = go_on walk world world' n p.lines line p.under_way is e;
+  under_way = go_on walk world world' generator generator' n p.lines line p.under_way is e d;
   printed = p.printed;
   writes = p.writes;
   text = ap (λ (t : List ℕ). p.printed ++ t) k ∙ sym (append_assoc p.printed kept (spelling line)) ∙ ap (λ (t : List ℕ). t ++ spelling line) p.text ∙ flat_map_more spelling (header walk.config) p.lines line;
 }
 
-pub flushed : (walk : Walk) (world : WorldView) (n : ℕ) (before after after' : Option (List ℕ)) (kept kept' : List ℕ) → IsPrinting walk world n before after kept → (Appends after after' kept × (kept' ≡ [])) ⊎ ((after' ≡ after) × (kept' ≡ kept)) → IsPrinting walk world n before after' kept'
-flushed walk world n before after after' kept kept' p (inl w) = record {
+pub flushed : (walk : Walk) (world : WorldView) (generator : Lcg) (n : ℕ) (before after after' : Option (List ℕ)) (kept kept' : List ℕ) → IsPrinting walk world generator n before after kept → (Appends after after' kept × (kept' ≡ [])) ⊎ ((after' ≡ after) × (kept' ≡ kept)) → IsPrinting walk world generator n before after' kept'
+flushed walk world generator n before after after' kept kept' p (inl w) = record {
   lines = p.lines;
   under_way = p.under_way;
   printed = p.printed ++ kept;
   writes = appends_more before after after' p.printed kept p.writes w.0;
   text = ap (λ (t : List ℕ). (p.printed ++ kept) ++ t) w.1 ∙ append-nil (p.printed ++ kept) ∙ p.text;
 }
-flushed walk world n before after after' kept kept' p (inr w) = subst (λ (a : Option (List ℕ)). IsPrinting walk world n before a kept') (sym w.0) (subst (λ (k : List ℕ). IsPrinting walk world n before after k) (sym w.1) p)
+flushed walk world generator n before after after' kept kept' p (inr w) = subst (λ (a : Option (List ℕ)). IsPrinting walk world generator n before a kept') (sym w.0) (subst (λ (k : List ℕ). IsPrinting walk world generator n before after k) (sym w.1) p)
 
 pub print_unbegun : (walk : Walk) (before : Option (List ℕ)) → Schedules walk before before (Err Memory)
 print_unbegun walk before = record {
   printed = [];
   writes = appends_none before;
-  scheduled = (inr refl, record { lines = []; number = omega arith; each = All-nil IsLine; more = header walk.config; text = sym (append-nil (header walk.config)) });
+  scheduled = (inr refl, record { lines = []; number = omega arith; each = All-nil IsLine; drawn = ap (λ (x : Drawn (List Line)). x.0) (sym (no_lines walk)); more = header walk.config; text = sym (append-nil (header walk.config)) });
 }
 
-pub print_full : (walk : Walk) (world : WorldView) (n : ℕ) (before after : Option (List ℕ)) (kept : List ℕ) → IsPrinting walk world n before after kept → n ≤ walk.lines → Schedules walk before after (Err Memory)
-print_full walk world n before after kept p le = record {
+pub print_full : (walk : Walk) (world : WorldView) (generator : Lcg) (n : ℕ) (before after : Option (List ℕ)) (kept : List ℕ) → IsPrinting walk world generator n before after kept → n ≤ walk.lines → Schedules walk before after (Err Memory)
+print_full walk world generator n before after kept p le = record {
   printed = p.printed;
   writes = p.writes;
-  scheduled = (inr refl, record { lines = p.lines; number = omega (arith, p.under_way.count, le); each = p.under_way.each; more = kept; text = p.text });
+  scheduled = (inr refl, record { lines = p.lines; number = omega (arith, p.under_way.count, le); each = p.under_way.each; drawn = first_drawn walk world generator n p.lines p.under_way; more = kept; text = p.text });
 }
 
-pub print_cut : (walk : Walk) (world : WorldView) (n : ℕ) (before after after' : Option (List ℕ)) (kept : List ℕ) (fault : ReplayFault) → IsPrinting walk world n before after kept → n ≤ walk.lines → Writes after after' kept (Err fault) → Schedules walk before after' (Err fault)
-print_cut walk world n before after after' kept fault p le w =
+pub print_cut : (walk : Walk) (world : WorldView) (generator : Lcg) (n : ℕ) (before after after' : Option (List ℕ)) (kept : List ℕ) (fault : ReplayFault) → IsPrinting walk world generator n before after kept → n ≤ walk.lines → Writes after after' kept (Err fault) → Schedules walk before after' (Err fault)
+print_cut walk world generator n before after after' kept fault p le w =
     let f = w.1.1 in
     record {
       printed = p.printed ++ f.front;
@@ -169,17 +195,18 @@ print_cut walk world n before after after' kept fault p le w =
           lines = p.lines;
           number = omega (arith, p.under_way.count, le);
           each = p.under_way.each;
+          drawn = first_drawn walk world generator n p.lines p.under_way;
           more = w.1.0;
           text = append_assoc p.printed f.front w.1.0 ∙ ap (λ (t : List ℕ). p.printed ++ t) (sym f.parts) ∙ p.text;
         },
       );
     }
 
-pub print_done : (walk : Walk) (world : WorldView) (n : ℕ) (before after after' : Option (List ℕ)) (kept : List ℕ) (u : Unit {0}) → IsPrinting walk world n before after kept → n ≡ walk.lines → Appends after after' kept → Schedules walk before after' (Ok u)
-print_done walk world n before after after' kept u p e w = record {
+pub print_done : (walk : Walk) (world : WorldView) (generator : Lcg) (n : ℕ) (before after after' : Option (List ℕ)) (kept : List ℕ) (u : Unit {0}) → IsPrinting walk world generator n before after kept → n ≡ walk.lines → Appends after after' kept → Schedules walk before after' (Ok u)
+print_done walk world generator n before after after' kept u p e w = record {
   printed = p.printed ++ kept;
   writes = appends_more before after after' p.printed kept p.writes w;
-  scheduled = record { lines = p.lines; drawn = done walk world n p.lines p.under_way e; text = p.text };
+  scheduled = record { lines = p.lines; drawn = done walk world generator n p.lines p.under_way e; text = p.text };
 }
 
 -- ---- the line of a walk
@@ -202,6 +229,6 @@ walk_cut walk world log verdict text before after fault w is run exactly e x =
 
 -- ---- the end of the schedule
 
-pub print_end : (walk : Walk) (world : WorldView) (n : ℕ) (before after after' : Option (List ℕ)) (kept text : List ℕ) (result : Result (Unit {0}) ReplayFault) → IsPrinting walk world n before after kept → n ≡ walk.lines → text ≡ kept → Writes after after' text result → Schedules walk before after' result
-print_end walk world n before after after' kept text (Ok u) p e is w = print_done walk world n before after after' kept u p e (subst (λ (t : List ℕ). Appends after after' t) is w)
-print_end walk world n before after after' kept text (Err fault) p e is w = print_cut walk world n before after after' kept fault p (omega (arith, e)) (subst (λ (t : List ℕ). Writes after after' t (Err fault)) is w)
+pub print_end : (walk : Walk) (world : WorldView) (generator : Lcg) (n : ℕ) (before after after' : Option (List ℕ)) (kept text : List ℕ) (result : Result (Unit {0}) ReplayFault) → IsPrinting walk world generator n before after kept → n ≡ walk.lines → text ≡ kept → Writes after after' text result → Schedules walk before after' result
+print_end walk world generator n before after after' kept text (Ok u) p e is w = print_done walk world generator n before after after' kept u p e (subst (λ (t : List ℕ). Appends after after' t) is w)
+print_end walk world generator n before after after' kept text (Err fault) p e is w = print_cut walk world generator n before after after' kept fault p (omega (arith, e)) (subst (λ (t : List ℕ). Writes after after' t (Err fault)) is w)

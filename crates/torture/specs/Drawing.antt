@@ -1,5 +1,5 @@
 -- Which line a walk draws.
-use Rattle.std.specs.Prelude.{ℕ, ◌+◌, ◌-◌, ◌%◌, ◌<◌, ◌==◌, ◌&&◌, nat_le, nat_lt, if◌then◌else◌, Bool, true, false, Option}
+use Rattle.std.specs.Prelude.{ℕ, zero, suc, List, [], ◌∷◌, ◌++◌, ◌+◌, ◌-◌, ◌%◌, ◌<◌, ◌==◌, ◌&&◌, nat_le, nat_lt, if◌then◌else◌, Bool, true, false, Option}
 use Rattle.std.specs.Option.{option_map_or}
 use Rattle.rand_core.specs.Pcg32Seed.{pcg32_seed}
 use Rattle.rand_pcg.specs.Lcg.{Lcg}
@@ -19,7 +19,7 @@ use Rattle.world_state.specs.declared.line.WorkerVerb.TheVariants as worker
 use Rattle.world.specs.declared.actor.Actor.{Actor}
 use Rattle.world.specs.declared.actor.Actor.TheVariants.{Reader, Updater, Worker}
 use Rattle.world.specs.Actors.{is_in_operation, objects_given}
-use Rattle.world.specs.Steps.{WorldView}
+use Rattle.world.specs.Steps.{WorldView, fresh_world, world_after_lines}
 use Rattle.torture.specs.declared.command.Stop.{Stop}
 use Rattle.torture.specs.declared.command.Walk.{Walk}
 
@@ -127,3 +127,15 @@ abbrev pub draw_line : Walk → ℕ → WorldView → Lcg → Drawn Line
 draw_line walk number world generator =
     let actor = draw_actor walk number generator in
     line_of walk.config (objects_given world) (is_in_operation world actor.0) actor
+
+-- ---- the lines
+
+-- the line of this number comes after those drawn so far, in the world after them
+abbrev pub with_next : Walk → ℕ → Drawn (List Line) → Drawn (List Line)
+with_next walk number (lines, generator) =
+    drawn_as (λ line. lines ++ line ∷ []) (draw_line walk number (world_after_lines (fresh_world walk.config) lines) generator)
+
+-- the first so many lines of a walk
+unfoldable pub draw_lines : Walk → ℕ → Drawn (List Line)
+draw_lines walk zero = ([], seeded walk.seed)
+draw_lines walk (suc n) = with_next walk (suc n) (draw_lines walk n)

@@ -2,6 +2,7 @@
 use Rattle.std.specs.Prelude.{◌≡◌, ◌⊎◌, ◌≤◌, ℕ, List, [], ◌++◌, codes, length, All, Option, Result, Ok, Err}
 use Rattle.std.specs.Fmt.{decimal}
 use Rattle.std.specs.Io.KnownBytes.{Appends}
+use Rattle.rand_pcg.specs.Lcg.{Lcg}
 use Rattle.rcu_model.specs.declared.event.Event.{Event}
 use Rattle.rcu_model.specs.declared.verdict.Verdict.{Verdict}
 use Rattle.rcu_model.specs.declared.verdict.Verdict.TheVariants.{Yes, No}
@@ -17,6 +18,7 @@ use Rattle.schedule.specs.Ports.{Writes}
 use Rattle.schedule.specs.Printed.{lines_text}
 use Rattle.schedule.specs.Spelling.{IsLine}
 use Rattle.torture.specs.declared.command.Walk.{Walk}
+use Rattle.torture.specs.Drawing.{draw_lines}
 
 -- ---- the line of a walk
 
@@ -36,19 +38,21 @@ walk_line lines log verdict = walk_text lines (length log) (counts_of log) verdi
 
 -- ---- the walk
 
--- as many lines as were asked for, of which each can be written
+-- the lines that the seed draws, as many as were asked for, of which each can be written
 pub record IsDrawn (walk : Walk) (lines : List Line) : Type 0 where
   pub number : length lines ≡ walk.lines
   pub each : All IsLine lines
+  pub drawn : lines ≡ (draw_lines walk walk.lines).0
 
 -- the world after such lines
 abbrev pub IsWalked : Walk → WorldView → Type 0
 IsWalked walk world = (lines : List Line) × IsDrawn walk lines × (world ≡ world_after_lines (fresh_world walk.config) lines)
 
--- the world after these lines, so many
-pub record IsUnderWay (walk : Walk) (world : WorldView) (number : ℕ) (lines : List Line) : Type 0 where
+-- the world after these lines, the first so many, and the generator after them
+pub record IsUnderWay (walk : Walk) (world : WorldView) (generator : Lcg) (number : ℕ) (lines : List Line) : Type 0 where
   pub count : number ≡ length lines
   pub each : All IsLine lines
+  pub drawn : (lines, generator) ≡ draw_lines walk number
   pub now : world ≡ world_after_lines (fresh_world walk.config) lines
 
 -- the line of such a world's log: a run
@@ -80,11 +84,12 @@ pub record IsWalkSchedule (walk : Walk) (printed : List ℕ) : Type 0 where
   pub drawn : IsDrawn walk lines
   pub text : printed ≡ header walk.config ++ lines_text lines
 
--- the beginning of a schedule of at most so many lines
+-- the beginning of a schedule of at most so many lines, the first ones that the seed draws
 pub record IsFrontOfSchedule (walk : Walk) (printed : List ℕ) : Type 0 where
   pub lines : List Line
   pub number : length lines ≤ walk.lines
   pub each : All IsLine lines
+  pub drawn : lines ≡ (draw_lines walk (length lines)).0
   pub more : List ℕ
   pub text : printed ++ more ≡ header walk.config ++ lines_text lines
 
@@ -98,9 +103,9 @@ pub record Schedules (walk : Walk) (before after : Option (List ℕ)) (result : 
   pub scheduled : Scheduled walk printed result
 
 -- the header and the lines so far are written, but for what is kept
-pub record IsPrinting (walk : Walk) (world : WorldView) (number : ℕ) (before after : Option (List ℕ)) (kept : List ℕ) : Type 0 where
+pub record IsPrinting (walk : Walk) (world : WorldView) (generator : Lcg) (number : ℕ) (before after : Option (List ℕ)) (kept : List ℕ) : Type 0 where
   pub lines : List Line
-  pub under_way : IsUnderWay walk world number lines
+  pub under_way : IsUnderWay walk world generator number lines
   pub printed : List ℕ
   pub writes : Appends before after printed
   pub text : printed ++ kept ≡ header walk.config ++ lines_text lines

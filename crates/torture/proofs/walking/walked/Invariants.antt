@@ -4,4 +4,4 @@ use Rattle.torture.specs.Walking.{IsUnderWay}
 use Rattle.torture.proofs.walking.walked.Given as goal
 
 abbrev pub invariant-loop-done : goal.invariant-loop-done
-invariant-loop-done l = (lines : List Line) × IsUnderWay l.walk l.walking.world l.done lines
+invariant-loop-done l = (lines : List Line) × IsUnderWay l.walk l.walking.world l.walking.draw l.done lines
