@@ -14,7 +14,6 @@ use Rattle.world_state.specs.declared.line.ReaderVerb.{ReaderVerb}
 use Rattle.world_state.specs.declared.line.ReaderVerb.TheVariants as reader
 use Rattle.world_state.specs.declared.line.UpdaterVerb.{UpdaterVerb}
 use Rattle.world_state.specs.declared.line.UpdaterVerb.TheVariants as updater
-use Rattle.world_state.specs.declared.line.WorkerVerb.{WorkerVerb}
 use Rattle.world_state.specs.declared.line.WorkerVerb.TheVariants as worker
 use Rattle.world.specs.declared.actor.Actor.{Actor}
 use Rattle.world.specs.declared.actor.Actor.TheVariants.{Reader, Updater, Worker}
@@ -57,15 +56,19 @@ actor_numbered config n =
     else if nat_lt n (config.readers + config.updaters) then Updater (n - config.readers)
     else Worker (n - (config.readers + config.updaters))
 
+-- the actor of this number gets no line from that one on
 abbrev pub has_stopped : Option Stop → ℕ → ℕ → Bool
 has_stopped stop number actor = option_map_or (λ stop. stop.actor == actor && nat_le stop.from number) stop false
 
 -- in the place of one who has stopped comes the next one, and after the last the first
 abbrev pub who_comes : Walk → ℕ → ℕ → ℕ
-who_comes walk number actor = if has_stopped walk.stop number actor then (actor + 1) % actors_in walk.config else actor
+who_comes walk number actor =
+    if has_stopped walk.stop number actor then (actor + 1) % actors_in walk.config else actor
 
 abbrev pub draw_actor : Walk → ℕ → Lcg → Drawn Actor
-draw_actor walk number generator = drawn_as (λ actor. actor_numbered walk.config (who_comes walk number actor)) (draw_below (actors_in walk.config) generator)
+draw_actor walk number generator =
+    let who = draw_below (actors_in walk.config) generator in
+    drawn_as (λ n. actor_numbered walk.config (who_comes walk number n)) who
 
 -- ---- what it is told, where it is in no operation
 

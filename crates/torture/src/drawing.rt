@@ -6,7 +6,9 @@ ghost use Rattle.world_state.specs.Limits.{is_within_limits};
 ghost use Rattle.world.specs.Actors.{objects_given};
 ghost use Rattle.schedule.specs.Spelling.{IsLine, IsReaderVerb, IsUpdaterVerb};
 ghost use Rattle.torture.specs.Limits.{is_walk_within};
-ghost use Rattle.torture.specs.Drawing.{IsNumberedAmong, seeded, draw_below, draw_object, draw_actor, draw_reader_verb, draw_updater_verb, draw_line, actor_numbered, actors_in, who_comes};
+ghost use Rattle.torture.specs.Drawing.{seeded, draw_below, draw_object, draw_actor, draw_reader_verb};
+ghost use Rattle.torture.specs.Drawing.{draw_updater_verb, draw_line};
+ghost use Rattle.torture.specs.Drawing.{IsNumberedAmong, actors_in, actor_numbered, who_comes};
 
 use crate::command::{Walk, actors};
 use rand_core::SeedableRng;
