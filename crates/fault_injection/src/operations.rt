@@ -4,10 +4,11 @@ use std::fmt;
 use world::{Actor, Line, ReaderVerb, UpdaterVerb, WorkerVerb};
 
 /// The actors of the worlds that are stepped.
-pub const ACTORS: [Actor; 4] = [
+pub const ACTORS: [Actor; 5] = [
     Actor::Reader(0),
     Actor::Reader(1),
     Actor::Updater(0),
+    Actor::Updater(1),
     Actor::Worker(0),
 ];
 
@@ -85,18 +86,18 @@ fn goes_on(line: Line) -> bool {
 
 /// The last line with a verb of each actor, if it has made one.
 #[derive(Clone, Copy, Debug, Drop)]
-pub struct Begun([Option<Line>; 4]);
+pub struct Begun([Option<Line>; 5]);
 
 impl Begun {
     /// No actor has made a line.
     pub fn new() -> Begun {
-        Begun([None; 4])
+        Begun([None; 5])
     }
 
     /// The operation that the next line belongs to: its own, or where it goes on the one that its actor began last.
     pub fn operation(&mut self, line: Line) -> Operation {
         let actor = actor_of(line);
-        let at = ACTORS.iter().position(|it| *it == actor).unwrap_or(4);
+        let at = ACTORS.iter().position(|it| *it == actor).unwrap_or(5);
         let Some(begun) = self.0.get_mut(at) else {
             return Operation(line);
         };

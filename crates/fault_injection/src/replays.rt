@@ -1,7 +1,7 @@
 //! Replays that are refused memory in the middle.
 
 use crate::ledger::{Call, Finding, Ledger};
-use crate::rows::{Worked, schedule_of};
+use crate::rows::schedule_of;
 use schedule::{Replay, ReplayFault, replay};
 use std::alloc::Global;
 use world::Flavour;
@@ -58,19 +58,6 @@ fn replay_once(
     }
 }
 
-/// Replays the worked schedule in pieces, and again from its beginning where it was refused memory.
-pub fn replay_pieces(alloc: Global, ledger: &mut Ledger, flavour: Flavour) -> Result<u64, Finding> {
-    let worked = schedule_of(flavour);
-    let text = ledger.again(Call::Own, || worked.text(alloc))?;
-    let printed = ledger.again(Call::Own, || worked.printed(alloc))?;
-    if replay_once(alloc, ledger, &text, &printed)? == Ended::Refused
-        && replay_once(alloc, ledger, &text, &printed)? == Ended::Refused
-    {
-        return Err(Finding::RefusedAgain(Call::Feed));
-    }
-    Ok(worked.rows.len() as u64)
-}
-
 /// Replays the text from a reader into a writer that has room.
 fn stream_once(
     alloc: Global,
@@ -91,15 +78,53 @@ fn stream_once(
     }
 }
 
-/// Replays the worked schedule from a reader into a writer, and again where it was refused memory.
-pub fn replay_whole(alloc: Global, ledger: &mut Ledger, flavour: Flavour) -> Result<u64, Finding> {
+/// How a text is given to a replay.
+#[derive(Clone, Copy, Drop)]
+pub enum Way {
+    /// By `feed`, in pieces, and `finish`.
+    Pieces,
+    /// By `replay`, from a reader into a writer.
+    Stream,
+}
+
+impl Way {
+    /// The call that is told where a replay is refused memory twice.
+    fn call(self) -> Call {
+        match self {
+            Way::Pieces => Call::Feed,
+            Way::Stream => Call::Replay,
+        }
+    }
+
+    /// Replays the text once.
+    fn once(
+        self,
+        alloc: Global,
+        ledger: &mut Ledger,
+        text: &[u8],
+        printed: &[u8],
+    ) -> Result<Ended, Finding> {
+        match self {
+            Way::Pieces => replay_once(alloc, ledger, text, printed),
+            Way::Stream => stream_once(alloc, ledger, text, printed),
+        }
+    }
+}
+
+/// Replays the worked schedule, and again from its beginning where it was refused memory.
+pub fn replay_worked(
+    alloc: Global,
+    ledger: &mut Ledger,
+    flavour: Flavour,
+    way: Way,
+) -> Result<u64, Finding> {
     let worked = schedule_of(flavour);
     let text = ledger.again(Call::Own, || worked.text(alloc))?;
     let printed = ledger.again(Call::Own, || worked.printed(alloc))?;
-    if stream_once(alloc, ledger, &text, &printed)? == Ended::Refused
-        && stream_once(alloc, ledger, &text, &printed)? == Ended::Refused
+    if way.once(alloc, ledger, &text, &printed)? == Ended::Refused
+        && way.once(alloc, ledger, &text, &printed)? == Ended::Refused
     {
-        return Err(Finding::RefusedAgain(Call::Replay));
+        return Err(Finding::RefusedAgain(way.call()));
     }
     Ok(worked.rows.len() as u64)
 }

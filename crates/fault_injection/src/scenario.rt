@@ -3,7 +3,7 @@
 use crate::ledger::{Finding, Ledger};
 use crate::logs::{check_logs, read_logs, read_schedules};
 use crate::queues::push_items;
-use crate::replays::{replay_pieces, replay_whole};
+use crate::replays::{Way, replay_worked};
 use crate::worlds::{drain_worked, make_worlds, step_worked};
 use std::alloc::Global;
 use world::Flavour;
@@ -78,8 +78,8 @@ impl Scenario {
             Scenario::CheckLog => check_logs(alloc, ledger),
             Scenario::ReadSchedule => read_schedules(alloc, ledger),
             Scenario::ReadAnswers => read_logs(alloc, ledger),
-            Scenario::Feed(flavour) => replay_pieces(alloc, ledger, flavour),
-            Scenario::Replay(flavour) => replay_whole(alloc, ledger, flavour),
+            Scenario::Feed(flavour) => replay_worked(alloc, ledger, flavour, Way::Pieces),
+            Scenario::Replay(flavour) => replay_worked(alloc, ledger, flavour, Way::Stream),
         }
     }
 }

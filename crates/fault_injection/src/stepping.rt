@@ -11,7 +11,7 @@ use world::{Answer, Config, Line, StepError, World};
 #[derive(Clone, Copy, PartialEq, Eq, Drop)]
 struct Seen {
     given: u64,
-    busy: [bool; 4],
+    busy: [bool; 5],
 }
 
 impl Seen {
