@@ -6,16 +6,12 @@ mod event;
 mod holdings;
 mod laws;
 mod object;
-#[cfg(test)]
-mod object_tests;
 mod objects;
 mod printing;
 mod refusal;
 mod roster;
 mod sections;
 mod states;
-#[cfg(test)]
-mod tests;
 mod verdict;
 mod waits;
 

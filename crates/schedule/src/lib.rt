@@ -35,6 +35,3 @@ pub use round_trip::answers_tell_the_log;
 pub use spelling::{print_header, print_line};
 pub use stream::replay;
 pub use whole::{Schedule, read_schedule};
-
-#[cfg(test)]
-mod tests;

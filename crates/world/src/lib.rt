@@ -24,6 +24,3 @@ pub use world::World;
 pub use world_state::{
     Answer, Config, Flavour, Layout, Line, ReaderVerb, StepError, UpdaterVerb, WorkerVerb,
 };
-
-#[cfg(test)]
-mod tests;

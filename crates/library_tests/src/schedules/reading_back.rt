@@ -1,8 +1,8 @@
 //! Answers read back: the log of the world that gave them, each form of a line, and the place of the first bad byte.
 
 use super::{Pieces, replayed, rows};
-use crate::{AnswersFault, read_answers, read_schedule};
 use rcu_model::{Event, ObjectId, SectionId};
+use schedule::{AnswersFault, read_answers, read_schedule};
 use std::alloc::Global;
 use std::process::Abort;
 use std::test::Fail;

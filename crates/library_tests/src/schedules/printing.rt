@@ -1,8 +1,8 @@
 //! Headers and lines as they are printed, and streams that are read and written whole.
 
 use super::{Pieces, Sink};
-use crate::{Schedule, print_header, print_line, read_schedule, read_whole, write_whole};
 use rcu_model::ObjectId;
+use schedule::{Schedule, print_header, print_line, read_schedule, read_whole, write_whole};
 use std::alloc::Global;
 use std::process::Abort;
 use std::test::Fail;

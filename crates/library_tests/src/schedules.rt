@@ -7,8 +7,10 @@ mod reading_back;
 mod rows;
 mod verbs;
 
-use super::*;
 use rcu_model::{Event, ObjectId, SectionId};
+use schedule::{
+    Counts, Replay, ReplayFault, TextFault, print_event, read_line, read_schedule, replay,
+};
 use std::alloc::Global;
 use std::io;
 use std::io::{Read, Write};

@@ -1,6 +1,6 @@
 //! Queues by example.
 
-use crate::{Callback, CallbackQueue, Item, Ripe, Ticket};
+use callback_queue::{Callback, CallbackQueue, Item, Ripe, Ticket};
 use poll_cookie::cookie_of;
 use rcu_model::{ObjectId, Refusal};
 

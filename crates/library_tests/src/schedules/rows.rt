@@ -2,6 +2,7 @@
 
 use super::Row;
 
+/// Schedules that are good.
 pub const GOOD: [Row<'static>; 20] = [
     // thin-path
     Row {

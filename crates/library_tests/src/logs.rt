@@ -1,8 +1,6 @@
 //! Logs with their verdicts, each judged by hand from the rules.
 
-use crate::checker::check_log;
-use crate::event::{Event, ObjectId, SectionId};
-use crate::verdict::{Rule, Verdict};
+use rcu_model::{Event, ObjectId, Rule, SectionId, Verdict, check_log};
 use std::alloc::Global;
 use std::process::Abort;
 

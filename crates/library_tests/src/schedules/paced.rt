@@ -1,7 +1,7 @@
 //! What one piece gives is written before the next one is read.
 
 use super::{QUIET, QUIET_PRINTED};
-use crate::replay;
+use schedule::replay;
 use std::cell::Cell;
 use std::io;
 use std::io::{Read, Write};

@@ -1,7 +1,7 @@
 //! Lines read back, and the column of a bad line, where words share a beginning or belong to another actor.
 
-use crate::{TextFault, read_line};
 use rcu_model::ObjectId;
+use schedule::{TextFault, read_line};
 use world::{Line, UpdaterVerb, WorkerVerb};
 
 #[test]

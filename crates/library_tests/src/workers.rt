@@ -1,6 +1,6 @@
 //! A whole wait for a grace period, and a whole batch of a worker, over the plan of the general-purpose flavour.
 
-use crate::{Finished, SyncCore, SyncStep, Told, WorkerCore, WorkerStep, run_item};
+use call_rcu_worker::{Finished, SyncCore, SyncStep, Told, WorkerCore, WorkerStep, run_item};
 use callback_queue::{Callback, CallbackQueue, Item, Ripe, Ticket};
 use gp_memb::{Action, GracePlan, MembPlan};
 use poll_cookie::cookie_of;

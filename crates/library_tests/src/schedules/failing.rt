@@ -1,7 +1,7 @@
 //! Readers and writers that fail at each byte in turn. None is called again.
 
 use super::{Pieces, QUIET, QUIET_PRINTED, Sink};
-use crate::{ReplayFault, read_whole, replay, write_whole};
+use schedule::{ReplayFault, read_whole, replay, write_whole};
 use std::alloc::Global;
 use std::io;
 use std::io::{Read, Write};

@@ -1,12 +1,12 @@
 //! Worlds made by their callers, to the end of the sequence numbers, and the worked rows of retirements, barriers
 //! and drains.
 
-use super::{
-    Actor, Answer, Config, Flavour, Layout, Line, ReaderVerb, UpdaterVerb, WorkerVerb, World,
-};
 use rcu_model::{Event, ObjectId, Refusal, SectionId};
 use std::alloc::Global;
 use std::process::Abort;
+use world::{
+    Actor, Answer, Config, Flavour, Layout, Line, ReaderVerb, UpdaterVerb, WorkerVerb, World,
+};
 
 const SMALL: Config = Config {
     layout: Layout::Narrow,
