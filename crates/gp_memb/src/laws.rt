@@ -1,4 +1,4 @@
-//! Why a grace period takes two flips, each with a scan of every slot.
+//! Why no flip and no scan of the plan can be left out.
 
 ghost use Rattle.std.specs.Prelude.{false};
 ghost use Rattle.reader_word.specs.declared.layout.Layout.{Layout};

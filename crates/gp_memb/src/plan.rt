@@ -93,6 +93,7 @@ pub trait GracePlan: Sized {
     /// At the start nothing was stored yet.
     ghost begins: { (layout : Layout) (slots seq word : ℕ) (plan : Self) → is_begun layout slots seq word plan → IsPresent QSBR word → present plan ≡ word };
 
+    /// A plan of the general-purpose flavour is for words of the layout that it was made for.
     ghost begins_layout: { (layout : Layout) (slots seq word : ℕ) (plan : Self) → is_begun layout slots seq word plan → QSBR ≡ false → layout_of plan ≡ layout };
 
     /// A turn waits exactly where it loaded a word that stands in the way.
@@ -110,6 +111,7 @@ pub trait GracePlan: Sized {
     /// A stored number is no less than the present one.
     ghost rises: { (plan : Self) (value : ℕ) → QSBR ≡ true → action plan ≡ StorePhase value → present plan ≤ value };
 
+    /// It stays so.
     ghost keeps_layout: { (plan : Self) (word : ℕ) → layout_of (taken plan word) ≡ layout_of plan };
 }
 

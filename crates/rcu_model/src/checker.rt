@@ -221,7 +221,7 @@ impl Checker {
 }
 
 /// Whether the log is a run of the abstract machine, or else the first event that breaks its rule, and that rule. Takes
-/// any log, in time and memory linear in its length.
+/// any log, in memory linear in its length, and in time that is so on the average (its maps hash without a secret).
 ///
 /// # Errors
 /// `Memory` where memory was refused.

@@ -198,7 +198,7 @@ fn who_stops_gets_no_line(rt: HostRuntime) {
         let ended = executed(rt.alloc(), Command::Walk(walk), b"");
         assert_eq!(rt; ended.status, 0);
         let printed = ended.printed.as_slice();
-        // Reader 1 goes on where reader 0 has stopped.
+        // It makes no line, from the first one on.
         let told = printed
             .windows(3)
             .filter(|bytes| bytes[0] == b'\n' && bytes[1] == name && bytes[2] == b'0')

@@ -16,6 +16,7 @@ use world_state::{
 #[derive(Drop)]
 pub struct Board<P> {
     pub(crate) layout: Layout,
+    /// One for each actor of its kind.
     pub(crate) readers: Vec<ReaderState>,
     pub(crate) updaters: Vec<UpdaterState<P>>,
     pub(crate) workers: Vec<WorkerState<P>>,
@@ -24,8 +25,11 @@ pub struct Board<P> {
     /// How many barriers were begun.
     pub(crate) barriers: u64,
     pub(crate) grace: GraceState,
+    /// The first object of each chain.
     pub(crate) heads: Vec<Option<ObjectId>>,
+    /// By their numbers; number 0 is of none.
     pub(crate) objects: Vec<ObjectState>,
+    /// What the steps told, in order.
     pub(crate) log: Vec<Event>,
 }
 

@@ -11,6 +11,7 @@ use reader_word::Layout;
 
 /// A plan that a world of either layout can make.
 pub trait WorldPlan: GracePlan + Copy {
+    /// The plan that `make` answers, of a layout, a number of slots, a sequence number and a phase or number.
     ghost made: { Layout → ℕ → ℕ → ℕ → Self };
 
     /// The plan of a grace period over this many slots, for words of this layout, with the present sequence number
@@ -22,6 +23,7 @@ pub trait WorldPlan: GracePlan + Copy {
         requires word { word ≤ 2 ^ 62 }
         ensures { result ≡ made layout slots seq word };
 
+    /// What `make` answers is at its beginning.
     ghost made_begun: { (layout : Layout) (slots seq word : ℕ) → Self.is_begun layout slots seq word (made layout slots seq word) };
 }
 

@@ -16,7 +16,7 @@ fn check_words(rt: &impl Abort, alloc: Global, words: &[&str], wanted: Command) 
     }
 }
 
-/// Each option with its greatest value.
+/// Each option with its greatest value, or with the one before where another option has the same.
 const GREATEST: Walk = Walk {
     config: Config {
         layout: Layout::Wide,
