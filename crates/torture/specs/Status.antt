@@ -1,5 +1,7 @@
 -- What a command ends with, and what a program whose words cannot be had.
 use Rattle.std.specs.Prelude.{◌≡◌, ◌⊎◌, ℕ, true, false, Bool, List, Option, Result, Ok, Err}
+use Rattle.clap.specs.Words.{Text, kind_of}
+use Rattle.clap.specs.declared.error.Error.{Error}
 use Rattle.std.specs.declared.io.ErrorKind.{ErrorKind}
 use Rattle.std.specs.declared.io.ErrorKind.TheVariants.{InvalidData}
 use Rattle.rcu_model.specs.declared.verdict.Verdict.{Verdict}
@@ -12,6 +14,7 @@ use Rattle.torture.specs.declared.command.Command.TheVariants as command
 use Rattle.torture.specs.declared.command.Walk.{Walk}
 use Rattle.torture.specs.Checking.{Checks}
 use Rattle.torture.specs.Walking.{Walks, Schedules}
+use Rattle.torture.specs.Words.{SayCommand, IsRefused, EndsBy}
 
 abbrev pub status_of_fault : ReplayFault → ℕ
 status_of_fault (BadText line column) = 2
@@ -54,3 +57,9 @@ status_of_words _ = 3
 -- good, a log that is no run, bad input or words, a fault of reading, writing or memory
 abbrev pub IsStatus : ℕ → Type 0
 IsStatus status = (status ≡ 0) ⊎ (status ≡ 1) ⊎ (status ≡ 2) ⊎ (status ≡ 3)
+
+-- the words say a command, which ends so; or clap refuses them, and that is told
+abbrev pub EndsAfter : List Text → ℕ → Type 0
+EndsAfter words status =
+    ((said : Command) × SayCommand words said × ((given left before after : Option (List ℕ)) × Executes said given left before after status))
+    ⊎ ((error : Error) × IsRefused words error × EndsBy (kind_of error) status)

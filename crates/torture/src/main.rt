@@ -1,10 +1,10 @@
 #![tactic(auto)]
 //! `torture`: replays schedules of atomic steps, checks their answers, and draws schedules.
 
-ghost use Rattle.std.specs.Prelude.{◌≡◌};
+ghost use Rattle.std.specs.Prelude.{◌≡◌, map, string_bytes, IfOk, IfErr};
 ghost use Rattle.std.specs.IoError.{error_kind};
 ghost use Rattle.clap.specs.Words.{kind_of};
-ghost use Rattle.torture.specs.Status.{IsStatus, status_of_words};
+ghost use Rattle.torture.specs.Status.{IsStatus, EndsAfter, status_of_words};
 ghost use Rattle.torture.specs.Words.{EndsBy};
 
 mod checking;
@@ -54,11 +54,14 @@ fn own_words(rt: &HostRuntime) -> io::Result<Vec<String>> {
     Ok(env::args(rt)?.collect(rt.alloc())?)
 }
 
-/// Reads the words, executes their command, and answers what the program ends with.
-fn run(rt: &HostRuntime) -> u8
-    ensures { IsStatus result }
+/// Executes the command of these words, or tells why they give none, or why they cannot be had. Answers what the
+/// program ends with.
+fn run(rt: &HostRuntime, words: io::Result<Vec<String>>) -> u8
+    ensures status { IsStatus result }
+    ensures had { IfOk words (λ words. EndsAfter (map string_bytes words.items) result) }
+    ensures not_had { IfErr words (λ fault. result ≡ status_of_words (error_kind fault)) }
 {
-    let words = match own_words(rt) {
+    let words = match words {
         Ok(words) => words,
         Err(fault) => return tell_unreadable(rt, &fault),
     };
@@ -75,7 +78,7 @@ fn run(rt: &HostRuntime) -> u8
 }
 
 fn main(rt: HostRuntime) -> ExitCode {
-    ExitCode::from(run(&rt))
+    ExitCode::from(run(&rt, own_words(&rt)))
 }
 
 #[cfg(test)]

@@ -1,6 +1,6 @@
 //! What the program says of itself: its commands, their words and their help.
 
-ghost use Rattle.std.specs.Prelude.{◌≡◌, IfOk, false};
+ghost use Rattle.std.specs.Prelude.{◌≡◌, Some, IfOk, false};
 ghost use Rattle.clap.specs.Words.{app_of, rule_of};
 ghost use Rattle.torture.specs.Words.{IsTorture, number_rule, IsFlavourRule, AddsWorld, AddsCourse};
 
@@ -101,6 +101,7 @@ pub const FLAVOURS: &[&str] = &["memb", "qsbr"];
 fn number<'a>(alloc: Global, name: &'a str, least: u64, most: u64, help: &'a str) -> Arg<'a>
     ensures rule { rule_of result ≡ number_rule name.entry.now least most }
     ensures own { result.global ≡ false }
+    ensures told { result.help ≡ Some help.entry }
 {
     Arg::new(alloc, name)
         .long(name)

@@ -1,6 +1,6 @@
 //! Walks: schedules that are drawn and stepped line by line.
 
-ghost use Rattle.std.specs.Prelude.{◌≡◌, ◌+◌, ◌<◌, ◌≤◌, Some, IsTrue, IfOk, IfErr};
+ghost use Rattle.std.specs.Prelude.{◌≡◌, ◌+◌, ◌<◌, ◌≤◌, length, Some, IsTrue, IfOk, IfErr, OnOk};
 ghost use Rattle.world.specs.Actors.{objects_given};
 ghost use Rattle.world.specs.Steps.{fresh_world, step_of};
 ghost use Rattle.schedule.specs.declared.fault.ReplayFault.TheVariants.{Memory};
@@ -170,7 +170,8 @@ pub fn print_schedule<W: Write>(
 
 /// Writes what is kept, and keeps it no longer, where it is a whole piece. `Write`.
 fn flush_full<W: Write>(out: &mut Vec<u8>, writer: &mut W) -> Result<(), ReplayFault>
-    ensures { Flushes (W.contents writer.old) (W.contents writer.new) out.old.items out.new.items result }
+    ensures flushed { Flushes (W.contents writer.old) (W.contents writer.new) out.old.items out.new.items result }
+    ensures less { OnOk result (length out.new.items < 4096) }
 {
     if out.len() >= PIECE {
         write_whole(writer, out)?;

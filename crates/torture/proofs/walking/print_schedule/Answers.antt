@@ -34,13 +34,13 @@ returns-in_err-flush_full g c =
     let p = err_from_is_err_and c.from_residual-in_err-flush_full.result c.from_residual-in_err-flush_full.ensures.1 in
     rw (p.1, p.2) (print_cut c.args.walk.now c.step.new.self.world c.step.new.self.draw (c.loop-done.done + 1) (g.W.Write.contents c.args.writer.now) (g.W.Write.contents c.loop-done.writer) (g.W.Write.contents c.flush_full.new.writer) c.print_line.new.out.items c.in_err-flush_full.field-0.0
     (print_more c.args.walk.now c.loop-done.walking.world c.step.new.self.world c.loop-done.walking.draw c.step.new.self.draw c.loop-done.done (g.W.Write.contents c.args.writer.now) (g.W.Write.contents c.loop-done.writer) c.loop-done.out.items c.print_line.new.out.items c.in_ok-line.line c.loop-done.invariant c.in_ok-line.ensures.line c.in_ok-line.ensures.world c.in_ok-line.ensures.drawn c.in_ok-print_line.ensures.ok)
-    (omega (arith, c.loop-done-test.true)) c.in_err-flush_full.ensures)
+    (omega (arith, c.loop-done-test.true)) c.in_err-flush_full.ensures.flushed)
 
 pub loop-done-preserved : goal.loop-done-preserved
 loop-done-preserved g c =
     flushed c.args.walk.now c.step.new.self.world c.step.new.self.draw (c.loop-done.done + 1) (g.W.Write.contents c.args.writer.now) (g.W.Write.contents c.loop-done.writer) (g.W.Write.contents c.flush_full.new.writer) c.print_line.new.out.items c.flush_full.new.out.items
     (print_more c.args.walk.now c.loop-done.walking.world c.step.new.self.world c.loop-done.walking.draw c.step.new.self.draw c.loop-done.done (g.W.Write.contents c.args.writer.now) (g.W.Write.contents c.loop-done.writer) c.loop-done.out.items c.print_line.new.out.items c.in_ok-line.line c.loop-done.invariant c.in_ok-line.ensures.line c.in_ok-line.ensures.world c.in_ok-line.ensures.drawn c.in_ok-print_line.ensures.ok)
-    c.in_ok-flush_full.ensures
+    c.in_ok-flush_full.ensures.flushed
 
 pub returns : goal.returns
 returns g c = print_end c.args.walk.now c.loop-done.walking.world c.loop-done.walking.draw c.loop-done.done (g.W.Write.contents c.args.writer.now) (g.W.Write.contents c.loop-done.writer) (g.W.Write.contents c.write_whole.new.writer) c.loop-done.out.items c.deref.result.now c.write_whole.result c.loop-done.invariant (omega (arith, c.loop-done-test.false, c.loop-done.auto.done-end)) c.deref.ensures.value c.write_whole.ensures.written
