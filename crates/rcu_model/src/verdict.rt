@@ -63,8 +63,13 @@ impl fmt::Display for Rule {
 pub enum Verdict {
     /// It is a run of the abstract machine.
     Yes,
-    /// It is none: the first event that breaks its rule, counted from 1, and that rule.
-    No { at: usize, rule: Rule },
+    /// It is none.
+    No {
+        /// The first event that breaks its rule, counted from 1.
+        at: usize,
+        /// The rule that this event breaks.
+        rule: Rule,
+    },
 }
 
 /// Why a log is not judged.

@@ -163,7 +163,7 @@ module _ {P : Type 0} (plans : Plans P) where
 
     pub makes_line : (goal : ℕ) → length w.log + told_before ≡ goal → Makes w k left goal line
     makes_line goal logged = record {
-      work = subst IsWork (sym g.makes) tt;
+      work = subst IsWork (sym g.makes) refl;
       made = subst (λ (o : Outcome P). IsMade o.answer) (sym outcome) g.prompt;
       room = subst (λ (o : Outcome P). length o.world.log ≤ goal) (sym outcome) (let more = length-append w.log (told g.answer) in let tells = g.tells in omega (arith, more, tells, logged));
     }

@@ -10,13 +10,13 @@ use Rattle.world_state.specs.declared.line.Line.{Line}
 use Rattle.world_state.specs.declared.line.Line.TheVariants.{Worker}
 use Rattle.world_state.specs.declared.line.WorkerVerb.TheVariants.{Take, GoOn}
 use Rattle.world_state.specs.declared.change.Change.{Change}
-use Rattle.world_state.specs.declared.change.Change.TheVariants.{Read, Begin, Publish, Grace, Hold, Retire, Bar, Work, Stay}
 use Rattle.world_state.specs.declared.queue.QueueState.{QueueState}
 use Rattle.world_state.specs.declared.reader.ReaderState.{ReaderState}
 use Rattle.world_state.specs.declared.worker.WorkerState.{WorkerState}
 use Rattle.world_state.specs.Readers.{is_open_in}
 use Rattle.world_state.specs.View.{Plans, BoardView}
 use Rattle.world.specs.Lines.{outcome_of, world_after}
+use Rattle.world.specs.Shown.{PartOf, Working}
 use Rattle.world.specs.Steps.{WorldView, OfMemb, OfQsbr, memb_plans, qsbr_plans, step_of, world_after_lines, log_of, IsPrompt}
 use Rattle.world.specs.Workers.{is_none_left, is_resting}
 
@@ -65,19 +65,8 @@ module _ {P : Type 0} where
   steps_to_drain qsbr w k = steps_with qsbr (length w.readers) (items_to_drain qsbr w k)
 
   -- a worker's change
-  abbrev pub IsWorkChange : Change P → Type 0
-  IsWorkChange (Read r step) = ⊥
-  IsWorkChange (Begin u x object) = ⊥
-  IsWorkChange (Publish u x splice event) = ⊥
-  IsWorkChange (Grace u x grace answer) = ⊥
-  IsWorkChange (Hold u x q) = ⊥
-  IsWorkChange (Retire u x q act mark answer) = ⊥
-  IsWorkChange (Bar u x barriers answer) = ⊥
-  IsWorkChange (Work k x grace act mark answer) = Unit {0}
-  IsWorkChange (Stay answer) = ⊥
-
   abbrev pub IsWork : Result (Change P) Refusal → Type 0
-  IsWork (Ok change) = IsWorkChange change
+  IsWork (Ok change) = PartOf Working change
   IsWork (Err e) = ⊥
 
   abbrev pub Rests : Option (WorkerState P) → Type 0

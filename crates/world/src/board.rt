@@ -261,28 +261,40 @@ impl<P: WorldPlan + Drop> Board<P> {
         ensures err { PartOf Working change → OnErr result (shown self.new ≡ shown self.old) }
         ensures memory { PartOf Working change → IfErr result (λ e. (e ≡ refusal.Memory) × Grows (shown self.old) (changed (shown self.old) change)) }
     {
-        let Change::Work {
+        let Change::Work { answer, .. } = change else {
+            return Ok(Answer::Quiet);
+        };
+        self.tell(answer)?;
+        self.work_now(change);
+        Ok(answer)
+    }
+
+    /// What a worker's step changes beside the log; any other changes nothing.
+    pub(crate) fn work_now(&mut self, change: Change<P>)
+        requires { MayMake (shown self.old) change }
+        ensures world { PartOf Working change → shown self.new ≡ record (changed (shown self.old) change) { log = (shown self.old).log } }
+        ensures log { self.new.log ≡ self.old.log }
+    {
+        if let Change::Work {
             worker,
             state,
             grace,
             act,
             mark,
-            answer,
+            ..
         } = change
-        else {
-            return Ok(Answer::Quiet);
-        };
-        self.tell(answer)?;
-        self.act_now(worker, act, mark);
-        put(&mut self.workers, worker as usize, state);
-        self.grace = grace;
-        Ok(answer)
+        {
+            self.act_now(worker, act, mark);
+            put(&mut self.workers, worker as usize, state);
+            self.grace = grace;
+        }
     }
 
     /// What a step changes of a queue, and of an object with it.
     fn act_now(&mut self, queue: u32, act: QueueAct, mark: Option<Mark>)
         requires { MayActAt act (slice_get (shown self.old).queues queue) }
-        ensures { shown self.new ≡ record (shown self.old) { queues = acted_at (shown self.old).queues queue act; objects = marked_life (shown self.old).objects mark } }
+        ensures world { shown self.new ≡ record (shown self.old) { queues = acted_at (shown self.old).queues queue act; objects = marked_life (shown self.old).objects mark } }
+        ensures log { self.new.log ≡ self.old.log }
     {
         act_on(&mut self.queues, queue as usize, act);
         mark_object(&mut self.objects, mark);

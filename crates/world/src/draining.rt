@@ -11,8 +11,7 @@ use crate::laws::numbers_stay_in_range;
 use call_rcu_worker::WorkerCore;
 use rcu_model::Refusal;
 use world_state::{
-    Answer, Change, Line, QueueState, StepError, WorkerState, WorkerVerb, WorldPlan, act_on,
-    mark_object, put,
+    Answer, Change, Line, QueueState, StepError, WorkerState, WorkerVerb, WorldPlan,
 };
 
 /// From here on no grace period can be asked for: 2^62.
@@ -26,8 +25,8 @@ fn workers_rest<P: WorldPlan>()
 impl<P: WorldPlan + Drop> Board<P> {
     ghost use Rattle.world_state.specs.View.{told, changed};
     ghost use Rattle.world.specs.Lines.{change_of, outcome_of};
-    ghost use Rattle.world.specs.Shown.{shown, IsInRange, MayMake};
-    ghost use Rattle.world.specs.Drain.{some_open, is_busy, steps_for, items_to_drain, Drains, IsWork, IsWorkChange};
+    ghost use Rattle.world.specs.Shown.{shown, IsInRange, MayMake, PartOf, Working};
+    ghost use Rattle.world.specs.Drain.{some_open, is_busy, steps_for, items_to_drain, Drains, IsWork};
 
     /// Steps one worker alone from its `take` until its batch is counted, and answers the number of steps.
     pub fn drain(&mut self, worker: u32) -> Result<u64, StepError>
@@ -133,25 +132,13 @@ impl<P: WorldPlan + Drop> Board<P> {
     fn commit_work(&mut self, change: Change<P>)
         requires may { MayMake (shown self.old) change }
         requires room { length (changed (shown self.old) change).log ≤ vec_capacity self.old.log }
-        ensures world { IsWorkChange change → shown self.new ≡ changed (shown self.old) change }
+        ensures world { PartOf Working change → shown self.new ≡ changed (shown self.old) change }
         ensures room { vec_capacity self.new.log ≡ vec_capacity self.old.log }
     {
-        let Change::Work {
-            worker,
-            state,
-            grace,
-            act,
-            mark,
-            answer,
-        } = change
-        else {
-            return;
-        };
-        self.tell_in_place(answer);
-        act_on(&mut self.queues, worker as usize, act);
-        mark_object(&mut self.objects, mark);
-        put(&mut self.workers, worker as usize, state);
-        self.grace = grace;
+        if let Change::Work { answer, .. } = change {
+            self.tell_in_place(answer);
+            self.work_now(change);
+        }
     }
 
     /// Adds the events of an answer to the log, which has room for them.

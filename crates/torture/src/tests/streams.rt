@@ -8,14 +8,18 @@ use std::process::Abort;
 /// Gives its text in pieces of at most so many bytes. A count of reads may stand before one that fails.
 #[derive(Drop)]
 pub struct Pieces<'a> {
+    /// What is left of it.
     pub text: &'a [u8],
+    /// How many bytes one read gives at most.
     pub most: usize,
+    /// How many reads come before all fail, if they do.
     pub before: Option<usize>,
     /// How many reads failed.
     pub faults: usize,
 }
 
 impl<'a> Pieces<'a> {
+    /// A reader of this text that never fails.
     pub fn new(text: &'a [u8], most: usize) -> Pieces<'a> {
         Pieces {
             text,
@@ -47,15 +51,20 @@ impl Read for Pieces<'_> {
 /// Takes at most so many bytes at once. A count of writes may stand before one that fails, or takes nothing.
 #[derive(Drop)]
 pub struct Sink {
+    /// What was written.
     pub bytes: Vec<u8>,
+    /// How many bytes one write takes at most.
     pub most: usize,
+    /// How many writes come before all fail, if they do.
     pub before: Option<usize>,
+    /// Whether a write that fails takes nothing, in place of an error.
     pub takes_nothing: bool,
     /// How many writes failed, or took nothing.
     pub faults: usize,
 }
 
 impl Sink {
+    /// An empty writer that never fails.
     pub fn new(alloc: Global, most: usize) -> Sink {
         Sink {
             bytes: Vec::new(alloc),
