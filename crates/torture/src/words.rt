@@ -142,14 +142,23 @@ fn parsed<'a, S: AsStr>(alloc: Global, words: &'a [S]) -> Result<ArgMatches<'a>,
     program(alloc)?.try_get_matches_from(words)
 }
 
-/// The fault of a walk in which nobody is who stops.
-fn no_such_actor(alloc: Global) -> Result<Error, AllocError>
+/// The fault of a walk in which nobody is who stops, as `clap` tells it of a number out of its range.
+fn no_such_actor(alloc: Global, walk: &Walk) -> Result<Error, AllocError>
     ensures { IfOk result (λ e. kind_of e ≡ ValueValidation) }
 {
-    program(alloc)?.error(
-        ErrorKind::ValueValidation,
-        "invalid value for '--stop <N>': there is no such actor",
-    )
+    let Config {
+        readers,
+        updaters,
+        workers,
+        ..
+    } = walk.config;
+    let actors = u64::from(readers) + u64::from(updaters) + u64::from(workers);
+    let last = actors.saturating_sub(1);
+    let actor = walk.stop.map_or(0, |stop| stop.actor);
+    let text = format!(in alloc;
+        "invalid value '{actor}' for '--stop <N>': {actor} is not in 0..={last}"
+    )?;
+    program(alloc)?.error(ErrorKind::ValueValidation, &text)
 }
 
 /// The command that the words ask for; the first word is the program's name. The fault has the text and the status with
@@ -163,10 +172,13 @@ pub fn read_words<S: AsStr>(alloc: Global, words: &[S]) -> Result<Command, Words
         Ok(matches) => command_of(&matches),
         Err(error) => return Err(WordsFault { error }),
     };
-    if command.is_within_limits() {
+    let Command::Walk(walk) = command else {
+        return Ok(command);
+    };
+    if walk.is_within_limits() {
         return Ok(command);
     }
-    match no_such_actor(alloc) {
+    match no_such_actor(alloc, &walk) {
         Ok(error) => Err(WordsFault { error }),
         Err(refused) => Err(WordsFault {
             error: Error::from(refused),

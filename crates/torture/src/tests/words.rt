@@ -185,7 +185,7 @@ const OTHER_WORDS: [(&[&str], u8, &str); 12] = [
     (
         &["torture", "walk", "--stop", "4"],
         2,
-        "error: invalid value for '--stop <N>': there is no such actor\n",
+        "error: invalid value '4' for '--stop <N>': 4 is not in 0..=3\n",
     ),
     (
         &["torture", "walk", "--seed", "1", "--seed", "2"],
