@@ -13,3 +13,4 @@ pub mod Numbering
 pub mod Given
 pub mod Locks
 pub mod Actors
+pub mod Tests

@@ -1,0 +1,194 @@
+-- The tests that a line has to pass, in their order: the first that fails is the answer, and else the step is made.
+use Rattle.std.specs.Prelude.{ℕ, ◌^◌, ◌==◌, ◌&&◌, nat_le, nat_lt, Bool, true, false, not, is_some, if◌then◌else◌, List, [], ◌∷◌, length, get_or, slice_get, Option, Some, None, Result, Ok, Err}
+use Rattle.std.specs.Option.{is_none, option_map_or}
+use Rattle.rcu_model.specs.declared.event.ObjectId.{ObjectId}
+use Rattle.rcu_model.specs.declared.refusal.Refusal.{Refusal}
+use Rattle.rcu_model.specs.declared.refusal.Refusal.TheVariants.{NoActor, Busy, NotOpen, WrongFlavour, NoPlace, NestFull, Exhausted}
+use Rattle.reader_word.specs.Word.{count_of, greatest_count}
+use Rattle.reader_word.specs.Quiescent.{is_online}
+use Rattle.gp_memb.specs.declared.plan.Action.{Action}
+use Rattle.gp_memb.specs.declared.plan.Action.TheVariants.{Load}
+use Rattle.gp_memb.specs.declared.plan.Turn.{Turn}
+use Rattle.gp_memb.specs.declared.plan.Turn.TheVariants as turns
+use Rattle.callback_queue.specs.Queue.{items_of}
+use Rattle.call_rcu_worker.specs.declared.sync.SyncCore.{SyncCore}
+use Rattle.call_rcu_worker.specs.declared.sync.SyncCore.TheVariants.{Asks, Waits, Runs}
+use Rattle.call_rcu_worker.specs.declared.worker.WorkerCore.{WorkerCore}
+use Rattle.call_rcu_worker.specs.declared.worker.WorkerCore.TheVariants as works
+use Rattle.world_state.specs.declared.line.Answer.{Answer}
+use Rattle.world_state.specs.declared.line.Answer.TheVariants.{Events, Quiet, Wait, Blocked, Idle}
+use Rattle.world_state.specs.declared.line.Line.{Line}
+use Rattle.world_state.specs.declared.line.Line.TheVariants.{Reader, Updater, Worker}
+use Rattle.world_state.specs.declared.line.ReaderVerb.{ReaderVerb}
+use Rattle.world_state.specs.declared.line.ReaderVerb.TheVariants as reader
+use Rattle.world_state.specs.declared.line.UpdaterVerb.{UpdaterVerb}
+use Rattle.world_state.specs.declared.line.UpdaterVerb.TheVariants as updater
+use Rattle.world_state.specs.declared.line.WorkerVerb.{WorkerVerb}
+use Rattle.world_state.specs.declared.line.WorkerVerb.TheVariants as worker
+use Rattle.world_state.specs.declared.object.ObjectState.{ObjectState}
+use Rattle.world_state.specs.declared.reader.ReaderState.{ReaderState}
+use Rattle.world_state.specs.declared.updater.Barrier.{Barrier}
+use Rattle.world_state.specs.declared.updater.BarrierStep.{BarrierStep}
+use Rattle.world_state.specs.declared.updater.BarrierStep.TheVariants.{Note, Check}
+use Rattle.world_state.specs.declared.updater.UpdaterPlace.{UpdaterPlace}
+use Rattle.world_state.specs.declared.updater.UpdaterPlace.TheVariants.{Syncs, Bars}
+use Rattle.world_state.specs.declared.updater.UpdaterState.{UpdaterState}
+use Rattle.world_state.specs.declared.worker.WorkerState.{WorkerState}
+use Rattle.world_state.specs.Objects.{is_linked}
+use Rattle.world_state.specs.Queues.{new_worker, empty_queue_state}
+use Rattle.world_state.specs.Readers.{new_reader, is_open_in}
+use Rattle.world_state.specs.View.{Plans, BoardView, idle}
+use Rattle.world.specs.Chains.{writes}
+use Rattle.world.specs.Lines.{is_idle}
+use Rattle.world.specs.Locks.{lock_of}
+use Rattle.world.specs.Queues.{queue_of, is_cut, is_kept}
+use Rattle.world.specs.Steps.{WorldView, OfMemb, OfQsbr, memb_plans, qsbr_plans}
+use Rattle.world.specs.Workers.{is_resting}
+
+-- one test, and the answer where it fails
+pub record Test : Type 0 where
+  pub fails : Bool
+  pub answer : Result Answer Refusal
+
+abbrev pub refused_if : Bool → Refusal → Test
+refused_if fails e = record { fails = fails; answer = Err e }
+
+abbrev pub stalled_if : Bool → Answer → Test
+stalled_if fails answer = record { fails = fails; answer = Ok answer }
+
+-- what the first test answers that fails, if one does
+abbrev pub first_failing : List Test → Option (Result Answer Refusal)
+first_failing [] = None
+first_failing (test ∷ tests) = if test.fails then Some test.answer else first_failing tests
+
+-- an answer, unless it says that the step was made
+abbrev pub hindered : Result Answer Refusal → Option (Result Answer Refusal)
+hindered (Ok (Events first second)) = None
+hindered (Ok Quiet) = None
+hindered answer = Some answer
+
+-- readers: `lock` and `unlock` are of the one flavour, and these three of the other
+abbrev pub is_of_memb : ReaderVerb → Bool
+is_of_memb reader.Lock = true
+is_of_memb reader.Unlock = true
+is_of_memb verb = false
+
+abbrev pub is_of_qsbr : ReaderVerb → Bool
+is_of_qsbr reader.Online = true
+is_of_qsbr reader.Quiescent = true
+is_of_qsbr reader.Offline = true
+is_of_qsbr verb = false
+
+abbrev pub is_foreign : Bool → ReaderVerb → Bool
+is_foreign qsbr verb = if qsbr then is_of_memb verb else is_of_qsbr verb
+
+module _ {P : Type 0} (plans : Plans P) (w : BoardView P) where
+  abbrev pub in_section : ReaderState → Test
+  in_section v = refused_if (not (is_open_in plans.qsbr w.layout v.word)) NotOpen
+
+  -- of a verb that begins an operation
+  abbrev pub tests_of_read : ReaderState → ReaderVerb → List Test
+  tests_of_read v reader.Lock = refused_if (count_of w.layout v.word == greatest_count w.layout) NestFull ∷ []
+  tests_of_read v reader.Unlock = refused_if (count_of w.layout v.word == 0) NotOpen ∷ []
+  tests_of_read v reader.Online = refused_if (is_online v.word) Busy ∷ []
+  tests_of_read v reader.Quiescent = refused_if (not (is_online v.word)) NotOpen ∷ []
+  tests_of_read v reader.Offline = refused_if (not (is_online v.word)) NotOpen ∷ []
+  tests_of_read v (reader.First c) = in_section v ∷ refused_if (nat_le (length w.heads) c) NoPlace ∷ []
+  tests_of_read v reader.Next = in_section v ∷ refused_if (is_none v.cursor) NoPlace ∷ []
+  tests_of_read v reader.Touch = in_section v ∷ refused_if (is_none v.cursor) NoPlace ∷ []
+  tests_of_read v reader.GoOn = []
+
+  abbrev pub reader_tests : ReaderState → ReaderVerb → List Test
+  reader_tests v reader.GoOn = refused_if (is_none v.copy) NotOpen ∷ []
+  reader_tests v verb =
+      refused_if (is_some v.copy) Busy
+      ∷ refused_if (is_foreign plans.qsbr verb) WrongFlavour
+      ∷ tests_of_read v verb
+
+  -- there are no sequence numbers left for an ask
+  abbrev pub has_numbers : Test
+  has_numbers = refused_if (nat_le (2 ^ 62) w.grace.seq) Exhausted
+
+  -- a scan: the plan has to wait for the word that it loads
+  abbrev pub has_to_wait : Turn → Bool
+  has_to_wait turns.Wait = true
+  has_to_wait turns.Step = false
+
+  abbrev pub tests_of_action : P → Action → List Test
+  tests_of_action plan (Load slot) =
+      stalled_if (has_to_wait (plans.turn plan (get_or w.readers slot new_reader).word)) Wait ∷ []
+  tests_of_action plan action = []
+
+  -- a grace period's next step, whoever waits for it
+  abbrev pub tests_of_sync : SyncCore P → List Test
+  tests_of_sync Asks = has_numbers ∷ []
+  tests_of_sync (Waits cookie) = stalled_if (is_some w.grace.holder) Blocked ∷ []
+  tests_of_sync (Runs cookie plan) = tests_of_action plan (plans.action plan)
+  tests_of_sync core = []
+
+  -- a barrier's next step
+  abbrev pub tests_of_barrier : Barrier → BarrierStep → List Test
+  tests_of_barrier b (Note q) = []
+  tests_of_barrier b (Check q) =
+      stalled_if (nat_lt (get_or w.queues q empty_queue_state).finished (get_or b.counts q 0)) Wait ∷ []
+
+  -- an updater's next step, from where it stands
+  abbrev pub tests_of_place : UpdaterPlace P → List Test
+  tests_of_place (Syncs ask core) = tests_of_sync core
+  tests_of_place (Bars b) = tests_of_barrier b b.due
+  tests_of_place place = []
+
+  -- the object, if there is one, is linked in a chain that the updater writes; or was cut from one, and is not retired
+  abbrev pub may_leave : ℕ → ObjectState → Bool
+  may_leave u y = writes w u y.chain && is_linked y.stage
+
+  abbrev pub may_retire : ℕ → ObjectState → Bool
+  may_retire u y = writes w u y.chain && (is_cut y.stage && is_kept y.life)
+
+  abbrev pub is_object : (ObjectState → Bool) → ObjectId → Test
+  is_object so o = refused_if (not (option_map_or so (slice_get w.objects o.0) false)) NoPlace
+
+  abbrev pub lock_is_free : ℕ → Test
+  lock_is_free q = stalled_if (is_some (lock_of w q)) Blocked
+
+  -- of a verb that begins an operation
+  abbrev pub tests_of_update : ℕ → UpdaterState P → UpdaterVerb → List Test
+  tests_of_update u x (updater.Push c) = refused_if (nat_le (length w.heads) c) NoPlace ∷ refused_if (not (writes w u c)) NoPlace ∷ []
+  tests_of_update u x (updater.Replace o) = is_object (may_leave u) o ∷ []
+  tests_of_update u x (updater.Cut o) = is_object (may_leave u) o ∷ []
+  tests_of_update u x (updater.Retire o) = is_object (may_retire u) o ∷ lock_is_free (queue_of w u) ∷ []
+  tests_of_update u x updater.Sync = has_numbers ∷ []
+  tests_of_update u x updater.Start = has_numbers ∷ []
+  tests_of_update u x updater.Poll =
+      refused_if (is_none x.started) NotOpen
+      ∷ stalled_if (option_map_or (λ s. nat_lt w.grace.seq s.cookie) x.started false) Wait
+      ∷ []
+  tests_of_update u x updater.Barrier = []
+  tests_of_update u x updater.GoOn = []
+
+  abbrev pub updater_tests : ℕ → UpdaterState P → UpdaterVerb → List Test
+  updater_tests u x updater.GoOn = refused_if (is_idle x.place) NotOpen ∷ tests_of_place x.place
+  updater_tests u x verb = refused_if (not (is_idle x.place)) Busy ∷ tests_of_update u x verb
+
+  -- a worker's next step: it may be one of a grace period
+  abbrev pub tests_of_work : WorkerCore P Unit → List Test
+  tests_of_work (works.Syncs core tickets) = tests_of_sync core
+  tests_of_work core = []
+
+  abbrev pub worker_tests : ℕ → WorkerState P → WorkerVerb → List Test
+  worker_tests k x worker.GoOn = refused_if (is_resting x.core) NotOpen ∷ tests_of_work x.core
+  worker_tests k x worker.Take =
+      refused_if (not (is_resting x.core)) Busy
+      ∷ lock_is_free k
+      ∷ stalled_if (length (items_of (get_or w.queues k empty_queue_state).items) == 0) Idle
+      ∷ []
+
+  -- of any line: first whether there is such an actor
+  abbrev pub line_tests : Line → List Test
+  line_tests (Reader r verb) = refused_if (nat_le (length w.readers) r) NoActor ∷ reader_tests (get_or w.readers r new_reader) verb
+  line_tests (Updater u verb) = refused_if (nat_le (length w.updaters) u) NoActor ∷ updater_tests u (get_or w.updaters u idle) verb
+  line_tests (Worker k verb) = refused_if (nat_le (length w.workers) k) NoActor ∷ worker_tests k (get_or w.workers k new_worker) verb
+
+abbrev pub tests_of : WorldView → Line → List Test
+tests_of (OfMemb w) line = line_tests memb_plans w line
+tests_of (OfQsbr w) line = line_tests qsbr_plans w line
