@@ -39,3 +39,5 @@ pub mod Given
 pub mod Opening
 pub mod InOrder
 pub mod LockHolders
+pub mod Tests
+pub mod TestsOfLines

@@ -1,5 +1,5 @@
 -- The tests that a line has to pass, in their order: the first that fails is the answer, and else the step is made.
-use Rattle.std.specs.Prelude.{ℕ, ◌^◌, ◌==◌, ◌&&◌, nat_le, nat_lt, Bool, true, false, not, is_some, if◌then◌else◌, List, [], ◌∷◌, length, get_or, slice_get, Option, Some, None, Result, Ok, Err}
+use Rattle.std.specs.Prelude.{◌≡◌, ℕ, ◌^◌, ◌==◌, ◌&&◌, nat_le, nat_lt, Bool, true, false, not, is_some, if◌then◌else◌, List, [], ◌∷◌, length, get_or, slice_get, Option, Some, None, Result, Ok, Err}
 use Rattle.std.specs.Option.{is_none, option_map_or}
 use Rattle.rcu_model.specs.declared.event.ObjectId.{ObjectId}
 use Rattle.rcu_model.specs.declared.refusal.Refusal.{Refusal}
@@ -39,7 +39,7 @@ use Rattle.world_state.specs.Queues.{new_worker, empty_queue_state}
 use Rattle.world_state.specs.Readers.{new_reader, is_open_in}
 use Rattle.world_state.specs.View.{Plans, BoardView, idle}
 use Rattle.world.specs.Chains.{writes}
-use Rattle.world.specs.Lines.{is_idle}
+use Rattle.world.specs.Lines.{is_idle, outcome_of}
 use Rattle.world.specs.Locks.{lock_of}
 use Rattle.world.specs.Queues.{queue_of, is_cut, is_kept}
 use Rattle.world.specs.Steps.{WorldView, OfMemb, OfQsbr, memb_plans, qsbr_plans}
@@ -82,11 +82,17 @@ is_of_qsbr verb = false
 abbrev pub is_foreign : Bool → ReaderVerb → Bool
 is_foreign qsbr verb = if qsbr then is_of_memb verb else is_of_qsbr verb
 
+-- the plan has to wait for the word that it loaded
+abbrev pub has_to_wait : Turn → Bool
+has_to_wait turns.Wait = true
+has_to_wait turns.Step = false
+
 module _ {P : Type 0} (plans : Plans P) (w : BoardView P) where
+  -- the reader has an open section
   abbrev pub in_section : ReaderState → Test
   in_section v = refused_if (not (is_open_in plans.qsbr w.layout v.word)) NotOpen
 
-  -- of a verb that begins an operation
+  -- what a verb that begins an operation asks of the reader itself
   abbrev pub tests_of_read : ReaderState → ReaderVerb → List Test
   tests_of_read v reader.Lock = refused_if (count_of w.layout v.word == greatest_count w.layout) NestFull ∷ []
   tests_of_read v reader.Unlock = refused_if (count_of w.layout v.word == 0) NotOpen ∷ []
@@ -98,6 +104,7 @@ module _ {P : Type 0} (plans : Plans P) (w : BoardView P) where
   tests_of_read v reader.Touch = in_section v ∷ refused_if (is_none v.cursor) NoPlace ∷ []
   tests_of_read v reader.GoOn = []
 
+  -- of a reader's line: `.` goes on with an operation, and any other verb begins one, if it is of the flavour
   abbrev pub reader_tests : ReaderState → ReaderVerb → List Test
   reader_tests v reader.GoOn = refused_if (is_none v.copy) NotOpen ∷ []
   reader_tests v verb =
@@ -105,15 +112,11 @@ module _ {P : Type 0} (plans : Plans P) (w : BoardView P) where
       ∷ refused_if (is_foreign plans.qsbr verb) WrongFlavour
       ∷ tests_of_read v verb
 
-  -- there are no sequence numbers left for an ask
+  -- sequence numbers are left for an ask
   abbrev pub has_numbers : Test
   has_numbers = refused_if (nat_le (2 ^ 62) w.grace.seq) Exhausted
 
-  -- a scan: the plan has to wait for the word that it loads
-  abbrev pub has_to_wait : Turn → Bool
-  has_to_wait turns.Wait = true
-  has_to_wait turns.Step = false
-
+  -- what a grace period's plan is to do next: a scan waits for a word that stands in its way
   abbrev pub tests_of_action : P → Action → List Test
   tests_of_action plan (Load slot) =
       stalled_if (has_to_wait (plans.turn plan (get_or w.readers slot new_reader).word)) Wait ∷ []
@@ -145,18 +148,22 @@ module _ {P : Type 0} (plans : Plans P) (w : BoardView P) where
   abbrev pub may_retire : ℕ → ObjectState → Bool
   may_retire u y = writes w u y.chain && (is_cut y.stage && is_kept y.life)
 
-  abbrev pub is_object : (ObjectState → Bool) → ObjectId → Test
-  is_object so o = refused_if (not (option_map_or so (slice_get w.objects o.0) false)) NoPlace
+  abbrev pub is_one_that : (ObjectState → Bool) → ObjectId → Test
+  is_one_that so o = refused_if (not (option_map_or so (slice_get w.objects o.0) false)) NoPlace
 
+  -- nobody holds the queue's lock
   abbrev pub lock_is_free : ℕ → Test
   lock_is_free q = stalled_if (is_some (lock_of w q)) Blocked
 
-  -- of a verb that begins an operation
+  -- what a verb that begins an operation asks of the updater
   abbrev pub tests_of_update : ℕ → UpdaterState P → UpdaterVerb → List Test
-  tests_of_update u x (updater.Push c) = refused_if (nat_le (length w.heads) c) NoPlace ∷ refused_if (not (writes w u c)) NoPlace ∷ []
-  tests_of_update u x (updater.Replace o) = is_object (may_leave u) o ∷ []
-  tests_of_update u x (updater.Cut o) = is_object (may_leave u) o ∷ []
-  tests_of_update u x (updater.Retire o) = is_object (may_retire u) o ∷ lock_is_free (queue_of w u) ∷ []
+  tests_of_update u x (updater.Push c) =
+      refused_if (nat_le (length w.heads) c) NoPlace
+      ∷ refused_if (not (writes w u c)) NoPlace
+      ∷ []
+  tests_of_update u x (updater.Replace o) = is_one_that (may_leave u) o ∷ []
+  tests_of_update u x (updater.Cut o) = is_one_that (may_leave u) o ∷ []
+  tests_of_update u x (updater.Retire o) = is_one_that (may_retire u) o ∷ lock_is_free (queue_of w u) ∷ []
   tests_of_update u x updater.Sync = has_numbers ∷ []
   tests_of_update u x updater.Start = has_numbers ∷ []
   tests_of_update u x updater.Poll =
@@ -185,10 +192,23 @@ module _ {P : Type 0} (plans : Plans P) (w : BoardView P) where
 
   -- of any line: first whether there is such an actor
   abbrev pub line_tests : Line → List Test
-  line_tests (Reader r verb) = refused_if (nat_le (length w.readers) r) NoActor ∷ reader_tests (get_or w.readers r new_reader) verb
-  line_tests (Updater u verb) = refused_if (nat_le (length w.updaters) u) NoActor ∷ updater_tests u (get_or w.updaters u idle) verb
-  line_tests (Worker k verb) = refused_if (nat_le (length w.workers) k) NoActor ∷ worker_tests k (get_or w.workers k new_worker) verb
+  line_tests (Reader r verb) =
+      refused_if (nat_le (length w.readers) r) NoActor
+      ∷ reader_tests (get_or w.readers r new_reader) verb
+  line_tests (Updater u verb) =
+      refused_if (nat_le (length w.updaters) u) NoActor
+      ∷ updater_tests u (get_or w.updaters u idle) verb
+  line_tests (Worker k verb) =
+      refused_if (nat_le (length w.workers) k) NoActor
+      ∷ worker_tests k (get_or w.workers k new_worker) verb
 
+-- the first test that fails is the answer, and leaves the world as it was; where none fails, the step is made
+pub record IsTested {P : Type 0} (plans : Plans P) (w : BoardView P) (line : Line) : Type 0 where
+  pub answer : hindered (outcome_of plans w line).answer ≡ first_failing (line_tests plans w line)
+  pub unchanged : (answer : Result Answer Refusal) → hindered (outcome_of plans w line).answer ≡ Some answer →
+      (outcome_of plans w line).world ≡ w
+
+-- a world of either flavour
 abbrev pub tests_of : WorldView → Line → List Test
 tests_of (OfMemb w) line = line_tests memb_plans w line
 tests_of (OfQsbr w) line = line_tests qsbr_plans w line

@@ -12,6 +12,7 @@ mod numbering;
 mod publishing;
 mod reading;
 mod retiring;
+mod testing;
 mod waiting;
 mod working;
 mod world;
@@ -20,6 +21,7 @@ pub use actor::Actor;
 pub use laws::{every_schedule_reclaims_safely, log_is_a_run};
 pub use locking::locks_are_held_by_those_inside;
 pub use numbering::{numbers_are_given_in_order, numbers_count_lines};
+pub use testing::tests_are_made_in_order;
 pub use world::World;
 pub use world_state::{
     Answer, Config, Flavour, Layout, Line, ReaderVerb, StepError, UpdaterVerb, WorkerVerb,
