@@ -40,4 +40,5 @@ pub mod Opening
 pub mod InOrder
 pub mod LockHolders
 pub mod Tests
+pub mod TestsOfGrace
 pub mod TestsOfLines
