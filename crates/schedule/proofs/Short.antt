@@ -1,5 +1,5 @@
 -- How long a line and a header can be.
-use Rattle.std.proofs.Common.{◌≡◌, ℕ, ◌+◌, ◌<◌, ◌≤◌, List, [], ◌∷◌, ◌++◌, length, Err, ap, arith, lit<}
+use Rattle.std.proofs.Common.{◌≡◌, ℕ, ◌+◌, ◌≤◌, List, [], ◌∷◌, ◌++◌, length, ap, arith, lit<}
 use Rattle.std.specs.Prelude.{codes}
 use Rattle.std.specs.Fmt.{decimal}
 use Rattle.std.proofs.lemmas.Fmt.{length-decimal-le}
@@ -20,9 +20,10 @@ use Rattle.world_state.specs.declared.line.UpdaterVerb.{UpdaterVerb}
 use Rattle.world_state.specs.declared.line.UpdaterVerb.TheVariants as updater
 use Rattle.world_state.specs.declared.line.WorkerVerb.{WorkerVerb}
 use Rattle.world_state.specs.declared.line.WorkerVerb.TheVariants as worker
-use Rattle.schedule.proofs.Lines.{line_reads}
-use Rattle.schedule.proofs.Headers.{header_reads}
-use Rattle.schedule.proofs.More.{reads_partial}
+use Rattle.schedule.specs.Next.{IsGradual}
+use Rattle.schedule.proofs.Lines.{line_reads, no_line}
+use Rattle.schedule.proofs.Headers.{header_reads, no_header}
+use Rattle.schedule.proofs.Bytes.{gradual}
 
 short : (n : ℕ) → IsNumber n → length (decimal n) ≤ 9
 short n h = length-decimal-le 9 n (lit< tt) h (omega (arith, h))
@@ -67,10 +68,8 @@ line_short (Reader n v) h = actor_short 114 n (reader_verb v) h.0 (reader_short 
 line_short (Updater n v) h = actor_short 117 n (updater_verb v) h.0 (updater_short v h.1)
 line_short (Worker n v) h = actor_short 119 n (worker_verb v) h (worker_short v)
 
-pub partial_line_short : (text : List ℕ) → line_at text ≡ Err [] → length text < 56
-partial_line_short text e =
-    let p = reads_partial LineText line_at line_reads text e in
-    omega (arith, line_short p.2.0 p.2.1.0, ap length p.2.1.1, length-append text p.0, p.1)
+pub line_gradual : IsGradual line_at
+line_gradual = gradual LineText line_at line_reads no_line (λ l text s. omega (arith, line_short l s.0, ap length s.1))
 
 -- ---- headers
 
@@ -107,7 +106,5 @@ header_short c h =
       last_short c.chains 10 h.chains,
     )
 
-pub partial_header_short : (text : List ℕ) → header_at text ≡ Err [] → length text < 56
-partial_header_short text e =
-    let p = reads_partial HeaderText header_at header_reads text e in
-    omega (arith, header_short p.2.0 p.2.1.0, ap length p.2.1.1, length-append text p.0, p.1)
+pub header_gradual : IsGradual header_at
+header_gradual = gradual HeaderText header_at header_reads no_header (λ c text s. omega (arith, header_short c s.0, ap length s.1))

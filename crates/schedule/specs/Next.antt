@@ -1,5 +1,5 @@
 -- What stands first in held bytes and the text after them.
-use Rattle.std.specs.Prelude.{◌≡◌, ℕ, ◌+◌, List, [], ◌∷◌, ◌++◌, length, Option, None, Some, Result, Ok, Err}
+use Rattle.std.specs.Prelude.{◌≡◌, ℕ, ◌+◌, ◌<◌, ◌≤◌, List, [], ◌∷◌, ◌++◌, length, Option, None, Some, Result, Ok, Err}
 use Rattle.std.specs.Borrow.{Bor}
 use Rattle.schedule.specs.Reading.{Reading}
 
@@ -14,3 +14,12 @@ abbrev pub NextByte : {A : Type 0} → (List ℕ → Reading A) → List ℕ →
 NextByte read old byte new (Ok (Some x)) = (read (old ++ byte ∷ []) ≡ Ok (x, [])) × (new ≡ [])
 NextByte read old byte new (Ok None) = (read (old ++ byte ∷ []) ≡ Err []) × (new ≡ old ++ byte ∷ [])
 NextByte read old byte new (Err column) = (b : ℕ) × (more : List ℕ) × (read (old ++ byte ∷ []) ≡ Err (b ∷ more)) × (column + length (b ∷ more) ≡ length (old ++ byte ∷ []) + 1)
+
+-- What is read stays read when more text comes, a bad byte stays bad, and what may still go on is short.
+pub record IsGradual {A : Type 0} (read : List ℕ → Reading A) : Type 0 where
+  pub found : (text more : List ℕ) (x : A) (rest : List ℕ) → read text ≡ Ok (x, rest) → read (text ++ more) ≡ Ok (x, rest ++ more)
+  pub bad : (text : List ℕ) (b : ℕ) (bs more : List ℕ) → read text ≡ Err (b ∷ bs) → read (text ++ more) ≡ Err (b ∷ (bs ++ more))
+  pub last : (text : List ℕ) (b : ℕ) (x : A) (rest : List ℕ) → read text ≡ Err [] → read (text ++ b ∷ []) ≡ Ok (x, rest) → rest ≡ []
+  pub shrinks : (text : List ℕ) (x : A) (rest : List ℕ) → read text ≡ Ok (x, rest) → length rest < length text
+  pub within : (text bad : List ℕ) → read text ≡ Err bad → length bad ≤ length text
+  pub short : (text : List ℕ) → read text ≡ Err [] → length text < 56

@@ -4,7 +4,9 @@ ghost use Rattle.std.specs.Prelude.{◌≡◌, ◌<◌, ℕ, List, [], length, t
 ghost use Rattle.std.specs.Borrow.{Bor};
 ghost use Rattle.world_state.specs.declared.line.Line.{Line};
 ghost use Rattle.schedule.specs.Grammar.{header_at, line_at};
-ghost use Rattle.schedule.specs.Next.{Next, NextByte};
+ghost use Rattle.schedule.specs.Next.{Next, NextByte, IsGradual};
+ghost use Rattle.schedule.specs.Reading.{Reading, Gives};
+ghost use Rattle.world_state.specs.declared.config.Config.{Config};
 
 use crate::header::front_header;
 use crate::reading::{column_of, front_line};
@@ -13,6 +15,32 @@ use world::{Config, Line};
 
 /// As many bytes as the longest header has. Lines are shorter.
 const LONGEST: usize = 56;
+
+/// What stands first in a text, if it is whole.
+pub(crate) trait Front: Copy {
+    /// How it is read.
+    ghost read: { List ℕ → Reading Self };
+
+    /// What stands first, and what comes after it; or the bytes from the first bad one on.
+    fn front(text: &[u8]) -> Result<(Self, &[u8]), &[u8]>
+        ensures { Gives (λ x. x) result (read text.now) };
+}
+
+impl Front for Config {
+    ghost read = { header_at };
+
+    fn front(text: &[u8]) -> Result<(Config, &[u8]), &[u8]> {
+        front_header(text)
+    }
+}
+
+impl Front for Line {
+    ghost read = { line_at };
+
+    fn front(text: &[u8]) -> Result<(Line, &[u8]), &[u8]> {
+        front_line(text)
+    }
+}
 
 /// The bytes of a header or a line that has not ended.
 #[derive(Drop)]
@@ -48,16 +76,17 @@ impl Held {
         self.len
     }
 
-    /// The line that the byte completes, if it does; or the column of a byte with which no line goes on.
-    fn line_byte(&mut self, byte: u8) -> Result<Option<Line>, usize>
-        ensures { line_at self.old ≡ Err [] → NextByte line_at self.old byte self.new result }
+    /// What the byte completes, if it does; or the column of a byte with which it does not go on.
+    fn byte<T: Front>(&mut self, byte: u8) -> Result<Option<T>, usize>
+        requires { IsGradual T.read }
+        ensures { T.read self.old ≡ Err [] → NextByte T.read self.old byte self.new result }
     {
         self.bytes[self.len] = byte;
         let text = &self.bytes[..self.len + 1];
-        match front_line(text) {
-            Ok((line, _)) => {
+        match T::front(text) {
+            Ok((item, _)) => {
                 self.len = 0;
-                Ok(Some(line))
+                Ok(Some(item))
             }
             Err([]) => {
                 self.len += 1;
@@ -67,62 +96,31 @@ impl Held {
         }
     }
 
-    /// The header that the byte completes, if it does; or the column of a byte with which no header goes on.
-    fn header_byte(&mut self, byte: u8) -> Result<Option<Config>, usize>
-        ensures { header_at self.old ≡ Err [] → NextByte header_at self.old byte self.new result }
-    {
-        self.bytes[self.len] = byte;
-        let text = &self.bytes[..self.len + 1];
-        match front_header(text) {
-            Ok((config, _)) => {
-                self.len = 0;
-                Ok(Some(config))
-            }
-            Err([]) => {
-                self.len += 1;
-                Ok(None)
-            }
-            Err(bad) => Err(column_of(text, bad)),
-        }
-    }
-
-    /// The header that ends in the text, and what follows it, if one does; else the text is held. Or the column of a
-    /// byte with which no header goes on.
-    pub fn next_header<'a>(&mut self, text: &'a [u8]) -> Result<Option<(Config, &'a [u8])>, usize>
-        ensures { header_at self.old ≡ Err [] → Next header_at self.old text.now self.new result }
+    /// What ends in the text, and what follows it, if something does; else the text is held. Or the column of a byte
+    /// with which it does not go on.
+    fn cut<'a, T: Front>(&mut self, text: &'a [u8]) -> Result<Option<(T, &'a [u8])>, usize>
+        requires { IsGradual T.read }
+        ensures next { T.read self.old ≡ Err [] → Next T.read self.old text.now self.new result }
+        ensures shrinks { IfOk result (λ next. IfSome next (λ x. length x.1.now < length text.now)) }
     {
         let mut rest = text;
         while let [byte, after @ ..] = rest {
-            if let Some(config) = self.header_byte(*byte)? {
-                return Ok(Some((config, after)));
+            if let Some(item) = self.byte(*byte)? {
+                return Ok(Some((item, after)));
             }
             rest = after;
         }
         Ok(None)
     }
 
-    /// The same of a line.
-    fn cut_line<'a>(&mut self, text: &'a [u8]) -> Result<Option<(Line, &'a [u8])>, usize>
-        ensures next { line_at self.old ≡ Err [] → Next line_at self.old text.now self.new result }
+    /// The same where nothing is held.
+    fn whole<'a, T: Front>(&mut self, text: &'a [u8]) -> Result<Option<(T, &'a [u8])>, usize>
+        requires gradual { IsGradual T.read }
+        requires nothing { self.old ≡ [] }
+        ensures next { Next T.read self.old text.now self.new result }
         ensures shrinks { IfOk result (λ next. IfSome next (λ x. length x.1.now < length text.now)) }
     {
-        let mut rest = text;
-        while let [byte, after @ ..] = rest {
-            if let Some(line) = self.line_byte(*byte)? {
-                return Ok(Some((line, after)));
-            }
-            rest = after;
-        }
-        Ok(None)
-    }
-
-    /// The same of a line where nothing is held.
-    fn whole_line<'a>(&mut self, text: &'a [u8]) -> Result<Option<(Line, &'a [u8])>, usize>
-        requires { self.old ≡ [] }
-        ensures next { Next line_at self.old text.now self.new result }
-        ensures shrinks { IfOk result (λ next. IfSome next (λ x. length x.1.now < length text.now)) }
-    {
-        match front_line(text) {
+        match T::front(text) {
             Ok(next) => Ok(Some(next)),
             Err([]) => {
                 self.bytes[..text.len()].copy_from_slice(text);
@@ -133,16 +131,34 @@ impl Held {
         }
     }
 
-    /// The line that stands first in what is held and the text, and what follows it, if it is whole; else the text is
-    /// held. Or the column of a byte with which no line goes on.
+    /// What stands first in what is held and the text, and what follows it, if it is whole; else the text is held. Or
+    /// the column of a byte with which it does not go on.
+    fn next<'a, T: Front>(&mut self, text: &'a [u8]) -> Result<Option<(T, &'a [u8])>, usize>
+        requires { IsGradual T.read }
+        ensures next { T.read self.old ≡ Err [] → Next T.read self.old text.now self.new result }
+        ensures shrinks { IfOk result (λ next. IfSome next (λ x. length x.1.now < length text.now)) }
+    {
+        if self.len == 0 {
+            self.whole(text)
+        } else {
+            self.cut(text)
+        }
+    }
+
+    /// The header that stands first.
+    #[tactic(auto, using(crate::proofs::Short::header_gradual))]
+    pub fn next_header<'a>(&mut self, text: &'a [u8]) -> Result<Option<(Config, &'a [u8])>, usize>
+        ensures { header_at self.old ≡ Err [] → Next header_at self.old text.now self.new result }
+    {
+        self.next(text)
+    }
+
+    /// The line that stands first.
+    #[tactic(auto, using(crate::proofs::Short::line_gradual))]
     pub fn next_line<'a>(&mut self, text: &'a [u8]) -> Result<Option<(Line, &'a [u8])>, usize>
         ensures next { line_at self.old ≡ Err [] → Next line_at self.old text.now self.new result }
         ensures shrinks { IfOk result (λ next. IfSome next (λ x. length x.1.now < length text.now)) }
     {
-        if self.len == 0 {
-            self.whole_line(text)
-        } else {
-            self.cut_line(text)
-        }
+        self.next(text)
     }
 }
