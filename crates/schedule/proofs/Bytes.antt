@@ -1,44 +1,32 @@
 -- One byte more, and a whole text more, for any language that is read exactly.
-use Rattle.std.proofs.Common.{◌≡◌, ℕ, ◌+◌, ◌-◌, ◌<◌, ◌≤◌, List, [], ◌∷◌, ◌++◌, length, get_or, take, drop, set, Ok, Err, sym, ap, subst, ◌∙◌, append_assoc, arith}
+use Rattle.std.proofs.Common.{◌≡◌, ℕ, ◌+◌, ◌-◌, ◌<◌, ◌≤◌, List, [], ◌∷◌, ◌++◌, length, get_or, take, drop, set, Ok, Err, sym, ap, ◌∙◌, append_assoc, arith}
 use Rattle.std.proofs.lemmas.List.{length-append, take_all, take_more_set}
 use Rattle.schedule.specs.Reading.{Reading}
-use Rattle.schedule.specs.Next.{IsGradual}
+use Rattle.schedule.specs.Next.{IsIncremental}
 use Rattle.schedule.proofs.Exact.{Reads, not_both}
 use Rattle.schedule.proofs.Columns.{bad_within}
 use Rattle.schedule.proofs.More.{ok_more, err_more, last_byte, reads_partial, whole}
 
--- the bytes that are read, where one is written behind the held ones
-pub text_after : (bytes held : List ℕ) (len byte : ℕ) → len < length bytes → take len bytes ≡ held → take (len + 1) (set bytes len byte) ≡ held ++ byte ∷ []
-text_after bytes held len byte lt at = take_more_set bytes len byte lt ∙ ap (λ (t : List ℕ). t ++ byte ∷ []) at
+-- a byte is written behind the held ones, and the rest follows it
+pub parts_at : (bytes rest all : List ℕ) (len : ℕ) → len < length bytes → 1 ≤ length rest → take len bytes ++ rest ≡ all
+    → all ≡ take (len + 1) (set bytes len (get_or rest 0 0)) ++ take (length rest - 1) (drop 1 rest)
+parts_at bytes [] all len lt some at = absurd (omega arith)
+parts_at bytes (b ∷ after) all len lt some at =
+    rw (take_more_set bytes len b lt, take_all (length (b ∷ after) - 1) after (omega arith)) (sym at ∙ sym (append_assoc (take len bytes) (b ∷ []) after))
 
--- what is bad has a first byte
-pub some_bad : {A : Type 0} (read : List ℕ → Reading A) (text all bad : List ℕ) (column : ℕ) → text ≡ all → read text ≡ Err bad → 1 ≤ length bad → column + length bad ≡ length text + 1
+-- the byte ends what it completes
+pub next_some : {A : Type 0} (read : List ℕ → Reading A) → IsIncremental read → (bytes after all : List ℕ) (len byte : ℕ) (x : A) (more : List ℕ) → len < length bytes → read (take len bytes) ≡ Err [] → all ≡ take (len + 1) (set bytes len byte) ++ after
+    → read (take (len + 1) (set bytes len byte)) ≡ Ok (x, more) → read all ≡ Ok (x, after)
+next_some {A} read incremental bytes after all len byte x more lt good at is =
+    let end : more ≡ [] = incremental.last (take len bytes) byte x more good (ap read (sym (take_more_set bytes len byte lt)) ∙ is) in
+    ap read at ∙ incremental.found (take (len + 1) (set bytes len byte)) after x more is ∙ ap (λ (t : List ℕ). Ok (x, t ++ after)) end
+
+-- a byte that is bad stays so
+pub next_bad : {A : Type 0} (read : List ℕ → Reading A) → IsIncremental read → (text after all bad : List ℕ) (column : ℕ) → all ≡ text ++ after → read text ≡ Err bad → 1 ≤ length bad → column + length bad ≡ length text + 1
     → (b : ℕ) × (more : List ℕ) × (read all ≡ Err (b ∷ more)) × (column + length (b ∷ more) ≡ length all + 1)
-some_bad read text all [] column at is le place = absurd (omega arith)
-some_bad read text all (b ∷ more) column at is le place = (b, more, ap read (sym at) ∙ is, omega (arith, place, ap length at))
-
--- ---- a byte, and the text after it
-
-tail_of : (b : ℕ) (after : List ℕ) → take (length (b ∷ after) - 1) after ≡ after
-tail_of b after = take_all (length (b ∷ after) - 1) after (omega arith)
-
-pub next_some : {A : Type 0} (read : List ℕ → Reading A) → IsGradual read → (all held rest : List ℕ) (x : A) → held ++ rest ≡ all → 1 ≤ length rest → read (held ++ get_or rest 0 0 ∷ []) ≡ Ok (x, []) → read all ≡ Ok (x, take (length rest - 1) (drop 1 rest))
-next_some read gradual all held [] x at some is = absurd (omega arith)
-next_some {A} read gradual all held (b ∷ after) x at some is =
-    let parts : all ≡ (held ++ b ∷ []) ++ after = sym at ∙ sym (append_assoc held (b ∷ []) after) in
-    subst (λ (t : List ℕ). read all ≡ Ok (x, t)) (sym (tail_of b after)) (ap read parts ∙ gradual.found (held ++ b ∷ []) after x [] is)
-
-pub next_bad : {A : Type 0} (read : List ℕ → Reading A) → IsGradual read → (all held rest : List ℕ) (column : ℕ) → held ++ rest ≡ all → 1 ≤ length rest
-    → (b : ℕ) × (more : List ℕ) × (read (held ++ get_or rest 0 0 ∷ []) ≡ Err (b ∷ more)) × (column + length (b ∷ more) ≡ length (held ++ get_or rest 0 0 ∷ []) + 1)
-    → (b : ℕ) × (more : List ℕ) × (read all ≡ Err (b ∷ more)) × (column + length (b ∷ more) ≡ length all + 1)
-next_bad read gradual all held [] column at some n = absurd (omega arith)
-next_bad read gradual all held (b ∷ after) column at some n =
-    let parts : all ≡ (held ++ b ∷ []) ++ after = sym at ∙ sym (append_assoc held (b ∷ []) after) in (
-      n.0,
-      n.1 ++ after,
-      ap read parts ∙ gradual.bad (held ++ b ∷ []) n.0 n.1 after n.2,
-      omega (arith, n.3, ap length parts, length-append (held ++ b ∷ []) after, length-append n.1 after),
-    )
+next_bad read incremental text after all [] column at is le place = absurd (omega arith)
+next_bad read incremental text after all (b ∷ bs) column at is le place =
+    (b, bs ++ after, ap read at ∙ incremental.bad text b bs after is, omega (arith, place, ap length at, length-append text after, length-append bs after))
 
 -- what stands first takes some of the text, where the empty text is no text of the language
 pub some_read : {A : Type 0} (S : A → List ℕ → Type 0) (read : List ℕ → Reading A) → Reads S read → read [] ≡ Err [] → (text : List ℕ) (x : A) (rest : List ℕ) → read text ≡ Ok (x, rest) → length rest < length text
@@ -51,8 +39,8 @@ some_read {A} S read reads empty text x rest e =
     longer_by (b ∷ front) s at = omega (arith, at)
 
 -- what is read of a language so may be read as its bytes come, where no text of it is long
-pub gradual : {A : Type 0} (S : A → List ℕ → Type 0) (read : List ℕ → Reading A) → Reads S read → read [] ≡ Err [] → ((x : A) (text : List ℕ) → S x text → length text ≤ 56) → IsGradual read
-gradual S read reads empty most = record {
+pub incremental : {A : Type 0} (S : A → List ℕ → Type 0) (read : List ℕ → Reading A) → Reads S read → read [] ≡ Err [] → ((x : A) (text : List ℕ) → S x text → length text ≤ 56) → IsIncremental read
+incremental S read reads empty most = record {
   found = ok_more S read reads;
   bad = err_more S read reads;
   last = last_byte S read reads;

@@ -20,10 +20,10 @@ use Rattle.world_state.specs.declared.line.UpdaterVerb.{UpdaterVerb}
 use Rattle.world_state.specs.declared.line.UpdaterVerb.TheVariants as updater
 use Rattle.world_state.specs.declared.line.WorkerVerb.{WorkerVerb}
 use Rattle.world_state.specs.declared.line.WorkerVerb.TheVariants as worker
-use Rattle.schedule.specs.Next.{IsGradual}
+use Rattle.schedule.specs.Next.{IsIncremental}
 use Rattle.schedule.proofs.Lines.{line_reads, no_line}
 use Rattle.schedule.proofs.Headers.{header_reads, no_header}
-use Rattle.schedule.proofs.Bytes.{gradual}
+use Rattle.schedule.proofs.Bytes.{incremental}
 
 short : (n : ℕ) → IsNumber n → length (decimal n) ≤ 9
 short n h = length-decimal-le 9 n (lit< tt) h (omega (arith, h))
@@ -68,8 +68,8 @@ line_short (Reader n v) h = actor_short 114 n (reader_verb v) h.0 (reader_short 
 line_short (Updater n v) h = actor_short 117 n (updater_verb v) h.0 (updater_short v h.1)
 line_short (Worker n v) h = actor_short 119 n (worker_verb v) h (worker_short v)
 
-pub line_gradual : IsGradual line_at
-line_gradual = gradual LineText line_at line_reads no_line (λ l text s. omega (arith, line_short l s.0, ap length s.1))
+pub line_incremental : IsIncremental line_at
+line_incremental = incremental LineText line_at line_reads no_line (λ l text s. omega (arith, line_short l s.0, ap length s.1))
 
 -- ---- headers
 
@@ -106,5 +106,5 @@ header_short c h =
       last_short c.chains 10 h.chains,
     )
 
-pub header_gradual : IsGradual header_at
-header_gradual = gradual HeaderText header_at header_reads no_header (λ c text s. omega (arith, header_short c s.0, ap length s.1))
+pub header_incremental : IsIncremental header_at
+header_incremental = incremental HeaderText header_at header_reads no_header (λ c text s. omega (arith, header_short c s.0, ap length s.1))

@@ -9,14 +9,9 @@ Next read old text new (Ok (Some x)) = (read (old ++ text) ≡ Ok (x.0, x.1.now)
 Next read old text new (Ok None) = (read (old ++ text) ≡ Err []) × (new ≡ old ++ text)
 Next read old text new (Err column) = (b : ℕ) × (more : List ℕ) × (read (old ++ text) ≡ Err (b ∷ more)) × (column + length (b ∷ more) ≡ length (old ++ text) + 1)
 
--- The same where one byte came, which ends what it completes.
-abbrev pub NextByte : {A : Type 0} → (List ℕ → Reading A) → List ℕ → ℕ → List ℕ → Result (Option A) ℕ → Type 0
-NextByte read old byte new (Ok (Some x)) = (read (old ++ byte ∷ []) ≡ Ok (x, [])) × (new ≡ [])
-NextByte read old byte new (Ok None) = (read (old ++ byte ∷ []) ≡ Err []) × (new ≡ old ++ byte ∷ [])
-NextByte read old byte new (Err column) = (b : ℕ) × (more : List ℕ) × (read (old ++ byte ∷ []) ≡ Err (b ∷ more)) × (column + length (b ∷ more) ≡ length (old ++ byte ∷ []) + 1)
-
--- What is read stays read when more text comes, a bad byte stays bad, and what may still go on is short.
-pub record IsGradual {A : Type 0} (read : List ℕ → Reading A) : Type 0 where
+-- Reading in pieces comes to the same: what is read stays read when more text comes, and a bad byte stays bad. Where a
+-- text may go on, one byte more completes at most what ends with it, and the text is short.
+pub record IsIncremental {A : Type 0} (read : List ℕ → Reading A) : Type 0 where
   pub found : (text more : List ℕ) (x : A) (rest : List ℕ) → read text ≡ Ok (x, rest) → read (text ++ more) ≡ Ok (x, rest ++ more)
   pub bad : (text : List ℕ) (b : ℕ) (bs more : List ℕ) → read text ≡ Err (b ∷ bs) → read (text ++ more) ≡ Err (b ∷ (bs ++ more))
   pub last : (text : List ℕ) (b : ℕ) (x : A) (rest : List ℕ) → read text ≡ Err [] → read (text ++ b ∷ []) ≡ Ok (x, rest) → rest ≡ []

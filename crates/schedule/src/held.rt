@@ -4,7 +4,7 @@ ghost use Rattle.std.specs.Prelude.{◌≡◌, ◌<◌, ℕ, List, [], length, t
 ghost use Rattle.std.specs.Borrow.{Bor};
 ghost use Rattle.world_state.specs.declared.line.Line.{Line};
 ghost use Rattle.schedule.specs.Grammar.{header_at, line_at};
-ghost use Rattle.schedule.specs.Next.{Next, NextByte, IsGradual};
+ghost use Rattle.schedule.specs.Next.{Next, IsIncremental};
 ghost use Rattle.schedule.specs.Reading.{Reading, Gives};
 ghost use Rattle.world_state.specs.declared.config.Config.{Config};
 
@@ -16,12 +16,12 @@ use world::{Config, Line};
 /// As many bytes as the longest header has. Lines are shorter.
 const LONGEST: usize = 56;
 
-/// What stands first in a text, if it is whole.
-pub(crate) trait Front: Copy {
+/// What may stand first in a text.
+trait Front: Copy {
     /// How it is read.
     ghost read: { List ℕ → Reading Self };
 
-    /// What stands first, and what comes after it; or the bytes from the first bad one on.
+    /// What stands first in the text, and what comes after it; or the bytes from the first bad one on.
     fn front(text: &[u8]) -> Result<(Self, &[u8]), &[u8]>
         ensures { Gives (λ x. x) result (read text.now) };
 }
@@ -76,46 +76,10 @@ impl Held {
         self.len
     }
 
-    /// What the byte completes, if it does; or the column of a byte with which it does not go on.
-    fn byte<T: Front>(&mut self, byte: u8) -> Result<Option<T>, usize>
-        requires { IsGradual T.read }
-        ensures { T.read self.old ≡ Err [] → NextByte T.read self.old byte self.new result }
-    {
-        self.bytes[self.len] = byte;
-        let text = &self.bytes[..self.len + 1];
-        match T::front(text) {
-            Ok((item, _)) => {
-                self.len = 0;
-                Ok(Some(item))
-            }
-            Err([]) => {
-                self.len += 1;
-                Ok(None)
-            }
-            Err(bad) => Err(column_of(text, bad)),
-        }
-    }
-
-    /// What ends in the text, and what follows it, if something does; else the text is held. Or the column of a byte
-    /// with which it does not go on.
-    fn cut<'a, T: Front>(&mut self, text: &'a [u8]) -> Result<Option<(T, &'a [u8])>, usize>
-        requires { IsGradual T.read }
-        ensures next { T.read self.old ≡ Err [] → Next T.read self.old text.now self.new result }
-        ensures shrinks { IfOk result (λ next. IfSome next (λ x. length x.1.now < length text.now)) }
-    {
-        let mut rest = text;
-        while let [byte, after @ ..] = rest {
-            if let Some(item) = self.byte(*byte)? {
-                return Ok(Some((item, after)));
-            }
-            rest = after;
-        }
-        Ok(None)
-    }
-
-    /// The same where nothing is held.
+    /// What stands first in the text, and what follows it, if it is whole; else the text is held. Or the column of a
+    /// byte with which it does not go on.
     fn whole<'a, T: Front>(&mut self, text: &'a [u8]) -> Result<Option<(T, &'a [u8])>, usize>
-        requires gradual { IsGradual T.read }
+        requires incremental { IsIncremental T.read }
         requires nothing { self.old ≡ [] }
         ensures next { Next T.read self.old text.now self.new result }
         ensures shrinks { IfOk result (λ next. IfSome next (λ x. length x.1.now < length text.now)) }
@@ -131,30 +95,42 @@ impl Held {
         }
     }
 
-    /// What stands first in what is held and the text, and what follows it, if it is whole; else the text is held. Or
-    /// the column of a byte with which it does not go on.
+    /// The same of what is held and the text.
     fn next<'a, T: Front>(&mut self, text: &'a [u8]) -> Result<Option<(T, &'a [u8])>, usize>
-        requires { IsGradual T.read }
+        requires { IsIncremental T.read }
         ensures next { T.read self.old ≡ Err [] → Next T.read self.old text.now self.new result }
         ensures shrinks { IfOk result (λ next. IfSome next (λ x. length x.1.now < length text.now)) }
     {
         if self.len == 0 {
-            self.whole(text)
-        } else {
-            self.cut(text)
+            return self.whole(text);
         }
+        let mut rest = text;
+        while let [byte, after @ ..] = rest {
+            self.bytes[self.len] = *byte;
+            let held = &self.bytes[..self.len + 1];
+            match T::front(held) {
+                Ok(found) => {
+                    self.len = 0;
+                    return Ok(Some((found.0, after)));
+                }
+                Err([]) => self.len += 1,
+                Err(bad) => return Err(column_of(held, bad)),
+            }
+            rest = after;
+        }
+        Ok(None)
     }
 
-    /// The header that stands first.
-    #[tactic(auto, using(crate::proofs::Short::header_gradual))]
+    /// The header that stands first in what is held and the text.
+    #[tactic(auto, using(crate::proofs::Short::header_incremental))]
     pub fn next_header<'a>(&mut self, text: &'a [u8]) -> Result<Option<(Config, &'a [u8])>, usize>
         ensures { header_at self.old ≡ Err [] → Next header_at self.old text.now self.new result }
     {
         self.next(text)
     }
 
-    /// The line that stands first.
-    #[tactic(auto, using(crate::proofs::Short::line_gradual))]
+    /// The same of a line.
+    #[tactic(auto, using(crate::proofs::Short::line_incremental))]
     pub fn next_line<'a>(&mut self, text: &'a [u8]) -> Result<Option<(Line, &'a [u8])>, usize>
         ensures next { line_at self.old ≡ Err [] → Next line_at self.old text.now self.new result }
         ensures shrinks { IfOk result (λ next. IfSome next (λ x. length x.1.now < length text.now)) }
