@@ -76,34 +76,12 @@ impl Held {
         self.len
     }
 
-    /// What stands first in the text, and what follows it, if it is whole; else the text is held. Or the column of a
-    /// byte with which it does not go on.
-    fn whole<'a, T: Front>(&mut self, text: &'a [u8]) -> Result<Option<(T, &'a [u8])>, usize>
-        requires incremental { IsIncremental T.read }
-        requires nothing { self.old ≡ [] }
-        ensures next { Next T.read self.old text.now self.new result }
-        ensures shrinks { IfOk result (λ next. IfSome next (λ x. length x.1.now < length text.now)) }
-    {
-        match T::front(text) {
-            Ok(next) => Ok(Some(next)),
-            Err([]) => {
-                self.bytes[..text.len()].copy_from_slice(text);
-                self.len = text.len();
-                Ok(None)
-            }
-            Err(bad) => Err(column_of(text, bad)),
-        }
-    }
-
-    /// The same of what is held and the text.
-    fn next<'a, T: Front>(&mut self, text: &'a [u8]) -> Result<Option<(T, &'a [u8])>, usize>
+    /// The same as `next`, where something is held.
+    fn cut<'a, T: Front>(&mut self, text: &'a [u8]) -> Result<Option<(T, &'a [u8])>, usize>
         requires { IsIncremental T.read }
         ensures next { T.read self.old ≡ Err [] → Next T.read self.old text.now self.new result }
         ensures shrinks { IfOk result (λ next. IfSome next (λ x. length x.1.now < length text.now)) }
     {
-        if self.len == 0 {
-            return self.whole(text);
-        }
         let mut rest = text;
         while let [byte, after @ ..] = rest {
             self.bytes[self.len] = *byte;
@@ -121,7 +99,28 @@ impl Held {
         Ok(None)
     }
 
-    /// The header that stands first in what is held and the text.
+    /// What stands first in what is held and the text, as `next_header` says it of a header.
+    fn next<'a, T: Front>(&mut self, text: &'a [u8]) -> Result<Option<(T, &'a [u8])>, usize>
+        requires { IsIncremental T.read }
+        ensures next { T.read self.old ≡ Err [] → Next T.read self.old text.now self.new result }
+        ensures shrinks { IfOk result (λ next. IfSome next (λ x. length x.1.now < length text.now)) }
+    {
+        if self.len > 0 {
+            return self.cut(text);
+        }
+        match T::front(text) {
+            Ok(next) => Ok(Some(next)),
+            Err([]) => {
+                self.bytes[..text.len()].copy_from_slice(text);
+                self.len = text.len();
+                Ok(None)
+            }
+            Err(bad) => Err(column_of(text, bad)),
+        }
+    }
+
+    /// The header that stands first in what is held and the text, and what follows it, if it is whole; else the text is
+    /// held. Or the column of a byte with which no header goes on.
     #[tactic(auto, using(crate::proofs::Short::header_incremental))]
     pub fn next_header<'a>(&mut self, text: &'a [u8]) -> Result<Option<(Config, &'a [u8])>, usize>
         ensures { header_at self.old ≡ Err [] → Next header_at self.old text.now self.new result }

@@ -1,5 +1,5 @@
 use Rattle.std.proofs.Common.{◌≡◌, ◌<◌, ◌≤◌, ◌++◌, [], Err, length, take}
-use Rattle.schedule.proofs.held.Held.next.Given as goal
+use Rattle.schedule.proofs.held.Held.cut.Given as goal
 
 abbrev pub invariant-loop-rest : goal.invariant-loop-rest
 invariant-loop-rest g l = record {
