@@ -40,5 +40,6 @@ pub mod Opening
 pub mod InOrder
 pub mod LockHolders
 pub mod Tests
+pub mod TestsOfScans
 pub mod TestsOfGrace
 pub mod TestsOfLines

@@ -18,6 +18,7 @@ use Rattle.world_state.specs.declared.object.ObjectState.{ObjectState}
 use Rattle.world_state.specs.declared.reader.ReaderState.{ReaderState}
 use Rattle.world_state.specs.declared.reader.ReaderStep.{ReaderStep}
 use Rattle.world_state.specs.declared.change.Change.{Change}
+use Rattle.world_state.specs.declared.change.Change.TheVariants.{Read}
 use Rattle.world_state.specs.Readers.{section_of, is_open_in, quietly, telling, with_word, opened, closed, stores, enter_row, go_online_row, announce_row, touch_row}
 use Rattle.world_state.specs.View.{Plans, BoardView, changed, answer_of}
 use Rattle.world_state.proofs.Writes.{no_object, within}
@@ -72,8 +73,8 @@ module _ {T : Type 0} (answers : T → Answer) (Fine : T → Type 0) where
 abbrev pub IsStill : {P : Type 0} → BoardView P → Change P → Type 0
 IsStill w change = (hindered (Ok (answer_of change)) ≡ None) ⊎ (changed w change ≡ w)
 
-abbrev pub ChangesBy : {P : Type 0} → BoardView P → Result (Change P) Refusal → Fails → Type 0
-ChangesBy w = GoesBy answer_of (IsStill w)
+abbrev pub ChangesBy : {P : Type 0} → BoardView P → (Change P → Type 0) → Result (Change P) Refusal → Fails → Type 0
+ChangesBy w Keeps = GoesBy answer_of (λ change. IsStill w change × Keeps change)
 
 -- readers
 abbrev IsMade : ReaderStep → Type 0
@@ -82,9 +83,10 @@ IsMade step = hindered (Ok step.answer) ≡ None
 abbrev ReadsBy : Result ReaderStep Refusal → Fails → Type 0
 ReadsBy = GoesBy (λ (step : ReaderStep). step.answer) IsMade
 
-pub reads : {P : Type 0} (w : BoardView P) (r : ℕ) (row : Result ReaderStep Refusal) (failed : Fails) → ReadsBy row failed → ChangesBy w (read_by r row) failed
-reads w r (Ok step) failed goes = (goes.0, inl goes.1)
-reads w r (Err e) failed goes = goes
+pub reads : {P : Type 0} (w : BoardView P) (Keeps : Change P → Type 0) (r : ℕ) (row : Result ReaderStep Refusal) (failed : Fails) →
+    ((step : ReaderStep) → Keeps (Read r step)) → ReadsBy row failed → ChangesBy w Keeps (read_by r row) failed
+reads w Keeps r (Ok step) failed keeps goes = (goes.0, (inl goes.1, keeps step))
+reads w Keeps r (Err e) failed keeps goes = goes
 
 -- any verb but `.`
 abbrev BeginsOne : ReaderVerb → Type 0
@@ -208,5 +210,5 @@ module _ {P : Type 0} (plans : Plans P) (w : BoardView P) (r : ℕ) (v : ReaderS
     reads_by reader.Touch = busy_by reader.Touch tt
 
     -- a line of a reader that is there
-    pub reader_by : (verb : ReaderVerb) → ChangesBy w (read_by r (reader_line plans.qsbr w r v verb)) (first_failing (reader_tests plans w v verb))
-    reader_by verb = reads w r _ _ (reads_by verb)
+    pub reader_by : (Keeps : Change P → Type 0) → ((step : ReaderStep) → Keeps (Read r step)) → (verb : ReaderVerb) → ChangesBy w Keeps (read_by r (reader_line plans.qsbr w r v verb)) (first_failing (reader_tests plans w v verb))
+    reader_by Keeps keeps verb = reads w Keeps r _ _ keeps (reads_by verb)

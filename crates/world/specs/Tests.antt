@@ -8,8 +8,7 @@ use Rattle.reader_word.specs.Word.{count_of, greatest_count}
 use Rattle.reader_word.specs.Quiescent.{is_online}
 use Rattle.gp_memb.specs.declared.plan.Action.{Action}
 use Rattle.gp_memb.specs.declared.plan.Action.TheVariants.{Load}
-use Rattle.gp_memb.specs.declared.plan.Turn.{Turn}
-use Rattle.gp_memb.specs.declared.plan.Turn.TheVariants as turns
+use Rattle.gp_memb.specs.Plan.{stands_before}
 use Rattle.callback_queue.specs.Queue.{items_of}
 use Rattle.call_rcu_worker.specs.declared.sync.SyncCore.{SyncCore}
 use Rattle.call_rcu_worker.specs.declared.sync.SyncCore.TheVariants.{Asks, Waits, Runs}
@@ -82,11 +81,6 @@ is_of_qsbr verb = false
 abbrev pub is_foreign : Bool → ReaderVerb → Bool
 is_foreign qsbr verb = if qsbr then is_of_memb verb else is_of_qsbr verb
 
--- the plan has to wait for the word that it loaded
-abbrev pub has_to_wait : Turn → Bool
-has_to_wait turns.Wait = true
-has_to_wait turns.Step = false
-
 module _ {P : Type 0} (plans : Plans P) (w : BoardView P) where
   -- the reader has an open section
   abbrev pub in_section : ReaderState → Test
@@ -116,17 +110,20 @@ module _ {P : Type 0} (plans : Plans P) (w : BoardView P) where
   abbrev pub has_numbers : Test
   has_numbers = refused_if (nat_le (2 ^ 62) w.grace.seq) Exhausted
 
-  -- what a grace period's plan is to do next: a scan waits for a word that stands in its way
-  abbrev pub tests_of_action : P → Action → List Test
-  tests_of_action plan (Load slot) =
-      stalled_if (has_to_wait (plans.turn plan (get_or w.readers slot new_reader).word)) Wait ∷ []
-  tests_of_action plan action = []
+  -- the word of this slot stands in the way of the present phase or number
+  abbrev pub is_in_the_way : ℕ → Bool
+  is_in_the_way slot = stands_before plans.qsbr w.layout w.grace.word (get_or w.readers slot new_reader).word
+
+  -- what a grace period's plan is to do next: a load is one of a scan
+  abbrev pub tests_of_action : Action → List Test
+  tests_of_action (Load slot) = stalled_if (is_in_the_way slot) Wait ∷ []
+  tests_of_action action = []
 
   -- a grace period's next step, whoever waits for it
   abbrev pub tests_of_sync : SyncCore P → List Test
   tests_of_sync Asks = has_numbers ∷ []
   tests_of_sync (Waits cookie) = stalled_if (is_some w.grace.holder) Blocked ∷ []
-  tests_of_sync (Runs cookie plan) = tests_of_action plan (plans.action plan)
+  tests_of_sync (Runs cookie plan) = tests_of_action (plans.action plan)
   tests_of_sync core = []
 
   -- a barrier's next step

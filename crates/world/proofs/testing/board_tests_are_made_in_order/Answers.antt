@@ -18,4 +18,9 @@ returns g c =
       presents = m.presents;
       rises = m.rises;
     })
-    p.layout_of p.present m.exact
+    (λ layout slots some. record {
+      layout_of = p.layout_of;
+      exact = m.exact;
+      begins_layout = m.begins_layout layout slots;
+      keeps_layout = m.keeps_layout;
+    })
