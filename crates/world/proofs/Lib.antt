@@ -42,4 +42,5 @@ pub mod LockHolders
 pub mod Tests
 pub mod TestsOfScans
 pub mod TestsOfGrace
+pub mod TestsOfUpdaters
 pub mod TestsOfLines

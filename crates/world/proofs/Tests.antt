@@ -40,11 +40,13 @@ module _ {T : Type 0} (answers : T → Answer) (Fine : T → Type 0) where
   GoesBy (Err e) failed = Some (Err e) ≡ failed
 
   -- a test, by what it tells, or by what its opposite does
-  pub tested : (b : Bool) (x y : Result T Refusal) (a : Result Answer Refusal) (failed : Fails) → (b ≡ true → GoesBy x (Some a)) → (b ≡ false → GoesBy y failed) → GoesBy (cond b x y) (cond b (Some a) failed)
+  pub tested : (b : Bool) (x y : Result T Refusal) (a : Result Answer Refusal) (failed : Fails) → (b ≡ true → GoesBy x (Some a)) → (b ≡ false → GoesBy y failed) →
+      GoesBy (cond b x y) (cond b (Some a) failed)
   tested true x y a failed stops goes = stops refl
   tested false x y a failed stops goes = goes refl
 
-  pub tested_not : (b : Bool) (x y : Result T Refusal) (a : Result Answer Refusal) (failed : Fails) → (b ≡ true → GoesBy x failed) → (b ≡ false → GoesBy y (Some a)) → GoesBy (cond b x y) (cond (not b) (Some a) failed)
+  pub tested_not : (b : Bool) (x y : Result T Refusal) (a : Result Answer Refusal) (failed : Fails) → (b ≡ true → GoesBy x failed) → (b ≡ false → GoesBy y (Some a)) →
+      GoesBy (cond b x y) (cond (not b) (Some a) failed)
   tested_not true x y a failed goes stops = goes refl
   tested_not false x y a failed goes stops = stops refl
 
@@ -53,11 +55,13 @@ module _ {T : Type 0} (answers : T → Answer) (Fine : T → Type 0) where
   told_as b c x a failed same goes = subst (λ d. GoesBy x (cond d (Some a) failed)) same goes
 
   -- an element that is there, or is not
-  pub found : {X : Type 0} (xs : List X) (n : ℕ) (d : X) (row : Option X → Result T Refusal) (e : Refusal) (failed : X → Fails) → row None ≡ Err e → ((x : X) → slice_get xs n ≡ Some x → GoesBy (row (Some x)) (failed x)) →
+  pub found : {X : Type 0} (xs : List X) (n : ℕ) (d : X) (row : Option X → Result T Refusal) (e : Refusal) (failed : X → Fails) → row None ≡ Err e →
+      ((x : X) → slice_get xs n ≡ Some x → GoesBy (row (Some x)) (failed x)) →
       GoesBy (row (slice_get xs n)) (cond (nat_le (length xs) n) (Some (Err e)) (failed (get_or xs n d)))
   found {X} xs n d row e failed none some = by ((slice_get_cases xs n).1) (leb_tells (length xs) n)
     where
-      by : ((x : X) × (n < length xs) × (slice_get xs n ≡ Some x) × (get_or xs n x ≡ x)) ⊎ ((length xs ≤ n) × (slice_get xs n ≡ None)) → ((leb (length xs) n ≡ true) × (length xs ≤ n)) ⊎ ((leb (length xs) n ≡ false) × (n < length xs)) →
+      by : ((x : X) × (n < length xs) × (slice_get xs n ≡ Some x) × (get_or xs n x ≡ x)) ⊎ ((length xs ≤ n) × (slice_get xs n ≡ None)) →
+          ((leb (length xs) n ≡ true) × (length xs ≤ n)) ⊎ ((leb (length xs) n ≡ false) × (n < length xs)) →
           GoesBy (row (slice_get xs n)) (cond (nat_le (length xs) n) (Some (Err e)) (failed (get_or xs n d)))
       by (inl s) (inr b) =
           let there : slice_get xs n ≡ Some (get_or xs n d) = slice_get-get_or xs n d s.1 in
@@ -98,11 +102,13 @@ made_either true x y p q = p
 made_either false x y p q = q
 
 -- a verb of either flavour, or of both
-of_memb_by : (b : Bool) (row : Result ReaderStep Refusal) (failed : Fails) → ReadsBy row failed → ReadsBy (cond b (Err WrongFlavour) row) (cond (cond b true false) (Some (Err WrongFlavour)) failed)
+of_memb_by : (b : Bool) (row : Result ReaderStep Refusal) (failed : Fails) → ReadsBy row failed →
+    ReadsBy (cond b (Err WrongFlavour) row) (cond (cond b true false) (Some (Err WrongFlavour)) failed)
 of_memb_by true row failed goes = refl
 of_memb_by false row failed goes = goes
 
-of_qsbr_by : (b : Bool) (row : Result ReaderStep Refusal) (failed : Fails) → ReadsBy row failed → ReadsBy (cond b row (Err WrongFlavour)) (cond (cond b false true) (Some (Err WrongFlavour)) failed)
+of_qsbr_by : (b : Bool) (row : Result ReaderStep Refusal) (failed : Fails) → ReadsBy row failed →
+    ReadsBy (cond b row (Err WrongFlavour)) (cond (cond b false true) (Some (Err WrongFlavour)) failed)
 of_qsbr_by true row failed goes = goes
 of_qsbr_by false row failed goes = refl
 
@@ -131,14 +137,16 @@ module _ {P : Type 0} (plans : Plans P) (w : BoardView P) (r : ℕ) (v : ReaderS
 
   -- `lock`: the word is left alone at the count 0, and else has one count more
   by_lock : (phase : ℕ) (least greatest : Bool) → (count == 0) ≡ least → (count == greatest_count w.layout) ≡ greatest →
-      ReadsBy (cond least (Ok (quietly (record v { copy = Some phase }))) (stores (λ word. quietly (with_word v word)) (cond least (Ok (fresh w.layout false)) (cond greatest (Err NestFull) (Ok (v.word + 1))))))
+      ReadsBy
+      (cond least (Ok (quietly (record v { copy = Some phase }))) (stores (λ word. quietly (with_word v word)) (cond least (Ok (fresh w.layout false)) (cond greatest (Err NestFull) (Ok (v.word + 1))))))
       (cond greatest (Some (Err NestFull)) None)
   by_lock phase true true l g = absurd (least_greatest w.layout count l g)
   by_lock phase true false l g = (refl, refl)
   by_lock phase false true l g = refl
   by_lock phase false false l g = (refl, refl)
 
-  by_unlock : (least : Bool) → ReadsBy (stores (λ word. cond (count_of w.layout word == 0) (telling (Close (section_of r v.ordinal)) (closed v word)) (quietly (with_word v word))) (cond least (Err NotOpen) (Ok (v.word - 1)))) (cond least (Some (Err NotOpen)) None)
+  by_unlock : (least : Bool) →
+      ReadsBy (stores (λ word. cond (count_of w.layout word == 0) (telling (Close (section_of r v.ordinal)) (closed v word)) (quietly (with_word v word))) (cond least (Err NotOpen) (Ok (v.word - 1)))) (cond least (Some (Err NotOpen)) None)
   by_unlock true = refl
   by_unlock false =
       let made = made_either (count_of w.layout (v.word - 1) == 0) (telling (Close (section_of r v.ordinal)) (closed v (v.word - 1))) (quietly (with_word v (v.word - 1))) refl refl in
@@ -148,7 +156,8 @@ module _ {P : Type 0} (plans : Plans P) (w : BoardView P) (r : ℕ) (v : ReaderS
   by_touch None = refl
   by_touch (Some o) = (refl, refl)
 
-  module _ (layout : Layout) (slots : ℕ) (laws : Laws plans layout slots) (now : State) (k : Kept plans layout slots laws w now) (t : There plans layout slots laws w now k r v) where
+  module _ (layout : Layout) (slots : ℕ) (laws : Laws plans layout slots) (now : State) (k : Kept plans layout slots laws w now)
+      (t : There plans layout slots laws w now k r v) where
     -- the cursor's object is there
     by_next : (o : Option ObjectId) → v.cursor ≡ o → ReadsBy (next_from w r v o) (cond (not (is_some o)) (Some (Err NoPlace)) None)
     by_next None is = refl
@@ -158,16 +167,22 @@ module _ {P : Type 0} (plans : Plans P) (w : BoardView P) (r : ℕ) (v : ReaderS
         by None e = absurd (none-some (get_or w.objects o.0 no_object) (sym e ∙ slice_get-get_or w.objects o.0 no_object (within w.objects o (t.mine.holds o is).2)))
         by (Some x) e = (refl, refl)
 
-    in_section_by : (row : Result ReaderStep Refusal) (failed : Fails) → ReadsBy row failed → ReadsBy (cond (is_open_in plans.qsbr w.layout v.word) row (Err NotOpen)) (cond (not (is_open_in plans.qsbr w.layout v.word)) (Some (Err NotOpen)) failed)
-    in_section_by row failed goes = tested_not (λ (step : ReaderStep). step.answer) IsMade (is_open_in plans.qsbr w.layout v.word) row (Err NotOpen) (Err NotOpen) failed (λ _. goes) (λ _. refl)
+    in_section_by : (row : Result ReaderStep Refusal) (failed : Fails) → ReadsBy row failed →
+        ReadsBy (cond (is_open_in plans.qsbr w.layout v.word) row (Err NotOpen)) (cond (not (is_open_in plans.qsbr w.layout v.word)) (Some (Err NotOpen)) failed)
+    in_section_by row failed goes =
+        tested_not (λ (step : ReaderStep). step.answer) IsMade (is_open_in plans.qsbr w.layout v.word) row (Err NotOpen) (Err NotOpen) failed (λ _. goes) (λ _. refl)
 
     -- a reader in no operation
-    begins_by : (verb : ReaderVerb) → BeginsOne verb → ReadsBy (reader_begins plans.qsbr w r v verb) (cond (is_foreign plans.qsbr verb) (Some (Err WrongFlavour)) (first_failing (tests_of_read plans w v verb)))
+    begins_by : (verb : ReaderVerb) → BeginsOne verb →
+        ReadsBy (reader_begins plans.qsbr w r v verb) (cond (is_foreign plans.qsbr verb) (Some (Err WrongFlavour)) (first_failing (tests_of_read plans w v verb)))
     begins_by reader.Lock h = of_memb_by plans.qsbr _ _ (by_lock w.grace.word (count == 0) (count == greatest_count w.layout) refl refl)
     begins_by reader.Unlock h = of_memb_by plans.qsbr _ _ (by_unlock (count == 0))
-    begins_by reader.Online h = of_qsbr_by plans.qsbr _ _ (tested (λ (step : ReaderStep). step.answer) IsMade (is_online v.word) _ _ (Err Busy) None (λ _. refl) (λ _. (refl, refl)))
-    begins_by reader.Quiescent h = of_qsbr_by plans.qsbr _ _ (tested_not (λ (step : ReaderStep). step.answer) IsMade (is_online v.word) _ _ (Err NotOpen) None (λ _. (refl, refl)) (λ _. refl))
-    begins_by reader.Offline h = of_qsbr_by plans.qsbr _ _ (tested_not (λ (step : ReaderStep). step.answer) IsMade (is_online v.word) _ _ (Err NotOpen) None (λ _. (refl, refl)) (λ _. refl))
+    begins_by reader.Online h =
+        of_qsbr_by plans.qsbr _ _ (tested (λ (step : ReaderStep). step.answer) IsMade (is_online v.word) _ _ (Err Busy) None (λ _. refl) (λ _. (refl, refl)))
+    begins_by reader.Quiescent h =
+        of_qsbr_by plans.qsbr _ _ (tested_not (λ (step : ReaderStep). step.answer) IsMade (is_online v.word) _ _ (Err NotOpen) None (λ _. (refl, refl)) (λ _. refl))
+    begins_by reader.Offline h =
+        of_qsbr_by plans.qsbr _ _ (tested_not (λ (step : ReaderStep). step.answer) IsMade (is_online v.word) _ _ (Err NotOpen) None (λ _. (refl, refl)) (λ _. refl))
     begins_by (reader.First c) h =
         of_both_by plans.qsbr _ _
         (in_section_by _ _ (found (λ (step : ReaderStep). step.answer) IsMade w.heads c None (first_row r v c) NoPlace (λ head. None) refl (λ head is. (refl, refl))))
@@ -177,13 +192,15 @@ module _ {P : Type 0} (plans : Plans P) (w : BoardView P) (r : ℕ) (v : ReaderS
 
     -- the second step of an operation is not refused
     enters : (copy : ℕ) → v.copy ≡ Some copy → plans.qsbr ≡ false → (count == 0) ≡ true
-    enters copy is memb = opposite (count == 0) (ap (λ b. is_open_in b w.layout v.word) (sym memb) ∙ ap (λ l. is_open_in plans.qsbr l v.word) k.laid ∙ (t.mine.copying copy is).0 memb)
+    enters copy is memb =
+        opposite (count == 0) (ap (λ b. is_open_in b w.layout v.word) (sym memb) ∙ ap (λ l. is_open_in plans.qsbr l v.word) k.laid ∙ (t.mine.copying copy is).0 memb)
       where
         opposite : (b : Bool) → not b ≡ false → b ≡ true
         opposite true e = refl
         opposite false e = absurd (true≢false e)
 
-    by_enter : (copy : ℕ) (least greatest : Bool) → least ≡ true → ReadsBy (stores (λ word. telling (Open (section_of r (v.ordinal + 1))) (opened v word)) (cond least (Ok (fresh w.layout (copy == 1))) (cond greatest (Err NestFull) (Ok (v.word + 1))))) None
+    by_enter : (copy : ℕ) (least greatest : Bool) → least ≡ true →
+        ReadsBy (stores (λ word. telling (Open (section_of r (v.ordinal + 1))) (opened v word)) (cond least (Ok (fresh w.layout (copy == 1))) (cond greatest (Err NestFull) (Ok (v.word + 1))))) None
     by_enter copy true greatest is = (refl, refl)
     by_enter copy false greatest is = absurd (true≢false (sym is))
 
@@ -195,7 +212,8 @@ module _ {P : Type 0} (plans : Plans P) (w : BoardView P) (r : ℕ) (v : ReaderS
         by true is = let made = made_either (is_online v.word) (announce_row copy r v) (go_online_row copy r v) refl refl in (made, made)
         by false memb = by_enter copy (count == 0) (count == greatest_count w.layout) (enters copy is memb)
 
-    busy_by : (verb : ReaderVerb) → BeginsOne verb → ReadsBy (cond (is_some v.copy) (Err Busy) (reader_begins plans.qsbr w r v verb)) (cond (is_some v.copy) (Some (Err Busy)) (cond (is_foreign plans.qsbr verb) (Some (Err WrongFlavour)) (first_failing (tests_of_read plans w v verb))))
+    busy_by : (verb : ReaderVerb) → BeginsOne verb →
+        ReadsBy (cond (is_some v.copy) (Err Busy) (reader_begins plans.qsbr w r v verb)) (cond (is_some v.copy) (Some (Err Busy)) (cond (is_foreign plans.qsbr verb) (Some (Err WrongFlavour)) (first_failing (tests_of_read plans w v verb))))
     busy_by verb h = tested (λ (step : ReaderStep). step.answer) IsMade (is_some v.copy) _ _ (Err Busy) _ (λ _. refl) (λ _. begins_by verb h)
 
     reads_by : (verb : ReaderVerb) → ReadsBy (reader_line plans.qsbr w r v verb) (first_failing (reader_tests plans w v verb))
@@ -210,5 +228,6 @@ module _ {P : Type 0} (plans : Plans P) (w : BoardView P) (r : ℕ) (v : ReaderS
     reads_by reader.Touch = busy_by reader.Touch tt
 
     -- a line of a reader that is there
-    pub reader_by : (Keeps : Change P → Type 0) → ((step : ReaderStep) → Keeps (Read r step)) → (verb : ReaderVerb) → ChangesBy w Keeps (read_by r (reader_line plans.qsbr w r v verb)) (first_failing (reader_tests plans w v verb))
+    pub reader_by : (Keeps : Change P → Type 0) → ((step : ReaderStep) → Keeps (Read r step)) → (verb : ReaderVerb) →
+        ChangesBy w Keeps (read_by r (reader_line plans.qsbr w r v verb)) (first_failing (reader_tests plans w v verb))
     reader_by Keeps keeps verb = reads w Keeps r _ _ keeps (reads_by verb)

@@ -40,7 +40,8 @@ use Rattle.world.proofs.Tests.{Fails, GoesBy, ChangesBy}
 pub below_or_not : (a b : ℕ) → nat_lt a b ≡ not (nat_le b a)
 below_or_not a b = by (leb_tells (suc a) b) (leb_tells b a)
   where
-    by : ((leb (suc a) b ≡ true) × (suc a ≤ b)) ⊎ ((leb (suc a) b ≡ false) × (b < suc a)) → ((leb b a ≡ true) × (b ≤ a)) ⊎ ((leb b a ≡ false) × (a < b)) → nat_lt a b ≡ not (nat_le b a)
+    by : ((leb (suc a) b ≡ true) × (suc a ≤ b)) ⊎ ((leb (suc a) b ≡ false) × (b < suc a)) → ((leb b a ≡ true) × (b ≤ a)) ⊎ ((leb b a ≡ false) × (a < b)) →
+        nat_lt a b ≡ not (nat_le b a)
     by (inl l) (inr n) = l.0 ∙ sym (ap not n.0)
     by (inr g) (inl m) = g.0 ∙ sym (ap not m.0)
     by (inl l) (inl m) = let low = l.1 in let high = m.1 in absurd (omega (arith, low, high))
@@ -58,7 +59,9 @@ AsksBy (Ok cookie) failed = failed ≡ None
 AsksBy (Err e) failed = Some (Err e) ≡ failed
 
 pub asks_by : (seq : ℕ) → AsksBy (cookie_for seq) (cond (nat_le (2 ^ 62) seq) (Some (Err Exhausted)) None)
-asks_by seq = subst (λ b. AsksBy (cond b (Ok (even_below (seq + 3))) (Err Exhausted)) (cond (nat_le (2 ^ 62) seq) (Some (Err Exhausted)) None)) (sym (below_or_not seq (2 ^ 62))) (by (nat_le (2 ^ 62) seq))
+asks_by seq =
+    subst (λ b. AsksBy (cond b (Ok (even_below (seq + 3))) (Err Exhausted)) (cond (nat_le (2 ^ 62) seq) (Some (Err Exhausted)) None)) (sym (below_or_not seq (2 ^ 62)))
+    (by (nat_le (2 ^ 62) seq))
   where
     by : (b : Bool) → AsksBy (cond (not b) (Ok (even_below (seq + 3))) (Err Exhausted)) (cond b (Some (Err Exhausted)) None)
     by true = refl
@@ -69,7 +72,8 @@ abbrev pub IsOfWait : Answer → Type 0
 IsOfWait NothingThere = ⊥
 IsOfWait answer = Unit {0}
 
-module _ {P : Type 0} (plans : Plans P) (layout : Layout) (slots : ℕ) (laws : Laws plans layout slots) (scans : ScansExactly plans layout slots laws) (w : BoardView P) (l : Logged plans layout slots laws w) (k : ShownIn plans layout slots laws w) where
+module _ {P : Type 0} (plans : Plans P) (layout : Layout) (slots : ℕ) (laws : Laws plans layout slots) (scans : ScansExactly plans layout slots laws) (w : BoardView P)
+    (l : Logged plans layout slots laws w) (k : ShownIn plans layout slots laws w) where
   abbrev pub Shows : SyncCore P → ℕ → Type 0
   Shows = SyncShows plans layout slots laws
 
@@ -107,7 +111,8 @@ module _ {P : Type 0} (plans : Plans P) (layout : Layout) (slots : ℕ) (laws : 
   shows_core core.Frees tickets n h = tt
   shows_core core.Done tickets n h = tt
 
-  pub synced_by : (u : ℕ) (x : UpdaterState P) → slice_get w.updaters u ≡ Some x → (ask : ℕ) (row : Result (GraceStep P) Refusal) (failed : Fails) → GraceBy (Syncing u) row failed → ChangesBy w Keeps (synced plans u x ask row) failed
+  pub synced_by : (u : ℕ) (x : UpdaterState P) → slice_get w.updaters u ≡ Some x → (ask : ℕ) (row : Result (GraceStep P) Refusal) (failed : Fails) →
+      GraceBy (Syncing u) row failed → ChangesBy w Keeps (synced plans u x ask row) failed
   synced_by u x there ask (Err e) failed goes = goes
   synced_by u x there ask (Ok step) failed goes = by step.answer goes.0 goes.1.told
     where
@@ -121,7 +126,8 @@ module _ {P : Type 0} (plans : Plans P) (layout : Layout) (slots : ℕ) (laws : 
       by Blocked goes h = (goes, (inr refl, k))
       by NothingThere goes h = absurd h
 
-  pub worked_by : (n : ℕ) (x : WorkerState P) → slice_get w.workers n ≡ Some x → (ask tickets : ℕ) (row : Result (GraceStep P) Refusal) (failed : Fails) → GraceBy (Working n) row failed → ChangesBy w Keeps (worked n ask tickets row) failed
+  pub worked_by : (n : ℕ) (x : WorkerState P) → slice_get w.workers n ≡ Some x → (ask tickets : ℕ) (row : Result (GraceStep P) Refusal) (failed : Fails) →
+      GraceBy (Working n) row failed → ChangesBy w Keeps (worked n ask tickets row) failed
   worked_by n x there ask tickets (Err e) failed goes = goes
   worked_by n x there ask tickets (Ok step) failed goes = by step.answer goes.0 goes.1.told
     where
@@ -148,14 +154,17 @@ module _ {P : Type 0} (plans : Plans P) (layout : Layout) (slots : ℕ) (laws : 
     abbrev May : ℕ → Type 0
     May = MayStore plans layout slots laws w l k me
 
-    either_by : (grace : GraceState) (b : Bool) (x y : Result (Telling P) Refusal) → By (stepped grace ask x) None → By (stepped grace ask y) None → By (stepped grace ask (cond b x y)) None
+    either_by : (grace : GraceState) (b : Bool) (x y : Result (Telling P) Refusal) → By (stepped grace ask x) None → By (stepped grace ask y) None →
+        By (stepped grace ask (cond b x y)) None
     either_by grace true x y p q = p
     either_by grace false x y p q = q
 
-    waits_by : (grace : GraceState) (c : ℕ) (p q : P) → May grace.word → laws.present p ≡ grace.word → By (stepped grace ask (turned plans.action c p q turns.Wait)) (Some (Ok Wait))
+    waits_by : (grace : GraceState) (c : ℕ) (p q : P) → May grace.word → laws.present p ≡ grace.word →
+        By (stepped grace ask (turned plans.action c p q turns.Wait)) (Some (Ok Wait))
     waits_by grace c p q may shows = (refl, record { told = tt; shows = shows; may = may })
 
-    steps_by : (grace : GraceState) (c : ℕ) (p q : P) (turn : Turn) → turn ≡ turns.Step → May grace.word → laws.present q ≡ grace.word → By (stepped grace ask (turned plans.action c p q turn)) None
+    steps_by : (grace : GraceState) (c : ℕ) (p q : P) (turn : Turn) → turn ≡ turns.Step → May grace.word → laws.present q ≡ grace.word →
+        By (stepped grace ask (turned plans.action c p q turn)) None
     steps_by grace c p q turn is may shows =
         subst (λ t. By (stepped grace ask (turned plans.action c p q t)) None) (sym is)
         (either_by grace (is_finished (plans.action q)) (telling what.Answered core.Frees) (telling what.Quiet (core.Runs c q))
@@ -163,29 +172,37 @@ module _ {P : Type 0} (plans : Plans P) (layout : Layout) (slots : ℕ) (laws : 
         (refl, record { told = tt; shows = shows; may = may }))
 
     -- an action that is no load does not wait
-    stores_on : (p : P) (a : Action) → plans.action p ≡ a → (word : ℕ) → turn_at plans.qsbr (scans.layout_of p) (laws.present p) a word ≡ turns.Step → plans.turn p word ≡ turns.Step
+    stores_on : (p : P) (a : Action) → plans.action p ≡ a → (word : ℕ) → turn_at plans.qsbr (scans.layout_of p) (laws.present p) a word ≡ turns.Step →
+        plans.turn p word ≡ turns.Step
     stores_on p a is word step = scans.exact p word ∙ ap (λ b. turn_at plans.qsbr (scans.layout_of p) (laws.present p) b word) is ∙ step
 
     after : (p : P) (a : Action) (word : ℕ) → plans.action p ≡ a → laws.present (plans.taken p word) ≡ present_after (laws.present p) a
     after p a word is = laws.presents p word ∙ ap (present_after (laws.present p)) is
 
-    action_by : (c : ℕ) (p : P) → Stands me (core.Runs c p) → (a : Action) → plans.action p ≡ a → By (done_with plans w ask (core.Runs c p) (Some (action_effect w a))) (first_failing (tests_of_action plans w a))
+    action_by : (c : ℕ) (p : P) → Stands me (core.Runs c p) → (a : Action) → plans.action p ≡ a →
+        By (done_with plans w ask (core.Runs c p) (Some (action_effect w a))) (first_failing (tests_of_action plans w a))
     action_by c p s (Load slot) is =
-        subst (λ word. By (done_with plans w ask (core.Runs c p) (Some (action_effect w (Load slot)))) (cond (stands_before plans.qsbr w.layout number word) (Some (Ok Wait)) None)) (word_there w.readers slot)
+        subst
+        (λ word. By (done_with plans w ask (core.Runs c p) (Some (action_effect w (Load slot)))) (cond (stands_before plans.qsbr w.layout number word) (Some (Ok Wait)) None))
+        (word_there w.readers slot)
         (by (loaded_word (slice_get w.readers slot)))
       where
-        turns_by : (word : ℕ) (b : Bool) → By (stepped w.grace ask (turned plans.action c p (plans.taken p word) (way_turn plans layout slots laws scans b))) (cond b (Some (Ok Wait)) None)
+        turns_by : (word : ℕ) (b : Bool) →
+            By (stepped w.grace ask (turned plans.action c p (plans.taken p word) (way_turn plans layout slots laws scans b))) (cond b (Some (Ok Wait)) None)
         turns_by word true = waits_by w.grace c p (plans.taken p word) (inl refl) s.shows
         turns_by word false = steps_by w.grace c p (plans.taken p word) turns.Step refl (inl refl) (after p (Load slot) word is ∙ s.shows)
 
-        by : (word : ℕ) → By (stepped w.grace ask (turned plans.action c p (plans.taken p word) (plans.turn p word))) (cond (stands_before plans.qsbr w.layout number word) (Some (Ok Wait)) None)
+        by : (word : ℕ) →
+            By (stepped w.grace ask (turned plans.action c p (plans.taken p word) (plans.turn p word))) (cond (stands_before plans.qsbr w.layout number word) (Some (Ok Wait)) None)
         by word =
             subst (λ t. By (stepped w.grace ask (turned plans.action c p (plans.taken p word) t)) (cond (stands_before plans.qsbr w.layout number word) (Some (Ok Wait)) None))
             (sym (scan_turns plans layout slots laws scans w.layout w.grace.seq number c p (sym l.kept.laid) (l.kept.part.grace_kept.running me s.ask c p s.is) s.shows slot word is))
             (turns_by word (stands_before plans.qsbr w.layout number word))
     action_by c p s (StorePhase value) is =
-        steps_by (record w.grace { word = value }) c p _ (plans.turn p 0) (stores_on p (StorePhase value) is 0 refl) (inr (l.kept.part.grace_kept.held me (subst (λ (v : Work P). Holds v) (sym s.is) tt))) (after p (StorePhase value) 0 is)
-    action_by c p s (StoreSeq value) is = steps_by (record w.grace { seq = value }) c p _ (plans.turn p 0) (stores_on p (StoreSeq value) is 0 refl) (inl refl) (after p (StoreSeq value) 0 is ∙ s.shows)
+        steps_by (record w.grace { word = value }) c p _ (plans.turn p 0) (stores_on p (StorePhase value) is 0 refl)
+        (inr (l.kept.part.grace_kept.held me (subst (λ (v : Work P). Holds v) (sym s.is) tt))) (after p (StorePhase value) 0 is)
+    action_by c p s (StoreSeq value) is =
+        steps_by (record w.grace { seq = value }) c p _ (plans.turn p 0) (stores_on p (StoreSeq value) is 0 refl) (inl refl) (after p (StoreSeq value) 0 is ∙ s.shows)
     action_by c p s Finished is = steps_by w.grace c p _ (plans.turn p 0) (stores_on p Finished is 0 refl) (inl refl) (after p Finished 0 is ∙ s.shows)
 
     -- the plan that is made now begins with a store of the sequence number
@@ -208,8 +225,10 @@ module _ {P : Type 0} (plans : Plans P) (layout : Layout) (slots : ℕ) (laws : 
         q : P
         q = plan_now plans w
 
-        by : (a : Action) → plans.action q ≡ a → plans.action q ≡ StoreSeq (w.grace.seq + 1) → By (stepped (action_effect w a).grace ask (turned plans.action c q (plans.taken q (action_effect w a).loaded) (plans.turn q (action_effect w a).loaded))) None
-        by (StoreSeq value) is first = steps_by (record w.grace { seq = value }) c q _ (plans.turn q 0) (stores_on q (StoreSeq value) is 0 refl) (inl refl) (after q (StoreSeq value) 0 is ∙ shows_now)
+        by : (a : Action) → plans.action q ≡ a → plans.action q ≡ StoreSeq (w.grace.seq + 1) →
+            By (stepped (action_effect w a).grace ask (turned plans.action c q (plans.taken q (action_effect w a).loaded) (plans.turn q (action_effect w a).loaded))) None
+        by (StoreSeq value) is first =
+            steps_by (record w.grace { seq = value }) c q _ (plans.turn q 0) (stores_on q (StoreSeq value) is 0 refl) (inl refl) (after q (StoreSeq value) 0 is ∙ shows_now)
         by (Load slot) is first = let e : Load slot ≡ StoreSeq (w.grace.seq + 1) = sym is ∙ first in absurd (cc)
         by (StorePhase value) is first = let e : StorePhase value ≡ StoreSeq (w.grace.seq + 1) = sym is ∙ first in absurd (cc)
         by Finished is first = let e : Finished ≡ StoreSeq (w.grace.seq + 1) = sym is ∙ first in absurd (cc)

@@ -92,7 +92,8 @@ module _ {P : Type 0} (plans : Plans P) (layout : Layout) (slots : ℕ) (laws : 
     others_working : (me : Asker) (number : ℕ) → MayStore me number → (n : ℕ) → Working n ≢ me → CoreShows (worker_at w.workers n).core number
     others_working me number (inl same) n apart = subst (λ m. CoreShows (worker_at w.workers n).core m) (sym same) (k.working n)
     others_working me number (inr mine) n apart =
-        core_rests (worker_at w.workers n).ask (worker_at w.workers n).core number (λ h. apart (same_Some (Working n) me (sym (l.kept.part.grace_kept.held (Working n) h) ∙ mine)))
+        core_rests (worker_at w.workers n).ask (worker_at w.workers n).core number
+        (λ h. apart (same_Some (Working n) me (sym (l.kept.part.grace_kept.held (Working n) h) ∙ mine)))
 
     apart_updater : (u n : ℕ) → Working n ≡ Syncing u → ⊥
     apart_updater u n e = cc
@@ -103,14 +104,16 @@ module _ {P : Type 0} (plans : Plans P) (layout : Layout) (slots : ℕ) (laws : 
     same_worker : (u v : ℕ) → Working u ≡ Working v → u ≡ v
     same_worker u v e = cc
 
-    pub updater_shown : (u : ℕ) (x y : UpdaterState P) (number : ℕ) → slice_get w.updaters u ≡ Some x → MayStore (Syncing u) number → PlaceShows y.place number → Shown (slice_set w.updaters u y) w.workers number
+    pub updater_shown : (u : ℕ) (x y : UpdaterState P) (number : ℕ) → slice_get w.updaters u ≡ Some x → MayStore (Syncing u) number → PlaceShows y.place number →
+        Shown (slice_set w.updaters u y) w.workers number
     updater_shown u x y number there may mine = record {
       updating = at_updaters (λ n z. PlaceShows z.place number) w.updaters u y (slice_get_within w.updaters u x there) mine
           (λ v apart. others_updating (Syncing u) number may v (λ e. apart (same_updater v u e)));
       working = λ n. others_working (Syncing u) number may n (apart_updater u n);
     }
 
-    pub worker_shown : (n : ℕ) (x y : WorkerState P) (number : ℕ) → slice_get w.workers n ≡ Some x → MayStore (Working n) number → CoreShows y.core number → Shown w.updaters (slice_set w.workers n y) number
+    pub worker_shown : (n : ℕ) (x y : WorkerState P) (number : ℕ) → slice_get w.workers n ≡ Some x → MayStore (Working n) number → CoreShows y.core number →
+        Shown w.updaters (slice_set w.workers n y) number
     worker_shown n x y number there may mine = record {
       updating = λ u. others_updating (Working n) number may u (λ e. apart_updater u n (sym e));
       working = at_workers (λ m z. CoreShows z.core number) w.workers n y (slice_get_within w.workers n x there) mine
@@ -132,7 +135,8 @@ module _ {P : Type 0} (plans : Plans P) (layout : Layout) (slots : ℕ) (laws : 
     abbrev pub way_turn : Bool → Turn
     way_turn b = cond b turns.Wait turns.Step
 
-    pub scan_turns : (here : Layout) (seq number c : ℕ) (p : P) → layout ≡ here → Running plans layout slots laws seq number c p → laws.present p ≡ number → (slot word : ℕ) → plans.action p ≡ Load slot →
+    pub scan_turns : (here : Layout) (seq number c : ℕ) (p : P) → layout ≡ here → Running plans layout slots laws seq number c p → laws.present p ≡ number → (slot word : ℕ) →
+        plans.action p ≡ Load slot →
         plans.turn p word ≡ way_turn (stands_before plans.qsbr here number word)
     scan_turns here seq number c p laid run shows slot word loads =
         scans.exact p word
