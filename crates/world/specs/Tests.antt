@@ -66,7 +66,7 @@ hindered (Ok (Events first second)) = None
 hindered (Ok Quiet) = None
 hindered answer = Some answer
 
--- readers: `lock` and `unlock` are of the one flavour, and these three of the other
+-- the verbs of readers that are of the general-purpose flavour alone, and of the quiescent-state one
 abbrev pub is_of_memb : ReaderVerb → Bool
 is_of_memb reader.Lock = true
 is_of_memb reader.Unlock = true
@@ -119,7 +119,7 @@ module _ {P : Type 0} (plans : Plans P) (w : BoardView P) where
   tests_of_action (Load slot) = stalled_if (is_in_the_way slot) Wait ∷ []
   tests_of_action action = []
 
-  -- a grace period's next step, whoever waits for it
+  -- a grace period's next step, whoever waits for it: at the ask, at the lock, or at an action of the plan
   abbrev pub tests_of_sync : SyncCore P → List Test
   tests_of_sync Asks = has_numbers ∷ []
   tests_of_sync (Waits cookie) = stalled_if (is_some w.grace.holder) Blocked ∷ []
@@ -138,13 +138,15 @@ module _ {P : Type 0} (plans : Plans P) (w : BoardView P) where
   tests_of_place (Bars b) = tests_of_barrier b b.due
   tests_of_place place = []
 
-  -- the object, if there is one, is linked in a chain that the updater writes; or was cut from one, and is not retired
+  -- the object is linked in a chain that the updater writes
   abbrev pub may_leave : ℕ → ObjectState → Bool
   may_leave u y = writes w u y.chain && is_linked y.stage
 
+  -- it was cut from a chain that the updater writes, and was not retired
   abbrev pub may_retire : ℕ → ObjectState → Bool
   may_retire u y = writes w u y.chain && (is_cut y.stage && is_kept y.life)
 
+  -- the object of this number is there, and is so
   abbrev pub is_one_that : (ObjectState → Bool) → ObjectId → Test
   is_one_that so o = refused_if (not (option_map_or so (slice_get w.objects o.0) false)) NoPlace
 
@@ -170,6 +172,7 @@ module _ {P : Type 0} (plans : Plans P) (w : BoardView P) where
   tests_of_update u x updater.Barrier = []
   tests_of_update u x updater.GoOn = []
 
+  -- of an updater's line
   abbrev pub updater_tests : ℕ → UpdaterState P → UpdaterVerb → List Test
   updater_tests u x updater.GoOn = refused_if (is_idle x.place) NotOpen ∷ tests_of_place x.place
   updater_tests u x verb = refused_if (not (is_idle x.place)) Busy ∷ tests_of_update u x verb
@@ -179,6 +182,7 @@ module _ {P : Type 0} (plans : Plans P) (w : BoardView P) where
   tests_of_work (works.Syncs core tickets) = tests_of_sync core
   tests_of_work core = []
 
+  -- of a worker's line
   abbrev pub worker_tests : ℕ → WorkerState P → WorkerVerb → List Test
   worker_tests k x worker.GoOn = refused_if (is_resting x.core) NotOpen ∷ tests_of_work x.core
   worker_tests k x worker.Take =

@@ -1,13 +1,16 @@
-use Rattle.std.proofs.Common.{◌≡◌, ℕ, true, List, Some, Result, sym, ap, subst}
+use Rattle.std.proofs.Common.{◌≡◌, inl, inr, ℕ, true, List, Some, Result, sym, ap, ◌∙◌, subst, arith, true≢false}
+use Rattle.std.proofs.lemmas.Option.{same_Some}
 use Rattle.rcu_model.specs.declared.refusal.Refusal.{Refusal}
 use Rattle.world_state.specs.declared.config.Config.{Config}
 use Rattle.world_state.specs.declared.config.Flavour.{Flavour}
 use Rattle.world_state.specs.declared.config.Flavour.TheVariants.{Memb, Qsbr}
 use Rattle.world_state.specs.declared.line.Answer.{Answer}
 use Rattle.world_state.specs.declared.line.Line.{Line}
-use Rattle.world_state.specs.View.{fresh_at}
+use Rattle.world_state.specs.declared.queue.QueueState.{QueueState}
+use Rattle.world_state.specs.View.{BoardView, fresh_at}
 use Rattle.world.specs.Lines.{world_after}
-use Rattle.world.specs.Steps.{WorldView, OfMemb, OfQsbr, is_supported_at, memb_plans, qsbr_plans, fresh_in, fresh_world_at, world_after_lines, step_of}
+use Rattle.world.specs.Steps.{WorldView, OfMemb, OfQsbr, is_supported_at, memb_plans, qsbr_plans, fresh_in, fresh_world_at, world_after_lines, step_of, Grows}
+use Rattle.world.specs.Shown.{Grows as BoardGrows}
 use Rattle.world.specs.Tests.{first_failing, hindered, tests_of, IsTested}
 use Rattle.world.proofs.Starting.{start_of}
 use Rattle.world.proofs.Telling.{memb_lines, qsbr_lines}
@@ -17,6 +20,18 @@ abbrev WorldTested : Line → WorldView → Type 0
 WorldTested line w =
     (hindered (step_of w line).answer ≡ first_failing (tests_of w line)) ×
     ((answer : Result Answer Refusal) → hindered (step_of w line).answer ≡ Some answer → (step_of w line).world ≡ w)
+
+-- what is as it was has not grown
+grows_not : {P : Type 0} (w : BoardView P) → BoardGrows w w → ⊥
+grows_not w (inl longer) = omega (arith, longer)
+grows_not w (inr (inl more)) = omega (arith, more)
+grows_not w (inr (inr r)) =
+    let same : r.before ≡ r.after = same_Some r.before r.after (sym r.was ∙ r.is) in
+    true≢false (sym r.has ∙ ap (λ (q : QueueState). q.items.reserved) (sym same) ∙ r.had_none)
+
+world_grows_not : (w : WorldView) → Grows w w → ⊥
+world_grows_not (OfMemb w) g = grows_not w g
+world_grows_not (OfQsbr w) g = grows_not w g
 
 -- either flavour's tests
 tested_in : (flavour : Flavour) (config : Config) (seq : ℕ) (lines : List Line) (line : Line) → IsTested memb_plans (world_after memb_plans (fresh_at config seq) lines) line → IsTested qsbr_plans (world_after qsbr_plans (fresh_at config seq) lines) line →
@@ -33,4 +48,7 @@ returns c =
     record {
       answer = λ config seq lines line good. (tested config seq lines line good).0;
       unchanged = λ config seq lines line answer good. (tested config seq lines line good).1 answer;
+      memory = λ config seq lines line answer good e grown.
+          let w = world_after_lines (fresh_world_at config seq) lines in
+          world_grows_not w (subst (λ (v : WorldView). Grows w v) ((tested config seq lines line good).1 answer e) grown);
     }
