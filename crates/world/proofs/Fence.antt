@@ -8,6 +8,7 @@ use Rattle.gp_memb.specs.declared.plan.Action.{Action}
 use Rattle.gp_memb.specs.declared.plan.Action.TheVariants.{Load, StorePhase, Finished}
 use Rattle.gp_memb.specs.Plan.{Shows, after_loads, EachLoadShows, WaitsForOpen, StoresInOrder, MayStore, IsPresent, present_after}
 use Rattle.world_state.specs.View.{Plans}
+use Rattle.world.specs.PlanLaws.{PlanLaws}
 
 -- what an asker does: it rests, waits with an ask and its cookie, holds the grace lock and checks, is about to begin a
 -- plan, runs one, or is about to free the lock
@@ -53,6 +54,20 @@ pub record Laws {P : Type 0} (plans : Plans P) (layout : Layout) (slots : ℕ) :
   pub begins : (seq word : ℕ) (p : P) → begun seq word p → IsPresent plans.qsbr word → present p ≡ word
   pub presents : (p : P) (word : ℕ) → present (plans.taken p word) ≡ present_after (present p) (plans.action p)
   pub rises : (p : P) (value : ℕ) → plans.qsbr ≡ true → plans.action p ≡ StorePhase value → present p ≤ value
+
+abbrev pub laws_of : {P : Type 0} {plans : Plans P} {layout : Layout} {slots : ℕ} {begun : ℕ → ℕ → P → Type 0} {present : P → ℕ} → PlanLaws plans layout slots begun present → Laws plans layout slots
+laws_of {begun} {present} l =
+    record {
+      begun = begun;
+      present = present;
+      made = l.made;
+      order = l.order;
+      waits = l.waits;
+      stores = l.stores;
+      begins = l.begins;
+      presents = l.presents;
+      rises = l.rises;
+    }
 
 -- turns with one more load
 pub after_snoc : {P : Type 0} (taken : P → ℕ → P) (p : P) (xs : List ℕ) (x : ℕ) → after_loads taken p (xs ++ x ∷ []) ≡ taken (after_loads taken p xs) x

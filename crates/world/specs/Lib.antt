@@ -6,6 +6,7 @@ pub mod Workers
 pub mod Lines
 pub mod Shown
 pub mod Reached
+pub mod PlanLaws
 pub mod Steps
 pub mod Seen
 pub mod Drain

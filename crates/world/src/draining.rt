@@ -7,7 +7,7 @@ ghost use Rattle.world.specs.Reached.{IsReached};
 ghost use Rattle.world.specs.Drain.{IsSettled};
 
 use crate::board::Board;
-use crate::laws::numbers_stay_in_range;
+use crate::laws::{numbers_stay_in_range, plan_keeps_its_laws};
 use call_rcu_worker::WorkerCore;
 use rcu_model::Refusal;
 use world_state::{
@@ -20,7 +20,9 @@ const END_OF_NUMBERS: u64 = 1 << 62;
 /// What a worker finds that rests between two lines.
 fn workers_rest<P: WorldPlan>()
     ensures { (w : BoardView P) → IsReached (plans_of P.QSBR P.made P.action P.turn P.taken) w → IsSettled w }
-{}
+{
+    plan_keeps_its_laws::<P>();
+}
 
 impl<P: WorldPlan + Drop> Board<P> {
     ghost use Rattle.world_state.specs.View.{told, changed};

@@ -2,11 +2,13 @@
 
 ghost use Rattle.std.specs.Prelude.{◌≡◌, ◌≤◌, ◌%◌, ◌^◌, ℕ, List, IsTrue};
 ghost use Rattle.rcu_model.specs.Machine.{IsRun};
+ghost use Rattle.reader_word.specs.declared.layout.Layout.{Layout};
 ghost use Rattle.world_state.specs.declared.config.Config.{Config};
 ghost use Rattle.world_state.specs.declared.line.Line.{Line};
 ghost use Rattle.world_state.specs.Limits.{is_within_limits};
 ghost use Rattle.world_state.specs.View.{BoardView, fresh_at, plans_of};
 ghost use Rattle.world.specs.Lines.{world_after};
+ghost use Rattle.world.specs.PlanLaws.{PlanLaws};
 ghost use Rattle.world.specs.Reached.{IsReached};
 ghost use Rattle.world.specs.Shown.{IsInRange};
 ghost use Rattle.rcu_model.specs.Headline.{RunsOnceAfterItsSections, UsesNoReclaimed};
@@ -17,16 +19,25 @@ use gp_qsbr::QsbrPlan;
 use rcu_model::callbacks_run_once_after_their_sections;
 use world_state::WorldPlan;
 
+/// What the laws of worlds go by of a plan.
+pub(crate) fn plan_keeps_its_laws<P: WorldPlan>()
+    ensures { (layout : Layout) (slots : ℕ) → 1 ≤ slots → PlanLaws (plans_of P.QSBR P.made P.action P.turn P.taken) layout slots (P.is_begun layout slots) P.present }
+{}
+
 /// The schedule theorem: for every schedule within the limits, whatever the plan and wherever the sequence numbers
 /// begin, the log is a run of the abstract machine.
 pub fn log_is_a_run<P: WorldPlan>()
     ensures { (config : Config) (seq : ℕ) (lines : List Line) → IsTrue (is_within_limits config) → seq % 2 ≡ 0 → seq ≤ 2 ^ 62 → IsRun (world_after (plans_of P.QSBR P.made P.action P.turn P.taken) (fresh_at config seq) lines).log }
-{}
+{
+    plan_keeps_its_laws::<P>();
+}
 
 /// The numbers of a world that lines led to are small enough for its next step.
 pub(crate) fn numbers_stay_in_range<P: WorldPlan>()
     ensures { (w : BoardView P) → IsReached (plans_of P.QSBR P.made P.action P.turn P.taken) w → IsInRange (plans_of P.QSBR P.made P.action P.turn P.taken) w }
-{}
+{
+    plan_keeps_its_laws::<P>();
+}
 
 /// The headline, for every config and first sequence number that make a world, and all lines: the log holds the events
 /// of the answers in order, and is a run of the abstract machine, in which an object's callback runs at most once and

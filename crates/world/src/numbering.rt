@@ -10,7 +10,7 @@ ghost use Rattle.world.specs.Lines.{world_after};
 ghost use Rattle.world.specs.Numbering.{IsNumberedWithin};
 ghost use Rattle.world.specs.Steps.{is_supported_at, fresh_world_at, world_after_lines, answered_events};
 
-use crate::laws::every_schedule_reclaims_safely;
+use crate::laws::{every_schedule_reclaims_safely, plan_keeps_its_laws};
 use gp_memb::MembPlan;
 use gp_qsbr::QsbrPlan;
 use world_state::WorldPlan;
@@ -18,7 +18,9 @@ use world_state::WorldPlan;
 /// The numbers that the log of a board gives are at most twice the number of the lines that led to it.
 pub(crate) fn board_numbers_count_lines<P: WorldPlan>()
     ensures { (config : Config) (seq : ℕ) (lines : List Line) → IsTrue (is_within_limits config) → seq % 2 ≡ 0 → seq ≤ 2 ^ 62 → All (IsNumberedWithin (2 * length lines)) (world_after (plans_of P.QSBR P.made P.action P.turn P.taken) (fresh_at config seq) lines).log }
-{}
+{
+    plan_keeps_its_laws::<P>();
+}
 
 /// For every config and first sequence number that make a world, and all lines, no event of the answers gives a large
 /// number: readers and chains are below 64 and queues below 8, and ordinals, objects, asks and barriers are at most twice
@@ -34,7 +36,9 @@ pub fn numbers_count_lines()
 /// A board numbers sections, asks and barriers as they begin, and gives each number of an object once.
 pub(crate) fn board_gives_numbers_in_order<P: WorldPlan>()
     ensures { (config : Config) (seq : ℕ) (lines : List Line) → IsTrue (is_within_limits config) → seq % 2 ≡ 0 → seq ≤ 2 ^ 62 → IsCounted (world_after (plans_of P.QSBR P.made P.action P.turn P.taken) (fresh_at config seq) lines).log × AreGivenOnce (world_after (plans_of P.QSBR P.made P.action P.turn P.taken) (fresh_at config seq) lines) }
-{}
+{
+    plan_keeps_its_laws::<P>();
+}
 
 /// For every config and first sequence number that make a world, and all lines: in the events of the answers the
 /// sections of each reader, the asks and the barriers are numbered 1, 2, 3, .. in the order in which they begin. The

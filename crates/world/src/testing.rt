@@ -11,6 +11,7 @@ ghost use Rattle.world.specs.Lines.{world_after};
 ghost use Rattle.world.specs.Steps.{is_supported_at, fresh_world_at, world_after_lines, step_of, Grows};
 ghost use Rattle.world.specs.Tests.{first_failing, hindered, tests_of, IsTested};
 
+use crate::laws::plan_keeps_its_laws;
 use gp_memb::MembPlan;
 use gp_qsbr::QsbrPlan;
 use world_state::WorldPlan;
@@ -18,7 +19,9 @@ use world_state::WorldPlan;
 /// The tests of a board's line are made in their order.
 pub(crate) fn board_tests_are_made_in_order<P: WorldPlan>()
     ensures { (config : Config) (seq : ℕ) (lines : List Line) (line : Line) → IsTrue (is_within_limits config) → seq % 2 ≡ 0 → seq ≤ 2 ^ 62 → IsTested (plans_of P.QSBR P.made P.action P.turn P.taken) (world_after (plans_of P.QSBR P.made P.action P.turn P.taken) (fresh_at config seq) lines) line }
-{}
+{
+    plan_keeps_its_laws::<P>();
+}
 
 /// For every config and first sequence number that make a world, all lines before, and each further line: its tests are
 /// made in their order. The first that fails is the answer, a refusal or `Blocked`, `Idle` or `Wait`. It leaves the

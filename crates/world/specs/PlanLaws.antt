@@ -1,0 +1,17 @@
+-- What the world's laws go by of a plan: the clauses of the traits that it meets, over the plans that a world makes.
+use Rattle.std.specs.Prelude.{◌≡◌, ◌≤◌, ℕ, true, List}
+use Rattle.reader_word.specs.declared.layout.Layout.{Layout}
+use Rattle.gp_memb.specs.declared.plan.Action.TheVariants.{StorePhase}
+use Rattle.gp_memb.specs.Plan.{after_loads, WaitsForOpen, StoresInOrder, MayStore, IsPresent, present_after}
+use Rattle.world_state.specs.View.{Plans}
+
+-- `begun seq word p`: the plan is as it was made beside these words; `present p`: the word that readers load then
+pub record PlanLaws {P : Type 0} (plans : Plans P) (layout : Layout) (slots : ℕ) (begun : ℕ → ℕ → P → Type 0) (present : P → ℕ) : Type 0 where
+  pub made : (seq word : ℕ) → begun seq word (plans.made layout slots seq word)
+  pub order : (seq word : ℕ) (p : P) → begun seq word p → StoresInOrder plans.action plans.taken seq p
+  pub waits : (seq word : ℕ) (p : P) → begun seq word p → WaitsForOpen plans.qsbr plans.action plans.taken layout slots word p
+  pub stores : (seq word : ℕ) (p : P) → begun seq word p → (loads : List ℕ) (value : ℕ) →
+      plans.action (after_loads plans.taken p loads) ≡ StorePhase value → MayStore plans.qsbr word value
+  pub begins : (seq word : ℕ) (p : P) → begun seq word p → IsPresent plans.qsbr word → present p ≡ word
+  pub presents : (p : P) (word : ℕ) → present (plans.taken p word) ≡ present_after (present p) (plans.action p)
+  pub rises : (p : P) (value : ℕ) → plans.qsbr ≡ true → plans.action p ≡ StorePhase value → present p ≤ value
