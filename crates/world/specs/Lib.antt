@@ -15,3 +15,4 @@ pub mod Given
 pub mod Locks
 pub mod Actors
 pub mod Tests
+pub mod RunOrder
