@@ -321,7 +321,7 @@ module _ {P : Type 0} (plans : Plans P) (layout : Layout) (slots : ℕ) (laws : 
     };
     takes = λ k x tickets at. record { asks = inl (refl, refl); barriers = inl (refl, refl); sections = λ r. inl (refl, refl); objects = inl (refl, refl, refl) };
     works = λ k x sync tickets step at is. moves_work k x sync _ _ step (fits_step plans w (holder.Worker k) (ask_for w x.ask sync) sync step is);
-    runs = λ k x tickets core mark o at. record { asks = inl (refl, refl); barriers = inl (refl, refl); sections = λ r. inl (refl, refl); objects = inl (refl, marked_length w.objects mark, refl) };
+    runs = λ k x tickets core mark first at is. record { asks = inl (refl, refl); barriers = inl (refl, refl); sections = λ r. inl (refl, refl); objects = inl (refl, marked_length w.objects mark, refl) };
     counts = λ k x tickets ticket item core at. record { asks = inl (refl, refl); barriers = inl (refl, refl); sections = λ r. inl (refl, refl); objects = inl (refl, refl, refl) };
   }
 

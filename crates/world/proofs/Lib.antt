@@ -44,3 +44,4 @@ pub mod TestsOfScans
 pub mod TestsOfGrace
 pub mod TestsOfUpdaters
 pub mod TestsOfLines
+pub mod RunOrder

@@ -302,7 +302,7 @@ module _ {P : Type 0} (plans : Plans P) (layout : Layout) (slots : ℕ) (laws : 
     clears = λ u x b at k. beside at _ (λ n. n) (λ n. n) k;
     takes = λ n x tickets at k. owned_item n x _ worker.Idle act.Seal at (λ h. h) (λ q. refl) k;
     works = λ n x sync tickets step at is. owned_work n x sync tickets step at (fits_step plans w (holder.Worker n) (ask_for w x.ask sync) sync step is);
-    runs = λ n x tickets core mark o at k. owned_item n x _ (worker.Pops tickets) act.Pop at (λ h. h) (λ q. refl) k;
+    runs = λ n x tickets core mark first at is k. owned_item n x _ (worker.Pops tickets) act.Pop at (λ h. h) (λ q. refl) k;
     counts = λ n x tickets ticket item core at k. owned_item n x _ (worker.Ran tickets ticket item) act.Finish at (λ h. h) (λ q. refl) k;
   }
 

@@ -105,7 +105,8 @@ module _ {P : Type 0} (plans : Plans P) (w : BoardView P) where
       pub takes : (k : ℕ) (x : WorkerState P) (tickets : ℕ) → WorkedAt k x worker.Idle → F (Work k (with_core x (after_take x.core tickets)) w.grace act.Seal None Quiet)
       pub works : (k : ℕ) (x : WorkerState P) (sync : SyncCore P) (tickets : ℕ) (step : GraceStep P) → WorkedAt k x (worker.Syncs sync tickets) → grace_row plans w (holder.Worker k) (ask_for w x.ask sync) sync ≡ Ok step →
           F (Work k (record { ask = ask_for w x.ask sync; core = synced_to step.core tickets }) step.grace (worker_act step.grace.seq (synced_to step.core tickets)) None step.answer)
-      pub runs : (k : ℕ) (x : WorkerState P) (tickets : ℕ) (core : WorkerCore P Unit) (mark : Option Mark) (o : ObjectId) → WorkedAt k x (worker.Pops tickets) → F (Work k (with_core x core) w.grace act.Pop mark (one (events.Run o)))
+      pub runs : (k : ℕ) (x : WorkerState P) (tickets : ℕ) (core : WorkerCore P Unit) (mark : Option Mark) (first : Ticket × ObjectId) → WorkedAt k x (worker.Pops tickets) → first_in (slice_get w.queues k) ≡ Some first →
+          F (Work k (with_core x core) w.grace act.Pop mark (one (events.Run first.1)))
       pub counts : (k : ℕ) (x : WorkerState P) (tickets : ℕ) (ticket : Ticket) (item : Item Unit) (core : WorkerCore P Unit) → WorkedAt k x (worker.Ran tickets ticket item) → F (Work k (with_core x core) w.grace act.Finish None Quiet)
 
     module _ (rows : Rows) where
@@ -240,14 +241,14 @@ module _ {P : Type 0} (plans : Plans P) (w : BoardView P) where
             by Blocked e = rows.stays Blocked
             by NothingThere e = made NothingThere e
 
-        each_run : (tickets : ℕ) → WorkedAt k x (worker.Pops tickets) → (first : Option (Ticket × ObjectId)) → Each F (run_row w k x tickets first)
-        each_run tickets at None = tt
-        each_run tickets at (Some first) = rows.runs k x tickets _ _ first.1 at
+        each_run : (tickets : ℕ) → WorkedAt k x (worker.Pops tickets) → (first : Option (Ticket × ObjectId)) → first_in (slice_get w.queues k) ≡ first → Each F (run_row w k x tickets first)
+        each_run tickets at None is = tt
+        each_run tickets at (Some first) is = rows.runs k x tickets _ _ first at is
 
         each_works : (core : WorkerCore P Unit) → WorkedAt k x core → Each F (worker_on plans w k x core)
         each_works worker.Idle at = tt
         each_works (worker.Syncs sync tickets) at = each_worked sync tickets at (grace_row plans w (holder.Worker k) (ask_for w x.ask sync) sync) refl
-        each_works (worker.Pops tickets) at = each_run tickets at (first_in (slice_get w.queues k))
+        each_works (worker.Pops tickets) at = each_run tickets at (first_in (slice_get w.queues k)) refl
         each_works (worker.Runs tickets ticket item) at = tt
         each_works (worker.Ran tickets ticket item) at = rows.counts k x tickets ticket item _ at
         each_works (worker.Counts tickets ticket) at = tt

@@ -9,6 +9,7 @@ mod grace;
 mod laws;
 mod locking;
 mod numbering;
+mod ordering;
 mod publishing;
 mod reading;
 mod retiring;
@@ -21,6 +22,7 @@ pub use actor::Actor;
 pub use laws::{every_schedule_reclaims_safely, log_is_a_run};
 pub use locking::locks_are_held_by_those_inside;
 pub use numbering::{numbers_are_given_in_order, numbers_count_lines};
+pub use ordering::callbacks_run_in_the_order_of_their_queue;
 pub use testing::tests_are_made_in_order;
 pub use world::World;
 pub use world_state::{

@@ -1,0 +1,473 @@
+-- The callbacks of each queue run in the order in which they were queued.
+use Rattle.std.proofs.Common.{◌≡◌, ◌≢◌, ◌⊎◌, inl, inr, ⊎_elim, ℕ, ◌+◌, ◌==◌, ◌%◌, ◌^◌, ◌<◌, ◌≤◌, ◌||◌, cond, Bool, true, false, List, [], ◌∷◌, ◌++◌, length, filter, slice_get, Option, Some, None, Result, Ok, Err, refl, sym, ap, ◌∙◌, subst, arith, append-nil}
+use Rattle.std.specs.Prelude.{if◌then◌else◌}
+use Rattle.std.specs.List.{cons_option, filter_map}
+use Rattle.std.proofs.lemmas.Bool.Decides.{eqb_tells}
+use Rattle.std.proofs.lemmas.List.{append_assoc}
+use Rattle.std.proofs.lemmas.List.Elements.{filter-append, filter_map-append}
+use Rattle.std.proofs.lemmas.Nat.{mod_below}
+use Rattle.std.proofs.lemmas.Option.{get_or_from_slice_get, slice_get-get_or, slice_get_within}
+use Rattle.rcu_model.specs.declared.event.Event.{Event}
+use Rattle.rcu_model.specs.declared.event.Event.TheVariants as events
+use Rattle.rcu_model.specs.declared.event.ObjectId.{ObjectId}
+use Rattle.rcu_model.specs.declared.refusal.Refusal.{Refusal}
+use Rattle.rcu_model.specs.Machine.{State, start, after, after_all}
+use Rattle.rcu_model.specs.Sets.{same_object, has_object}
+use Rattle.rcu_model.proofs.Members.{In, object_tells, in_objects, has_object_in, in_append}
+use Rattle.rcu_model.proofs.SetLemmas.{filter_has}
+use Rattle.callback_queue.specs.declared.item.Item.{Item}
+use Rattle.callback_queue.specs.declared.item.Ticket.{Ticket}
+use Rattle.callback_queue.specs.Queue.{items_of, without_first, object_with}
+use Rattle.reader_word.specs.declared.layout.Layout.{Layout}
+use Rattle.call_rcu_worker.specs.declared.sync.SyncCore.{SyncCore}
+use Rattle.call_rcu_worker.specs.declared.sync.SyncCore.TheVariants as core
+use Rattle.call_rcu_worker.specs.declared.worker.WorkerCore.{WorkerCore}
+use Rattle.call_rcu_worker.specs.declared.worker.WorkerCore.TheVariants as worker
+use Rattle.call_rcu_worker.specs.Worker.{synced as synced_to}
+use Rattle.world_state.specs.declared.config.Config.{Config}
+use Rattle.world_state.specs.declared.line.Line.{Line}
+use Rattle.world_state.specs.declared.line.ReaderVerb.{ReaderVerb}
+use Rattle.world_state.specs.declared.object.Life.{Life}
+use Rattle.world_state.specs.declared.object.Life.TheVariants as life
+use Rattle.world_state.specs.declared.queue.QueueAct.{QueueAct}
+use Rattle.world_state.specs.declared.queue.QueueAct.TheVariants as act
+use Rattle.world_state.specs.declared.queue.QueueState.{QueueState}
+use Rattle.world_state.specs.declared.reader.ReaderState.{ReaderState}
+use Rattle.world_state.specs.declared.reader.ReaderStep.{ReaderStep}
+use Rattle.world_state.specs.declared.updater.Holder.{Holder}
+use Rattle.world_state.specs.declared.updater.Holder.TheVariants as holder
+use Rattle.world_state.specs.declared.updater.RetireStep.{RetireStep}
+use Rattle.world_state.specs.declared.updater.RetireStep.TheVariants as due
+use Rattle.world_state.specs.declared.updater.UpdaterPlace.{UpdaterPlace}
+use Rattle.world_state.specs.declared.updater.UpdaterPlace.TheVariants.{Retires}
+use Rattle.world_state.specs.declared.updater.UpdaterState.{UpdaterState}
+use Rattle.world_state.specs.declared.worker.WorkerState.{WorkerState}
+use Rattle.world_state.specs.declared.change.Change.{Change}
+use Rattle.world_state.specs.Limits.{is_within_limits}
+use Rattle.world_state.specs.Queues.{new_worker, empty_queue_state, item_of, acted, held_by, changed_at, acted_at}
+use Rattle.world_state.specs.View.{Plans, BoardView, fresh_at, changed, idle, told}
+use Rattle.world_state.proofs.Linking.{decide_number}
+use Rattle.world_state.proofs.Marking.{life_of}
+use Rattle.world_state.proofs.Queueing.{Items, Has, InQueue, has_stands, queue_at, changed_here, changed_else, items_sealed, items_advanced, items_pushed}
+use Rattle.world.specs.declared.grace.GraceStep.{GraceStep}
+use Rattle.world.specs.Lines.{with_change, outcome_of, world_after, change_of, reader_line, read_by}
+use Rattle.world.specs.Queues.{queue_of, retire_on}
+use Rattle.world.specs.RunOrder.{queued_by, run_by, queued_in, run_from, RunInOrder}
+use Rattle.world.specs.Workers.{ask_for, act_for, worker_act, first_in}
+use Rattle.world.proofs.Callbacks.{IsOther, LifeKept, RetireKept, WorkAt, WorkKept, at_queues}
+use Rattle.world.proofs.Fence.{Laws}
+use Rattle.world.proofs.GraceRows.{AsksNone, Fits, fits_step}
+use Rattle.world.proofs.Logged.{get_replicate, Logged, logged_step, logged_fresh, some_reader, few_workers}
+use Rattle.world.proofs.Plain.{AreOther}
+use Rattle.world.proofs.PlainLines.{PlainResult, plain_reader}
+use Rattle.world.proofs.Rows.{WasAt, WorkedAt, Rows, each_row}
+use Rattle.world.proofs.Sweeping.{Each}
+
+-- ---- the log
+
+abbrev runs_of : List Event → List ObjectId
+runs_of log = filter_map run_by log
+
+-- what ran is reclaimed
+stays_reclaimed : (now : State) (e : Event) (o : ObjectId) → In now.reclaimed o → In (after now e).reclaimed o
+stays_reclaimed now (events.Open s) o h = h
+stays_reclaimed now (events.Close s) o h = h
+stays_reclaimed now (events.First s c None) o h = h
+stays_reclaimed now (events.First s c (Some p)) o h = h
+stays_reclaimed now (events.Next s p None) o h = h
+stays_reclaimed now (events.Next s p (Some q)) o h = h
+stays_reclaimed now (events.Touch s p) o h = h
+stays_reclaimed now (events.Push c p) o h = h
+stays_reclaimed now (events.Replace c p q) o h = h
+stays_reclaimed now (events.Cut c p) o h = h
+stays_reclaimed now (events.Retire p) o h = h
+stays_reclaimed now (events.Queue p q) o h = h
+stays_reclaimed now (events.Run p) o h = inr h
+stays_reclaimed now (events.Ask a) o h = h
+stays_reclaimed now (events.Answer a) o h = h
+stays_reclaimed now (events.Bar b) o h = h
+stays_reclaimed now (events.Clear b) o h = h
+
+one_reclaimed : (now : State) (e : Event) (es : List Event) (o : ObjectId) → In (runs_of (e ∷ es)) o → In (after now e).reclaimed o ⊎ In (runs_of es) o
+one_reclaimed now (events.Open s) es o h = inr h
+one_reclaimed now (events.Close s) es o h = inr h
+one_reclaimed now (events.First s c found) es o h = inr h
+one_reclaimed now (events.Next s p found) es o h = inr h
+one_reclaimed now (events.Touch s p) es o h = inr h
+one_reclaimed now (events.Push c p) es o h = inr h
+one_reclaimed now (events.Replace c p q) es o h = inr h
+one_reclaimed now (events.Cut c p) es o h = inr h
+one_reclaimed now (events.Retire p) es o h = inr h
+one_reclaimed now (events.Queue p q) es o h = inr h
+one_reclaimed now (events.Run p) es o (inl is) = inl (inl is)
+one_reclaimed now (events.Run p) es o (inr h) = inr h
+one_reclaimed now (events.Ask a) es o h = inr h
+one_reclaimed now (events.Answer a) es o h = inr h
+one_reclaimed now (events.Bar b) es o h = inr h
+one_reclaimed now (events.Clear b) es o h = inr h
+
+all_reclaimed : (now : State) (es : List Event) (o : ObjectId) → In now.reclaimed o ⊎ In (runs_of es) o → In (after_all now es).reclaimed o
+all_reclaimed now [] o (inl h) = h
+all_reclaimed now [] o (inr h) = absurd h
+all_reclaimed now (e ∷ es) o (inl h) = all_reclaimed (after now e) es o (inl (stays_reclaimed now e o h))
+all_reclaimed now (e ∷ es) o (inr h) = all_reclaimed (after now e) es o (one_reclaimed now e es o h)
+
+-- events that neither queue nor run a callback
+record NoTurn (es : List Event) : Type 0 where
+  runs : filter_map run_by es ≡ []
+  queues : (q : ℕ) → queued_in q es ≡ []
+
+other_runs : (e : Event) → IsOther e → (run_by e ≡ None) × ((q : ℕ) → queued_by q e ≡ None)
+other_runs (events.Open s) h = (refl, λ q. refl)
+other_runs (events.Close s) h = (refl, λ q. refl)
+other_runs (events.First s c found) h = (refl, λ q. refl)
+other_runs (events.Next s o found) h = (refl, λ q. refl)
+other_runs (events.Touch s o) h = (refl, λ q. refl)
+other_runs (events.Push c o) h = (refl, λ q. refl)
+other_runs (events.Replace c old new) h = (refl, λ q. refl)
+other_runs (events.Cut c o) h = (refl, λ q. refl)
+other_runs (events.Retire o) h = absurd h
+other_runs (events.Queue o q) h = absurd h
+other_runs (events.Run o) h = absurd h
+other_runs (events.Ask a) h = (refl, λ q. refl)
+other_runs (events.Answer a) h = (refl, λ q. refl)
+other_runs (events.Bar b) h = absurd h
+other_runs (events.Clear b) h = absurd h
+
+others_run : (es : List Event) → AreOther es → NoTurn es
+others_run [] h = record { runs = refl; queues = λ q. refl }
+others_run (e ∷ es) h =
+    let one = other_runs e h.0 in
+    let more = others_run es h.1 in
+    record {
+      runs = ap (λ x. cons_option x (filter_map run_by es)) one.0 ∙ more.runs;
+      queues = λ q. ap (λ x. cons_option x (queued_in q es)) (one.1 q) ∙ more.queues q;
+    }
+
+none_more : (f : Event → Option ObjectId) (log es : List Event) → filter_map f es ≡ [] → filter_map f (log ++ es) ≡ filter_map f log
+none_more f log es none = filter_map-append f log es ∙ ap (λ os. filter_map f log ++ os) none ∙ append-nil (filter_map f log)
+
+-- a filter by tests that agree on what is there
+filter_same : (p q : ObjectId → Bool) (xs : List ObjectId) → ((x : ObjectId) → In xs x → p x ≡ q x) → filter p xs ≡ filter q xs
+filter_same p q [] agree = refl
+filter_same p q (x ∷ xs) agree = ap (λ b. cond b (x ∷ filter p xs) (filter p xs)) (agree x (inl refl)) ∙ ap (λ l. cond (q x) (x ∷ l) l) (filter_same p q xs (λ y h. agree y (inr h)))
+
+not_same : (o p : ObjectId) → o ≢ p → same_object o p ≡ false
+not_same o p apart = ⊎_elim (λ (y : (same_object o p ≡ true) × (o ≡ p)). absurd (apart y.1)) (λ (n : (same_object o p ≡ false) × (o ≢ p)). n.0) (object_tells o p)
+
+-- another object at the end is not found
+has_more : (os : List ObjectId) (o p : ObjectId) → o ≢ p → has_object (os ++ o ∷ []) p ≡ has_object os p
+has_more [] o p apart = ap (λ b. b || false) (not_same o p apart)
+has_more (x ∷ os) o p apart = ap (λ b. same_object x p || b) (has_more os o p apart)
+
+not_there : (os : List ObjectId) (o : ObjectId) → (¬ In os o) → has_object os o ≡ false
+not_there os o none = by (has_object os o) refl
+  where
+    by : (b : Bool) → has_object os o ≡ b → has_object os o ≡ false
+    by true e = absurd (none (in_objects os o e))
+    by false e = e
+
+queued_here : (q : ℕ) (o : ObjectId) → queued_in q (events.Queue o q ∷ []) ≡ o ∷ []
+queued_here q o = ⊎_elim
+    (λ (y : ((q == q) ≡ true) × (q ≡ q)). ap (λ b. cons_option (if b then Some o else None) []) y.0)
+    (λ (n : ((q == q) ≡ false) × (q ≢ q)). absurd (n.1 refl))
+    (eqb_tells q q)
+
+queued_else : (j q : ℕ) (o : ObjectId) → q ≢ j → queued_in q (events.Queue o j ∷ []) ≡ []
+queued_else j q o apart = ⊎_elim
+    (λ (y : ((j == q) ≡ true) × (j ≡ q)). absurd (apart (sym y.1)))
+    (λ (n : ((j == q) ≡ false) × (j ≢ q)). ap (λ b. cons_option (if b then Some o else None) []) n.0)
+    (eqb_tells j q)
+
+-- ---- what waits
+
+abbrev objects_of : Items → List ObjectId
+objects_of [] = []
+objects_of (i ∷ is) = i.object ∷ objects_of is
+
+objects_more : (is : Items) (i : Item Unit) → objects_of (is ++ i ∷ []) ≡ objects_of is ++ i.object ∷ []
+objects_more [] i = refl
+objects_more (j ∷ is) i = ap (λ l. j.object ∷ l) (objects_more is i)
+
+has_item : (is : Items) (o : ObjectId) → In (objects_of is) o → Has is o
+has_item [] o h = absurd h
+has_item (i ∷ is) o (inl e) = inl e
+has_item (i ∷ is) o (inr h) = inr (has_item is o h)
+
+abbrev waiting_in : QueueState → List ObjectId
+waiting_in q = objects_of (items_of q.items)
+
+-- of each queue: what was queued in it has run, in order, or waits in it, in order
+abbrev InTurn : List Event → List QueueState → Type 0
+InTurn log qs = (q : ℕ) → queued_in q log ≡ run_from q log ++ waiting_in (queue_at qs q)
+
+-- these events told nothing of this queue
+abbrev Passes : List Event → List Event → ℕ → Type 0
+Passes log es q = (queued_in q (log ++ es) ≡ queued_in q log) × (run_from q (log ++ es) ≡ run_from q log)
+
+-- nothing was queued in it, and what ran was none of its objects
+passes : (log es : List Event) (q : ℕ) → queued_in q es ≡ [] → filter (λ o. has_object (queued_in q log) o) (runs_of es) ≡ [] → Passes log es q
+passes log es q none unseen = (
+  same,
+  ap (λ os. filter (λ o. has_object os o) (runs_of (log ++ es))) same
+      ∙ ap (filter here) (filter_map-append run_by log es)
+      ∙ filter-append here (runs_of log) (runs_of es)
+      ∙ ap (λ l. run_from q log ++ l) unseen
+      ∙ append-nil (run_from q log),
+)
+  where
+    here : ObjectId → Bool
+    here o = has_object (queued_in q log) o
+
+    same : queued_in q (log ++ es) ≡ queued_in q log
+    same = none_more (queued_by q) log es none
+
+turn_over : (log es : List Event) (q : ℕ) (ws ws' : List ObjectId) → Passes log es q → ws' ≡ ws → queued_in q log ≡ run_from q log ++ ws →
+    queued_in q (log ++ es) ≡ run_from q (log ++ es) ++ ws'
+turn_over log es q ws ws' same stay k = same.0 ∙ k ∙ ap (λ l. l ++ ws) (sym same.1) ∙ ap (λ l. run_from q (log ++ es) ++ l) (sym stay)
+
+quiet : (log : List Event) (qs qs' : List QueueState) (es : List Event) → NoTurn es → ((q : ℕ) → waiting_in (queue_at qs' q) ≡ waiting_in (queue_at qs q)) → InTurn log qs → InTurn (log ++ es) qs'
+quiet log qs qs' es none stay k q =
+    turn_over log es q _ _ (passes log es q (none.queues q) (ap (filter (λ o. has_object (queued_in q log) o)) none.runs)) (stay q) (k q)
+
+-- one is queued that did not run
+queues_one : (log : List Event) (qs qs' : List QueueState) (j : ℕ) (o : ObjectId) → (¬ In (runs_of log) o) → waiting_in (queue_at qs' j) ≡ waiting_in (queue_at qs j) ++ o ∷ [] →
+    ((q : ℕ) → q ≢ j → waiting_in (queue_at qs' q) ≡ waiting_in (queue_at qs q)) → InTurn log qs → InTurn (log ++ events.Queue o j ∷ []) qs'
+queues_one log qs qs' j o fresh here beside k q = by (decide_number q j)
+  where
+    log' : List Event
+    log' = log ++ events.Queue o j ∷ []
+
+    mine : queued_in j log' ≡ run_from j log' ++ waiting_in (queue_at qs' j)
+    mine =
+        let more : queued_in j log' ≡ queued_in j log ++ o ∷ [] = filter_map-append (queued_by j) log (events.Queue o j ∷ []) ∙ ap (λ l. queued_in j log ++ l) (queued_here j o) in
+        let runs : runs_of log' ≡ runs_of log = none_more run_by log (events.Queue o j ∷ []) refl in
+        let same : run_from j log' ≡ run_from j log =
+        ap (λ os. filter (λ p. has_object os p) (runs_of log')) more ∙ ap (filter (λ p. has_object (queued_in j log ++ o ∷ []) p)) runs
+        ∙ filter_same (λ p. has_object (queued_in j log ++ o ∷ []) p) (λ p. has_object (queued_in j log) p) (runs_of log) (λ p h. has_more (queued_in j log) o p (λ e. fresh (subst (In (runs_of log)) (sym e) h))) in
+        more ∙ ap (λ l. l ++ o ∷ []) (k j) ∙ append_assoc (run_from j log) (waiting_in (queue_at qs j)) (o ∷ [])
+        ∙ ap (λ l. run_from j log ++ l) (sym here) ∙ ap (λ l. l ++ waiting_in (queue_at qs' j)) (sym same)
+
+    by : (q ≡ j) ⊎ (q ≢ j) → queued_in q log' ≡ run_from q log' ++ waiting_in (queue_at qs' q)
+    by (inl e) = subst (λ n. queued_in n log' ≡ run_from n log' ++ waiting_in (queue_at qs' n)) (sym e) mine
+    by (inr apart) = turn_over log (events.Queue o j ∷ []) q _ _ (passes log (events.Queue o j ∷ []) q (queued_else j q o apart) refl) (beside q apart) (k q)
+
+-- the first of a queue runs, which waits in no other and did not run
+runs_first : (log : List Event) (qs qs' : List QueueState) (j : ℕ) (o : ObjectId) → (¬ In (runs_of log) o) → waiting_in (queue_at qs j) ≡ o ∷ waiting_in (queue_at qs' j) →
+    ((q : ℕ) → q ≢ j → (waiting_in (queue_at qs' q) ≡ waiting_in (queue_at qs q)) × (¬ In (waiting_in (queue_at qs q)) o)) → InTurn log qs → InTurn (log ++ events.Run o ∷ []) qs'
+runs_first log qs qs' j o fresh first beside k q = by (decide_number q j)
+  where
+    es : List Event
+    es = events.Run o ∷ []
+
+    mine : queued_in j (log ++ es) ≡ run_from j (log ++ es) ++ waiting_in (queue_at qs' j)
+    mine =
+        let same : queued_in j (log ++ es) ≡ queued_in j log = none_more (queued_by j) log es refl in
+        let is : queued_in j log ≡ run_from j log ++ o ∷ waiting_in (queue_at qs' j) = k j ∙ ap (λ l. run_from j log ++ l) first in
+        let there : has_object (queued_in j log) o ≡ true = has_object_in (queued_in j log) o (subst (λ l. In l o) (sym is) (in_right (run_from j log) (o ∷ waiting_in (queue_at qs' j)) o (inl refl))) in
+        let more : run_from j (log ++ es) ≡ run_from j log ++ o ∷ [] =
+        ap (λ os. filter (λ p. has_object os p) (runs_of (log ++ es))) same ∙ ap (filter (λ p. has_object (queued_in j log) p)) (filter_map-append run_by log es)
+        ∙ filter-append (λ p. has_object (queued_in j log) p) (runs_of log) (o ∷ []) ∙ ap (λ b. run_from j log ++ cond b (o ∷ []) []) there in
+        same ∙ is ∙ sym (append_assoc (run_from j log) (o ∷ []) (waiting_in (queue_at qs' j))) ∙ ap (λ l. l ++ waiting_in (queue_at qs' j)) (sym more)
+      where
+        in_right : (xs ys : List ObjectId) (x : ObjectId) → In ys x → In (xs ++ ys) x
+        in_right [] ys x h = h
+        in_right (y ∷ xs) ys x h = inr (in_right xs ys x h)
+
+    others : q ≢ j → queued_in q (log ++ es) ≡ run_from q (log ++ es) ++ waiting_in (queue_at qs' q)
+    others apart = turn_over log es q _ _ (passes log es q refl (ap (λ b. cond b (o ∷ []) []) (not_there (queued_in q log) o none))) ((beside q apart).0) (k q)
+      where
+        none : ¬ In (queued_in q log) o
+        none h = ⊎_elim
+            (λ (ran : In (run_from q log) o). fresh ((filter_has (λ p. has_object (queued_in q log) p) (runs_of log) o ran).0))
+            (λ (waits : In (waiting_in (queue_at qs q)) o). (beside q apart).1 waits)
+            (in_append (run_from q log) (waiting_in (queue_at qs q)) o (subst (λ l. In l o) (k q) h))
+
+    by : (q ≡ j) ⊎ (q ≢ j) → queued_in q (log ++ es) ≡ run_from q (log ++ es) ++ waiting_in (queue_at qs' q)
+    by (inl e) = subst (λ n. queued_in n (log ++ es) ≡ run_from n (log ++ es) ++ waiting_in (queue_at qs' n)) (sym e) mine
+    by (inr apart) = others apart
+
+-- one queue changes, and not what waits in it
+waits_same : (f : QueueState → QueueState) (qs : List QueueState) (j : ℕ) → j < length qs → items_of (f (queue_at qs j)).items ≡ items_of (queue_at qs j).items →
+    (q : ℕ) → waiting_in (queue_at (changed_at f qs j (slice_get qs j)) q) ≡ waiting_in (queue_at qs q)
+waits_same f qs j inside same = at_queues (λ q x. waiting_in x ≡ waiting_in (queue_at qs q)) f qs j inside (ap objects_of same) (λ q apart. refl)
+
+-- the acts of a grace period leave the items where they are
+abbrev KeepsItems : QueueAct → Type 0
+KeepsItems act = (q : QueueState) → items_of (acted act q).items ≡ items_of q.items
+
+sync_keeps : {P : Type 0} (seq : ℕ) (sync : SyncCore P) → KeepsItems (act_for seq sync)
+sync_keeps seq core.Asks = λ q. refl
+sync_keeps seq (core.Waits cookie) = λ q. refl
+sync_keeps seq (core.Checks cookie) = λ q. refl
+sync_keeps seq (core.Starts cookie) = λ q. refl
+sync_keeps seq (core.Runs cookie plan) = λ q. refl
+sync_keeps seq core.Frees = λ q. items_advanced q.items seq
+sync_keeps seq core.Done = λ q. refl
+
+worker_keeps : {P : Type 0} (seq : ℕ) (core : WorkerCore P Unit) → KeepsItems (worker_act seq core)
+worker_keeps seq worker.Idle = λ q. refl
+worker_keeps seq (worker.Syncs sync tickets) = sync_keeps seq sync
+worker_keeps seq (worker.Pops tickets) = λ q. refl
+worker_keeps seq (worker.Runs tickets ticket item) = λ q. refl
+worker_keeps seq (worker.Ran tickets ticket item) = λ q. refl
+worker_keeps seq (worker.Counts tickets ticket) = λ q. refl
+
+abbrev StaysInTurn : {P : Type 0} → BoardView P → Change P → Type 0
+StaysInTurn w change = InTurn w.log w.queues → InTurn (changed w change).log (changed w change).queues
+
+-- ---- the rows
+
+module _ {P : Type 0} (plans : Plans P) (layout : Layout) (slots : ℕ) (laws : Laws plans layout slots) (w : BoardView P) (l : Logged plans layout slots laws w) where
+  abbrev now : State
+  now = after_all start w.log
+
+  abbrev mine : ℕ → QueueState
+  mine k = queue_at w.queues k
+
+  none : NoTurn []
+  none = record { runs = refl; queues = λ q. refl }
+
+  -- an object that was not reclaimed did not run
+  not_yet : (o : ObjectId) → (¬ In now.reclaimed o) → ¬ In (runs_of w.log) o
+  not_yet o never h = never (all_reclaimed start w.log o (inr h))
+
+  own_queue : (u : ℕ) → queue_of w u < length w.queues
+  own_queue u = let some = l.callbacks.some in mod_below u (length w.queues) (omega (arith, some))
+
+  worker_queue : (k : ℕ) (x : WorkerState P) → slice_get w.workers k ≡ Some x → k < length w.queues
+  worker_queue k x was = subst (λ n. k < n) l.callbacks.manned (slice_get_within w.workers k x was)
+
+  its_work : (k : ℕ) (x : WorkerState P) (place : WorkerCore P Unit) → WorkedAt plans w k x place →
+      WorkKept (mine k).items.ready (mine k).items.waiting (mine k).items.cookie (mine k).items.gone (mine k).finished now.asked now.awaited now.asked_sections x.ask place
+  its_work k x place at =
+      subst (λ (p : WorkerCore P Unit). WorkKept (mine k).items.ready (mine k).items.waiting (mine k).items.cookie (mine k).items.gone (mine k).finished now.asked now.awaited now.asked_sections x.ask p) at.at
+      (subst (λ (y : WorkerState P). WorkAt (mine k) now.asked now.awaited now.asked_sections y) (get_or_from_slice_get w.workers k x new_worker at.was) (l.callbacks.working k))
+
+  -- a step of a grace period asks, or answers, or tells nothing
+  fits_quiet : (me : Holder) (ask : ℕ) (sync : SyncCore P) (step : GraceStep P) → Fits plans w me ask sync step → NoTurn (told step.answer)
+  fits_quiet me ask sync step fits = by fits.asks
+    where
+      by : ((sync ≡ core.Asks) × (step.grace.asks ≡ ask) × (told step.answer ≡ events.Ask ask ∷ [])) ⊎ AsksNone plans w me ask step.grace.asks (told step.answer) → NoTurn (told step.answer)
+      by (inl asks) = subst NoTurn (sym asks.2) (record { runs = refl; queues = λ q. refl })
+      by (inr (same, inl e)) = subst NoTurn (sym e) none
+      by (inr (same, inr e)) = subst NoTurn (sym e) (record { runs = refl; queues = λ q. refl })
+
+  reads_quiet : (r : ℕ) (v : ReaderState) (verb : ReaderVerb) (step : ReaderStep) → reader_line plans.qsbr w r v verb ≡ Ok step → NoTurn (told step.answer)
+  reads_quiet r v verb step is = others_run (told step.answer) (subst (λ (x : Result ReaderStep Refusal). PlainResult w (read_by r x)) is (plain_reader plans.qsbr w r verb (Some v)))
+
+  turn_retire : (u : ℕ) (x : UpdaterState P) (o : ObjectId) (step : RetireStep) → WasAt plans w u x (Retires o step) → StaysInTurn w (retire_on w u x o step)
+  turn_retire u x o due.Mark at = quiet w.log w.queues _ _ (record { runs = refl; queues = λ q. refl }) (waits_same (acted act.Leave) w.queues (queue_of w u) (own_queue u) refl)
+  turn_retire u x o due.Count at = quiet w.log w.queues _ _ none (waits_same (acted act.Count) w.queues (queue_of w u) (own_queue u) refl)
+  turn_retire u x o due.Free at = quiet w.log w.queues _ _ none (waits_same (acted act.Free) w.queues (queue_of w u) (own_queue u) refl)
+  turn_retire u x o due.Push at =
+      queues_one w.log w.queues after' j o (not_yet o (subst (λ (y : Life). LifeKept y o now.retired now.queued now.reclaimed) retired (l.callbacks.items.lives o)).2)
+      (ap waiting_in (changed_here (acted (act.Push o)) w.queues j (own_queue u)) ∙ ap objects_of (items_pushed (mine j).items (item_of o)) ∙ objects_more (items_of (mine j).items) (item_of o))
+      (λ q apart. ap waiting_in (changed_else (acted (act.Push o)) w.queues j q apart))
+    where
+      j : ℕ
+      j = queue_of w u
+
+      after' : List QueueState
+      after' = acted_at w.queues j (act.Push o)
+
+      retired : life_of w.objects o ≡ life.Retired
+      retired =
+          (subst (λ (p : UpdaterPlace P). RetireKept w.objects w.queues (length w.updaters) u p)
+          (ap (λ (y : UpdaterState P). y.place) (get_or_from_slice_get w.updaters u x idle at.was) ∙ at.at) (l.callbacks.retiring u)).1.0
+
+  turn_run : (k : ℕ) (x : WorkerState P) (tickets : ℕ) (first : Ticket × ObjectId) → WorkedAt plans w k x (worker.Pops tickets) → first_in (slice_get w.queues k) ≡ Some first →
+      InTurn w.log w.queues → InTurn (w.log ++ events.Run first.1 ∷ []) (acted_at w.queues k act.Pop)
+  turn_run k x tickets first at is = by (mine k).items.ready refl (sym (ap first_in (slice_get-get_or w.queues k empty_queue_state inside)) ∙ is)
+    where
+      inside : k < length w.queues
+      inside = worker_queue k x at.was
+
+      o : ObjectId
+      o = first.1
+
+      none_some : (y : Ticket × ObjectId) → None ≡ Some y → ⊥
+      none_some y e = cc
+
+      second : (y z : Ticket × ObjectId) → Some y ≡ Some z → y.1 ≡ z.1
+      second y z e = ap (λ (v : Ticket × ObjectId). v.1) (let same : y ≡ z = cc in same)
+
+      by : (ready : Items) → (mine k).items.ready ≡ ready → object_with ((mine k).items.gone + 1) ready ≡ Some first →
+          InTurn w.log w.queues → InTurn (w.log ++ events.Run o ∷ []) (acted_at w.queues k act.Pop)
+      by [] e none_first = absurd (none_some first none_first)
+      by (i ∷ rest) e here = runs_first w.log w.queues after' k o
+          (not_yet o (subst (λ (y : Life). LifeKept y o now.retired now.queued now.reclaimed) (queued k (subst (λ os. In os o) (sym was) (inl refl))) (l.callbacks.items.lives o)).2)
+          (was ∙ ap (λ os. o ∷ os) (sym left))
+          (λ q apart. (ap waiting_in (changed_else (acted act.Pop) w.queues k q apart), λ h. apart (one_queue q h)))
+        where
+          after' : List QueueState
+          after' = acted_at w.queues k act.Pop
+
+          tail : Items
+          tail = rest ++ (mine k).items.waiting ++ (mine k).items.fresh
+
+          was : waiting_in (mine k) ≡ o ∷ objects_of tail
+          was = ap (λ (r : Items). objects_of (r ++ (mine k).items.waiting ++ (mine k).items.fresh)) e ∙ ap (λ p. p ∷ objects_of tail) (second _ first here)
+
+          left : waiting_in (queue_at after' k) ≡ objects_of tail
+          left = ap waiting_in (changed_here (acted act.Pop) w.queues k inside) ∙ ap (λ (r : Items). objects_of (items_of (without_first (mine k).items r))) e
+
+          there : (q : ℕ) → In (waiting_in (mine q)) o → (t : ℕ) × InQueue (mine q) t o
+          there q h = has_stands (mine q).items.gone (items_of (mine q).items) o (has_item (items_of (mine q).items) o h)
+
+          queued : (q : ℕ) → In (waiting_in (mine q)) o → life_of w.objects o ≡ life.Queued
+          queued q h = let s = there q h in l.callbacks.items.there q s.0 o s.1
+
+          one_queue : (q : ℕ) → In (waiting_in (mine q)) o → q ≡ k
+          one_queue q h =
+              let s = there q h in
+              let t = there k (subst (λ os. In os o) (sym was) (inl refl)) in
+              (l.callbacks.items.one_place q k s.0 t.0 o s.1 t.1).0
+
+  rows : Rows plans w (StaysInTurn w)
+  rows = record {
+    stays = λ answer k. k;
+    reads = λ r v verb step was is. quiet w.log w.queues _ _ (reads_quiet r v verb step is) (λ q. refl);
+    begins = λ u x what object at next k. k;
+    cuts = λ u x splice c o at. quiet w.log w.queues _ _ (record { runs = refl; queues = λ q. refl }) (λ q. refl);
+    pushes = λ u x new splice c at. quiet w.log w.queues _ _ (record { runs = refl; queues = λ q. refl }) (λ q. refl);
+    replaces = λ u x old new splice c at. quiet w.log w.queues _ _ (record { runs = refl; queues = λ q. refl }) (λ q. refl);
+    syncs = λ u x ask sync step at is. quiet w.log w.queues _ _ (fits_quiet (holder.Updater u) ask sync step (fits_step plans w (holder.Updater u) ask sync step is)) (λ q. refl);
+    starts = λ u x started at. quiet w.log w.queues _ _ (record { runs = refl; queues = λ q. refl }) (λ q. refl);
+    polls = λ u x started ask at. quiet w.log w.queues _ _ (record { runs = refl; queues = λ q. refl }) (λ q. refl);
+    holds = λ u x o q at is k i. k i ∙ ap (λ os. run_from i w.log ++ os) (sym (waits_same (held_by u) w.queues (queue_of w u) (own_queue u) refl i));
+    retires = turn_retire;
+    bars = λ u x b at. quiet w.log w.queues _ _ (record { runs = refl; queues = λ q. refl }) (λ q. refl);
+    awaits = λ u x b b' at. quiet w.log w.queues _ _ none (λ q. refl);
+    clears = λ u x b at. quiet w.log w.queues _ _ (record { runs = refl; queues = λ q. refl }) (λ q. refl);
+    takes = λ k x tickets at. let rests = its_work k x worker.Idle at in
+        quiet w.log w.queues _ _ none (waits_same (acted act.Seal) w.queues k (worker_queue k x at.was) (items_sealed (mine k).items rests.0 rests.1));
+    works = λ k x sync tickets step at is. quiet w.log w.queues _ _ (fits_quiet (holder.Worker k) (ask_for w x.ask sync) sync step (fits_step plans w (holder.Worker k) (ask_for w x.ask sync) sync step is))
+        (waits_same (acted (worker_act step.grace.seq (synced_to step.core tickets))) w.queues k (worker_queue k x at.was) (worker_keeps step.grace.seq (synced_to step.core tickets) (mine k)));
+    runs = λ k x tickets core mark first at is. turn_run k x tickets first at is;
+    counts = λ k x tickets ticket item core at. quiet w.log w.queues _ _ none (waits_same (acted act.Finish) w.queues k (worker_queue k x at.was) refl);
+  }
+
+  turn_step : (line : Line) → InTurn w.log w.queues → InTurn ((outcome_of plans w line).world).log ((outcome_of plans w line).world).queues
+  turn_step line k = by (change_of plans w line) (each_row plans w (StaysInTurn w) rows line)
+    where
+      by : (x : Result (Change P) Refusal) → Each (StaysInTurn w) x → InTurn ((with_change w x).world).log ((with_change w x).world).queues
+      by (Ok change) stays = stays k
+      by (Err e) stays = k
+
+module _ {P : Type 0} (plans : Plans P) (layout : Layout) (slots : ℕ) (laws : Laws plans layout slots) where
+  turn_lines : (w : BoardView P) (lines : List Line) → Logged plans layout slots laws w → InTurn w.log w.queues → InTurn (world_after plans w lines).log (world_after plans w lines).queues
+  turn_lines w [] l k = k
+  turn_lines w (line ∷ lines) l k = turn_lines ((outcome_of plans w line).world) lines (logged_step plans layout slots laws w line l) (turn_step plans layout slots laws w l line k)
+
+module _ {P : Type 0} (plans : Plans P) (laws : (layout : Layout) (slots : ℕ) → 1 ≤ slots → Laws plans layout slots) where
+  pub callbacks_in_order : (config : Config) (seq : ℕ) (lines : List Line) → is_within_limits config ≡ true → seq % 2 ≡ 0 → seq ≤ 2 ^ 62 → RunInOrder (world_after plans (fresh_at config seq) lines).log
+  callbacks_in_order config seq lines limits even low q = (
+    waiting_in (queue_at (world_after plans (fresh_at config seq) lines).queues q),
+    turn_lines plans config.layout config.readers mine (fresh_at config seq) lines
+        (logged_fresh plans config.layout config.readers mine config seq refl refl (some_reader config limits) (few_workers config limits).0 (few_workers config limits).1 even low)
+        (λ j. sym (ap waiting_in (get_replicate empty_queue_state config.workers j))) q,
+  )
+    where
+      mine : Laws plans config.layout config.readers
+      mine = laws config.layout config.readers (some_reader config limits)
