@@ -9,7 +9,7 @@ ghost use Rattle.world.specs.Lines.{world_after};
 ghost use Rattle.world.specs.RunOrder.{RunInOrder};
 ghost use Rattle.world.specs.Steps.{is_supported_at, fresh_world_at, answered_events};
 
-use crate::laws::every_schedule_reclaims_safely;
+use crate::laws::{every_schedule_reclaims_safely, plan_keeps_its_laws};
 use gp_memb::MembPlan;
 use gp_qsbr::QsbrPlan;
 use world_state::WorldPlan;
@@ -17,7 +17,9 @@ use world_state::WorldPlan;
 /// In the log of a board, the callbacks of each queue run in the order in which their objects were queued.
 pub(crate) fn board_callbacks_run_in_order<P: WorldPlan>()
     ensures { (config : Config) (seq : ℕ) (lines : List Line) → IsTrue (is_within_limits config) → seq % 2 ≡ 0 → seq ≤ 2 ^ 62 → RunInOrder (world_after (plans_of P.QSBR P.made P.action P.turn P.taken) (fresh_at config seq) lines).log }
-{}
+{
+    plan_keeps_its_laws::<P>();
+}
 
 /// For every config and first sequence number that make a world, and all lines: in the events of the answers the
 /// callbacks of each queue run in the order in which their objects were queued, and none is passed over. So it is with
