@@ -16,3 +16,4 @@ pub mod Locks
 pub mod Actors
 pub mod Tests
 pub mod RunOrder
+pub mod Notes
