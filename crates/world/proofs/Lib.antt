@@ -45,3 +45,4 @@ pub mod TestsOfGrace
 pub mod TestsOfUpdaters
 pub mod TestsOfLines
 pub mod RunOrder
+pub mod NotesOfReaders
