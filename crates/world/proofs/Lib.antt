@@ -46,3 +46,5 @@ pub mod TestsOfUpdaters
 pub mod TestsOfLines
 pub mod RunOrder
 pub mod NotesOfReaders
+pub mod NotesOfUpdaters
+pub mod Notes

@@ -31,7 +31,7 @@ use Rattle.world_state.proofs.Reading.{reader_at}
 use Rattle.world.specs.declared.grace.GraceStep.{GraceStep}
 use Rattle.world.specs.Chains.{first_row, next_row, next_from}
 use Rattle.world.specs.Lines.{reader_line, reader_begins, reader_on, with_change, outcome_of, world_after, change_of}
-use Rattle.world.specs.Notes.{got_after, got_last, IsFromLast, AreFromLast, cursor_of}
+use Rattle.world.specs.Notes.{got_after, got_last, AreFromLast, cursor_of}
 use Rattle.world.specs.Queues.{retire_on}
 use Rattle.world.specs.Workers.{ask_for}
 use Rattle.world.proofs.GraceRows.{Fits, fits_step}
