@@ -1,6 +1,7 @@
--- An updater notes the ask of its latest `start`, until a `poll` answers it.
-use Rattle.std.proofs.Common.{◌≡◌, ◌≢◌, ◌⊎◌, inl, inr, ℕ, ◌+◌, ◌==◌, cond, Bool, true, false, length, is_some, get_or, nat_le, nat_lt, List, [], ◌∷◌, slice_get, slice_set, option_map, Option, Some, None, Result, Ok, Err, refl, sym, ap, ◌∙◌, subst, get_or-set_same, get_or-set_other}
+-- An updater notes the ask and the cookie of its latest `start`, until a `poll` answers it.
+use Rattle.std.proofs.Common.{◌≡◌, ◌≢◌, ◌⊎◌, inl, inr, ℕ, ◌+◌, ◌==◌, cond, Bool, true, false, length, is_some, get_or, nat_le, nat_lt, List, [], ◌∷◌, slice_get, slice_set, Option, Some, None, Result, Ok, Err, refl, sym, ap, ◌∙◌, subst, get_or-set_same, get_or-set_other}
 use Rattle.std.proofs.lemmas.Option.{get_or_from_slice_get, slice_get_within}
+use Rattle.rcu_model.specs.declared.event.Event.TheVariants as events
 use Rattle.rcu_model.specs.declared.event.ObjectId.{ObjectId}
 use Rattle.rcu_model.specs.declared.refusal.Refusal.{Refusal}
 use Rattle.callback_queue.specs.declared.item.Ticket.{Ticket}
@@ -42,7 +43,7 @@ use Rattle.world.specs.declared.grace.GraceStep.{GraceStep}
 use Rattle.world.specs.Chains.{writes, push_row, replace_row, cut_row, pushed_row, replaced_row, published, linked_by}
 use Rattle.world.specs.Grace.{grace_row, start_row, poll_row}
 use Rattle.world.specs.Lines.{reader_line, read_by, of_reader, is_idle, grace_change, synced, updater_on, updater_begins, updater_line, of_updater, worker_line, of_worker, change_of, with_change, outcome_of, world_after}
-use Rattle.world.specs.Notes.{asked_by, asked_after, asked_last, IsOfAsked, IsPolled, ArePolled, noted_ask, exchanged}
+use Rattle.world.specs.Notes.{note_of, noted_by, noted_after, noted_last, IsAnswerTo, IsOfNoted, IsPolled, ArePolled, started_by, exchanged}
 use Rattle.world.specs.Queues.{queue_of, may_retire, lock_free, lock_row, retire_on, finished_in, checked, barrier_on}
 use Rattle.world.specs.Workers.{is_none_left, first_in, take_row, ask_for, work_change, worked, run_row, worker_on, is_resting}
 use Rattle.world.proofs.NotesOfReaders.{itself, another}
@@ -52,31 +53,28 @@ use Rattle.world.proofs.Sweeping.{Each, each_if}
 module _ {P : Type 0} (plans : Plans P) (w : BoardView P) where
   -- every updater's note is as it was
   abbrev Keeps : Change P → Type 0
-  Keeps change = (s : ℕ) → noted_ask (changed w change) s ≡ noted_ask w s
+  Keeps change = (s : ℕ) → started_by (changed w change) s ≡ started_by w s
 
   one_if : (b : Bool) (y z : Change P) → Keeps y → Keeps z → Keeps (cond b y z)
   one_if true y z p q = p
   one_if false y z p q = q
 
-  abbrev ask_noted : Option Started → Option ℕ
-  ask_noted started = option_map (λ (s : Started). s.ask) started
-
   module _ (u : ℕ) (x : UpdaterState P) (was : slice_get w.updaters u ≡ Some x) where
-    noted_now : noted_ask w u ≡ ask_noted x.started
-    noted_now = ap (λ (y : UpdaterState P). ask_noted y.started) (get_or_from_slice_get w.updaters u x idle was)
+    noted_now : started_by w u ≡ x.started
+    noted_now = ap (λ (y : UpdaterState P). y.started) (get_or_from_slice_get w.updaters u x idle was)
 
-    noted_then : (y : UpdaterState P) → ask_noted (updater_at (slice_set w.updaters u y) u).started ≡ ask_noted y.started
-    noted_then y = ap (λ (z : UpdaterState P). ask_noted z.started) (get_or-set_same w.updaters u y idle (slice_get_within w.updaters u x was))
+    noted_then : (y : UpdaterState P) → (updater_at (slice_set w.updaters u y) u).started ≡ y.started
+    noted_then y = ap (λ (z : UpdaterState P). z.started) (get_or-set_same w.updaters u y idle (slice_get_within w.updaters u x was))
 
-    noted_else : (y : UpdaterState P) (s : ℕ) → s ≢ u → ask_noted (updater_at (slice_set w.updaters u y) s).started ≡ noted_ask w s
-    noted_else y s apart = ap (λ (z : UpdaterState P). ask_noted z.started) (get_or-set_other w.updaters u s y idle apart)
+    noted_else : (y : UpdaterState P) (s : ℕ) → s ≢ u → (updater_at (slice_set w.updaters u y) s).started ≡ started_by w s
+    noted_else y s apart = ap (λ (z : UpdaterState P). z.started) (get_or-set_other w.updaters u s y idle apart)
 
     -- the updater stands elsewhere, and has what it noted
-    same : (place : UpdaterPlace P) (s : ℕ) → ask_noted (updater_at (slice_set w.updaters u (record x { place = place })) s).started ≡ noted_ask w s
+    same : (place : UpdaterPlace P) (s : ℕ) → (updater_at (slice_set w.updaters u (record x { place = place })) s).started ≡ started_by w s
     same place s = by (decide_number s u)
       where
-        by : (s ≡ u) ⊎ (s ≢ u) → ask_noted (updater_at (slice_set w.updaters u (record x { place = place })) s).started ≡ noted_ask w s
-        by (inl e) = subst (λ t. ask_noted (updater_at (slice_set w.updaters u (record x { place = place })) t).started ≡ noted_ask w t) (sym e) (noted_then (record x { place = place }) ∙ sym noted_now)
+        by : (s ≡ u) ⊎ (s ≢ u) → (updater_at (slice_set w.updaters u (record x { place = place })) s).started ≡ started_by w s
+        by (inl e) = subst (λ t. (updater_at (slice_set w.updaters u (record x { place = place })) t).started ≡ started_by w t) (sym e) (noted_then (record x { place = place }) ∙ sym noted_now)
         by (inr apart) = noted_else (record x { place = place }) s apart
 
     keeps_synced : (ask : ℕ) (r : Result (GraceStep P) Refusal) → Each Keeps (synced plans u x ask r)
@@ -144,51 +142,51 @@ module _ {P : Type 0} (plans : Plans P) (w : BoardView P) where
 
     -- ---- what the verb makes of the note
 
-    record Asks (v : UpdaterVerb) (change : Change P) : Type 0 where
-      own : noted_ask (changed w change) u ≡ asked_by v (Ok (answer_of change)) (noted_ask w u)
-      polls : IsOfAsked v (Ok (answer_of change)) (noted_ask w u)
-      others : (s : ℕ) → s ≢ u → noted_ask (changed w change) s ≡ noted_ask w s
+    record Notes (v : UpdaterVerb) (change : Change P) : Type 0 where
+      own : started_by (changed w change) u ≡ noted_by v w.grace.seq (Ok (answer_of change)) (started_by w u)
+      polls : IsOfNoted v (Ok (answer_of change)) (started_by w u)
+      others : (s : ℕ) → s ≢ u → started_by (changed w change) s ≡ started_by w s
 
-    asks_start : (cookie : Result ℕ Refusal) → Each (Asks updater.Start) (start_row w u x cookie)
-    asks_start (Err e) = tt
-    asks_start (Ok c) =
+    notes_start : (cookie : Result ℕ Refusal) → cookie_for w.grace.seq ≡ cookie → Each (Notes updater.Start) (start_row w u x cookie)
+    notes_start (Err e) is = tt
+    notes_start (Ok c) is =
         let y : UpdaterState P = record x { started = Some (record { ask = w.grace.asks + 1; cookie = c }) } in
-        record { own = noted_then y; polls = tt; others = noted_else y }
+        record { own = noted_then y ∙ sym (ap (note_of (events.Ask (w.grace.asks + 1))) is); polls = tt; others = noted_else y }
 
-    asks_poll : (noted : Option Started) → x.started ≡ noted → Each (Asks updater.Poll) (poll_row w u x noted)
-    asks_poll None is = tt
-    asks_poll (Some s) is =
-        each_if (Asks updater.Poll) (nat_le s.cookie w.grace.seq) _ _
-        (record { own = noted_then (record x { started = None }); polls = noted_now ∙ ap ask_noted is; others = noted_else (record x { started = None }) })
+    notes_poll : (noted : Option Started) → x.started ≡ noted → Each (Notes updater.Poll) (poll_row w u x noted)
+    notes_poll None is = tt
+    notes_poll (Some s) is =
+        each_if (Notes updater.Poll) (nat_le s.cookie w.grace.seq) _ _
+        (record { own = noted_then (record x { started = None }); polls = subst (λ (n : Option Started). IsAnswerTo n (events.Answer s.ask)) (sym (noted_now ∙ is)) refl; others = noted_else (record x { started = None }) })
         (record { own = refl; polls = tt; others = λ t apart. refl })
 
-    module _ (v : UpdaterVerb) (leaves : (answer : Result Answer Refusal) (asked : Option ℕ) → (asked_by v answer asked ≡ asked) × IsOfAsked v answer asked) where
-      asks_none : (y : Result (Change P) Refusal) → Each Keeps y → Each (Asks v) y
-      asks_none (Err e) keeps = tt
-      asks_none (Ok change) keeps = record {
-        own = keeps u ∙ sym (leaves (Ok (answer_of change)) (noted_ask w u)).0;
-        polls = (leaves (Ok (answer_of change)) (noted_ask w u)).1;
+    module _ (v : UpdaterVerb) (leaves : (answer : Result Answer Refusal) (noted : Option Started) → (noted_by v w.grace.seq answer noted ≡ noted) × IsOfNoted v answer noted) where
+      notes_none : (y : Result (Change P) Refusal) → Each Keeps y → Each (Notes v) y
+      notes_none (Err e) keeps = tt
+      notes_none (Ok change) keeps = record {
+        own = keeps u ∙ sym (leaves (Ok (answer_of change)) (started_by w u)).0;
+        polls = (leaves (Ok (answer_of change)) (started_by w u)).1;
         others = λ s apart. keeps s;
       }
 
-    idle_or_busy : (v : UpdaterVerb) (y : Result (Change P) Refusal) → Each (Asks v) y → (b : Bool) (e : Refusal) → Each (Asks v) (cond b y (Err e))
-    idle_or_busy v y asks true e = asks
-    idle_or_busy v y asks false e = tt
+    idle_or_busy : (v : UpdaterVerb) (y : Result (Change P) Refusal) → Each (Notes v) y → (b : Bool) (e : Refusal) → Each (Notes v) (cond b y (Err e))
+    idle_or_busy v y notes true e = notes
+    idle_or_busy v y notes false e = tt
 
-    asks_line : (v : UpdaterVerb) → Each (Asks v) (updater_line plans w u x v)
-    asks_line updater.GoOn = asks_none updater.GoOn (λ a n. (refl, tt)) _ (keeps_on x.place)
-    asks_line (updater.Push c) = idle_or_busy _ _ (asks_none (updater.Push c) (λ a n. (refl, tt)) _ (keeps_push c (slice_get w.heads c))) (is_idle x.place) _
-    asks_line (updater.Replace o) = idle_or_busy _ _ (asks_none (updater.Replace o) (λ a n. (refl, tt)) _ (keeps_replace o (linked_by w u (slice_get w.objects o.0)))) (is_idle x.place) _
-    asks_line (updater.Cut o) = idle_or_busy _ _ (asks_none (updater.Cut o) (λ a n. (refl, tt)) _ (keeps_cut o (linked_by w u (slice_get w.objects o.0)))) (is_idle x.place) _
-    asks_line (updater.Retire o) =
+    notes_line : (v : UpdaterVerb) → Each (Notes v) (updater_line plans w u x v)
+    notes_line updater.GoOn = notes_none updater.GoOn (λ a n. (refl, tt)) _ (keeps_on x.place)
+    notes_line (updater.Push c) = idle_or_busy _ _ (notes_none (updater.Push c) (λ a n. (refl, tt)) _ (keeps_push c (slice_get w.heads c))) (is_idle x.place) _
+    notes_line (updater.Replace o) = idle_or_busy _ _ (notes_none (updater.Replace o) (λ a n. (refl, tt)) _ (keeps_replace o (linked_by w u (slice_get w.objects o.0)))) (is_idle x.place) _
+    notes_line (updater.Cut o) = idle_or_busy _ _ (notes_none (updater.Cut o) (λ a n. (refl, tt)) _ (keeps_cut o (linked_by w u (slice_get w.objects o.0)))) (is_idle x.place) _
+    notes_line (updater.Retire o) =
         idle_or_busy _ _
-        (asks_none (updater.Retire o) (λ a n. (refl, tt)) _ (each_if Keeps (may_retire w u (slice_get w.objects o.0)) _ _ (keeps_lock o (slice_get w.queues (queue_of w u))) tt))
+        (notes_none (updater.Retire o) (λ a n. (refl, tt)) _ (each_if Keeps (may_retire w u (slice_get w.objects o.0)) _ _ (keeps_lock o (slice_get w.queues (queue_of w u))) tt))
         (is_idle x.place) _
-    asks_line updater.Sync =
-        idle_or_busy _ _ (asks_none updater.Sync (λ a n. (refl, tt)) _ (keeps_synced (w.grace.asks + 1) (grace_row plans w (holder.Updater u) (w.grace.asks + 1) new_core))) (is_idle x.place) _
-    asks_line updater.Start = idle_or_busy _ _ (asks_start (cookie_for w.grace.seq)) (is_idle x.place) _
-    asks_line updater.Poll = idle_or_busy _ _ (asks_poll x.started refl) (is_idle x.place) _
-    asks_line updater.Barrier = idle_or_busy _ _ (asks_none updater.Barrier (λ a n. (refl, tt)) (updater_begins plans w u x updater.Barrier) (same _)) (is_idle x.place) _
+    notes_line updater.Sync =
+        idle_or_busy _ _ (notes_none updater.Sync (λ a n. (refl, tt)) _ (keeps_synced (w.grace.asks + 1) (grace_row plans w (holder.Updater u) (w.grace.asks + 1) new_core))) (is_idle x.place) _
+    notes_line updater.Start = idle_or_busy _ _ (notes_start (cookie_for w.grace.seq) refl) (is_idle x.place) _
+    notes_line updater.Poll = idle_or_busy _ _ (notes_poll x.started refl) (is_idle x.place) _
+    notes_line updater.Barrier = idle_or_busy _ _ (notes_none updater.Barrier (λ a n. (refl, tt)) (updater_begins plans w u x updater.Barrier) (same _)) (is_idle x.place) _
 
   -- ---- workers
 
@@ -226,52 +224,52 @@ module _ {P : Type 0} (plans : Plans P) (w : BoardView P) where
 
   -- ---- each line
 
-  abbrev AskedBy : Line → BoardView P → Result Answer Refusal → Type 0
-  AskedBy line w' answer = (s : ℕ) → (noted_ask w' s ≡ asked_after s (noted_ask w s) (line, answer)) × IsPolled s (noted_ask w s) (line, answer)
+  abbrev NotedBy : Line → BoardView P → Result Answer Refusal → Type 0
+  NotedBy line w' answer = (s : ℕ) → (started_by w' s ≡ noted_after s (started_by w s) (w.grace.seq, line, answer)) × IsPolled s (started_by w s) (w.grace.seq, line, answer)
 
-  abbrev AskedAfter : Line → Result (Change P) Refusal → Type 0
-  AskedAfter line y = AskedBy line ((with_change w y).world) ((with_change w y).answer)
+  abbrev NotedAfter : Line → Result (Change P) Refusal → Type 0
+  NotedAfter line y = NotedBy line ((with_change w y).world) ((with_change w y).answer)
 
   -- a refusal leaves the note
-  refused : (v : UpdaterVerb) (e : Refusal) (asked : Option ℕ) → (asked_by v (Err e) asked ≡ asked) × IsOfAsked v (Err e) asked
-  refused updater.GoOn e asked = (refl, tt)
-  refused (updater.Push c) e asked = (refl, tt)
-  refused (updater.Replace o) e asked = (refl, tt)
-  refused (updater.Cut o) e asked = (refl, tt)
-  refused (updater.Retire o) e asked = (refl, tt)
-  refused updater.Sync e asked = (refl, tt)
-  refused updater.Start e asked = (refl, tt)
-  refused updater.Poll e asked = (refl, tt)
-  refused updater.Barrier e asked = (refl, tt)
+  refused : (v : UpdaterVerb) (e : Refusal) (noted : Option Started) → (noted_by v w.grace.seq (Err e) noted ≡ noted) × IsOfNoted v (Err e) noted
+  refused updater.GoOn e noted = (refl, tt)
+  refused (updater.Push c) e noted = (refl, tt)
+  refused (updater.Replace o) e noted = (refl, tt)
+  refused (updater.Cut o) e noted = (refl, tt)
+  refused (updater.Retire o) e noted = (refl, tt)
+  refused updater.Sync e noted = (refl, tt)
+  refused updater.Start e noted = (refl, tt)
+  refused updater.Poll e noted = (refl, tt)
+  refused updater.Barrier e noted = (refl, tt)
 
-  both_same : (b : Bool) (x y : Option ℕ) → x ≡ y → y ≡ cond b x y
+  both_same : (b : Bool) (x y : Option Started) → x ≡ y → y ≡ cond b x y
   both_same true x y e = sym e
   both_same false x y e = refl
 
-  asked_updater : (u : ℕ) (v : UpdaterVerb) (x : Option (UpdaterState P)) → slice_get w.updaters u ≡ x → AskedAfter (Updater u v) (of_updater plans w u v x)
-  asked_updater u v None is s = (both_same (u == s) _ _ (refused v _ (noted_ask w s)).0, λ e. (refused v _ (noted_ask w s)).1)
-  asked_updater u v (Some x) is s = by (updater_line plans w u x v) (asks_line u x is v) s
+  noted_updater : (u : ℕ) (v : UpdaterVerb) (x : Option (UpdaterState P)) → slice_get w.updaters u ≡ x → NotedAfter (Updater u v) (of_updater plans w u v x)
+  noted_updater u v None is s = (both_same (u == s) _ _ (refused v _ (started_by w s)).0, λ e. (refused v _ (started_by w s)).1)
+  noted_updater u v (Some x) is s = by (updater_line plans w u x v) (notes_line u x is v) s
     where
-      by : (y : Result (Change P) Refusal) → Each (Asks u x is v) y → AskedAfter (Updater u v) y
-      by (Err e) asks s = (both_same (u == s) _ _ (refused v e (noted_ask w s)).0, λ f. (refused v e (noted_ask w s)).1)
-      by (Ok change) asks s = here (decide_number s u)
+      by : (y : Result (Change P) Refusal) → Each (Notes u x is v) y → NotedAfter (Updater u v) y
+      by (Err e) notes s = (both_same (u == s) _ _ (refused v e (started_by w s)).0, λ f. (refused v e (started_by w s)).1)
+      by (Ok change) notes s = here (decide_number s u)
         where
-          here : (s ≡ u) ⊎ (s ≢ u) → (noted_ask (changed w change) s ≡ asked_after s (noted_ask w s) (Updater u v, Ok (answer_of change))) × IsPolled s (noted_ask w s) (Updater u v, Ok (answer_of change))
+          here : (s ≡ u) ⊎ (s ≢ u) → (started_by (changed w change) s ≡ noted_after s (started_by w s) (w.grace.seq, Updater u v, Ok (answer_of change))) × IsPolled s (started_by w s) (w.grace.seq, Updater u v, Ok (answer_of change))
           here (inl e) =
-              subst (λ t. (noted_ask (changed w change) t ≡ asked_after t (noted_ask w t) (Updater u v, Ok (answer_of change))) × IsPolled t (noted_ask w t) (Updater u v, Ok (answer_of change))) (sym e)
-              (asks.own ∙ sym (itself u (asked_by v (Ok (answer_of change)) (noted_ask w u)) (noted_ask w u)), λ _. asks.polls)
+              subst (λ t. (started_by (changed w change) t ≡ noted_after t (started_by w t) (w.grace.seq, Updater u v, Ok (answer_of change))) × IsPolled t (started_by w t) (w.grace.seq, Updater u v, Ok (answer_of change))) (sym e)
+              (notes.own ∙ sym (itself u (noted_by v w.grace.seq (Ok (answer_of change)) (started_by w u)) (started_by w u)), λ _. notes.polls)
           here (inr apart) = (
-            asks.others s apart ∙ sym (another u s (asked_by v (Ok (answer_of change)) (noted_ask w s)) (noted_ask w s) apart),
+            notes.others s apart ∙ sym (another u s (noted_by v w.grace.seq (Ok (answer_of change)) (started_by w s)) (started_by w s) apart),
             λ e. absurd (apart (sym e)),
           )
 
   -- lines of readers and workers leave all notes
-  asked_beside : (line : Line) → ((s : ℕ) (n : Option ℕ) (a : Result Answer Refusal) → (asked_after s n (line, a) ≡ n) × IsPolled s n (line, a)) → (y : Result (Change P) Refusal) → Each Keeps y → AskedAfter line y
-  asked_beside line leaves (Err e) keeps s = (sym (leaves s (noted_ask w s) (Err e)).0, (leaves s (noted_ask w s) (Err e)).1)
-  asked_beside line leaves (Ok change) keeps s = (keeps s ∙ sym (leaves s (noted_ask w s) (Ok (answer_of change))).0, (leaves s (noted_ask w s) (Ok (answer_of change))).1)
+  noted_beside : (line : Line) → ((s : ℕ) (n : Option Started) (a : Result Answer Refusal) → (noted_after s n (w.grace.seq, line, a) ≡ n) × IsPolled s n (w.grace.seq, line, a)) → (y : Result (Change P) Refusal) → Each Keeps y → NotedAfter line y
+  noted_beside line leaves (Err e) keeps s = (sym (leaves s (started_by w s) (Err e)).0, (leaves s (started_by w s) (Err e)).1)
+  noted_beside line leaves (Ok change) keeps s = (keeps s ∙ sym (leaves s (started_by w s) (Ok (answer_of change))).0, (leaves s (started_by w s) (Ok (answer_of change))).1)
 
-  asked_step : (line : Line) → AskedAfter line (change_of plans w line)
-  asked_step (Reader r v) = asked_beside (Reader r v) (λ s n a. (refl, tt)) (of_reader plans.qsbr w r v (slice_get w.readers r)) (by (slice_get w.readers r))
+  noted_step : (line : Line) → NotedAfter line (change_of plans w line)
+  noted_step (Reader r v) = noted_beside (Reader r v) (λ s n a. (refl, tt)) (of_reader plans.qsbr w r v (slice_get w.readers r)) (by (slice_get w.readers r))
     where
       read : (y : Result ReaderStep Refusal) → Each Keeps (read_by r y)
       read (Ok step) = λ s. refl
@@ -280,8 +278,8 @@ module _ {P : Type 0} (plans : Plans P) (w : BoardView P) where
       by : (x : Option ReaderState) → Each Keeps (of_reader plans.qsbr w r v x)
       by None = tt
       by (Some x) = read (reader_line plans.qsbr w r x v)
-  asked_step (Updater u v) = asked_updater u v (slice_get w.updaters u) refl
-  asked_step (Worker k v) = asked_beside (Worker k v) (λ s n a. (refl, tt)) (of_worker plans w k v (slice_get w.workers k)) (by (slice_get w.workers k))
+  noted_step (Updater u v) = noted_updater u v (slice_get w.updaters u) refl
+  noted_step (Worker k v) = noted_beside (Worker k v) (λ s n a. (refl, tt)) (of_worker plans w k v (slice_get w.workers k)) (by (slice_get w.workers k))
     where
       by : (x : Option (WorkerState P)) → Each Keeps (of_worker plans w k v x)
       by None = tt
@@ -289,11 +287,11 @@ module _ {P : Type 0} (plans : Plans P) (w : BoardView P) where
 
 -- ---- all lines
 
-pub asked_lines : {P : Type 0} (plans : Plans P) (w : BoardView P) (lines : List Line) (s : ℕ) →
-    (noted_ask (world_after plans w lines) s ≡ asked_last s (noted_ask w s) (exchanged plans w lines)) × ArePolled s (noted_ask w s) (exchanged plans w lines)
-asked_lines plans w [] s = (refl, tt)
-asked_lines plans w (line ∷ lines) s =
+pub noted_lines : {P : Type 0} (plans : Plans P) (w : BoardView P) (lines : List Line) (s : ℕ) →
+    (started_by (world_after plans w lines) s ≡ noted_last s (started_by w s) (exchanged plans w lines)) × ArePolled s (started_by w s) (exchanged plans w lines)
+noted_lines plans w [] s = (refl, tt)
+noted_lines plans w (line ∷ lines) s =
     let next = (outcome_of plans w line).world in
-    let step = asked_step plans w line s in
-    let rest = subst (λ n. (noted_ask (world_after plans next lines) s ≡ asked_last s n (exchanged plans next lines)) × ArePolled s n (exchanged plans next lines)) step.0 (asked_lines plans next lines s) in
+    let step = noted_step plans w line s in
+    let rest = subst (λ n. (started_by (world_after plans next lines) s ≡ noted_last s n (exchanged plans next lines)) × ArePolled s n (exchanged plans next lines)) step.0 (noted_lines plans next lines s) in
     (rest.0, (step.1, rest.1))

@@ -1,10 +1,11 @@
 -- What readers and updaters note, told by what their lines were answered.
 use Rattle.std.specs.Prelude.{◌≡◌, ℕ, ◌==◌, if◌then◌else◌, List, [], ◌∷◌, get_or, Option, Some, None, Result, Ok}
-use Rattle.std.specs.Option.{option_map, option_or}
+use Rattle.std.specs.Option.{option_or}
 use Rattle.rcu_model.specs.declared.event.Event.{Event}
-use Rattle.rcu_model.specs.declared.event.Event.TheVariants.{Open, Close, First, Next, Touch, Answer as Answered}
+use Rattle.rcu_model.specs.declared.event.Event.TheVariants.{Open, Close, First, Next, Touch, Ask, Answer as Answered}
 use Rattle.rcu_model.specs.declared.event.ObjectId.{ObjectId}
 use Rattle.rcu_model.specs.declared.refusal.Refusal.{Refusal}
+use Rattle.poll_cookie.specs.Cookie.{cookie_for}
 use Rattle.world_state.specs.declared.line.Answer.{Answer}
 use Rattle.world_state.specs.declared.line.Answer.TheVariants.{Events}
 use Rattle.world_state.specs.declared.line.Line.{Line}
@@ -14,7 +15,6 @@ use Rattle.world_state.specs.declared.line.UpdaterVerb.TheVariants.{Start, Poll}
 use Rattle.world_state.specs.declared.updater.Started.{Started}
 use Rattle.world_state.specs.Readers.{new_reader}
 use Rattle.world_state.specs.View.{Plans, BoardView, idle}
-use Rattle.world.specs.Given.{ask_of}
 use Rattle.world.specs.Lines.{outcome_of}
 use Rattle.world.specs.Steps.{WorldView, OfMemb, OfQsbr, memb_plans, qsbr_plans}
 
@@ -42,59 +42,69 @@ abbrev pub AreFromLast : ℕ → Option ObjectId → List Event → Type 0
 AreFromLast r got [] = Unit {0}
 AreFromLast r got (e ∷ es) = IsFromLast r got e × AreFromLast r (got_after r got e) es
 
--- ---- updaters: the ask of their latest `start`, until a `poll` answers it
+-- ---- updaters: the ask and the cookie of their latest `start`, until a `poll` answers it
 
--- a line, and what it was answered
+-- the sequence number before a line, the line, and what it was answered
 abbrev pub Exchange : Type 0
-Exchange = Line × Result Answer Refusal
+Exchange = ℕ × Line × Result Answer Refusal
 
-abbrev pub asked_by : UpdaterVerb → Result Answer Refusal → Option ℕ → Option ℕ
-asked_by Start (Ok (Events e second)) asked = ask_of e
-asked_by Poll (Ok (Events e second)) asked = None
-asked_by verb answer asked = asked
+abbrev pub note_of : Event → Result ℕ Refusal → Option Started
+note_of (Ask a) (Ok c) = Some (record { ask = a; cookie = c })
+note_of e cookie = None
 
-abbrev pub asked_after : ℕ → Option ℕ → Exchange → Option ℕ
-asked_after u asked (Updater v verb, answer) = if v == u then asked_by verb answer asked else asked
-asked_after u asked (Reader r verb, answer) = asked
-asked_after u asked (Worker k verb, answer) = asked
+abbrev pub noted_by : UpdaterVerb → ℕ → Result Answer Refusal → Option Started → Option Started
+noted_by Start seq (Ok (Events e second)) noted = note_of e (cookie_for seq)
+noted_by Poll seq (Ok (Events e second)) noted = None
+noted_by verb seq answer noted = noted
 
-abbrev pub asked_last : ℕ → Option ℕ → List Exchange → Option ℕ
-asked_last u asked [] = asked
-asked_last u asked (x ∷ xs) = asked_last u (asked_after u asked x) xs
+abbrev pub noted_after : ℕ → Option Started → Exchange → Option Started
+noted_after u noted (seq, Updater v verb, answer) = if v == u then noted_by verb seq answer noted else noted
+noted_after u noted (seq, Reader r verb, answer) = noted
+noted_after u noted (seq, Worker k verb, answer) = noted
 
--- what a `poll` of the updater answers is that ask
-abbrev pub IsOfAsked : UpdaterVerb → Result Answer Refusal → Option ℕ → Type 0
-IsOfAsked Poll (Ok (Events (Answered a) second)) asked = asked ≡ Some a
-IsOfAsked verb answer asked = Unit {0}
+abbrev pub noted_last : ℕ → Option Started → List Exchange → Option Started
+noted_last u noted [] = noted
+noted_last u noted (x ∷ xs) = noted_last u (noted_after u noted x) xs
 
-abbrev pub IsPolled : ℕ → Option ℕ → Exchange → Type 0
-IsPolled u asked (Updater v verb, answer) = v ≡ u → IsOfAsked verb answer asked
-IsPolled u asked (Reader r verb, answer) = Unit {0}
-IsPolled u asked (Worker k verb, answer) = Unit {0}
+-- what a `poll` of the updater tells is the answer to that ask
+abbrev pub IsAnswerTo : Option Started → Event → Type 0
+IsAnswerTo None e = ⊥
+IsAnswerTo (Some s) e = e ≡ Answered s.ask
 
-abbrev pub ArePolled : ℕ → Option ℕ → List Exchange → Type 0
-ArePolled u asked [] = Unit {0}
-ArePolled u asked (x ∷ xs) = IsPolled u asked x × ArePolled u (asked_after u asked x) xs
+abbrev pub IsOfNoted : UpdaterVerb → Result Answer Refusal → Option Started → Type 0
+IsOfNoted Poll (Ok (Events e second)) noted = IsAnswerTo noted e
+IsOfNoted verb answer noted = Unit {0}
+
+abbrev pub IsPolled : ℕ → Option Started → Exchange → Type 0
+IsPolled u noted (seq, Updater v verb, answer) = v ≡ u → IsOfNoted verb answer noted
+IsPolled u noted (seq, Reader r verb, answer) = Unit {0}
+IsPolled u noted (seq, Worker k verb, answer) = Unit {0}
+
+abbrev pub ArePolled : ℕ → Option Started → List Exchange → Type 0
+ArePolled u noted [] = Unit {0}
+ArePolled u noted (x ∷ xs) = IsPolled u noted x × ArePolled u (noted_after u noted x) xs
 
 -- ---- what they note
 
--- the reader's cursor, and the ask of the cookie that the updater noted
 abbrev pub cursor_of : {P : Type 0} → BoardView P → ℕ → Option ObjectId
 cursor_of w r = (get_or w.readers r new_reader).cursor
 
-abbrev pub noted_ask : {P : Type 0} → BoardView P → ℕ → Option ℕ
-noted_ask w u = option_map (λ (s : Started). s.ask) (get_or w.updaters u idle).started
+abbrev pub started_by : {P : Type 0} → BoardView P → ℕ → Option Started
+started_by w u = (get_or w.updaters u idle).started
 
 pub record AreNoted {P : Type 0} (w : BoardView P) (exchanges : List Exchange) : Type 0 where
   pub cursors : (r : ℕ) → cursor_of w r ≡ got_last r None w.log
   pub reads : (r : ℕ) → AreFromLast r None w.log
-  pub asks : (u : ℕ) → noted_ask w u ≡ asked_last u None exchanges
+  pub starts : (u : ℕ) → started_by w u ≡ noted_last u None exchanges
   pub polls : (u : ℕ) → ArePolled u None exchanges
 
 -- these lines, each with what it is answered
+abbrev pub exchange : {P : Type 0} → Plans P → BoardView P → Line → Exchange
+exchange plans w line = (w.grace.seq, line, (outcome_of plans w line).answer)
+
 abbrev pub exchanged : {P : Type 0} → Plans P → BoardView P → List Line → List Exchange
 exchanged plans w [] = []
-exchanged plans w (line ∷ lines) = (line, (outcome_of plans w line).answer) ∷ exchanged plans ((outcome_of plans w line).world) lines
+exchanged plans w (line ∷ lines) = exchange plans w line ∷ exchanged plans ((outcome_of plans w line).world) lines
 
 abbrev pub exchanges_of : WorldView → List Line → List Exchange
 exchanges_of (OfMemb w) lines = exchanged memb_plans w lines

@@ -20,8 +20,8 @@ pub(crate) fn board_notes_are_of_the_latest_line<P: WorldPlan>()
 /// For every config and first sequence number that make a world, and all lines: a reader stands on the object that it
 /// got last in the section that is open, if it got one there, and on none where no section is open; each `next` goes on
 /// from that object, and each `touch` is of it. The cookie that an updater's `poll` asks about is that of its latest
-/// `start` that was answered, until a `poll` was answered, and there is none before; what a `poll` answers is that
-/// `start`'s ask.
+/// `start` that was answered, taken from the sequence number of then, until a `poll` was answered, and there is none
+/// before; what a `poll` answers is the ask of that `start`.
 pub fn notes_are_of_the_latest_line()
     ensures { (config : Config) (seq : ℕ) (lines : List Line) → IsTrue (is_supported_at config seq) → NotesAreOfTheLatest (world_after_lines (fresh_world_at config seq) lines) (exchanges_of (fresh_world_at config seq) lines) }
 {
