@@ -216,7 +216,7 @@ module _ {P : Type 0} (plans : Plans P) (w : BoardView P) where
     clears = λ u x b at s. (refl, (tt, tt));
     takes = λ k x tickets at s. (refl, tt);
     works = λ k x sync tickets step at is s. nothing_read (holder.Worker k) (ask_for w x.ask sync) sync step (fits_step plans w (holder.Worker k) (ask_for w x.ask sync) sync step is) s (cursor_of w s);
-    runs = λ k x tickets core mark o at s. (refl, (tt, tt));
+    runs = λ k x tickets core mark first at is s. (refl, (tt, tt));
     counts = λ k x tickets ticket item core at s. (refl, tt);
   }
 
