@@ -21,7 +21,8 @@ trait Front: Copy {
     /// How it is read.
     ghost read: { List ℕ → Reading Self };
 
-    /// What stands first in the text, and what comes after it; or the bytes from the first bad one on.
+    /// What stands first in the text, and what comes after it; or the bytes from the first bad one on, of which there are
+    /// none where the text may go on.
     fn front(text: &[u8]) -> Result<(Self, &[u8]), &[u8]>
         ensures { Gives (λ x. x) result (read text.now) };
 }
@@ -76,7 +77,7 @@ impl Held {
         self.len
     }
 
-    /// The same as `next`, where something is held.
+    /// The same as `next`, where something is held: byte by byte, so that no more than one header or line is kept.
     fn cut<'a, T: Front>(&mut self, text: &'a [u8]) -> Result<Option<(T, &'a [u8])>, usize>
         requires { IsIncremental T.read }
         ensures next { T.read self.old ≡ Err [] → Next T.read self.old text.now self.new result }
@@ -99,7 +100,8 @@ impl Held {
         Ok(None)
     }
 
-    /// What stands first in what is held and the text, as `next_header` says it of a header.
+    /// What stands first in what is held and the text, and what follows it, if it is whole; else the text is held. Or the
+    /// column of a byte with which it does not go on.
     fn next<'a, T: Front>(&mut self, text: &'a [u8]) -> Result<Option<(T, &'a [u8])>, usize>
         requires { IsIncremental T.read }
         ensures next { T.read self.old ≡ Err [] → Next T.read self.old text.now self.new result }
@@ -128,7 +130,8 @@ impl Held {
         self.next(text)
     }
 
-    /// The same of a line.
+    /// The line that stands first in what is held and the text, and what follows it, if it is whole; else the text is
+    /// held. Or the column of a byte with which no line goes on.
     #[tactic(auto, using(crate::proofs::Short::line_incremental))]
     pub fn next_line<'a>(&mut self, text: &'a [u8]) -> Result<Option<(Line, &'a [u8])>, usize>
         ensures next { line_at self.old ≡ Err [] → Next line_at self.old text.now self.new result }

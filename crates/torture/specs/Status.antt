@@ -58,8 +58,8 @@ status_of_words _ = 3
 abbrev pub IsStatus : ℕ → Type 0
 IsStatus status = (status ≡ 0) ⊎ (status ≡ 1) ⊎ (status ≡ 2) ⊎ (status ≡ 3)
 
--- the words say a command, which ends so; or clap refuses them, and that is told
-abbrev pub EndsAfter : List Text → ℕ → Type 0
-EndsAfter words status =
-    ((said : Command) × SayCommand words said × ((given left before after : Option (List ℕ)) × Executes said given left before after status))
-    ⊎ ((error : Error) × IsRefused words error × EndsBy (kind_of error) status)
+-- the words say a command, which does and ends so; or clap refuses them, which is told, and nothing is read or written
+abbrev pub EndsAfter : List Text → Option (List ℕ) → Option (List ℕ) → Option (List ℕ) → Option (List ℕ) → ℕ → Type 0
+EndsAfter words given left before after status =
+    ((said : Command) × SayCommand words said × Executes said given left before after status)
+    ⊎ (((error : Error) × IsRefused words error × EndsBy (kind_of error) status) × (left ≡ given) × (after ≡ before))

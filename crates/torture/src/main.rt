@@ -16,6 +16,7 @@ mod walking;
 mod words;
 
 use execution::execute;
+use std::io::{Read, Write};
 use std::process::ExitCode;
 use std::{env, io};
 use words::{WordsFault, read_words};
@@ -54,11 +55,17 @@ fn own_words(rt: &HostRuntime) -> io::Result<Vec<String>> {
     Ok(env::args(rt)?.collect(rt.alloc())?)
 }
 
-/// Executes the command of these words, or tells why they give none, or why they cannot be had. Answers what the
-/// program ends with.
-fn run(rt: &HostRuntime, words: io::Result<Vec<String>>) -> u8
+/// Executes the command of these words, from the reader to the writer, or tells why they give none, or why they cannot
+/// be had. Answers what the program ends with.
+fn run<R: Read, W: Write, F: Write>(
+    rt: &HostRuntime,
+    words: io::Result<Vec<String>>,
+    reader: &mut R,
+    writer: &mut W,
+    faults: &mut F,
+) -> u8
     ensures status { IsStatus result }
-    ensures had { IfOk words (λ words. EndsAfter (map string_bytes words.items) result) }
+    ensures had { IfOk words (λ words. EndsAfter (map string_bytes words.items) (R.remaining reader.old) (R.remaining reader.new) (W.contents writer.old) (W.contents writer.new) result) }
     ensures not_had { IfErr words (λ fault. result ≡ status_of_words (error_kind fault)) }
 {
     let words = match words {
@@ -66,19 +73,20 @@ fn run(rt: &HostRuntime, words: io::Result<Vec<String>>) -> u8
         Err(fault) => return tell_unreadable(rt, &fault),
     };
     match read_words(rt.alloc(), &words) {
-        Ok(command) => execute(
-            rt.alloc(),
-            command,
-            &mut rt.reader(),
-            &mut io::writer(rt),
-            &mut rt.stderr(),
-        ),
+        Ok(command) => execute(rt.alloc(), command, reader, writer, faults),
         Err(fault) => tell(rt, &fault),
     }
 }
 
 fn main(rt: HostRuntime) -> ExitCode {
-    ExitCode::from(run(&rt, own_words(&rt)))
+    let words = own_words(&rt);
+    ExitCode::from(run(
+        &rt,
+        words,
+        &mut rt.reader(),
+        &mut io::writer(&rt),
+        &mut rt.stderr(),
+    ))
 }
 
 #[cfg(test)]

@@ -101,7 +101,7 @@ pub const FLAVOURS: &[&str] = &["memb", "qsbr"];
 fn number<'a>(alloc: Global, name: &'a str, least: u64, most: u64, help: &'a str) -> Arg<'a>
     ensures rule { rule_of result ≡ number_rule name.entry.now least most }
     ensures own { result.global ≡ false }
-    ensures told { result.help ≡ Some help.entry }
+    ensures help { result.help ≡ Some help.entry }
 {
     Arg::new(alloc, name)
         .long(name)

@@ -142,7 +142,7 @@ fn parsed<'a, S: AsStr>(alloc: Global, words: &'a [S]) -> Result<ArgMatches<'a>,
     program(alloc)?.try_get_matches_from(words)
 }
 
-/// The fault of a walk in which nobody is who stops, as `clap` tells it of a number out of its range.
+/// The fault of a walk in which nobody is who stops, told as `clap` tells of a number out of its range.
 fn no_such_actor(alloc: Global, walk: &Walk) -> Result<Error, AllocError>
     ensures { IfOk result (λ e. kind_of e ≡ ValueValidation) }
 {
@@ -178,6 +178,7 @@ pub fn read_words<S: AsStr>(alloc: Global, words: &[S]) -> Result<Command, Words
     if walk.is_within_limits() {
         return Ok(command);
     }
+    // `clap` has bounded every other number.
     match no_such_actor(alloc, &walk) {
         Ok(error) => Err(WordsFault { error }),
         Err(refused) => Err(WordsFault {

@@ -44,6 +44,7 @@ pub mod TestsOfScans
 pub mod TestsOfGrace
 pub mod TestsOfUpdaters
 pub mod TestsOfLines
+pub mod TestsOfSteps
 pub mod RunOrder
 pub mod NotesOfReaders
 pub mod NotesOfUpdaters

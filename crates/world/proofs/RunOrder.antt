@@ -52,7 +52,7 @@ use Rattle.world_state.proofs.Queueing.{Items, Has, InQueue, has_stands, queue_a
 use Rattle.world.specs.declared.grace.GraceStep.{GraceStep}
 use Rattle.world.specs.Lines.{with_change, outcome_of, world_after, change_of, reader_line, read_by}
 use Rattle.world.specs.Queues.{queue_of, retire_on}
-use Rattle.world.specs.RunOrder.{queued_by, run_by, queued_in, run_from, RunInOrder}
+use Rattle.world.specs.RunOrder.{queued_by, run_by, queued_into, run_from, RunInOrder}
 use Rattle.world.specs.Workers.{ask_for, act_for, worker_act, first_in}
 use Rattle.world.proofs.Callbacks.{IsOther, LifeKept, RetireKept, WorkAt, WorkKept, at_queues}
 use Rattle.world.proofs.Fence.{Laws}
@@ -115,7 +115,7 @@ all_reclaimed now (e ∷ es) o (inr h) = all_reclaimed (after now e) es o (one_r
 -- events that neither queue nor run a callback
 record NoTurn (es : List Event) : Type 0 where
   runs : filter_map run_by es ≡ []
-  queues : (q : ℕ) → queued_in q es ≡ []
+  queues : (q : ℕ) → queued_into q es ≡ []
 
 other_runs : (e : Event) → IsOther e → (run_by e ≡ None) × ((q : ℕ) → queued_by q e ≡ None)
 other_runs (events.Open s) h = (refl, λ q. refl)
@@ -141,7 +141,7 @@ others_run (e ∷ es) h =
     let more = others_run es h.1 in
     record {
       runs = ap (λ x. cons_option x (filter_map run_by es)) one.0 ∙ more.runs;
-      queues = λ q. ap (λ x. cons_option x (queued_in q es)) (one.1 q) ∙ more.queues q;
+      queues = λ q. ap (λ x. cons_option x (queued_into q es)) (one.1 q) ∙ more.queues q;
     }
 
 none_more : (f : Event → Option ObjectId) (log es : List Event) → filter_map f es ≡ [] → filter_map f (log ++ es) ≡ filter_map f log
@@ -167,13 +167,13 @@ not_there os o none = by (has_object os o) refl
     by true e = absurd (none (in_objects os o e))
     by false e = e
 
-queued_here : (q : ℕ) (o : ObjectId) → queued_in q (events.Queue o q ∷ []) ≡ o ∷ []
+queued_here : (q : ℕ) (o : ObjectId) → queued_into q (events.Queue o q ∷ []) ≡ o ∷ []
 queued_here q o = ⊎_elim
     (λ (y : ((q == q) ≡ true) × (q ≡ q)). ap (λ b. cons_option (if b then Some o else None) []) y.0)
     (λ (n : ((q == q) ≡ false) × (q ≢ q)). absurd (n.1 refl))
     (eqb_tells q q)
 
-queued_else : (j q : ℕ) (o : ObjectId) → q ≢ j → queued_in q (events.Queue o j ∷ []) ≡ []
+queued_else : (j q : ℕ) (o : ObjectId) → q ≢ j → queued_into q (events.Queue o j ∷ []) ≡ []
 queued_else j q o apart = ⊎_elim
     (λ (y : ((j == q) ≡ true) × (j ≡ q)). absurd (apart (sym y.1)))
     (λ (n : ((j == q) ≡ false) × (j ≢ q)). ap (λ b. cons_option (if b then Some o else None) []) n.0)
@@ -199,14 +199,14 @@ waiting_in q = objects_of (items_of q.items)
 
 -- of each queue: what was queued in it has run, in order, or waits in it, in order
 abbrev InTurn : List Event → List QueueState → Type 0
-InTurn log qs = (q : ℕ) → queued_in q log ≡ run_from q log ++ waiting_in (queue_at qs q)
+InTurn log qs = (q : ℕ) → queued_into q log ≡ run_from q log ++ waiting_in (queue_at qs q)
 
 -- these events told nothing of this queue
 abbrev Passes : List Event → List Event → ℕ → Type 0
-Passes log es q = (queued_in q (log ++ es) ≡ queued_in q log) × (run_from q (log ++ es) ≡ run_from q log)
+Passes log es q = (queued_into q (log ++ es) ≡ queued_into q log) × (run_from q (log ++ es) ≡ run_from q log)
 
 -- nothing was queued in it, and what ran was none of its objects
-passes : (log es : List Event) (q : ℕ) → queued_in q es ≡ [] → filter (λ o. has_object (queued_in q log) o) (runs_of es) ≡ [] → Passes log es q
+passes : (log es : List Event) (q : ℕ) → queued_into q es ≡ [] → filter (λ o. has_object (queued_into q log) o) (runs_of es) ≡ [] → Passes log es q
 passes log es q none unseen = (
   same,
   ap (λ os. filter (λ o. has_object os o) (runs_of (log ++ es))) same
@@ -217,18 +217,18 @@ passes log es q none unseen = (
 )
   where
     here : ObjectId → Bool
-    here o = has_object (queued_in q log) o
+    here o = has_object (queued_into q log) o
 
-    same : queued_in q (log ++ es) ≡ queued_in q log
+    same : queued_into q (log ++ es) ≡ queued_into q log
     same = none_more (queued_by q) log es none
 
-turn_over : (log es : List Event) (q : ℕ) (ws ws' : List ObjectId) → Passes log es q → ws' ≡ ws → queued_in q log ≡ run_from q log ++ ws →
-    queued_in q (log ++ es) ≡ run_from q (log ++ es) ++ ws'
+turn_over : (log es : List Event) (q : ℕ) (ws ws' : List ObjectId) → Passes log es q → ws' ≡ ws → queued_into q log ≡ run_from q log ++ ws →
+    queued_into q (log ++ es) ≡ run_from q (log ++ es) ++ ws'
 turn_over log es q ws ws' same stay k = same.0 ∙ k ∙ ap (λ l. l ++ ws) (sym same.1) ∙ ap (λ l. run_from q (log ++ es) ++ l) (sym stay)
 
 quiet : (log : List Event) (qs qs' : List QueueState) (es : List Event) → NoTurn es → ((q : ℕ) → waiting_in (queue_at qs' q) ≡ waiting_in (queue_at qs q)) → InTurn log qs → InTurn (log ++ es) qs'
 quiet log qs qs' es none stay k q =
-    turn_over log es q _ _ (passes log es q (none.queues q) (ap (filter (λ o. has_object (queued_in q log) o)) none.runs)) (stay q) (k q)
+    turn_over log es q _ _ (passes log es q (none.queues q) (ap (filter (λ o. has_object (queued_into q log) o)) none.runs)) (stay q) (k q)
 
 -- one is queued that did not run
 queues_one : (log : List Event) (qs qs' : List QueueState) (j : ℕ) (o : ObjectId) → (¬ In (runs_of log) o) → waiting_in (queue_at qs' j) ≡ waiting_in (queue_at qs j) ++ o ∷ [] →
@@ -238,18 +238,18 @@ queues_one log qs qs' j o fresh here beside k q = by (decide_number q j)
     log' : List Event
     log' = log ++ events.Queue o j ∷ []
 
-    mine : queued_in j log' ≡ run_from j log' ++ waiting_in (queue_at qs' j)
+    mine : queued_into j log' ≡ run_from j log' ++ waiting_in (queue_at qs' j)
     mine =
-        let more : queued_in j log' ≡ queued_in j log ++ o ∷ [] = filter_map-append (queued_by j) log (events.Queue o j ∷ []) ∙ ap (λ l. queued_in j log ++ l) (queued_here j o) in
+        let more : queued_into j log' ≡ queued_into j log ++ o ∷ [] = filter_map-append (queued_by j) log (events.Queue o j ∷ []) ∙ ap (λ l. queued_into j log ++ l) (queued_here j o) in
         let runs : runs_of log' ≡ runs_of log = none_more run_by log (events.Queue o j ∷ []) refl in
         let same : run_from j log' ≡ run_from j log =
-        ap (λ os. filter (λ p. has_object os p) (runs_of log')) more ∙ ap (filter (λ p. has_object (queued_in j log ++ o ∷ []) p)) runs
-        ∙ filter_same (λ p. has_object (queued_in j log ++ o ∷ []) p) (λ p. has_object (queued_in j log) p) (runs_of log) (λ p h. has_more (queued_in j log) o p (λ e. fresh (subst (In (runs_of log)) (sym e) h))) in
+        ap (λ os. filter (λ p. has_object os p) (runs_of log')) more ∙ ap (filter (λ p. has_object (queued_into j log ++ o ∷ []) p)) runs
+        ∙ filter_same (λ p. has_object (queued_into j log ++ o ∷ []) p) (λ p. has_object (queued_into j log) p) (runs_of log) (λ p h. has_more (queued_into j log) o p (λ e. fresh (subst (In (runs_of log)) (sym e) h))) in
         more ∙ ap (λ l. l ++ o ∷ []) (k j) ∙ append_assoc (run_from j log) (waiting_in (queue_at qs j)) (o ∷ [])
         ∙ ap (λ l. run_from j log ++ l) (sym here) ∙ ap (λ l. l ++ waiting_in (queue_at qs' j)) (sym same)
 
-    by : (q ≡ j) ⊎ (q ≢ j) → queued_in q log' ≡ run_from q log' ++ waiting_in (queue_at qs' q)
-    by (inl e) = subst (λ n. queued_in n log' ≡ run_from n log' ++ waiting_in (queue_at qs' n)) (sym e) mine
+    by : (q ≡ j) ⊎ (q ≢ j) → queued_into q log' ≡ run_from q log' ++ waiting_in (queue_at qs' q)
+    by (inl e) = subst (λ n. queued_into n log' ≡ run_from n log' ++ waiting_in (queue_at qs' n)) (sym e) mine
     by (inr apart) = turn_over log (events.Queue o j ∷ []) q _ _ (passes log (events.Queue o j ∷ []) q (queued_else j q o apart) refl) (beside q apart) (k q)
 
 -- the first of a queue runs, which waits in no other and did not run
@@ -260,31 +260,31 @@ runs_first log qs qs' j o fresh first beside k q = by (decide_number q j)
     es : List Event
     es = events.Run o ∷ []
 
-    mine : queued_in j (log ++ es) ≡ run_from j (log ++ es) ++ waiting_in (queue_at qs' j)
+    mine : queued_into j (log ++ es) ≡ run_from j (log ++ es) ++ waiting_in (queue_at qs' j)
     mine =
-        let same : queued_in j (log ++ es) ≡ queued_in j log = none_more (queued_by j) log es refl in
-        let is : queued_in j log ≡ run_from j log ++ o ∷ waiting_in (queue_at qs' j) = k j ∙ ap (λ l. run_from j log ++ l) first in
-        let there : has_object (queued_in j log) o ≡ true = has_object_in (queued_in j log) o (subst (λ l. In l o) (sym is) (in_right (run_from j log) (o ∷ waiting_in (queue_at qs' j)) o (inl refl))) in
+        let same : queued_into j (log ++ es) ≡ queued_into j log = none_more (queued_by j) log es refl in
+        let is : queued_into j log ≡ run_from j log ++ o ∷ waiting_in (queue_at qs' j) = k j ∙ ap (λ l. run_from j log ++ l) first in
+        let there : has_object (queued_into j log) o ≡ true = has_object_in (queued_into j log) o (subst (λ l. In l o) (sym is) (in_right (run_from j log) (o ∷ waiting_in (queue_at qs' j)) o (inl refl))) in
         let more : run_from j (log ++ es) ≡ run_from j log ++ o ∷ [] =
-        ap (λ os. filter (λ p. has_object os p) (runs_of (log ++ es))) same ∙ ap (filter (λ p. has_object (queued_in j log) p)) (filter_map-append run_by log es)
-        ∙ filter-append (λ p. has_object (queued_in j log) p) (runs_of log) (o ∷ []) ∙ ap (λ b. run_from j log ++ cond b (o ∷ []) []) there in
+        ap (λ os. filter (λ p. has_object os p) (runs_of (log ++ es))) same ∙ ap (filter (λ p. has_object (queued_into j log) p)) (filter_map-append run_by log es)
+        ∙ filter-append (λ p. has_object (queued_into j log) p) (runs_of log) (o ∷ []) ∙ ap (λ b. run_from j log ++ cond b (o ∷ []) []) there in
         same ∙ is ∙ sym (append_assoc (run_from j log) (o ∷ []) (waiting_in (queue_at qs' j))) ∙ ap (λ l. l ++ waiting_in (queue_at qs' j)) (sym more)
       where
         in_right : (xs ys : List ObjectId) (x : ObjectId) → In ys x → In (xs ++ ys) x
         in_right [] ys x h = h
         in_right (y ∷ xs) ys x h = inr (in_right xs ys x h)
 
-    others : q ≢ j → queued_in q (log ++ es) ≡ run_from q (log ++ es) ++ waiting_in (queue_at qs' q)
-    others apart = turn_over log es q _ _ (passes log es q refl (ap (λ b. cond b (o ∷ []) []) (not_there (queued_in q log) o none))) ((beside q apart).0) (k q)
+    others : q ≢ j → queued_into q (log ++ es) ≡ run_from q (log ++ es) ++ waiting_in (queue_at qs' q)
+    others apart = turn_over log es q _ _ (passes log es q refl (ap (λ b. cond b (o ∷ []) []) (not_there (queued_into q log) o none))) ((beside q apart).0) (k q)
       where
-        none : ¬ In (queued_in q log) o
+        none : ¬ In (queued_into q log) o
         none h = ⊎_elim
-            (λ (ran : In (run_from q log) o). fresh ((filter_has (λ p. has_object (queued_in q log) p) (runs_of log) o ran).0))
+            (λ (ran : In (run_from q log) o). fresh ((filter_has (λ p. has_object (queued_into q log) p) (runs_of log) o ran).0))
             (λ (waits : In (waiting_in (queue_at qs q)) o). (beside q apart).1 waits)
             (in_append (run_from q log) (waiting_in (queue_at qs q)) o (subst (λ l. In l o) (k q) h))
 
-    by : (q ≡ j) ⊎ (q ≢ j) → queued_in q (log ++ es) ≡ run_from q (log ++ es) ++ waiting_in (queue_at qs' q)
-    by (inl e) = subst (λ n. queued_in n (log ++ es) ≡ run_from n (log ++ es) ++ waiting_in (queue_at qs' n)) (sym e) mine
+    by : (q ≡ j) ⊎ (q ≢ j) → queued_into q (log ++ es) ≡ run_from q (log ++ es) ++ waiting_in (queue_at qs' q)
+    by (inl e) = subst (λ n. queued_into n (log ++ es) ≡ run_from n (log ++ es) ++ waiting_in (queue_at qs' n)) (sym e) mine
     by (inr apart) = others apart
 
 -- one queue changes, and not what waits in it

@@ -26,7 +26,7 @@ use Rattle.world_state.specs.Queues.{empty_queue_state}
 use Rattle.world_state.specs.View.{answer_of}
 use Rattle.world.specs.Chains.{writes, linked_by, push_row, replace_row, cut_row}
 use Rattle.world.specs.Locks.{lock_of}
-use Rattle.world.specs.Queues.{queue_of, is_cut, is_kept, may_retire as table_may_retire, lock_free, lock_row, finished_in}
+use Rattle.world.specs.Queues.{queue_of, is_cut, is_kept, may_retire, lock_free, lock_row, finished_in}
 use Rattle.world.proofs.Fence.{Laws}
 use Rattle.world.proofs.Logged.{Logged}
 use Rattle.world_state.specs.declared.object.Stage.TheVariants.{Fresh, Linked}
@@ -49,7 +49,7 @@ use Rattle.world.specs.Tests.{tests_of_barrier, tests_of_place, updater_tests}
 use Rattle.world.proofs.State.{UpdaterKept}
 use Rattle.world.specs.Grace.{start_row, poll_row}
 use Rattle.world.specs.Lines.{updater_begins}
-use Rattle.world.specs.Tests.{first_failing, may_leave, may_retire, tests_of_update}
+use Rattle.world.specs.Tests.{first_failing, may_leave, is_retirable, tests_of_update}
 use Rattle.world.proofs.Tests.{Fails, tested_not, found, IsStill, ChangesBy}
 use Rattle.world.proofs.State.{Syncing, place_work, updater_at}
 use Rattle.world.proofs.TestsOfScans.{ScansExactly, PlaceShows, Shown, ShownIn, StaysShown, updater_shown}
@@ -86,7 +86,7 @@ linked_same {P} plans w Keeps u f none some o = by o
     by (Some y) = tests y (is_linked y.stage) (writes w u y.chain)
 
 -- and one that may be retired
-retire_same : {P : Type 0} (plans : Plans P) (w : BoardView P) (u : ℕ) (o : Option ObjectState) → table_may_retire w u o ≡ option_map_or (may_retire plans w u) o false
+retire_same : {P : Type 0} (plans : Plans P) (w : BoardView P) (u : ℕ) (o : Option ObjectState) → may_retire w u o ≡ option_map_or (is_retirable plans w u) o false
 retire_same plans w u None = refl
 retire_same plans w u (Some y) = by (is_cut y.stage) (is_kept y.life) (writes w u y.chain)
   where
@@ -173,7 +173,7 @@ module _ {P : Type 0} (plans : Plans P) (layout : Layout) (slots : ℕ) (laws : 
     update_by (updater.Retire o) h =
         subst (λ b. By (updater_begins plans w u x (updater.Retire o)) (cond (not b) (Some (Err NoPlace)) (cond (is_some (lock_of w (queue_of w u))) (Some (Ok Blocked)) None)))
         (retire_same plans w u (slice_get w.objects o.0))
-        (tested_not answer_of IsFine (table_may_retire w u (slice_get w.objects o.0)) _ (Err NoPlace) (Err NoPlace) _ (λ _. by_retire o) (λ _. refl))
+        (tested_not answer_of IsFine (may_retire w u (slice_get w.objects o.0)) _ (Err NoPlace) (Err NoPlace) _ (λ _. by_retire o) (λ _. refl))
     update_by updater.Sync h =
         synced_by plans layout slots laws scans w l k u x there (w.grace.asks + 1) _ _
         (ask_by plans layout slots laws scans w l k (Syncing u) (holder.Updater u) (w.grace.asks + 1))

@@ -1,11 +1,13 @@
--- What the world's laws go by of a plan: the clauses of the traits that it meets, over the plans that a world makes.
+-- Clauses of the traits that a plan meets, over the plans that a world makes: by these every law of worlds goes, and that
+-- of tests by three more.
 use Rattle.std.specs.Prelude.{◌≡◌, ◌≤◌, ℕ, true, List}
 use Rattle.reader_word.specs.declared.layout.Layout.{Layout}
 use Rattle.gp_memb.specs.declared.plan.Action.TheVariants.{StorePhase}
 use Rattle.gp_memb.specs.Plan.{after_loads, WaitsForOpen, StoresInOrder, MayStore, IsPresent, present_after}
 use Rattle.world_state.specs.View.{Plans}
 
--- `begun seq word p`: the plan is as it was made beside these words; `present p`: the word that readers load then
+-- `begun seq word p`: p has done nothing yet, and was made with this sequence number and this phase or number;
+-- `present p`: the phase or number that p stored last, or was made with
 pub record PlanLaws {P : Type 0} (plans : Plans P) (layout : Layout) (slots : ℕ) (begun : ℕ → ℕ → P → Type 0) (present : P → ℕ) : Type 0 where
   pub made : (seq word : ℕ) → begun seq word (plans.made layout slots seq word)
   pub order : (seq word : ℕ) (p : P) → begun seq word p → StoresInOrder plans.action plans.taken seq p

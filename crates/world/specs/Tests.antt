@@ -3,7 +3,7 @@ use Rattle.std.specs.Prelude.{◌≡◌, ℕ, ◌^◌, ◌==◌, ◌&&◌, nat_l
 use Rattle.std.specs.Option.{is_none, option_map_or}
 use Rattle.rcu_model.specs.declared.event.ObjectId.{ObjectId}
 use Rattle.rcu_model.specs.declared.refusal.Refusal.{Refusal}
-use Rattle.rcu_model.specs.declared.refusal.Refusal.TheVariants.{NoActor, Busy, NotOpen, WrongFlavour, NoPlace, NestFull, Exhausted}
+use Rattle.rcu_model.specs.declared.refusal.Refusal.TheVariants.{NoActor, Busy, NotOpen, WrongFlavour, NoPlace, NestFull, Exhausted, Memory}
 use Rattle.reader_word.specs.Word.{count_of, greatest_count}
 use Rattle.reader_word.specs.Quiescent.{is_online}
 use Rattle.gp_memb.specs.declared.plan.Action.{Action}
@@ -41,7 +41,7 @@ use Rattle.world.specs.Chains.{writes}
 use Rattle.world.specs.Lines.{is_idle, outcome_of}
 use Rattle.world.specs.Locks.{lock_of}
 use Rattle.world.specs.Queues.{queue_of, is_cut, is_kept}
-use Rattle.world.specs.Steps.{WorldView, OfMemb, OfQsbr, memb_plans, qsbr_plans}
+use Rattle.world.specs.Steps.{WorldView, OfMemb, OfQsbr, memb_plans, qsbr_plans, IsPrompt}
 use Rattle.world.specs.Workers.{is_resting}
 
 -- one test, and the answer where it fails
@@ -83,19 +83,19 @@ is_foreign qsbr verb = if qsbr then is_of_memb verb else is_of_qsbr verb
 
 module _ {P : Type 0} (plans : Plans P) (w : BoardView P) where
   -- the reader has an open section
-  abbrev pub in_section : ReaderState → Test
-  in_section v = refused_if (not (is_open_in plans.qsbr w.layout v.word)) NotOpen
+  abbrev pub section_test : ReaderState → Test
+  section_test v = refused_if (not (is_open_in plans.qsbr w.layout v.word)) NotOpen
 
-  -- what a verb that begins an operation asks of the reader itself
+  -- the own tests of a verb that begins a reader's operation
   abbrev pub tests_of_read : ReaderState → ReaderVerb → List Test
   tests_of_read v reader.Lock = refused_if (count_of w.layout v.word == greatest_count w.layout) NestFull ∷ []
   tests_of_read v reader.Unlock = refused_if (count_of w.layout v.word == 0) NotOpen ∷ []
   tests_of_read v reader.Online = refused_if (is_online v.word) Busy ∷ []
   tests_of_read v reader.Quiescent = refused_if (not (is_online v.word)) NotOpen ∷ []
   tests_of_read v reader.Offline = refused_if (not (is_online v.word)) NotOpen ∷ []
-  tests_of_read v (reader.First c) = in_section v ∷ refused_if (nat_le (length w.heads) c) NoPlace ∷ []
-  tests_of_read v reader.Next = in_section v ∷ refused_if (is_none v.cursor) NoPlace ∷ []
-  tests_of_read v reader.Touch = in_section v ∷ refused_if (is_none v.cursor) NoPlace ∷ []
+  tests_of_read v (reader.First c) = section_test v ∷ refused_if (nat_le (length w.heads) c) NoPlace ∷ []
+  tests_of_read v reader.Next = section_test v ∷ refused_if (is_none v.cursor) NoPlace ∷ []
+  tests_of_read v reader.Touch = section_test v ∷ refused_if (is_none v.cursor) NoPlace ∷ []
   tests_of_read v reader.GoOn = []
 
   -- of a reader's line: `.` goes on with an operation, and any other verb begins one, if it is of the flavour
@@ -107,8 +107,8 @@ module _ {P : Type 0} (plans : Plans P) (w : BoardView P) where
       ∷ tests_of_read v verb
 
   -- sequence numbers are left for an ask
-  abbrev pub has_numbers : Test
-  has_numbers = refused_if (nat_le (2 ^ 62) w.grace.seq) Exhausted
+  abbrev pub numbers_test : Test
+  numbers_test = refused_if (nat_le (2 ^ 62) w.grace.seq) Exhausted
 
   -- the word of this slot stands in the way of the present phase or number
   abbrev pub is_in_the_way : ℕ → Bool
@@ -121,12 +121,12 @@ module _ {P : Type 0} (plans : Plans P) (w : BoardView P) where
 
   -- a grace period's next step, whoever waits for it: at the ask, at the lock, or at an action of the plan
   abbrev pub tests_of_sync : SyncCore P → List Test
-  tests_of_sync Asks = has_numbers ∷ []
+  tests_of_sync Asks = numbers_test ∷ []
   tests_of_sync (Waits cookie) = stalled_if (is_some w.grace.holder) Blocked ∷ []
   tests_of_sync (Runs cookie plan) = tests_of_action (plans.action plan)
   tests_of_sync core = []
 
-  -- a barrier's next step
+  -- a barrier's next step: it waits while the finished count is below the noted one
   abbrev pub tests_of_barrier : Barrier → BarrierStep → List Test
   tests_of_barrier b (Note q) = []
   tests_of_barrier b (Check q) =
@@ -143,28 +143,28 @@ module _ {P : Type 0} (plans : Plans P) (w : BoardView P) where
   may_leave u y = writes w u y.chain && is_linked y.stage
 
   -- it was cut from a chain that the updater writes, and was not retired
-  abbrev pub may_retire : ℕ → ObjectState → Bool
-  may_retire u y = writes w u y.chain && (is_cut y.stage && is_kept y.life)
+  abbrev pub is_retirable : ℕ → ObjectState → Bool
+  is_retirable u y = writes w u y.chain && (is_cut y.stage && is_kept y.life)
 
   -- the object of this number is there, and is so
-  abbrev pub is_one_that : (ObjectState → Bool) → ObjectId → Test
-  is_one_that so o = refused_if (not (option_map_or so (slice_get w.objects o.0) false)) NoPlace
+  abbrev pub object_test : (ObjectState → Bool) → ObjectId → Test
+  object_test so o = refused_if (not (option_map_or so (slice_get w.objects o.0) false)) NoPlace
 
   -- nobody holds the queue's lock
-  abbrev pub lock_is_free : ℕ → Test
-  lock_is_free q = stalled_if (is_some (lock_of w q)) Blocked
+  abbrev pub lock_test : ℕ → Test
+  lock_test q = stalled_if (is_some (lock_of w q)) Blocked
 
-  -- what a verb that begins an operation asks of the updater
+  -- the own tests of a verb that begins an updater's operation
   abbrev pub tests_of_update : ℕ → UpdaterState P → UpdaterVerb → List Test
   tests_of_update u x (updater.Push c) =
       refused_if (nat_le (length w.heads) c) NoPlace
       ∷ refused_if (not (writes w u c)) NoPlace
       ∷ []
-  tests_of_update u x (updater.Replace o) = is_one_that (may_leave u) o ∷ []
-  tests_of_update u x (updater.Cut o) = is_one_that (may_leave u) o ∷ []
-  tests_of_update u x (updater.Retire o) = is_one_that (may_retire u) o ∷ lock_is_free (queue_of w u) ∷ []
-  tests_of_update u x updater.Sync = has_numbers ∷ []
-  tests_of_update u x updater.Start = has_numbers ∷ []
+  tests_of_update u x (updater.Replace o) = object_test (may_leave u) o ∷ []
+  tests_of_update u x (updater.Cut o) = object_test (may_leave u) o ∷ []
+  tests_of_update u x (updater.Retire o) = object_test (is_retirable u) o ∷ lock_test (queue_of w u) ∷ []
+  tests_of_update u x updater.Sync = numbers_test ∷ []
+  tests_of_update u x updater.Start = numbers_test ∷ []
   tests_of_update u x updater.Poll =
       refused_if (is_none x.started) NotOpen
       ∷ stalled_if (option_map_or (λ s. nat_lt w.grace.seq s.cookie) x.started false) Wait
@@ -187,7 +187,7 @@ module _ {P : Type 0} (plans : Plans P) (w : BoardView P) where
   worker_tests k x worker.GoOn = refused_if (is_resting x.core) NotOpen ∷ tests_of_work x.core
   worker_tests k x worker.Take =
       refused_if (not (is_resting x.core)) Busy
-      ∷ lock_is_free k
+      ∷ lock_test k
       ∷ stalled_if (length (items_of (get_or w.queues k empty_queue_state).items) == 0) Idle
       ∷ []
 
@@ -209,7 +209,15 @@ pub record IsTested {P : Type 0} (plans : Plans P) (w : BoardView P) (line : Lin
   pub unchanged : (answer : Result Answer Refusal) → hindered (outcome_of plans w line).answer ≡ Some answer →
       (outcome_of plans w line).world ≡ w
 
--- a world of either flavour
+-- ---- of a world of either flavour
+
 abbrev pub tests_of : WorldView → Line → List Test
 tests_of (OfMemb w) line = line_tests memb_plans w line
 tests_of (OfQsbr w) line = line_tests qsbr_plans w line
+
+-- what came of a step is what the first test answers that fails, and the world is as it was; where none fails, the step
+-- is made, or memory for it was refused
+abbrev pub MeetsTests : Option (Result Answer Refusal) → WorldView → WorldView → Result Answer Refusal → Type 0
+MeetsTests (Some answer) old new result = (result ≡ answer) × (new ≡ old)
+MeetsTests None old new (Ok answer) = IsPrompt answer
+MeetsTests None old new (Err e) = (e ≡ Memory) × (new ≡ old)

@@ -269,7 +269,7 @@ impl<P: WorldPlan + Drop> Board<P> {
         Ok(answer)
     }
 
-    /// What a worker's step changes beside the log; any other changes nothing.
+    /// What a worker's step changes beside the log.
     pub(crate) fn work_now(&mut self, change: Change<P>)
         requires { MayMake (shown self.old) change }
         ensures world { PartOf Working change → shown self.new ≡ record (changed (shown self.old) change) { log = (shown self.old).log } }

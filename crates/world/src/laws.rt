@@ -19,7 +19,7 @@ use gp_qsbr::QsbrPlan;
 use rcu_model::callbacks_run_once_after_their_sections;
 use world_state::WorldPlan;
 
-/// What the laws of worlds go by of a plan.
+/// What each law of worlds goes by of a plan.
 pub(crate) fn plan_keeps_its_laws<P: WorldPlan>()
     ensures { (layout : Layout) (slots : ℕ) → 1 ≤ slots → PlanLaws (plans_of P.QSBR P.made P.action P.turn P.taken) layout slots (P.is_begun layout slots) P.present }
 {}

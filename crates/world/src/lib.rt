@@ -25,7 +25,6 @@ pub use locking::locks_are_held_by_those_inside;
 pub use noting::notes_are_of_the_latest_line;
 pub use numbering::{numbers_are_given_in_order, numbers_count_lines};
 pub use ordering::callbacks_run_in_the_order_of_their_queue;
-pub use testing::tests_are_made_in_order;
 pub use world::World;
 pub use world_state::{
     Answer, Config, Flavour, Layout, Line, ReaderVerb, StepError, UpdaterVerb, WorkerVerb,

@@ -6,12 +6,13 @@ ghost use Rattle.rcu_model.specs.Headline.{RunsOnceAfterItsSections, UsesNoRecla
 ghost use Rattle.rcu_model.specs.declared.refusal.Refusal.TheVariants.{BadConfig, Memory};
 ghost use Rattle.world.specs.Actors.{is_in_operation, objects_given};
 ghost use Rattle.world.specs.Drain.{MeetsDrain};
+ghost use Rattle.world.specs.Tests.{first_failing, tests_of, MeetsTests};
 ghost use Rattle.world.specs.Steps.{fresh_world, fresh_world_at, is_supported, is_supported_at, step_of, Meets, log_of, IsOfReader, IsPrompt};
 
 use crate::actor::Actor;
 use crate::board::Board;
 use crate::laws::{log_is_a_run, numbers_stay_in_range};
-use crate::testing::board_tests_are_made_in_order;
+use crate::testing::tests_are_made_in_order;
 use gp_memb::MembPlan;
 use gp_qsbr::QsbrPlan;
 use rcu_model::{Event, Refusal, callbacks_run_once_after_their_sections};
@@ -91,19 +92,19 @@ impl World {
     ///
     /// `Wait`, `Blocked`, `Idle` and a refusal leave the world as it was. The tests come in this order: `NoActor` for
     /// an actor that is not there; `Busy` for a verb in an operation, and `NotOpen` to go on in none; `WrongFlavour`;
-    /// then `NestFull`, `NotOpen`, `Busy`, `NoPlace` and `Exhausted` of the verb; then `Blocked`, `Idle` and `Wait`
-    /// (`tests_are_made_in_order`); and last `Memory`, where the log, the list of objects or a queue would grow.
+    /// then `NestFull`, `NotOpen`, `Busy`, `NoPlace` and `Exhausted` of the verb; then `Blocked`, `Idle` and `Wait`; and
+    /// last `Memory`, where the log, the list of objects or a queue would grow.
     pub fn step(&mut self, line: &Line) -> Result<Answer, StepError>
         ensures table { Meets (step_of self.old line.now) self.old self.new result }
-        // A step that is not made changes nothing.
-        ensures unmoved { IfOk result (λ a. IsPrompt a ⊎ (self.new ≡ self.old)) }
+        // Its tests are made in their order, and the first that fails is the answer.
+        ensures tests { MeetsTests (first_failing (tests_of self.old line.now)) self.old self.new result }
         // A reader waits for nobody.
         ensures prompt { IsOfReader line.now → IfOk result IsPrompt }
     {
         numbers_stay_in_range::<MembPlan>();
         numbers_stay_in_range::<QsbrPlan>();
-        board_tests_are_made_in_order::<MembPlan>();
-        board_tests_are_made_in_order::<QsbrPlan>();
+        tests_are_made_in_order::<MembPlan>();
+        tests_are_made_in_order::<QsbrPlan>();
         match &mut self.boards {
             Boards::Memb(board) => board.step(line),
             Boards::Qsbr(board) => board.step(line),

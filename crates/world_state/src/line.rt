@@ -75,7 +75,7 @@ pub enum Answer {
     Events { first: Event, second: Option<Event> },
     /// The step was made, and tells no event.
     Quiet,
-    /// A loaded word stands in the way. Nothing changed.
+    /// What was loaded is not yet as the step needs it. Nothing changed.
     Wait,
     /// A lock that the step needs free is held. Nothing changed.
     Blocked,

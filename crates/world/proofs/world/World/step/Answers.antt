@@ -3,12 +3,15 @@ use Rattle.world.specs.declared.world.Boards.{Boards}
 use Rattle.world.specs.declared.world.World.TheInside.{Inside}
 use Rattle.world.specs.Seen.{seen}
 use Rattle.world.specs.Shown.{shown}
-use Rattle.world.specs.Steps.{memb_plans, qsbr_plans, IsReachedWorld, IsPrompt}
+use Rattle.world.specs.Reached.{IsReached}
+use Rattle.world.specs.Steps.{OfMemb, OfQsbr, memb_plans, qsbr_plans, IsReachedWorld, IsPrompt}
+use Rattle.world.specs.Tests.{IsTested}
 use Rattle.std.specs.Prelude.{Result, IfOk}
 use Rattle.rcu_model.specs.declared.refusal.Refusal.{Refusal}
 use Rattle.world_state.specs.declared.line.Answer.{Answer}
 use Rattle.world.proofs.Prompt.{prompt_meets}
 use Rattle.world.proofs.Reaching.{reached_after}
+use Rattle.world.proofs.TestsOfSteps.{meets_tests}
 use Rattle.world.proofs.world.World.step.Goals.{in-Memb, in-Qsbr}
 use Rattle.world.proofs.world.World.step.Goals as goal
 
@@ -27,4 +30,18 @@ returns-clause-prompt c = λ h.
     elim c.match-self.branch [
       | in-Memb w ↦ subst Prompt (sym w.result-is) (prompt_meets memb_plans (shown w.in-Memb.board) (shown w.step.new.self) c.args.line.now w.step.result w.step.ensures h)
       | in-Qsbr w ↦ subst Prompt (sym w.result-is) (prompt_meets qsbr_plans (shown w.in-Qsbr.board) (shown w.step-in-Qsbr.new.self) c.args.line.now w.step-in-Qsbr.result w.step-in-Qsbr.ensures h)
+    ]
+
+pub returns-clause-tests : goal.returns-clause-tests
+returns-clause-tests c =
+    let Reached : Boards → Type 0 = λ b. IsReachedWorld (seen b) in
+    elim c.match-self.branch [
+      | in-Memb w ↦
+          let r : IsReached memb_plans (shown w.in-Memb.board) = subst Reached w.in-Memb.is c.self.invariant in
+          let tested = subst (λ v. IsTested memb_plans v c.args.line.now) r.leads (c.tests_are_made_in_order.ensures r.config r.seq r.lines c.args.line.now r.limits r.even r.low) in
+          rw (← c.self.view_is, w.in-Memb.is, w.self-inside-is, w.result-is) (meets_tests memb_plans OfMemb (shown w.in-Memb.board) (shown w.step.new.self) c.args.line.now tested w.step.result w.step.ensures)
+      | in-Qsbr w ↦
+          let r : IsReached qsbr_plans (shown w.in-Qsbr.board) = subst Reached w.in-Qsbr.is c.self.invariant in
+          let tested = subst (λ v. IsTested qsbr_plans v c.args.line.now) r.leads (c.tests_are_made_in_order-2.ensures r.config r.seq r.lines c.args.line.now r.limits r.even r.low) in
+          rw (← c.self.view_is, w.in-Qsbr.is, w.self-inside-is, w.result-is) (meets_tests qsbr_plans OfQsbr (shown w.in-Qsbr.board) (shown w.step-in-Qsbr.new.self) c.args.line.now tested w.step-in-Qsbr.result w.step-in-Qsbr.ensures)
     ]
