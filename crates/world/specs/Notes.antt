@@ -28,11 +28,12 @@ got_after r got (First s c found) = if s.reader == r then option_or found got el
 got_after r got (Next s o found) = if s.reader == r then option_or found got else got
 got_after r got e = got
 
+-- after all events of a log
 abbrev pub got_last : ℕ → Option ObjectId → List Event → Option ObjectId
 got_last r got [] = got
 got_last r got (e ∷ es) = got_last r (got_after r got e) es
 
--- the reader goes on from that object, and touches that one
+-- a `next` of the reader goes on from that object, and a `touch` is of it; so all of a log
 abbrev pub IsFromLast : ℕ → Option ObjectId → Event → Type 0
 IsFromLast r got (Next s o found) = s.reader ≡ r → got ≡ Some o
 IsFromLast r got (Touch s o) = s.reader ≡ r → got ≡ Some o
@@ -48,15 +49,19 @@ AreFromLast r got (e ∷ es) = IsFromLast r got e × AreFromLast r (got_after r 
 abbrev pub Exchange : Type 0
 Exchange = ℕ × Line × Result Answer Refusal
 
+-- what is noted of the event that a `start` tells, with the cookie for the sequence number that it loaded
 abbrev pub note_of : Event → Result ℕ Refusal → Option Started
 note_of (Ask a) (Ok c) = Some (record { ask = a; cookie = c })
 note_of e cookie = None
 
+-- A `start` that is answered notes its own, in place of an older one, and a `poll` that is answered spends it. Nothing
+-- else touches it.
 abbrev pub noted_by : UpdaterVerb → ℕ → Result Answer Refusal → Option Started → Option Started
 noted_by Start seq (Ok (Events e second)) noted = note_of e (cookie_for seq)
 noted_by Poll seq (Ok (Events e second)) noted = None
 noted_by verb seq answer noted = noted
 
+-- the updater's note after a line, and after all of them
 abbrev pub noted_after : ℕ → Option Started → Exchange → Option Started
 noted_after u noted (seq, Updater v verb, answer) = if v == u then noted_by verb seq answer noted else noted
 noted_after u noted (seq, Reader r verb, answer) = noted
@@ -66,7 +71,7 @@ abbrev pub noted_last : ℕ → Option Started → List Exchange → Option Star
 noted_last u noted [] = noted
 noted_last u noted (x ∷ xs) = noted_last u (noted_after u noted x) xs
 
--- what a `poll` of the updater tells is the answer to that ask
+-- what a `poll` of the updater tells is the answer to the ask that was noted; so all of them
 abbrev pub IsAnswerTo : Option Started → Event → Type 0
 IsAnswerTo None e = ⊥
 IsAnswerTo (Some s) e = e ≡ Answered s.ask
@@ -86,12 +91,14 @@ ArePolled u noted (x ∷ xs) = IsPolled u noted x × ArePolled u (noted_after u 
 
 -- ---- what they note
 
+-- the object under a reader's cursor, and the pending poll of an updater
 abbrev pub cursor_of : {P : Type 0} → BoardView P → ℕ → Option ObjectId
 cursor_of w r = (get_or w.readers r new_reader).cursor
 
 abbrev pub started_by : {P : Type 0} → BoardView P → ℕ → Option Started
 started_by w u = (get_or w.updaters u idle).started
 
+-- they are the ones that the log and the answers tell, and what readers and polls do goes by them
 pub record AreNoted {P : Type 0} (w : BoardView P) (exchanges : List Exchange) : Type 0 where
   pub cursors : (r : ℕ) → cursor_of w r ≡ got_last r None w.log
   pub reads : (r : ℕ) → AreFromLast r None w.log
