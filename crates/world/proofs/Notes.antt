@@ -8,10 +8,10 @@ use Rattle.world_state.specs.declared.updater.UpdaterState.{UpdaterState}
 use Rattle.world_state.specs.Readers.{new_reader}
 use Rattle.world_state.specs.View.{Plans, BoardView, fresh_at, idle}
 use Rattle.world.specs.Lines.{world_after}
-use Rattle.world.specs.Notes.{AreNoted, ArePolled, noted_last, cursor_of, exchanged, started_by}
+use Rattle.world.specs.Notes.{AreNoted, cursor_of, exchanged, started_by}
 use Rattle.world.proofs.Logged.{get_replicate}
 use Rattle.world.proofs.NotesOfReaders.{stand_lines}
-use Rattle.world.proofs.NotesOfUpdaters.{noted_lines}
+use Rattle.world.proofs.NotesOfUpdaters.{NotedLast, noted_lines}
 
 module _ {P : Type 0} (plans : Plans P) (config : Config) (seq : ℕ) where
   abbrev fresh : BoardView P
@@ -28,8 +28,7 @@ module _ {P : Type 0} (plans : Plans P) (config : Config) (seq : ℕ) where
   all_noted lines =
       let stands = stand_lines plans fresh lines (λ r. (none_got r, tt)) in
       let noted = λ (u : ℕ).
-      subst (λ (n : Option Started). (started_by (world_after plans fresh lines) u ≡ noted_last u n (exchanged plans fresh lines)) × ArePolled u n (exchanged plans fresh lines)) (none_noted u)
-      (noted_lines plans fresh lines u) in
+      subst (λ (n : Option Started). NotedLast u (exchanged plans fresh lines) n (started_by (world_after plans fresh lines) u)) (none_noted u) (noted_lines plans fresh lines u) in
       record {
         cursors = λ r. (stands r).0;
         reads = λ r. (stands r).1;

@@ -34,7 +34,7 @@ use Rattle.world.specs.Lines.{reader_line, reader_begins, reader_on, with_change
 use Rattle.world.specs.Notes.{got_after, got_last, AreFromLast, cursor_of}
 use Rattle.world.specs.Queues.{retire_on}
 use Rattle.world.specs.Workers.{ask_for}
-use Rattle.world.proofs.GraceRows.{Fits, fits_step}
+use Rattle.world.proofs.GraceRows.{AsksNone, Fits, fits_step}
 use Rattle.world.proofs.Rows.{Rows, each_row}
 use Rattle.world.proofs.State.{told_by}
 use Rattle.world.proofs.Sweeping.{Each}
@@ -187,7 +187,7 @@ module _ {P : Type 0} (plans : Plans P) (w : BoardView P) where
   nothing_read : (me : Holder) (ask : ℕ) (sync : SyncCore P) (step : GraceStep P) → Fits plans w me ask sync step → (s : ℕ) (got : Option ObjectId) → GoesOn s got got (told step.answer)
   nothing_read me ask sync step fits s got = by fits.asks
     where
-      by : ((sync ≡ Asks) × (step.grace.asks ≡ ask) × (told step.answer ≡ events.Ask ask ∷ [])) ⊎ ((step.grace.asks ≡ w.grace.asks) × ((told step.answer ≡ []) ⊎ (told step.answer ≡ events.Answer ask ∷ []))) → GoesOn s got got (told step.answer)
+      by : ((sync ≡ Asks) × (step.grace.asks ≡ ask) × (told step.answer ≡ events.Ask ask ∷ [])) ⊎ AsksNone plans w me ask step.grace.asks (told step.answer) → GoesOn s got got (told step.answer)
       by (inl asked) = subst (GoesOn s got got) (sym asked.2) (refl, (tt, tt))
       by (inr (same, inl e)) = subst (GoesOn s got got) (sym e) (refl, tt)
       by (inr (same, inr e)) = subst (GoesOn s got got) (sym e) (refl, (tt, tt))
@@ -215,7 +215,9 @@ module _ {P : Type 0} (plans : Plans P) (w : BoardView P) where
     awaits = λ u x b b' at s. (refl, tt);
     clears = λ u x b at s. (refl, (tt, tt));
     takes = λ k x tickets at s. (refl, tt);
-    works = λ k x sync tickets step at is s. nothing_read (holder.Worker k) (ask_for w x.ask sync) sync step (fits_step plans w (holder.Worker k) (ask_for w x.ask sync) sync step is) s (cursor_of w s);
+    works = λ k x sync tickets step at is s.
+        let ask = ask_for w x.ask sync in
+        nothing_read (holder.Worker k) ask sync step (fits_step plans w (holder.Worker k) ask sync step is) s (cursor_of w s);
     runs = λ k x tickets core mark first at is s. (refl, (tt, tt));
     counts = λ k x tickets ticket item core at s. (refl, tt);
   }

@@ -43,7 +43,7 @@ use Rattle.world.specs.declared.grace.GraceStep.{GraceStep}
 use Rattle.world.specs.Chains.{writes, push_row, replace_row, cut_row, pushed_row, replaced_row, published, linked_by}
 use Rattle.world.specs.Grace.{grace_row, start_row, poll_row}
 use Rattle.world.specs.Lines.{reader_line, read_by, of_reader, is_idle, grace_change, synced, updater_on, updater_begins, updater_line, of_updater, worker_line, of_worker, change_of, with_change, outcome_of, world_after}
-use Rattle.world.specs.Notes.{note_of, noted_by, noted_after, noted_last, IsAnswerTo, IsOfNoted, IsPolled, ArePolled, started_by, exchanged}
+use Rattle.world.specs.Notes.{Exchange, note_of, noted_by, noted_after, noted_last, IsAnswerTo, IsOfNoted, IsPolled, ArePolled, started_by, exchanged}
 use Rattle.world.specs.Queues.{queue_of, may_retire, lock_free, lock_row, retire_on, finished_in, checked, barrier_on}
 use Rattle.world.specs.Workers.{is_none_left, first_in, take_row, ask_for, work_change, worked, run_row, worker_on, is_resting}
 use Rattle.world.proofs.NotesOfReaders.{itself, another}
@@ -74,7 +74,9 @@ module _ {P : Type 0} (plans : Plans P) (w : BoardView P) where
     same place s = by (decide_number s u)
       where
         by : (s ≡ u) ⊎ (s ≢ u) → (updater_at (slice_set w.updaters u (record x { place = place })) s).started ≡ started_by w s
-        by (inl e) = subst (λ t. (updater_at (slice_set w.updaters u (record x { place = place })) t).started ≡ started_by w t) (sym e) (noted_then (record x { place = place }) ∙ sym noted_now)
+        by (inl e) =
+            subst (λ t. (updater_at (slice_set w.updaters u (record x { place = place })) t).started ≡ started_by w t) (sym e)
+            (noted_then (record x { place = place }) ∙ sym noted_now)
         by (inr apart) = noted_else (record x { place = place }) s apart
 
     keeps_synced : (ask : ℕ) (r : Result (GraceStep P) Refusal) → Each Keeps (synced plans u x ask r)
@@ -157,7 +159,11 @@ module _ {P : Type 0} (plans : Plans P) (w : BoardView P) where
     notes_poll None is = tt
     notes_poll (Some s) is =
         each_if (Notes updater.Poll) (nat_le s.cookie w.grace.seq) _ _
-        (record { own = noted_then (record x { started = None }); polls = subst (λ (n : Option Started). IsAnswerTo n (events.Answer s.ask)) (sym (noted_now ∙ is)) refl; others = noted_else (record x { started = None }) })
+        (record {
+          own = noted_then (record x { started = None });
+          polls = subst (λ (n : Option Started). IsAnswerTo n (events.Answer s.ask)) (sym (noted_now ∙ is)) refl;
+          others = noted_else (record x { started = None });
+        })
         (record { own = refl; polls = tt; others = λ t apart. refl })
 
     module _ (v : UpdaterVerb) (leaves : (answer : Result Answer Refusal) (noted : Option Started) → (noted_by v w.grace.seq answer noted ≡ noted) × IsOfNoted v answer noted) where
@@ -224,11 +230,12 @@ module _ {P : Type 0} (plans : Plans P) (w : BoardView P) where
 
   -- ---- each line
 
-  abbrev NotedBy : Line → BoardView P → Result Answer Refusal → Type 0
-  NotedBy line w' answer = (s : ℕ) → (started_by w' s ≡ noted_after s (started_by w s) (w.grace.seq, line, answer)) × IsPolled s (started_by w s) (w.grace.seq, line, answer)
+  -- what an updater noted goes on so, over a line that is answered so
+  abbrev NotedBy : Line → Result Answer Refusal → ℕ → Option Started → Option Started → Type 0
+  NotedBy line answer s was is = (is ≡ noted_after s was (w.grace.seq, line, answer)) × IsPolled s was (w.grace.seq, line, answer)
 
   abbrev NotedAfter : Line → Result (Change P) Refusal → Type 0
-  NotedAfter line y = NotedBy line ((with_change w y).world) ((with_change w y).answer)
+  NotedAfter line y = (s : ℕ) → NotedBy line ((with_change w y).answer) s (started_by w s) (started_by ((with_change w y).world) s)
 
   -- a refusal leaves the note
   refused : (v : UpdaterVerb) (e : Refusal) (noted : Option Started) → (noted_by v w.grace.seq (Err e) noted ≡ noted) × IsOfNoted v (Err e) noted
@@ -254,9 +261,9 @@ module _ {P : Type 0} (plans : Plans P) (w : BoardView P) where
       by (Err e) notes s = (both_same (u == s) _ _ (refused v e (started_by w s)).0, λ f. (refused v e (started_by w s)).1)
       by (Ok change) notes s = here (decide_number s u)
         where
-          here : (s ≡ u) ⊎ (s ≢ u) → (started_by (changed w change) s ≡ noted_after s (started_by w s) (w.grace.seq, Updater u v, Ok (answer_of change))) × IsPolled s (started_by w s) (w.grace.seq, Updater u v, Ok (answer_of change))
+          here : (s ≡ u) ⊎ (s ≢ u) → NotedBy (Updater u v) (Ok (answer_of change)) s (started_by w s) (started_by (changed w change) s)
           here (inl e) =
-              subst (λ t. (started_by (changed w change) t ≡ noted_after t (started_by w t) (w.grace.seq, Updater u v, Ok (answer_of change))) × IsPolled t (started_by w t) (w.grace.seq, Updater u v, Ok (answer_of change))) (sym e)
+              subst (λ t. NotedBy (Updater u v) (Ok (answer_of change)) t (started_by w t) (started_by (changed w change) t)) (sym e)
               (notes.own ∙ sym (itself u (noted_by v w.grace.seq (Ok (answer_of change)) (started_by w u)) (started_by w u)), λ _. notes.polls)
           here (inr apart) = (
             notes.others s apart ∙ sym (another u s (noted_by v w.grace.seq (Ok (answer_of change)) (started_by w s)) (started_by w s) apart),
@@ -264,12 +271,14 @@ module _ {P : Type 0} (plans : Plans P) (w : BoardView P) where
           )
 
   -- lines of readers and workers leave all notes
-  noted_beside : (line : Line) → ((s : ℕ) (n : Option Started) (a : Result Answer Refusal) → (noted_after s n (w.grace.seq, line, a) ≡ n) × IsPolled s n (w.grace.seq, line, a)) → (y : Result (Change P) Refusal) → Each Keeps y → NotedAfter line y
-  noted_beside line leaves (Err e) keeps s = (sym (leaves s (started_by w s) (Err e)).0, (leaves s (started_by w s) (Err e)).1)
-  noted_beside line leaves (Ok change) keeps s = (keeps s ∙ sym (leaves s (started_by w s) (Ok (answer_of change))).0, (leaves s (started_by w s) (Ok (answer_of change))).1)
+  noted_beside : (line : Line) → ((answer : Result Answer Refusal) (s : ℕ) (n : Option Started) → NotedBy line answer s n n) → (y : Result (Change P) Refusal) → Each Keeps y → NotedAfter line y
+  noted_beside line leaves (Err e) keeps s = leaves (Err e) s (started_by w s)
+  noted_beside line leaves (Ok change) keeps s =
+      let left = leaves (Ok (answer_of change)) s (started_by w s) in
+      (keeps s ∙ left.0, left.1)
 
   noted_step : (line : Line) → NotedAfter line (change_of plans w line)
-  noted_step (Reader r v) = noted_beside (Reader r v) (λ s n a. (refl, tt)) (of_reader plans.qsbr w r v (slice_get w.readers r)) (by (slice_get w.readers r))
+  noted_step (Reader r v) = noted_beside (Reader r v) (λ answer s n. (refl, tt)) (of_reader plans.qsbr w r v (slice_get w.readers r)) (by (slice_get w.readers r))
     where
       read : (y : Result ReaderStep Refusal) → Each Keeps (read_by r y)
       read (Ok step) = λ s. refl
@@ -279,7 +288,7 @@ module _ {P : Type 0} (plans : Plans P) (w : BoardView P) where
       by None = tt
       by (Some x) = read (reader_line plans.qsbr w r x v)
   noted_step (Updater u v) = noted_updater u v (slice_get w.updaters u) refl
-  noted_step (Worker k v) = noted_beside (Worker k v) (λ s n a. (refl, tt)) (of_worker plans w k v (slice_get w.workers k)) (by (slice_get w.workers k))
+  noted_step (Worker k v) = noted_beside (Worker k v) (λ answer s n. (refl, tt)) (of_worker plans w k v (slice_get w.workers k)) (by (slice_get w.workers k))
     where
       by : (x : Option (WorkerState P)) → Each Keeps (of_worker plans w k v x)
       by None = tt
@@ -287,11 +296,13 @@ module _ {P : Type 0} (plans : Plans P) (w : BoardView P) where
 
 -- ---- all lines
 
-pub noted_lines : {P : Type 0} (plans : Plans P) (w : BoardView P) (lines : List Line) (s : ℕ) →
-    (started_by (world_after plans w lines) s ≡ noted_last s (started_by w s) (exchanged plans w lines)) × ArePolled s (started_by w s) (exchanged plans w lines)
+abbrev pub NotedLast : ℕ → List Exchange → Option Started → Option Started → Type 0
+NotedLast s xs was is = (is ≡ noted_last s was xs) × ArePolled s was xs
+
+pub noted_lines : {P : Type 0} (plans : Plans P) (w : BoardView P) (lines : List Line) (s : ℕ) → NotedLast s (exchanged plans w lines) (started_by w s) (started_by (world_after plans w lines) s)
 noted_lines plans w [] s = (refl, tt)
 noted_lines plans w (line ∷ lines) s =
     let next = (outcome_of plans w line).world in
     let step = noted_step plans w line s in
-    let rest = subst (λ n. (started_by (world_after plans next lines) s ≡ noted_last s n (exchanged plans next lines)) × ArePolled s n (exchanged plans next lines)) step.0 (noted_lines plans next lines s) in
+    let rest = subst (λ (n : Option Started). NotedLast s (exchanged plans next lines) n (started_by (world_after plans next lines) s)) step.0 (noted_lines plans next lines s) in
     (rest.0, (step.1, rest.1))

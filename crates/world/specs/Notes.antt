@@ -20,7 +20,7 @@ use Rattle.world.specs.Steps.{WorldView, OfMemb, OfQsbr, memb_plans, qsbr_plans}
 
 -- ---- readers: the object that they got last, in the section that is open
 
--- A section that opens or closes leaves none. What was found is the one from then on; else it is the one before.
+-- A section that opens or closes leaves none. What is found is the one from then on; where nothing is, it stays.
 abbrev pub got_after : ℕ → Option ObjectId → Event → Option ObjectId
 got_after r got (Open s) = if s.reader == r then None else got
 got_after r got (Close s) = if s.reader == r then None else got
