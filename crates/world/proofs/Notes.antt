@@ -8,7 +8,7 @@ use Rattle.world_state.specs.declared.updater.UpdaterState.{UpdaterState}
 use Rattle.world_state.specs.Readers.{new_reader}
 use Rattle.world_state.specs.View.{Plans, BoardView, fresh_at, idle}
 use Rattle.world.specs.Lines.{world_after}
-use Rattle.world.specs.Notes.{AreNoted, cursor_of, exchanged, started_by}
+use Rattle.world.specs.Notes.{AreNoted, cursor_of, replies_to, started_by}
 use Rattle.world.proofs.Logged.{get_replicate}
 use Rattle.world.proofs.NotesOfReaders.{stand_lines}
 use Rattle.world.proofs.NotesOfUpdaters.{NotedLast, noted_lines}
@@ -24,11 +24,11 @@ module _ {P : Type 0} (plans : Plans P) (config : Config) (seq : ℕ) where
   none_noted : (u : ℕ) → started_by fresh u ≡ None
   none_noted u = ap (λ (x : UpdaterState P). x.started) (get_replicate idle config.updaters u)
 
-  pub all_noted : (lines : List Line) → AreNoted (world_after plans fresh lines) (exchanged plans fresh lines)
+  pub all_noted : (lines : List Line) → AreNoted (world_after plans fresh lines) (replies_to plans fresh lines)
   all_noted lines =
       let stands = stand_lines plans fresh lines (λ r. (none_got r, tt)) in
       let noted = λ (u : ℕ).
-      subst (λ (n : Option Started). NotedLast u (exchanged plans fresh lines) n (started_by (world_after plans fresh lines) u)) (none_noted u) (noted_lines plans fresh lines u) in
+      subst (λ (n : Option Started). NotedLast u (replies_to plans fresh lines) n (started_by (world_after plans fresh lines) u)) (none_noted u) (noted_lines plans fresh lines u) in
       record {
         cursors = λ r. (stands r).0;
         reads = λ r. (stands r).1;

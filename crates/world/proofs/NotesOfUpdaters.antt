@@ -43,7 +43,7 @@ use Rattle.world.specs.declared.grace.GraceStep.{GraceStep}
 use Rattle.world.specs.Chains.{writes, push_row, replace_row, cut_row, pushed_row, replaced_row, published, linked_by}
 use Rattle.world.specs.Grace.{grace_row, start_row, poll_row}
 use Rattle.world.specs.Lines.{reader_line, read_by, of_reader, is_idle, grace_change, synced, updater_on, updater_begins, updater_line, of_updater, worker_line, of_worker, change_of, with_change, outcome_of, world_after}
-use Rattle.world.specs.Notes.{Exchange, note_of, noted_by, noted_after, noted_last, IsAnswerTo, IsOfNoted, IsPolled, ArePolled, started_by, exchanged}
+use Rattle.world.specs.Notes.{Reply, note_of, noted_by, noted_after, noted_last, IsAnswerTo, IsOfNoted, IsPolled, ArePolled, started_by, replies_to}
 use Rattle.world.specs.Queues.{queue_of, may_retire, lock_free, lock_row, retire_on, finished_in, checked, barrier_on}
 use Rattle.world.specs.Workers.{is_none_left, first_in, take_row, ask_for, work_change, worked, run_row, worker_on, is_resting}
 use Rattle.world.proofs.NotesOfReaders.{itself, another}
@@ -296,13 +296,13 @@ module _ {P : Type 0} (plans : Plans P) (w : BoardView P) where
 
 -- ---- all lines
 
-abbrev pub NotedLast : ℕ → List Exchange → Option Started → Option Started → Type 0
+abbrev pub NotedLast : ℕ → List Reply → Option Started → Option Started → Type 0
 NotedLast s xs was is = (is ≡ noted_last s was xs) × ArePolled s was xs
 
-pub noted_lines : {P : Type 0} (plans : Plans P) (w : BoardView P) (lines : List Line) (s : ℕ) → NotedLast s (exchanged plans w lines) (started_by w s) (started_by (world_after plans w lines) s)
+pub noted_lines : {P : Type 0} (plans : Plans P) (w : BoardView P) (lines : List Line) (s : ℕ) → NotedLast s (replies_to plans w lines) (started_by w s) (started_by (world_after plans w lines) s)
 noted_lines plans w [] s = (refl, tt)
 noted_lines plans w (line ∷ lines) s =
     let next = (outcome_of plans w line).world in
     let step = noted_step plans w line s in
-    let rest = subst (λ (n : Option Started). NotedLast s (exchanged plans next lines) n (started_by (world_after plans next lines) s)) step.0 (noted_lines plans next lines s) in
+    let rest = subst (λ (n : Option Started). NotedLast s (replies_to plans next lines) n (started_by (world_after plans next lines) s)) step.0 (noted_lines plans next lines s) in
     (rest.0, (step.1, rest.1))

@@ -46,8 +46,8 @@ AreFromLast r got (e ∷ es) = IsFromLast r got e × AreFromLast r (got_after r 
 -- ---- updaters: the ask and the cookie of their latest `start`, until a `poll` answers it
 
 -- the sequence number before a line, the line, and what it was answered
-abbrev pub Exchange : Type 0
-Exchange = ℕ × Line × Result Answer Refusal
+abbrev pub Reply : Type 0
+Reply = ℕ × Line × Result Answer Refusal
 
 -- what is noted of the event that a `start` tells, with the cookie for the sequence number that it loaded
 abbrev pub note_of : Event → Result ℕ Refusal → Option Started
@@ -62,12 +62,12 @@ noted_by Poll seq (Ok (Events e second)) noted = None
 noted_by verb seq answer noted = noted
 
 -- the updater's note after a line, and after all of them
-abbrev pub noted_after : ℕ → Option Started → Exchange → Option Started
+abbrev pub noted_after : ℕ → Option Started → Reply → Option Started
 noted_after u noted (seq, Updater v verb, answer) = if v == u then noted_by verb seq answer noted else noted
 noted_after u noted (seq, Reader r verb, answer) = noted
 noted_after u noted (seq, Worker k verb, answer) = noted
 
-abbrev pub noted_last : ℕ → Option Started → List Exchange → Option Started
+abbrev pub noted_last : ℕ → Option Started → List Reply → Option Started
 noted_last u noted [] = noted
 noted_last u noted (x ∷ xs) = noted_last u (noted_after u noted x) xs
 
@@ -80,12 +80,12 @@ abbrev pub IsOfNoted : UpdaterVerb → Result Answer Refusal → Option Started 
 IsOfNoted Poll (Ok (Events e second)) noted = IsAnswerTo noted e
 IsOfNoted verb answer noted = Unit {0}
 
-abbrev pub IsPolled : ℕ → Option Started → Exchange → Type 0
+abbrev pub IsPolled : ℕ → Option Started → Reply → Type 0
 IsPolled u noted (seq, Updater v verb, answer) = v ≡ u → IsOfNoted verb answer noted
 IsPolled u noted (seq, Reader r verb, answer) = Unit {0}
 IsPolled u noted (seq, Worker k verb, answer) = Unit {0}
 
-abbrev pub ArePolled : ℕ → Option Started → List Exchange → Type 0
+abbrev pub ArePolled : ℕ → Option Started → List Reply → Type 0
 ArePolled u noted [] = Unit {0}
 ArePolled u noted (x ∷ xs) = IsPolled u noted x × ArePolled u (noted_after u noted x) xs
 
@@ -99,24 +99,24 @@ abbrev pub started_by : {P : Type 0} → BoardView P → ℕ → Option Started
 started_by w u = (get_or w.updaters u idle).started
 
 -- they are the ones that the log and the answers tell, and what readers and polls do goes by them
-pub record AreNoted {P : Type 0} (w : BoardView P) (exchanges : List Exchange) : Type 0 where
+pub record AreNoted {P : Type 0} (w : BoardView P) (replies : List Reply) : Type 0 where
   pub cursors : (r : ℕ) → cursor_of w r ≡ got_last r None w.log
   pub reads : (r : ℕ) → AreFromLast r None w.log
-  pub starts : (u : ℕ) → started_by w u ≡ noted_last u None exchanges
-  pub polls : (u : ℕ) → ArePolled u None exchanges
+  pub starts : (u : ℕ) → started_by w u ≡ noted_last u None replies
+  pub polls : (u : ℕ) → ArePolled u None replies
 
 -- these lines, each with what it is answered
-abbrev pub exchange : {P : Type 0} → Plans P → BoardView P → Line → Exchange
-exchange plans w line = (w.grace.seq, line, (outcome_of plans w line).answer)
+abbrev pub reply_to : {P : Type 0} → Plans P → BoardView P → Line → Reply
+reply_to plans w line = (w.grace.seq, line, (outcome_of plans w line).answer)
 
-abbrev pub exchanged : {P : Type 0} → Plans P → BoardView P → List Line → List Exchange
-exchanged plans w [] = []
-exchanged plans w (line ∷ lines) = exchange plans w line ∷ exchanged plans ((outcome_of plans w line).world) lines
+abbrev pub replies_to : {P : Type 0} → Plans P → BoardView P → List Line → List Reply
+replies_to plans w [] = []
+replies_to plans w (line ∷ lines) = reply_to plans w line ∷ replies_to plans ((outcome_of plans w line).world) lines
 
-abbrev pub exchanges_of : WorldView → List Line → List Exchange
-exchanges_of (OfMemb w) lines = exchanged memb_plans w lines
-exchanges_of (OfQsbr w) lines = exchanged qsbr_plans w lines
+abbrev pub replies_of : WorldView → List Line → List Reply
+replies_of (OfMemb w) lines = replies_to memb_plans w lines
+replies_of (OfQsbr w) lines = replies_to qsbr_plans w lines
 
-abbrev pub NotesAreOfTheLatest : WorldView → List Exchange → Type 0
-NotesAreOfTheLatest (OfMemb w) exchanges = AreNoted w exchanges
-NotesAreOfTheLatest (OfQsbr w) exchanges = AreNoted w exchanges
+abbrev pub NotesAreOfTheLatest : WorldView → List Reply → Type 0
+NotesAreOfTheLatest (OfMemb w) replies = AreNoted w replies
+NotesAreOfTheLatest (OfQsbr w) replies = AreNoted w replies

@@ -5,7 +5,7 @@ ghost use Rattle.world_state.specs.declared.config.Config.{Config};
 ghost use Rattle.world_state.specs.declared.line.Line.{Line};
 ghost use Rattle.world_state.specs.View.{fresh_at, plans_of};
 ghost use Rattle.world.specs.Lines.{world_after};
-ghost use Rattle.world.specs.Notes.{AreNoted, NotesAreOfTheLatest, exchanged, exchanges_of};
+ghost use Rattle.world.specs.Notes.{AreNoted, NotesAreOfTheLatest, replies_to, replies_of};
 ghost use Rattle.world.specs.Steps.{is_supported_at, fresh_world_at, world_after_lines};
 
 use gp_memb::MembPlan;
@@ -14,7 +14,7 @@ use world_state::WorldPlan;
 
 /// What a board's readers and updaters note is what their latest lines were answered.
 pub(crate) fn board_notes_are_of_the_latest_line<P: WorldPlan>()
-    ensures { (config : Config) (seq : ℕ) (lines : List Line) → AreNoted (world_after (plans_of P.QSBR P.made P.action P.turn P.taken) (fresh_at config seq) lines) (exchanged (plans_of P.QSBR P.made P.action P.turn P.taken) (fresh_at config seq) lines) }
+    ensures { (config : Config) (seq : ℕ) (lines : List Line) → AreNoted (world_after (plans_of P.QSBR P.made P.action P.turn P.taken) (fresh_at config seq) lines) (replies_to (plans_of P.QSBR P.made P.action P.turn P.taken) (fresh_at config seq) lines) }
 {}
 
 /// For every config and first sequence number that make a world, and all lines: a reader stands on the object that it
@@ -23,7 +23,7 @@ pub(crate) fn board_notes_are_of_the_latest_line<P: WorldPlan>()
 /// `start` that was answered, taken from the sequence number of then, until a `poll` was answered, and there is none
 /// before; what a `poll` answers is the ask of that `start`.
 pub fn notes_are_of_the_latest_line()
-    ensures { (config : Config) (seq : ℕ) (lines : List Line) → IsTrue (is_supported_at config seq) → NotesAreOfTheLatest (world_after_lines (fresh_world_at config seq) lines) (exchanges_of (fresh_world_at config seq) lines) }
+    ensures { (config : Config) (seq : ℕ) (lines : List Line) → IsTrue (is_supported_at config seq) → NotesAreOfTheLatest (world_after_lines (fresh_world_at config seq) lines) (replies_of (fresh_world_at config seq) lines) }
 {
     board_notes_are_of_the_latest_line::<MembPlan>();
     board_notes_are_of_the_latest_line::<QsbrPlan>();

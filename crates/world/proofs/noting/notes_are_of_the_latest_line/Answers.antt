@@ -5,17 +5,17 @@ use Rattle.world_state.specs.declared.config.Flavour.TheVariants.{Memb, Qsbr}
 use Rattle.world_state.specs.declared.line.Line.{Line}
 use Rattle.world_state.specs.View.{fresh_at}
 use Rattle.world.specs.Lines.{world_after}
-use Rattle.world.specs.Notes.{AreNoted, NotesAreOfTheLatest, exchanged, exchanges_of}
+use Rattle.world.specs.Notes.{AreNoted, NotesAreOfTheLatest, replies_to, replies_of}
 use Rattle.world.specs.Steps.{WorldView, memb_plans, qsbr_plans, fresh_in, world_after_lines}
 use Rattle.world.proofs.Telling.{memb_lines, qsbr_lines}
 use Rattle.world.proofs.noting.notes_are_of_the_latest_line.Goals as goal
 
 -- either flavour's notes
-noted_in : (flavour : Flavour) (config : Config) (seq : ℕ) (lines : List Line) → AreNoted (world_after memb_plans (fresh_at config seq) lines) (exchanged memb_plans (fresh_at config seq) lines) →
-    AreNoted (world_after qsbr_plans (fresh_at config seq) lines) (exchanged qsbr_plans (fresh_at config seq) lines) →
-    NotesAreOfTheLatest (world_after_lines (fresh_in flavour config seq) lines) (exchanges_of (fresh_in flavour config seq) lines)
-noted_in Memb config seq lines memb qsbr = subst (λ (w : WorldView). NotesAreOfTheLatest w (exchanged memb_plans (fresh_at config seq) lines)) (sym (memb_lines (fresh_at config seq) lines)) memb
-noted_in Qsbr config seq lines memb qsbr = subst (λ (w : WorldView). NotesAreOfTheLatest w (exchanged qsbr_plans (fresh_at config seq) lines)) (sym (qsbr_lines (fresh_at config seq) lines)) qsbr
+noted_in : (flavour : Flavour) (config : Config) (seq : ℕ) (lines : List Line) → AreNoted (world_after memb_plans (fresh_at config seq) lines) (replies_to memb_plans (fresh_at config seq) lines) →
+    AreNoted (world_after qsbr_plans (fresh_at config seq) lines) (replies_to qsbr_plans (fresh_at config seq) lines) →
+    NotesAreOfTheLatest (world_after_lines (fresh_in flavour config seq) lines) (replies_of (fresh_in flavour config seq) lines)
+noted_in Memb config seq lines memb qsbr = subst (λ (w : WorldView). NotesAreOfTheLatest w (replies_to memb_plans (fresh_at config seq) lines)) (sym (memb_lines (fresh_at config seq) lines)) memb
+noted_in Qsbr config seq lines memb qsbr = subst (λ (w : WorldView). NotesAreOfTheLatest w (replies_to qsbr_plans (fresh_at config seq) lines)) (sym (qsbr_lines (fresh_at config seq) lines)) qsbr
 
 pub returns : goal.returns
 returns c = λ config seq lines good.
