@@ -10,8 +10,8 @@ Next read old text new (Ok None) = (read (old ++ text) ≡ Err []) × (new ≡ o
 Next read old text new (Err column) = (b : ℕ) × (more : List ℕ) × (read (old ++ text) ≡ Err (b ∷ more)) × (column + length (b ∷ more) ≡ length (old ++ text) + 1)
 
 -- Reading in pieces comes to the same: what is read stays read when more text comes, and a bad byte stays bad. Where a
--- text may go on, it is short, and one byte more completes at most what ends with it. What is read takes some bytes, and
--- what is left from a bad byte on is no longer than the text.
+-- text may go on, it is short, and one byte more completes at most what ends with it. What is read takes some bytes,
+-- and what is left from a bad byte on is no longer than the text.
 pub record IsIncremental {A : Type 0} (read : List ℕ → Reading A) : Type 0 where
   pub found : (text more : List ℕ) (x : A) (rest : List ℕ) → read text ≡ Ok (x, rest) → read (text ++ more) ≡ Ok (x, rest ++ more)
   pub bad : (text : List ℕ) (b : ℕ) (bs more : List ℕ) → read text ≡ Err (b ∷ bs) → read (text ++ more) ≡ Err (b ∷ (bs ++ more))

@@ -21,8 +21,8 @@ trait Front: Copy {
     /// How it is read.
     ghost read: { List ℕ → Reading Self };
 
-    /// What stands first in the text, and what comes after it; or the bytes from the first bad one on, of which there are
-    /// none where the text may go on.
+    /// What stands first in the text, and what comes after it; or the bytes from the first bad one on, of which there
+    /// are none where the text may go on.
     fn front(text: &[u8]) -> Result<(Self, &[u8]), &[u8]>
         ensures { Gives (λ x. x) result (read text.now) };
 }
@@ -100,8 +100,8 @@ impl Held {
         Ok(None)
     }
 
-    /// What stands first in what is held and the text, and what follows it, if it is whole; else the text is held. Or the
-    /// column of a byte with which it does not go on.
+    /// What stands first in what is held and the text, and what follows it, if it is whole; else the text is held. Or
+    /// the column of a byte with which it does not go on.
     fn next<'a, T: Front>(&mut self, text: &'a [u8]) -> Result<Option<(T, &'a [u8])>, usize>
         requires { IsIncremental T.read }
         ensures next { T.read self.old ≡ Err [] → Next T.read self.old text.now self.new result }

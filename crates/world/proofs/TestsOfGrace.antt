@@ -83,8 +83,8 @@ module _ {P : Type 0} (plans : Plans P) (layout : Layout) (slots : ℕ) (laws : 
   abbrev number : ℕ
   number = w.grace.word
 
-  -- the step's plan shows the phase or number that the step leaves; this one stays, but where who makes the step has the
-  -- lock
+  -- the step's plan shows the phase or number that the step leaves; this one stays, but where who makes the step has
+  -- the lock
   pub record IsOfGrace (me : Asker) (step : GraceStep P) : Type 0 where
     pub told : IsOfWait step.answer
     pub shows : Shows step.core step.grace.word

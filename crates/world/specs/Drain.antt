@@ -25,7 +25,8 @@ abbrev pub some_open : Bool → Layout → List ReaderState → Bool
 some_open qsbr layout [] = false
 some_open qsbr layout (v ∷ vs) = is_open_in qsbr layout v.word || some_open qsbr layout vs
 
--- the steps over this many readers: the `take`, the ask, its lock, its check, the turns of its plan, the unlock, and two for each item
+-- the steps over this many readers: the `take`, the ask, its lock, its check, the turns of its plan, the unlock, and
+-- two for each item
 abbrev pub steps_of_flavour : Bool → ℕ → ℕ → ℕ
 steps_of_flavour false readers items = 2 * readers + 9 + 2 * items
 steps_of_flavour true readers items = readers + 8 + 2 * items
@@ -96,7 +97,8 @@ module _ {P : Type 0} where
   abbrev pub Tells : Plans P → BoardView P → ℕ → Type 0
   Tells plans w k = (steps : ℕ) × (steps_to_drain plans.qsbr w k ≡ Ok steps) × (length w.log < length (world_after plans w (drain_lines k steps)).log)
 
-  -- a drain of the board: its steps are the definition's, all made and alone, and leave nothing; or it was refused, and nothing changed
+  -- a drain of the board: its steps are the definition's, all made and alone, and leave nothing; or it was refused, and
+  -- nothing changed
   abbrev pub Drains : Plans P → ℕ → BoardView P → BoardView P → Result ℕ Refusal → Type 0
   Drains plans k old new (Ok steps) = (steps_to_drain plans.qsbr old k ≡ Ok steps) × (new ≡ world_after plans old (drain_lines k steps)) × AreMadeFrom plans old (drain_lines k steps) × HasDrained new k
   Drains plans k old new (Err e) = (new ≡ old) × ((steps_to_drain plans.qsbr old k ≡ Err e) ⊎ ((e ≡ Memory) × Tells plans old k))

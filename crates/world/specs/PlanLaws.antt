@@ -1,5 +1,5 @@
--- Clauses of the traits that a plan meets, over the plans that a world makes: by these every law of worlds goes, and that
--- of tests by three more.
+-- Clauses of the traits that a plan meets, over the plans that a world makes: by these every law of worlds goes, and
+-- that of tests by three more.
 use Rattle.std.specs.Prelude.{◌≡◌, ◌≤◌, ℕ, true, List}
 use Rattle.reader_word.specs.declared.layout.Layout.{Layout}
 use Rattle.gp_memb.specs.declared.plan.Action.TheVariants.{StorePhase}

@@ -22,9 +22,9 @@ pub(crate) fn board_locks_are_held_by_those_inside<P: WorldPlan>()
 }
 
 /// For every config and first sequence number that make a world, and all lines: the grace lock is held by an updater or
-/// worker exactly while its grace period stands between the step that locks and the one that unlocks, and a queue's lock
-/// by an updater exactly while it retires an object into this queue, from its first step to its last. So nobody else
-/// holds them, two are never inside at once, and who is done has freed the lock.
+/// worker exactly while its grace period stands between the step that locks and the one that unlocks, and a queue's
+/// lock by an updater exactly while it retires an object into this queue, from its first step to its last. So nobody
+/// else holds them, two are never inside at once, and who is done has freed the lock.
 pub fn locks_are_held_by_those_inside()
     ensures { (config : Config) (seq : ℕ) (lines : List Line) → IsTrue (is_supported_at config seq) → LocksAreHeldInside (world_after_lines (fresh_world_at config seq) lines) }
 {

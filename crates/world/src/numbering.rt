@@ -23,8 +23,8 @@ pub(crate) fn board_numbers_count_lines<P: WorldPlan>()
 }
 
 /// For every config and first sequence number that make a world, and all lines, no event of the answers gives a large
-/// number: readers and chains are below 64 and queues below 8, and ordinals, objects, asks and barriers are at most twice
-/// the number of lines.
+/// number: readers and chains are below 64 and queues below 8, and ordinals, objects, asks and barriers are at most
+/// twice the number of lines.
 pub fn numbers_count_lines()
     ensures { (config : Config) (seq : ℕ) (lines : List Line) → IsTrue (is_supported_at config seq) → All (IsNumberedWithin (2 * length lines)) (answered_events (fresh_world_at config seq) lines) }
 {

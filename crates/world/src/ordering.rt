@@ -21,9 +21,10 @@ pub(crate) fn board_callbacks_run_in_order<P: WorldPlan>()
     plan_keeps_its_laws::<P>();
 }
 
-/// For every config and first sequence number that make a world, and all lines: in the events of the answers, which are a
-/// run of the machine, the callbacks of each queue run in the order in which their objects were queued, and none is
-/// passed over. So it is with the list of a liburcu `call_rcu` worker. Which worker ran a callback the log does not tell.
+/// For every config and first sequence number that make a world, and all lines: in the events of the answers, which are
+/// a run of the machine, the callbacks of each queue run in the order in which their objects were queued, and none is
+/// passed over. So it is with the list of a liburcu `call_rcu` worker. Which worker ran a callback the log does not
+/// tell.
 pub fn callbacks_run_in_the_order_of_their_queue()
     ensures { (config : Config) (seq : ℕ) (lines : List Line) → IsTrue (is_supported_at config seq) → RunInOrder (answered_events (fresh_world_at config seq) lines) }
 {

@@ -92,8 +92,8 @@ impl World {
     ///
     /// `Wait`, `Blocked`, `Idle` and a refusal leave the world as it was. The tests come in this order: `NoActor` for
     /// an actor that is not there; `Busy` for a verb in an operation, and `NotOpen` to go on in none; `WrongFlavour`;
-    /// then `NestFull`, `NotOpen`, `Busy`, `NoPlace` and `Exhausted` of the verb; then `Blocked`, `Idle` and `Wait`; and
-    /// last `Memory`, where the log, the list of objects or a queue would grow.
+    /// then `NestFull`, `NotOpen`, `Busy`, `NoPlace` and `Exhausted` of the verb; then `Blocked`, `Idle` and `Wait`;
+    /// and last `Memory`, where the log, the list of objects or a queue would grow.
     pub fn step(&mut self, line: &Line) -> Result<Answer, StepError>
         ensures table { Meets (step_of self.old line.now) self.old self.new result }
         // Its tests are made in their order, and the first that fails is the answer.
