@@ -6,6 +6,7 @@ ghost use Rattle.rcu_model.specs.declared.event.SectionId.{SectionId};
 ghost use Rattle.rcu_model.specs.declared.event.ObjectId.{ObjectId};
 ghost use Rattle.rcu_model.specs.Machine.{IsRun, IsOpen, state_after, Holds};
 ghost use Rattle.rcu_model.specs.Sets.{HasObject};
+ghost use Rattle.rcu_model.specs.Promises.{IsSafeLog};
 ghost use Rattle.rcu_model.specs.Headline.{RunsOnceAfterItsSections, UsesNoReclaimed, AnswersOnceAfterItsSections, ClearsOnceAfterItsCallbacks, QueuesOnceAfterRetirement, RunsAfterItsQueueing, OpensOnce};
 
 /// The protection law: in every run, an object that a section holds is not reclaimed, and the section is open.
@@ -41,3 +42,11 @@ pub fn callbacks_are_queued_once_before_they_run()
 pub fn sections_open_once()
     ensures { (log : List Event) → IsRun log → OpensOnce log }
 {}
+
+/// Every run keeps all the promises of logs: of callbacks, of sections, of asks and of barriers.
+pub fn every_run_is_safe()
+    ensures { (log : List Event) → IsRun log → IsSafeLog log }
+{
+    callbacks_run_once_after_their_sections();
+    waits_end_once_after_what_they_await();
+}

@@ -49,3 +49,5 @@ pub mod RunOrder
 pub mod NotesOfReaders
 pub mod NotesOfUpdaters
 pub mod Notes
+pub mod Refusals
+pub mod Promises

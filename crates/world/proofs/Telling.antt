@@ -32,6 +32,7 @@ use Rattle.world.specs.declared.grace.GraceStep.{GraceStep}
 use Rattle.world.specs.Grace.{grace_row}
 use Rattle.world.specs.Queues.{retire_on}
 use Rattle.world.specs.Workers.{is_none_left, first_in, take_row, ask_for, work_change, worked, run_row, worker_on, is_resting}
+use Rattle.world.specs.Shown.{Meets}
 use Rattle.world.specs.Lines.{worker_line, change_of, with_change, outcome_of, world_after}
 use Rattle.world.proofs.Sweeping.{Each, each_if, OfOthers, each_line}
 use Rattle.world.specs.Steps.{WorldView, OfMemb, OfQsbr, memb_plans, qsbr_plans, step_of, log_of, fresh_in, world_after_lines, events_of, answered_events}
@@ -117,14 +118,19 @@ module _ {P : Type 0} (plans : Plans P) (w : BoardView P) where
   log_after (Ok (Stay answer)) s = sym (ap (λ (es : List Event). w.log ++ es) s ∙ append-nil w.log)
   log_after (Err e) s = sym (append-nil w.log)
 
-  log_told : (line : Line) → (outcome_of plans w line).world.log ≡ w.log ++ events_of (outcome_of plans w line).answer
+  pub log_told : (line : Line) → (outcome_of plans w line).world.log ≡ w.log ++ events_of (outcome_of plans w line).answer
   log_told line = log_after (change_of plans w line) (silent line)
 
-step_told : (w : WorldView) (line : Line) → log_of (step_of w line).world ≡ log_of w ++ events_of (step_of w line).answer
+-- as the contract of a step says it
+pub log_meets : {P : Type 0} (plans : Plans P) (old new : BoardView P) (line : Line) (r : Result Answer Refusal) → Meets (outcome_of plans old line) old new r → new.log ≡ old.log ++ events_of r
+log_meets plans old new line (Ok answer) m = ap (λ w. w.log) m.1 ∙ log_told plans old line ∙ ap (λ x. old.log ++ events_of x) m.0
+log_meets plans old new line (Err e) m = ap (λ w. w.log) m.0 ∙ sym (append-nil old.log)
+
+pub step_told : (w : WorldView) (line : Line) → log_of (step_of w line).world ≡ log_of w ++ events_of (step_of w line).answer
 step_told (OfMemb w) line = log_told memb_plans w line
 step_told (OfQsbr w) line = log_told qsbr_plans w line
 
-lines_told : (w : WorldView) (lines : List Line) → log_of (world_after_lines w lines) ≡ log_of w ++ answered_events w lines
+pub lines_told : (w : WorldView) (lines : List Line) → log_of (world_after_lines w lines) ≡ log_of w ++ answered_events w lines
 lines_told w [] = sym (append-nil (log_of w))
 lines_told w (line ∷ lines) =
     lines_told ((step_of w line).world) lines

@@ -14,6 +14,7 @@ pub mod Numbering
 pub mod Given
 pub mod Locks
 pub mod Actors
+pub mod Refusals
 pub mod Tests
 pub mod RunOrder
 pub mod Notes

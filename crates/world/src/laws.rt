@@ -11,12 +11,12 @@ ghost use Rattle.world.specs.Lines.{world_after};
 ghost use Rattle.world.specs.PlanLaws.{PlanLaws};
 ghost use Rattle.world.specs.Reached.{IsReached};
 ghost use Rattle.world.specs.Shown.{IsInRange};
-ghost use Rattle.rcu_model.specs.Headline.{RunsOnceAfterItsSections, UsesNoReclaimed};
-ghost use Rattle.world.specs.Steps.{is_supported_at, fresh_world_at, world_after_lines, log_of, answered_events};
+ghost use Rattle.rcu_model.specs.Promises.{IsSafeLog};
+ghost use Rattle.world.specs.Steps.{WorldView, IsReachedWorld, is_supported_at, fresh_world_at, world_after_lines, log_of, answered_events};
 
 use gp_memb::MembPlan;
 use gp_qsbr::QsbrPlan;
-use rcu_model::callbacks_run_once_after_their_sections;
+use rcu_model::every_run_is_safe;
 use world_state::WorldPlan;
 
 /// What each law of worlds goes by of a plan.
@@ -39,16 +39,22 @@ pub(crate) fn numbers_stay_in_range<P: WorldPlan>()
     plan_keeps_its_laws::<P>();
 }
 
-/// The headline, for every config and first sequence number that make a world, and all lines: the log holds the events
-/// of the answers in order, and is a run of the abstract machine, in which an object's callback runs at most once and
-/// only after every section open at its retirement has ended, so no section ever reads or finds a reclaimed object.
-pub fn every_schedule_reclaims_safely()
-    ensures events { (config : Config) (seq : ℕ) (lines : List Line) → log_of (world_after_lines (fresh_world_at config seq) lines) ≡ answered_events (fresh_world_at config seq) lines }
-    ensures run { (config : Config) (seq : ℕ) (lines : List Line) → IsTrue (is_supported_at config seq) → IsRun (log_of (world_after_lines (fresh_world_at config seq) lines)) }
-    ensures once { (config : Config) (seq : ℕ) (lines : List Line) → IsTrue (is_supported_at config seq) → RunsOnceAfterItsSections (log_of (world_after_lines (fresh_world_at config seq) lines)) }
-    ensures unused { (config : Config) (seq : ℕ) (lines : List Line) → IsTrue (is_supported_at config seq) → UsesNoReclaimed (log_of (world_after_lines (fresh_world_at config seq) lines)) }
+/// The log of each world that lines led to keeps all the promises of logs.
+pub(crate) fn reached_worlds_are_safe()
+    ensures { (w : WorldView) → IsReachedWorld w → IsSafeLog (log_of w) }
 {
     log_is_a_run::<MembPlan>();
     log_is_a_run::<QsbrPlan>();
-    callbacks_run_once_after_their_sections();
+    every_run_is_safe();
+}
+
+/// The headline, for every config and first sequence number that make a world, and all lines: the log holds the events
+/// of the answers in order, and is a run of the abstract machine, in which an object's callback runs at most once and
+/// only after every section open at its retirement has ended, so no section ever reads or finds a reclaimed object; and
+/// an ask is answered, and a barrier ended, at most once and only after what it awaits.
+pub fn every_schedule_reclaims_safely()
+    ensures events { (config : Config) (seq : ℕ) (lines : List Line) → log_of (world_after_lines (fresh_world_at config seq) lines) ≡ answered_events (fresh_world_at config seq) lines }
+    ensures safe { (config : Config) (seq : ℕ) (lines : List Line) → IsTrue (is_supported_at config seq) → IsSafeLog (log_of (world_after_lines (fresh_world_at config seq) lines)) }
+{
+    reached_worlds_are_safe();
 }

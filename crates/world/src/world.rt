@@ -1,21 +1,21 @@
 //! The world: readers, updaters and workers of one flavour, and the log of what their steps told.
 
-ghost use Rattle.std.specs.Prelude.{◌≡◌, ◌⊎◌, ◌≤◌, ◌%◌, ◌^◌, IsTrue, IfOk, IfErr, false};
-ghost use Rattle.rcu_model.specs.Machine.{IsRun};
-ghost use Rattle.rcu_model.specs.Headline.{RunsOnceAfterItsSections, UsesNoReclaimed};
+ghost use Rattle.std.specs.Prelude.{◌≡◌, ◌⊎◌, ◌≤◌, ◌%◌, ◌^◌, ◌++◌, [], IsTrue, IfOk, IfErr, false};
+ghost use Rattle.rcu_model.specs.Promises.{IsSafeLog};
 ghost use Rattle.rcu_model.specs.declared.refusal.Refusal.TheVariants.{BadConfig, Memory};
 ghost use Rattle.world.specs.Actors.{is_in_operation, objects_given};
-ghost use Rattle.world.specs.Drain.{MeetsDrain};
+ghost use Rattle.world.specs.Drain.{MeetsDrain, drain_lines};
+ghost use Rattle.world.specs.Refusals.{IsStepError};
 ghost use Rattle.world.specs.Tests.{first_failing, tests_of, MeetsTests};
-ghost use Rattle.world.specs.Steps.{fresh_world, fresh_world_at, is_supported, is_supported_at, step_of, Meets, log_of, IsOfReader, IsPrompt};
+ghost use Rattle.world.specs.Steps.{fresh_world, fresh_world_at, is_supported, is_supported_at, step_of, Meets, log_of, events_of, answered_events, IsOfReader, IsPrompt};
 
 use crate::actor::Actor;
 use crate::board::Board;
-use crate::laws::{log_is_a_run, numbers_stay_in_range};
+use crate::laws::{every_schedule_reclaims_safely, numbers_stay_in_range, reached_worlds_are_safe};
 use crate::testing::tests_are_made_in_order;
 use gp_memb::MembPlan;
 use gp_qsbr::QsbrPlan;
-use rcu_model::{Event, Refusal, callbacks_run_once_after_their_sections};
+use rcu_model::{Event, Refusal};
 use std::alloc::Global;
 use std::marker::Model;
 use world_state::{Answer, Config, Flavour, Line, StepError};
@@ -55,6 +55,8 @@ impl World {
     /// Refused with `BadConfig` where a number of the config is out of its limits, and with `Memory`.
     pub fn new(alloc: Global, config: Config) -> Result<World, Refusal>
         ensures ok { IfOk result (λ w. IsTrue (is_supported config) × (w ≡ fresh_world config)) }
+        ensures log { IfOk result (λ w. log_of w ≡ []) }
+        ensures safe { IfOk result (λ w. IsSafeLog (log_of w)) }
         ensures err { IfErr result (λ e. ((e ≡ BadConfig) × (is_supported config ≡ false)) ⊎ ((e ≡ Memory) × IsTrue (is_supported config))) }
     {
         World::new_at(alloc, config, 0)
@@ -66,8 +68,11 @@ impl World {
     /// with `Memory`.
     pub fn new_at(alloc: Global, config: Config, seq: u64) -> Result<World, Refusal>
         ensures ok { IfOk result (λ w. IsTrue (is_supported_at config seq) × (w ≡ fresh_world_at config seq)) }
+        ensures log { IfOk result (λ w. log_of w ≡ []) }
+        ensures safe { IfOk result (λ w. IsSafeLog (log_of w)) }
         ensures err { IfErr result (λ e. ((e ≡ BadConfig) × (is_supported_at config seq ≡ false)) ⊎ ((e ≡ Memory) × IsTrue (is_supported_at config seq))) }
     {
+        every_schedule_reclaims_safely();
         if !config.is_within_limits() || seq % 2 != 0 || seq > LAST_START {
             return Err(Refusal::BadConfig);
         }
@@ -100,7 +105,12 @@ impl World {
         ensures tests { MeetsTests (first_failing (tests_of self.old line.now)) self.old self.new result }
         // A reader waits for nobody.
         ensures prompt { IsOfReader line.now → IfOk result IsPrompt }
+        // The log goes on with the events of the answer.
+        ensures log { log_of self.new ≡ log_of self.old ++ events_of result }
+        ensures safe { IsSafeLog (log_of self.new) }
+        ensures refused { IfErr result IsStepError }
     {
+        reached_worlds_are_safe();
         numbers_stay_in_range::<MembPlan>();
         numbers_stay_in_range::<QsbrPlan>();
         tests_are_made_in_order::<MembPlan>();
@@ -122,8 +132,13 @@ impl World {
     /// worker is in an operation; where items are queued, with `Exhausted` where the sequence number is 2^62 or more,
     /// and with `Memory`.
     pub fn drain(&mut self, worker: u32) -> Result<u64, StepError>
-        ensures { MeetsDrain worker self.old self.new result }
+        ensures steps { MeetsDrain worker self.old self.new result }
+        // The log goes on with the events of the answers to its lines.
+        ensures log { IfOk result (λ steps. log_of self.new ≡ log_of self.old ++ answered_events self.old (drain_lines worker steps)) }
+        ensures safe { IsSafeLog (log_of self.new) }
+        ensures refused { IfErr result IsStepError }
     {
+        reached_worlds_are_safe();
         match &mut self.boards {
             Boards::Memb(board) => board.drain(worker),
             Boards::Qsbr(board) => board.drain(worker),
@@ -153,16 +168,13 @@ impl World {
     }
 
     /// What the steps told, in order: always a run of the abstract machine, in which an object's callback runs at most
-    /// once and only after every section open at its retirement has ended, and no section uses a reclaimed object.
+    /// once and only after every section open at its retirement has ended, no section uses a reclaimed object, and an
+    /// ask is answered, and a barrier ended, at most once and only after what it awaits.
     pub fn log(&self) -> &[Event]
         ensures log { result.now ≡ log_of self.now }
-        ensures run { IsRun result.now }
-        ensures once { RunsOnceAfterItsSections result.now }
-        ensures unused { UsesNoReclaimed result.now }
+        ensures safe { IsSafeLog result.now }
     {
-        callbacks_run_once_after_their_sections();
-        log_is_a_run::<MembPlan>();
-        log_is_a_run::<QsbrPlan>();
+        reached_worlds_are_safe();
         match &self.boards {
             Boards::Memb(board) => board.log(),
             Boards::Qsbr(board) => board.log(),

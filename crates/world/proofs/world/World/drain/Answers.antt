@@ -7,6 +7,8 @@ use Rattle.world.specs.Seen.{seen}
 use Rattle.world.specs.Shown.{shown}
 use Rattle.world.specs.Steps.{WorldView, OfMemb, OfQsbr, memb_plans, qsbr_plans, IsReachedWorld}
 use Rattle.world.proofs.DrainWorld.{memb_drain, qsbr_drain, reached_drain}
+use Rattle.world.proofs.Promises.{drain_log}
+use Rattle.world.proofs.Refusals.{drain_refused}
 use Rattle.world.proofs.world.World.drain.Goals.{in-Memb, in-Qsbr}
 use Rattle.world.proofs.world.World.drain.Goals as goal
 
@@ -22,10 +24,19 @@ invariant_of-self c =
 meets : (k : ℕ) (old old' new new' : WorldView) (r r' : Result ℕ Refusal) → old ≡ old' → new ≡ new' → r ≡ r' → MeetsDrain k old' new' r' → MeetsDrain k old new r
 meets k old old' new new' r r' from to same m = subst (λ (v : WorldView). MeetsDrain k v new r) (sym from) (subst (λ (v : WorldView). MeetsDrain k old' v r) (sym to) (subst (λ (x : Result ℕ Refusal). MeetsDrain k old' new' x) (sym same) m))
 
-pub returns : goal.returns
-returns c = elim c.match-self.branch [
+pub returns-clause-steps : goal.returns-clause-steps
+returns-clause-steps c = elim c.match-self.branch [
   | in-Memb w ↦ meets c.args.worker c.args.self.now (OfMemb (shown w.in-Memb.board)) (seen c.match-self.self-inside.boards) (OfMemb (shown w.drain.new.self)) c.match-self.result w.drain.result
       (sym c.self.view_is ∙ ap seen w.in-Memb.is) (ap (λ (i : Inside). seen i.boards) w.self-inside-is) w.result-is (memb_drain c.args.worker (shown w.in-Memb.board) (shown w.drain.new.self) w.drain.result w.drain.ensures)
   | in-Qsbr w ↦ meets c.args.worker c.args.self.now (OfQsbr (shown w.in-Qsbr.board)) (seen c.match-self.self-inside.boards) (OfQsbr (shown w.drain-in-Qsbr.new.self)) c.match-self.result w.drain-in-Qsbr.result
       (sym c.self.view_is ∙ ap seen w.in-Qsbr.is) (ap (λ (i : Inside). seen i.boards) w.self-inside-is) w.result-is (qsbr_drain c.args.worker (shown w.in-Qsbr.board) (shown w.drain-in-Qsbr.new.self) w.drain-in-Qsbr.result w.drain-in-Qsbr.ensures)
 ]
+
+pub returns-clause-log : goal.returns-clause-log
+returns-clause-log c = drain_log c.args.worker c.args.self.now (seen c.match-self.self-inside.boards) c.match-self.result (returns-clause-steps c)
+
+pub returns-clause-safe : goal.returns-clause-safe
+returns-clause-safe c = c.reached_worlds_are_safe.ensures _ (invariant_of-self c)
+
+pub returns-clause-refused : goal.returns-clause-refused
+returns-clause-refused c = drain_refused c.args.worker c.args.self.now (seen c.match-self.self-inside.boards) c.match-self.result (returns-clause-steps c)

@@ -11,6 +11,8 @@ use Rattle.rcu_model.specs.declared.refusal.Refusal.{Refusal}
 use Rattle.world_state.specs.declared.line.Answer.{Answer}
 use Rattle.world.proofs.Prompt.{prompt_meets}
 use Rattle.world.proofs.Reaching.{reached_after}
+use Rattle.world.proofs.Refusals.{step_refused}
+use Rattle.world.proofs.Telling.{log_meets}
 use Rattle.world.proofs.TestsOfSteps.{meets_tests}
 use Rattle.world.proofs.world.World.step.Goals.{in-Memb, in-Qsbr}
 use Rattle.world.proofs.world.World.step.Goals as goal
@@ -45,3 +47,15 @@ returns-clause-tests c =
           let tested = subst (λ v. IsTested qsbr_plans v c.args.line.now) r.leads (c.tests_are_made_in_order-2.ensures r.config r.seq r.lines c.args.line.now r.limits r.even r.low) in
           rw (← c.self.view_is, w.in-Qsbr.is, w.self-inside-is, w.result-is) (meets_tests qsbr_plans OfQsbr (shown w.in-Qsbr.board) (shown w.step-in-Qsbr.new.self) c.args.line.now tested w.step-in-Qsbr.result w.step-in-Qsbr.ensures)
     ]
+
+pub returns-clause-log : goal.returns-clause-log
+returns-clause-log c = elim c.match-self.branch [
+  | in-Memb w ↦ rw (← c.self.view_is, w.in-Memb.is, w.self-inside-is, w.result-is) (log_meets memb_plans (shown w.in-Memb.board) (shown w.step.new.self) c.args.line.now w.step.result w.step.ensures)
+  | in-Qsbr w ↦ rw (← c.self.view_is, w.in-Qsbr.is, w.self-inside-is, w.result-is) (log_meets qsbr_plans (shown w.in-Qsbr.board) (shown w.step-in-Qsbr.new.self) c.args.line.now w.step-in-Qsbr.result w.step-in-Qsbr.ensures)
+]
+
+pub returns-clause-safe : goal.returns-clause-safe
+returns-clause-safe c = c.reached_worlds_are_safe.ensures _ (invariant_of-self c)
+
+pub returns-clause-refused : goal.returns-clause-refused
+returns-clause-refused c = step_refused c.args.self.now (seen c.match-self.self-inside.boards) c.args.line.now c.match-self.result (returns-clause-tests c)
