@@ -22,3 +22,5 @@ pub mod Passing
 pub mod Wholes
 pub mod RoundTrip
 pub mod Starting
+mod Safety
+mod SafelyFed

@@ -4,7 +4,7 @@ use Rattle.std.proofs.lemmas.Bool.{cases_lt}
 use Rattle.std.proofs.lemmas.List.{append-nil, length-append, take-append-drop, take-take}
 use Rattle.schedule.specs.Reading.{Reading}
 use Rattle.schedule.specs.Fault.{Begins, IsColumn}
-use Rattle.schedule.specs.Stream.{IsPartial}
+use Rattle.schedule.specs.Printed.{IsPartial}
 use Rattle.schedule.specs.Printed.{IsBad}
 use Rattle.schedule.proofs.Exact.{Opens, Reads, ok_is, not_both, result_cases, seam}
 use Rattle.schedule.proofs.Columns.{IsText, bad_column}

@@ -1,5 +1,5 @@
 -- What is written of what a replay gives.
-use Rattle.std.proofs.Common.{◌≡◌, ℕ, List, [], ◌++◌, Option, Result, Ok, Err, sym, ap, subst, ◌∙◌, append_assoc}
+use Rattle.std.proofs.Common.{◌≡◌, ℕ, ◌^◌, ◌<◌, List, [], ◌++◌, length, Option, Result, Ok, Err, sym, ap, subst, ◌∙◌, append_assoc}
 use Rattle.std.specs.Prelude.{OnOk}
 use Rattle.std.specs.Io.KnownBytes.{Appends, Consumes, Keeps, IsAtEnd}
 use Rattle.std.proofs.lemmas.List.{append-nil}
@@ -7,6 +7,7 @@ use Rattle.schedule.specs.declared.counts.Counts.{Counts}
 use Rattle.schedule.specs.declared.fault.ReplayFault.{ReplayFault}
 use Rattle.schedule.specs.declared.fault.ReplayFault.TheVariants.{BadText, BadConfig, Read, Write, Memory}
 use Rattle.schedule.specs.Printed.{Prints, IsBeginning, Ends}
+use Rattle.schedule.specs.Safety.{IsSafelyPrinted}
 use Rattle.schedule.specs.Stream.{Progress, Header, Lines, Failed, Stands, LeadsTo, LeadsToEnd, IsSound}
 use Rattle.schedule.specs.Ports.{Tells, Writes, Passed, PassesOn, Closed, ClosesWith, Replayed, Replays, Replaying}
 use Rattle.schedule.proofs.Standing.{mid_begins, mid_answered}
@@ -24,7 +25,7 @@ ends_begins text printed (Err (BadText line column)) e = prints_begins text prin
 ends_begins text printed (Err BadConfig) e = prints_begins text printed (Err BadConfig) e
 ends_begins text printed (Err Read) e = absurd e
 ends_begins text printed (Err Write) e = absurd e
-ends_begins text printed (Err Memory) e = e
+ends_begins text printed (Err Memory) e = e.0
 
 begins_shorter : (text earlier front rest : List ℕ) → IsBeginning text (earlier ++ (front ++ rest)) → IsBeginning text (earlier ++ front)
 begins_shorter text earlier front rest b =
@@ -85,6 +86,9 @@ close_whole fed earlier out before after result l w = record { printed = l.print
 
 -- ---- the whole
 
+abbrev pub EachIsSafe : Type 0
+EachIsSafe = (given left : Option (List ℕ)) (text printed : List ℕ) (result : Result Counts ReplayFault) → Replayed given left text printed result → length printed < 2 ^ 63 → IsSafelyPrinted printed result
+
 replayed_by : (given left : Option (List ℕ)) (text printed : List ℕ) (result : Result Counts ReplayFault) → Tells given text → Closed text printed result → Replayed given left text printed result
 replayed_by given left text printed (Ok counts) t c = (t, c)
 replayed_by given left text printed (Err (BadText line column)) t c = (t, c)
@@ -94,14 +98,16 @@ replayed_by given left text printed (Err Write) t c = (t, c)
 replayed_by given left text printed (Err Memory) t c = (t, c)
 
 -- a read at the end of the text
-pub replays_end : (given left end before now after : Option (List ℕ)) (progress : Progress) (result : Result Counts ReplayFault) → Replaying given left before now progress → Consumes left end [] → IsAtEnd end → ((fed earlier : List ℕ) → Stands progress fed earlier → ClosesWith fed earlier now after result) → Replays given end before after result
-replays_end given left end before now after progress result r reads atend closes =
+pub replays_end : EachIsSafe → (given left end before now after : Option (List ℕ)) (progress : Progress) (result : Result Counts ReplayFault) → Replaying given left before now progress → Consumes left end [] → IsAtEnd end → ((fed earlier : List ℕ) → Stands progress fed earlier → ClosesWith fed earlier now after result) → Replays given end before after result
+replays_end law given left end before now after progress result r reads atend closes =
     let c = closes r.read r.printed r.stands in
+    let replayed = replayed_by given end r.read (r.printed ++ c.printed) result (tells_all given end r.read (subst (Consumes given end) (append-nil r.read) (consumes_more given left end r.read [] r.reads reads)) atend) c.closed in
     record {
       text = r.read;
       printed = r.printed ++ c.printed;
       writes = appends_more before now after r.printed c.printed r.writes c.writes;
-      replayed = replayed_by given end r.read (r.printed ++ c.printed) result (tells_all given end r.read (subst (Consumes given end) (append-nil r.read) (consumes_more given left end r.read [] r.reads reads)) atend) c.closed;
+      replayed = replayed;
+      safe = law given end r.read (r.printed ++ c.printed) result replayed;
     }
 
 passed_closed : (new : Progress) (fed printed more : List ℕ) (fault : ReplayFault) → Passed new fed printed (Err fault) → Closed (fed ++ more) printed (Err fault)
@@ -112,25 +118,24 @@ passed_closed new fed printed more Write p = p more
 passed_closed new fed printed more Memory p = p more
 
 -- a fault in a piece
-pub replays_fault : (given left then before now after : Option (List ℕ)) (old new : Progress) (piece : List ℕ) (fault : ReplayFault) → Replaying given left before now old → Consumes left then piece → ((fed earlier : List ℕ) → Stands old fed earlier → PassesOn new (fed ++ piece) earlier now after (Err fault)) → Replays given then before after (Err fault)
-replays_fault given left then before now after old new piece fault r reads passes =
+pub replays_fault : EachIsSafe → (given left then before now after : Option (List ℕ)) (old new : Progress) (piece : List ℕ) (fault : ReplayFault) → Replaying given left before now old → Consumes left then piece → ((fed earlier : List ℕ) → Stands old fed earlier → PassesOn new (fed ++ piece) earlier now after (Err fault)) → Replays given then before after (Err fault)
+replays_fault law given left then before now after old new piece fault r reads passes =
     let p = passes r.read r.printed r.stands in
     let more = tells_more given then (r.read ++ piece) (consumes_more given left then r.read piece r.reads reads) in
+    let replayed = replayed_by given then ((r.read ++ piece) ++ more.0) (r.printed ++ p.printed) (Err fault) more.1 (passed_closed new (r.read ++ piece) (r.printed ++ p.printed) more.0 fault p.passed) in
     record {
       text = (r.read ++ piece) ++ more.0;
       printed = r.printed ++ p.printed;
       writes = appends_more before now after r.printed p.printed r.writes p.writes;
-      replayed = replayed_by given then ((r.read ++ piece) ++ more.0) (r.printed ++ p.printed) (Err fault) more.1 (passed_closed new (r.read ++ piece) (r.printed ++ p.printed) more.0 fault p.passed);
+      replayed = replayed;
+      safe = law given then ((r.read ++ piece) ++ more.0) (r.printed ++ p.printed) (Err fault) replayed;
     }
 
 -- a fault of the reader
-pub replays_read : (given left then before now : Option (List ℕ)) (progress : Progress) → Replaying given left before now progress → Keeps left then → Replays given then before now (Err Read)
-replays_read given left then before now progress r keeps = record {
-  text = r.read;
-  printed = r.printed;
-  writes = r.writes;
-  replayed = (consumes_kept given left then r.read r.reads keeps, record { progress = progress; sound = r.sound; stands = r.stands });
-}
+pub replays_read : EachIsSafe → (given left then before now : Option (List ℕ)) (progress : Progress) → Replaying given left before now progress → Keeps left then → Replays given then before now (Err Read)
+replays_read law given left then before now progress r keeps =
+    let replayed : Replayed given then r.read r.printed (Err Read) = (consumes_kept given left then r.read r.reads keeps, record { progress = progress; sound = r.sound; stands = r.stands }) in
+    record { text = r.read; printed = r.printed; writes = r.writes; replayed = replayed; safe = law given then r.read r.printed (Err Read) replayed }
 
 -- a piece more
 pub replaying_more : (given left then before now after : Option (List ℕ)) (old new : Progress) (piece : List ℕ) (result : Result (Unit {0}) ReplayFault) (u : Unit {0}) → result ≡ Ok u → Replaying given left before now old → Consumes left then piece → ((fed earlier : List ℕ) → Stands old fed earlier → PassesOn new (fed ++ piece) earlier now after (Ok u)) → Replaying given then before after new

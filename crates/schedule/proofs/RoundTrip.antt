@@ -17,14 +17,14 @@ use Rattle.world_state.specs.declared.line.Answer.{Answer}
 use Rattle.world_state.specs.declared.line.Answer.TheVariants.{Events, Quiet, Wait, Blocked, Idle}
 use Rattle.world_state.specs.declared.line.Line.{Line}
 use Rattle.world.specs.Numbering.{IsFoundWithin, IsNumberedWithin}
-use Rattle.world.specs.Steps.{WorldView, step_of, events_of, answered_events}
+use Rattle.world.specs.Steps.{WorldView, step_of, world_after_lines, events_of, answered_events}
 use Rattle.schedule.specs.declared.counts.Counts.{Counts}
 use Rattle.schedule.specs.declared.answer_line.AnswerLine.{AnswerLine}
 use Rattle.schedule.specs.declared.answer_line.AnswerLine.TheVariants as line
 use Rattle.schedule.specs.Answers.{answer_line, opens, retires, runs, counts_of, end_line}
 use Rattle.schedule.specs.Spelling.{IsNumber}
 use Rattle.schedule.specs.Printed.{answers_of}
-use Rattle.schedule.specs.AnswerLines.{IsLong, IsFound, IsEvent, IsAnswerLine, spelled, told_by, TellsLog}
+use Rattle.schedule.specs.AnswerLines.{IsLong, IsFound, IsEvent, IsAnswerLine, IsAnswerText, spelled, told_by, TellsLog}
 
 -- the line of an answer
 answer_as : Result Answer Refusal → AnswerLine
@@ -209,13 +209,28 @@ answers_size w (l ∷ ls) =
     let long = length-append (answer_line (step_of w l).answer) (answers_of ((step_of w l).world) ls) in
     omega (arith, one, more, long)
 
-pub lines_in : (w : WorldView) (ls : List Line) (rest printed : List ℕ) → printed ≡ answers_of w ls ++ rest → length printed < 2 ^ 63 → IsLong (2 * length ls)
-lines_in w ls rest printed parts short =
+pub lines_short : (w : WorldView) (ls : List Line) (rest printed : List ℕ) → printed ≡ answers_of w ls ++ rest → length printed < 2 ^ 63 → 2 * length ls < 9223372036854775808
+lines_short w ls rest printed parts short =
     let size = answers_size w ls in
     let whole = ap length parts in
     let both = length-append (answers_of w ls) rest in
-    let low : 2 * length ls < 9223372036854775808 = omega (arith, size, whole, both, short) in
-    omega (arith, low)
+    omega (arith, size, whole, both, short)
+
+pub lines_in : (w : WorldView) (ls : List Line) (rest printed : List ℕ) → printed ≡ answers_of w ls ++ rest → length printed < 2 ^ 63 → IsLong (2 * length ls)
+lines_in w ls rest printed parts short = let low = lines_short w ls rest printed parts short in omega (arith, low)
+
+-- the answer to the last of these lines is one of the language
+last_is : (w : WorldView) (ls : List Line) (l : Line) → Every IsAnswerLine (lines_of w (ls ++ l ∷ [])) → IsAnswerLine (answer_as (step_of (world_after_lines w ls) l).answer)
+unfolding lines_of
+last_is w [] l each = each.0
+last_is w (m ∷ ls) l each = last_is ((step_of w m).world) ls l each.1
+
+pub answer_is_text : (w : WorldView) (ls : List Line) (l : Line) → IsLong (2 * length (ls ++ l ∷ [])) → All (IsNumberedWithin (2 * length (ls ++ l ∷ []))) (answered_events w (ls ++ l ∷ [])) → IsAnswerText (answer_line (step_of (world_after_lines w ls) l).answer)
+answer_is_text w ls l long numbered =
+    let n = 2 * length (ls ++ l ∷ []) in
+    let each = lines_long n long w (ls ++ l ∷ []) (recursion_from_All (IsNumberedWithin n) (answered_events w (ls ++ l ∷ [])) numbered) in
+    let answer = (step_of (world_after_lines w ls) l).answer in
+    (answer_as answer, (last_is w ls l each, answer_spelled answer))
 
 -- ---- the log
 
@@ -236,6 +251,9 @@ module _ (w : WorldView) (ls : List Line) (long : IsLong (2 * length ls)) (numbe
       let retired = count_by-le-length retires log in
       let ran = count_by-le-length runs log in
       (count_long _ (omega (arith, opened)), count_long _ (omega (arith, retired)), count_long _ ran)
+
+  pub end_is_text : (counts : Counts) → counts ≡ counts_of (answered_events w ls) → IsAnswerText (end_line counts)
+  end_is_text counts is = (line.End counts, (subst (λ (c : Counts). IsAnswerLine (line.End c)) (sym is) end_long, refl))
 
   pub tells_all : (counts : Counts) → counts ≡ counts_of (answered_events w ls) → TellsLog (answers_of w ls ++ end_line counts) (answered_events w ls)
   tells_all counts is = record {

@@ -13,7 +13,7 @@ use Rattle.schedule.specs.Spelling.{spelling, IsLine, LineText, IsLineText}
 use Rattle.schedule.specs.Header.{header, HeaderText, IsHeaderText}
 use Rattle.schedule.specs.Grammar.{line_at, header_at}
 use Rattle.schedule.specs.Answers.{counts_of, end_line}
-use Rattle.schedule.specs.Printed.{lines_text, answers_of, line_after, IsSchedule, IsBad, OutOfLimits, Prints, IsBeginning, Ends}
+use Rattle.schedule.specs.Printed.{HasHeader, MakesWorld, lines_text, answers_of, line_after, IsSchedule, IsBad, OutOfLimits, Prints, IsBeginning, Ends}
 use Rattle.schedule.specs.Play.{point, number_on, Plays, PlaysAll, EndsLines}
 use Rattle.schedule.specs.Stream.{Progress, Header, Lines, Failed, Stands, Leads, LeadsTo, LeadsToEnd}
 use Rattle.schedule.proofs.Exact.{result_cases}
@@ -154,6 +154,9 @@ mid_prints w n left text printed mid c =
 pub mid_begins : (w : WorldView) (n : ℕ) (left text printed : List ℕ) → Mid w n left text printed → IsBeginning text printed
 mid_begins w n left text printed mid = mid_prints w n left text printed mid (cut (length left) left (omega arith))
 
+pub mid_makes : (w : WorldView) (n : ℕ) (left text printed : List ℕ) → Mid w n left text printed → MakesWorld text
+mid_makes w n left text printed mid = (mid.config, lines_text mid.lines ++ left, record { is_header = mid.schedule.header; within = mid.schedule.supported; parts = mid.parts })
+
 -- ---- where a replay stands
 
 pub stands_answered : (w : WorldView) (n : ℕ) (left text printed : List ℕ) → Mid w n left text printed → line_at left ≡ Err [] → Stands (Lines w n left) text printed
@@ -168,8 +171,11 @@ stands_answered w n left text printed mid e = record {
   answers = mid.answers;
 }
 
+mid_at : (w : WorldView) (n : ℕ) (held text printed : List ℕ) → Stands (Lines w n held) text printed → Mid w n held text printed
+mid_at w n held text printed s = record { config = s.config; lines = s.lines; schedule = s.schedule; parts = s.parts; now = s.now; number = s.number; answers = s.answers }
+
 pub mid_answered : (w : WorldView) (n : ℕ) (held text printed piece : List ℕ) → Stands (Lines w n held) text printed → Mid w n (held ++ piece) (text ++ piece) printed
-mid_answered w n held text printed piece s = mid_more w n held text printed piece (record { config = s.config; lines = s.lines; schedule = s.schedule; parts = s.parts; now = s.now; number = s.number; answers = s.answers })
+mid_answered w n held text printed piece s = mid_more w n held text printed piece (mid_at w n held text printed s)
 
 pub answered_reads : (w : WorldView) (n : ℕ) (held text printed : List ℕ) → Stands (Lines w n held) text printed → line_at held ≡ Err []
 answered_reads w n held text printed s = partial_reads LineText line_at line_reads held s.partial
@@ -193,7 +199,9 @@ stands_bad w n left text printed b bs column mid e place = λ more.
     }
 
 pub stands_full : (w : WorldView) (n : ℕ) (left text printed : List ℕ) → Mid w n left text printed → Stands (Failed Memory) text printed
-stands_full w n left text printed mid = λ more. mid_begins w n (left ++ more) (text ++ more) printed (mid_more w n left text printed more mid)
+stands_full w n left text printed mid = λ more.
+    let m = mid_more w n left text printed more mid in
+    (mid_begins w n (left ++ more) (text ++ more) printed m, mid_makes w n (left ++ more) (text ++ more) printed m)
 
 -- lines are played, or a fault comes
 pub plays_lead : (w v : WorldView) (m n : ℕ) (left rest text earlier before after : List ℕ) (result : Result (Unit {0}) ReplayFault) → Mid w m left text earlier → PlaysAll (point w m left before) (point v n rest after) result → LeadsTo result (Lines v n rest) text earlier before after
@@ -252,8 +260,8 @@ header_begins text rest config true e s = mid_begins (fresh_world config) 2 rest
 header_begins text rest config false e s =
     ([], Err BadConfig, subst (λ (t : List ℕ). OutOfLimits t []) (append-nil text) (out_of_limits text rest [] config e s))
 
-pub stands_full_header : (text rest : List ℕ) (config : Config) → header_at text ≡ Ok (config, rest) → Stands (Failed Memory) text []
-stands_full_header text rest config e = λ more. header_begins (text ++ more) (rest ++ more) config (is_supported config) (ok_more HeaderText header_at header_reads text more config rest e) refl
+pub stands_full_header : (text rest : List ℕ) (config : Config) → header_at text ≡ Ok (config, rest) → IsTrue (is_supported config) → Stands (Failed Memory) text []
+stands_full_header text rest config e supported = stands_full (fresh_world config) 2 rest text [] (fresh_mid text rest config e supported)
 
 pub stands_bad_header : (text : List ℕ) (b : ℕ) (bs : List ℕ) (column : ℕ) → header_at text ≡ Err (b ∷ bs) → column + length (b ∷ bs) ≡ length text + 1 → Stands (Failed (BadText 1 column)) text []
 stands_bad_header text b bs column e place = λ more.
@@ -297,11 +305,11 @@ lines_run fed piece earlier before after held w v m n r result s plays =
 
 -- a header of which no world is made
 pub no_world : (held fed piece earlier before rest : List ℕ) (config : Config) (fault : ReplayFault)
-    → Stands (Header held) fed earlier → header_at (held ++ piece) ≡ Ok (config, rest) → ((fault ≡ BadConfig) × (is_supported config ≡ false)) ⊎ (fault ≡ Memory) → Leads (Failed fault) (fed ++ piece) earlier before before
+    → Stands (Header held) fed earlier → header_at (held ++ piece) ≡ Ok (config, rest) → ((fault ≡ BadConfig) × (is_supported config ≡ false)) ⊎ ((fault ≡ Memory) × IsTrue (is_supported config)) → Leads (Failed fault) (fed ++ piece) earlier before before
 no_world held fed piece earlier before rest config fault s e (inl bad) =
     header_leads (Failed fault) held fed piece earlier before s (rw bad.0 (stands_bad_config (held ++ piece) rest config e bad.1))
 no_world held fed piece earlier before rest config fault s e (inr full) =
-    header_leads (Failed fault) held fed piece earlier before s (rw full (stands_full_header (held ++ piece) rest config e))
+    header_leads (Failed fault) held fed piece earlier before s (rw full.0 (stands_full_header (held ++ piece) rest config e full.1))
 
 -- ---- the end of the input
 
@@ -348,7 +356,7 @@ lines_end w n held fed earlier before after (Ok counts) s e = record { printed =
 lines_end w n held fed earlier before after (Err (BadText line column)) s e =
     ends_bare fed earlier before after (Err (BadText line column)) e.3 (rw (e.1, e.2) (ends_cut w n held fed earlier e.0 s))
 lines_end w n held fed earlier before after (Err Memory) s e =
-    ends_bare fed earlier before after (Err Memory) e (subst (λ (t : List ℕ). IsBeginning t earlier) (append-nil fed) (mid_begins w n (held ++ []) (fed ++ []) earlier (mid_answered w n held fed earlier [] s)))
+    ends_bare fed earlier before after (Err Memory) e (subst (λ (t : List ℕ). Ends t earlier (Err Memory)) (append-nil fed) (stands_full w n held fed earlier (mid_at w n held fed earlier s) []))
 lines_end w n held fed earlier before after (Err BadConfig) s e = absurd e
 lines_end w n held fed earlier before after (Err Read) s e = absurd e
 lines_end w n held fed earlier before after (Err Write) s e = absurd e

@@ -9,10 +9,10 @@ use Rattle.world_state.specs.declared.line.Line.{Line}
 use Rattle.schedule.specs.Spelling.{spelling, IsLine, LineText}
 use Rattle.schedule.specs.Header.{header, HeaderText}
 use Rattle.schedule.specs.Grammar.{line_at, header_at}
-use Rattle.schedule.specs.Printed.{lines_text, line_after}
+use Rattle.schedule.specs.Printed.{lines_text, line_after, HasHeader}
 use Rattle.schedule.specs.declared.fault.ScheduleFault.{ScheduleFault}
 use Rattle.schedule.specs.declared.fault.ScheduleFault.TheVariants.{BadText, BadConfig, Memory}
-use Rattle.schedule.specs.Whole.{AreLines, BreaksOff, IsNoLines, HasHeader, IsWhole, IsOutOfLimits, HasNoHeader, IsNoSchedule}
+use Rattle.schedule.specs.Whole.{AreLines, BreaksOff, IsNoLines, IsWhole, IsOutOfLimits, HasNoHeader, IsNoSchedule}
 use Rattle.schedule.proofs.Lines.{line_reads}
 use Rattle.schedule.proofs.Headers.{header_reads}
 use Rattle.schedule.proofs.More.{bad_at}
@@ -56,4 +56,4 @@ no_header text bad column e place = record { bad = bad_at HeaderText header_at h
 pub no_lines : (text rest : List ℕ) (config : Config) (fault : ScheduleFault) → HasHeader text config rest → IsNoLines rest fault → IsNoSchedule text fault
 no_lines text rest config (BadText line column) h n = inr record { config = config; rest = rest; headed = h; breaks = n }
 no_lines text rest config BadConfig h n = absurd n
-no_lines text rest config Memory h n = tt
+no_lines text rest config Memory h n = (config, rest, h)

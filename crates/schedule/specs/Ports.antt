@@ -1,10 +1,11 @@
 -- A replay from a reader to a writer, which may tell their bytes.
-use Rattle.std.specs.Prelude.{◌≡◌, ◌⊎◌, ℕ, List, ◌++◌, Option, None, Some, Result, Ok, Err}
+use Rattle.std.specs.Prelude.{◌≡◌, ◌⊎◌, ℕ, ◌<◌, ◌^◌, List, ◌++◌, length, Option, None, Some, Result, Ok, Err}
 use Rattle.std.specs.Io.KnownBytes.{Appends, Consumes}
 use Rattle.schedule.specs.declared.counts.Counts.{Counts}
 use Rattle.schedule.specs.declared.fault.ReplayFault.{ReplayFault}
 use Rattle.schedule.specs.declared.fault.ReplayFault.TheVariants.{Read, Write, Memory}
 use Rattle.schedule.specs.Printed.{IsBeginning, Ends}
+use Rattle.schedule.specs.Safety.{IsSafelyPrinted}
 use Rattle.schedule.specs.Stream.{Progress, Failed, Stands, IsSound}
 
 -- the known bytes are these
@@ -60,7 +61,8 @@ pub record IsAnsweredSoFar (fed printed : List ℕ) : Type 0 where
   pub sound : IsSound progress
   pub stands : Stands progress fed printed
 
--- What is written of the reader's text. After a read fault it is the answers to the lines that were read.
+-- What is written of the reader's text. After a read fault it is the answers to the lines that were read. It tells one
+-- safe log, where it is less than 2^63 bytes.
 abbrev pub Replayed : Option (List ℕ) → Option (List ℕ) → List ℕ → List ℕ → Result Counts ReplayFault → Type 0
 Replayed given left text printed (Err Read) = Consumes given left text × IsAnsweredSoFar text printed
 Replayed given left text printed result = Tells given text × Closed text printed result
@@ -70,6 +72,7 @@ pub record Replays (given left before after : Option (List ℕ)) (result : Resul
   pub printed : List ℕ
   pub writes : Appends before after printed
   pub replayed : Replayed given left text printed result
+  pub safe : length printed < 2 ^ 63 → IsSafelyPrinted printed result
 
 -- in the middle of the reader's text
 pub record Replaying (given left before after : Option (List ℕ)) (progress : Progress) : Type 0 where

@@ -35,6 +35,10 @@ pub record IsBad (IsText : List ℕ → Type 0) (text : List ℕ) (column : ℕ)
   pub none : (front more : List ℕ) → IsText front → text ≡ front ++ more → ⊥
   pub place : IsColumn IsText text column
 
+-- less than a whole text of the language: some text begins so, and goes on
+abbrev pub IsPartial : (List ℕ → Type 0) → List ℕ → Type 0
+IsPartial IsText front = (more : List ℕ) × (0 < length more) × IsText (front ++ more)
+
 -- The header is line 1. A line from 2^64 - 1 on goes by that number.
 abbrev pub line_after : ℕ → ℕ
 line_after lines = min (lines + 2) (2 ^ 64 - 1)
@@ -90,7 +94,16 @@ Prints text printed (Err Memory) = ⊥
 abbrev pub IsBeginning : List ℕ → List ℕ → Type 0
 IsBeginning text printed = (more : List ℕ) × (result : Result Counts ReplayFault) × Prints text (printed ++ more) result
 
--- what is printed where memory may be refused
+-- a header within its limits, whatever follows
+pub record HasHeader (text : List ℕ) (config : Config) (rest : List ℕ) : Type 0 where
+  pub is_header : IsHeader config
+  pub within : IsTrue (is_supported config)
+  pub parts : text ≡ header config ++ rest
+
+abbrev pub MakesWorld : List ℕ → Type 0
+MakesWorld text = (config : Config) × (rest : List ℕ) × HasHeader text config rest
+
+-- what is printed where memory may be refused, as it may be once there is a world
 abbrev pub Ends : List ℕ → List ℕ → Result Counts ReplayFault → Type 0
-Ends text printed (Err Memory) = IsBeginning text printed
+Ends text printed (Err Memory) = IsBeginning text printed × MakesWorld text
 Ends text printed result = Prints text printed result

@@ -1,27 +1,35 @@
--- What is printed tells a run in which callbacks run in time.
-use Rattle.std.specs.Prelude.{◌≡◌, ◌⊎◌, ℕ, List, [], ◌++◌, IsTrue}
+-- What is printed tells one log, and that log keeps all its promises.
+use Rattle.std.specs.Prelude.{◌≡◌, ℕ, ◌<◌, ◌^◌, List, ◌++◌, length, Result, Ok, Err}
 use Rattle.rcu_model.specs.declared.event.Event.{Event}
-use Rattle.rcu_model.specs.Machine.{IsRun}
-use Rattle.rcu_model.specs.Headline.{RunsOnceAfterItsSections, UsesNoReclaimed}
-use Rattle.world_state.specs.declared.config.Config.{Config}
-use Rattle.world_state.specs.declared.line.Line.{Line}
-use Rattle.world.specs.Steps.{is_supported, fresh_world, answered_events}
-use Rattle.schedule.specs.Printed.{answers_of}
+use Rattle.rcu_model.specs.Promises.{IsSafeLog}
+use Rattle.schedule.specs.declared.fault.ReplayFault.{ReplayFault}
+use Rattle.schedule.specs.declared.fault.ReplayFault.TheVariants.{Write, Memory}
+use Rattle.schedule.specs.AnswerLines.{TellsLog, IsAnswerText}
+use Rattle.schedule.specs.Printed.{IsPartial}
 
--- a run, in which an object's callback runs at most once and only after every section open at its retirement has ended
-pub record IsSafeLog (log : List Event) : Type 0 where
-  pub run : IsRun log
-  pub once : RunsOnceAfterItsSections log
-  pub unused : UsesNoReclaimed log
-
--- the answers to lines, whose events are such a log, and then the end line or nothing
+-- lines of answers, whose events are one log and no other, and that log is safe
 pub record TellsSafeLog (printed : List ℕ) : Type 0 where
-  pub config : Config
-  pub lines : List Line
-  pub ending : List ℕ
-  pub supported : IsTrue (is_supported config)
-  pub answers : printed ≡ answers_of (fresh_world config) lines ++ ending
-  pub safe : IsSafeLog (answered_events (fresh_world config) lines)
+  pub log : List Event
+  pub tells : TellsLog printed log
+  pub only : (other : List Event) → TellsLog printed other → other ≡ log
+  pub safe : IsSafeLog log
 
-abbrev pub IsSafelyPrinted : List ℕ → Type 0
-IsSafelyPrinted printed = (printed ≡ []) ⊎ TellsSafeLog printed
+-- such lines, and less than one more line
+pub record BeginsSafely (printed : List ℕ) : Type 0 where
+  pub whole : List ℕ
+  pub rest : List ℕ
+  pub parts : printed ≡ whole ++ rest
+  pub less : IsPartial IsAnswerText rest
+  pub safe : TellsSafeLog whole
+
+-- what was printed with this result: a failed write and refused memory may leave less than a line at the end
+abbrev pub IsSafelyPrinted : {X : Type 0} → List ℕ → Result X ReplayFault → Type 0
+IsSafelyPrinted printed (Err Write) = BeginsSafely printed
+IsSafelyPrinted printed (Err Memory) = BeginsSafely printed
+IsSafelyPrinted printed result = TellsSafeLog printed
+
+-- the same of what was printed earlier with what is appended now, where it is less than 2^63 bytes, as every slice is
+pub record AppendsSafely {X : Type 0} (earlier before after : List ℕ) (result : Result X ReplayFault) : Type 0 where
+  pub printed : List ℕ
+  pub appends : after ≡ before ++ printed
+  pub safe : length (earlier ++ printed) < 2 ^ 63 → IsSafelyPrinted (earlier ++ printed) result

@@ -1,5 +1,5 @@
 -- A schedule that comes in pieces.
-use Rattle.std.specs.Prelude.{◌≡◌, ◌≢◌, ℕ, ◌<◌, List, [], ◌++◌, length, Result, Ok, Err}
+use Rattle.std.specs.Prelude.{◌≡◌, ◌≢◌, ℕ, ◌<◌, List, [], ◌∷◌, ◌++◌, length, IfErr, Result, Ok, Err}
 use Rattle.world_state.specs.declared.config.Config.{Config}
 use Rattle.world_state.specs.declared.line.Line.{Line}
 use Rattle.world.specs.Steps.{WorldView, fresh_world, world_after_lines}
@@ -9,17 +9,13 @@ use Rattle.schedule.specs.declared.stage.Stage.{Stage}
 use Rattle.schedule.specs.declared.stage.Stage.TheVariants as stages
 use Rattle.schedule.specs.Spelling.{IsLineText}
 use Rattle.schedule.specs.Header.{header, IsHeaderText}
-use Rattle.schedule.specs.Printed.{IsSchedule, lines_text, answers_of, line_after, Ends}
+use Rattle.schedule.specs.Printed.{IsPartial, IsSchedule, lines_text, answers_of, line_after, Ends}
 
 -- where a replay stands
 pub data Progress : Type 0 where
   Header : List ℕ → Progress  -- what has come of the header
   Lines : WorldView → ℕ → List ℕ → Progress  -- the world, the number of the next line, and what has come of it
   Failed : ReplayFault → Progress
-
--- less than a whole text of the language: some text begins so, and goes on
-abbrev pub IsPartial : (List ℕ → Type 0) → List ℕ → Type 0
-IsPartial IsText front = (more : List ℕ) × (0 < length more) × IsText (front ++ more)
 
 -- a header and whole lines came, each line was answered, and less than a line came after them
 pub record IsAnswered (world : WorldView) (line : ℕ) (held fed printed : List ℕ) : Type 0 where
@@ -61,6 +57,18 @@ pub record LeadsToEnd (fed earlier before after : List ℕ) (result : Result Cou
 
 abbrev pub Finishes : Progress → List ℕ → List ℕ → Result Counts ReplayFault → Type 0
 Finishes old before after result = (fed earlier : List ℕ) → Stands old fed earlier → LeadsToEnd fed earlier before after result
+
+-- one call of `feed`, as its contract has it
+pub record IsFed (old new : Progress) (piece before after : List ℕ) : Type 0 where
+  pub result : Result (Unit {0}) ReplayFault
+  pub feeds : Feeds old new piece before after result
+  pub failed : IfErr result (λ fault. new ≡ Failed fault)
+
+-- calls with these pieces, one after the other
+abbrev pub AreFed : Progress → Progress → List (List ℕ) → List ℕ → List ℕ → Type 0
+AreFed old new [] before after = (new ≡ old) × (after ≡ before)
+AreFed old new (piece ∷ pieces) before after =
+    (next : Progress) × (between : List ℕ) × IsFed old next piece before between × AreFed next new pieces between after
 
 -- a fault is answered again, and nothing more is appended
 abbrev pub StaysFailed : {X : Type 0} → Progress → List ℕ → List ℕ → Result X ReplayFault → Type 0

@@ -7,7 +7,7 @@ use Rattle.schedule.specs.declared.fault.ScheduleFault.{ScheduleFault}
 use Rattle.schedule.specs.declared.fault.ScheduleFault.TheVariants.{BadText, BadConfig, Memory}
 use Rattle.schedule.specs.Spelling.{IsLine, IsLineText}
 use Rattle.schedule.specs.Header.{header, IsHeader, IsHeaderText}
-use Rattle.schedule.specs.Printed.{lines_text, line_after, IsBad}
+use Rattle.schedule.specs.Printed.{lines_text, line_after, IsBad, HasHeader, MakesWorld}
 
 pub record AreLines (text : List ℕ) (lines : List Line) : Type 0 where
   pub each : All IsLine lines
@@ -28,12 +28,6 @@ abbrev pub IsNoLines : List ℕ → ScheduleFault → Type 0
 IsNoLines text (BadText line column) = BreaksOff text line column
 IsNoLines text BadConfig = ⊥
 IsNoLines text Memory = Unit {0}
-
--- a header within its limits
-pub record HasHeader (text : List ℕ) (config : Config) (rest : List ℕ) : Type 0 where
-  pub is_header : IsHeader config
-  pub within : IsTrue (is_within_limits config)
-  pub parts : text ≡ header config ++ rest
 
 pub record IsWhole (text : List ℕ) (config : Config) (lines : List Line) : Type 0 where
   pub is_header : IsHeader config
@@ -61,8 +55,8 @@ pub record HasBadLine (text : List ℕ) (line column : ℕ) : Type 0 where
   pub headed : HasHeader text config rest
   pub breaks : BreaksOff rest line column
 
--- why a text is no schedule: memory may be refused at any text
+-- why a text is no schedule: memory may be refused at any text that begins with a header within its limits
 abbrev pub IsNoSchedule : List ℕ → ScheduleFault → Type 0
 IsNoSchedule text (BadText line column) = HasNoHeader text line column ⊎ HasBadLine text line column
 IsNoSchedule text BadConfig = IsOutOfLimits text
-IsNoSchedule text Memory = Unit {0}
+IsNoSchedule text Memory = MakesWorld text

@@ -1,11 +1,13 @@
 //! A schedule that comes in pieces, replayed as it comes.
 
-ghost use Rattle.std.specs.Prelude.{◌≡◌, [], IfErr, OnOk};
+ghost use Rattle.std.specs.Prelude.{◌≡◌, ℕ, List, [], IfErr, OnOk};
+ghost use Rattle.schedule.specs.Safety.{AppendsSafely};
 ghost use Rattle.schedule.specs.Stream.{Progress, Header, Failed, progress_of, Stands, Feeds, Finishes, StaysFailed, IsSound};
 
 use crate::counts::Counts;
 use crate::fault::ReplayFault;
 use crate::held::Held;
+use crate::laws::each_text_reclaims_safely;
 use crate::running::Running;
 use crate::stage::Stage;
 use std::alloc::Global;
@@ -66,9 +68,12 @@ impl Replay {
     pub fn feed(&mut self, piece: &[u8], out: &mut Vec<u8>) -> Result<(), ReplayFault>
         ensures feeds { Feeds self.old self.new piece.now out.old.items out.new.items result }
         ensures sound { OnOk result (IsSound self.new) }
+        // What was printed so far tells one safe log.
+        ensures safe { (fed earlier : List ℕ) → Stands self.old fed earlier → AppendsSafely earlier out.old.items out.new.items result }
         ensures err { IfErr result (λ fault. self.new ≡ Failed fault) }
         ensures failed { StaysFailed self.old out.old.items out.new.items result }
     {
+        each_text_reclaims_safely();
         let result = self.go_on(piece, out);
         if let Err(fault) = result {
             self.stage = Stage::Failed(fault);
@@ -95,10 +100,13 @@ impl Replay {
     /// not ended, and `Memory`. After a fault each call answers the same fault, and writes nothing.
     pub fn finish(&mut self, out: &mut Vec<u8>) -> Result<Counts, ReplayFault>
         ensures finishes { Finishes self.old out.old.items out.new.items result }
+        // What was printed tells one safe log.
+        ensures safe { (fed earlier : List ℕ) → Stands self.old fed earlier → AppendsSafely earlier out.old.items out.new.items result }
         ensures ok { OnOk result (self.new ≡ self.old) }
         ensures err { IfErr result (λ fault. self.new ≡ Failed fault) }
         ensures failed { StaysFailed self.old out.old.items out.new.items result }
     {
+        each_text_reclaims_safely();
         let result = self.end(out);
         if let Err(fault) = result {
             self.stage = Stage::Failed(fault);

@@ -28,7 +28,9 @@ pub use answers::print_event;
 pub use counts::Counts;
 pub use fault::{AnswersFault, ReplayFault, ScheduleFault};
 pub use feeding::Replay;
-pub use laws::{each_text_prints_once, each_text_reclaims_safely};
+pub use laws::{
+    each_text_prints_once, each_text_reclaims_safely, pieces_print_what_their_text_prints,
+};
 pub use ports::{PIECE, read_whole, write_whole};
 pub use reading::{TextFault, read_line};
 pub use round_trip::answers_tell_the_log;

@@ -30,7 +30,7 @@ impl Running {
     /// A fresh world, before its first line. `BadConfig` where the world does not support the config; `Memory`.
     pub fn new(alloc: Global, config: Config) -> Result<Running, ReplayFault>
         ensures ok { IfOk result (λ r. IsTrue (is_supported config) × (r.world ≡ fresh_world config) × (r.line ≡ 2) × (r.held ≡ [])) }
-        ensures err { IfErr result (λ fault. ((fault ≡ BadConfig) × (is_supported config ≡ false)) ⊎ (fault ≡ Memory)) }
+        ensures err { IfErr result (λ fault. ((fault ≡ BadConfig) × (is_supported config ≡ false)) ⊎ ((fault ≡ Memory) × IsTrue (is_supported config))) }
     {
         match World::new(alloc, config) {
             Ok(world) => Ok(Running {

@@ -6,6 +6,7 @@ ghost use Rattle.schedule.specs.Ports.{Passes, Closes, Replays};
 use crate::counts::Counts;
 use crate::fault::ReplayFault;
 use crate::feeding::Replay;
+use crate::laws::each_text_reclaims_safely;
 use crate::ports::{PIECE, write_whole};
 use std::alloc::Global;
 use std::io::{Read, Write};
@@ -41,7 +42,8 @@ fn close<W: Write>(
 
 /// Reads a schedule to its end, writes the answer of each line and then the end line, and answers the counts of that
 /// line. What each piece gives is written before the next one is read. `BadText`, `BadConfig`, `Read`, `Write` and
-/// `Memory` as they come: nothing is read or written again after an error.
+/// `Memory` as they come: nothing is read or written again after an error. What is written tells one safe log, also
+/// after a fault, where less than a line may follow.
 pub fn replay<R: Read, W: Write>(
     alloc: Global,
     reader: &mut R,
@@ -49,6 +51,7 @@ pub fn replay<R: Read, W: Write>(
 ) -> Result<Counts, ReplayFault>
     ensures { Replays (R.remaining reader.old) (R.remaining reader.new) (W.contents writer.old) (W.contents writer.new) result }
 {
+    each_text_reclaims_safely();
     let mut replay = Replay::new(alloc);
     let mut out = Vec::new(alloc);
     let mut buffer = [0u8; PIECE];
