@@ -16,3 +16,4 @@ pub mod ObjectsTables
 pub mod ObjectsLinking
 pub mod ObjectsStores
 pub mod ObjectsStages
+mod Sizes

@@ -4,6 +4,7 @@ pub mod Machine
 pub mod EventText
 pub mod Headline
 pub mod Promises
+pub mod Sizes
 pub mod Verdict
 pub mod Roster
 pub mod Sections

@@ -7,6 +7,7 @@ ghost use Rattle.rcu_model.specs.declared.event.ObjectId.{ObjectId};
 ghost use Rattle.rcu_model.specs.Machine.{IsRun, IsOpen, state_after, Holds};
 ghost use Rattle.rcu_model.specs.Sets.{HasObject};
 ghost use Rattle.rcu_model.specs.Promises.{IsSafeLog};
+ghost use Rattle.rcu_model.specs.Sizes.{CountsItsState};
 ghost use Rattle.rcu_model.specs.Headline.{RunsOnceAfterItsSections, UsesNoReclaimed, AnswersOnceAfterItsSections, ClearsOnceAfterItsCallbacks, QueuesOnceAfterRetirement, RunsAfterItsQueueing, OpensOnce};
 
 /// The protection law: in every run, an object that a section holds is not reclaimed, and the section is open.
@@ -50,3 +51,9 @@ pub fn every_run_is_safe()
     callbacks_run_once_after_their_sections();
     waits_end_once_after_what_they_await();
 }
+
+/// In every run the events count what the machine has after them: the sections that are open, the objects that are
+/// retired and whose callbacks have not run, and those whose callbacks have run.
+pub fn every_run_counts_its_state()
+    ensures { (log : List Event) → IsRun log → CountsItsState log }
+{}

@@ -19,7 +19,7 @@ pub use checker::check_log;
 pub use event::{Event, ObjectId, SectionId};
 pub use laws::{
     callbacks_are_queued_once_before_they_run, callbacks_run_once_after_their_sections,
-    every_run_is_safe, held_is_not_reclaimed, sections_open_once,
+    every_run_counts_its_state, every_run_is_safe, held_is_not_reclaimed, sections_open_once,
     waits_end_once_after_what_they_await,
 };
 pub use refusal::Refusal;

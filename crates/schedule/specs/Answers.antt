@@ -1,10 +1,11 @@
 -- The text of an answer, and the end line.
-use Rattle.std.specs.Prelude.{ℕ, ◌-◌, Bool, true, false, List, ◌++◌, codes, count_by, Some, None, Result, Ok, Err}
+use Rattle.std.specs.Prelude.{ℕ, ◌-◌, List, ◌++◌, length, codes, count_by, Some, None, Result, Ok, Err}
 use Rattle.std.specs.Fmt.{decimal}
 use Rattle.rcu_model.specs.declared.event.Event.{Event}
-use Rattle.rcu_model.specs.declared.event.Event.TheVariants.{Open, Close, Retire, Run}
 use Rattle.rcu_model.specs.declared.refusal.Refusal.{Refusal}
 use Rattle.rcu_model.specs.EventText.{text_of}
+use Rattle.rcu_model.specs.Machine.{State}
+pub use Rattle.rcu_model.specs.Sizes.{opens, closes, retires, runs, waiting_in}
 use Rattle.rcu_model.specs.Refusal.{number_of}
 use Rattle.world_state.specs.declared.line.Answer.{Answer}
 use Rattle.world_state.specs.declared.line.Answer.TheVariants.{Events, Quiet, Wait, Blocked, Idle}
@@ -24,22 +25,6 @@ answer_line answer = answer_text answer ++ codes "\n"
 
 -- ---- the end line
 
-abbrev pub opens : Event → Bool
-opens (Open _) = true
-opens _ = false
-
-abbrev pub closes : Event → Bool
-closes (Close _) = true
-closes _ = false
-
-abbrev pub retires : Event → Bool
-retires (Retire _) = true
-retires _ = false
-
-abbrev pub runs : Event → Bool
-runs (Run _) = true
-runs _ = false
-
 -- the sections opened and not closed, the objects retired and not run, and the objects run
 abbrev pub counts_of : List Event → Counts
 counts_of log = record {
@@ -47,6 +32,11 @@ counts_of log = record {
   waiting = count_by retires log - count_by runs log;
   runs = count_by runs log;
 }
+
+-- the sections that are open in the machine, the objects that are retired and whose callbacks have not run, and those
+-- whose callbacks have run
+abbrev pub counts_in : State → Counts
+counts_in now = record { sections = length now.sections; waiting = length (waiting_in now); runs = length now.reclaimed }
 
 abbrev pub end_line : Counts → List ℕ
 end_line c = codes "end open=" ++ decimal c.sections ++ codes " waiting=" ++ decimal c.waiting ++ codes " run=" ++ decimal c.runs ++ codes "\n"

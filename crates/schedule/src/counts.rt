@@ -2,7 +2,7 @@
 
 ghost use Rattle.std.specs.Prelude.{◌≡◌};
 
-use rcu_model::Event;
+use rcu_model::{Event, every_run_counts_its_state};
 
 /// The numbers of the end line.
 #[derive(Clone, Copy, Debug, PartialEq, Eq, Drop)]
@@ -16,12 +16,16 @@ pub struct Counts {
 }
 
 impl Counts {
-    ghost use Rattle.schedule.specs.Answers.{counts_of};
+    ghost use Rattle.schedule.specs.Answers.{counts_of, counts_in};
+    ghost use Rattle.rcu_model.specs.Machine.{IsRun, state_after};
 
     /// The counts of a log.
     pub fn of(log: &[Event]) -> Counts
-        ensures { result ≡ counts_of log.now }
+        ensures counts { result ≡ counts_of log.now }
+        // They are those of the machine's state after the log.
+        ensures state { IsRun log.now → result ≡ counts_in (state_after log.now) }
     {
+        every_run_counts_its_state();
         let mut opened = 0u64;
         let mut closed = 0u64;
         let mut retired = 0u64;
