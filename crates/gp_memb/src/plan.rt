@@ -37,6 +37,7 @@ pub trait GracePlan: Sized {
     /// Whether the plan is of the quiescent-state flavour, so that it stores a number and no phase.
     ghost QSBR: { Bool };
 
+    /// The same, as code reads it: clauses name the ghost item.
     const QSBR: bool;
 
     /// A plan that has done nothing yet, made with this layout, number of slots, sequence number, and phase or number.
@@ -45,7 +46,7 @@ pub trait GracePlan: Sized {
     /// What a plan does next.
     ghost action: { Self → Action };
 
-    /// What it answers to a loaded word.
+    /// Whether the plan goes on or waits, by the word that was loaded.
     ghost turn: { Self → ℕ → Turn };
 
     /// What it is after that.

@@ -59,7 +59,7 @@ impl Model for Held {
 }
 
 impl Held {
-    /// Nothing.
+    /// No bytes held: a header or a line begins with the next byte.
     pub fn new() -> Held
         ensures { result ≡ [] }
     {

@@ -125,7 +125,7 @@ impl<P: WorldPlan + Drop> Board<P> {
         })
     }
 
-    /// A step of an updater's grace period.
+    /// A step of the grace period that an updater asked for. After `wait` and `blocked` nothing changes.
     fn sync(
         &self,
         updater: u32,
@@ -156,7 +156,8 @@ impl<P: WorldPlan + Drop> Board<P> {
         })
     }
 
-    /// A step of an updater's grace period.
+    /// The core after its next step, what the step makes of the grace period, and the answer. Where another one holds
+    /// the lock that it needs, the answer is `blocked` and the core stays.
     fn grace_step(
         &self,
         me: Holder,

@@ -48,7 +48,7 @@ pub struct ObjectState {
 /// What becomes of an object: the store of its header, or, for `Queued`, the push of its item.
 #[derive(Clone, Copy, Debug, PartialEq, Eq, Drop)]
 pub struct Mark {
-    /// Of which object.
+    /// The object that it is about.
     pub object: ObjectId,
     /// What becomes of it.
     pub life: Life,
@@ -57,7 +57,7 @@ pub struct Mark {
 /// One store into a chain: what leaves it and what enters it, between two neighbours.
 #[derive(Clone, Copy, Debug, PartialEq, Eq, Drop)]
 pub struct Splice {
-    /// The chain.
+    /// The chain that is stored into.
     pub chain: u32,
     /// The object whose link is stored, or none for the head.
     pub before: Option<ObjectId>,

@@ -24,7 +24,7 @@ pub struct ReaderState {
 pub struct ReaderStep {
     /// The reader after it.
     pub state: ReaderState,
-    /// What it answers.
+    /// The answer to the reader's line.
     pub answer: Answer,
 }
 

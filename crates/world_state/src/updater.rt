@@ -60,7 +60,7 @@ pub enum UpdaterPlace<P> {
     Publishes(Publishing),
     /// Waits for a grace period, by the ask of this number.
     Syncs { ask: u64, core: SyncCore<P> },
-    /// Has locked the queue of the object's chain.
+    /// Retires an object: holds the lock of its own queue, and is to make this step next.
     Retires { object: ObjectId, due: RetireStep },
     /// Waits until all that was queued has run.
     Bars(Barrier),
