@@ -54,14 +54,14 @@ with_course app =
     (number_rule (codes "stop") 0 87))
     (or_else (codes "1") (number_rule (codes "from") 1 1000000))
 
--- `torture`, which wants a subcommand, and its subcommands
+-- `torture`, which wants a subcommand and has a version, and its subcommands
 abbrev pub bare : App
 bare = new_app (codes "torture")
 
 abbrev pub torture_app : Bor (List (Bor (List ℕ))) → App
 torture_app flavours =
     with_subcommand (with_subcommand (with_subcommand
-    (record bare { top = record (bare.top) { subcommand_required = true; arg_required_else_help = true } })
+    (record bare { top = record (bare.top) { has_version = true; subcommand_required = true; arg_required_else_help = true } })
     ((new_app (codes "replay")).top))
     ((new_app (codes "check")).top))
     ((with_course (with_world flavours (new_app (codes "walk")))).top)

@@ -21,8 +21,8 @@ use std::process::ExitCode;
 use std::{env, io};
 use words::{WordsFault, read_words};
 
-/// Tells why the words give no command: help on standard output, all else on standard error, where a write fault is
-/// passed over.
+/// Tells why the words give no command: help and the version on standard output, all else on standard error, where a
+/// write fault is passed over.
 fn tell(rt: &HostRuntime, fault: &WordsFault) -> u8
     ensures { EndsBy (kind_of fault.now.error) result }
 {

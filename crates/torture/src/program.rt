@@ -11,6 +11,9 @@ use std::alloc::{AllocError, Global};
 const ABOUT: &str =
     "Replays, checks and draws schedules of read-copy-update, one atomic step a line";
 
+/// What `--version` prints after the program's name.
+const VERSION: &str = "0.1.0";
+
 const EXAMPLES: &str = "Examples:
   torture replay < examples/replaced-while-read
   torture replay < examples/replaced-while-read | torture check
@@ -184,6 +187,7 @@ pub fn program<'a>(alloc: Global) -> Result<Program<'a>, AllocError>
     let walk = with_course(alloc, with_world(alloc, walk)?)?;
     Program::new(alloc, "torture")
         .about(ABOUT)
+        .version(VERSION)
         .after_help(EXAMPLES)
         .subcommand_required(true)
         .arg_required_else_help(true)

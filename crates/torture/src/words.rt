@@ -16,14 +16,14 @@ use std::convert::AsStr;
 use std::fmt;
 use world::{Config, Flavour, Layout};
 
-/// Why the words give no command: a mistake, a call for help, or want of memory.
+/// Why the words give no command: a mistake, a call for help or for the version, or no memory.
 #[derive(Debug, Drop)]
 pub struct WordsFault {
     error: Error,
 }
 
 impl WordsFault {
-    /// What the program ends with: 0 after help, 2 after a mistake, 3 for want of memory.
+    /// What the program ends with: 0 after help and the version, 2 after a mistake, 3 where memory was refused.
     pub fn status(&self) -> u8
         ensures { result ≡ status_of_kind (kind_of self.now.error) }
     {

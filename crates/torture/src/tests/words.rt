@@ -150,8 +150,8 @@ fn each_limit_is_kept(rt: HostRuntime) {
     }
 }
 
-/// Mistakes and calls for help, with the status and how the text begins.
-const OTHER_WORDS: [(&[&str], u8, &str); 12] = [
+/// Mistakes and calls for help or the version, with the status and how the text begins.
+const OTHER_WORDS: [(&[&str], u8, &str); 15] = [
     (
         &["torture", "repla"],
         2,
@@ -197,6 +197,13 @@ const OTHER_WORDS: [(&[&str], u8, &str); 12] = [
         &["torture", "--help"],
         0,
         "Replays, checks and draws schedules",
+    ),
+    (&["torture", "--version"], 0, "torture 0.1.0\n"),
+    (&["torture", "-V"], 0, "torture 0.1.0\n"),
+    (
+        &["torture", "walk", "--version"],
+        2,
+        "error: unexpected argument '--version' found\n",
     ),
     (
         &["torture", "check", "--help"],

@@ -18,7 +18,7 @@ returns c =
     let bare_local : (fields_of c.long_about-walk.result).has_globals ≡ false = search rules in
     let walk_is = course.0 ∙ ap with_course (world.2 ∙ ap (with_world world.0) bare_is) in
     let walk_local = course.1 ∙ world.3 ∙ bare_local in
-    let top_is : app_of c.arg_required_else_help.result ≡ record bare { top = record (bare.top) { subcommand_required = true; arg_required_else_help = true } } = search rules in
+    let top_is : app_of c.arg_required_else_help.result ≡ record bare { top = record (bare.top) { has_version = true; subcommand_required = true; arg_required_else_help = true } } = search rules in
     let first = c.in_ok-subcommand.ensures.shape replay_local ∙ ap₂ with_subcommand top_is (ap (λ (a : App). a.top) replay_is) in
     let second = c.in_ok-subcommand-2.ensures.shape check_local ∙ ap₂ with_subcommand first (ap (λ (a : App). a.top) check_is) in
     IfOk-weaker c.subcommand-3.result _ (λ p. IsTorture (app_of p)) (λ p x. (world.0, world.1, x.shape walk_local ∙ ap₂ with_subcommand second (ap (λ (a : App). a.top) walk_is))) c.subcommand-3.ensures
