@@ -51,3 +51,4 @@ pub mod NotesOfUpdaters
 pub mod Notes
 pub mod Refusals
 pub mod Promises
+mod Loads

@@ -201,11 +201,11 @@ module _ {P : Type 0} (plans : Plans P) (w : BoardView P) (now : State) (k : Cal
   working n v x e = makes_worker n x v (subst (λ (y : WorkerState P). Works n y y.core) (get_or_from_slice_get w.workers n x new_worker e) (k.working n))
 
   pub may_make : (line : Line) (change : Change P) → change_of plans w line ≡ Ok change → MayMake w change
-  may_make line change e = subst Makes e (each_line plans w (MayMake w) others retiring working line)
+  may_make line change e = subst Makes e (each_line plans w (MayMake w) (Unit {0}) others retiring working line (λ _. tt))
     where
-      others : OfOthers (MayMake w)
+      others : OfOthers (MayMake w) (Unit {0})
       others = record {
-        reads = λ r step. tt;
+        reads = λ _ r step. tt;
         begins = λ u x object. tt;
         publishes = λ u x splice event. tt;
         asks = λ u x grace answer. tt;

@@ -1,7 +1,11 @@
 -- Each line's change, gone through once.
-use Rattle.std.proofs.Common.{◌≡◌, ℕ, ◌+◌, cond, Bool, true, false, length, get_or, slice_get, nat_le, nat_lt, Option, Some, None, Result, Ok, Err, refl}
+use Rattle.std.proofs.Common.{◌≡◌, ℕ, ◌+◌, cond, Bool, true, false, is_some, length, get_or, slice_get, nat_le, nat_lt, Option, Some, None, Result, Ok, Err, refl}
 use Rattle.rcu_model.specs.declared.event.ObjectId.{ObjectId}
 use Rattle.rcu_model.specs.declared.refusal.Refusal.{Refusal}
+use Rattle.callback_queue.specs.declared.item.Ticket.{Ticket}
+use Rattle.callback_queue.specs.Queue.{items_of}
+use Rattle.call_rcu_worker.specs.declared.worker.WorkerCore.{WorkerCore}
+use Rattle.call_rcu_worker.specs.declared.worker.WorkerCore.TheVariants as worker
 use Rattle.poll_cookie.specs.Cookie.{cookie_for}
 use Rattle.call_rcu_worker.specs.Sync.{new_core}
 use Rattle.world_state.specs.declared.line.Answer.{Answer}
@@ -12,7 +16,10 @@ use Rattle.world_state.specs.declared.line.ReaderVerb.{ReaderVerb}
 use Rattle.world_state.specs.declared.line.UpdaterVerb.{UpdaterVerb}
 use Rattle.world_state.specs.declared.line.UpdaterVerb.TheVariants as updater
 use Rattle.world_state.specs.declared.line.WorkerVerb.{WorkerVerb}
+use Rattle.world_state.specs.declared.line.WorkerVerb.TheVariants as verb
 use Rattle.world_state.specs.declared.object.ObjectState.{ObjectState}
+use Rattle.world_state.specs.declared.object.Mark.{Mark}
+use Rattle.world_state.specs.declared.queue.QueueAct.{QueueAct}
 use Rattle.world_state.specs.declared.queue.QueueState.{QueueState}
 use Rattle.world_state.specs.declared.reader.ReaderState.{ReaderState}
 use Rattle.world_state.specs.declared.reader.ReaderStep.{ReaderStep}
@@ -35,8 +42,10 @@ use Rattle.world.specs.declared.grace.GraceStep.{GraceStep}
 use Rattle.world.specs.Chains.{writes, push_row, replace_row, cut_row, pushed_row, replaced_row, published, linked_by}
 use Rattle.world.specs.Grace.{grace_row, start_row, poll_row}
 use Rattle.world.specs.Lines.{reader_line, read_by, of_reader, is_idle, grace_change, synced, updater_on, updater_begins, updater_line, of_updater, worker_line, of_worker, change_of}
+use Rattle.world.specs.Steps.{IsOfReader}
+use Rattle.world.specs.Workers.{is_none_left, first_in, take_row, ask_for, work_change, worked, run_row, worker_on, is_resting}
 use Rattle.world.specs.Queues.{queue_of, may_retire, lock_free, lock_row, retire_on, finished_in, checked, barrier_on}
-use Rattle.world_state.specs.declared.change.Change.TheVariants.{Read, Begin, Publish, Grace, Hold, Bar, Stay}
+use Rattle.world_state.specs.declared.change.Change.TheVariants.{Read, Begin, Publish, Grace, Hold, Bar, Work, Stay}
 use Rattle.rcu_model.specs.declared.event.Event.{Event}
 use Rattle.world_state.specs.declared.object.Splice.{Splice}
 
@@ -55,8 +64,8 @@ module _ {P : Type 0} (F : Change P → Type 0) where
   one_if false x y p q = q
 
   -- changes that are no step of a retirement after its first one, and no worker's
-  pub record OfOthers : Type 0 where
-    pub reads : (r : ℕ) (step : ReaderStep) → F (Read r step)
+  pub record OfOthers (Readers : Type 0) : Type 0 where
+    pub reads : Readers → (r : ℕ) (step : ReaderStep) → F (Read r step)
     pub begins : (u : ℕ) (x : UpdaterState P) (object : ObjectState) → F (Begin u x object)
     pub publishes : (u : ℕ) (x : UpdaterState P) (splice : Splice) (event : Event) → F (Publish u x splice event)
     pub asks : (u : ℕ) (x : UpdaterState P) (grace : GraceState) (answer : Answer) → F (Grace u x grace answer)
@@ -65,14 +74,57 @@ module _ {P : Type 0} (F : Change P → Type 0) where
     pub waits : F (Stay Wait)
     pub blocked : F (Stay Blocked)
 
-module _ {P : Type 0} (plans : Plans P) (w : BoardView P) (F : Change P → Type 0) (others : OfOthers F) where
-  each_reader : (r : ℕ) (x : Result ReaderStep Refusal) → Each F (read_by r x)
-  each_reader r (Ok step) = others.reads r step
-  each_reader r (Err e) = tt
+  -- a worker's change, and the answers with which it makes none
+  pub record OfWork : Type 0 where
+    pub works : (k : ℕ) (x : WorkerState P) (grace : GraceState) (act : QueueAct) (mark : Option Mark) (answer : Answer) → F (Work k x grace act mark answer)
+    pub waits : F (Stay Wait)
+    pub blocked : F (Stay Blocked)
+    pub idles : F (Stay NothingThere)
 
-  each_of_reader : (r : ℕ) (v : ReaderVerb) (x : Option ReaderState) → Each F (of_reader plans.qsbr w r v x)
-  each_of_reader r v None = tt
-  each_of_reader r v (Some x) = each_reader r (reader_line plans.qsbr w r x v)
+module _ {P : Type 0} (plans : Plans P) (w : BoardView P) (F : Change P → Type 0) (of_work : OfWork F) where
+  module _ (k : ℕ) (x : WorkerState P) where
+    each_take : (q : Option QueueState) → Each F (take_row w k x q)
+    each_take None = tt
+    each_take (Some q) = each_if F (is_some q.holder) _ _ of_work.blocked (each_if F (is_none_left (items_of q.items)) _ _ of_work.idles (of_work.works k _ _ _ _ _))
+
+    each_step : (ask tickets : ℕ) (step : GraceStep P) (answer : Answer) → Each F (Ok (work_change k ask tickets step answer))
+    each_step ask tickets step (Events first second) = of_work.works k _ _ _ _ _
+    each_step ask tickets step Quiet = of_work.works k _ _ _ _ _
+    each_step ask tickets step Wait = of_work.waits
+    each_step ask tickets step Blocked = of_work.blocked
+    each_step ask tickets step NothingThere = of_work.works k _ _ _ _ _
+
+    each_worked : (ask tickets : ℕ) (r : Result (GraceStep P) Refusal) → Each F (worked k ask tickets r)
+    each_worked ask tickets (Ok step) = each_step ask tickets step step.answer
+    each_worked ask tickets (Err e) = tt
+
+    each_run : (tickets : ℕ) (first : Option (Ticket × ObjectId)) → Each F (run_row w k x tickets first)
+    each_run tickets None = tt
+    each_run tickets (Some first) = of_work.works k _ _ _ _ _
+
+    each_place : (place : WorkerCore P Unit) → Each F (worker_on plans w k x place)
+    each_place worker.Idle = tt
+    each_place (worker.Syncs sync tickets) = each_worked (ask_for w x.ask sync) tickets (grace_row plans w (holder.Worker k) (ask_for w x.ask sync) sync)
+    each_place (worker.Pops tickets) = each_run tickets (first_in (slice_get w.queues k))
+    each_place (worker.Runs tickets ticket item) = tt
+    each_place (worker.Ran tickets ticket item) = of_work.works k _ _ _ _ _
+    each_place (worker.Counts tickets ticket) = tt
+
+    each_verb : (v : WorkerVerb) → Each F (worker_line plans w k x v)
+    each_verb verb.Take = each_if F (is_resting x.core) _ _ (each_take (slice_get w.queues k)) tt
+    each_verb verb.GoOn = each_place x.core
+
+  pub each_worker : (k : ℕ) (x : WorkerState P) (v : WorkerVerb) → Each F (worker_line plans w k x v)
+  each_worker k x v = each_verb k x v
+
+module _ {P : Type 0} (plans : Plans P) (w : BoardView P) (F : Change P → Type 0) (Readers : Type 0) (others : OfOthers F Readers) where
+  each_reader : Readers → (r : ℕ) (x : Result ReaderStep Refusal) → Each F (read_by r x)
+  each_reader it r (Ok step) = others.reads it r step
+  each_reader it r (Err e) = tt
+
+  each_of_reader : Readers → (r : ℕ) (v : ReaderVerb) (x : Option ReaderState) → Each F (of_reader plans.qsbr w r v x)
+  each_of_reader it r v None = tt
+  each_of_reader it r v (Some x) = each_reader it r (reader_line plans.qsbr w r x v)
 
   module _ (u : ℕ) (x : UpdaterState P) where
     each_grace : (ask : ℕ) (step : GraceStep P) (answer : Answer) → F (grace_change plans u x ask step answer)
@@ -170,9 +222,9 @@ module _ {P : Type 0} (plans : Plans P) (w : BoardView P) (F : Change P → Type
   each_of_worker n v None works = tt
   each_of_worker n v (Some x) works = works x refl
 
-  -- of all lines, where it is so of steps of retirements and of lines of workers
+  -- of all lines, where it is so of steps of retirements and of lines of workers, and of readers where they have a line
   pub each_line : ((u : ℕ) (x : UpdaterState P) (o : ObjectId) (step : RetireStep) → slice_get w.updaters u ≡ Some x → x.place ≡ Retires o step → F (retire_on w u x o step)) →
-      ((n : ℕ) (v : WorkerVerb) (x : WorkerState P) → slice_get w.workers n ≡ Some x → Each F (worker_line plans w n x v)) → (line : Line) → Each F (change_of plans w line)
-  each_line retires works (Reader r v) = each_of_reader r v (slice_get w.readers r)
-  each_line retires works (Updater u v) = each_of_updater u v (slice_get w.updaters u) (retires u)
-  each_line retires works (Worker n v) = each_of_worker n v (slice_get w.workers n) (works n v)
+      ((n : ℕ) (v : WorkerVerb) (x : WorkerState P) → slice_get w.workers n ≡ Some x → Each F (worker_line plans w n x v)) → (line : Line) → (IsOfReader line → Readers) → Each F (change_of plans w line)
+  each_line retires works (Reader r v) it = each_of_reader (it tt) r v (slice_get w.readers r)
+  each_line retires works (Updater u v) it = each_of_updater u v (slice_get w.updaters u) (retires u)
+  each_line retires works (Worker n v) it = each_of_worker n v (slice_get w.workers n) (works n v)

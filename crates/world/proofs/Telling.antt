@@ -34,7 +34,7 @@ use Rattle.world.specs.Queues.{retire_on}
 use Rattle.world.specs.Workers.{is_none_left, first_in, take_row, ask_for, work_change, worked, run_row, worker_on, is_resting}
 use Rattle.world.specs.Shown.{Meets}
 use Rattle.world.specs.Lines.{worker_line, change_of, with_change, outcome_of, world_after}
-use Rattle.world.proofs.Sweeping.{Each, each_if, OfOthers, each_line}
+use Rattle.world.proofs.Sweeping.{Each, OfOthers, OfWork, each_worker, each_line}
 use Rattle.world.specs.Steps.{WorldView, OfMemb, OfQsbr, memb_plans, qsbr_plans, step_of, log_of, fresh_in, world_after_lines, events_of, answered_events}
 
 -- a step that changes nothing tells nothing
@@ -59,44 +59,15 @@ module _ {P : Type 0} (plans : Plans P) (w : BoardView P) where
   silent_retire u x o due.Push = tt
   silent_retire u x o due.Free = tt
 
-  module _ (k : ℕ) (x : WorkerState P) where
-    silent_take : (q : Option QueueState) → Silent (take_row w k x q)
-    silent_take None = tt
-    silent_take (Some q) = each_if IsSilent (is_some q.holder) _ _ refl (each_if IsSilent (is_none_left (items_of q.items)) _ _ refl tt)
-
-    silent_work : (ask tickets : ℕ) (step : GraceStep P) (answer : Answer) → Silent (Ok (work_change k ask tickets step answer))
-    silent_work ask tickets step (Events first second) = tt
-    silent_work ask tickets step Quiet = tt
-    silent_work ask tickets step Wait = refl
-    silent_work ask tickets step Blocked = refl
-    silent_work ask tickets step NothingThere = tt
-
-    silent_worked : (ask tickets : ℕ) (r : Result (GraceStep P) Refusal) → Silent (worked k ask tickets r)
-    silent_worked ask tickets (Ok step) = silent_work ask tickets step step.answer
-    silent_worked ask tickets (Err e) = tt
-
-    silent_run : (tickets : ℕ) (first : Option (Ticket × ObjectId)) → Silent (run_row w k x tickets first)
-    silent_run tickets None = tt
-    silent_run tickets (Some first) = tt
-
-    silent_works : (place : WorkerCore P Unit) → Silent (worker_on plans w k x place)
-    silent_works worker.Idle = tt
-    silent_works (worker.Syncs sync tickets) = silent_worked (ask_for w x.ask sync) tickets (grace_row plans w (holder.Worker k) (ask_for w x.ask sync) sync)
-    silent_works (worker.Pops tickets) = silent_run tickets (first_in (slice_get w.queues k))
-    silent_works (worker.Runs tickets ticket item) = tt
-    silent_works (worker.Ran tickets ticket item) = tt
-    silent_works (worker.Counts tickets ticket) = tt
-
-    silent_worker : (v : WorkerVerb) → Silent (worker_line plans w k x v)
-    silent_worker verb.Take = each_if IsSilent (is_resting x.core) _ _ (silent_take (slice_get w.queues k)) tt
-    silent_worker verb.GoOn = silent_works x.core
+  of_work : OfWork {P = P} IsSilent
+  of_work = record { works = λ k x grace act mark answer. tt; waits = refl; blocked = refl; idles = refl }
 
   silent : (line : Line) → Silent (change_of plans w line)
-  silent = each_line plans w IsSilent others (λ u x o step e place. silent_retire u x o step) (λ k v x e. silent_worker k x v)
+  silent line = each_line plans w IsSilent (Unit {0}) others (λ u x o step e place. silent_retire u x o step) (λ k v x e. each_worker plans w IsSilent of_work k x v) line (λ _. tt)
     where
-      others : OfOthers {P = P} IsSilent
+      others : OfOthers {P = P} IsSilent (Unit {0})
       others = record {
-        reads = λ r step. tt;
+        reads = λ _ r step. tt;
         begins = λ u x object. tt;
         publishes = λ u x splice event. tt;
         asks = λ u x grace answer. tt;

@@ -18,3 +18,4 @@ pub mod Refusals
 pub mod Tests
 pub mod RunOrder
 pub mod Notes
+pub mod Loads

@@ -5,6 +5,7 @@ ghost use Rattle.world_state.specs.declared.config.Config.{Config};
 ghost use Rattle.world_state.specs.declared.line.Line.{Line};
 ghost use Rattle.world_state.specs.View.{fresh_at, plans_of};
 ghost use Rattle.world.specs.Lines.{world_after};
+ghost use Rattle.world.specs.Loads.{ReadersStoreWhatTheyLoaded};
 ghost use Rattle.world.specs.Notes.{AreNoted, NotesAreOfTheLatest, replies_to, replies_of};
 ghost use Rattle.world.specs.Steps.{is_supported_at, fresh_world_at, world_after_lines};
 
@@ -28,3 +29,9 @@ pub fn notes_are_of_the_latest_line()
     board_notes_are_of_the_latest_line::<MembPlan>();
     board_notes_are_of_the_latest_line::<QsbrPlan>();
 }
+
+/// For every config and first sequence number, and all lines: the word of each section is made of the phase or number
+/// that was present at its reader's line before the one that opened it, and not of what is present by then.
+pub fn readers_store_what_they_loaded()
+    ensures { (config : Config) (seq : ℕ) (lines : List Line) → ReadersStoreWhatTheyLoaded (fresh_world_at config seq) lines }
+{}
