@@ -52,3 +52,4 @@ pub mod Notes
 pub mod Refusals
 pub mod Promises
 mod Loads
+mod Checks

@@ -19,3 +19,4 @@ pub mod Tests
 pub mod RunOrder
 pub mod Notes
 pub mod Loads
+pub mod Checks

@@ -5,9 +5,10 @@ ghost use Rattle.world_state.specs.declared.config.Config.{Config};
 ghost use Rattle.world_state.specs.declared.line.Line.{Line};
 ghost use Rattle.world_state.specs.View.{fresh_at, plans_of};
 ghost use Rattle.world.specs.Lines.{world_after};
+ghost use Rattle.world.specs.Checks.{AnswersByItsCookie};
 ghost use Rattle.world.specs.Loads.{ReadersStoreWhatTheyLoaded};
 ghost use Rattle.world.specs.Notes.{AreNoted, NotesAreOfTheLatest, replies_to, replies_of};
-ghost use Rattle.world.specs.Steps.{is_supported_at, fresh_world_at, world_after_lines};
+ghost use Rattle.world.specs.Steps.{WorldView, is_supported_at, fresh_world_at, world_after_lines};
 
 use gp_memb::MembPlan;
 use gp_qsbr::QsbrPlan;
@@ -34,4 +35,10 @@ pub fn notes_are_of_the_latest_line()
 /// that was present at its reader's line before the one that opened it, and not of what is present by then.
 pub fn readers_store_what_they_loaded()
     ensures { (config : Config) (seq : ℕ) (lines : List Line) → ReadersStoreWhatTheyLoaded (fresh_world_at config seq) lines }
+{}
+
+/// A check under the grace lock answers its ask exactly where the present sequence number has reached the cookie, and
+/// else tells nothing; of an updater and of a worker, in every world.
+pub fn checks_answer_by_their_cookie()
+    ensures { (w : WorldView) (line : Line) → AnswersByItsCookie w line }
 {}
