@@ -53,3 +53,4 @@ pub mod Refusals
 pub mod Promises
 mod Loads
 mod Checks
+mod Layouts

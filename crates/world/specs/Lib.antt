@@ -20,3 +20,4 @@ pub mod RunOrder
 pub mod Notes
 pub mod Loads
 pub mod Checks
+pub mod Layouts

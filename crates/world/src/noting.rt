@@ -1,10 +1,13 @@
 //! What readers and updaters note.
 
-ghost use Rattle.std.specs.Prelude.{ℕ, List, IsTrue};
+ghost use Rattle.std.specs.Prelude.{◌≡◌, ℕ, List, IsTrue};
 ghost use Rattle.world_state.specs.declared.config.Config.{Config};
 ghost use Rattle.world_state.specs.declared.line.Line.{Line};
 ghost use Rattle.world_state.specs.View.{fresh_at, plans_of};
 ghost use Rattle.world.specs.Lines.{world_after};
+ghost use Rattle.reader_word.specs.declared.layout.Layout.{Layout};
+ghost use Rattle.world_state.specs.declared.config.Flavour.TheVariants.{Qsbr};
+ghost use Rattle.world.specs.Layouts.{answers_to, laid_out};
 ghost use Rattle.world.specs.Checks.{AnswersByItsCookie};
 ghost use Rattle.world.specs.Loads.{ReadersStoreWhatTheyLoaded};
 ghost use Rattle.world.specs.Notes.{AreNoted, NotesAreOfTheLatest, replies_to, replies_of};
@@ -41,4 +44,10 @@ pub fn readers_store_what_they_loaded()
 /// else tells nothing; of an updater and of a worker, in every world.
 pub fn checks_answer_by_their_cookie()
     ensures { (w : WorldView) (line : Line) → AnswersByItsCookie w line }
+{}
+
+/// In the quiescent-state flavour words of both layouts lead to the same answers, for every config and first sequence
+/// number, and all lines.
+pub fn quiescent_words_answer_alike()
+    ensures { (config : Config) (seq : ℕ) (layout : Layout) (lines : List Line) → config.flavour ≡ Qsbr → answers_to (fresh_world_at (laid_out layout config) seq) lines ≡ answers_to (fresh_world_at config seq) lines }
 {}
