@@ -2,9 +2,12 @@ pub mod Members
 pub mod SetLemmas
 pub mod Safety
 pub mod Follows
-pub mod Covering
 pub mod Runs
 pub mod Headline
+pub mod Opening
+pub mod Lifetimes
+pub mod Protection
+pub mod Awaiting
 pub mod Endings
 pub mod Rosters
 pub mod SectionLemmas

@@ -3,6 +3,7 @@ pub mod Sets
 pub mod Machine
 pub mod EventText
 pub mod Headline
+pub mod Protection
 pub mod Verdict
 pub mod Roster
 pub mod Sections

@@ -1,17 +1,26 @@
 //! Laws of the machine.
 
-ghost use Rattle.std.specs.Prelude.{List};
+ghost use Rattle.std.specs.Prelude.{List, Some};
 ghost use Rattle.rcu_model.specs.declared.event.Event.{Event};
 ghost use Rattle.rcu_model.specs.declared.event.SectionId.{SectionId};
 ghost use Rattle.rcu_model.specs.declared.event.ObjectId.{ObjectId};
-ghost use Rattle.rcu_model.specs.Machine.{IsRun, IsOpen, state_after, Holds};
+ghost use Rattle.rcu_model.specs.Machine.{IsRun, IsOpen, state_after, Holds, IsSuccessor};
 ghost use Rattle.rcu_model.specs.Sets.{HasObject};
+ghost use Rattle.rcu_model.specs.Protection.{WasLinkedIn};
 ghost use Rattle.rcu_model.specs.Headline.{RunsOnceAfterItsSections, UsesNoReclaimed, AnswersOnceAfterItsSections, ClearsOnceAfterItsCallbacks, QueuesOnceAfterRetirement, RunsAfterItsQueueing, OpensOnce};
 
 /// The protection law: in every run, an object that a section holds is not reclaimed, and the section is open.
 pub fn held_is_not_reclaimed()
     ensures not_reclaimed { (log : List Event) (s : SectionId) (o : ObjectId) → IsRun log → Holds (state_after log) s o → ¬ HasObject (state_after log).reclaimed o }
     ensures still_open { (log : List Event) (s : SectionId) (o : ObjectId) → IsRun log → Holds (state_after log) s o → IsOpen (state_after log) s }
+{}
+
+/// The protection law without what sections hold: in every run, an object that was linked at some moment at which a
+/// section was open is not reclaimed as long as the section stays open; and what follows it was linked at such a
+/// moment too, so the same holds of all that the section can go on to.
+pub fn what_was_linked_is_not_reclaimed()
+    ensures not_reclaimed { (log : List Event) (s : SectionId) (o : ObjectId) → IsRun log → IsOpen (state_after log) s → WasLinkedIn log s o → ¬ HasObject (state_after log).reclaimed o }
+    ensures successor { (log : List Event) (s : SectionId) (o next : ObjectId) → IsRun log → IsOpen (state_after log) s → WasLinkedIn log s o → IsSuccessor (state_after log) o (Some next) → WasLinkedIn log s next }
 {}
 
 /// In every run, an object's callback runs at most once, and only after every section open at its retirement has ended;
