@@ -7,6 +7,8 @@ pub mod Headline
 pub mod Opening
 pub mod Lifetimes
 pub mod Protection
+pub mod Backwards
+pub mod Fitting
 pub mod Awaiting
 pub mod Endings
 pub mod Rosters

@@ -4,6 +4,9 @@ pub mod Machine
 pub mod EventText
 pub mod Headline
 pub mod Protection
+pub mod Backwards
+pub mod Fitting
+pub mod RunOrder
 pub mod Verdict
 pub mod Roster
 pub mod Sections

@@ -1,12 +1,14 @@
 //! Laws of the machine.
 
-ghost use Rattle.std.specs.Prelude.{List, Some};
+ghost use Rattle.std.specs.Prelude.{◌≡◌, ◌↔◌, List, Some, reverse};
 ghost use Rattle.rcu_model.specs.declared.event.Event.{Event};
 ghost use Rattle.rcu_model.specs.declared.event.SectionId.{SectionId};
 ghost use Rattle.rcu_model.specs.declared.event.ObjectId.{ObjectId};
-ghost use Rattle.rcu_model.specs.Machine.{IsRun, IsOpen, state_after, Holds, IsSuccessor};
+ghost use Rattle.rcu_model.specs.Machine.{IsAllowed, IsRun, IsOpen, state_after, Holds, IsSuccessor};
 ghost use Rattle.rcu_model.specs.Sets.{HasObject};
 ghost use Rattle.rcu_model.specs.Protection.{WasLinkedIn};
+ghost use Rattle.rcu_model.specs.Fitting.{IsLive, live_events};
+ghost use Rattle.rcu_model.specs.Backwards.{IsRunBack, state_back};
 ghost use Rattle.rcu_model.specs.Headline.{RunsOnceAfterItsSections, UsesNoReclaimed, AnswersOnceAfterItsSections, ClearsOnceAfterItsCallbacks, QueuesOnceAfterRetirement, RunsAfterItsQueueing, OpensOnce};
 
 /// The protection law: in every run, an object that a section holds is not reclaimed, and the section is open.
@@ -49,4 +51,18 @@ pub fn callbacks_are_queued_once_before_they_run()
 /// In every run, a section is opened at most once.
 pub fn sections_open_once()
     ensures { (log : List Event) → IsRun log → OpensOnce log }
+{}
+
+/// Readings, which no store of live threads writes, take no part in what is stored: a run's live events alone are a run,
+/// and a live event may come after a log just where it may come after the log's live events.
+pub fn readings_change_no_live_event()
+    ensures alone { (log : List Event) → IsRun log → IsRun (live_events log) }
+    ensures same { (log : List Event) (e : Event) → IsLive e → IsAllowed (state_after log) e ↔ IsAllowed (state_after (live_events log)) e }
+{}
+
+/// A log is a run with its newest event first just where it is one with its oldest event first, and leaves the same
+/// state.
+pub fn runs_read_both_ways()
+    ensures run { (log : List Event) → IsRunBack log ↔ IsRun (reverse log) }
+    ensures state { (log : List Event) → state_back log ≡ state_after (reverse log) }
 {}
