@@ -21,3 +21,4 @@ pub mod ObjectsTables
 pub mod ObjectsLinking
 pub mod ObjectsStores
 pub mod ObjectsStages
+pub mod Lemmas

@@ -22,3 +22,4 @@ pub mod Passing
 pub mod Wholes
 pub mod RoundTrip
 pub mod Starting
+pub mod Lemmas
