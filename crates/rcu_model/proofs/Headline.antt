@@ -55,7 +55,7 @@ open_step now (Answer a) s h = inr h
 open_step now (Bar b) s h = inr h
 open_step now (Clear b) s h = inr h
 
-open_left : (now : State) (es : List Event) (s : SectionId) → In now.sections s → In es (Close s) ⊎ In (after_all now es).sections s
+pub open_left : (now : State) (es : List Event) (s : SectionId) → In now.sections s → In es (Close s) ⊎ In (after_all now es).sections s
 open_left now [] s h = inr h
 open_left now (e ∷ es) s h =
     ⊎_elim
@@ -71,7 +71,7 @@ opened_left now (e ∷ es) s (inl is) none =
 opened_left now (e ∷ es) s (inr h) none = opened_left (after now e) es s h (λ c. none (inr c))
 
 -- what was retired and reclaimed stays so, and comes by its event alone
-retired_step : (now : State) (e : Event) (o : ObjectId) → (In now.retired o → In (after now e).retired o) × (In (after now e).retired o → In now.retired o ⊎ (e ≡ Retire o)) × (In now.reclaimed o → In (after now e).reclaimed o)
+pub retired_step : (now : State) (e : Event) (o : ObjectId) → (In now.retired o → In (after now e).retired o) × (In (after now e).retired o → In now.retired o ⊎ (e ≡ Retire o)) × (In now.reclaimed o → In (after now e).reclaimed o)
 retired_step now (Open t) o = ((λ h. h), (λ h. inl h), (λ h. h))
 retired_step now (Close t) o = ((λ h. h), (λ h. inl h), (λ h. h))
 retired_step now (First t c None) o = ((λ h. h), (λ h. inl h), (λ h. h))
@@ -138,6 +138,12 @@ awaited_left now (e ∷ es) o s a r h =
     (λ (c : e ≡ Close s). inl (inl c))
     (λ (g : In ((after now e).awaited o) s). ⊎_elim (λ (l : In es (Close s)). inl (inr l)) (λ (x : In ((after_all (after now e) es).awaited o) s). inr x) (awaited_left (after now e) es o s a.1 ((retired_step now e o).0 r) g))
     (awaited_step now e o s a.0 r h)
+
+-- a run in two parts
+pub run_parts : (log earlier since : List Event) → IsRun log → log ≡ earlier ++ since → IsRun earlier × AreAllowed (state_after earlier) since × (after_all (state_after earlier) since ≡ state_after log)
+run_parts log earlier since run is =
+    let parts = allowed_split start earlier since (subst (λ (l : List Event). IsRun l) is run) in
+    (parts.0, parts.1, sym (ap (after_all start) is ∙ after_append start earlier since))
 
 -- a run at its event
 pub at_event : (log before later : List Event) (e : Event) → IsRun log → log ≡ before ++ e ∷ later → IsRun before × IsAllowed (state_after before) e

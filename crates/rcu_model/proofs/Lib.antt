@@ -2,9 +2,14 @@ pub mod Members
 pub mod SetLemmas
 pub mod Safety
 pub mod Follows
-pub mod Covering
 pub mod Runs
 pub mod Headline
+pub mod Opening
+pub mod Lifetimes
+pub mod Protection
+pub mod Backwards
+pub mod Fitting
+pub mod Awaiting
 pub mod Endings
 pub mod Rosters
 pub mod SectionLemmas
@@ -17,3 +22,4 @@ pub mod ObjectsLinking
 pub mod ObjectsStores
 pub mod ObjectsStages
 mod Sizes
+pub mod Lemmas

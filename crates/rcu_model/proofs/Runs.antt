@@ -15,7 +15,7 @@ after_append now [] fs = refl
 after_append now (e ∷ es) fs = after_append (after now e) es fs
 
 -- the rules are facts with one proof at most
-allowed_prop : (now : State) (e : Event) → IsProp (IsAllowed now e)
+pub allowed_prop : (now : State) (e : Event) → IsProp (IsAllowed now e)
 allowed_prop now (Open s) = hlevel props
 allowed_prop now (Close s) = hlevel props
 allowed_prop now (First s c found) = hlevel props

@@ -58,7 +58,7 @@ linked_at c m xs f o h =
     (λ (n : ((m == c) ≡ false) × (m ≢ c)). inr (n.1, rw n.0 at h))
     (eqb_tells m c)
 
-at_linked : (c m : ℕ) (xs : List ObjectId) (f : ℕ → List ObjectId) (o : ObjectId) → ((m ≡ c) × In xs o) ⊎ ((m ≢ c) × In (f m) o) → In (at_number c xs f m) o
+pub at_linked : (c m : ℕ) (xs : List ObjectId) (f : ℕ → List ObjectId) (o : ObjectId) → ((m ≡ c) × In xs o) ⊎ ((m ≢ c) × In (f m) o) → In (at_number c xs f m) o
 at_linked c m xs f o (inl y) = subst (λ l. In l o) (sym (ap (λ n. at_number c xs f n) y.0 ∙ at_number_same c xs f)) y.1
 at_linked c m xs f o (inr n) = subst (λ l. In l o) (sym (at_number_other c m xs f n.0)) n.1
 
@@ -120,7 +120,7 @@ kept_got now s (Some o) k is_open is_safe = record {
         (section_tells t s)
 
 -- a successor of a safe object is safe
-safe_successor : (now : State) (s : SectionId) (o m : ObjectId) → Kept now → SafeIn now s o → IsSuccessor now o (Some m) → SafeIn now s m
+pub safe_successor : (now : State) (s : SectionId) (o m : ObjectId) → Kept now → SafeIn now s o → IsSuccessor now o (Some m) → SafeIn now s m
 safe_successor now s o m k (linked c h) next =
     linked c ((next_of_has (now.chain c) o m (k.linking.once c) h (next.while_linked c (has_object_in (now.chain c) o h))).0)
 safe_successor now s o m k (cut_last h waits e) next = absurd (none_not_some (sym e ∙ next.once_cut (has_object_in now.cut o h)))
@@ -138,11 +138,39 @@ just_cut later c s o None cut fresh e links = cut_last cut (λ r. absurd (fresh 
 just_cut later c s o (Some m) cut fresh e links = cut_before m cut (λ r. absurd (fresh r)) e (linked c (links m refl))
 
 -- one object leaves its chain, which is then xs
+abbrev after_cut : State → ℕ → ObjectId → List ObjectId → List ObjectId → State
+after_cut now c o xs used = record now { chain = at_number c xs now.chain; used = used; cut = o ∷ now.cut; successor = at_object o (next_of (now.chain c) o) now.successor }
+
+safe_cut : (now : State) (c : ℕ) (o : ObjectId) (xs used : List ObjectId) → LinkingOf now → In (now.chain c) o →
+    ((p : ObjectId) → In (now.chain c) p → p ≢ o → In xs p) →
+    (s : SectionId) (p : ObjectId) → SafeIn now s p → SafeIn (after_cut now c o xs used) s p
+safe_cut now c o xs used k at rest s = still_safe now later s links cuts
+  where
+    later : State
+    later = after_cut now c o xs used
+
+    links : (d : ℕ) (p : ObjectId) → In (now.chain d) p → SafeIn later s p
+    links d p h =
+        ⊎_elim
+        (λ (e : (same_object p o ≡ true) × (p ≡ o)). subst (SafeIn later s) (sym e.1)
+        (just_cut later c s o (next_of (now.chain c) o) (inl refl) (λ r. k.linked_not_cut c o at (k.retired_cut o r))
+        (at_object_same o (next_of (now.chain c) o) now.successor)
+        (λ m f. let n = next_of_has (now.chain c) o m (k.once c) at f in at_linked c c xs now.chain m (inl (refl, rest m n.0 n.1)))))
+        (λ (n : (same_object p o ≡ false) × (p ≢ o)). linked d (at_linked c d xs now.chain p (elsewhere (eqb_tells d c) n.1)))
+        (object_tells p o)
+      where
+        elsewhere : (((d == c) ≡ true) × (d ≡ c)) ⊎ (((d == c) ≡ false) × (d ≢ c)) → p ≢ o → ((d ≡ c) × In xs p) ⊎ ((d ≢ c) × In (now.chain d) p)
+        elsewhere (inl y) ne = inl (y.1, rest p (subst (λ n. In (now.chain n) p) y.1 h) ne)
+        elsewhere (inr n) ne = inr (n.1, h)
+
+    cuts : (p : ObjectId) → In now.cut p → In (o ∷ now.cut) p × (at_object o (next_of (now.chain c) o) now.successor p ≡ now.successor p) × ((In now.retired p → In (now.awaited p) s) → In now.retired p → In (now.awaited p) s)
+    cuts p h = (inr h, at_object_other o p (next_of (now.chain c) o) now.successor (λ e. k.linked_not_cut c o at (subst (In now.cut) e h)), λ f. f)
+
 kept_cut : (now : State) (c : ℕ) (o : ObjectId) (xs used : List ObjectId) → Kept now → In (now.chain c) o → Once xs →
     ((p : ObjectId) → In now.used p → In used p) →
     ((p : ObjectId) → In xs p → In used p × (p ≢ o) × (In (now.chain c) p ⊎ (¬ In now.used p))) →
     ((p : ObjectId) → In (now.chain c) p → p ≢ o → In xs p) →
-    Kept (record now { chain = at_number c xs now.chain; used = used; cut = o ∷ now.cut; successor = at_object o (next_of (now.chain c) o) now.successor })
+    Kept (after_cut now c o xs used)
 kept_cut now c o xs used k at once more_used new rest = record {
   linking = set_chain now c xs used (o ∷ now.cut) k.linking once more_used (λ p h. inr h)
       (λ p h. ⊎_elim (λ (e : o ≡ p). subst (In used) e (more_used o (k.linking.linked_used c o at))) (λ (r : In now.cut p). more_used p (k.linking.cut_used p r)) h)
@@ -151,42 +179,23 @@ kept_cut now c o xs used k at once more_used new rest = record {
   holder_open = k.holder_open;
   queued_retired = k.queued_retired;
   run = k.run;
-  safe = λ s p h. still_safe now later s (links s) (cuts s) p (k.safe s p h);
+  safe = λ s p h. safe_cut now c o xs used k.linking at rest s p (k.safe s p h);
 }
   where
-    later : State
-    later = record now { chain = at_number c xs now.chain; used = used; cut = o ∷ now.cut; successor = at_object o (next_of (now.chain c) o) now.successor }
-
     not_cut : (p : ObjectId) → p ≢ o → In (now.chain c) p ⊎ (¬ In now.used p) → ¬ In (o ∷ now.cut) p
     not_cut p ne was (inl e) = ne (sym e)
     not_cut p ne (inl was) (inr r) = k.linking.linked_not_cut c p was r
     not_cut p ne (inr fresh) (inr r) = fresh (k.linking.cut_used p r)
 
-    links : (s : SectionId) (d : ℕ) (p : ObjectId) → In (now.chain d) p → SafeIn later s p
-    links s d p h =
-        ⊎_elim
-        (λ (e : (same_object p o ≡ true) × (p ≡ o)). subst (SafeIn later s) (sym e.1)
-        (just_cut later c s o (next_of (now.chain c) o) (inl refl) (λ r. k.linking.linked_not_cut c o at (k.linking.retired_cut o r))
-        (at_object_same o (next_of (now.chain c) o) now.successor)
-        (λ m f. let n = next_of_has (now.chain c) o m (k.linking.once c) at f in at_linked c c xs now.chain m (inl (refl, rest m n.0 n.1)))))
-        (λ (n : (same_object p o ≡ false) × (p ≢ o)). linked d (at_linked c d xs now.chain p (elsewhere (eqb_tells d c) n.1)))
-        (object_tells p o)
-      where
-        elsewhere : (((d == c) ≡ true) × (d ≡ c)) ⊎ (((d == c) ≡ false) × (d ≢ c)) → p ≢ o → ((d ≡ c) × In xs p) ⊎ ((d ≢ c) × In (now.chain d) p)
-        elsewhere (inl y) ne = inl (y.1, rest p (subst (λ n. In (now.chain n) p) y.1 h) ne)
-        elsewhere (inr n) ne = inr (n.1, h)
-
-    cuts : (s : SectionId) (p : ObjectId) → In now.cut p → In (o ∷ now.cut) p × (at_object o (next_of (now.chain c) o) now.successor p ≡ now.successor p) × ((In now.retired p → In (now.awaited p) s) → In now.retired p → In (now.awaited p) s)
-    cuts s p h = (inr h, at_object_other o p (next_of (now.chain c) o) now.successor (λ e. k.linking.linked_not_cut c o at (subst (In now.cut) e h)), λ f. f)
+safe_close : (now : State) (s t : SectionId) (o : ObjectId) → t ≢ s → SafeIn now t o → SafeIn (after now (Close s)) t o
+safe_close now s t = λ o ne. still_safe now (after now (Close s)) t (λ c p l. linked c l) (λ p c. (c, refl, λ f r. has_without_section s (now.awaited p) t (f r) ne)) o
 
 kept_close : (now : State) (s : SectionId) → Kept now → Kept (after now (Close s))
 kept_close now s k = record {
   linking = k.linking;
   queued_retired = k.queued_retired;
   holder_open = λ t o h. let was = holds_still t o h in has_without_section s now.sections t (k.holder_open t o was.0) was.1;
-  safe = λ t o h. let was = holds_still t o h in
-      still_safe now (after now (Close s)) t (λ c p l. linked c l)
-      (λ p c. (c, refl, λ f r. has_without_section s (now.awaited p) t (f r) was.1)) o (k.safe t o was.0);
+  safe = λ t o h. let was = holds_still t o h in safe_close now s t o was.1 (k.safe t o was.0);
   run = λ o h. let was = k.run o h in (was.0, ap (without_section s) was.1);
 }
   where
@@ -196,6 +205,16 @@ kept_close now s k = record {
         (λ (y : (same_section t s ≡ true) × (t ≡ s)). absurd (subst (λ (ps : List ObjectId). In ps o) (ap (at_section s [] now.held) y.1 ∙ at_section_same s [] now.held) h))
         (λ (n : (same_section t s ≡ false) × (t ≢ s)). (subst (λ (ps : List ObjectId). In ps o) (at_section_other s t [] now.held n.1) h, n.1))
         (section_tells t s)
+
+safe_retire : (now : State) (o : ObjectId) (s : SectionId) (p : ObjectId) → In now.sections s → SafeIn now s p → SafeIn (after now (Retire o)) s p
+safe_retire now o s p is_open = still_safe now (after now (Retire o)) s (λ c q l. linked c l) (λ q c. (c, refl, awaits q)) p
+  where
+    awaits : (q : ObjectId) → (In now.retired q → In (now.awaited q) s) → In (o ∷ now.retired) q → In (at_object o now.sections now.awaited q) s
+    awaits q f r =
+        ⊎_elim
+        (λ (e : (same_object q o ≡ true) × (q ≡ o)). subst (λ l. In l s) (sym (ap (at_object o now.sections now.awaited) e.1 ∙ at_object_same o now.sections now.awaited)) is_open)
+        (λ (n : (same_object q o ≡ false) × (q ≢ o)). subst (λ l. In l s) (sym (at_object_other o q now.sections now.awaited n.1)) (f (⊎_elim (λ (e : o ≡ q). absurd (n.1 (sym e))) (λ (was : In now.retired q). was) r)))
+        (object_tells q o)
 
 kept_retire : (now : State) (o : ObjectId) → Kept now → In now.cut o → ¬ In now.retired o → Kept (after now (Retire o))
 kept_retire now o k is_cut fresh = record {
@@ -209,17 +228,16 @@ kept_retire now o k is_cut fresh = record {
   };
   holder_open = k.holder_open;
   queued_retired = λ p h. inr (k.queued_retired p h);
-  safe = λ s p h. still_safe now (after now (Retire o)) s (λ c q l. linked c l)
-      (λ q c. (c, refl, awaits s q (k.holder_open s p h))) p (k.safe s p h);
+  safe = λ s p h. safe_retire now o s p (k.holder_open s p h) (k.safe s p h);
   run = λ p h. let was = k.run p h in (inr was.0, at_object_other o p now.sections now.awaited (λ e. fresh (subst (In now.retired) e was.0)) ∙ was.1);
 }
-  where
-    awaits : (s : SectionId) (q : ObjectId) → In now.sections s → (In now.retired q → In (now.awaited q) s) → In (o ∷ now.retired) q → In (at_object o now.sections now.awaited q) s
-    awaits s q is_open f r =
-        ⊎_elim
-        (λ (e : (same_object q o ≡ true) × (q ≡ o)). subst (λ l. In l s) (sym (ap (at_object o now.sections now.awaited) e.1 ∙ at_object_same o now.sections now.awaited)) is_open)
-        (λ (n : (same_object q o ≡ false) × (q ≢ o)). subst (λ l. In l s) (sym (at_object_other o q now.sections now.awaited n.1)) (f (⊎_elim (λ (e : o ≡ q). absurd (n.1 (sym e))) (λ (was : In now.retired q). was) r)))
-        (object_tells q o)
+
+safe_push : (now : State) (c : ℕ) (o : ObjectId) (s : SectionId) (p : ObjectId) → SafeIn now s p → SafeIn (after now (Push c o)) s p
+safe_push now c o s = still_safe now (after now (Push c o)) s
+    (λ d q l. linked d (at_linked c d (o ∷ now.chain c) now.chain q (⊎_elim
+    (λ (y : ((d == c) ≡ true) × (d ≡ c)). inl (y.1, inr (subst (λ n. In (now.chain n) q) y.1 l)))
+    (λ (n : ((d == c) ≡ false) × (d ≢ c)). inr (n.1, l)) (eqb_tells d c))))
+    (λ q h'. (h', refl, λ f. f))
 
 kept_push : (now : State) (c : ℕ) (o : ObjectId) → Kept now → ¬ In now.used o → Kept (after now (Push c o))
 kept_push now c o k fresh = record {
@@ -233,11 +251,7 @@ kept_push now c o k fresh = record {
   holder_open = k.holder_open;
   queued_retired = k.queued_retired;
   run = k.run;
-  safe = λ s p h. still_safe now (after now (Push c o)) s
-      (λ d q l. linked d (at_linked c d (o ∷ now.chain c) now.chain q (⊎_elim
-      (λ (y : ((d == c) ≡ true) × (d ≡ c)). inl (y.1, inr (subst (λ n. In (now.chain n) q) y.1 l)))
-      (λ (n : ((d == c) ≡ false) × (d ≢ c)). inr (n.1, l)) (eqb_tells d c))))
-      (λ q h'. (h', refl, λ f. f)) p (k.safe s p h);
+  safe = λ s p h. safe_push now c o s p (k.safe s p h);
 }
 
 kept_replace : (now : State) (c : ℕ) (old new : ObjectId) → Kept now → In (now.chain c) old → ¬ In now.used new → Kept (after now (Replace c old new))
@@ -315,6 +329,28 @@ kept_start = record {
   queued_retired = λ o h. absurd h;
   run = λ o h. absurd h;
 }
+
+-- what is safe for a section that was open and stays so goes on to be safe, whether the section holds it or not
+pub safe_step : (now : State) (e : Event) (s : SectionId) (o : ObjectId) → Kept now → IsAllowed now e → In now.sections s → e ≢ Close s → SafeIn now s o → SafeIn (after now e) s o
+safe_step now (Open t) s o k a is_open stays h = h
+safe_step now (Close t) s o k a is_open stays h = safe_close now t s o (λ e. stays (ap Close (sym e))) h
+safe_step now (First t c None) s o k a is_open stays h = h
+safe_step now (First t c (Some p)) s o k a is_open stays h = h
+safe_step now (Next t p None) s o k a is_open stays h = h
+safe_step now (Next t p (Some q)) s o k a is_open stays h = h
+safe_step now (Touch t p) s o k a is_open stays h = h
+safe_step now (Push c p) s o k a is_open stays h = safe_push now c p s o h
+safe_step now (Replace c p q) s o k a is_open stays h =
+    safe_cut now c p (replaced p q (now.chain c)) (q ∷ now.used) k.linking (in_objects (now.chain c) p a.0) (λ x at ne. has_replaced p q (now.chain c) x at ne) s o h
+safe_step now (Cut c p) s o k a is_open stays h =
+    safe_cut now c p (without_object p (now.chain c)) now.used k.linking (in_objects (now.chain c) p a) (λ x at ne. has_without_object p (now.chain c) x at ne) s o h
+safe_step now (Retire p) s o k a is_open stays h = safe_retire now p s o is_open h
+safe_step now (Queue p q) s o k a is_open stays h = h
+safe_step now (Run p) s o k a is_open stays h = h
+safe_step now (Ask n) s o k a is_open stays h = h
+safe_step now (Answer n) s o k a is_open stays h = h
+safe_step now (Bar n) s o k a is_open stays h = h
+safe_step now (Clear n) s o k a is_open stays h = h
 
 pub not_reclaimed : (now : State) (s : SectionId) (o : ObjectId) → Kept now → SafeIn now s o → ¬ In now.reclaimed o
 not_reclaimed now s o k (linked c h) back = k.linking.linked_not_cut c o h (k.linking.retired_cut o ((k.run o back).0))

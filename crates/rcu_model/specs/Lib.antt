@@ -5,6 +5,10 @@ pub mod EventText
 pub mod Headline
 pub mod Promises
 pub mod Sizes
+pub mod Protection
+pub mod Backwards
+pub mod Fitting
+pub mod RunOrder
 pub mod Verdict
 pub mod Roster
 pub mod Sections

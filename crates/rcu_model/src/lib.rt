@@ -19,8 +19,9 @@ pub use checker::check_log;
 pub use event::{Event, ObjectId, SectionId};
 pub use laws::{
     callbacks_are_queued_once_before_they_run, callbacks_run_once_after_their_sections,
-    every_run_counts_its_state, every_run_is_safe, held_is_not_reclaimed, sections_open_once,
-    waits_end_once_after_what_they_await,
+    every_run_counts_its_state, every_run_is_safe, held_is_not_reclaimed,
+    readings_change_no_live_event, runs_read_both_ways, sections_open_once,
+    waits_end_once_after_what_they_await, what_was_linked_is_not_reclaimed,
 };
 pub use refusal::Refusal;
 pub use verdict::{LogFault, Rule, Verdict};

@@ -24,3 +24,4 @@ pub mod RoundTrip
 pub mod Starting
 mod Safety
 mod SafelyFed
+pub mod Lemmas

@@ -13,8 +13,7 @@ use Rattle.schedule.specs.declared.fault.ReplayFault.TheVariants.{Memory}
 use Rattle.schedule.specs.Header.{header}
 use Rattle.schedule.specs.Ports.{Writes}
 use Rattle.schedule.specs.Spelling.{spelling, IsLine}
-use Rattle.schedule.proofs.KnownBytes.{appends_none, appends_more}
-use Rattle.schedule.proofs.Playing.{after_append}
+use Rattle.schedule.proofs.Lemmas.{appends_none, appends_more, after_append}
 use Rattle.torture.specs.declared.command.Walk.{Walk}
 use Rattle.torture.specs.Limits.{is_walk_within}
 use Rattle.torture.specs.Drawing.{Drawn, drawn_as, seeded, draw_line, with_next, draw_lines}
@@ -32,8 +31,7 @@ use Rattle.world_state.specs.declared.line.Line.{Line}
 use Rattle.world_state.specs.declared.change.Change.{Change}
 use Rattle.world_state.specs.declared.change.Change.TheVariants.{Read, Begin, Publish, Grace, Hold, Retire, Bar, Work, Stay}
 use Rattle.world_state.specs.View.{BoardView, changed}
-use Rattle.world_state.proofs.Writes.{spliced_length}
-use Rattle.world_state.proofs.Marking.{length_marked}
+use Rattle.world_state.proofs.Lemmas.{spliced_length, length_marked}
 use Rattle.world.specs.Actors.{objects_given}
 use Rattle.world.specs.Lines.{change_of, with_change}
 use Rattle.world.specs.Steps.{WorldView, OfMemb, OfQsbr, memb_plans, qsbr_plans, fresh_in, fresh_world, step_of, log_of, world_after_lines}

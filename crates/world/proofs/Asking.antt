@@ -1,7 +1,7 @@
 -- What the steps of grace periods keep, and that what they tell may come, whoever asks.
 use Rattle.std.proofs.Common.{◌≡◌, ◌≢◌, ◌⊎◌, ◌↔◌, inl, inr, ⊎_elim, ℕ, ◌+◌, ◌^◌, ◌<◌, ◌≤◌, leb, ltb, cond, Bool, true, false, List, [], ◌∷◌, ◌++◌, length, slice_get, Option, Some, None, Result, Ok, Err, refl, sym, ap, ◌∙◌, subst, arith, true≢false}
 use Rattle.std.proofs.lemmas.Bool.Decides.{leb_tells, Decides-ltb}
-use Rattle.world_state.proofs.Linking.{decide_number}
+use Rattle.world_state.proofs.Lemmas.{decide_number, get_past, past_or_within}
 use Rattle.std.proofs.lemmas.Option.{slice_get-get_or, slice_get_past}
 use Rattle.rcu_model.specs.declared.event.Event.TheVariants as events
 use Rattle.rcu_model.specs.declared.event.SectionId.{SectionId}
@@ -9,8 +9,7 @@ use Rattle.rcu_model.specs.declared.refusal.Refusal.{Refusal}
 use Rattle.rcu_model.specs.declared.refusal.Refusal.TheVariants.{Exhausted}
 use Rattle.rcu_model.specs.Sets.{at_number}
 use Rattle.rcu_model.specs.Machine.{State, AreAllowed}
-use Rattle.rcu_model.proofs.Members.{In, in_numbers, has_number_in}
-use Rattle.rcu_model.proofs.SetLemmas.{at_number_same, at_number_other}
+use Rattle.rcu_model.proofs.Lemmas.{In, in_numbers, has_number_in, at_number_same, at_number_other}
 use Rattle.reader_word.specs.declared.layout.Layout.{Layout}
 use Rattle.gp_memb.specs.declared.plan.Action.{Action}
 use Rattle.gp_memb.specs.declared.plan.Action.TheVariants.{Load, StorePhase, StoreSeq, Finished}
@@ -29,7 +28,6 @@ use Rattle.world_state.specs.declared.updater.GraceState.{GraceState}
 use Rattle.world_state.specs.declared.updater.Holder.{Holder}
 use Rattle.world_state.specs.Readers.{new_reader}
 use Rattle.world_state.specs.View.{Plans, BoardView, told}
-use Rattle.world_state.proofs.Writes.{get_past, past_or_within}
 use Rattle.world.specs.declared.grace.GraceStep.{GraceStep}
 use Rattle.world.specs.Grace.{stepped, loaded_word, action_effect, lock_effect, done_with, plan_now, grace_row}
 use Rattle.world.proofs.Fence.{Work, Rests, Waits, Checks, Starts, Runs, Frees, Pending, RunsNone, Laws, Sets, Running, cookie-above, cookie-near, cookie-even}

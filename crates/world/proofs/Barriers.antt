@@ -11,8 +11,7 @@ use Rattle.rcu_model.specs.declared.refusal.Refusal.{Refusal}
 use Rattle.world_state.specs.declared.object.ObjectState.{ObjectState}
 use Rattle.rcu_model.specs.Sets.{has_object, at_number}
 use Rattle.rcu_model.specs.Machine.{State, not_run}
-use Rattle.rcu_model.proofs.Members.{In, has_object_in, has_number_in, in_numbers, empty_from}
-use Rattle.rcu_model.proofs.SetLemmas.{at_number_same, at_number_other, filter_has}
+use Rattle.rcu_model.proofs.Lemmas.{In, has_object_in, has_number_in, in_numbers, empty_from, at_number_same, at_number_other, filter_has}
 use Rattle.reader_word.specs.declared.layout.Layout.{Layout}
 use Rattle.callback_queue.specs.Queue.{items_of}
 use Rattle.call_rcu_worker.specs.declared.worker.WorkerCore.{WorkerCore}
@@ -31,10 +30,7 @@ use Rattle.world_state.specs.declared.change.Change.{Change}
 use Rattle.world_state.specs.declared.change.Change.TheVariants.{Bar, Stay}
 use Rattle.world_state.specs.Queues.{empty_queue_state}
 use Rattle.world_state.specs.View.{Plans, BoardView}
-use Rattle.world_state.proofs.Writes.{get_past, past_or_within}
-use Rattle.world_state.proofs.Linking.{decide_number}
-use Rattle.world_state.proofs.Marking.{life_of}
-use Rattle.world_state.proofs.Queueing.{Items, InQueue, queue_at, stands_above, stands_within}
+use Rattle.world_state.proofs.Lemmas.{get_past, past_or_within, decide_number, life_of, Items, InQueue, queue_at, stands_above, stands_within}
 use Rattle.world.specs.Answers.{one}
 use Rattle.world.specs.Queues.{at_place, queued_in, finished_in, after_note, noted_at, barrier_row, checked, barrier_on}
 use Rattle.world.proofs.Fence.{Laws}

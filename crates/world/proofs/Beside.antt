@@ -14,8 +14,7 @@ use Rattle.world_state.specs.declared.worker.WorkerState.{WorkerState}
 use Rattle.world_state.specs.Objects.{marked_life}
 use Rattle.world_state.specs.Queues.{new_worker}
 use Rattle.world_state.specs.View.{Plans, BoardView}
-use Rattle.world_state.proofs.Reading.{readers_over}
-use Rattle.world_state.proofs.Marking.{links_marked, place_marked, stage_marked}
+use Rattle.world_state.proofs.Lemmas.{readers_over, links_marked, place_marked, stage_marked}
 use Rattle.world.proofs.Fence.{Work, Rests, Laws, Sets}
 use Rattle.world.proofs.Periods.{Part}
 use Rattle.world.proofs.State.{Asker, Syncing, Polling, Working, decide_asker, place_work, worker_work, worker_at, updater_at, work_of, holder_of, word_at, UpdaterKept, Kept}

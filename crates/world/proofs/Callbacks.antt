@@ -6,8 +6,7 @@ use Rattle.rcu_model.specs.declared.event.ObjectId.{ObjectId}
 use Rattle.rcu_model.specs.declared.event.SectionId.{SectionId}
 use Rattle.rcu_model.specs.Sets.{without_section, at_number}
 use Rattle.rcu_model.specs.Machine.{State, IsAllowed, after}
-use Rattle.rcu_model.proofs.Members.{In, in_left, has_number_in}
-use Rattle.rcu_model.proofs.SetLemmas.{without_section_has, has_without_section, at_number_other}
+use Rattle.rcu_model.proofs.Lemmas.{In, in_left, has_number_in, without_section_has, has_without_section, at_number_other}
 use Rattle.callback_queue.specs.Queue.{given_of}
 use Rattle.call_rcu_worker.specs.declared.sync.SyncCore.{SyncCore}
 use Rattle.call_rcu_worker.specs.declared.sync.SyncCore.TheVariants as core
@@ -28,10 +27,7 @@ use Rattle.world_state.specs.declared.updater.UpdaterState.{UpdaterState}
 use Rattle.world_state.specs.declared.worker.WorkerState.{WorkerState}
 use Rattle.world_state.specs.Queues.{new_worker, changed_at}
 use Rattle.world_state.specs.View.{BoardView, idle}
-use Rattle.world_state.proofs.Writes.{stage_of, chain_of}
-use Rattle.world_state.proofs.Linking.{decide_number}
-use Rattle.world_state.proofs.Marking.{life_of}
-use Rattle.world_state.proofs.Queueing.{Items, Has, InQueue, queue_at, changed_here, changed_else}
+use Rattle.world_state.proofs.Lemmas.{stage_of, chain_of, decide_number, life_of, Items, Has, InQueue, queue_at, changed_here, changed_else}
 use Rattle.world.proofs.State.{updater_at, worker_at}
 
 -- what was done with an object, in the table and in the machine

@@ -11,9 +11,7 @@ use Rattle.rcu_model.specs.declared.event.ObjectId.{ObjectId}
 use Rattle.rcu_model.specs.declared.event.SectionId.{SectionId}
 use Rattle.rcu_model.specs.declared.refusal.Refusal.{Refusal}
 use Rattle.rcu_model.specs.Machine.{State, start, IsAllowed, AreAllowed, after, after_all}
-use Rattle.rcu_model.proofs.Members.{In, in_objects}
-use Rattle.rcu_model.proofs.Runs.{after_append}
-use Rattle.rcu_model.proofs.SetLemmas.{at_number_same}
+use Rattle.rcu_model.proofs.Lemmas.{In, in_objects, after_append, at_number_same}
 use Rattle.reader_word.specs.declared.layout.Layout.{Layout}
 use Rattle.world_state.specs.declared.config.Config.{Config}
 use Rattle.world_state.specs.declared.line.Answer.{Answer}
@@ -26,7 +24,7 @@ use Rattle.world_state.specs.declared.object.ObjectState.{ObjectState}
 use Rattle.world_state.specs.Limits.{is_in, is_within_limits}
 use Rattle.world_state.specs.Objects.{marked_life}
 use Rattle.world_state.specs.View.{Plans, BoardView, told, fresh_at}
-use Rattle.world_state.proofs.Writes.{within, length_heads, spliced_length, length_written}
+use Rattle.world_state.proofs.Lemmas.{within, length_heads, spliced_length, length_written}
 use Rattle.world.specs.Lines.{change_of, with_change, outcome_of, world_after}
 use Rattle.world.specs.Numbering.{IsFoundWithin, IsNumberedWithin}
 use Rattle.world.proofs.Fence.{Laws}

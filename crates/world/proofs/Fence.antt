@@ -2,7 +2,7 @@
 -- section that it awaits is open, and a running plan that would reach it waits for that section.
 use Rattle.std.proofs.Common.{◌≡◌, ◌≢◌, ◌⊎◌, inl, inr, ⊎_elim, ℕ, ◌+◌, ◌-◌, ◌%◌, ◌^◌, ◌<◌, ◌≤◌, true, List, [], ◌∷◌, ◌++◌, Option, Some, refl, sym, ap, ◌∙◌, subst, arith}
 use Rattle.rcu_model.specs.declared.event.SectionId.{SectionId}
-use Rattle.rcu_model.proofs.Members.{In}
+use Rattle.rcu_model.proofs.Lemmas.{In}
 use Rattle.reader_word.specs.declared.layout.Layout.{Layout}
 use Rattle.gp_memb.specs.declared.plan.Action.{Action}
 use Rattle.gp_memb.specs.declared.plan.Action.TheVariants.{Load, StorePhase, Finished}

@@ -33,9 +33,7 @@ use Rattle.world_state.specs.declared.change.Change.TheVariants.{Read, Begin, Pu
 use Rattle.world_state.specs.Limits.{is_within_limits}
 use Rattle.world_state.specs.Readers.{new_reader, section_of}
 use Rattle.world_state.specs.View.{Plans, BoardView, fresh_at, changed, idle, told}
-use Rattle.world_state.proofs.Linking.{decide_number}
-use Rattle.world_state.proofs.Reading.{reader_at}
-use Rattle.world_state.proofs.Writes.{spliced_length}
+use Rattle.world_state.proofs.Lemmas.{decide_number, reader_at, spliced_length}
 use Rattle.world.specs.declared.grace.GraceStep.{GraceStep}
 use Rattle.world.specs.Given.{ordinal_of, ask_of, barrier_of, object_of, IsCounted, made_at, made_by, AreGivenOnce}
 use Rattle.world.specs.Grace.{place_at, sync_place}

@@ -9,9 +9,7 @@ use Rattle.rcu_model.specs.declared.event.ObjectId.{ObjectId}
 use Rattle.rcu_model.specs.declared.refusal.Refusal.TheVariants.{NoPlace}
 use Rattle.rcu_model.specs.Sets.{without_object, first_of, next_of, replaced, at_object}
 use Rattle.rcu_model.specs.Machine.{State, IsAllowed, after}
-use Rattle.rcu_model.proofs.Members.{In, in_objects, has_object_in}
-use Rattle.rcu_model.proofs.SetLemmas.{at_number_same, at_number_other, at_object_same, at_object_other}
-use Rattle.rcu_model.proofs.Follows.{follows, some_is, none_some, ChainKept, Spliced, push_splices, cut_splices, replace_splices}
+use Rattle.rcu_model.proofs.Lemmas.{In, in_objects, has_object_in, at_number_same, at_number_other, at_object_same, at_object_other, follows, some_is, none_some, ChainKept, Spliced, push_splices, cut_splices, replace_splices}
 use Rattle.reader_word.specs.declared.layout.Layout.{Layout}
 use Rattle.world_state.specs.declared.object.Stage.{Stage}
 use Rattle.world_state.specs.declared.object.Stage.TheVariants.{Fresh, Linked, Cut as IsCut}
@@ -26,10 +24,7 @@ use Rattle.world_state.specs.declared.change.Change.{Change}
 use Rattle.world_state.specs.declared.change.Change.TheVariants.{Begin, Publish}
 use Rattle.world_state.specs.Objects.{fresh_object, is_linked, spliced_heads, spliced_objects}
 use Rattle.world_state.specs.View.{Plans, BoardView, idle, changed}
-use Rattle.world_state.proofs.Writes.{no_object, object_at, head_of, link_of, before_of, stage_of, chain_of, grown_same}
-use Rattle.world_state.proofs.Linking.{word_of, LinksKept, FreshIn, PlaceKept, decide_number, Fits, Follows, monotone, links_spliced, place_spliced}
-use Rattle.world_state.proofs.Growing.{new_object, new_within, stage_grown, links_grown, place_grown}
-use Rattle.world_state.proofs.Reading.{reader_at, readers_over}
+use Rattle.world_state.proofs.Lemmas.{no_object, object_at, head_of, link_of, before_of, stage_of, chain_of, grown_same, word_of, LinksKept, FreshIn, PlaceKept, decide_number, Fits, Follows, monotone, links_spliced, place_spliced, new_object, new_within, stage_grown, links_grown, place_grown, reader_at, readers_over}
 use Rattle.world.specs.Chains.{writes, next_object, linked_by, push_row, replace_row, cut_row, pushed_row, replaced_row}
 use Rattle.world.proofs.Fence.{Work, Rests, Laws, Sets}
 use Rattle.world.proofs.Periods.{Part}

@@ -11,14 +11,12 @@ use Rattle.rcu_model.specs.declared.refusal.Refusal.{Refusal}
 use Rattle.rcu_model.specs.declared.refusal.Refusal.TheVariants.{NotOpen, Busy}
 use Rattle.rcu_model.specs.Sets.{without_section, at_section, first_of, next_of}
 use Rattle.rcu_model.specs.Machine.{State, got, IsSuccessor}
-use Rattle.rcu_model.proofs.Members.{In, in_sections, has_section_in, in_objects, has_object_in, in_left, in_last, in_more, section_tells, Tells}
-use Rattle.rcu_model.proofs.SetLemmas.{without_section_has, has_without_section, at_section_same, at_section_other}
-use Rattle.rcu_model.proofs.Follows.{some_is, none_some, first_has, follows_has}
+use Rattle.rcu_model.proofs.Lemmas.{In, in_sections, has_section_in, in_objects, has_object_in, in_left, in_last, in_more, section_tells, Tells, without_section_has, has_without_section, at_section_same, at_section_other, some_is, none_some, first_has, follows_has}
 use Rattle.rcu_model.specs.Sets.{same_section}
 use Rattle.reader_word.specs.declared.layout.Layout.{Layout}
 use Rattle.reader_word.specs.Word.{count_of, phase_in, is_open_of, entered_of, left_of}
 use Rattle.reader_word.specs.Quiescent.{is_online, announced}
-use Rattle.reader_word.proofs.WordLemmas.{NestsDeeper, entered_of-nests, entered_of-opens, left_of-nests}
+use Rattle.reader_word.proofs.Lemmas.{NestsDeeper, entered_of-nests, entered_of-opens, left_of-nests}
 use Rattle.gp_memb.specs.Plan.{Shows}
 use Rattle.world_state.specs.declared.line.Answer.{Answer}
 use Rattle.world_state.specs.declared.line.Answer.TheVariants.{Events, Quiet}
@@ -30,9 +28,7 @@ use Rattle.world_state.specs.declared.object.Stage.TheVariants.{Fresh, Linked, C
 use Rattle.world_state.specs.declared.change.Change.TheVariants.{Read}
 use Rattle.world_state.specs.View.{Plans, BoardView, told, changed}
 use Rattle.world_state.specs.Readers.{section_of, new_reader, is_open_in, quietly, telling, with_word, opened, closed, with_cursor, stores, lock_row, enter_row, unlock_row, online_row, go_online_row, quiescent_row, announce_row, offline_row, touch_row}
-use Rattle.world_state.proofs.Writes.{no_object, link_of, stage_of, chain_of}
-use Rattle.world_state.proofs.Linking.{LinksKept, decide_number}
-use Rattle.world_state.proofs.Reading.{reader_at, ReaderKept, readers_set}
+use Rattle.world_state.proofs.Lemmas.{no_object, link_of, stage_of, chain_of, LinksKept, decide_number, reader_at, ReaderKept, readers_set}
 use Rattle.world.specs.Chains.{first_row, next_row, next_from}
 use Rattle.world.proofs.Fence.{Laws}
 use Rattle.world.proofs.Periods.{part_words}

@@ -18,7 +18,7 @@ use Rattle.world_state.specs.declared.updater.UpdaterPlace.{UpdaterPlace}
 use Rattle.world_state.specs.declared.updater.UpdaterPlace.TheVariants.{Idle, Syncs}
 use Rattle.world_state.specs.declared.change.Change.TheVariants.{Grace, Stay}
 use Rattle.world_state.specs.View.{Plans, BoardView, told, changed}
-use Rattle.world_state.proofs.Reading.{reader_at, readers_over}
+use Rattle.world_state.proofs.Lemmas.{reader_at, readers_over}
 use Rattle.world.specs.Grace.{start_row, poll_row}
 use Rattle.world.specs.Lines.{synced}
 use Rattle.world.proofs.Fence.{Work, Rests, Waits, Pending, RunsNone, Laws, Sets}

@@ -29,7 +29,7 @@ use Rattle.world_state.specs.declared.change.Change.TheVariants.{Grace, Work}
 use Rattle.world_state.specs.Limits.{is_within_limits}
 use Rattle.world_state.specs.Queues.{new_worker, empty_queue_state, acted, held_by, changed_at, acted_at, held_at}
 use Rattle.world_state.specs.View.{Plans, BoardView, fresh_at, changed, idle}
-use Rattle.world_state.proofs.Queueing.{queue_at, changed_length}
+use Rattle.world_state.proofs.Lemmas.{queue_at, changed_length}
 use Rattle.world.specs.declared.grace.GraceStep.{GraceStep}
 use Rattle.world.specs.Grace.{sync_place}
 use Rattle.world.specs.Lines.{with_change, outcome_of, world_after, change_of}

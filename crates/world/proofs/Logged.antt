@@ -6,8 +6,7 @@ use Rattle.rcu_model.specs.declared.event.ObjectId.{ObjectId}
 use Rattle.rcu_model.specs.declared.refusal.Refusal.{Refusal}
 use Rattle.rcu_model.specs.declared.refusal.Refusal.TheVariants.{Busy}
 use Rattle.rcu_model.specs.Machine.{State, start, AreAllowed, after_all, IsRun}
-use Rattle.rcu_model.proofs.Follows.{IsPlace, follows, none_some}
-use Rattle.rcu_model.proofs.Runs.{allowed_append, after_append}
+use Rattle.rcu_model.proofs.Lemmas.{IsPlace, follows, none_some, allowed_append, after_append}
 use Rattle.reader_word.specs.declared.layout.Layout.{Layout}
 use Rattle.world_state.specs.declared.config.Config.{Config}
 use Rattle.world_state.specs.declared.line.Line.{Line}
@@ -27,9 +26,7 @@ use Rattle.world_state.specs.Limits.{is_in, is_within_limits}
 use Rattle.world_state.specs.Readers.{new_reader}
 use Rattle.world_state.specs.Objects.{fresh_object}
 use Rattle.world_state.specs.View.{Plans, BoardView, idle, fresh_at, told, changed}
-use Rattle.world_state.proofs.Writes.{no_object}
-use Rattle.world_state.proofs.Linking.{word_of}
-use Rattle.world_state.proofs.Reading.{ReaderKept, not_new}
+use Rattle.world_state.proofs.Lemmas.{no_object, word_of, ReaderKept, not_new, InQueue, queue_at}
 use Rattle.poll_cookie.specs.Cookie.{cookie_for}
 use Rattle.world.specs.Chains.{linked_by, push_row, replace_row, cut_row, published}
 use Rattle.world.specs.Grace.{start_row, poll_row}
@@ -53,7 +50,6 @@ use Rattle.world.proofs.WorkerAsks.{owes_worker}
 use Rattle.world_state.specs.declared.object.Life.{Life}
 use Rattle.world_state.specs.declared.object.Life.TheVariants as life
 use Rattle.world_state.specs.declared.queue.QueueState.{QueueState}
-use Rattle.world_state.proofs.Queueing.{InQueue, queue_at}
 use Rattle.world_state.specs.Queues.{empty_queue_state}
 
 append_none : {X : Type 0} (xs : List X) → xs ≡ xs ++ []

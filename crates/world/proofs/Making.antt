@@ -36,7 +36,7 @@ use Rattle.world_state.specs.declared.worker.WorkerState.{WorkerState}
 use Rattle.world_state.specs.declared.change.Change.{Change}
 use Rattle.world_state.specs.Queues.{new_worker, empty_queue_state, MayAct, MayActAt}
 use Rattle.world_state.specs.View.{Plans, BoardView, idle}
-use Rattle.world_state.proofs.Queueing.{queue_at}
+use Rattle.world_state.proofs.Lemmas.{queue_at}
 use Rattle.world.specs.declared.grace.Effect.{Effect}
 use Rattle.world.specs.Answers.{answer_to}
 use Rattle.world.specs.Grace.{effect_of, planned, stepped, done_with, grace_row}

@@ -6,9 +6,7 @@ use Rattle.rcu_model.specs.declared.event.Event.TheVariants.{Open, Close, First,
 use Rattle.rcu_model.specs.declared.event.SectionId.{SectionId}
 use Rattle.rcu_model.specs.declared.event.ObjectId.{ObjectId}
 use Rattle.rcu_model.specs.Machine.{State, start, IsAllowed, AreAllowed, after, after_all, got, IsRun}
-use Rattle.rcu_model.proofs.Members.{In, in_sections, in_objects, in_numbers, in_more}
-use Rattle.rcu_model.proofs.SetLemmas.{without_section_has, at_section_same}
-use Rattle.rcu_model.proofs.Safety.{Kept, SafeIn, linked, cut_last, cut_before, kept_step, kept_start}
+use Rattle.rcu_model.proofs.Lemmas.{In, in_sections, in_objects, in_numbers, in_more, without_section_has, at_section_same, Kept, SafeIn, linked, cut_last, cut_before, kept_step, kept_start}
 
 pub every_append : {X : Type 0} (F : X → Type 0) (xs ys : List X) → Every F xs → Every F ys → Every F (xs ++ ys)
 every_append F [] ys p q = q

@@ -26,8 +26,7 @@ use Rattle.world_state.specs.declared.change.Change.{Change}
 use Rattle.world_state.specs.declared.change.Change.TheVariants.{Read, Begin, Publish, Grace, Hold, Retire, Bar, Work, Stay}
 use Rattle.world_state.specs.Readers.{section_of, new_reader, is_open_in, quietly, telling, with_word, opened, closed, stores, announce_row, go_online_row, touch_row}
 use Rattle.world_state.specs.View.{Plans, BoardView, changed, told}
-use Rattle.world_state.proofs.Linking.{decide_number}
-use Rattle.world_state.proofs.Reading.{reader_at}
+use Rattle.world_state.proofs.Lemmas.{decide_number, reader_at}
 use Rattle.world.specs.declared.grace.GraceStep.{GraceStep}
 use Rattle.world.specs.Chains.{first_row, next_row, next_from}
 use Rattle.world.specs.Lines.{reader_line, reader_begins, reader_on, with_change, outcome_of, world_after, change_of}

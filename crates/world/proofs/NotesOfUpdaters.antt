@@ -38,7 +38,7 @@ use Rattle.world_state.specs.declared.worker.WorkerState.{WorkerState}
 use Rattle.world_state.specs.declared.change.Change.{Change}
 use Rattle.world_state.specs.declared.change.Change.TheVariants.{Stay}
 use Rattle.world_state.specs.View.{Plans, BoardView, changed, answer_of, idle}
-use Rattle.world_state.proofs.Linking.{decide_number}
+use Rattle.world_state.proofs.Lemmas.{decide_number}
 use Rattle.world.specs.declared.grace.GraceStep.{GraceStep}
 use Rattle.world.specs.Chains.{writes, push_row, replace_row, cut_row, pushed_row, replaced_row, published, linked_by}
 use Rattle.world.specs.Grace.{grace_row, start_row, poll_row}

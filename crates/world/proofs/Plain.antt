@@ -8,7 +8,7 @@ use Rattle.rcu_model.specs.declared.event.SectionId.{SectionId}
 use Rattle.world_state.specs.declared.worker.WorkerState.{WorkerState}
 use Rattle.rcu_model.specs.declared.refusal.Refusal.{Refusal}
 use Rattle.rcu_model.specs.Machine.{State, after, AreAllowed, after_all}
-use Rattle.rcu_model.proofs.Members.{In}
+use Rattle.rcu_model.proofs.Lemmas.{In}
 use Rattle.reader_word.specs.declared.layout.Layout.{Layout}
 use Rattle.callback_queue.specs.Queue.{given_of}
 use Rattle.world_state.specs.declared.object.Life.{Life}
@@ -25,10 +25,7 @@ use Rattle.world_state.specs.declared.change.Change.{Change}
 use Rattle.world_state.specs.declared.change.Change.TheVariants.{Read, Begin, Publish, Grace, Hold, Retire, Bar, Work as Works, Stay}
 use Rattle.world_state.specs.Objects.{spliced_objects}
 use Rattle.world_state.specs.View.{Plans, BoardView, told, changed}
-use Rattle.world_state.proofs.Writes.{stage_of, chain_of, within, grown_same, spliced_chain}
-use Rattle.world_state.proofs.Growing.{stage_grown}
-use Rattle.world_state.proofs.Marking.{life_of, life_within, life_grown, life_spliced}
-use Rattle.world_state.proofs.Queueing.{queue_at}
+use Rattle.world_state.proofs.Lemmas.{stage_of, chain_of, within, grown_same, spliced_chain, stage_grown, life_of, life_within, life_grown, life_spliced, queue_at}
 use Rattle.world.proofs.Fence.{Laws}
 use Rattle.world.proofs.State.{updater_at, told_by, Kept, Owes}
 use Rattle.world.proofs.Callbacks.{LifeKept, DueKept, RetireKept, BarKept, Barring, CallbacksKept, Callbacks, at_updaters, queue_kept, IsOther, over_event}

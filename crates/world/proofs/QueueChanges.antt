@@ -13,11 +13,8 @@ use Rattle.world_state.specs.declared.updater.UpdaterPlace.{UpdaterPlace}
 use Rattle.world_state.specs.declared.updater.UpdaterPlace.TheVariants.{Idle, Publishes, Syncs, Retires, Bars}
 use Rattle.world_state.specs.Objects.{marked_life}
 use Rattle.world_state.specs.Queues.{changed_at}
-use Rattle.world_state.proofs.Writes.{chain_of}
-use Rattle.world_state.proofs.Linking.{decide_number}
-use Rattle.world_state.proofs.Marking.{life_of, life_else, stage_marked, chain_marked}
-use Rattle.world_state.proofs.Queueing.{Stands, InQueue, queue_at, changed_here, changed_else, changed_length}
-use Rattle.rcu_model.proofs.Members.{In}
+use Rattle.world_state.proofs.Lemmas.{chain_of, decide_number, life_of, life_else, stage_marked, chain_marked, Stands, InQueue, queue_at, changed_here, changed_else, changed_length}
+use Rattle.rcu_model.proofs.Lemmas.{In}
 use Rattle.world.proofs.Callbacks.{ItemsKept, DueKept, Retiring, RetireKept, Faces, IsAt, BarKept, at_queues}
 
 -- a header that is stored is none that another updater's retirement looks at

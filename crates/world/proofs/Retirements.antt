@@ -11,9 +11,7 @@ use Rattle.rcu_model.specs.declared.event.SectionId.{SectionId}
 use Rattle.rcu_model.specs.declared.refusal.Refusal.{Refusal}
 use Rattle.rcu_model.specs.Sets.{at_object}
 use Rattle.rcu_model.specs.Machine.{State}
-use Rattle.rcu_model.proofs.Members.{In, has_object_in, in_objects}
-use Rattle.rcu_model.proofs.SetLemmas.{at_object_same, at_object_other}
-use Rattle.rcu_model.proofs.Follows.{decide}
+use Rattle.rcu_model.proofs.Lemmas.{In, has_object_in, in_objects, at_object_same, at_object_other, decide}
 use Rattle.reader_word.specs.declared.layout.Layout.{Layout}
 use Rattle.callback_queue.specs.Queue.{items_of, given_of}
 use Rattle.world_state.specs.declared.object.Life.{Life}
@@ -35,9 +33,7 @@ use Rattle.world_state.specs.declared.change.Change.TheVariants.{Hold}
 use Rattle.world_state.specs.Objects.{marked_life}
 use Rattle.world_state.specs.Queues.{empty_queue_state, item_of, held_by, acted, changed_at, acted_at, held_at}
 use Rattle.world_state.specs.View.{Plans, BoardView}
-use Rattle.world_state.proofs.Writes.{no_object, stage_of, chain_of, within}
-use Rattle.world_state.proofs.Marking.{life_of, life_within, life_marked, life_else, chain_marked}
-use Rattle.world_state.proofs.Queueing.{Items, Has, Stands, InQueue, queue_at, has_left, has_right, has_stands, stands_left, stands_last, stands_more, changed_here, changed_length, items_pushed}
+use Rattle.world_state.proofs.Lemmas.{no_object, stage_of, chain_of, within, life_of, life_within, life_marked, life_else, chain_marked, Items, Has, Stands, InQueue, queue_at, has_left, has_right, has_stands, stands_left, stands_last, stands_more, changed_here, changed_length, items_pushed}
 use Rattle.world.specs.Chains.{writes}
 use Rattle.world.specs.Queues.{queue_of, at_place, is_cut, is_kept, may_retire, lock_free, lock_row, retire_row, retire_on}
 use Rattle.world.proofs.Fence.{Laws}

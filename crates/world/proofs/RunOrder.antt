@@ -13,8 +13,7 @@ use Rattle.rcu_model.specs.declared.event.ObjectId.{ObjectId}
 use Rattle.rcu_model.specs.declared.refusal.Refusal.{Refusal}
 use Rattle.rcu_model.specs.Machine.{State, start, after, after_all}
 use Rattle.rcu_model.specs.Sets.{same_object, has_object}
-use Rattle.rcu_model.proofs.Members.{In, object_tells, in_objects, has_object_in, in_append}
-use Rattle.rcu_model.proofs.SetLemmas.{filter_has}
+use Rattle.rcu_model.proofs.Lemmas.{In, object_tells, in_objects, has_object_in, in_append, filter_has}
 use Rattle.callback_queue.specs.declared.item.Item.{Item}
 use Rattle.callback_queue.specs.declared.item.Ticket.{Ticket}
 use Rattle.callback_queue.specs.Queue.{items_of, without_first, object_with}
@@ -46,13 +45,12 @@ use Rattle.world_state.specs.declared.change.Change.{Change}
 use Rattle.world_state.specs.Limits.{is_within_limits}
 use Rattle.world_state.specs.Queues.{new_worker, empty_queue_state, item_of, acted, held_by, changed_at, acted_at}
 use Rattle.world_state.specs.View.{Plans, BoardView, fresh_at, changed, idle, told}
-use Rattle.world_state.proofs.Linking.{decide_number}
-use Rattle.world_state.proofs.Marking.{life_of}
-use Rattle.world_state.proofs.Queueing.{Items, Has, InQueue, has_stands, queue_at, changed_here, changed_else, items_sealed, items_advanced, items_pushed}
+use Rattle.world_state.proofs.Lemmas.{decide_number, life_of, Items, Has, InQueue, has_stands, queue_at, changed_here, changed_else, items_sealed, items_advanced, items_pushed}
 use Rattle.world.specs.declared.grace.GraceStep.{GraceStep}
 use Rattle.world.specs.Lines.{with_change, outcome_of, world_after, change_of, reader_line, read_by}
 use Rattle.world.specs.Queues.{queue_of, retire_on}
-use Rattle.world.specs.RunOrder.{queued_by, run_by, queued_into, run_from, RunInOrder}
+use Rattle.rcu_model.specs.RunOrder.{queued_by, run_by, queued_into, run_from}
+use Rattle.world.specs.RunOrder.{RunInOrder}
 use Rattle.world.specs.Workers.{ask_for, act_for, worker_act, first_in}
 use Rattle.world.proofs.Callbacks.{IsOther, LifeKept, RetireKept, WorkAt, WorkKept, at_queues}
 use Rattle.world.proofs.Fence.{Laws}

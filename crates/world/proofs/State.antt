@@ -26,8 +26,7 @@ use Rattle.world_state.specs.declared.worker.WorkerState.{WorkerState}
 use Rattle.world_state.specs.Queues.{new_worker}
 use Rattle.world_state.specs.View.{Plans, BoardView, idle, told, changed}
 use Rattle.world_state.specs.Readers.{is_open_in}
-use Rattle.world_state.proofs.Linking.{LinksKept, PlaceKept, decide_number}
-use Rattle.world_state.proofs.Reading.{reader_at, ReadersKept, reader_there}
+use Rattle.world_state.proofs.Lemmas.{LinksKept, PlaceKept, decide_number, reader_at, ReadersKept, reader_there}
 use Rattle.world.proofs.Fence.{Work, Rests, Waits, Checks, Starts, Runs, Frees, Laws, Sets}
 use Rattle.world.proofs.Periods.{Part, Marks}
 

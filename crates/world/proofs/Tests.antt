@@ -21,7 +21,7 @@ use Rattle.world_state.specs.declared.change.Change.{Change}
 use Rattle.world_state.specs.declared.change.Change.TheVariants.{Read}
 use Rattle.world_state.specs.Readers.{section_of, is_open_in, quietly, telling, with_word, opened, closed, stores, enter_row, go_online_row, announce_row, touch_row}
 use Rattle.world_state.specs.View.{Plans, BoardView, changed, answer_of}
-use Rattle.world_state.proofs.Writes.{no_object, within}
+use Rattle.world_state.proofs.Lemmas.{no_object, within}
 use Rattle.world.specs.Chains.{first_row, next_row, next_from}
 use Rattle.world.specs.Lines.{reader_on, reader_begins, reader_line, read_by}
 use Rattle.world.specs.Tests.{first_failing, hindered, is_foreign, tests_of_read, reader_tests}

@@ -40,8 +40,7 @@ use Rattle.world_state.specs.declared.updater.RetireStep.TheVariants as due
 use Rattle.world_state.specs.declared.updater.UpdaterPlace.{UpdaterPlace}
 use Rattle.world_state.specs.declared.updater.UpdaterPlace.TheVariants.{Idle, Publishes, Syncs, Retires, Bars}
 use Rattle.world_state.specs.View.{idle}
-use Rattle.world_state.proofs.Linking.{PlaceKept}
-use Rattle.world_state.proofs.Writes.{no_object, stage_of, within}
+use Rattle.world_state.proofs.Lemmas.{PlaceKept, no_object, stage_of, within}
 use Rattle.world.specs.Chains.{pushed_row, replaced_row, published}
 use Rattle.world.specs.Lines.{is_idle, updater_on, updater_line}
 use Rattle.world.specs.Queues.{retire_on, barrier_on}

@@ -9,8 +9,7 @@ use Rattle.rcu_model.specs.declared.refusal.Refusal.{Refusal}
 use Rattle.rcu_model.specs.declared.refusal.Refusal.TheVariants.{Busy}
 use Rattle.rcu_model.specs.Sets.{at_number}
 use Rattle.rcu_model.specs.Machine.{State, after}
-use Rattle.rcu_model.proofs.Members.{In, empty_from}
-use Rattle.rcu_model.proofs.SetLemmas.{at_number_same}
+use Rattle.rcu_model.proofs.Lemmas.{In, empty_from, at_number_same}
 use Rattle.reader_word.specs.declared.layout.Layout.{Layout}
 use Rattle.callback_queue.specs.declared.item.Item.{Item}
 use Rattle.callback_queue.specs.Queue.{Queue, items_of, given_of, is_due, after_advance}
@@ -31,7 +30,7 @@ use Rattle.world_state.specs.declared.change.Change.{Change}
 use Rattle.world_state.specs.declared.change.Change.TheVariants.{Work as Works}
 use Rattle.world_state.specs.Queues.{acted, acted_at}
 use Rattle.world_state.specs.View.{Plans, BoardView}
-use Rattle.world_state.proofs.Queueing.{Items, Has, queue_at, has_either, items_advanced}
+use Rattle.world_state.proofs.Lemmas.{Items, Has, queue_at, has_either, items_advanced}
 use Rattle.world.specs.Grace.{grace_row}
 use Rattle.world.specs.Workers.{take_row, ask_for, worked, worker_on, is_resting}
 use Rattle.world.specs.Lines.{worker_line}

@@ -11,9 +11,7 @@ use Rattle.rcu_model.specs.declared.event.SectionId.{SectionId}
 use Rattle.rcu_model.specs.declared.refusal.Refusal.{Refusal}
 use Rattle.rcu_model.specs.Sets.{without_object}
 use Rattle.rcu_model.specs.Machine.{State}
-use Rattle.rcu_model.proofs.Members.{has_object_in, in_objects}
-use Rattle.rcu_model.proofs.SetLemmas.{without_object_has}
-use Rattle.rcu_model.proofs.Follows.{decide}
+use Rattle.rcu_model.proofs.Lemmas.{has_object_in, in_objects, without_object_has, decide}
 use Rattle.reader_word.specs.declared.layout.Layout.{Layout}
 use Rattle.callback_queue.specs.declared.item.Item.{Item}
 use Rattle.callback_queue.specs.declared.item.Ticket.{Ticket}
@@ -38,9 +36,7 @@ use Rattle.world_state.specs.declared.change.Change.TheVariants.{Work as Works, 
 use Rattle.world_state.specs.Objects.{marked_life}
 use Rattle.world_state.specs.Queues.{new_worker, empty_queue_state, item_of, acted, changed_at, acted_at}
 use Rattle.world_state.specs.View.{Plans, BoardView}
-use Rattle.world_state.proofs.Writes.{chain_of}
-use Rattle.world_state.proofs.Marking.{life_of, life_within, life_marked, life_else}
-use Rattle.world_state.proofs.Queueing.{Items, Has, Stands, InQueue, queue_at, stands_above, changed_here, changed_else, changed_length, items_sealed}
+use Rattle.world_state.proofs.Lemmas.{chain_of, life_of, life_within, life_marked, life_else, Items, Has, Stands, InQueue, queue_at, stands_above, changed_here, changed_else, changed_length, items_sealed}
 use Rattle.world.specs.Workers.{with_core, is_none_left, take_row, first_in, run_row}
 use Rattle.world.proofs.Fence.{Work, Rests, Frees, Pending, Laws}
 use Rattle.world.proofs.State.{Asker, Working, core_work, worker_work, worker_at, work_of, updater_at, Kept}

@@ -2,12 +2,11 @@
 use Rattle.std.proofs.Common.{◌≡◌, ◌≢◌, ◌⊎◌, inl, inr, ℕ, zero, suc, ◌-◌, ◌<◌, ◌≤◌, ◌%◌, List, [], ◌∷◌, ◌++◌, length, get_or, Option, Some, None, refl, sym, ap, ◌∙◌, subst, arith, length-append}
 use Rattle.std.proofs.Math.Seq.{get_or-append_right, get_or-append_seam}
 use Rattle.rcu_model.specs.declared.event.ObjectId.{ObjectId}
-use Rattle.rcu_model.proofs.Members.{In}
+use Rattle.rcu_model.proofs.Lemmas.{In, IsPlace, chain_framed}
 use Rattle.world_state.specs.declared.object.Stage.TheVariants.{Fresh, Linked, Cut as IsCut}
 use Rattle.world_state.specs.declared.object.ObjectState.{ObjectState}
 use Rattle.world_state.specs.declared.updater.Publishing.{Publishing}
 use Rattle.world_state.specs.declared.updater.Publishing.TheVariants.{Push as Pushes, Replace as Replaces}
-use Rattle.rcu_model.proofs.Follows.{IsPlace, chain_framed}
 use Rattle.world_state.proofs.Writes.{no_object, object_at, head_of, before_of, stage_of, chain_of, within, past_or_within, get_past, grown_same}
 use Rattle.world_state.proofs.Linking.{word_of, LinksKept, FreshIn, PlaceKept}
 

@@ -4,3 +4,4 @@ pub mod Linking
 pub mod Growing
 pub mod Marking
 pub mod Reading
+pub mod Lemmas

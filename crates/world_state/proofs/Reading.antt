@@ -2,7 +2,7 @@
 use Rattle.std.proofs.Common.{◌≡◌, ◌≢◌, ◌⊎◌, inl, inr, ℕ, ◌+◌, ◌<◌, ◌≤◌, Bool, true, false, List, length, get_or, slice_set, Some, sym, ap, ◌∙◌, subst, get_or-set_other, get_or-set_same, refl, true≢false, arith}
 use Rattle.rcu_model.specs.declared.event.ObjectId.{ObjectId}
 use Rattle.rcu_model.specs.declared.event.SectionId.{SectionId}
-use Rattle.rcu_model.proofs.Members.{In}
+use Rattle.rcu_model.proofs.Lemmas.{In}
 use Rattle.reader_word.specs.declared.layout.Layout.{Layout}
 use Rattle.reader_word.specs.declared.layout.Layout.TheVariants.{Narrow, Wide}
 use Rattle.world_state.specs.declared.object.Stage.TheVariants.{Fresh}

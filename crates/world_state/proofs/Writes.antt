@@ -10,7 +10,7 @@ use Rattle.world_state.specs.declared.object.ObjectState.{ObjectState}
 use Rattle.world_state.specs.declared.object.Splice.{Splice}
 use Rattle.world_state.specs.Objects.{fresh_object, write_at, written, stored, linked_objects, marked_objects, left_objects, spliced_objects, spliced_heads}
 use Rattle.std.specs.Option.{option_or}
-use Rattle.rcu_model.proofs.Follows.{decide}
+use Rattle.rcu_model.proofs.Lemmas.{decide}
 
 abbrev pub no_object : ObjectState
 no_object = fresh_object 0 None

@@ -1,0 +1,3 @@
+pub mod Registry
+pub mod Layout
+pub mod History

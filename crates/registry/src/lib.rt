@@ -1,0 +1,12 @@
+#![tactic(auto)]
+//! The slots of readers: which are claimed, and which are free.
+
+mod laws;
+mod registry;
+mod slot;
+#[cfg(test)]
+mod tests;
+
+pub use laws::slots_are_claimed_once;
+pub use registry::Registry;
+pub use slot::Slot;
