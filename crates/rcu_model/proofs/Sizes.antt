@@ -145,6 +145,7 @@ closed now s c there = record {
     itself : Tells (same_section s s) s s → not (same_section s s) ≡ false
     itself (inl y) = ap not y.0
     itself (inr n) = absurd (n.1 refl)
+
     other : (t : SectionId) → t ≢ s → Tells (same_section t s) t s → not (same_section t s) ≡ true
     other t apart (inl y) = absurd (apart y.1)
     other t apart (inr n) = ap not n.0
@@ -187,6 +188,7 @@ run now o c a =
     itself : Tells (same_object o o) o o → not (same_object o o || has_object now.reclaimed o) ≡ false
     itself (inl y) = ap (λ (b : Bool). not (b || has_object now.reclaimed o)) y.0
     itself (inr n) = absurd (n.1 refl)
+
     other : (p : ObjectId) → p ≢ o → Tells (same_object o p) o p → not (same_object o p || has_object now.reclaimed p) ≡ not (has_object now.reclaimed p)
     other p apart (inl y) = absurd (apart (sym y.1))
     other p apart (inr n) = ap (λ (b : Bool). not (b || has_object now.reclaimed p)) n.0
