@@ -17,6 +17,7 @@ use Rattle.world_state.specs.declared.line.WorkerVerb.{WorkerVerb}
 use Rattle.world_state.specs.declared.line.WorkerVerb.TheVariants as verb
 use Rattle.callback_queue.specs.declared.item.Ticket.{Ticket}
 use Rattle.callback_queue.specs.Queue.{items_of}
+use Rattle.call_rcu_worker.specs.declared.worker.Tickets.{Tickets}
 use Rattle.call_rcu_worker.specs.declared.worker.WorkerCore.{WorkerCore}
 use Rattle.call_rcu_worker.specs.declared.worker.WorkerCore.TheVariants as worker
 use Rattle.world_state.specs.declared.queue.QueueState.{QueueState}
@@ -63,18 +64,18 @@ module _ {P : Type 0} (plans : Plans P) (w : BoardView P) where
     silent_take None = tt
     silent_take (Some q) = each_if IsSilent (is_some q.holder) _ _ refl (each_if IsSilent (is_none_left (items_of q.items)) _ _ refl tt)
 
-    silent_work : (ask tickets : ℕ) (step : GraceStep P) (answer : Answer) → Silent (Ok (work_change k ask tickets step answer))
+    silent_work : (ask : ℕ) (tickets : Tickets) (step : GraceStep P) (answer : Answer) → Silent (Ok (work_change k ask tickets step answer))
     silent_work ask tickets step (Events first second) = tt
     silent_work ask tickets step Quiet = tt
     silent_work ask tickets step Wait = refl
     silent_work ask tickets step Blocked = refl
     silent_work ask tickets step NothingThere = tt
 
-    silent_worked : (ask tickets : ℕ) (r : Result (GraceStep P) Refusal) → Silent (worked k ask tickets r)
+    silent_worked : (ask : ℕ) (tickets : Tickets) (r : Result (GraceStep P) Refusal) → Silent (worked k ask tickets r)
     silent_worked ask tickets (Ok step) = silent_work ask tickets step step.answer
     silent_worked ask tickets (Err e) = tt
 
-    silent_run : (tickets : ℕ) (first : Option (Ticket × ObjectId)) → Silent (run_row w k x tickets first)
+    silent_run : (tickets : Tickets) (first : Option (Ticket × ObjectId)) → Silent (run_row w k x tickets first)
     silent_run tickets None = tt
     silent_run tickets (Some first) = tt
 
