@@ -1,8 +1,9 @@
 -- A grace period of one caller, step by step, whatever the plan.
 use Rattle.std.specs.Prelude.{◌≡◌, ℕ, Bool, true, false, nat_le, if◌then◌else◌, Result, Ok, Err}
 use Rattle.rcu_model.specs.declared.refusal.Refusal.{Refusal}
+use Rattle.reader_word.specs.declared.layout.Layout.{Layout}
 use Rattle.gp_memb.specs.declared.plan.Action.{Action}
-use Rattle.gp_memb.specs.declared.plan.Action.TheVariants.{Load, StorePhase, StoreSeq, Finished}
+use Rattle.gp_memb.specs.declared.plan.Action.TheVariants.{Load, LoadGroup, StorePhase, StoreSeq, Finished}
 use Rattle.gp_memb.specs.declared.plan.Turn.{Turn}
 use Rattle.gp_memb.specs.declared.plan.Turn.TheVariants as turns
 use Rattle.poll_cookie.specs.Cookie.{cookie_for}
@@ -40,6 +41,7 @@ asked_with (Err e) = Err e
 
 abbrev pub is_finished : Action → Bool
 is_finished (Load slot) = false
+is_finished (LoadGroup group) = false
 is_finished (StorePhase value) = false
 is_finished (StoreSeq value) = false
 is_finished Finished = true
@@ -58,6 +60,15 @@ told_of action turn taken (Starts cookie) loaded = telling Quiet (Starts cookie)
 told_of action turn taken (Runs cookie plan) loaded = turned action cookie plan (taken plan loaded) (turn plan loaded)
 told_of action turn taken Frees loaded = telling Quiet Done
 told_of action turn taken Done loaded = telling Quiet Done
+
+-- the plan has done nothing yet, whatever it was made with
+pub record HasJustBegun {P : Type 0} (is_begun : Layout → Bool → ℕ → ℕ → ℕ → P → Type 0) (plan : P) : Type 0 where
+  pub layout : Layout
+  pub grouped : Bool
+  pub slots : ℕ
+  pub seq : ℕ
+  pub word : ℕ
+  pub begun : is_begun layout grouped slots seq word plan
 
 abbrev pub begun_with : {P : Type 0} → SyncCore P → P → SyncCore P
 begun_with Asks plan = Asks

@@ -1,6 +1,8 @@
 pub mod Plan
-pub mod PlanLemmas
+pub mod PlanLaws
+pub mod Groups
+pub mod Scan
 pub mod Memb
-pub mod MembWaits
-pub mod MembOrder
 pub mod Shorter
+pub mod Early
+pub mod lemmas

@@ -1,10 +1,10 @@
 -- What a grace period waits for, and what it stores.
-use Rattle.std.specs.Prelude.{◌≡◌, ◌≢◌, ◌↔◌, ◌≤◌, ◌<◌, ℕ, ◌+◌, ◌*◌, ◌==◌, Bool, true, false, nat_lt, if◌then◌else◌, List, [], ◌∷◌, Option, Some, None}
+use Rattle.std.specs.Prelude.{◌≡◌, ◌≢◌, ◌↔◌, ◌≤◌, ◌<◌, ℕ, ◌+◌, ◌*◌, ◌/◌, ◌%◌, ◌^◌, ◌==◌, Bool, true, false, if◌then◌else◌, List, [], ◌∷◌}
 use Rattle.reader_word.specs.declared.layout.Layout.{Layout}
 use Rattle.reader_word.specs.Word.{count_of, phase_in, stands}
 use Rattle.reader_word.specs.Quiescent.{announced, qs_stands}
 use Rattle.gp_memb.specs.declared.plan.Action.{Action}
-use Rattle.gp_memb.specs.declared.plan.Action.TheVariants.{Load, StorePhase, StoreSeq, Finished}
+use Rattle.gp_memb.specs.declared.plan.Action.TheVariants.{Load, LoadGroup, StorePhase, StoreSeq, Finished}
 use Rattle.gp_memb.specs.declared.plan.Turn.{Turn}
 use Rattle.gp_memb.specs.declared.plan.Turn.TheVariants.{Step, Wait}
 
@@ -18,18 +18,44 @@ abbrev pub after_loads : {P : Type 0} → (P → ℕ → P) → P → List ℕ �
 after_loads taken plan [] = plan
 after_loads taken plan (word ∷ words) = after_loads taken (taken plan word) words
 
--- of these turns, each that loaded the slot loaded such a word
-abbrev pub EachLoadShows : {P : Type 0} → (P → Action) → (P → ℕ → P) → (ℕ → Type 0) → ℕ → P → List ℕ → Type 0
-EachLoadShows action taken shows slot plan [] = Unit {0}
-EachLoadShows action taken shows slot plan (word ∷ words) =
-    (action plan ≡ Load slot → shows word) × EachLoadShows action taken shows slot (taken plan word) words
+-- whether bit i of a word is set
+abbrev pub bit_of : ℕ → ℕ → Bool
+bit_of word i = ((word / 2 ^ i) % 2) == 1
 
--- the grace-period law: whatever is loaded, while every load of a slot shows an open section with one mark (in the
--- quiescent-state flavour no number above the one that the plan was made with), the plan is not finished
+-- what a turn loads while a section with this mark stays open in the slot: of the slot such a word, and of its group a
+-- word in which its bit is set
+abbrev pub ShowsOpen : Bool → Layout → ℕ → ℕ → Action → ℕ → Type 0
+ShowsOpen qsbr layout slot mark (Load k) word = k ≡ slot → Shows qsbr layout mark word
+ShowsOpen qsbr layout slot mark (LoadGroup g) word = g ≡ slot / 64 → bit_of word (slot % 64) ≡ true
+ShowsOpen qsbr layout slot mark (StorePhase value) word = Unit {0}
+ShowsOpen qsbr layout slot mark (StoreSeq value) word = Unit {0}
+ShowsOpen qsbr layout slot mark Finished word = Unit {0}
+
+-- each of these turns loads such a word
+abbrev pub EachLoadShows : {P : Type 0} → (P → Action) → (P → ℕ → P) → (Action → ℕ → Type 0) → P → List ℕ → Type 0
+EachLoadShows action taken shows plan [] = Unit {0}
+EachLoadShows action taken shows plan (word ∷ words) = shows (action plan) word × EachLoadShows action taken shows (taken plan word) words
+
+-- what holds from the first store of a sequence number on
+abbrev pub from_seq : Action → Type 0 → Type 0 → Type 0
+from_seq (StoreSeq value) now later = now
+from_seq (Load slot) now later = later
+from_seq (LoadGroup group) now later = later
+from_seq (StorePhase value) now later = later
+from_seq Finished now later = later
+
+-- each turn after the first store of a sequence number loads such a word; of what was loaded before nothing is known
+abbrev pub EachLoadShowsSince : {P : Type 0} → (P → Action) → (P → ℕ → P) → (Action → ℕ → Type 0) → P → List ℕ → Type 0
+EachLoadShowsSince action taken shows plan [] = Unit {0}
+EachLoadShowsSince action taken shows plan (word ∷ words) = from_seq (action plan) (EachLoadShows action taken shows (taken plan word) words) (EachLoadShowsSince action taken shows (taken plan word) words)
+
+-- the grace-period law: whatever is loaded, while a section that was open at the first store of a sequence number stays
+-- open, with one mark (in the quiescent-state flavour no number above the one that the plan was made with), the plan is
+-- not finished
 abbrev pub WaitsForOpen : {P : Type 0} → Bool → (P → Action) → (P → ℕ → P) → Layout → ℕ → ℕ → P → Type 0
 WaitsForOpen qsbr action taken layout slots word plan =
     (slot mark : ℕ) (loads : List ℕ) → slot < slots → (qsbr ≡ true → mark ≤ word) →
-    EachLoadShows action taken (Shows qsbr layout mark) slot plan loads → action (after_loads taken plan loads) ≢ Finished
+    EachLoadShowsSince action taken (ShowsOpen qsbr layout slot mark) plan loads → action (after_loads taken plan loads) ≢ Finished
 
 -- which turns of a plan store a sequence number, and when it is finished
 pub record StoresInOrder {P : Type 0} (action : P → Action) (taken : P → ℕ → P) (seq : ℕ) (plan : P) : Type 0 where
@@ -56,6 +82,7 @@ stands_before true layout present word = qs_stands word present
 -- what a turn answers to a loaded word
 abbrev pub turn_at : Bool → Layout → ℕ → Action → ℕ → Turn
 turn_at qsbr layout present (Load slot) word = if stands_before qsbr layout present word then Wait else Step
+turn_at qsbr layout present (LoadGroup group) word = Step
 turn_at qsbr layout present (StorePhase value) word = Step
 turn_at qsbr layout present (StoreSeq value) word = Step
 turn_at qsbr layout present Finished word = Step
@@ -63,38 +90,43 @@ turn_at qsbr layout present Finished word = Step
 -- the phase or number that was stored last, after an action
 abbrev pub present_after : ℕ → Action → ℕ
 present_after present (Load slot) = present
+present_after present (LoadGroup group) = present
 present_after present (StorePhase value) = value
 present_after present (StoreSeq value) = present
 present_after present Finished = present
 
--- how many of the turns with these loaded words went on
+-- which turns a count of steps takes in: each, or each but the loads of slots
+abbrev pub each_turn : Action → Bool
+each_turn action = true
+
+abbrev pub but_slots : Action → Bool
+but_slots (Load slot) = false
+but_slots (LoadGroup group) = true
+but_slots (StorePhase value) = true
+but_slots (StoreSeq value) = true
+but_slots Finished = true
+
+-- how many of the turns with these loaded words went on, of those that count
 abbrev pub went_on : Turn → ℕ
 went_on Step = 1
 went_on Wait = 0
 
-abbrev pub steps : {P : Type 0} → (P → ℕ → Turn) → (P → ℕ → P) → P → List ℕ → ℕ
-steps turn taken plan [] = 0
-steps turn taken plan (word ∷ words) = went_on (turn plan word) + steps turn taken (taken plan word) words
+abbrev pub steps : {P : Type 0} → (P → Action) → (P → ℕ → Turn) → (P → ℕ → P) → (Action → Bool) → P → List ℕ → ℕ
+steps action turn taken counts plan [] = 0
+steps action turn taken counts plan (word ∷ words) =
+    (if counts (action plan) then went_on (turn plan word) else 0) + steps action turn taken counts (taken plan word) words
 
--- the plan is finished exactly once this many of its turns went on
-abbrev pub FinishesAfter : {P : Type 0} → (P → Action) → (P → ℕ → Turn) → (P → ℕ → P) → P → ℕ → Type 0
-FinishesAfter action turn taken plan count =
-    (words : List ℕ) → (action (after_loads taken plan words) ≡ Finished) ↔ (count ≤ steps turn taken plan words)
+-- the plan is finished exactly once this many of its turns went on, of those that count
+abbrev pub FinishesAfter : {P : Type 0} → (P → Action) → (P → ℕ → Turn) → (P → ℕ → P) → (Action → Bool) → P → ℕ → Type 0
+FinishesAfter action turn taken counts plan count =
+    (words : List ℕ) → (action (after_loads taken plan words) ≡ Finished) ↔ (count ≤ steps action turn taken counts plan words)
 
--- the turns of a grace period over this many slots that go on
+-- the turns of a grace period that go on, each of whose scans takes so many
 abbrev pub turn_count : Bool → ℕ → ℕ
-turn_count false slots = 2 * slots + 4
-turn_count true slots = slots + 3
+turn_count false scan = 2 * scan + 4
+turn_count true scan = scan + 3
 
 -- the plan after a turn: moved on, or as it was where the turn waits
 abbrev pub after_turn : {P : Type 0} → P → P → Turn → P
 after_turn moved plan Step = moved
 after_turn moved plan Wait = plan
-
--- the slot that a scan goes on to, if there is one
-abbrev pub slot_behind : ℕ → ℕ → Option ℕ
-slot_behind slots slot = if nat_lt (slot + 1) slots then Some (slot + 1) else None
-
--- where a scan goes on to: its next slot, or the place behind its last one
-abbrev pub behind : {Place : Type 0} → (ℕ → Place) → Place → ℕ → ℕ → Place
-behind scan last slots slot = if nat_lt (slot + 1) slots then scan (slot + 1) else last

@@ -4,10 +4,12 @@
 mod laws;
 mod memb;
 mod plan;
+mod scan;
 
-pub use laws::shorter_plans_break_the_law;
+pub use laws::{early_group_words_break_the_law, shorter_plans_break_the_law};
 pub use memb::MembPlan;
-pub use plan::{Action, GracePlan, Turn, next_slot};
+pub use plan::{Action, GracePlan, Turn};
+pub use scan::{Look, Scan};
 
 #[cfg(test)]
 mod tests;

@@ -1,19 +1,21 @@
 //! A grace period, one step at a time.
 
-ghost use Rattle.std.specs.Prelude.{◌≡◌, ◌≢◌, ◌≤◌, ◌<◌, ◌^◌, ◌%◌, ℕ, Bool, true, false, List};
+ghost use Rattle.std.specs.Prelude.{◌≡◌, ◌≢◌, ◌≤◌, ◌<◌, ◌^◌, ◌*◌, ◌%◌, ℕ, Bool, true, false, List};
 ghost use Rattle.reader_word.specs.declared.layout.Layout.{Layout};
 ghost use Rattle.reader_word.specs.declared.layout.Layout.TheVariants.{Wide};
 ghost use Rattle.gp_memb.specs.declared.plan.Action.{Action};
-ghost use Rattle.gp_memb.specs.declared.plan.Action.TheVariants.{Load, StorePhase};
+ghost use Rattle.gp_memb.specs.declared.plan.Action.TheVariants.{Load, LoadGroup, StorePhase};
 ghost use Rattle.gp_memb.specs.declared.plan.Turn.{Turn};
 ghost use Rattle.gp_memb.specs.declared.plan.Turn.TheVariants.{Wait};
-ghost use Rattle.gp_memb.specs.Plan.{turn_at, present_after, after_loads, StoresInOrder, WaitsForOpen, IsPresent, MayStore, FinishesAfter, turn_count, slot_behind};
+ghost use Rattle.gp_memb.specs.Plan.{turn_at, present_after, after_loads, StoresInOrder, WaitsForOpen, IsPresent, MayStore};
 
 /// What a plan does next.
 #[derive(Clone, Copy, Debug, PartialEq, Eq, Drop)]
 pub enum Action {
     /// The word of this slot is to be loaded.
     Load(usize),
+    /// The word of this group of 64 slots is to be loaded, in which the bit of each claimed slot is set.
+    LoadGroup(usize),
     /// The phase, or in the quiescent-state flavour the number, is to be stored.
     StorePhase(u64),
     /// The sequence number is to be stored.
@@ -40,8 +42,9 @@ pub trait GracePlan: Sized {
     /// The same, as code reads it: clauses name the ghost item.
     const QSBR: bool;
 
-    /// A plan that has done nothing yet, made with this layout, number of slots, sequence number, and phase or number.
-    ghost is_begun: { Layout → ℕ → ℕ → ℕ → Self → Type 0 };
+    /// A plan that has done nothing yet: of this layout, grouped or not, and made with this number of slots, sequence
+    /// number, and phase or number.
+    ghost is_begun: { Layout → Bool → ℕ → ℕ → ℕ → Self → Type 0 };
 
     /// What a plan does next.
     ghost action: { Self → Action };
@@ -58,13 +61,12 @@ pub trait GracePlan: Sized {
     /// The phase or number that it stored last, or else was made with.
     ghost present: { Self → ℕ };
 
-    /// A plan over wide words, for the present sequence number and the present phase (0 or 1) or number.
+    /// A grouped plan over wide words, for the present sequence number and the present phase (0 or 1) or number.
     fn start(slots: usize, seq: u64, word: u64) -> Self
-        requires slots { 1 ≤ slots }
         requires even { seq % 2 ≡ 0 }
         requires seq { seq ≤ 2 ^ 62 }
         requires word { word ≤ 2 ^ 62 }
-        ensures { is_begun Wide slots seq word result };
+        ensures { is_begun Wide true slots seq word result };
 
     /// The next action.
     fn next(&self) -> Action
@@ -76,26 +78,25 @@ pub trait GracePlan: Sized {
         ensures taken { self.new ≡ taken self.old loaded };
 
     /// The grace-period law: while a section stays open that was open at the first store, the plan is not finished.
-    ghost waits: { (layout : Layout) (slots seq word : ℕ) (plan : Self) → is_begun layout slots seq word plan → WaitsForOpen QSBR action taken layout slots word plan };
+    ghost waits: { (layout : Layout) (grouped : Bool) (slots seq word : ℕ) (plan : Self) → is_begun layout grouped slots seq word plan → WaitsForOpen QSBR action taken layout slots word plan };
 
     /// The first turn stores the next sequence number, the last one the number after that, and no other stores one.
-    ghost order: { (layout : Layout) (slots seq word : ℕ) (plan : Self) → is_begun layout slots seq word plan → StoresInOrder action taken seq plan };
-
-    /// Over R slots, the plan is finished exactly when 2R + 4 of its turns were steps, or R + 3 in the quiescent-state
-    /// flavour.
-    ghost finishes: { (layout : Layout) (slots seq word : ℕ) (plan : Self) → is_begun layout slots seq word plan → 1 ≤ slots → FinishesAfter action turn taken plan (turn_count QSBR slots) };
+    ghost order: { (layout : Layout) (grouped : Bool) (slots seq word : ℕ) (plan : Self) → is_begun layout grouped slots seq word plan → StoresInOrder action taken seq plan };
 
     /// Only slots that are there are loaded.
-    ghost in_range: { (layout : Layout) (slots seq word : ℕ) (plan : Self) → is_begun layout slots seq word plan → 1 ≤ slots → (loads : List ℕ) (slot : ℕ) → action (after_loads taken plan loads) ≡ Load slot → slot < slots };
+    ghost in_range: { (layout : Layout) (grouped : Bool) (slots seq word : ℕ) (plan : Self) → is_begun layout grouped slots seq word plan → (loads : List ℕ) (slot : ℕ) → action (after_loads taken plan loads) ≡ Load slot → slot < slots };
+
+    /// So are only groups that have a slot.
+    ghost in_groups: { (layout : Layout) (grouped : Bool) (slots seq word : ℕ) (plan : Self) → is_begun layout grouped slots seq word plan → (loads : List ℕ) (group : ℕ) → action (after_loads taken plan loads) ≡ LoadGroup group → 64 * group < slots };
 
     /// What is stored as a phase is one, and as a number the next one.
-    ghost stores: { (layout : Layout) (slots seq word : ℕ) (plan : Self) → is_begun layout slots seq word plan → (loads : List ℕ) (value : ℕ) → action (after_loads taken plan loads) ≡ StorePhase value → MayStore QSBR word value };
+    ghost stores: { (layout : Layout) (grouped : Bool) (slots seq word : ℕ) (plan : Self) → is_begun layout grouped slots seq word plan → (loads : List ℕ) (value : ℕ) → action (after_loads taken plan loads) ≡ StorePhase value → MayStore QSBR word value };
 
     /// At the start nothing was stored yet.
-    ghost begins: { (layout : Layout) (slots seq word : ℕ) (plan : Self) → is_begun layout slots seq word plan → IsPresent QSBR word → present plan ≡ word };
+    ghost begins: { (layout : Layout) (grouped : Bool) (slots seq word : ℕ) (plan : Self) → is_begun layout grouped slots seq word plan → IsPresent QSBR word → present plan ≡ word };
 
     /// A plan of the general-purpose flavour is for words of the layout that it was made for.
-    ghost begins_layout: { (layout : Layout) (slots seq word : ℕ) (plan : Self) → is_begun layout slots seq word plan → QSBR ≡ false → layout_of plan ≡ layout };
+    ghost begins_layout: { (layout : Layout) (grouped : Bool) (slots seq word : ℕ) (plan : Self) → is_begun layout grouped slots seq word plan → QSBR ≡ false → layout_of plan ≡ layout };
 
     /// A turn waits exactly where it loaded a word that stands in the way.
     ghost exact: { (plan : Self) (word : ℕ) → turn plan word ≡ turn_at QSBR (layout_of plan) (present plan) (action plan) word };
@@ -104,7 +105,7 @@ pub trait GracePlan: Sized {
     ghost still: { (plan : Self) (word : ℕ) → turn plan word ≡ Wait → taken plan word ≡ plan };
 
     /// An action that is no load ignores the loaded word.
-    ghost ignores: { (plan : Self) (a b : ℕ) → ((slot : ℕ) → action plan ≢ Load slot) → taken plan a ≡ taken plan b };
+    ghost ignores: { (plan : Self) (a b : ℕ) → ((slot : ℕ) → action plan ≢ Load slot) → ((group : ℕ) → action plan ≢ LoadGroup group) → taken plan a ≡ taken plan b };
 
     /// The present phase or number is what was stored last.
     ghost presents: { (plan : Self) (word : ℕ) → present (taken plan word) ≡ present_after (present plan) (action plan) };
@@ -114,14 +115,4 @@ pub trait GracePlan: Sized {
 
     /// It stays so.
     ghost keeps_layout: { (plan : Self) (word : ℕ) → layout_of (taken plan word) ≡ layout_of plan };
-}
-
-/// The slot that a scan goes on to, if there is one; for those who make plans.
-pub fn next_slot(slots: usize, slot: usize) -> Option<usize>
-    ensures { result ≡ slot_behind slots slot }
-{
-    match slot.checked_add(1) {
-        Some(next) if next < slots => Some(next),
-        _ => None,
-    }
 }

@@ -1,33 +1,40 @@
 //! A whole wait for a grace period, and a whole batch of a worker, over the plan of the general-purpose flavour.
 
-use call_rcu_worker::{Finished, SyncCore, SyncStep, Told, WorkerCore, WorkerStep, run_item};
+use call_rcu_worker::{
+    Finished, SyncCore, SyncStep, Tickets, Told, WorkerCore, WorkerStep, run_item,
+};
 use callback_queue::{Callback, CallbackQueue, Item, Ripe, Ticket};
 use gp_memb::{Action, GracePlan, MembPlan};
 use poll_cookie::cookie_of;
 use rcu_model::{ObjectId, Refusal};
 use std::process::Abort;
 
-/// A whole wait of one reader's world, in which nobody is in the way.
+/// A whole wait over one slot, which nobody has claimed.
 const TEN_STEPS: [(SyncStep, Told); 10] = [
     (SyncStep::Ask, Told::Asked),
     (SyncStep::TakeLock, Told::Quiet),
     (SyncStep::Check, Told::Quiet),
     (SyncStep::Plan(Action::StoreSeq(1)), Told::Quiet),
     (SyncStep::Plan(Action::StorePhase(1)), Told::Quiet),
-    (SyncStep::Plan(Action::Load(0)), Told::Quiet),
+    (SyncStep::Plan(Action::LoadGroup(0)), Told::Quiet),
     (SyncStep::Plan(Action::StorePhase(0)), Told::Quiet),
-    (SyncStep::Plan(Action::Load(0)), Told::Quiet),
+    (SyncStep::Plan(Action::LoadGroup(0)), Told::Quiet),
     (SyncStep::Plan(Action::StoreSeq(2)), Told::Answered),
     (SyncStep::FreeLock, Told::Quiet),
 ];
+
+/// Hands over a plan where the wait asks for one.
+fn begin_where_due(core: &mut SyncCore<MembPlan>) {
+    if let SyncStep::Begin = core.next() {
+        core.begin(MembPlan::start(1, 0, 0));
+    }
+}
 
 #[test]
 fn no_reader_in_the_way(rt: HostRuntime) {
     let mut core = SyncCore::new();
     for (step, told) in TEN_STEPS {
-        if core.next() == SyncStep::Begin {
-            core.begin(MembPlan::start(1, 0, 0));
-        }
+        begin_where_due(&mut core);
         assert_eq!(rt; core.next(), step);
         assert_eq!(rt; core.told(0), Ok(told));
     }
@@ -73,19 +80,26 @@ fn hold_where_due(worker: &mut Worker, popped: Option<(Ticket, Item<u64>)>) -> b
     let Some((ticket, item)) = popped else {
         return false;
     };
-    if let WorkerStep::Pop = worker.next() {
-        worker.hold(ticket, item);
-        return true;
+    match worker.next() {
+        WorkerStep::Pop(due) if due.0 == ticket.0 => {
+            worker.hold(ticket, item);
+            true
+        }
+        _ => false,
     }
-    false
+}
+
+/// Hands over a plan where the worker asks for one.
+fn begin_batch_where_due(worker: &mut Worker) {
+    if let WorkerStep::Sync(SyncStep::Begin) = worker.next() {
+        worker.begin(MembPlan::start(1, 0, 0));
+    }
 }
 
 /// The worker waits for a grace period.
 fn check_sync(rt: &impl Abort, worker: &mut Worker) {
     for (step, told) in TEN_STEPS {
-        if worker.next() == WorkerStep::Sync(SyncStep::Begin) {
-            worker.begin(MembPlan::start(1, 0, 0));
-        }
+        begin_batch_where_due(worker);
         assert_eq!(rt; worker.next(), WorkerStep::Sync(step));
         assert_eq!(rt; worker.told(0), Ok(told));
     }
@@ -118,7 +132,7 @@ fn a_batch_of_two(rt: HostRuntime) {
     assert_eq!(rt; queue.push(item(2)), Ok(Ticket(2)));
     let mut worker: Worker = WorkerCore::new();
     assert_eq!(rt; worker.next(), WorkerStep::Take);
-    worker.took(queue.seal());
+    worker.took(Ticket(1), queue.seal());
     check_sync(&rt, &mut worker);
     queue.note(cookie_of(0).expect(&rt, "0 is below 2^62"));
     assert!(rt; queue.advance(2));
@@ -133,14 +147,14 @@ fn a_batch_of_two(rt: HostRuntime) {
 #[test]
 fn nothing_taken(rt: HostRuntime) {
     let mut worker: Worker = WorkerCore::new();
-    worker.took(0);
+    worker.took(Ticket(1), 0);
     assert_eq!(rt; worker.next(), WorkerStep::Take);
 }
 
 #[test]
 fn a_batch_too_late(rt: HostRuntime) {
     let mut worker: Worker = WorkerCore::new();
-    worker.took(1);
+    worker.took(Ticket(1), 1);
     assert_eq!(rt;
         worker.told(4_611_686_018_427_387_904),
         Err(Refusal::Exhausted)
@@ -161,4 +175,13 @@ fn code_of_a_callback(rt: HostRuntime) {
         code: 5,
     };
     assert_eq!(rt; run_item(Ticket(1), ripe, Callback { call }), finished);
+}
+
+#[test]
+fn tickets_that_are_left(rt: HostRuntime) {
+    let tickets = Tickets {
+        last: Ticket(7),
+        left: 3,
+    };
+    assert_eq!(rt; tickets.next(), Ticket(5));
 }

@@ -12,7 +12,7 @@ use Rattle.rcu_model.specs.Machine.{State, AreAllowed}
 use Rattle.rcu_model.proofs.Lemmas.{In, in_numbers, has_number_in, at_number_same, at_number_other}
 use Rattle.reader_word.specs.declared.layout.Layout.{Layout}
 use Rattle.gp_memb.specs.declared.plan.Action.{Action}
-use Rattle.gp_memb.specs.declared.plan.Action.TheVariants.{Load, StorePhase, StoreSeq, Finished}
+use Rattle.gp_memb.specs.declared.plan.Action.TheVariants.{Load, LoadGroup, StorePhase, StoreSeq, Finished}
 use Rattle.gp_memb.specs.declared.plan.Turn.{Turn}
 use Rattle.gp_memb.specs.declared.plan.Turn.TheVariants as turns
 use Rattle.gp_memb.specs.Plan.{StoresInOrder, MayStore, present_after}
@@ -30,7 +30,7 @@ use Rattle.world_state.specs.Readers.{new_reader}
 use Rattle.world_state.specs.View.{Plans, BoardView, told}
 use Rattle.world.specs.declared.grace.GraceStep.{GraceStep}
 use Rattle.world.specs.Grace.{stepped, loaded_word, action_effect, lock_effect, done_with, plan_now, grace_row}
-use Rattle.world.proofs.Fence.{Work, Rests, Waits, Checks, Starts, Runs, Frees, Pending, RunsNone, Laws, Sets, Running, cookie-above, cookie-near, cookie-even}
+use Rattle.world.proofs.Fence.{Work, Rests, Waits, Checks, Starts, Runs, Frees, Pending, RunsNone, Laws, Sets, Running, runs_no_group, cookie-above, cookie-near, cookie-even}
 use Rattle.world.proofs.Periods.{Part, Marks, reached_empty, part_asked, part_locked, part_answered, part_checked, part_freed, part_turned, part_begun, part_ended}
 use Rattle.world.proofs.State.{Asker, decide_asker, asker_of, core_work, work_of, holder_of, word_at, IsUnderWay, Kept, marks_of}
 use Rattle.world.proofs.KeptReaders.{log_longer, log_one}
@@ -258,6 +258,7 @@ module _ {P : Type 0} (plans : Plans P) (layout : Layout) (slots : ℕ) (laws : 
 
     finished_from : (a : Action) → is_finished a ≡ true → a ≡ Finished
     finished_from (Load s) e = absurd (true≢false (sym e))
+    finished_from (LoadGroup g) e = absurd (true≢false (sym e))
     finished_from (StorePhase v) e = absurd (true≢false (sym e))
     finished_from (StoreSeq v) e = absurd (true≢false (sym e))
     finished_from Finished e = refl
@@ -276,7 +277,7 @@ module _ {P : Type 0} (plans : Plans P) (layout : Layout) (slots : ℕ) (laws : 
         same = ap (λ l. plans.made l (length w.readers) seq w.grace.word) k.laid ∙ ap (λ n. plans.made layout n seq w.grace.word) k.sized
 
         order : StoresInOrder plans.action plans.taken seq p
-        order = laws.order seq w.grace.word p (subst (laws.begun seq w.grace.word) (sym same) (laws.made seq w.grace.word))
+        order = laws.all.keeps.order seq w.grace.word p (subst (laws.begun seq w.grace.word) (sym same) (laws.all.made seq w.grace.word))
 
         first : plans.action p ≡ StoreSeq (seq + 1)
         first = order.first
@@ -319,7 +320,7 @@ module _ {P : Type 0} (plans : Plans P) (layout : Layout) (slots : ℕ) (laws : 
       last : (loaded : ℕ) → (plans.action (plans.taken p loaded) ≡ Finished) ↔ (plans.action p ≡ StoreSeq (running.from + 2))
       last loaded =
           let r = running in
-          let l = (laws.order r.from r.word r.plan r.begun).last (r.load ∷ r.loads) loaded (λ f. r.goes_on (ap plans.action r.is ∙ f)) in (
+          let l = (laws.all.keeps.order r.from r.word r.plan r.begun).last (r.load ∷ r.loads) loaded (λ f. r.goes_on (ap plans.action r.is ∙ f)) in (
             (λ e. ap plans.action r.is ∙ l.0 (ap (λ q. plans.action (plans.taken q loaded)) (sym r.is) ∙ e)),
             (λ e. ap (λ q. plans.action (plans.taken q loaded)) r.is ∙ l.1 (ap plans.action (sym r.is) ∙ e)),
           )
@@ -351,7 +352,7 @@ module _ {P : Type 0} (plans : Plans P) (layout : Layout) (slots : ℕ) (laws : 
       owes_last value stores = owes_turn (record w.grace { seq = value }) c p (plans.taken p 0) ends goes (plans.turn p 0)
         where
           which : value ≡ running.from + 2
-          which = let r = running in (laws.order r.from r.word r.plan r.begun).second r.load value r.loads (ap plans.action (sym r.is) ∙ stores)
+          which = let r = running in (laws.all.keeps.order r.from r.word r.plan r.begun).second r.load value r.loads (ap plans.action (sym r.is) ∙ stores)
 
           done : plans.action (plans.taken p 0) ≡ Finished
           done = (last 0).1 (stores ∙ ap StoreSeq which)
@@ -415,21 +416,22 @@ module _ {P : Type 0} (plans : Plans P) (layout : Layout) (slots : ℕ) (laws : 
           phase_load s e = cc
 
           rises : plans.qsbr ≡ true → w.grace.word ≤ value
-          rises q = subst (λ n. n ≤ value) (running.present q) (laws.rises p value q does)
+          rises q = subst (λ n. n ≤ value) (running.present q) (laws.all.keeps.rises p value q does)
 
           phase : plans.qsbr ≡ false → value ≤ 1
           phase f =
               let r = running in
-              subst (λ (b : Bool). MayStore b r.word value) f (laws.stores r.from r.word r.plan r.begun (r.load ∷ r.loads) value (ap plans.action (sym r.is) ∙ does))
+              subst (λ (b : Bool). MayStore b r.word value) f (laws.all.keeps.stores r.from r.word r.plan r.begun (r.load ∷ r.loads) value (ap plans.action (sym r.is) ∙ does))
 
           next_number : plans.qsbr ≡ true → value ≡ running.word + 1
           next_number q =
               let r = running in
-              subst (λ (b : Bool). MayStore b r.word value) q (laws.stores r.from r.word r.plan r.begun (r.load ∷ r.loads) value (ap plans.action (sym r.is) ∙ does))
+              subst (λ (b : Bool). MayStore b r.word value) q (laws.all.keeps.stores r.from r.word r.plan r.begun (r.load ∷ r.loads) value (ap plans.action (sym r.is) ∙ does))
 
           low : plans.qsbr ≡ true → value ≤ w.grace.seq
           low q = let n = next_number q in let l = (running.low q).0 in omega (arith, n, l, running.odd)
       owes_action (StoreSeq value) does = owes_last value does
+      owes_action (LoadGroup group) does = absurd (runs_no_group plans layout slots laws w.grace.seq w.grace.word c p running group does)
       owes_action Finished does = absurd (running.goes_on does)
 
     -- any step of a grace period that is under way

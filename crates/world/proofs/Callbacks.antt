@@ -95,10 +95,10 @@ BatchKept ready waiting noted asked awaited asked_sections ask tickets core.Done
 -- a worker, beside what its queue says
 abbrev pub WorkKept : {P : Type 0} → Items → Items → Option ℕ → ℕ → ℕ → List ℕ → (ObjectId → List SectionId) → (ℕ → List SectionId) → ℕ → WorkerCore P Unit → Type 0
 WorkKept ready waiting noted gone finished asked awaited asked_sections ask worker.Idle = (ready ≡ []) × (waiting ≡ []) × (finished ≡ gone)
-WorkKept ready waiting noted gone finished asked awaited asked_sections ask (worker.Syncs place tickets) = BatchKept ready waiting noted asked awaited asked_sections ask tickets place × (finished ≡ gone)
-WorkKept ready waiting noted gone finished asked awaited asked_sections ask (worker.Pops tickets) = (waiting ≡ []) × (tickets ≡ length ready) × (1 ≤ tickets) × (finished ≡ gone)
+WorkKept ready waiting noted gone finished asked awaited asked_sections ask (worker.Syncs place tickets) = BatchKept ready waiting noted asked awaited asked_sections ask tickets.left place × (finished ≡ gone) × (tickets.last.0 ≡ gone + tickets.left)
+WorkKept ready waiting noted gone finished asked awaited asked_sections ask (worker.Pops tickets) = (waiting ≡ []) × (tickets.left ≡ length ready) × (1 ≤ tickets.left) × (finished ≡ gone) × (tickets.last.0 ≡ gone + tickets.left)
 WorkKept ready waiting noted gone finished asked awaited asked_sections ask (worker.Runs tickets ticket item) = ⊥
-WorkKept ready waiting noted gone finished asked awaited asked_sections ask (worker.Ran tickets ticket item) = (waiting ≡ []) × (tickets ≡ length ready + 1) × (finished + 1 ≡ gone)
+WorkKept ready waiting noted gone finished asked awaited asked_sections ask (worker.Ran tickets ticket item) = (waiting ≡ []) × (tickets.left ≡ length ready + 1) × (finished + 1 ≡ gone) × (tickets.last.0 + 1 ≡ gone + tickets.left)
 WorkKept ready waiting noted gone finished asked awaited asked_sections ask (worker.Counts tickets ticket) = ⊥
 
 abbrev pub WorkAt : {P : Type 0} → QueueState → List ℕ → (ObjectId → List SectionId) → (ℕ → List SectionId) → WorkerState P → Type 0
@@ -201,7 +201,7 @@ module _ (asked asked' : List ℕ) (awaited awaited' : ObjectId → List Section
 
   work_kept : {P : Type 0} (ready waiting : Items) (noted : Option ℕ) (gone finished ask : ℕ) (place : WorkerCore P Unit) → Covers waiting → WorkKept ready waiting noted gone finished asked awaited asked_sections ask place → WorkKept ready waiting noted gone finished asked' awaited' asked_sections' ask place
   work_kept ready waiting noted gone finished ask worker.Idle covers b = b
-  work_kept ready waiting noted gone finished ask (worker.Syncs place tickets) covers b = (batch_kept ready waiting noted ask tickets place covers b.0, b.1)
+  work_kept ready waiting noted gone finished ask (worker.Syncs place tickets) covers b = (batch_kept ready waiting noted ask tickets.left place covers b.0, b.1, b.2)
   work_kept ready waiting noted gone finished ask (worker.Pops tickets) covers b = b
   work_kept ready waiting noted gone finished ask (worker.Runs tickets ticket item) covers b = absurd b
   work_kept ready waiting noted gone finished ask (worker.Ran tickets ticket item) covers b = b

@@ -8,6 +8,7 @@ use Rattle.call_rcu_worker.specs.Sync.{telling}
 use Rattle.call_rcu_worker.specs.declared.sync.Told.TheVariants.{Quiet, Answered}
 use Rattle.call_rcu_worker.specs.declared.sync.SyncCore.{SyncCore}
 use Rattle.call_rcu_worker.specs.declared.sync.SyncCore.TheVariants.{Asks, Waits, Checks, Starts, Runs, Frees, Done}
+use Rattle.call_rcu_worker.specs.declared.worker.Tickets.{Tickets}
 use Rattle.call_rcu_worker.specs.declared.worker.WorkerCore.{WorkerCore}
 use Rattle.call_rcu_worker.specs.declared.worker.WorkerCore.TheVariants as works
 use Rattle.world_state.specs.declared.line.Answer.{Answer}
@@ -52,7 +53,7 @@ module _ {P : Type 0} (plans : Plans P) (w : BoardView P) where
   at_place u x (Syncs ask core) check is = updater_checks u x ask core check is
   at_place u x place check is = cc
 
-  module _ (k : ℕ) (x : WorkerState P) (tickets : ℕ) where
+  module _ (k : ℕ) (x : WorkerState P) (tickets : Tickets) where
     worker_told : (cookie : ℕ) (b : Bool) → (with_change w (worked k x.ask tickets (checked x.ask cookie b))).answer ≡ reply x.ask b
     worker_told cookie true = refl
     worker_told cookie false = refl

@@ -221,7 +221,7 @@ few_readers config e = at_most 1 64 config.readers (both (is_in 1 64 config.read
 few_chains_of : (config : Config) → is_within_limits config ≡ true → config.chains ≤ 64
 few_chains_of config e = at_most 1 64 config.chains (both _ (is_in 1 64 config.chains) e).1
 
-module _ {P : Type 0} (plans : Plans P) (laws : (layout : Layout) (slots : ℕ) → 1 ≤ slots → Laws plans layout slots) where
+module _ {P : Type 0} (plans : Plans P) (laws : (layout : Layout) (slots : ℕ) → Laws plans layout slots) where
   pub numbers : (config : Config) (seq : ℕ) (lines : List Line) → is_within_limits config ≡ true → seq % 2 ≡ 0 → seq ≤ 2 ^ 62 → All (IsNumberedWithin (2 * length lines)) (world_after plans (fresh_at config seq) lines).log
   numbers config seq lines limits even low =
       subst (λ n. All (IsNumberedWithin (2 * n)) (world_after plans (fresh_at config seq) lines).log) (omega arith)
@@ -229,7 +229,7 @@ module _ {P : Type 0} (plans : Plans P) (laws : (layout : Layout) (slots : ℕ) 
       (counted_lines plans config.layout config.readers mine (few_readers config limits) (fresh_at config seq) 0 lines fresh))
     where
       mine : Laws plans config.layout config.readers
-      mine = laws config.layout config.readers (some_reader config limits)
+      mine = laws config.layout config.readers
 
       fresh : Counted plans config.layout config.readers mine (fresh_at config seq) 0
       fresh = record {

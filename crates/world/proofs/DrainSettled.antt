@@ -56,13 +56,13 @@ module _ {P : Type 0} (plans : Plans P) (layout : Layout) (slots : ℕ) (laws : 
       rests : (q : QueueState) (x : WorkerState P) → WorkAt q now.asked now.awaited now.asked_sections x → x.core ≡ worker.Idle → (q.items.ready ≡ []) × (q.items.waiting ≡ []) × (q.finished ≡ q.items.gone)
       rests q x h idle = let r = subst (λ c. WorkAt q now.asked now.awaited now.asked_sections (record x { core = c })) idle h in (r.0, r.1, r.2)
 
-module _ {P : Type 0} (plans : Plans P) (laws : (layout : Layout) (slots : ℕ) → 1 ≤ slots → Laws plans layout slots) where
+module _ {P : Type 0} (plans : Plans P) (laws : (layout : Layout) (slots : ℕ) → Laws plans layout slots) where
   pub settles : (w : BoardView P) → IsReached plans w → IsSettled w
   settles w r =
-      let own = laws r.config.layout r.config.readers (some_reader r.config r.limits) in
+      let own = laws r.config.layout r.config.readers in
       let few = few_workers r.config r.limits in
       let l = logged_lines plans r.config.layout r.config.readers own (fresh_at r.config r.seq) r.lines
       (logged_fresh plans r.config.layout r.config.readers own r.config r.seq refl refl (some_reader r.config r.limits) few.0 few.1 r.even r.low) in
       subst (λ (v : BoardView P). IsSettled v) r.leads
-      (settled_from plans r.config.layout r.config.readers (laws r.config.layout r.config.readers (some_reader r.config r.limits)) (world_after plans (fresh_at r.config r.seq) r.lines)
+      (settled_from plans r.config.layout r.config.readers (laws r.config.layout r.config.readers) (world_after plans (fresh_at r.config r.seq) r.lines)
       (after_all start (world_after plans (fresh_at r.config r.seq) r.lines).log) l.kept l.callbacks (few_readers r.config r.limits))

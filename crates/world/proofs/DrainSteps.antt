@@ -1,5 +1,5 @@
 -- A drain's steps: where a worker stands alone, its next line is made, and leads to where it stands with one step less.
-use Rattle.std.proofs.Common.{◌≡◌, ◌≢◌, ◌⊎◌, inl, inr, ℕ, zero, suc, ◌+◌, ◌-◌, ◌*◌, ◌%◌, ◌^◌, ◌<◌, ◌≤◌, ltb, leb, cond, Bool, true, false, ◌==◌, not, ◌&&◌, ◌||◌, List, [], ◌∷◌, ◌++◌, length, slice_get, slice_set, Option, Some, None, Result, Ok, Err, refl, sym, ap, ◌∙◌, subst, arith, true≢false}
+use Rattle.std.proofs.Common.{◌≡◌, ◌≢◌, ◌⊎◌, inl, inr, ℕ, zero, suc, ◌+◌, ◌*◌, ◌%◌, ◌^◌, ◌<◌, ◌≤◌, ltb, leb, cond, Bool, true, false, ◌==◌, not, ◌&&◌, ◌||◌, List, [], ◌∷◌, ◌++◌, length, slice_get, slice_set, Option, Some, None, Result, Ok, Err, refl, sym, ap, ◌∙◌, subst, arith, true≢false}
 use Rattle.std.proofs.lemmas.Bool.Decides.{leb_tells, Decides-ltb}
 use Rattle.rcu_model.specs.declared.event.Event.TheVariants as events
 use Rattle.rcu_model.specs.declared.refusal.Refusal.{Refusal}
@@ -12,16 +12,19 @@ use Rattle.callback_queue.specs.declared.item.Item.{Item}
 use Rattle.callback_queue.specs.declared.item.Ticket.{Ticket}
 use Rattle.callback_queue.specs.Queue.{Queue, after_advance, is_due, object_with, without_first}
 use Rattle.gp_memb.specs.declared.plan.Action.{Action}
-use Rattle.gp_memb.specs.declared.plan.Action.TheVariants.{Load, StorePhase, StoreSeq, Finished}
+use Rattle.gp_memb.specs.declared.plan.Action.TheVariants.{Load, LoadGroup, StorePhase, StoreSeq, Finished}
 use Rattle.gp_memb.specs.declared.plan.Turn.{Turn}
 use Rattle.gp_memb.specs.declared.plan.Turn.TheVariants as turns
-use Rattle.gp_memb.specs.Plan.{after_loads, StoresInOrder, FinishesAfter, turn_at, turn_count, steps, went_on}
+use Rattle.gp_memb.specs.Plan.{after_loads, StoresInOrder, FinishesAfter, each_turn, turn_at, turn_count, steps, went_on}
+use Rattle.gp_memb.specs.lemmas.History.{after_snoc}
 use Rattle.poll_cookie.specs.Cookie.{even_below}
 use Rattle.call_rcu_worker.specs.declared.sync.SyncCore.{SyncCore}
 use Rattle.call_rcu_worker.specs.declared.sync.SyncCore.TheVariants as core
 use Rattle.call_rcu_worker.specs.declared.sync.Told.TheVariants as what
+use Rattle.call_rcu_worker.specs.declared.worker.Tickets.{Tickets}
 use Rattle.call_rcu_worker.specs.declared.worker.WorkerCore.{WorkerCore}
 use Rattle.call_rcu_worker.specs.declared.worker.WorkerCore.TheVariants as worker
+use Rattle.call_rcu_worker.specs.Worker.{rest_of}
 use Rattle.call_rcu_worker.specs.Sync.{telling, told_of, turned, asked_with, is_finished}
 use Rattle.world_state.specs.declared.change.Change.{Change}
 use Rattle.world_state.specs.declared.change.Change.TheVariants.{Work}
@@ -54,11 +57,11 @@ Items = List (Item Unit)
 -- what a plan does with nobody in its way: it is made so that each turn that loads a word with no open section goes on
 pub record Sound {P : Type 0} (plans : Plans P) (layout : Layout) (slots seq : ℕ) (plan : P) : Type 0 where
   pub order : StoresInOrder plans.action plans.taken seq plan
-  pub finishes : FinishesAfter plans.action plans.turn plans.taken plan (turn_count plans.qsbr slots)
+  pub finishes : FinishesAfter plans.action plans.turn plans.taken each_turn plan (turn_count plans.qsbr slots)
   pub goes_on : (loads : List ℕ) (word : ℕ) → is_open_in plans.qsbr layout word ≡ false → plans.turn (after_loads plans.taken plan loads) word ≡ turns.Step
 
 abbrev pub AreSound : {P : Type 0} → Plans P → Type 0
-AreSound plans = (layout : Layout) (slots seq word : ℕ) → 1 ≤ slots → Sound plans layout slots seq (plans.made layout slots seq word)
+AreSound plans = (layout : Layout) (slots seq word : ℕ) → Sound plans layout slots seq (plans.made layout slots seq word)
 
 or_left : (a b : Bool) → (a || b) ≡ false → a ≡ false
 or_left true b e = e
@@ -86,18 +89,16 @@ set_there (z ∷ zs) zero x y e = refl
 set_there (z ∷ zs) (suc k) x y e = set_there zs k x y e
 
 -- turns with one more load
-steps_snoc : {P : Type 0} (turn : P → ℕ → Turn) (taken : P → ℕ → P) (p : P) (xs : List ℕ) (x : ℕ) → turn (after_loads taken p xs) x ≡ turns.Step → steps turn taken p (xs ++ x ∷ []) ≡ steps turn taken p xs + 1
-steps_snoc turn taken p [] x e = rw e refl
-steps_snoc turn taken p (y ∷ ys) x e = ap (λ n. went_on (turn p y) + n) (steps_snoc turn taken (taken p y) ys x e) ∙ omega arith
-
-after_snoc : {P : Type 0} (taken : P → ℕ → P) (p : P) (xs : List ℕ) (x : ℕ) → after_loads taken p (xs ++ x ∷ []) ≡ taken (after_loads taken p xs) x
-after_snoc taken p [] x = refl
-after_snoc taken p (y ∷ ys) x = after_snoc taken (taken p y) ys x
+steps_snoc : {P : Type 0} (action : P → Action) (turn : P → ℕ → Turn) (taken : P → ℕ → P) (p : P) (xs : List ℕ) (x : ℕ) → turn (after_loads taken p xs) x ≡ turns.Step →
+    steps action turn taken each_turn p (xs ++ x ∷ []) ≡ steps action turn taken each_turn p xs + 1
+steps_snoc action turn taken p [] x e = rw e refl
+steps_snoc action turn taken p (y ∷ ys) x e = ap (λ n. went_on (turn p y) + n) (steps_snoc action turn taken (taken p y) ys x e) ∙ omega arith
 
 -- a turn that loads a word with no open section goes on, whatever is due
 closed_step : (qsbr : Bool) (mine layout : Layout) (present word : ℕ) (a : Action) → (qsbr ≡ false → mine ≡ layout) → is_open_in qsbr layout word ≡ false → turn_at qsbr mine present a word ≡ turns.Step
 closed_step false mine layout present word (Load slot) same closed = ap (λ (b : Bool). cond (b && differ (phase_in mine word) (present == 1)) turns.Wait turns.Step) (ap (λ (l : Layout). is_open_of l word) (same refl) ∙ closed)
 closed_step true mine layout present word (Load slot) same closed = ap (λ (b : Bool). cond (b && not (word == announced present)) turns.Wait turns.Step) closed
+closed_step qsbr mine layout present word (LoadGroup group) same closed = refl
 closed_step qsbr mine layout present word (StorePhase value) same closed = refl
 closed_step qsbr mine layout present word (StoreSeq value) same closed = refl
 closed_step qsbr mine layout present word Finished same closed = refl
@@ -138,7 +139,7 @@ module _ {P : Type 0} (plans : Plans P) (layout : Layout) (slots : ℕ) where
     pub sound : Sound plans layout slots seq from
     pub loads : List ℕ
     pub is : p ≡ after_loads plans.taken from loads
-    pub counted : steps plans.turn plans.taken from loads + rest ≡ count
+    pub counted : steps plans.action plans.turn plans.taken each_turn from loads + rest ≡ count
     pub some : 1 ≤ rest
 
   abbrev pub Syncing : GraceState → Queue (Item Unit) → ℕ → ℕ → ℕ → SyncCore P → Type 0
@@ -152,10 +153,10 @@ module _ {P : Type 0} (plans : Plans P) (layout : Layout) (slots : ℕ) where
 
   abbrev pub Stands : GraceState → Queue (Item Unit) → ℕ → ℕ → WorkerCore P Unit → Type 0
   Stands g i left told worker.Idle = (i.ready ≡ []) × (i.waiting ≡ []) × (i.fresh ≡ []) × Left left 0 told 0 × (g.holder ≡ None)
-  Stands g i left told (worker.Syncs sync t) = Syncing g i t left told sync
-  Stands g i left told (worker.Pops t) = (1 ≤ t) × (t ≡ length i.ready) × (i.waiting ≡ []) × (i.fresh ≡ []) × Left left (2 * t) told t × (g.holder ≡ None)
+  Stands g i left told (worker.Syncs sync t) = Syncing g i t.left left told sync
+  Stands g i left told (worker.Pops t) = (1 ≤ t.left) × (t.left ≡ length i.ready) × (i.waiting ≡ []) × (i.fresh ≡ []) × Left left (2 * t.left) told t.left × (g.holder ≡ None)
   Stands g i left told (worker.Runs t ticket item) = ⊥
-  Stands g i left told (worker.Ran t ticket item) = (t ≡ length i.ready + 1) × (i.waiting ≡ []) × (i.fresh ≡ []) × Left left (2 * length i.ready + 1) told (length i.ready) × (g.holder ≡ None)
+  Stands g i left told (worker.Ran t ticket item) = (t.left ≡ length i.ready + 1) × (i.waiting ≡ []) × (i.fresh ≡ []) × Left left (2 * length i.ready + 1) told (length i.ready) × (g.holder ≡ None)
   Stands g i left told (worker.Counts t ticket) = ⊥
 
   -- a worker and its queue where nobody is in a section
@@ -193,6 +194,7 @@ module _ {P : Type 0} (plans : Plans P) (layout : Layout) (slots : ℕ) where
 
   unfinished : (a : Action) → a ≢ Finished → is_finished a ≡ false
   unfinished (Load slot) n = refl
+  unfinished (LoadGroup group) n = refl
   unfinished (StorePhase value) n = refl
   unfinished (StoreSeq value) n = refl
   unfinished Finished n = absurd (n refl)
@@ -211,11 +213,12 @@ module _ {P : Type 0} (plans : Plans P) (layout : Layout) (slots : ℕ) where
 
     loaded_closed : (a : Action) → is_open_in plans.qsbr layout (action_effect w a).loaded ≡ false
     loaded_closed (Load slot) = closed_at plans.qsbr layout w.readers slot closed
+    loaded_closed (LoadGroup group) = none_open plans.qsbr layout
     loaded_closed (StorePhase value) = none_open plans.qsbr layout
     loaded_closed (StoreSeq value) = none_open plans.qsbr layout
     loaded_closed Finished = none_open plans.qsbr layout
 
-    asks : (t : ℕ) → Syncing w.grace q.items t (suc left) told_before core.Asks → Made (worker_on plans w k x (worker.Syncs core.Asks t))
+    asks : (t : Tickets) → Syncing w.grace q.items t.left (suc left) told_before core.Asks → Made (worker_on plans w k x (worker.Syncs core.Asks t))
     asks t s =
         let b = s.0 in
         let even = s.2 in
@@ -232,7 +235,7 @@ module _ {P : Type 0} (plans : Plans P) (layout : Layout) (slots : ℕ) where
               (λ (r : Result ℕ Refusal). worked k (w.grace.asks + 1) t (stepped (record w.grace { asks = w.grace.asks + 1 }) (w.grace.asks + 1) (asked_with r)))
               (ap (λ (b : Bool). cond b (Ok (even_below (w.grace.seq + 3))) (Err Exhausted)) ((Decides-ltb w.grace.seq (2 ^ 62)).1 s.3));
           prompt = tt;
-          later = t + 1;
+          later = t.left + 1;
           tells = omega (arith, events_left);
           stands = (
             record {
@@ -245,7 +248,7 @@ module _ {P : Type 0} (plans : Plans P) (layout : Layout) (slots : ℕ) where
           );
         }
 
-    waits : (c t : ℕ) → Syncing w.grace q.items t (suc left) told_before (core.Waits c) → Made (worker_on plans w k x (worker.Syncs (core.Waits c) t))
+    waits : (c : ℕ) (t : Tickets) → Syncing w.grace q.items t.left (suc left) told_before (core.Waits c) → Made (worker_on plans w k x (worker.Syncs (core.Waits c) t))
     waits c t s =
         let l = s.2 in
         let steps_left = l.steps_left in
@@ -262,7 +265,7 @@ module _ {P : Type 0} (plans : Plans P) (layout : Layout) (slots : ℕ) where
           stands = (s.0, record { steps_left = omega (arith, steps_left); events_left = l.events_left });
         }
 
-    checks : (c t : ℕ) → Syncing w.grace q.items t (suc left) told_before (core.Checks c) → Made (worker_on plans w k x (worker.Syncs (core.Checks c) t))
+    checks : (c : ℕ) (t : Tickets) → Syncing w.grace q.items t.left (suc left) told_before (core.Checks c) → Made (worker_on plans w k x (worker.Syncs (core.Checks c) t))
     checks c t s =
         let l = s.1 in
         let steps_left = l.steps_left in
@@ -283,7 +286,7 @@ module _ {P : Type 0} (plans : Plans P) (layout : Layout) (slots : ℕ) where
         above (inl y) = let n = s.0 in let reached = n.reached in let low = y.1 in absurd (omega (arith, reached, low))
         above (inr m) = m.0
 
-    turning : (c t ask seq rest : ℕ) (p : P) → Noted q.items t c seq → Turns p seq rest → Left (suc left) (rest + 1 + 2 * t) told_before (t + 1) →
+    turning : (c : ℕ) (t : Tickets) (ask seq rest : ℕ) (p : P) → Noted q.items t.left c seq → Turns p seq rest → Left (suc left) (rest + 1 + 2 * t.left) told_before (t.left + 1) →
         Made (worked k ask t (stepped (action_effect w (plans.action p)).grace ask (turned plans.action c p (plans.taken p (action_effect w (plans.action p)).loaded) (plans.turn p (action_effect w (plans.action p)).loaded))))
     turning c t ask seq rest p n u l = by rest refl
       where
@@ -299,8 +302,8 @@ module _ {P : Type 0} (plans : Plans P) (layout : Layout) (slots : ℕ) where
         taken_is : plans.taken p load ≡ after_loads plans.taken u.from (u.loads ++ load ∷ [])
         taken_is = ap (λ z. plans.taken z load) u.is ∙ sym (after_snoc plans.taken u.from u.loads load)
 
-        one_more : steps plans.turn plans.taken u.from (u.loads ++ load ∷ []) ≡ steps plans.turn plans.taken u.from u.loads + 1
-        one_more = steps_snoc plans.turn plans.taken u.from u.loads load goes
+        one_more : steps plans.action plans.turn plans.taken each_turn u.from (u.loads ++ load ∷ []) ≡ steps plans.action plans.turn plans.taken each_turn u.from u.loads + 1
+        one_more = steps_snoc plans.action plans.turn plans.taken u.from u.loads load goes
 
         makes_with : (b : Bool) → is_finished (plans.action (plans.taken p load)) ≡ b →
             worked k ask t (stepped grace ask (turned plans.action c p (plans.taken p load) (plans.turn p load))) ≡ worked k ask t (stepped grace ask (cond b (telling {P = P} what.Answered core.Frees) (telling what.Quiet (core.Runs c (plans.taken p load)))))
@@ -327,9 +330,9 @@ module _ {P : Type 0} (plans : Plans P) (layout : Layout) (slots : ℕ) where
           answer = Events (events.Answer ask) None;
           makes = makes_with true (ap is_finished ends);
           prompt = tt;
-          later = t;
+          later = t.left;
           tells = let events_left = l.events_left in omega (arith, events_left);
-          stands = subst (λ (i : Queue (Item Unit)). Syncing grace i t left t core.Frees) (sym (advanced q.items c grace.seq n.noted reached)) (
+          stands = subst (λ (i : Queue (Item Unit)). Syncing grace i t.left left t.left core.Frees) (sym (advanced q.items c grace.seq n.noted reached)) (
             n.batch.some,
             n.batch.count ∙ ap (λ (r : Items). length (r ++ q.items.waiting)) (sym n.batch.none_ready),
             refl,
@@ -389,20 +392,20 @@ module _ {P : Type 0} (plans : Plans P) (layout : Layout) (slots : ℕ) where
         by (suc zero) e = last e
         by (suc (suc r)) e = more r e
 
-    starts : (c t : ℕ) → Syncing w.grace q.items t (suc left) told_before (core.Starts c) → Made (worker_on plans w k x (worker.Syncs (core.Starts c) t))
+    starts : (c : ℕ) (t : Tickets) → Syncing w.grace q.items t.left (suc left) told_before (core.Starts c) → Made (worker_on plans w k x (worker.Syncs (core.Starts c) t))
     starts c t s = turning c t x.ask w.grace.seq count (plan_now plans w) s.0 begun s.1
       where
         begun : Turns (plan_now plans w) w.grace.seq count
         begun = record {
           from = plans.made layout slots w.grace.seq w.grace.word;
-          sound = sound layout slots w.grace.seq w.grace.word some_slot;
+          sound = sound layout slots w.grace.seq w.grace.word;
           loads = [];
           is = ap (λ (l : Layout). plans.made l (length w.readers) w.grace.seq w.grace.word) laid ∙ ap (λ (n : ℕ). plans.made layout n w.grace.seq w.grace.word) sized;
           counted = omega arith;
           some = some_turns plans.qsbr slots;
         }
 
-    frees : (t : ℕ) → Syncing w.grace q.items t (suc left) told_before core.Frees → Made (worker_on plans w k x (worker.Syncs core.Frees t))
+    frees : (t : Tickets) → Syncing w.grace q.items t.left (suc left) told_before core.Frees → Made (worker_on plans w k x (worker.Syncs core.Frees t))
     frees t s =
         let l = s.4 in
         let steps_left = l.steps_left in
@@ -419,7 +422,7 @@ module _ {P : Type 0} (plans : Plans P) (layout : Layout) (slots : ℕ) where
           stands = (s.0, s.1, s.2, s.3, record { steps_left = omega (arith, steps_left); events_left = l.events_left }, refl);
         }
 
-    pops : (t : ℕ) → Stands w.grace q.items (suc left) told_before (worker.Pops t) → Made (worker_on plans w k x (worker.Pops t))
+    pops : (t : Tickets) → Stands w.grace q.items (suc left) told_before (worker.Pops t) → Made (worker_on plans w k x (worker.Pops t))
     pops t s = by q.items.ready refl
       where
         by : (is : Items) → q.items.ready ≡ is → Made (worker_on plans w k x (worker.Pops t))
@@ -448,13 +451,13 @@ module _ {P : Type 0} (plans : Plans P) (layout : Layout) (slots : ℕ) where
               );
             }
 
-    ran : (t : ℕ) (ticket : Ticket) (item : Item Unit) → Stands w.grace q.items (suc left) told_before (worker.Ran t ticket item) → Made (worker_on plans w k x (worker.Ran t ticket item))
+    ran : (t : Tickets) (ticket : Ticket) (item : Item Unit) → Stands w.grace q.items (suc left) told_before (worker.Ran t ticket item) → Made (worker_on plans w k x (worker.Ran t ticket item))
     ran t ticket item s = by q.items.ready refl
       where
         counts : Bool → WorkerCore P Unit
-        counts b = cond b (worker.Pops (t - 1)) worker.Idle
+        counts b = cond b (worker.Pops (rest_of t)) worker.Idle
 
-        made_with : (b : Bool) → ltb 1 t ≡ b → Stands w.grace q.items left told_before (counts b) → Made (worker_on plans w k x (worker.Ran t ticket item))
+        made_with : (b : Bool) → ltb 1 t.left ≡ b → Stands w.grace q.items left told_before (counts b) → Made (worker_on plans w k x (worker.Ran t ticket item))
         made_with b e stands = record {
           x = record x { core = counts b };
           grace = w.grace;
@@ -475,17 +478,17 @@ module _ {P : Type 0} (plans : Plans P) (layout : Layout) (slots : ℕ) where
             let steps_left = l.steps_left in
             let events_left = l.events_left in
             let all = s.0 in
-            made_with false (ap (ltb 1) (let one : t ≡ 1 = omega (arith, all, none) in one)) (e, s.1, s.2, record { steps_left = omega (arith, steps_left, none); events_left = omega (arith, events_left, none) }, s.4)
+            made_with false (ap (ltb 1) (let one : t.left ≡ 1 = omega (arith, all, none) in one)) (e, s.1, s.2, record { steps_left = omega (arith, steps_left, none); events_left = omega (arith, events_left, none) }, s.4)
         by (next ∷ items) e =
             let l = s.3 in
             let some = ap length e in
             let steps_left = l.steps_left in
             let events_left = l.events_left in
             let all = s.0 in
-            made_with true ((Decides-ltb 1 t).1 (let two : 1 < t = omega (arith, all, some) in two))
+            made_with true ((Decides-ltb 1 t.left).1 (let two : 1 < t.left = omega (arith, all, some) in two))
             (omega (arith, all, some), omega (arith, all), s.1, s.2, record { steps_left = omega (arith, steps_left, all); events_left = omega (arith, events_left, all) }, s.4)
 
-    goes_sync : (t : ℕ) (sync : SyncCore P) → Syncing w.grace q.items t (suc left) told_before sync → Made (worker_on plans w k x (worker.Syncs sync t))
+    goes_sync : (t : Tickets) (sync : SyncCore P) → Syncing w.grace q.items t.left (suc left) told_before sync → Made (worker_on plans w k x (worker.Syncs sync t))
     goes_sync t core.Asks s = asks t s
     goes_sync t (core.Waits c) s = waits c t s
     goes_sync t (core.Checks c) s = checks c t s

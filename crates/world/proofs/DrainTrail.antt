@@ -11,10 +11,11 @@ use Rattle.callback_queue.specs.Queue.{Queue, items_of}
 use Rattle.gp_memb.specs.Plan.{turn_count}
 use Rattle.call_rcu_worker.specs.declared.sync.SyncCore.{SyncCore}
 use Rattle.call_rcu_worker.specs.declared.sync.SyncCore.TheVariants as core
+use Rattle.call_rcu_worker.specs.declared.worker.Tickets.{Tickets}
 use Rattle.call_rcu_worker.specs.declared.worker.WorkerCore.{WorkerCore}
 use Rattle.call_rcu_worker.specs.declared.worker.WorkerCore.TheVariants as worker
 use Rattle.call_rcu_worker.specs.Sync.{new_core}
-use Rattle.call_rcu_worker.specs.Worker.{after_take}
+use Rattle.call_rcu_worker.specs.Worker.{after_take, tickets_from}
 use Rattle.world_state.specs.declared.change.Change.{Change}
 use Rattle.world_state.specs.declared.change.Change.TheVariants.{Work, Stay}
 use Rattle.world_state.specs.declared.line.Answer.TheVariants.{Quiet, Blocked, Idle as NothingThere}
@@ -28,7 +29,7 @@ use Rattle.world_state.specs.declared.worker.WorkerState.{WorkerState}
 use Rattle.world_state.specs.View.{Plans, BoardView, fresh_at, told}
 use Rattle.world.specs.Lines.{Outcome, change_of, of_worker, with_change, outcome_of, world_after}
 use Rattle.world.specs.Reached.{IsReached}
-use Rattle.world.specs.Workers.{is_none_left, is_resting, with_core, take_row}
+use Rattle.world.specs.Workers.{first_fresh, is_none_left, is_resting, with_core, take_row}
 use Rattle.world.specs.Drain.{some_open, steps_of_flavour, steps_for, drain_lines, is_busy, items_in, items_to_drain, steps_with, IsWork, Rests, HasNone, IsMade, HasDrained, AreMadeFrom, Tells, Drains, IsSettled}
 use Rattle.world.proofs.DrainSteps.{Items, AreSound, Syncing, Stands, Alone, Drain, Goes, after_going, goes_at}
 
@@ -225,27 +226,30 @@ module _ {P : Type 0} (plans : Plans P) where
     alone : Alone plans w.layout (length w.readers) w k b.x b.q
     alone = record { laid = refl; sized = refl; some_slot = some_reader; closed = b.closed; is = b.is; has = b.has }
 
-    abbrev taken : ℕ → Result (Change P) Refusal
+    abbrev all : Tickets
+    all = tickets_from (first_fresh b.q.items) (length b.q.items.fresh)
+
+    abbrev taken : Tickets → Result (Change P) Refusal
     taken n = Ok (Work k (with_core b.x (worker.Syncs core.Asks n)) w.grace act.Seal None Quiet)
 
-    takes : change_of plans w (Worker k verb.Take) ≡ taken (length b.q.items.fresh)
+    takes : change_of plans w (Worker k verb.Take) ≡ taken all
     takes =
         ap (of_worker plans w k verb.Take) b.is
         ∙ ap (λ (r : Bool). cond r (take_row w k b.x (slice_get w.queues k)) (Err Busy)) (ap is_resting b.idle)
         ∙ ap (take_row w k b.x) b.has
         ∙ ap (λ (h : Option ℕ). cond (is_some h) (Ok (Stay Blocked)) after_lock) b.unlocked
         ∙ ap (λ (e : Bool). cond e (Ok (Stay NothingThere)) sealing) (some_left (items_of b.q.items) (let c = b.count in omega (arith, c, some_item)))
-        ∙ ap (λ (c : WorkerCore P Unit). Ok (Work k (with_core b.x c) w.grace act.Seal None Quiet)) (ap (λ (c : WorkerCore P Unit). after_take c (length b.q.items.fresh)) b.idle ∙ ap (λ (m : Bool). cond m (worker.Syncs new_core (length b.q.items.fresh)) worker.Idle) (lt-ltb 0 (length b.q.items.fresh) (let c = fresh_count in omega (arith, c, some_item))))
+        ∙ ap (λ (c : WorkerCore P Unit). Ok (Work k (with_core b.x c) w.grace act.Seal None Quiet)) (ap (λ (c : WorkerCore P Unit). after_take c (first_fresh b.q.items) (length b.q.items.fresh)) b.idle ∙ ap (λ (m : Bool). cond m (worker.Syncs new_core all) worker.Idle) (lt-ltb 0 (length b.q.items.fresh) (let c = fresh_count in omega (arith, c, some_item))))
       where
         sealing : Result (Change P) Refusal
-        sealing = Ok (Work k (with_core b.x (after_take b.x.core (length b.q.items.fresh))) w.grace act.Seal None Quiet)
+        sealing = Ok (Work k (with_core b.x (after_take b.x.core (first_fresh b.q.items) (length b.q.items.fresh))) w.grace act.Seal None Quiet)
 
         after_lock : Result (Change P) Refusal
         after_lock = cond (is_none_left (items_of b.q.items)) (Ok (Stay NothingThere)) sealing
 
     goes_first : Goes plans w.layout (length w.readers) w k steps_behind (items + 2) b.q (change_of plans w (Worker k verb.Take))
     goes_first = record {
-      x = with_core b.x (worker.Syncs core.Asks (length b.q.items.fresh));
+      x = with_core b.x (worker.Syncs core.Asks all);
       grace = w.grace;
       done = act.Seal;
       mark = None;
@@ -295,7 +299,7 @@ module _ {P : Type 0} (plans : Plans P) where
 
     ended : (g : GraceState) (i : Queue (Item Unit)) (events : ℕ) (c : WorkerCore P Unit) → Stands plans layout slots g i 0 events c → (c ≡ worker.Idle) × (items_of i ≡ []) × (events ≡ 0) × (g.holder ≡ None)
     ended g i events worker.Idle s = (refl, ap (λ (l : Items). l ++ i.waiting ++ i.fresh) s.0 ∙ ap (λ (l : Items). l ++ i.fresh) s.1 ∙ s.2, let l = s.3 in l.events_left, s.4)
-    ended g i events (worker.Syncs sync t) s = absurd (ended_sync g i t events sync s)
+    ended g i events (worker.Syncs sync t) s = absurd (ended_sync g i t.left events sync s)
     ended g i events (worker.Pops t) s = let some = s.0 in let l = s.4 in let e = l.steps_left in absurd (omega (arith, e, some))
     ended g i events (worker.Runs t ticket item) s = absurd s
     ended g i events (worker.Ran t ticket item) s = let l = s.3 in let e = l.steps_left in absurd (omega (arith, e))

@@ -1,14 +1,15 @@
 -- Asks, the grace lock and the running plan, whoever asks; and the fence: no pending ask's cookie is reached while a
 -- section that it awaits is open, and a running plan that would reach it waits for that section.
-use Rattle.std.proofs.Common.{◌≡◌, ◌≢◌, ◌⊎◌, inl, inr, ⊎_elim, ℕ, ◌+◌, ◌-◌, ◌%◌, ◌^◌, ◌<◌, ◌≤◌, true, List, [], ◌∷◌, ◌++◌, Option, Some, refl, sym, ap, ◌∙◌, subst, arith}
+use Rattle.std.proofs.Common.{◌≡◌, ◌≢◌, ◌⊎◌, inl, inr, ⊎_elim, ℕ, ◌+◌, ◌-◌, ◌%◌, ◌^◌, ◌<◌, ◌≤◌, true, List, ◌∷◌, Option, Some, sym, ap, ◌∙◌, subst, arith}
 use Rattle.rcu_model.specs.declared.event.SectionId.{SectionId}
 use Rattle.rcu_model.proofs.Lemmas.{In}
 use Rattle.reader_word.specs.declared.layout.Layout.{Layout}
-use Rattle.gp_memb.specs.declared.plan.Action.{Action}
-use Rattle.gp_memb.specs.declared.plan.Action.TheVariants.{Load, StorePhase, Finished}
-use Rattle.gp_memb.specs.Plan.{Shows, after_loads, EachLoadShows, WaitsForOpen, StoresInOrder, MayStore, IsPresent, present_after}
+use Rattle.gp_memb.specs.declared.plan.Action.TheVariants.{Load, LoadGroup, Finished}
+use Rattle.gp_memb.specs.Plan.{Shows, after_loads}
+use Rattle.gp_memb.specs.PlanLaws.{MayBe}
+use Rattle.gp_memb.specs.lemmas.History.{may_turn, shows_slot}
 use Rattle.world_state.specs.View.{Plans}
-use Rattle.world.specs.PlanLaws.{PlanLaws}
+use Rattle.world.specs.PlanLaws.{WorldPlanLaws}
 
 -- what an asker does: it rests, waits with an ask and its cookie, holds the grace lock and checks, is about to begin a
 -- plan, runs one, or is about to free the lock
@@ -47,37 +48,10 @@ StartsNone w = (a c : ℕ) → w ≢ Starts a c
 pub record Laws {P : Type 0} (plans : Plans P) (layout : Layout) (slots : ℕ) : Type 1 where
   pub begun : ℕ → ℕ → P → Type 0
   pub present : P → ℕ
-  pub made : (seq word : ℕ) → begun seq word (plans.made layout slots seq word)
-  pub order : (seq word : ℕ) (p : P) → begun seq word p → StoresInOrder plans.action plans.taken seq p
-  pub waits : (seq word : ℕ) (p : P) → begun seq word p → WaitsForOpen plans.qsbr plans.action plans.taken layout slots word p
-  pub stores : (seq word : ℕ) (p : P) → begun seq word p → (loads : List ℕ) (value : ℕ) → plans.action (after_loads plans.taken p loads) ≡ StorePhase value → MayStore plans.qsbr word value
-  pub begins : (seq word : ℕ) (p : P) → begun seq word p → IsPresent plans.qsbr word → present p ≡ word
-  pub presents : (p : P) (word : ℕ) → present (plans.taken p word) ≡ present_after (present p) (plans.action p)
-  pub rises : (p : P) (value : ℕ) → plans.qsbr ≡ true → plans.action p ≡ StorePhase value → present p ≤ value
+  pub all : WorldPlanLaws plans layout slots begun present
 
-abbrev pub laws_of : {P : Type 0} {plans : Plans P} {layout : Layout} {slots : ℕ} {begun : ℕ → ℕ → P → Type 0} {present : P → ℕ} → PlanLaws plans layout slots begun present → Laws plans layout slots
-laws_of {begun} {present} l =
-    record {
-      begun = begun;
-      present = present;
-      made = l.made;
-      order = l.order;
-      waits = l.waits;
-      stores = l.stores;
-      begins = l.begins;
-      presents = l.presents;
-      rises = l.rises;
-    }
-
--- turns with one more load
-pub after_snoc : {P : Type 0} (taken : P → ℕ → P) (p : P) (xs : List ℕ) (x : ℕ) → after_loads taken p (xs ++ x ∷ []) ≡ taken (after_loads taken p xs) x
-after_snoc taken p [] x = refl
-after_snoc taken p (y ∷ ys) x = after_snoc taken (taken p y) ys x
-
-pub each_snoc : {P : Type 0} (action : P → Action) (taken : P → ℕ → P) (shows : ℕ → Type 0) (slot : ℕ) (p : P) (xs : List ℕ) (x : ℕ) →
-    EachLoadShows action taken shows slot p xs → (action (after_loads taken p xs) ≡ Load slot → shows x) → EachLoadShows action taken shows slot p (xs ++ x ∷ [])
-each_snoc action taken shows slot p [] x each last = (last, tt)
-each_snoc action taken shows slot p (y ∷ ys) x each last = (each.0, each_snoc action taken shows slot (taken p y) ys x each.1 last)
+abbrev pub laws_of : {P : Type 0} {plans : Plans P} {layout : Layout} {slots : ℕ} {begun : ℕ → ℕ → P → Type 0} {present : P → ℕ} → WorldPlanLaws plans layout slots begun present → Laws plans layout slots
+laws_of {begun} {present} l = record { begun = begun; present = present; all = l }
 
 -- one asker's work is set
 pub record Sets {A P : Type 0} (works works' : A → Work P) (x : A) (w : Work P) : Type 0 where
@@ -119,34 +93,17 @@ module _ {P : Type 0} (plans : Plans P) (layout : Layout) (slots : ℕ) (laws : 
   shows mark word = Shows plans.qsbr layout mark word
 
   -- the plan may stand so while a section of the slot stays open whose words show the mark
-  pub record MayBe (p : P) (slot mark : ℕ) : Type 0 where
-    pub seq : ℕ
-    pub word : ℕ
-    pub from : P
-    pub begun : laws.begun seq word from
-    pub fits : plans.qsbr ≡ true → mark ≤ word
-    pub loads : List ℕ
-    pub is : p ≡ after_loads plans.taken from loads
-    pub shown : EachLoadShows plans.action plans.taken (shows mark) slot from loads
+  abbrev pub MayStand : P → ℕ → ℕ → Type 0
+  MayStand p slot mark = MayBe plans.qsbr plans.action plans.taken layout laws.begun p slot mark
 
-  pub may_turn : (p : P) (slot mark loaded : ℕ) → MayBe p slot mark → (plans.action p ≡ Load slot → shows mark loaded) → MayBe (plans.taken p loaded) slot mark
-  may_turn p slot mark loaded m shown = record {
-    seq = m.seq;
-    word = m.word;
-    from = m.from;
-    begun = m.begun;
-    fits = m.fits;
-    loads = m.loads ++ loaded ∷ [];
-    is = ap (λ q. plans.taken q loaded) m.is ∙ sym (after_snoc plans.taken m.from m.loads loaded);
-    shown = each_snoc plans.action plans.taken (shows mark) slot m.from m.loads loaded m.shown (λ e. shown (ap plans.action m.is ∙ e));
-  }
-
-  pub never_finished : (p : P) (slot mark : ℕ) → slot < slots → MayBe p slot mark → plans.action p ≢ Finished
-  never_finished p slot mark within m e = laws.waits m.seq m.word m.from m.begun slot mark m.loads within m.fits m.shown (ap plans.action (sym m.is) ∙ e)
+  -- a turn of a plan that loads no group word
+  pub slot_turn : (p : P) (slot mark loaded : ℕ) → MayStand p slot mark → ((group : ℕ) → plans.action p ≢ LoadGroup group) → (plans.action p ≡ Load slot → shows mark loaded) → MayStand (plans.taken p loaded) slot mark
+  slot_turn p slot mark loaded m none shown =
+      may_turn plans.qsbr plans.action plans.taken layout laws.begun p slot mark loaded m (shows_slot plans.qsbr layout slot mark (plans.action p) loaded none shown)
 
   -- a section that the running plan waits for
   abbrev pub Old : P → SectionId → (ℕ → ℕ) → Type 0
-  Old p s words = (mark : ℕ) × MayBe p s.reader mark × shows mark (words s.reader)
+  Old p s words = (mark : ℕ) × MayStand p s.reader mark × shows mark (words s.reader)
 
   -- a grace period that runs, for an ask with this cookie
   pub record Running (seq number c : ℕ) (p : P) : Type 0 where
@@ -163,6 +120,10 @@ module _ {P : Type 0} (plans : Plans P) (layout : Layout) (slots : ℕ) (laws : 
     pub cookie : c ≡ from + 2
     pub present : plans.qsbr ≡ true → laws.present p ≡ number
     pub low : plans.qsbr ≡ true → (word ≤ from) × (number ≤ from + 1)
+
+  -- the plan of a running grace period loads no group word
+  pub runs_no_group : (seq number c : ℕ) (p : P) → Running seq number c p → (group : ℕ) → plans.action p ≢ LoadGroup group
+  runs_no_group seq number c p r group e = laws.all.loads_no_group r.from r.word r.plan r.begun (r.load ∷ r.loads) group (ap plans.action (sym r.is) ∙ e)
 
   module _ {A : Type 0} (decide : (x y : A) → (x ≡ y) ⊎ (x ≢ y)) where
     pub record GraceKept (holder : Option A) (works : A → Work P) (seq number : ℕ) : Type 0 where

@@ -5,7 +5,7 @@ use Rattle.rcu_model.specs.declared.event.Event.{Event}
 use Rattle.rcu_model.specs.declared.event.Event.TheVariants as events
 use Rattle.rcu_model.specs.declared.refusal.Refusal.{Refusal}
 use Rattle.gp_memb.specs.declared.plan.Action.{Action}
-use Rattle.gp_memb.specs.declared.plan.Action.TheVariants.{Load, StorePhase, StoreSeq, Finished}
+use Rattle.gp_memb.specs.declared.plan.Action.TheVariants.{Load, LoadGroup, StorePhase, StoreSeq, Finished}
 use Rattle.gp_memb.specs.declared.plan.Turn.{Turn}
 use Rattle.gp_memb.specs.declared.plan.Turn.TheVariants as turns
 use Rattle.poll_cookie.specs.Cookie.{cookie_for}
@@ -51,6 +51,7 @@ module _ {P : Type 0} (plans : Plans P) (w : BoardView P) (me : Holder) (ask : �
 
   acts : (a : Action) → ((action_effect w a).grace.holder ≡ w.grace.holder) × ((action_effect w a).grace.asks ≡ w.grace.asks)
   acts (Load slot) = (refl, refl)
+  acts (LoadGroup group) = (refl, refl)
   acts (StorePhase value) = (refl, refl)
   acts (StoreSeq value) = (refl, refl)
   acts Finished = (refl, refl)
@@ -65,6 +66,7 @@ module _ {P : Type 0} (plans : Plans P) (w : BoardView P) (me : Holder) (ask : �
 
   running : (c : ℕ) (p : P) (a : Action) → EachFits (Runs c p) (done_with plans w ask (Runs c p) (Some (action_effect w a)))
   running c p (Load slot) = turning (Runs c p) w.grace c p _ (plans.turn p _) refl refl
+  running c p (LoadGroup group) = turning (Runs c p) w.grace c p _ (plans.turn p 0) refl refl
   running c p (StorePhase value) = turning (Runs c p) _ c p _ (plans.turn p 0) refl refl
   running c p (StoreSeq value) = turning (Runs c p) _ c p _ (plans.turn p 0) refl refl
   running c p Finished = turning (Runs c p) w.grace c p _ (plans.turn p 0) refl refl

@@ -317,7 +317,7 @@ module _ {P : Type 0} (plans : Plans P) (layout : Layout) (slots : ℕ) (laws : 
       sections = λ r. inl (refl, refl);
       objects = inl (refl, refl, made_same w.updaters u x _ at.was (sym (ap made_at at.at)));
     };
-    takes = λ k x tickets at. record { asks = inl (refl, refl); barriers = inl (refl, refl); sections = λ r. inl (refl, refl); objects = inl (refl, refl, refl) };
+    takes = λ k x first count at. record { asks = inl (refl, refl); barriers = inl (refl, refl); sections = λ r. inl (refl, refl); objects = inl (refl, refl, refl) };
     works = λ k x sync tickets step at is. moves_work k x sync _ _ step (fits_step plans w (holder.Worker k) (ask_for w x.ask sync) sync step is);
     runs = λ k x tickets core mark first at is. record { asks = inl (refl, refl); barriers = inl (refl, refl); sections = λ r. inl (refl, refl); objects = inl (refl, marked_length w.objects mark, refl) };
     counts = λ k x tickets ticket item core at. record { asks = inl (refl, refl); barriers = inl (refl, refl); sections = λ r. inl (refl, refl); objects = inl (refl, refl, refl) };
@@ -345,7 +345,7 @@ fresh_in_order {P} config seq = record {
   objects = subst (IsPermutation []) (sym (none_made_yet P config.updaters)) (IsPermutation-refl []);
 }
 
-module _ {P : Type 0} (plans : Plans P) (laws : (layout : Layout) (slots : ℕ) → 1 ≤ slots → Laws plans layout slots) where
+module _ {P : Type 0} (plans : Plans P) (laws : (layout : Layout) (slots : ℕ) → Laws plans layout slots) where
   pub numbers_in_order : (config : Config) (seq : ℕ) (lines : List Line) → is_within_limits config ≡ true → seq % 2 ≡ 0 → seq ≤ 2 ^ 62 →
       IsCounted (world_after plans (fresh_at config seq) lines).log × AreGivenOnce (world_after plans (fresh_at config seq) lines)
   numbers_in_order config seq lines limits even low =
@@ -360,4 +360,4 @@ module _ {P : Type 0} (plans : Plans P) (laws : (layout : Layout) (slots : ℕ) 
       )
     where
       mine : Laws plans config.layout config.readers
-      mine = laws config.layout config.readers (some_reader config limits)
+      mine = laws config.layout config.readers

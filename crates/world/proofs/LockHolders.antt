@@ -7,6 +7,7 @@ use Rattle.rcu_model.specs.declared.refusal.Refusal.{Refusal}
 use Rattle.reader_word.specs.declared.layout.Layout.{Layout}
 use Rattle.call_rcu_worker.specs.declared.sync.SyncCore.{SyncCore}
 use Rattle.call_rcu_worker.specs.declared.sync.SyncCore.TheVariants as core
+use Rattle.call_rcu_worker.specs.declared.worker.Tickets.{Tickets}
 use Rattle.call_rcu_worker.specs.declared.worker.WorkerCore.{WorkerCore}
 use Rattle.call_rcu_worker.specs.declared.worker.WorkerCore.TheVariants as worker
 use Rattle.call_rcu_worker.specs.Worker.{synced as synced_to}
@@ -116,7 +117,7 @@ inside_place plans ask (core.Runs cookie plan) h = h
 inside_place plans ask core.Frees h = h
 inside_place plans ask core.Done h = h
 
-inside_worker : {P : Type 0} (sync : SyncCore P) (tickets : ℕ) → IsInside sync → WorksInside {P = P} (synced_to sync tickets)
+inside_worker : {P : Type 0} (sync : SyncCore P) (tickets : Tickets) → IsInside sync → WorksInside {P = P} (synced_to sync tickets)
 inside_worker core.Asks tickets h = h
 inside_worker (core.Waits cookie) tickets h = h
 inside_worker (core.Checks cookie) tickets h = h
@@ -237,7 +238,7 @@ module _ {P : Type 0} (plans : Plans P) (layout : Layout) (slots : ℕ) (laws : 
       by (inl i) = steps plans w u x _ i.0.was ask step.grace.holder (moves (SyncsInside x.place) (λ h. absurd (not_inside i.0 (λ n. n) h))) (λ h. absurd (not_retiring i.0 (λ n. n) h)) k
       by (inr i) = steps plans w u x _ i.was ask step.grace.holder (moves (SyncsInside x.place) (λ h. subst (λ (p : UpdaterPlace P). SyncsInside p) i.at h)) (λ h. absurd (not_retiring i (λ n. n) h)) k
 
-  owned_work : (n : ℕ) (x : WorkerState P) (sync : SyncCore P) (tickets : ℕ) (step : GraceStep P) → WorkedAt plans w n x (worker.Syncs sync tickets) → Fits plans w (holder.Worker n) (ask_for w x.ask sync) sync step →
+  owned_work : (n : ℕ) (x : WorkerState P) (sync : SyncCore P) (tickets : Tickets) (step : GraceStep P) → WorkedAt plans w n x (worker.Syncs sync tickets) → Fits plans w (holder.Worker n) (ask_for w x.ask sync) sync step →
       StaysOwned w (Work n (record { ask = ask_for w x.ask sync; core = synced_to step.core tickets }) step.grace (worker_act step.grace.seq (synced_to step.core tickets)) None step.answer)
   owned_work n x sync tickets step at fits k =
       works plans w n x _ at.was (ask_for w x.ask sync) step.grace.holder (worker_act step.grace.seq (synced_to step.core tickets)) (by fits.lock) (worker_keeps step.grace.seq (synced_to step.core tickets)) k
@@ -300,7 +301,7 @@ module _ {P : Type 0} (plans : Plans P) (layout : Layout) (slots : ℕ) (laws : 
     bars = λ u x b at k. beside at _ (λ n. n) (λ n. n) k;
     awaits = λ u x b b' at k. beside at _ (λ n. n) (λ n. n) k;
     clears = λ u x b at k. beside at _ (λ n. n) (λ n. n) k;
-    takes = λ n x tickets at k. owned_item n x _ worker.Idle act.Seal at (λ h. h) (λ q. refl) k;
+    takes = λ n x first count at k. owned_item n x _ worker.Idle act.Seal at (λ h. h) (λ q. refl) k;
     works = λ n x sync tickets step at is. owned_work n x sync tickets step at (fits_step plans w (holder.Worker n) (ask_for w x.ask sync) sync step is);
     runs = λ n x tickets core mark first at is k. owned_item n x _ (worker.Pops tickets) act.Pop at (λ h. h) (λ q. refl) k;
     counts = λ n x tickets ticket item core at k. owned_item n x _ (worker.Ran tickets ticket item) act.Finish at (λ h. h) (λ q. refl) k;
@@ -381,7 +382,7 @@ fresh_owned {P} config seq = record {
   queues = λ q u e. absurd (none_some u (sym (ap (λ (x : QueueState). x.holder) (get_replicate empty_queue_state config.workers q)) ∙ e));
 }
 
-module _ {P : Type 0} (plans : Plans P) (laws : (layout : Layout) (slots : ℕ) → 1 ≤ slots → Laws plans layout slots) where
+module _ {P : Type 0} (plans : Plans P) (laws : (layout : Layout) (slots : ℕ) → Laws plans layout slots) where
   pub locks_held : (config : Config) (seq : ℕ) (lines : List Line) → is_within_limits config ≡ true → seq % 2 ≡ 0 → seq ≤ 2 ^ 62 → AreHeldInside (world_after plans (fresh_at config seq) lines)
   locks_held config seq lines limits even low =
       held_inside plans config.layout config.readers mine (world_after plans (fresh_at config seq) lines)
@@ -389,7 +390,7 @@ module _ {P : Type 0} (plans : Plans P) (laws : (layout : Layout) (slots : ℕ) 
       (owned_lines plans config.layout config.readers mine (fresh_at config seq) lines fresh (fresh_owned config seq))
     where
       mine : Laws plans config.layout config.readers
-      mine = laws config.layout config.readers (some_reader config limits)
+      mine = laws config.layout config.readers
 
       fresh : Logged plans config.layout config.readers mine (fresh_at config seq)
       fresh = logged_fresh plans config.layout config.readers mine config seq refl refl (some_reader config limits) (few_workers config limits).0 (few_workers config limits).1 even low

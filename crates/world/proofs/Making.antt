@@ -15,6 +15,7 @@ use Rattle.call_rcu_worker.specs.declared.sync.SyncCore.TheVariants as core
 use Rattle.call_rcu_worker.specs.declared.sync.SyncStep.TheVariants.{FreeLock}
 use Rattle.call_rcu_worker.specs.declared.sync.Told.{Told}
 use Rattle.call_rcu_worker.specs.declared.sync.Told.TheVariants as tells
+use Rattle.call_rcu_worker.specs.declared.worker.Tickets.{Tickets}
 use Rattle.call_rcu_worker.specs.declared.worker.WorkerCore.{WorkerCore}
 use Rattle.call_rcu_worker.specs.declared.worker.WorkerCore.TheVariants as worker
 use Rattle.call_rcu_worker.specs.Sync.{Telling, is_finished, asked_with, turned, told_of, step_of}
@@ -137,7 +138,7 @@ module _ {P : Type 0} (plans : Plans P) (w : BoardView P) (now : State) (k : Cal
     makes_take (worker.Counts tickets ticket) h = tt
 
     -- what the queue is told of a grace period
-    later : (seq tickets : ℕ) (sync : SyncCore P) → IsLater sync → MayActAt (worker_act {P = P} seq (batch_synced sync tickets)) (slice_get w.queues n)
+    later : (seq : ℕ) (tickets : Tickets) (sync : SyncCore P) → IsLater sync → MayActAt (worker_act {P = P} seq (batch_synced sync tickets)) (slice_get w.queues n)
     later seq tickets core.Asks h = at_queue act.Leave n tt
     later seq tickets (core.Waits c) h = absurd h
     later seq tickets (core.Checks c) h = at_queue act.Leave n tt
@@ -146,29 +147,29 @@ module _ {P : Type 0} (plans : Plans P) (w : BoardView P) (now : State) (k : Cal
     later seq tickets core.Frees h = at_queue (act.Advance seq) n tt
     later seq tickets core.Done h = at_queue act.Leave n tt
 
-    makes_told : (grace : GraceState) (ask tickets : ℕ) (told : Told) (sync : SyncCore P) → MayActAt (worker_act {P = P} grace.seq (batch_synced sync tickets)) (slice_get w.queues n) →
+    makes_told : (grace : GraceState) (ask : ℕ) (tickets : Tickets) (told : Told) (sync : SyncCore P) → MayActAt (worker_act {P = P} grace.seq (batch_synced sync tickets)) (slice_get w.queues n) →
         Makes (worked n ask tickets (Ok (record { core = sync; grace = grace; answer = answer_to ask told })))
     makes_told grace ask tickets tells.Quiet sync h = h
     makes_told grace ask tickets tells.Asked sync h = h
     makes_told grace ask tickets tells.Answered sync h = h
     makes_told grace ask tickets tells.Waiting sync h = tt
 
-    makes_stepped : (grace : GraceState) (ask tickets : ℕ) (t : Result (Telling P) Refusal) → GoesOn t → Makes (worked n ask tickets (stepped grace ask t))
+    makes_stepped : (grace : GraceState) (ask : ℕ) (tickets : Tickets) (t : Result (Telling P) Refusal) → GoesOn t → Makes (worked n ask tickets (stepped grace ask t))
     makes_stepped grace ask tickets (Ok t) h = makes_told grace ask tickets t.told t.core (later grace.seq tickets t.core h)
     makes_stepped grace ask tickets (Err e) h = tt
 
-    makes_done : (ask tickets : ℕ) (sync : SyncCore P) (e : Option (Effect P)) → IsAsked sync → Makes (worked n ask tickets (done_with plans w ask sync e))
+    makes_done : (ask : ℕ) (tickets : Tickets) (sync : SyncCore P) (e : Option (Effect P)) → IsAsked sync → Makes (worked n ask tickets (done_with plans w ask sync e))
     makes_done ask tickets sync None h = tt
     makes_done ask tickets sync (Some e) h = makes_stepped e.grace ask tickets _ (goes_on plans (planned sync e.plan) e.loaded (asked_planned sync e.plan h))
 
-    abbrev Batch : ℕ → SyncCore P → Type 0
-    Batch tickets sync = BatchKept mine.items.ready mine.items.waiting mine.items.cookie now.asked now.awaited now.asked_sections x.ask tickets sync
+    abbrev Batch : Tickets → SyncCore P → Type 0
+    Batch tickets sync = BatchKept mine.items.ready mine.items.waiting mine.items.cookie now.asked now.awaited now.asked_sections x.ask tickets.left sync
 
-    makes_ask : (ask tickets : ℕ) (grace : GraceState) (cookie : Result ℕ Refusal) → Batch tickets core.Asks → Makes (worked n ask tickets (stepped grace ask (asked_with cookie)))
+    makes_ask : (ask : ℕ) (tickets : Tickets) (grace : GraceState) (cookie : Result ℕ Refusal) → Batch tickets core.Asks → Makes (worked n ask tickets (stepped grace ask (asked_with cookie)))
     makes_ask ask tickets grace (Ok c) h = at_queue (act.Note c) n (let same = h.1 in let some = h.2 in omega (arith, same, some))
     makes_ask ask tickets grace (Err e) h = tt
 
-    makes_sync : (ask tickets : ℕ) (sync : SyncCore P) → Batch tickets sync → Makes (worked n ask tickets (grace_row plans w (holder.Worker n) ask sync))
+    makes_sync : (ask : ℕ) (tickets : Tickets) (sync : SyncCore P) → Batch tickets sync → Makes (worked n ask tickets (grace_row plans w (holder.Worker n) ask sync))
     makes_sync ask tickets core.Asks h = makes_ask ask tickets _ (cookie_for w.grace.seq) h
     makes_sync ask tickets (core.Waits c) h = makes_done ask tickets (core.Waits c) (effect_of plans w (holder.Worker n) ask (step_of plans.action (core.Waits c))) tt
     makes_sync ask tickets (core.Checks c) h = makes_done ask tickets (core.Checks c) (effect_of plans w (holder.Worker n) ask (step_of plans.action (core.Checks c))) tt
@@ -177,7 +178,7 @@ module _ {P : Type 0} (plans : Plans P) (w : BoardView P) (now : State) (k : Cal
     makes_sync ask tickets core.Frees h = makes_done ask tickets core.Frees (effect_of plans w (holder.Worker n) ask FreeLock) tt
     makes_sync ask tickets core.Done h = absurd h
 
-    makes_run : (tickets : ℕ) (first : Option (Ticket × ObjectId)) → Makes (run_row w n x tickets first)
+    makes_run : (tickets : Tickets) (first : Option (Ticket × ObjectId)) → Makes (run_row w n x tickets first)
     makes_run tickets None = tt
     makes_run tickets (Some first) = at_queue act.Pop n tt
 

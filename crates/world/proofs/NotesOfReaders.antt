@@ -213,7 +213,7 @@ module _ {P : Type 0} (plans : Plans P) (w : BoardView P) where
     bars = λ u x b at s. (refl, (tt, tt));
     awaits = λ u x b b' at s. (refl, tt);
     clears = λ u x b at s. (refl, (tt, tt));
-    takes = λ k x tickets at s. (refl, tt);
+    takes = λ k x first count at s. (refl, tt);
     works = λ k x sync tickets step at is s.
         let ask = ask_for w x.ask sync in
         nothing_read (holder.Worker k) ask sync step (fits_step plans w (holder.Worker k) ask sync step is) s (cursor_of w s);

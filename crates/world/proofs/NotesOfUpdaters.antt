@@ -7,6 +7,7 @@ use Rattle.rcu_model.specs.declared.refusal.Refusal.{Refusal}
 use Rattle.callback_queue.specs.declared.item.Ticket.{Ticket}
 use Rattle.callback_queue.specs.Queue.{items_of}
 use Rattle.poll_cookie.specs.Cookie.{cookie_for}
+use Rattle.call_rcu_worker.specs.declared.worker.Tickets.{Tickets}
 use Rattle.call_rcu_worker.specs.declared.worker.WorkerCore.{WorkerCore}
 use Rattle.call_rcu_worker.specs.declared.worker.WorkerCore.TheVariants as worker
 use Rattle.call_rcu_worker.specs.Sync.{new_core}
@@ -197,7 +198,7 @@ module _ {P : Type 0} (plans : Plans P) (w : BoardView P) where
   -- ---- workers
 
   module _ (k : ℕ) (x : WorkerState P) where
-    keeps_worked : (ask tickets : ℕ) (r : Result (GraceStep P) Refusal) → Each Keeps (worked k ask tickets r)
+    keeps_worked : (ask : ℕ) (tickets : Tickets) (r : Result (GraceStep P) Refusal) → Each Keeps (worked k ask tickets r)
     keeps_worked ask tickets (Err e) = tt
     keeps_worked ask tickets (Ok step) = by step.answer
       where
@@ -212,7 +213,7 @@ module _ {P : Type 0} (plans : Plans P) (w : BoardView P) where
     keeps_take None = tt
     keeps_take (Some q) = each_if Keeps (is_some q.holder) _ _ (λ s. refl) (each_if Keeps (is_none_left (items_of q.items)) _ _ (λ s. refl) (λ s. refl))
 
-    keeps_run : (tickets : ℕ) (first : Option (Ticket × ObjectId)) → Each Keeps (run_row w k x tickets first)
+    keeps_run : (tickets : Tickets) (first : Option (Ticket × ObjectId)) → Each Keeps (run_row w k x tickets first)
     keeps_run tickets None = tt
     keeps_run tickets (Some first) = λ s. refl
 

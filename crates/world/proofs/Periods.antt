@@ -6,8 +6,9 @@ use Rattle.rcu_model.proofs.Lemmas.{In, empty_from}
 use Rattle.reader_word.specs.declared.layout.Layout.{Layout}
 use Rattle.gp_memb.specs.declared.plan.Action.TheVariants.{Load, StoreSeq, Finished}
 use Rattle.gp_memb.specs.Plan.{Shows, StoresInOrder, present_after, IsPresent}
+use Rattle.gp_memb.specs.lemmas.History.{after_snoc, may_begin, never_finished}
 use Rattle.world_state.specs.View.{Plans}
-use Rattle.world.proofs.Fence.{Work, Rests, Waits, Checks, Starts, Runs, Frees, Pending, Holds, RunsNone, StartsNone, Laws, Sets, set_cases, after_snoc, AsksKept, may_turn, never_finished, Old, Running, GraceKept, Fenced, fenced_words, even_at, grace_set, asks_set, fenced_set, asks_asked, asks_answered, asks_later, fenced_asked}
+use Rattle.world.proofs.Fence.{Work, Rests, Waits, Checks, Starts, Runs, Frees, Pending, Holds, RunsNone, StartsNone, Laws, Sets, set_cases, AsksKept, slot_turn, runs_no_group, Old, Running, GraceKept, Fenced, fenced_words, even_at, grace_set, asks_set, fenced_set, asks_asked, asks_answered, asks_later, fenced_asked}
 
 module _ {P : Type 0} (plans : Plans P) (layout : Layout) (slots : ℕ) (laws : Laws plans layout slots) {A : Type 0} (decide : (x y : A) → (x ≡ y) ⊎ (x ≢ y)) where
   abbrev shows : ℕ → ℕ → Type 0
@@ -209,7 +210,7 @@ module _ {P : Type 0} (plans : Plans P) (layout : Layout) (slots : ℕ) (laws : 
   -- a turn that stores no sequence number
   not_last : (seq number c : ℕ) (p : P) (loaded : ℕ) (r : Running plans layout slots laws seq number c p) → ((value : ℕ) → plans.action p ≢ StoreSeq value) → plans.action (plans.taken p loaded) ≢ Finished
   not_last seq number c p loaded r none e =
-      let l = (laws.order r.from r.word r.plan r.begun).last (r.load ∷ r.loads) loaded (λ f. r.goes_on (ap plans.action r.is ∙ f)) in
+      let l = (laws.all.keeps.order r.from r.word r.plan r.begun).last (r.load ∷ r.loads) loaded (λ f. r.goes_on (ap plans.action r.is ∙ f)) in
       none (r.from + 2) (ap plans.action r.is ∙ l.0 (ap (λ q. plans.action (plans.taken q loaded)) (sym r.is) ∙ e))
 
   running_turn : (seq number number' c : ℕ) (p : P) (loaded : ℕ) → Running plans layout slots laws seq number c p → ((value : ℕ) → plans.action p ≢ StoreSeq value) →
@@ -226,7 +227,7 @@ module _ {P : Type 0} (plans : Plans P) (layout : Layout) (slots : ℕ) (laws : 
     odd = r.odd;
     goes_on = not_last seq number c p loaded r none;
     cookie = r.cookie;
-    present = λ is. laws.presents p loaded ∙ ap (λ n. present_after n (plans.action p)) (r.present is) ∙ sym stored;
+    present = λ is. laws.all.keeps.presents p loaded ∙ ap (λ n. present_after n (plans.action p)) (r.present is) ∙ sym stored;
     low = λ is. let l = low is in ((r.low is).0, omega (arith, l, r.odd));
   }
 
@@ -242,7 +243,7 @@ module _ {P : Type 0} (plans : Plans P) (layout : Layout) (slots : ℕ) (laws : 
         let f = k.fenced y b d t pending has in (
           f.0,
           λ below. let o = f.1 x a c p is below in
-              (o.0, may_turn plans layout slots laws p t.reader o.0 loaded o.1 (λ l. subst (shows o.0) (sym (loads t.reader l)) o.2), o.2),
+              (o.0, slot_turn plans layout slots laws p t.reader o.0 loaded o.1 (runs_no_group plans layout slots laws seq number c p (k.grace_kept.running x a c p is)) (λ l. subst (shows o.0) (sym (loads t.reader l)) o.2), o.2),
         ));
     awaited_open = k.awaited_open;
   }
@@ -285,7 +286,7 @@ module _ {P : Type 0} (plans : Plans P) (layout : Layout) (slots : ℕ) (laws : 
       even = even_at plans layout slots laws decide holder works seq number x k.grace_kept mine (at_runs works x (Starts a c) is (starts_runs a c))
 
       order : StoresInOrder plans.action plans.taken seq p
-      order = laws.order seq number p (laws.made seq number)
+      order = laws.all.keeps.order seq number p (laws.all.made seq number)
 
       first_finished : StoreSeq (seq + 1) ≡ Finished → ⊥
       first_finished e = cc
@@ -307,7 +308,7 @@ module _ {P : Type 0} (plans : Plans P) (layout : Layout) (slots : ℕ) (laws : 
         from = seq;
         word = number;
         plan = p;
-        begun = laws.made seq number;
+        begun = laws.all.made seq number;
         load = 0;
         loads = [];
         is = refl;
@@ -315,7 +316,7 @@ module _ {P : Type 0} (plans : Plans P) (layout : Layout) (slots : ℕ) (laws : 
         odd = refl;
         goes_on = λ e. first_second (sym order.first ∙ (order.last [] 0 (λ f. first_finished (sym order.first ∙ f))).0 e);
         cookie = cookie;
-        present = λ q. laws.presents p 0 ∙ ap (present_after (laws.present p)) order.first ∙ laws.begins seq number p (laws.made seq number) (present_any q);
+        present = λ q. laws.all.keeps.presents p 0 ∙ ap (present_after (laws.present p)) order.first ∙ laws.all.keeps.begins seq number p (laws.all.made seq number) (present_any q);
         low = λ q. let l = k.grace_kept.number_low q in (l, omega (arith, l));
       }
         where
@@ -326,8 +327,9 @@ module _ {P : Type 0} (plans : Plans P) (layout : Layout) (slots : ℕ) (laws : 
       old t h =
           let m = marks t h in (
             m.1.0,
-            may_turn plans layout slots laws p t.reader m.1.0 0
-                (record { seq = seq; word = number; from = p; begun = laws.made seq number; fits = m.1.2; loads = []; is = refl; shown = tt })
+            slot_turn plans layout slots laws p t.reader m.1.0 0
+                (may_begin plans.qsbr plans.action plans.taken layout laws.begun seq number p t.reader m.1.0 (laws.all.made seq number) m.1.2)
+                (laws.all.loads_no_group seq number p (laws.all.made seq number) [])
                 (λ l. absurd (first_load t.reader (sym order.first ∙ l))),
             m.1.1,
           )
@@ -373,7 +375,7 @@ module _ {P : Type 0} (plans : Plans P) (layout : Layout) (slots : ℕ) (laws : 
 
       which : value ≡ r.from + 2
       which =
-          let l = (laws.order r.from r.word r.plan r.begun).last (r.load ∷ r.loads) 0 (λ f. r.goes_on (ap plans.action r.is ∙ f)) in
+          let l = (laws.all.keeps.order r.from r.word r.plan r.begun).last (r.load ∷ r.loads) 0 (λ f. r.goes_on (ap plans.action r.is ∙ f)) in
           same_value (r.from + 2) (sym stores ∙ ap plans.action r.is ∙ l.0 (ap (λ q. plans.action (plans.taken q 0)) (sym r.is) ∙ done))
 
       was : (y : A) (b d : ℕ) → Pending (works' y) b d → Pending (works y) b d
@@ -399,7 +401,7 @@ module _ {P : Type 0} (plans : Plans P) (layout : Layout) (slots : ℕ) (laws : 
           ⊎_elim
           (λ (l : (leb d (seq + 1) ≡ true) × (d ≤ seq + 1)).
           let o = (k.fenced y b d t waits has).1 x a c p is l.1 in
-          absurd (never_finished plans layout slots laws (plans.taken p 0) t.reader o.0 (marks t (k.awaited_open b t has)).0
-          (may_turn plans layout slots laws p t.reader o.0 0 o.1 (λ e. absurd (store_load t.reader (sym stores ∙ e)))) done))
+          absurd (never_finished plans.qsbr plans.action plans.taken layout laws.begun slots laws.all.keeps.waits (plans.taken p 0) t.reader o.0 (marks t (k.awaited_open b t has)).0
+          (slot_turn plans layout slots laws p t.reader o.0 0 o.1 (runs_no_group plans layout slots laws seq number c p r) (λ e. absurd (store_load t.reader (sym stores ∙ e)))) done))
           (λ (m : (leb d (seq + 1) ≡ false) × (seq + 1 < d)). let q = k.asks_kept.pending y b d waits in let up = m.1 in omega (arith, up, q.3, r.odd, r.even, which))
           (leb_tells d (seq + 1))

@@ -15,6 +15,7 @@ use Rattle.callback_queue.specs.Queue.{items_of}
 use Rattle.call_rcu_worker.specs.declared.sync.SyncCore.{SyncCore}
 use Rattle.call_rcu_worker.specs.declared.sync.Told.{Told}
 use Rattle.call_rcu_worker.specs.declared.sync.Told.TheVariants as what
+use Rattle.call_rcu_worker.specs.declared.worker.Tickets.{Tickets}
 use Rattle.call_rcu_worker.specs.declared.worker.WorkerCore.{WorkerCore}
 use Rattle.call_rcu_worker.specs.declared.worker.WorkerCore.TheVariants as worker
 use Rattle.call_rcu_worker.specs.Sync.{Telling, new_core, told_of, step_of}
@@ -313,18 +314,18 @@ module _ {P : Type 0} (plans : Plans P) (w : BoardView P) where
     places_take None = tt
     places_take (Some q) = each_if Places (is_some q.holder) _ _ tt (each_if Places (is_none_left (items_of q.items)) _ _ tt tt)
 
-    places_work : (ask tickets : ℕ) (step : GraceStep P) (answer : Answer) → Every IsPlaced (told answer) → Places (work_change k ask tickets step answer)
+    places_work : (ask : ℕ) (tickets : Tickets) (step : GraceStep P) (answer : Answer) → Every IsPlaced (told answer) → Places (work_change k ask tickets step answer)
     places_work ask tickets step (Events first second) p = p
     places_work ask tickets step Quiet p = p
     places_work ask tickets step Wait p = tt
     places_work ask tickets step Blocked p = tt
     places_work ask tickets step NothingThere p = p
 
-    places_worked : (ask tickets : ℕ) (r : Result (GraceStep P) Refusal) → PlacedGrace r → Each Places (worked k ask tickets r)
+    places_worked : (ask : ℕ) (tickets : Tickets) (r : Result (GraceStep P) Refusal) → PlacedGrace r → Each Places (worked k ask tickets r)
     places_worked ask tickets (Ok step) p = places_work ask tickets step step.answer p
     places_worked ask tickets (Err e) p = tt
 
-    places_run : (tickets : ℕ) (first : Option (Ticket × ObjectId)) → Each Places (run_row w k x tickets first)
+    places_run : (tickets : Tickets) (first : Option (Ticket × ObjectId)) → Each Places (run_row w k x tickets first)
     places_run tickets None = tt
     places_run tickets (Some first) = (tt, tt)
 

@@ -1,8 +1,23 @@
 -- The numbers of a kept world are small enough for its next step.
-use Rattle.std.proofs.Common.{◌≡◌, ℕ, ◌%◌, ◌^◌, ◌≤◌, Bool, true, false, length, slice_get, Some, refl, sym, ap, ◌∙◌, subst, arith}
-use Rattle.std.proofs.lemmas.Option.{get_or_from_slice_get}
+use Rattle.std.proofs.Common.{◌≡◌, ℕ, ◌+◌, ◌-◌, ◌%◌, ◌^◌, ◌<◌, ◌≤◌, Bool, true, false, List, [], ◌∷◌, length, slice_get, Option, Some, None, refl, sym, ap, ◌∙◌, subst, arith}
+use Rattle.std.proofs.lemmas.Option.{get_or_from_slice_get, slice_get_within, slice_get-get_or}
+use Rattle.rcu_model.specs.declared.event.ObjectId.{ObjectId}
 use Rattle.rcu_model.specs.Machine.{State}
 use Rattle.reader_word.specs.declared.layout.Layout.{Layout}
+use Rattle.gp_memb.specs.declared.plan.Action.{Action}
+use Rattle.gp_memb.specs.declared.plan.Action.TheVariants.{LoadGroup}
+use Rattle.callback_queue.specs.declared.item.Item.{Item}
+use Rattle.callback_queue.specs.declared.item.Ticket.{Ticket}
+use Rattle.callback_queue.specs.Queue.{given_of, object_with}
+use Rattle.call_rcu_worker.specs.declared.sync.SyncCore.{SyncCore}
+use Rattle.call_rcu_worker.specs.declared.sync.SyncCore.TheVariants as core
+use Rattle.call_rcu_worker.specs.declared.sync.SyncStep.TheVariants.{Plan}
+use Rattle.call_rcu_worker.specs.declared.worker.Tickets.{Tickets}
+use Rattle.call_rcu_worker.specs.declared.worker.WorkerCore.{WorkerCore}
+use Rattle.call_rcu_worker.specs.declared.worker.WorkerCore.TheVariants as worker
+use Rattle.call_rcu_worker.specs.Sync.{step_of}
+use Rattle.call_rcu_worker.specs.Worker.{next_of}
+use Rattle.world_state.specs.declared.queue.QueueState.{QueueState}
 use Rattle.world_state.specs.declared.reader.ReaderState.{ReaderState}
 use Rattle.world_state.specs.declared.updater.Barrier.{Barrier}
 use Rattle.world_state.specs.declared.updater.BarrierStep.{BarrierStep}
@@ -11,14 +26,16 @@ use Rattle.world_state.specs.declared.updater.UpdaterPlace.{UpdaterPlace}
 use Rattle.world_state.specs.declared.updater.UpdaterPlace.TheVariants.{Bars}
 use Rattle.world_state.specs.declared.updater.UpdaterState.{UpdaterState}
 use Rattle.world_state.specs.declared.worker.WorkerState.{WorkerState}
-use Rattle.world_state.specs.Queues.{new_worker}
+use Rattle.world_state.specs.Queues.{new_worker, empty_queue_state}
 use Rattle.world_state.specs.Readers.{new_reader}
 use Rattle.world_state.specs.View.{Plans, BoardView, idle}
-use Rattle.world.specs.Shown.{CanStart, IsAtQueue, IsInRange}
-use Rattle.world.proofs.Callbacks.{Callbacks, IsAt, BarKept}
-use Rattle.world.proofs.Fence.{Work, Starts, Runs, Pending, Holds, Laws, even_at}
+use Rattle.world_state.proofs.Queueing.{queue_at}
+use Rattle.world.specs.Workers.{first_in}
+use Rattle.world.specs.Shown.{CanStart, LoadsNoGroup, IsAtQueue, IsInRange}
+use Rattle.world.proofs.Callbacks.{Callbacks, IsAt, BarKept, WorkAt, WorkKept}
+use Rattle.world.proofs.Fence.{Work, Starts, Runs, Pending, Holds, Laws, even_at, runs_no_group}
 use Rattle.world.proofs.Making.{may_make as made_within}
-use Rattle.world.proofs.State.{Asker, Syncing, Working, decide_asker, place_work, worker_work, work_of, holder_of, Kept}
+use Rattle.world.proofs.State.{Asker, Syncing, Working, decide_asker, core_work, place_work, worker_work, work_of, holder_of, Kept}
 
 starts_runs : {P : Type 0} (ask cookie a c : ℕ) (p : P) → (let v : Work P = Starts ask cookie in v) ≡ Runs a c p → ⊥
 starts_runs ask cookie a c p e = cc
@@ -52,6 +69,47 @@ module _ {P : Type 0} (plans : Plans P) (layout : Layout) (slots : ℕ) (laws : 
       (ap (λ (y : UpdaterState P). y.place) (get_or_from_slice_get w.updaters u x idle is) ∙ place) (callbacks.barring u) in
       at_step b.due kept.3
 
+  -- a plan that runs loads no group word
+  no_group : (x : Asker) (ask : ℕ) (core : SyncCore P) → work_of w.updaters w.workers x ≡ core_work ask core → LoadsNoGroup (step_of plans.action core)
+  no_group x ask core.Asks is group e = cc
+  no_group x ask (core.Waits c) is group e = cc
+  no_group x ask (core.Checks c) is group e = cc
+  no_group x ask (core.Starts c) is group e = cc
+  no_group x ask (core.Runs c p) is group e = runs_no_group plans layout slots laws w.grace.seq w.grace.word c p (k.part.grace_kept.running x ask c p is) group (action_is (plans.action p) (LoadGroup group) e)
+    where
+      action_is : (a b : Action) → Plan a ≡ Plan b → a ≡ b
+      action_is a b same = cc
+  no_group x ask core.Frees is group e = cc
+  no_group x ask core.Done is group e = cc
+
+  -- the first ready item has the ticket that its worker waits for
+  at_first : (n : ℕ) (x : WorkerState P) (tickets : Tickets) (first : Ticket × ObjectId) → slice_get w.workers n ≡ Some x → x.core ≡ worker.Pops tickets → first_in (slice_get w.queues n) ≡ Some first → first.0 ≡ next_of tickets
+  at_first n x tickets first is pops found = by mine.items.ready refl (sym (ap first_in there) ∙ found)
+    where
+      mine : QueueState
+      mine = queue_at w.queues n
+
+      there : slice_get w.queues n ≡ Some (queue_at w.queues n)
+      there = slice_get-get_or w.queues n empty_queue_state (subst (λ m. n < m) callbacks.manned (slice_get_within w.workers n x is))
+
+      batch : (mine.items.waiting ≡ []) × (tickets.left ≡ length mine.items.ready) × (1 ≤ tickets.left) × (mine.finished ≡ mine.items.gone) × (tickets.last.0 ≡ mine.items.gone + tickets.left)
+      batch = subst (λ (p : WorkerCore P Unit). WorkKept mine.items.ready mine.items.waiting mine.items.cookie mine.items.gone mine.finished now.asked now.awaited now.asked_sections x.ask p) pops
+          (subst (λ (y : WorkerState P). WorkAt mine now.asked now.awaited now.asked_sections y) (get_or_from_slice_get w.workers n x new_worker is) (callbacks.working n))
+
+      next_is : (let t : Ticket = record { 0 = mine.items.gone + 1 } in t) ≡ next_of tickets
+      next_is = let some = batch.2 in let last = batch.4 in let same : mine.items.gone + 1 ≡ tickets.last.0 - (tickets.left - 1) = omega (arith, some, last) in ap (λ (m : ℕ). let t : Ticket = record { 0 = m } in t) same
+
+      by : (l : List (Item Unit)) → mine.items.ready ≡ l → object_with (mine.items.gone + 1) mine.items.ready ≡ Some first → first.0 ≡ next_of tickets
+      by [] e f = let none = sym (ap (object_with (mine.items.gone + 1)) e) ∙ f in absurd (cc)
+      by (i ∷ rest) e f = sym (ticket_is (sym (ap (object_with (mine.items.gone + 1)) e) ∙ f)) ∙ next_is
+        where
+          ticket_is : Some (record { 0 = mine.items.gone + 1 }, i.object) ≡ Some first → (let t : Ticket = record { 0 = mine.items.gone + 1 } in t) ≡ first.0
+          ticket_is same = ap (λ (o : Option (Ticket × ObjectId)). ticket_of o) same
+            where
+              ticket_of : Option (Ticket × ObjectId) → Ticket
+              ticket_of None = next_of tickets
+              ticket_of (Some found) = found.0
+
   pub in_range : IsInRange plans w
   in_range = record {
     some_reader = subst (λ n. 1 ≤ n) (sym k.sized) k.some_slot;
@@ -65,6 +123,10 @@ module _ {P : Type 0} (plans : Plans P) (layout : Layout) (slots : ℕ) (laws : 
     barriers = callbacks.barriers_low;
     starts = λ u x ask cookie is place. can_start (Syncing u) ask cookie (ap (λ (y : UpdaterState P). place_work y.place) (get_or_from_slice_get w.updaters u x idle is) ∙ ap place_work place);
     worker_starts = λ n x cookie tickets is core. can_start (Working n) x.ask cookie (ap (λ (y : WorkerState P). worker_work y.ask y.core) (get_or_from_slice_get w.workers n x new_worker is) ∙ ap (worker_work x.ask) core);
+    plans_run = λ u x ask core is place. no_group (Syncing u) ask core (ap (λ (y : UpdaterState P). place_work y.place) (get_or_from_slice_get w.updaters u x idle is) ∙ ap place_work place);
+    worker_plans_run = λ n x core tickets is at. no_group (Working n) x.ask core (ap (λ (y : WorkerState P). worker_work y.ask y.core) (get_or_from_slice_get w.workers n x new_worker is) ∙ ap (worker_work x.ask) at);
+    given = λ n q is. subst (λ (r : QueueState). given_of r.items ≤ length w.log) (get_or_from_slice_get w.queues n q empty_queue_state is) (callbacks.queues n).given_low;
+    pops = at_first;
     bars = at_queue;
     may_make = λ small line change e. made_within plans w now callbacks small line change e;
   }

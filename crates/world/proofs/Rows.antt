@@ -10,6 +10,7 @@ use Rattle.callback_queue.specs.declared.item.Item.{Item}
 use Rattle.callback_queue.specs.declared.item.Ticket.{Ticket}
 use Rattle.callback_queue.specs.Queue.{items_of}
 use Rattle.call_rcu_worker.specs.declared.sync.SyncCore.{SyncCore}
+use Rattle.call_rcu_worker.specs.declared.worker.Tickets.{Tickets}
 use Rattle.call_rcu_worker.specs.declared.worker.WorkerCore.{WorkerCore}
 use Rattle.call_rcu_worker.specs.declared.worker.WorkerCore.TheVariants as worker
 use Rattle.call_rcu_worker.specs.Sync.{new_core}
@@ -102,12 +103,12 @@ module _ {P : Type 0} (plans : Plans P) (w : BoardView P) where
       pub bars : (u : ℕ) (x : UpdaterState P) (b : Barrier) → WasAt u x Idle → F (Bar u (at_place x (Bars b)) (w.barriers + 1) (one (events.Bar (w.barriers + 1))))
       pub awaits : (u : ℕ) (x : UpdaterState P) (b b' : Barrier) → WasAt u x (Bars b) → F (Bar u (at_place x (Bars b')) w.barriers Quiet)
       pub clears : (u : ℕ) (x : UpdaterState P) (b : Barrier) → WasAt u x (Bars b) → F (Bar u (at_place x Idle) w.barriers (one (events.Clear b.number)))
-      pub takes : (k : ℕ) (x : WorkerState P) (tickets : ℕ) → WorkedAt k x worker.Idle → F (Work k (with_core x (after_take x.core tickets)) w.grace act.Seal None Quiet)
-      pub works : (k : ℕ) (x : WorkerState P) (sync : SyncCore P) (tickets : ℕ) (step : GraceStep P) → WorkedAt k x (worker.Syncs sync tickets) → grace_row plans w (holder.Worker k) (ask_for w x.ask sync) sync ≡ Ok step →
+      pub takes : (k : ℕ) (x : WorkerState P) (first : Ticket) (count : ℕ) → WorkedAt k x worker.Idle → F (Work k (with_core x (after_take x.core first count)) w.grace act.Seal None Quiet)
+      pub works : (k : ℕ) (x : WorkerState P) (sync : SyncCore P) (tickets : Tickets) (step : GraceStep P) → WorkedAt k x (worker.Syncs sync tickets) → grace_row plans w (holder.Worker k) (ask_for w x.ask sync) sync ≡ Ok step →
           F (Work k (record { ask = ask_for w x.ask sync; core = synced_to step.core tickets }) step.grace (worker_act step.grace.seq (synced_to step.core tickets)) None step.answer)
-      pub runs : (k : ℕ) (x : WorkerState P) (tickets : ℕ) (core : WorkerCore P Unit) (mark : Option Mark) (first : Ticket × ObjectId) → WorkedAt k x (worker.Pops tickets) → first_in (slice_get w.queues k) ≡ Some first →
+      pub runs : (k : ℕ) (x : WorkerState P) (tickets : Tickets) (core : WorkerCore P Unit) (mark : Option Mark) (first : Ticket × ObjectId) → WorkedAt k x (worker.Pops tickets) → first_in (slice_get w.queues k) ≡ Some first →
           F (Work k (with_core x core) w.grace act.Pop mark (one (events.Run first.1)))
-      pub counts : (k : ℕ) (x : WorkerState P) (tickets : ℕ) (ticket : Ticket) (item : Item Unit) (core : WorkerCore P Unit) → WorkedAt k x (worker.Ran tickets ticket item) → F (Work k (with_core x core) w.grace act.Finish None Quiet)
+      pub counts : (k : ℕ) (x : WorkerState P) (tickets : Tickets) (ticket : Ticket) (item : Item Unit) (core : WorkerCore P Unit) → WorkedAt k x (worker.Ran tickets ticket item) → F (Work k (with_core x core) w.grace act.Finish None Quiet)
 
     module _ (rows : Rows) where
       each_reader : (r : ℕ) (v : ReaderVerb) (x : Option ReaderState) → slice_get w.readers r ≡ x → Each F (of_reader plans.qsbr w r v x)
@@ -221,9 +222,9 @@ module _ {P : Type 0} (plans : Plans P) (w : BoardView P) where
       module _ (k : ℕ) (x : WorkerState P) where
         each_take : WorkedAt k x worker.Idle → (q : Option QueueState) → Each F (take_row w k x q)
         each_take at None = tt
-        each_take at (Some q) = each_if F (is_some q.holder) _ _ (rows.stays Blocked) (each_if F (is_none_left (items_of q.items)) _ _ (rows.stays NothingThere) (rows.takes k x _ at))
+        each_take at (Some q) = each_if F (is_some q.holder) _ _ (rows.stays Blocked) (each_if F (is_none_left (items_of q.items)) _ _ (rows.stays NothingThere) (rows.takes k x _ _ at))
 
-        each_worked : (sync : SyncCore P) (tickets : ℕ) → WorkedAt k x (worker.Syncs sync tickets) → (r : Result (GraceStep P) Refusal) → grace_row plans w (holder.Worker k) (ask_for w x.ask sync) sync ≡ r →
+        each_worked : (sync : SyncCore P) (tickets : Tickets) → WorkedAt k x (worker.Syncs sync tickets) → (r : Result (GraceStep P) Refusal) → grace_row plans w (holder.Worker k) (ask_for w x.ask sync) sync ≡ r →
             Each F (worked k (ask_for w x.ask sync) tickets r)
         each_worked sync tickets at (Err e) is = tt
         each_worked sync tickets at (Ok step) is = by step.answer refl
@@ -241,7 +242,7 @@ module _ {P : Type 0} (plans : Plans P) (w : BoardView P) where
             by Blocked e = rows.stays Blocked
             by NothingThere e = made NothingThere e
 
-        each_run : (tickets : ℕ) → WorkedAt k x (worker.Pops tickets) → (first : Option (Ticket × ObjectId)) → first_in (slice_get w.queues k) ≡ first → Each F (run_row w k x tickets first)
+        each_run : (tickets : Tickets) → WorkedAt k x (worker.Pops tickets) → (first : Option (Ticket × ObjectId)) → first_in (slice_get w.queues k) ≡ first → Each F (run_row w k x tickets first)
         each_run tickets at None is = tt
         each_run tickets at (Some first) is = rows.runs k x tickets _ _ first at is
 

@@ -20,6 +20,7 @@ use Rattle.callback_queue.specs.Queue.{items_of, without_first, object_with}
 use Rattle.reader_word.specs.declared.layout.Layout.{Layout}
 use Rattle.call_rcu_worker.specs.declared.sync.SyncCore.{SyncCore}
 use Rattle.call_rcu_worker.specs.declared.sync.SyncCore.TheVariants as core
+use Rattle.call_rcu_worker.specs.declared.worker.Tickets.{Tickets}
 use Rattle.call_rcu_worker.specs.declared.worker.WorkerCore.{WorkerCore}
 use Rattle.call_rcu_worker.specs.declared.worker.WorkerCore.TheVariants as worker
 use Rattle.call_rcu_worker.specs.Worker.{synced as synced_to}
@@ -374,7 +375,7 @@ module _ {P : Type 0} (plans : Plans P) (layout : Layout) (slots : ℕ) (laws : 
           (subst (λ (p : UpdaterPlace P). RetireKept w.objects w.queues (length w.updaters) u p)
           (ap (λ (y : UpdaterState P). y.place) (get_or_from_slice_get w.updaters u x idle at.was) ∙ at.at) (l.callbacks.retiring u)).1.0
 
-  turn_run : (k : ℕ) (x : WorkerState P) (tickets : ℕ) (first : Ticket × ObjectId) → WorkedAt plans w k x (worker.Pops tickets) → first_in (slice_get w.queues k) ≡ Some first →
+  turn_run : (k : ℕ) (x : WorkerState P) (tickets : Tickets) (first : Ticket × ObjectId) → WorkedAt plans w k x (worker.Pops tickets) → first_in (slice_get w.queues k) ≡ Some first →
       InTurn w.log w.queues → InTurn (w.log ++ events.Run first.1 ∷ []) (acted_at w.queues k act.Pop)
   turn_run k x tickets first at is = by (mine k).items.ready refl (sym (ap first_in (slice_get-get_or w.queues k empty_queue_state inside)) ∙ is)
     where
@@ -438,7 +439,7 @@ module _ {P : Type 0} (plans : Plans P) (layout : Layout) (slots : ℕ) (laws : 
     bars = λ u x b at. quiet w.log w.queues _ _ (record { runs = refl; queues = λ q. refl }) (λ q. refl);
     awaits = λ u x b b' at. quiet w.log w.queues _ _ none (λ q. refl);
     clears = λ u x b at. quiet w.log w.queues _ _ (record { runs = refl; queues = λ q. refl }) (λ q. refl);
-    takes = λ k x tickets at. let rests = its_work k x worker.Idle at in
+    takes = λ k x first count at. let rests = its_work k x worker.Idle at in
         quiet w.log w.queues _ _ none (waits_same (acted act.Seal) w.queues k (worker_queue k x at.was) (items_sealed (mine k).items rests.0 rests.1));
     works = λ k x sync tickets step at is. quiet w.log w.queues _ _ (fits_quiet (holder.Worker k) (ask_for w x.ask sync) sync step (fits_step plans w (holder.Worker k) (ask_for w x.ask sync) sync step is))
         (waits_same (acted (worker_act step.grace.seq (synced_to step.core tickets))) w.queues k (worker_queue k x at.was) (worker_keeps step.grace.seq (synced_to step.core tickets) (mine k)));
@@ -458,7 +459,7 @@ module _ {P : Type 0} (plans : Plans P) (layout : Layout) (slots : ℕ) (laws : 
   turn_lines w [] l k = k
   turn_lines w (line ∷ lines) l k = turn_lines ((outcome_of plans w line).world) lines (logged_step plans layout slots laws w line l) (turn_step plans layout slots laws w l line k)
 
-module _ {P : Type 0} (plans : Plans P) (laws : (layout : Layout) (slots : ℕ) → 1 ≤ slots → Laws plans layout slots) where
+module _ {P : Type 0} (plans : Plans P) (laws : (layout : Layout) (slots : ℕ) → Laws plans layout slots) where
   pub callbacks_in_order : (config : Config) (seq : ℕ) (lines : List Line) → is_within_limits config ≡ true → seq % 2 ≡ 0 → seq ≤ 2 ^ 62 → RunInOrder (world_after plans (fresh_at config seq) lines).log
   callbacks_in_order config seq lines limits even low q = (
     waiting_in (queue_at (world_after plans (fresh_at config seq) lines).queues q),
@@ -468,4 +469,4 @@ module _ {P : Type 0} (plans : Plans P) (laws : (layout : Layout) (slots : ℕ) 
   )
     where
       mine : Laws plans config.layout config.readers
-      mine = laws config.layout config.readers (some_reader config limits)
+      mine = laws config.layout config.readers

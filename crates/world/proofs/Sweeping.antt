@@ -4,6 +4,7 @@ use Rattle.rcu_model.specs.declared.event.ObjectId.{ObjectId}
 use Rattle.rcu_model.specs.declared.refusal.Refusal.{Refusal}
 use Rattle.callback_queue.specs.declared.item.Ticket.{Ticket}
 use Rattle.callback_queue.specs.Queue.{items_of}
+use Rattle.call_rcu_worker.specs.declared.worker.Tickets.{Tickets}
 use Rattle.call_rcu_worker.specs.declared.worker.WorkerCore.{WorkerCore}
 use Rattle.call_rcu_worker.specs.declared.worker.WorkerCore.TheVariants as worker
 use Rattle.poll_cookie.specs.Cookie.{cookie_for}
@@ -87,18 +88,18 @@ module _ {P : Type 0} (plans : Plans P) (w : BoardView P) (F : Change P → Type
     each_take None = tt
     each_take (Some q) = each_if F (is_some q.holder) _ _ of_work.blocked (each_if F (is_none_left (items_of q.items)) _ _ of_work.idles (of_work.works k _ _ _ _ _))
 
-    each_step : (ask tickets : ℕ) (step : GraceStep P) (answer : Answer) → Each F (Ok (work_change k ask tickets step answer))
+    each_step : (ask : ℕ) (tickets : Tickets) (step : GraceStep P) (answer : Answer) → Each F (Ok (work_change k ask tickets step answer))
     each_step ask tickets step (Events first second) = of_work.works k _ _ _ _ _
     each_step ask tickets step Quiet = of_work.works k _ _ _ _ _
     each_step ask tickets step Wait = of_work.waits
     each_step ask tickets step Blocked = of_work.blocked
     each_step ask tickets step NothingThere = of_work.works k _ _ _ _ _
 
-    each_worked : (ask tickets : ℕ) (r : Result (GraceStep P) Refusal) → Each F (worked k ask tickets r)
+    each_worked : (ask : ℕ) (tickets : Tickets) (r : Result (GraceStep P) Refusal) → Each F (worked k ask tickets r)
     each_worked ask tickets (Ok step) = each_step ask tickets step step.answer
     each_worked ask tickets (Err e) = tt
 
-    each_run : (tickets : ℕ) (first : Option (Ticket × ObjectId)) → Each F (run_row w k x tickets first)
+    each_run : (tickets : Tickets) (first : Option (Ticket × ObjectId)) → Each F (run_row w k x tickets first)
     each_run tickets None = tt
     each_run tickets (Some first) = of_work.works k _ _ _ _ _
 

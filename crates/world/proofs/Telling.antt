@@ -17,6 +17,7 @@ use Rattle.world_state.specs.declared.line.WorkerVerb.{WorkerVerb}
 use Rattle.world_state.specs.declared.line.WorkerVerb.TheVariants as verb
 use Rattle.callback_queue.specs.declared.item.Ticket.{Ticket}
 use Rattle.callback_queue.specs.Queue.{items_of}
+use Rattle.call_rcu_worker.specs.declared.worker.Tickets.{Tickets}
 use Rattle.call_rcu_worker.specs.declared.worker.WorkerCore.{WorkerCore}
 use Rattle.call_rcu_worker.specs.declared.worker.WorkerCore.TheVariants as worker
 use Rattle.world_state.specs.declared.queue.QueueState.{QueueState}

@@ -5,7 +5,7 @@ use Rattle.rcu_model.specs.declared.refusal.Refusal.{Refusal}
 use Rattle.rcu_model.specs.declared.refusal.Refusal.TheVariants.{Exhausted}
 use Rattle.reader_word.specs.declared.layout.Layout.{Layout}
 use Rattle.gp_memb.specs.declared.plan.Action.{Action}
-use Rattle.gp_memb.specs.declared.plan.Action.TheVariants.{Load, StorePhase, StoreSeq, Finished}
+use Rattle.gp_memb.specs.declared.plan.Action.TheVariants.{Load, LoadGroup, StorePhase, StoreSeq, Finished}
 use Rattle.gp_memb.specs.declared.plan.Turn.{Turn}
 use Rattle.gp_memb.specs.declared.plan.Turn.TheVariants as turns
 use Rattle.gp_memb.specs.Plan.{IsPresent, present_after, stands_before, turn_at}
@@ -14,6 +14,7 @@ use Rattle.call_rcu_worker.specs.declared.sync.SyncCore.{SyncCore}
 use Rattle.call_rcu_worker.specs.declared.sync.SyncCore.TheVariants as core
 use Rattle.call_rcu_worker.specs.declared.sync.Told.TheVariants as what
 use Rattle.call_rcu_worker.specs.Sync.{Telling, telling, asked_with, is_finished, turned}
+use Rattle.call_rcu_worker.specs.declared.worker.Tickets.{Tickets}
 use Rattle.world_state.specs.declared.line.Answer.{Answer}
 use Rattle.world_state.specs.declared.line.Answer.TheVariants.{Events, Quiet, Wait, Blocked, Idle as NothingThere}
 use Rattle.world_state.specs.declared.reader.ReaderState.{ReaderState}
@@ -103,7 +104,7 @@ module _ {P : Type 0} (plans : Plans P) (layout : Layout) (slots : ℕ) (laws : 
   shows_place ask core.Frees n h = tt
   shows_place ask core.Done n h = tt
 
-  shows_core : (sync : SyncCore P) (tickets n : ℕ) → Shows sync n → CoreShows plans layout slots laws (synced_to sync tickets) n
+  shows_core : (sync : SyncCore P) (tickets : Tickets) (n : ℕ) → Shows sync n → CoreShows plans layout slots laws (synced_to sync tickets) n
   shows_core core.Asks tickets n h = tt
   shows_core (core.Waits c) tickets n h = tt
   shows_core (core.Checks c) tickets n h = tt
@@ -127,7 +128,7 @@ module _ {P : Type 0} (plans : Plans P) (layout : Layout) (slots : ℕ) (laws : 
       by Blocked goes h = (goes, (inr refl, k))
       by NothingThere goes h = absurd h
 
-  pub worked_by : (n : ℕ) (x : WorkerState P) → slice_get w.workers n ≡ Some x → (ask tickets : ℕ) (row : Result (GraceStep P) Refusal) (failed : Fails) →
+  pub worked_by : (n : ℕ) (x : WorkerState P) → slice_get w.workers n ≡ Some x → (ask : ℕ) (tickets : Tickets) (row : Result (GraceStep P) Refusal) (failed : Fails) →
       GraceBy (Working n) row failed → ChangesBy w Keeps (worked n ask tickets row) failed
   worked_by n x there ask tickets (Err e) failed goes = goes
   worked_by n x there ask tickets (Ok step) failed goes = by step.answer goes.0 goes.1.told
@@ -178,7 +179,7 @@ module _ {P : Type 0} (plans : Plans P) (layout : Layout) (slots : ℕ) (laws : 
     stores_on p a is word step = scans.exact p word ∙ ap (λ b. turn_at plans.qsbr (scans.layout_of p) (laws.present p) b word) is ∙ step
 
     after : (p : P) (a : Action) (word : ℕ) → plans.action p ≡ a → laws.present (plans.taken p word) ≡ present_after (laws.present p) a
-    after p a word is = laws.presents p word ∙ ap (present_after (laws.present p)) is
+    after p a word is = laws.all.keeps.presents p word ∙ ap (present_after (laws.present p)) is
 
     action_by : (c : ℕ) (p : P) → Stands me (core.Runs c p) → (a : Action) → plans.action p ≡ a →
         By (done_with plans w ask (core.Runs c p) (Some (action_effect w a))) (first_failing (tests_of_action plans w a))
@@ -199,6 +200,7 @@ module _ {P : Type 0} (plans : Plans P) (layout : Layout) (slots : ℕ) (laws : 
             subst (λ t. By (stepped w.grace ask (turned plans.action c p (plans.taken p word) t)) (cond (stands_before plans.qsbr w.layout number word) (Some (Ok Wait)) None))
             (sym (scan_turns plans layout slots laws scans w.layout w.grace.seq number c p (sym l.kept.laid) (l.kept.part.grace_kept.running me s.ask c p s.is) s.shows slot word is))
             (turns_by word (stands_before plans.qsbr w.layout number word))
+    action_by c p s (LoadGroup group) is = steps_by w.grace c p _ (plans.turn p 0) (stores_on p (LoadGroup group) is 0 refl) (inl refl) (after p (LoadGroup group) 0 is ∙ s.shows)
     action_by c p s (StorePhase value) is =
         steps_by (record w.grace { word = value }) c p _ (plans.turn p 0) (stores_on p (StorePhase value) is 0 refl)
         (inr (l.kept.part.grace_kept.held me (subst (λ (v : Work P). Holds v) (sym s.is) tt))) (after p (StorePhase value) 0 is)
@@ -208,20 +210,20 @@ module _ {P : Type 0} (plans : Plans P) (layout : Layout) (slots : ℕ) (laws : 
 
     -- the plan that is made now begins with a store of the sequence number
     begun_now : laws.begun w.grace.seq number (plan_now plans w)
-    begun_now = subst (laws.begun w.grace.seq number) made (laws.made w.grace.seq number)
+    begun_now = subst (laws.begun w.grace.seq number) made (laws.all.made w.grace.seq number)
       where
         made : plans.made layout slots w.grace.seq number ≡ plan_now plans w
         made = ap (λ (k : Layout). plans.made k slots w.grace.seq number) (sym l.kept.laid) ∙ ap (λ (n : ℕ). plans.made w.layout n w.grace.seq number) (sym l.kept.sized)
 
     shows_now : laws.present (plan_now plans w) ≡ number
-    shows_now = laws.begins w.grace.seq number (plan_now plans w) begun_now (by plans.qsbr refl)
+    shows_now = laws.all.keeps.begins w.grace.seq number (plan_now plans w) begun_now (by plans.qsbr refl)
       where
         by : (b : Bool) → plans.qsbr ≡ b → IsPresent plans.qsbr number
         by true q = subst (λ b. IsPresent b number) (sym q) tt
         by false q = subst (λ b. IsPresent b number) (sym q) (l.kept.phase_low q)
 
     begin_by : (c : ℕ) → By (grace_row plans w holder ask (core.Starts c)) None
-    begin_by c = by (plans.action (plan_now plans w)) refl ((laws.order w.grace.seq number (plan_now plans w) begun_now).first)
+    begin_by c = by (plans.action (plan_now plans w)) refl ((laws.all.keeps.order w.grace.seq number (plan_now plans w) begun_now).first)
       where
         q : P
         q = plan_now plans w
@@ -231,6 +233,7 @@ module _ {P : Type 0} (plans : Plans P) (layout : Layout) (slots : ℕ) (laws : 
         by (StoreSeq value) is first =
             steps_by (record w.grace { seq = value }) c q _ (plans.turn q 0) (stores_on q (StoreSeq value) is 0 refl) (inl refl) (after q (StoreSeq value) 0 is ∙ shows_now)
         by (Load slot) is first = let e : Load slot ≡ StoreSeq (w.grace.seq + 1) = sym is ∙ first in absurd (cc)
+        by (LoadGroup group) is first = let e : LoadGroup group ≡ StoreSeq (w.grace.seq + 1) = sym is ∙ first in absurd (cc)
         by (StorePhase value) is first = let e : StorePhase value ≡ StoreSeq (w.grace.seq + 1) = sym is ∙ first in absurd (cc)
         by Finished is first = let e : Finished ≡ StoreSeq (w.grace.seq + 1) = sym is ∙ first in absurd (cc)
 

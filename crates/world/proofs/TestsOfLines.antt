@@ -1,11 +1,13 @@
 -- Each line's tests are made in their order: of workers, and of all lines.
-use Rattle.std.proofs.Common.{◌≡◌, ◌≢◌, ◌⊎◌, inl, inr, ⊎_elim, ℕ, ◌+◌, ◌-◌, ◌<◌, ◌≤◌, ◌%◌, ◌^◌, ◌==◌, cond, nat_lt, Bool, true, false, is_some, List, [], ◌∷◌, length, get_or, slice_get, slice_set, Some, None, Result, Ok, Err, refl, sym, ap, ◌∙◌, subst, arith}
+use Rattle.std.proofs.Common.{◌≡◌, ◌≢◌, ◌⊎◌, inl, inr, ⊎_elim, ℕ, ◌+◌, ◌<◌, ◌≤◌, ◌%◌, ◌^◌, ◌==◌, cond, nat_lt, Bool, true, false, is_some, List, [], ◌∷◌, length, get_or, slice_get, slice_set, Some, None, Result, Ok, Err, refl, sym, ap, ◌∙◌, subst, arith}
 use Rattle.std.proofs.lemmas.Bool.Decides.{eqb_tells}
 use Rattle.std.proofs.lemmas.Option.{slice_get-get_or, slice_get_within, get_or_from_slice_get, none-some}
 use Rattle.rcu_model.specs.declared.refusal.Refusal.{Refusal}
 use Rattle.rcu_model.specs.declared.refusal.Refusal.TheVariants.{NoActor, Busy, NotOpen}
 use Rattle.reader_word.specs.declared.layout.Layout.{Layout}
 use Rattle.callback_queue.specs.Queue.{items_of}
+use Rattle.callback_queue.specs.declared.item.Ticket.{Ticket}
+use Rattle.call_rcu_worker.specs.declared.worker.Tickets.{Tickets}
 use Rattle.call_rcu_worker.specs.declared.worker.WorkerCore.{WorkerCore}
 use Rattle.call_rcu_worker.specs.declared.worker.WorkerCore.TheVariants as works
 use Rattle.call_rcu_worker.specs.Sync.{new_core}
@@ -43,9 +45,9 @@ use Rattle.world.specs.Workers.{is_none_left}
 use Rattle.world.proofs.Tests.{Fails, tested, tested_not, told_as, found, IsStill, ChangesBy, reader_by}
 use Rattle.world.proofs.State.{Working, worker_work, worker_at}
 use Rattle.world.proofs.TestsOfScans.{ScansExactly, CoreShows, Shown, ShownIn, StaysShown, worker_shown, fresh_shown}
-use Rattle.call_rcu_worker.specs.Worker.{after_take}
+use Rattle.call_rcu_worker.specs.Worker.{after_take, tickets_from, rest_of}
 use Rattle.world.proofs.TestsOfGrace.{worked_by, sync_by}
-use Rattle.world.specs.Workers.{with_core}
+use Rattle.world.specs.Workers.{with_core, first_fresh}
 use Rattle.world.proofs.Callbacks.{WorkAt}
 use Rattle.world.proofs.TestsOfUpdaters.{updater_by}
 
@@ -87,19 +89,19 @@ module _ {P : Type 0} (plans : Plans P) (layout : Layout) (slots : ℕ) (laws : 
     as_rested : CoreShowsNow x.core
     as_rested = subst (λ (y : WorkerState P). CoreShowsNow y.core) worker_now (k.working n)
 
-    takes_shown : (place : WorkerCore P Unit) (tickets : ℕ) → CoreShowsNow place → CoreShowsNow (after_take place tickets)
-    takes_shown works.Idle tickets h = by (nat_lt 0 tickets)
+    takes_shown : (place : WorkerCore P Unit) (first : Ticket) (count : ℕ) → CoreShowsNow place → CoreShowsNow (after_take place first count)
+    takes_shown works.Idle first count h = by (nat_lt 0 count)
       where
-        by : (b : Bool) → CoreShowsNow (cond b (works.Syncs new_core tickets) works.Idle)
+        by : (b : Bool) → CoreShowsNow (cond b (works.Syncs new_core (tickets_from first count)) works.Idle)
         by true = tt
         by false = tt
-    takes_shown (works.Syncs sync before) tickets h = h
-    takes_shown (works.Pops before) tickets h = tt
-    takes_shown (works.Runs before ticket item) tickets h = tt
-    takes_shown (works.Ran before ticket item) tickets h = tt
-    takes_shown (works.Counts before ticket) tickets h = tt
+    takes_shown (works.Syncs sync before) first count h = h
+    takes_shown (works.Pops before) first count h = tt
+    takes_shown (works.Runs before ticket item) first count h = tt
+    takes_shown (works.Ran before ticket item) first count h = tt
+    takes_shown (works.Counts before ticket) first count h = tt
 
-    counted : (b : Bool) (tickets : ℕ) → CoreShowsNow (cond b (works.Pops tickets) works.Idle)
+    counted : (b : Bool) (tickets : Tickets) → CoreShowsNow (cond b (works.Pops tickets) works.Idle)
     counted true tickets = tt
     counted false tickets = tt
 
@@ -113,16 +115,16 @@ module _ {P : Type 0} (plans : Plans P) (layout : Layout) (slots : ℕ) (laws : 
         (sym has_queue)
         (tested answer_of IsFine (is_some mine.holder) _ _ (Ok Blocked) _ (λ _. (refl, (inr refl, k)))
         (λ _. told_as answer_of IsFine (length (items_of mine.items) == 0) (is_none_left (items_of mine.items)) _ (Ok NothingThere) None (none_left (items_of mine.items))
-        (empty_by (is_none_left (items_of mine.items)) _ (refl, (inl refl, worker_beside _ (takes_shown x.core (length mine.items.fresh) as_rested))))))
+        (empty_by (is_none_left (items_of mine.items)) _ (refl, (inl refl, worker_beside _ (takes_shown x.core (first_fresh mine.items) (length mine.items.fresh) as_rested))))))
 
     -- a worker that pops has a ready item, and rests neither before it runs an item nor before it counts it
     abbrev Kept : WorkerState P → Type 0
     Kept y = WorkAt mine (after_all start w.log).asked (after_all start w.log).awaited (after_all start w.log).asked_sections y
 
-    run_by : (tickets : ℕ) → tickets ≡ length mine.items.ready → 1 ≤ tickets → By (run_row w n x tickets (first_in (slice_get w.queues n))) None
+    run_by : (tickets : Tickets) → tickets.left ≡ length mine.items.ready → 1 ≤ tickets.left → By (run_row w n x tickets (first_in (slice_get w.queues n))) None
     run_by tickets all some = subst (λ q. By (run_row w n x tickets (first_in q)) None) (sym has_queue) (by mine.items.ready all)
       where
-        by : (ready : List (Item Unit)) → tickets ≡ length ready → By (run_row w n x tickets (object_with (mine.items.gone + 1) ready)) None
+        by : (ready : List (Item Unit)) → tickets.left ≡ length ready → By (run_row w n x tickets (object_with (mine.items.gone + 1) ready)) None
         by [] none = absurd (omega (arith, none, some))
         by (item ∷ ready) more = (refl, (inl refl, worker_beside _ tt))
 
@@ -139,7 +141,7 @@ module _ {P : Type 0} (plans : Plans P) (layout : Layout) (slots : ℕ) (laws : 
         }))
     core_by (works.Pops tickets) is h = run_by tickets h.1 h.2
     core_by (works.Runs tickets ticket item) is h = absurd h
-    core_by (works.Ran tickets ticket item) is h = (refl, (inl refl, worker_beside _ (counted (nat_lt 1 tickets) (tickets - 1))))
+    core_by (works.Ran tickets ticket item) is h = (refl, (inl refl, worker_beside _ (counted (nat_lt 1 tickets.left) (rest_of tickets))))
     core_by (works.Counts tickets ticket) is h = absurd h
 
     worker_by : (verb : WorkerVerb) → By (worker_line plans w n x verb) (first_failing (worker_tests plans w n x verb))
@@ -189,8 +191,8 @@ module _ {P : Type 0} (plans : Plans P) (layout : Layout) (slots : ℕ) (laws : 
   shown_lines w (line ∷ lines) l k =
       shown_lines ((outcome_of plans w line).world) lines (logged_step plans layout slots laws w line l) (shown_step plans layout slots laws scans w l k line)
 
-module _ {P : Type 0} (plans : Plans P) (laws : (layout : Layout) (slots : ℕ) → 1 ≤ slots → Laws plans layout slots)
-    (scans : (layout : Layout) (slots : ℕ) (some : 1 ≤ slots) → ScansExactly plans layout slots (laws layout slots some)) where
+module _ {P : Type 0} (plans : Plans P) (laws : (layout : Layout) (slots : ℕ) → Laws plans layout slots)
+    (scans : (layout : Layout) (slots : ℕ) → ScansExactly plans layout slots (laws layout slots)) where
   pub all_tested : (config : Config) (seq : ℕ) (lines : List Line) (line : Line) → is_within_limits config ≡ true → seq % 2 ≡ 0 → seq ≤ 2 ^ 62 →
       IsTested plans (world_after plans (fresh_at config seq) lines) line
   all_tested config seq lines line limits even low =
@@ -199,10 +201,10 @@ module _ {P : Type 0} (plans : Plans P) (laws : (layout : Layout) (slots : ℕ) 
       (shown_lines plans config.layout config.readers mine exact (fresh_at config seq) lines fresh (fresh_shown plans config.layout config.readers mine config seq)) line
     where
       mine : Laws plans config.layout config.readers
-      mine = laws config.layout config.readers (some_reader config limits)
+      mine = laws config.layout config.readers
 
       exact : ScansExactly plans config.layout config.readers mine
-      exact = scans config.layout config.readers (some_reader config limits)
+      exact = scans config.layout config.readers
 
       fresh : Logged plans config.layout config.readers mine (fresh_at config seq)
       fresh =

@@ -13,12 +13,12 @@ use Rattle.world.proofs.Fence.{Laws}
 use Rattle.world.proofs.Ranging.{in_range}
 use Rattle.world.proofs.Logged.{Logged, logged_lines, logged_fresh, some_reader, few_workers}
 
-module _ {P : Type 0} (plans : Plans P) (laws : (layout : Layout) (slots : ℕ) → 1 ≤ slots → Laws plans layout slots) where
+module _ {P : Type 0} (plans : Plans P) (laws : (layout : Layout) (slots : ℕ) → Laws plans layout slots) where
   logged : (config : Config) (seq : ℕ) (lines : List Line) (limits : is_within_limits config ≡ true) → seq % 2 ≡ 0 → seq ≤ 2 ^ 62 →
-      Logged plans config.layout config.readers (laws config.layout config.readers (some_reader config limits)) (world_after plans (fresh_at config seq) lines)
+      Logged plans config.layout config.readers (laws config.layout config.readers) (world_after plans (fresh_at config seq) lines)
   logged config seq lines limits even low =
-      logged_lines plans config.layout config.readers (laws config.layout config.readers (some_reader config limits)) (fresh_at config seq) lines
-      (logged_fresh plans config.layout config.readers (laws config.layout config.readers (some_reader config limits)) config seq refl refl (some_reader config limits) (few_workers config limits).0 (few_workers config limits).1 even low)
+      logged_lines plans config.layout config.readers (laws config.layout config.readers) (fresh_at config seq) lines
+      (logged_fresh plans config.layout config.readers (laws config.layout config.readers) config seq refl refl (some_reader config limits) (few_workers config limits).0 (few_workers config limits).1 even low)
 
   pub runs : (config : Config) (seq : ℕ) (lines : List Line) → is_within_limits config ≡ true → seq % 2 ≡ 0 → seq ≤ 2 ^ 62 → IsRun (world_after plans (fresh_at config seq) lines).log
   runs config seq lines limits even low = (logged config seq lines limits even low).run
@@ -26,6 +26,6 @@ module _ {P : Type 0} (plans : Plans P) (laws : (layout : Layout) (slots : ℕ) 
   pub ranges : (w : BoardView P) → IsReached plans w → IsInRange plans w
   ranges w r =
       subst (λ (v : BoardView P). IsInRange plans v) r.leads
-      (in_range plans r.config.layout r.config.readers (laws r.config.layout r.config.readers (some_reader r.config r.limits)) (world_after plans (fresh_at r.config r.seq) r.lines)
+      (in_range plans r.config.layout r.config.readers (laws r.config.layout r.config.readers) (world_after plans (fresh_at r.config r.seq) r.lines)
       (after_all start (world_after plans (fresh_at r.config r.seq) r.lines).log)
       (logged r.config r.seq r.lines r.limits r.even r.low).kept (logged r.config r.seq r.lines r.limits r.even r.low).callbacks)

@@ -15,6 +15,7 @@ use Rattle.callback_queue.specs.declared.item.Item.{Item}
 use Rattle.callback_queue.specs.Queue.{Queue, items_of, given_of, is_due, after_advance}
 use Rattle.call_rcu_worker.specs.declared.sync.SyncCore.{SyncCore}
 use Rattle.call_rcu_worker.specs.declared.sync.SyncCore.TheVariants as core
+use Rattle.call_rcu_worker.specs.declared.worker.Tickets.{Tickets}
 use Rattle.call_rcu_worker.specs.declared.worker.WorkerCore.{WorkerCore}
 use Rattle.call_rcu_worker.specs.declared.worker.WorkerCore.TheVariants as worker
 use Rattle.world_state.specs.declared.line.Answer.{Answer}
@@ -65,16 +66,16 @@ module _ {P : Type 0} (plans : Plans P) (layout : Layout) (slots : ℕ) (laws : 
   still_kept : (es : List Event) → QueueKept mine (length (w.log ++ es)) now.awaited
   still_kept es = more_kept plans layout slots laws w now kept k n x at es
 
-  module _ (place : SyncCore P) (tickets : ℕ) (syncs : x.core ≡ worker.Syncs place tickets) where
-    batch : BatchKept mine.items.ready mine.items.waiting mine.items.cookie now.asked now.awaited now.asked_sections x.ask tickets place × (mine.finished ≡ mine.items.gone)
+  module _ (place : SyncCore P) (tickets : Tickets) (syncs : x.core ≡ worker.Syncs place tickets) where
+    batch : BatchKept mine.items.ready mine.items.waiting mine.items.cookie now.asked now.awaited now.asked_sections x.ask tickets.left place × (mine.finished ≡ mine.items.gone) × (tickets.last.0 ≡ mine.items.gone + tickets.left)
     batch = subst (λ (p : WorkerCore P Unit). WorkKept mine.items.ready mine.items.waiting mine.items.cookie mine.items.gone mine.finished now.asked now.awaited now.asked_sections x.ask p) syncs (my_work plans layout slots laws w now kept k n x at)
 
     asks_now : works (Working n) ≡ core_work x.ask place
     asks_now = work_is plans layout slots laws w now kept k n x at ∙ ap (worker_work x.ask) syncs
 
     module _ (ask : ℕ) where
-      waiting_for : (c : ℕ) → Pending (works (Working n)) ask c → BatchWaits mine.items.ready mine.items.waiting mine.items.cookie now.asked now.awaited now.asked_sections ask tickets c
-      waiting_for c h = waits_of mine.items.ready mine.items.waiting mine.items.cookie now.asked now.awaited now.asked_sections x.ask tickets place ask c batch.0 (subst (λ (v : Work P). Pending v ask c) asks_now h)
+      waiting_for : (c : ℕ) → Pending (works (Working n)) ask c → BatchWaits mine.items.ready mine.items.waiting mine.items.cookie now.asked now.awaited now.asked_sections ask tickets.left c
+      waiting_for c h = waits_of mine.items.ready mine.items.waiting mine.items.cookie now.asked now.awaited now.asked_sections x.ask tickets.left place ask c batch.0 (subst (λ (v : Work P). Pending v ask c) asks_now h)
 
       quietly : (p : WorkerCore P Unit) (grace : GraceState) → Step (worker_work ask p) grace now.asked now.answered now.asked_sections Quiet → WorkAt mine now.asked now.awaited now.asked_sections (record { ask = ask; core = p }) →
           Owed (Ok (Works n (record { ask = ask; core = p }) grace act.Leave None Quiet))
@@ -92,13 +93,13 @@ module _ {P : Type 0} (plans : Plans P) (layout : Layout) (slots : ℕ) (laws : 
           Step (core_work ask next) grace now.asked now.answered now.asked_sections Quiet → Owed (worked n ask tickets (Ok (record { core = next; grace = grace; answer = Quiet })))
       goes core.Asks grace on same s = absurd on
       goes (core.Waits c) grace on same s = absurd on
-      goes (core.Checks c) grace on same s = quietly (worker.Syncs (core.Checks c) tickets) grace s (waiting_for c (same ask c (refl, refl)), batch.1)
-      goes (core.Starts c) grace on same s = quietly (worker.Syncs (core.Starts c) tickets) grace s (waiting_for c (same ask c (refl, refl)), batch.1)
-      goes (core.Runs c p) grace on same s = quietly (worker.Syncs (core.Runs c p) tickets) grace s (waiting_for c (same ask c (refl, refl)), batch.1)
+      goes (core.Checks c) grace on same s = quietly (worker.Syncs (core.Checks c) tickets) grace s (waiting_for c (same ask c (refl, refl)), batch.1, batch.2)
+      goes (core.Starts c) grace on same s = quietly (worker.Syncs (core.Starts c) tickets) grace s (waiting_for c (same ask c (refl, refl)), batch.1, batch.2)
+      goes (core.Runs c p) grace on same s = quietly (worker.Syncs (core.Runs c p) tickets) grace s (waiting_for c (same ask c (refl, refl)), batch.1, batch.2)
       goes core.Frees grace on same s = absurd on
       goes core.Done grace on same s =
-          let free = freed_of mine.items.ready mine.items.waiting mine.items.cookie now.asked now.awaited now.asked_sections x.ask tickets place batch.0 (sym asks_now ∙ on) in
-          quietly (worker.Pops tickets) grace s (free.0, free.1, free.2, batch.1)
+          let free = freed_of mine.items.ready mine.items.waiting mine.items.cookie now.asked now.awaited now.asked_sections x.ask tickets.left place batch.0 (sym asks_now ∙ on) in
+          quietly (worker.Pops tickets) grace s (free.0, free.1, free.2, batch.1, batch.2)
 
       asks : (c : ℕ) (grace : GraceState) → works (Working n) ≡ Rests → ask ≡ w.grace.asks + 1 →
           Step (Waits ask c) grace (ask ∷ now.asked) now.answered (at_number ask now.sections now.asked_sections) (Events (events.Ask ask) None) →
@@ -118,6 +119,7 @@ module _ {P : Type 0} (plans : Plans P) (layout : Layout) (slots : ℕ) (laws : 
                 covered = λ o h t g. subst (λ (l : List SectionId). In l t) (sym (at_number_same ask now.sections now.asked_sections)) (k.awaits_open o t g);
               },
               batch.1,
+              batch.2,
             ),
       )
         where
@@ -130,8 +132,8 @@ module _ {P : Type 0} (plans : Plans P) (layout : Layout) (slots : ℕ) (laws : 
           q : QueueKept mine (length (w.log ++ events.Ask ask ∷ [])) now.awaited
           q = still_kept (events.Ask ask ∷ [])
 
-          old : (mine.items.ready ≡ []) × (tickets ≡ length mine.items.waiting) × (1 ≤ tickets)
-          old = asks_of mine.items.ready mine.items.waiting mine.items.cookie now.asked now.awaited now.asked_sections x.ask tickets place batch.0 (sym asks_now ∙ rests)
+          old : (mine.items.ready ≡ []) × (tickets.left ≡ length mine.items.waiting) × (1 ≤ tickets.left)
+          old = asks_of mine.items.ready mine.items.waiting mine.items.cookie now.asked now.awaited now.asked_sections x.ask tickets.left place batch.0 (sym asks_now ∙ rests)
 
       answers : (c : ℕ) (grace : GraceState) → Pending (works (Working n)) ask c → c ≤ grace.seq → now.asked_sections ask ≡ [] →
           Step Frees grace now.asked (ask ∷ now.answered) now.asked_sections (Events (events.Answer ask) None) →
@@ -150,13 +152,13 @@ module _ {P : Type 0} (plans : Plans P) (layout : Layout) (slots : ℕ) (laws : 
               ready_free = λ o h. free o (subst (λ (l : Items). Has l o) (field (λ r. r.ready)) h);
             })
             refl (field (λ r. r.reserved)) refl
-            ((field (λ r. r.waiting), b.count ∙ ap (λ (l : Items). length l) (sym ready_is), b.some), subst (λ m. mine.finished ≡ m) (sym (field (λ r. r.gone))) batch.1),
+            ((field (λ r. r.waiting), b.count ∙ ap (λ (l : Items). length l) (sym ready_is), b.some), subst (λ m. mine.finished ≡ m) (sym (field (λ r. r.gone))) batch.1, subst (λ m. tickets.last.0 ≡ m + tickets.left) (sym (field (λ r. r.gone))) batch.2),
       )
         where
           x' : WorkerState P
           x' = record { ask = ask; core = worker.Syncs core.Frees tickets }
 
-          b : BatchWaits mine.items.ready mine.items.waiting mine.items.cookie now.asked now.awaited now.asked_sections ask tickets c
+          b : BatchWaits mine.items.ready mine.items.waiting mine.items.cookie now.asked now.awaited now.asked_sections ask tickets.left c
           b = waiting_for c pending
 
           q : QueueKept mine (length (w.log ++ events.Answer ask ∷ [])) now.awaited
@@ -200,7 +202,7 @@ module _ {P : Type 0} (plans : Plans P) (layout : Layout) (slots : ℕ) (laws : 
       }
 
   -- a step of a worker's grace period
-  owes_batch : (place : SyncCore P) (tickets : ℕ) → x.core ≡ worker.Syncs place tickets → Owed (worked n (ask_for w x.ask place) tickets (grace_row plans w (holder.Worker n) (ask_for w x.ask place) place))
+  owes_batch : (place : SyncCore P) (tickets : Tickets) → x.core ≡ worker.Syncs place tickets → Owed (worked n (ask_for w x.ask place) tickets (grace_row plans w (holder.Worker n) (ask_for w x.ask place) place))
   owes_batch core.Asks tickets is =
       owes_ask plans layout slots laws w now kept (holder.Worker n) (w.grace.asks + 1) (λ r. Owed (worked n (w.grace.asks + 1) tickets r)) (syncing core.Asks tickets is (w.grace.asks + 1)) (asks_now core.Asks tickets is) refl
   owes_batch (core.Waits c) tickets is = owes_sync plans layout slots laws w now kept (holder.Worker n) x.ask (λ r. Owed (worked n x.ask tickets r)) (syncing (core.Waits c) tickets is x.ask) (core.Waits c) (asks_now (core.Waits c) tickets is) tt

@@ -1,5 +1,5 @@
 -- What the lines of workers keep, and that what they tell may come.
-use Rattle.std.proofs.Common.{◌≡◌, ◌≢◌, ◌⊎◌, inl, inr, ⊎_elim, ℕ, ◌+◌, ◌-◌, ◌%◌, ◌<◌, ◌≤◌, leb, ltb, cond, Bool, true, false, List, [], ◌∷◌, ◌++◌, length, slice_get, slice_set, Option, Some, None, Result, Ok, refl, sym, ap, ◌∙◌, subst, arith, true≢false, length-append}
+use Rattle.std.proofs.Common.{◌≡◌, ◌≢◌, ◌⊎◌, inl, inr, ⊎_elim, ℕ, ◌+◌, ◌%◌, ◌<◌, ◌≤◌, leb, ltb, cond, Bool, true, false, List, [], ◌∷◌, ◌++◌, length, slice_get, slice_set, Option, Some, None, Result, Ok, refl, sym, ap, ◌∙◌, subst, arith, true≢false, length-append}
 use Rattle.std.proofs.Math.ListN.{length-set}
 use Rattle.std.proofs.lemmas.Bool.Decides.{leb_tells, Decides-ltb}
 use Rattle.std.proofs.lemmas.Option.{slice_get_within, slice_get-get_or, get_or_from_slice_get}
@@ -18,10 +18,11 @@ use Rattle.callback_queue.specs.declared.item.Ticket.{Ticket}
 use Rattle.callback_queue.specs.Queue.{Queue, items_of, given_of, sealed, popped, without_first, object_with}
 use Rattle.call_rcu_worker.specs.declared.sync.SyncCore.{SyncCore}
 use Rattle.call_rcu_worker.specs.declared.sync.SyncCore.TheVariants as core
+use Rattle.call_rcu_worker.specs.declared.worker.Tickets.{Tickets}
 use Rattle.call_rcu_worker.specs.declared.worker.WorkerCore.{WorkerCore}
 use Rattle.call_rcu_worker.specs.declared.worker.WorkerCore.TheVariants as worker
 use Rattle.call_rcu_worker.specs.Sync.{new_core}
-use Rattle.call_rcu_worker.specs.Worker.{after_take, item_done}
+use Rattle.call_rcu_worker.specs.Worker.{after_take, tickets_from, rest_of, item_done}
 use Rattle.world_state.specs.declared.line.Answer.TheVariants.{Quiet, Blocked, Idle as NothingThere}
 use Rattle.world_state.specs.declared.object.Life.{Life}
 use Rattle.world_state.specs.declared.object.Life.TheVariants as life
@@ -37,7 +38,7 @@ use Rattle.world_state.specs.Objects.{marked_life}
 use Rattle.world_state.specs.Queues.{new_worker, empty_queue_state, item_of, acted, changed_at, acted_at}
 use Rattle.world_state.specs.View.{Plans, BoardView}
 use Rattle.world_state.proofs.Lemmas.{chain_of, life_of, life_within, life_marked, life_else, Items, Has, Stands, InQueue, queue_at, stands_above, changed_here, changed_else, changed_length, items_sealed}
-use Rattle.world.specs.Workers.{with_core, is_none_left, take_row, first_in, run_row}
+use Rattle.world.specs.Workers.{first_fresh, with_core, is_none_left, take_row, first_in, run_row}
 use Rattle.world.proofs.Fence.{Work, Rests, Frees, Pending, Laws}
 use Rattle.world.proofs.State.{Asker, Working, core_work, worker_work, worker_at, work_of, updater_at, Kept}
 use Rattle.world.proofs.Callbacks.{LifeKept, ItemsKept, QueueKept, BatchWaits, BatchKept, WorkKept, WorkAt, CallbacksKept, Callbacks, at_workers, at_queues, queue_kept}
@@ -263,7 +264,10 @@ module _ {P : Type 0} (plans : Plans P) (layout : Layout) (slots : ℕ) (laws : 
     all_fresh : items_of mine.items ≡ mine.items.fresh
     all_fresh = ap (λ (l : Items). l ++ mine.items.waiting ++ mine.items.fresh) empty.0 ∙ ap (λ (l : Items). l ++ mine.items.fresh) empty.1
 
-    takes : 1 ≤ length mine.items.fresh → Owed (Ok (Works n (with_core x (worker.Syncs new_core (length mine.items.fresh))) w.grace act.Seal None Quiet))
+    abbrev all : Tickets
+    all = tickets_from (first_fresh mine.items) (length mine.items.fresh)
+
+    takes : 1 ≤ length mine.items.fresh → Owed (Ok (Works n (with_core x (worker.Syncs new_core all)) w.grace act.Seal None Quiet))
     takes some = still x' act.Seal (ap (worker_work x.ask) idle) refl
         (quiet_step w now k n inside (acted act.Seal) x' (length (w.log ++ [])) (longer []) refl (items_sealed mine.items empty.0 empty.1)
         (record {
@@ -273,16 +277,16 @@ module _ {P : Type 0} (plans : Plans P) (layout : Layout) (slots : ℕ) (laws : 
           at_rest = λ e. (k.queues n).at_rest e ∙ sym given;
           ready_free = (k.queues n).ready_free;
         })
-        refl refl refl ((empty.0, refl, some), empty.2))
+        refl refl refl ((empty.0, refl, some), empty.2, let count = ap (λ (l : Items). length l) all_fresh in omega (arith, count, some)))
       where
         x' : WorkerState P
-        x' = with_core x (worker.Syncs new_core (length mine.items.fresh))
+        x' = with_core x (worker.Syncs new_core all)
 
         given : given_of (sealed mine.items) ≡ given_of mine.items
         given = ap (λ (l : Items). mine.items.gone + length l) (items_sealed mine.items empty.0 empty.1)
 
-    after_take_is : (m : ℕ) → 1 ≤ m → after_take x.core m ≡ worker.Syncs new_core m
-    after_take_is m some = ap (λ (p : WorkerCore P Unit). after_take p m) idle ∙ ap (λ b. cond b (worker.Syncs new_core m) worker.Idle) ((Decides-ltb 0 m).1 (omega (arith, some)))
+    after_take_is : (first : Ticket) (m : ℕ) → 1 ≤ m → after_take x.core first m ≡ worker.Syncs new_core (tickets_from first m)
+    after_take_is first m some = ap (λ (p : WorkerCore P Unit). after_take p first m) idle ∙ ap (λ b. cond b (worker.Syncs new_core (tickets_from first m)) worker.Idle) ((Decides-ltb 0 m).1 (omega (arith, some)))
 
     pub owes_take : Owed (take_row w n x (slice_get queues n))
     owes_take = subst (λ (r : Option QueueState). Owed (take_row w n x r)) (sym at_queue) (by (is_some mine.holder) (is_none_left (items_of mine.items)) refl)
@@ -292,16 +296,16 @@ module _ {P : Type 0} (plans : Plans P) (layout : Layout) (slots : ℕ) (laws : 
         some_left (i ∷ is') e = omega arith
 
         by : (b : Bool) (c : Bool) → is_none_left (items_of mine.items) ≡ c →
-            Owed (cond b (Ok (Stay Blocked)) (cond c (Ok (Stay NothingThere)) (Ok (Works n (with_core x (after_take x.core (length mine.items.fresh))) w.grace act.Seal None Quiet))))
+            Owed (cond b (Ok (Stay Blocked)) (cond c (Ok (Stay NothingThere)) (Ok (Works n (with_core x (after_take x.core (first_fresh mine.items) (length mine.items.fresh))) w.grace act.Seal None Quiet))))
         by true c e = (tt, kept, k)
         by false true e = (tt, kept, k)
         by false false e =
             let some : 1 ≤ length mine.items.fresh = subst (λ (l : Items). 1 ≤ length l) all_fresh (some_left (items_of mine.items) e) in
-            subst (λ (p : WorkerCore P Unit). Owed (Ok (Works n (with_core x p) w.grace act.Seal None Quiet))) (sym (after_take_is (length mine.items.fresh) some)) (takes some)
+            subst (λ (p : WorkerCore P Unit). Owed (Ok (Works n (with_core x p) w.grace act.Seal None Quiet))) (sym (after_take_is (first_fresh mine.items) (length mine.items.fresh) some)) (takes some)
 
   -- an item is run
-  module _ (tickets : ℕ) (pops : x.core ≡ worker.Pops tickets) where
-    batch : (mine.items.waiting ≡ []) × (tickets ≡ length mine.items.ready) × (1 ≤ tickets) × (mine.finished ≡ mine.items.gone)
+  module _ (tickets : Tickets) (pops : x.core ≡ worker.Pops tickets) where
+    batch : (mine.items.waiting ≡ []) × (tickets.left ≡ length mine.items.ready) × (1 ≤ tickets.left) × (mine.finished ≡ mine.items.gone) × (tickets.last.0 ≡ mine.items.gone + tickets.left)
     batch = subst (λ (p : WorkerCore P Unit). WorkKept mine.items.ready mine.items.waiting mine.items.cookie mine.items.gone mine.finished now.asked now.awaited now.asked_sections x.ask p) pops my_work
 
     runs : (i : Item Unit) (rest : Items) → mine.items.ready ≡ i ∷ rest → Owed (run_row w n x tickets (Some (record { 0 = mine.items.gone + 1 }, i.object)))
@@ -406,6 +410,7 @@ module _ {P : Type 0} (plans : Plans P) (layout : Layout) (slots : ℕ) (laws : 
           waiting_is ∙ batch.0,
           batch.1 ∙ ap (λ (l : Items). length l) ready ∙ (let l : length (i ∷ rest) ≡ length rest + 1 = omega arith in l) ∙ ap (λ (l : Items). length l + 1) (sym ready_is),
           subst (λ g. mine.finished + 1 ≡ g) (sym gone_is) (let all = batch.3 in omega (arith, all)),
+          subst (λ g. tickets.last.0 + 1 ≡ g + tickets.left) (sym gone_is) (let last = batch.4 in omega (arith, last)),
         )
 
         other : {v : ℕ} (p : ObjectId) → (life_of w.objects p ≡ life.Kept) ⊎ (life_of w.objects p ≡ life.Retired) → chain_of w.objects p % length w.updaters ≡ v → p ≢ o
@@ -428,10 +433,10 @@ module _ {P : Type 0} (plans : Plans P) (layout : Layout) (slots : ℕ) (laws : 
         by (i ∷ rest) e = runs i rest e
 
   -- and counted
-  pub owes_count : (tickets : ℕ) (ticket : Ticket) (item : Item Unit) → x.core ≡ worker.Ran tickets ticket item → Owed (Ok (Works n (with_core x (item_done (worker.Counts tickets ticket))) w.grace act.Finish None Quiet))
-  owes_count tickets ticket item ran = by (ltb 1 tickets) (leb_tells tickets 1) refl
+  pub owes_count : (tickets : Tickets) (ticket : Ticket) (item : Item Unit) → x.core ≡ worker.Ran tickets ticket item → Owed (Ok (Works n (with_core x (item_done (worker.Counts tickets ticket))) w.grace act.Finish None Quiet))
+  owes_count tickets ticket item ran = by (ltb 1 tickets.left) (leb_tells tickets.left 1) refl
     where
-      batch : (mine.items.waiting ≡ []) × (tickets ≡ length mine.items.ready + 1) × (mine.finished + 1 ≡ mine.items.gone)
+      batch : (mine.items.waiting ≡ []) × (tickets.left ≡ length mine.items.ready + 1) × (mine.finished + 1 ≡ mine.items.gone) × (tickets.last.0 + 1 ≡ mine.items.gone + tickets.left)
       batch = subst (λ (p : WorkerCore P Unit). WorkKept mine.items.ready mine.items.waiting mine.items.cookie mine.items.gone mine.finished now.asked now.awaited now.asked_sections x.ask p) ran my_work
 
       none_left : (l : Items) → length l ≡ 0 → l ≡ []
@@ -443,13 +448,14 @@ module _ {P : Type 0} (plans : Plans P) (layout : Layout) (slots : ℕ) (laws : 
           (quiet_step w now k n inside (acted act.Finish) (with_core x p) (length (w.log ++ [])) (longer []) refl refl
           (record { is_open = (more_kept []).is_open; given_low = (more_kept []).given_low; announced = (more_kept []).announced; at_rest = (more_kept []).at_rest; ready_free = (more_kept []).ready_free }) refl refl refl works')
 
-      by : (b : Bool) → ((leb tickets 1 ≡ true) × (tickets ≤ 1)) ⊎ ((leb tickets 1 ≡ false) × (1 < tickets)) → ltb 1 tickets ≡ b → Owed (Ok (Works n (with_core x (cond b (worker.Pops (tickets - 1)) worker.Idle)) w.grace act.Finish None Quiet))
+      by : (b : Bool) → ((leb tickets.left 1 ≡ true) × (tickets.left ≤ 1)) ⊎ ((leb tickets.left 1 ≡ false) × (1 < tickets.left)) → ltb 1 tickets.left ≡ b → Owed (Ok (Works n (with_core x (cond b (worker.Pops (rest_of tickets)) worker.Idle)) w.grace act.Finish None Quiet))
       by true d e =
-          let some : 1 < tickets = (Decides-ltb 1 tickets).0 e in
+          let some : 1 < tickets.left = (Decides-ltb 1 tickets.left).0 e in
+          let last = batch.3 in
           let is' = batch.1 in
-          counts (worker.Pops (tickets - 1)) refl (batch.0, omega (arith, is'), omega (arith, some), batch.2)
+          counts (worker.Pops (rest_of tickets)) refl (batch.0, omega (arith, is'), omega (arith, some), batch.2, omega (arith, last, some))
       by false (inl y) e =
           let is' = batch.1 in
           let low = y.1 in
           counts worker.Idle refl (none_left mine.items.ready (omega (arith, is', low)), batch.0, batch.2)
-      by false (inr y) e = absurd (true≢false (sym ((Decides-ltb 1 tickets).1 y.1) ∙ e))
+      by false (inr y) e = absurd (true≢false (sym ((Decides-ltb 1 tickets.left).1 y.1) ∙ e))

@@ -1,14 +1,15 @@
 -- The step table's rows of a grace period.
-use Rattle.std.specs.Prelude.{ℕ, ◌+◌, nat_le, if◌then◌else◌, length, slice_get, Option, Some, None, Result, Ok, Err}
+use Rattle.std.specs.Prelude.{◌≡◌, ℕ, ◌+◌, Bool, nat_le, if◌then◌else◌, length, slice_get, Option, Some, None, Result, Ok, Err}
 use Rattle.rcu_model.specs.declared.event.Event.TheVariants.{Ask as Asked, Answer as Answered}
 use Rattle.rcu_model.specs.declared.refusal.Refusal.{Refusal}
 use Rattle.rcu_model.specs.declared.refusal.Refusal.TheVariants.{NotOpen}
+use Rattle.reader_word.specs.declared.layout.Layout.{Layout}
 use Rattle.gp_memb.specs.declared.plan.Action.{Action}
-use Rattle.gp_memb.specs.declared.plan.Action.TheVariants.{Load, StorePhase, StoreSeq, Finished}
+use Rattle.gp_memb.specs.declared.plan.Action.TheVariants.{Load, LoadGroup, StorePhase, StoreSeq, Finished}
 use Rattle.call_rcu_worker.specs.declared.sync.SyncCore.{SyncCore}
 use Rattle.call_rcu_worker.specs.declared.sync.SyncStep.{SyncStep}
 use Rattle.call_rcu_worker.specs.declared.sync.SyncStep.TheVariants.{Ask, TakeLock, Check, Begin, Plan, FreeLock, Nothing}
-use Rattle.call_rcu_worker.specs.Sync.{Telling, step_of, told_of, begun_with}
+use Rattle.call_rcu_worker.specs.Sync.{Telling, step_of, told_of, HasJustBegun, begun_with}
 use Rattle.world.specs.declared.grace.Effect.{Effect}
 use Rattle.world.specs.declared.grace.GraceStep.{GraceStep}
 use Rattle.world_state.specs.declared.line.Answer.TheVariants.{Events, Wait, Blocked}
@@ -33,9 +34,10 @@ abbrev pub loaded_word : Option ReaderState → ℕ
 loaded_word None = 0
 loaded_word (Some v) = v.word
 
--- what an action of the plan loads and stores
+-- what an action of the plan loads and stores; no plan of a world loads a group word
 abbrev pub action_effect : {P : Type 0} → BoardView P → Action → Effect P
 action_effect w (Load slot) = record { grace = w.grace; loaded = loaded_word (slice_get w.readers slot); plan = None }
+action_effect w (LoadGroup group) = record { grace = w.grace; loaded = 0; plan = None }
 action_effect w (StorePhase value) = record { grace = record w.grace { word = value }; loaded = 0; plan = None }
 action_effect w (StoreSeq value) = record { grace = record w.grace { seq = value }; loaded = 0; plan = None }
 action_effect w Finished = record { grace = w.grace; loaded = 0; plan = None }
@@ -58,6 +60,15 @@ effect_of plans w me ask Begin = Some (record (action_effect w (plans.action (pl
 effect_of plans w me ask (Plan action) = Some (action_effect w action)
 effect_of plans w me ask FreeLock = Some (record { grace = record w.grace { holder = None }; loaded = 0; plan = None })
 effect_of plans w me ask Nothing = Some (record { grace = w.grace; loaded = 0; plan = None })
+
+-- what is handed over, if anything, is a plan that is due and has done nothing yet
+abbrev pub MayHand : {P : Type 0} → (Layout → Bool → ℕ → ℕ → ℕ → P → Type 0) → SyncStep → Option P → Type 0
+MayHand is_begun step None = Unit {0}
+MayHand is_begun step (Some plan) = (step ≡ Begin) × HasJustBegun is_begun plan
+
+abbrev pub HandsOver : {P : Type 0} → (Layout → Bool → ℕ → ℕ → ℕ → P → Type 0) → SyncStep → Option (Effect P) → Type 0
+HandsOver is_begun step None = Unit {0}
+HandsOver is_begun step (Some e) = MayHand is_begun step e.plan
 
 -- the core with the plan that was made, if one was
 abbrev pub planned : {P : Type 0} → SyncCore P → Option P → SyncCore P

@@ -1,5 +1,5 @@
 -- The world as the step table sees it.
-use Rattle.std.specs.Prelude.{◌≡◌, ◌⊎◌, ◌≤◌, ◌<◌, ◌^◌, ◌%◌, ℕ, true, false, List, Result, Ok, Err, length, slice_get, Some}
+use Rattle.std.specs.Prelude.{◌≡◌, ◌≢◌, ◌⊎◌, ◌≤◌, ◌<◌, ◌^◌, ◌%◌, ℕ, true, false, List, Result, Ok, Err, length, slice_get, Some}
 use Rattle.rcu_model.specs.declared.refusal.Refusal.{Refusal}
 use Rattle.rcu_model.specs.declared.refusal.Refusal.TheVariants.{Memory}
 use Rattle.world_state.specs.declared.line.Answer.{Answer}
@@ -16,8 +16,19 @@ use Rattle.world_state.specs.declared.line.Line.{Line}
 use Rattle.world_state.specs.declared.change.Change.{Change}
 use Rattle.world_state.specs.declared.change.Change.TheVariants.{Read, Begin, Publish, Grace, Hold, Retire, Bar, Work, Stay}
 use Rattle.world_state.specs.Queues.{MayActAt}
+use Rattle.gp_memb.specs.declared.plan.Action.TheVariants.{LoadGroup}
+use Rattle.callback_queue.specs.declared.item.Ticket.{Ticket}
+use Rattle.callback_queue.specs.Queue.{given_of}
+use Rattle.rcu_model.specs.declared.event.ObjectId.{ObjectId}
+use Rattle.call_rcu_worker.specs.declared.worker.Tickets.{Tickets}
 use Rattle.call_rcu_worker.specs.declared.worker.WorkerCore.TheVariants as worker
+use Rattle.call_rcu_worker.specs.declared.sync.SyncCore.{SyncCore}
 use Rattle.call_rcu_worker.specs.declared.sync.SyncCore.TheVariants.{Starts}
+use Rattle.call_rcu_worker.specs.declared.sync.SyncStep.{SyncStep}
+use Rattle.call_rcu_worker.specs.declared.sync.SyncStep.TheVariants.{Plan}
+use Rattle.call_rcu_worker.specs.Sync.{step_of}
+use Rattle.call_rcu_worker.specs.Worker.{next_of}
+use Rattle.world.specs.Workers.{first_in}
 use Rattle.world_state.specs.View.{Plans, BoardView}
 use Rattle.world.specs.declared.board.Board.{Board}
 use Rattle.world.specs.Lines.{Outcome, change_of}
@@ -42,6 +53,10 @@ pub record CanStart (grace : GraceState) : Type 0 where
   pub even : grace.seq % 2 ≡ 0
   pub seq : grace.seq ≤ 2 ^ 62
   pub word : grace.word ≤ 2 ^ 62
+
+-- the step is no load of a group word
+abbrev pub LoadsNoGroup : SyncStep → Type 0
+LoadsNoGroup step = (group : ℕ) → step ≢ Plan (LoadGroup group)
 
 -- a queue has a place for one more item, and had none
 pub record Reserves (old new : List QueueState) : Type 0 where
@@ -116,6 +131,10 @@ pub record IsInRange {P : Type 0} (plans : Plans P) (w : BoardView P) : Type 0 w
   pub asks : w.grace.asks ≤ length w.log
   pub barriers : w.barriers ≤ length w.log
   pub starts : (u : ℕ) (x : UpdaterState P) (ask cookie : ℕ) → slice_get w.updaters u ≡ Some x → x.place ≡ Syncs ask (Starts cookie) → CanStart w.grace
-  pub worker_starts : (k : ℕ) (x : WorkerState P) (cookie tickets : ℕ) → slice_get w.workers k ≡ Some x → x.core ≡ worker.Syncs (Starts cookie) tickets → CanStart w.grace
+  pub worker_starts : (k : ℕ) (x : WorkerState P) (cookie : ℕ) (tickets : Tickets) → slice_get w.workers k ≡ Some x → x.core ≡ worker.Syncs (Starts cookie) tickets → CanStart w.grace
+  pub plans_run : (u : ℕ) (x : UpdaterState P) (ask : ℕ) (core : SyncCore P) → slice_get w.updaters u ≡ Some x → x.place ≡ Syncs ask core → LoadsNoGroup (step_of plans.action core)
+  pub worker_plans_run : (k : ℕ) (x : WorkerState P) (core : SyncCore P) (tickets : Tickets) → slice_get w.workers k ≡ Some x → x.core ≡ worker.Syncs core tickets → LoadsNoGroup (step_of plans.action core)
+  pub given : (k : ℕ) (queue : QueueState) → slice_get w.queues k ≡ Some queue → given_of queue.items ≤ length w.log
+  pub pops : (k : ℕ) (x : WorkerState P) (tickets : Tickets) (first : Ticket × ObjectId) → slice_get w.workers k ≡ Some x → x.core ≡ worker.Pops tickets → first_in (slice_get w.queues k) ≡ Some first → first.0 ≡ next_of tickets
   pub bars : (u : ℕ) (x : UpdaterState P) (b : Barrier) → slice_get w.updaters u ≡ Some x → x.place ≡ Bars b → IsAtQueue w b.due
   pub may_make : length w.log < 2 ^ 63 → (line : Line) (change : Change P) → change_of plans w line ≡ Ok change → MayMake w change

@@ -21,10 +21,10 @@ use Rattle.world.specs.Reached.{IsReached}
 use Rattle.world.specs.Shown.{Grows as BoardGrows}
 
 abbrev pub memb_plans : Plans MembPlan
-memb_plans = plans_of false (λ layout slots seq word. memb_begun layout slots seq (word == 1)) memb_action memb_turn memb_taken
+memb_plans = plans_of false (λ layout slots seq word. memb_begun layout false slots seq (word == 1)) memb_action memb_turn memb_taken
 
 abbrev pub qsbr_plans : Plans QsbrPlan
-qsbr_plans = plans_of true (λ layout slots seq word. qsbr_begun slots seq word) qsbr_action qsbr_turn qsbr_taken
+qsbr_plans = plans_of true (λ layout slots seq word. qsbr_begun false slots seq word) qsbr_action qsbr_turn qsbr_taken
 
 pub data WorldView : Type 0 where
   OfMemb : BoardView MembPlan → WorldView

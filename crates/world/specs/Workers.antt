@@ -1,13 +1,15 @@
 -- The step table's rows of workers.
-use Rattle.std.specs.Prelude.{ℕ, ◌+◌, Bool, true, false, is_some, if◌then◌else◌, List, [], ◌∷◌, length, slice_get, Option, Some, None, Result, Ok, Err}
+use Rattle.std.specs.Prelude.{ℕ, ◌+◌, ◌-◌, Bool, true, false, is_some, if◌then◌else◌, List, [], ◌∷◌, length, slice_get, Option, Some, None, Result, Ok, Err}
 use Rattle.rcu_model.specs.declared.event.Event.TheVariants as events
 use Rattle.rcu_model.specs.declared.refusal.Refusal.{Refusal}
 use Rattle.rcu_model.specs.declared.refusal.Refusal.TheVariants.{NotOpen, NoActor}
 use Rattle.callback_queue.specs.declared.item.Ticket.{Ticket}
-use Rattle.callback_queue.specs.Queue.{items_of, object_of_first}
+use Rattle.callback_queue.specs.declared.item.Item.{Item}
+use Rattle.callback_queue.specs.Queue.{Queue, items_of, given_of, object_of_first}
 use Rattle.rcu_model.specs.declared.event.ObjectId.{ObjectId}
 use Rattle.call_rcu_worker.specs.declared.sync.SyncCore.{SyncCore}
 use Rattle.call_rcu_worker.specs.declared.sync.SyncCore.TheVariants.{Asks, Waits, Checks, Starts, Runs, Frees, Done}
+use Rattle.call_rcu_worker.specs.declared.worker.Tickets.{Tickets}
 use Rattle.call_rcu_worker.specs.declared.worker.WorkerCore.{WorkerCore}
 use Rattle.call_rcu_worker.specs.declared.worker.WorkerCore.TheVariants as worker
 use Rattle.call_rcu_worker.specs.Worker.{after_take, synced, item_done}
@@ -36,6 +38,10 @@ abbrev pub first_in : Option QueueState → Option (Ticket × ObjectId)
 first_in None = None
 first_in (Some q) = object_of_first q.items
 
+-- the ticket of the first fresh item
+abbrev pub first_fresh : Queue (Item Unit) → Ticket
+first_fresh items = record { 0 = given_of items - length items.fresh + 1 }
+
 module _ {P : Type 0} where
   abbrev pub with_core : WorkerState P → WorkerCore P Unit → WorkerState P
   with_core x core = record x { core = core }
@@ -46,7 +52,7 @@ module _ {P : Type 0} where
   take_row w k x (Some q) =
       if is_some q.holder then Ok (Stay Blocked)
       else if is_none_left (items_of q.items) then Ok (Stay NothingThere)
-      else Ok (Work k (with_core x (after_take x.core (length q.items.fresh))) w.grace act.Seal None Quiet)
+      else Ok (Work k (with_core x (after_take x.core (first_fresh q.items) (length q.items.fresh))) w.grace act.Seal None Quiet)
 
   -- the number of the ask that the step is of
   abbrev pub ask_for : BoardView P → ℕ → SyncCore P → ℕ
@@ -77,17 +83,17 @@ module _ {P : Type 0} where
   worker_act seq (worker.Counts tickets ticket) = act.Leave
 
   -- a step of the worker's grace period, of which `wait` and `blocked` change nothing
-  abbrev pub work_change : ℕ → ℕ → ℕ → GraceStep P → Answer → Change P
+  abbrev pub work_change : ℕ → ℕ → Tickets → GraceStep P → Answer → Change P
   work_change k ask tickets step Wait = Stay Wait
   work_change k ask tickets step Blocked = Stay Blocked
   work_change k ask tickets step answer = Work k (record { ask = ask; core = synced step.core tickets }) step.grace (worker_act step.grace.seq (synced step.core tickets)) None answer
 
-  abbrev pub worked : ℕ → ℕ → ℕ → Result (GraceStep P) Refusal → Result (Change P) Refusal
+  abbrev pub worked : ℕ → ℕ → Tickets → Result (GraceStep P) Refusal → Result (Change P) Refusal
   worked k ask tickets (Ok step) = Ok (work_change k ask tickets step step.answer)
   worked k ask tickets (Err e) = Err e
 
   -- the first ready item is popped and run, and then counted
-  abbrev pub run_row : BoardView P → ℕ → WorkerState P → ℕ → Option (Ticket × ObjectId) → Result (Change P) Refusal
+  abbrev pub run_row : BoardView P → ℕ → WorkerState P → Tickets → Option (Ticket × ObjectId) → Result (Change P) Refusal
   run_row w k x tickets None = Err NotOpen
   run_row w k x tickets (Some first) = Ok (Work k (with_core x (worker.Ran tickets first.0 (item_of first.1))) w.grace act.Pop (Some (record { object = first.1; life = life.Reclaimed })) (one (events.Run first.1)))
 

@@ -1,6 +1,6 @@
 //! Laws over all schedules.
 
-ghost use Rattle.std.specs.Prelude.{◌≡◌, ◌≤◌, ◌%◌, ◌^◌, ℕ, List, IsTrue};
+ghost use Rattle.std.specs.Prelude.{◌≡◌, ◌≤◌, ◌%◌, ◌^◌, ℕ, List, false, IsTrue};
 ghost use Rattle.rcu_model.specs.Machine.{IsRun};
 ghost use Rattle.reader_word.specs.declared.layout.Layout.{Layout};
 ghost use Rattle.world_state.specs.declared.config.Config.{Config};
@@ -8,7 +8,7 @@ ghost use Rattle.world_state.specs.declared.line.Line.{Line};
 ghost use Rattle.world_state.specs.Limits.{is_within_limits};
 ghost use Rattle.world_state.specs.View.{BoardView, fresh_at, plans_of};
 ghost use Rattle.world.specs.Lines.{world_after};
-ghost use Rattle.world.specs.PlanLaws.{PlanLaws};
+ghost use Rattle.world.specs.PlanLaws.{WorldPlanLaws};
 ghost use Rattle.world.specs.Reached.{IsReached};
 ghost use Rattle.world.specs.Shown.{IsInRange};
 ghost use Rattle.rcu_model.specs.Promises.{IsSafeLog};
@@ -21,7 +21,7 @@ use world_state::WorldPlan;
 
 /// What each law of worlds goes by of a plan.
 pub(crate) fn plan_keeps_its_laws<P: WorldPlan>()
-    ensures { (layout : Layout) (slots : ℕ) → 1 ≤ slots → PlanLaws (plans_of P.QSBR P.made P.action P.turn P.taken) layout slots (P.is_begun layout slots) P.present }
+    ensures { (layout : Layout) (slots : ℕ) → WorldPlanLaws (plans_of P.QSBR P.made P.action P.turn P.taken) layout slots (P.is_begun layout false slots) P.present }
 {}
 
 /// The schedule theorem: for every schedule within the limits, whatever the plan and wherever the sequence numbers

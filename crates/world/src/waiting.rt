@@ -1,6 +1,6 @@
 //! The lines of updaters, and the steps of their grace periods.
 
-ghost use Rattle.std.specs.Prelude.{◌≡◌, ◌+◌, ◌≤◌, ◌<◌, ◌^◌, length, slice_get, Some};
+ghost use Rattle.std.specs.Prelude.{◌≡◌, ◌≢◌, ◌+◌, ◌≤◌, ◌<◌, ◌^◌, ℕ, length, slice_get, Some};
 
 use crate::board::Board;
 use crate::grace::{Effect, GraceStep, answer_to, one_event};
@@ -14,13 +14,14 @@ use world_state::{
 
 impl<P: WorldPlan + Drop> Board<P> {
     ghost use Rattle.call_rcu_worker.specs.declared.sync.SyncStep.TheVariants as due;
+    ghost use Rattle.gp_memb.specs.declared.plan.Action.TheVariants.{LoadGroup};
     ghost use Rattle.call_rcu_worker.specs.Sync.{step_of};
     ghost use Rattle.world_state.specs.declared.updater.Holder.TheVariants.{Updater};
     ghost use Rattle.world_state.specs.View.{plans_of};
-    ghost use Rattle.world.specs.Grace.{action_effect, effect_of, plan_now, grace_row, sync_place, start_row, poll_row};
+    ghost use Rattle.world.specs.Grace.{MayHand, HandsOver, action_effect, effect_of, plan_now, grace_row, sync_place, start_row, poll_row};
     ghost use Rattle.world.specs.Lines.{updater_line, updater_begins, updater_on, synced};
     ghost use Rattle.poll_cookie.specs.Cookie.{cookie_for};
-    ghost use Rattle.world.specs.Shown.{shown, IsInRange, CanStart};
+    ghost use Rattle.world.specs.Shown.{shown, IsInRange, CanStart, LoadsNoGroup};
 
     /// A line of an updater.
     pub fn updater_line(
@@ -133,8 +134,8 @@ impl<P: WorldPlan + Drop> Board<P> {
         ask: u64,
         core: SyncCore<P>,
     ) -> Result<Change<P>, Refusal>
-        requires some { 1 ≤ length (shown self.now).readers }
         requires start { step_of P.action core ≡ due.Begin → CanStart (shown self.now).grace }
+        requires groups { LoadsNoGroup (step_of P.action core) }
         ensures { result ≡ synced (plans_of P.QSBR P.made P.action P.turn P.taken) updater state ask (grace_row (plans_of P.QSBR P.made P.action P.turn P.taken) (shown self.now) (Updater updater) ask core) }
     {
         let step = self.grace_step(Holder::Updater(updater), ask, core)?;
@@ -164,8 +165,8 @@ impl<P: WorldPlan + Drop> Board<P> {
         ask: u64,
         mut core: SyncCore<P>,
     ) -> Result<GraceStep<P>, Refusal>
-        requires some { 1 ≤ length (shown self.now).readers }
         requires start { step_of P.action core ≡ due.Begin → CanStart (shown self.now).grace }
+        requires groups { LoadsNoGroup (step_of P.action core) }
         ensures { result ≡ grace_row (plans_of P.QSBR P.made P.action P.turn P.taken) (shown self.now) me ask core }
     {
         let Some(effect) = self.effect(me, ask, core.next()) else {
@@ -188,9 +189,10 @@ impl<P: WorldPlan + Drop> Board<P> {
 
     /// What a step of somebody's grace period does, or nothing where the lock that it needs is held.
     pub fn effect(&self, me: Holder, ask: u64, step: SyncStep) -> Option<Effect<P>>
-        requires some { 1 ≤ length (shown self.now).readers }
         requires start { step ≡ due.Begin → CanStart (shown self.now).grace }
-        ensures { result ≡ effect_of (plans_of P.QSBR P.made P.action P.turn P.taken) (shown self.now) me ask step }
+        requires groups { LoadsNoGroup step }
+        ensures effect { result ≡ effect_of (plans_of P.QSBR P.made P.action P.turn P.taken) (shown self.now) me ask step }
+        ensures plan { HandsOver P.is_begun step result }
     {
         let mut grace = self.grace;
         let mut loaded = 0;
@@ -216,9 +218,9 @@ impl<P: WorldPlan + Drop> Board<P> {
 
     /// Makes a plan, and does its first action.
     fn begin(&self) -> Effect<P>
-        requires some { 1 ≤ length (shown self.now).readers }
         requires start { CanStart (shown self.now).grace }
-        ensures { result ≡ record (action_effect (shown self.now) (P.action (plan_now (plans_of P.QSBR P.made P.action P.turn P.taken) (shown self.now)))) { plan = Some (plan_now (plans_of P.QSBR P.made P.action P.turn P.taken) (shown self.now)) } }
+        ensures plan { MayHand P.is_begun due.Begin result.plan }
+        ensures effect { result ≡ record (action_effect (shown self.now) (P.action (plan_now (plans_of P.QSBR P.made P.action P.turn P.taken) (shown self.now)))) { plan = Some (plan_now (plans_of P.QSBR P.made P.action P.turn P.taken) (shown self.now)) } }
     {
         let plan = P::make(
             self.layout,
@@ -231,8 +233,9 @@ impl<P: WorldPlan + Drop> Board<P> {
         effect
     }
 
-    /// Does an action of the plan.
+    /// Does an action of the plan. The world has no group words.
     fn act(&self, action: Action) -> Effect<P>
+        requires { (group : ℕ) → action ≢ LoadGroup group }
         ensures { result ≡ action_effect (shown self.now) action }
     {
         let mut grace = self.grace;
@@ -243,6 +246,7 @@ impl<P: WorldPlan + Drop> Board<P> {
                     loaded = reader.word;
                 }
             }
+            Action::LoadGroup(_) => unreachable!(),
             Action::StorePhase(value) => grace.word = value,
             Action::StoreSeq(value) => grace.seq = value,
             Action::Finished => {}

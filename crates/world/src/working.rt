@@ -1,14 +1,14 @@
 //! The lines of workers.
 
 ghost use Rattle.std.specs.Prelude.{◌≡◌, ◌+◌, ◌<◌, ◌≤◌, length, slice_get, Some};
-ghost use Rattle.call_rcu_worker.specs.Sync.{told_of};
-ghost use Rattle.world.specs.Grace.{planned, stepped};
+ghost use Rattle.call_rcu_worker.specs.Sync.{told_of, step_of as sync_step};
+ghost use Rattle.world.specs.Grace.{MayHand, planned, stepped};
 ghost use Rattle.world.specs.Workers.{worker_act, worked};
 
 use crate::board::Board;
 use crate::grace::{Effect, answer_to, one_event};
-use call_rcu_worker::{SyncCore, Told, WorkerCore};
-use callback_queue::Item;
+use call_rcu_worker::{SyncCore, Tickets, Told, WorkerCore};
+use callback_queue::{Item, Ticket};
 use rcu_model::{Event, Refusal};
 use world_state::{
     Answer, Change, Holder, Life, Mark, QueueAct, WorkerState, WorkerVerb, WorldPlan,
@@ -17,13 +17,17 @@ use world_state::{
 impl<P: WorldPlan + Drop> Board<P> {
     ghost use Rattle.call_rcu_worker.specs.declared.worker.WorkerCore.TheVariants as place;
     ghost use Rattle.call_rcu_worker.specs.declared.sync.SyncStep.TheVariants as due;
-    ghost use Rattle.call_rcu_worker.specs.Sync.{step_of as sync_step};
+    ghost use Rattle.rcu_model.specs.declared.event.ObjectId.{ObjectId};
+    ghost use Rattle.callback_queue.specs.declared.item.Ticket.{Ticket};
+    ghost use Rattle.callback_queue.specs.Queue.{given_of};
+    ghost use Rattle.call_rcu_worker.specs.Worker.{next_of};
+    ghost use Rattle.world_state.specs.declared.queue.QueueState.{QueueState};
     ghost use Rattle.world_state.specs.declared.updater.Holder.TheVariants.{Worker};
     ghost use Rattle.world_state.specs.View.{plans_of};
     ghost use Rattle.world.specs.Grace.{grace_row};
     ghost use Rattle.world.specs.Workers.{take_row, ask_for, run_row, first_in, worker_on};
     ghost use Rattle.world.specs.Lines.{worker_line};
-    ghost use Rattle.world.specs.Shown.{shown, IsInRange, CanStart};
+    ghost use Rattle.world.specs.Shown.{shown, IsInRange, CanStart, LoadsNoGroup};
 
     /// A line of a worker.
     pub fn worker_line(
@@ -45,6 +49,7 @@ impl<P: WorldPlan + Drop> Board<P> {
 
     /// Takes all that is queued, unless the queue is locked or empty.
     fn take(&self, worker: u32, mut state: WorkerState<P>) -> Result<Change<P>, Refusal>
+        requires given { (queue : QueueState) → slice_get (shown self.now).queues worker ≡ Some queue → given_of queue.items ≤ length (shown self.now).log }
         ensures { result ≡ take_row (shown self.now) worker state (slice_get (shown self.now).queues worker) }
     {
         let Some(queue) = self.queues.get(worker as usize) else {
@@ -57,7 +62,8 @@ impl<P: WorldPlan + Drop> Board<P> {
             return Ok(Change::Stay(Answer::Idle));
         }
         let (_, _, fresh) = queue.items.segments();
-        state.core.took(fresh);
+        let first = Ticket(queue.items.given() - fresh + 1);
+        state.core.took(first, fresh);
         Ok(Change::Work {
             worker,
             state,
@@ -116,10 +122,10 @@ impl<P: WorldPlan + Drop> Board<P> {
         worker: u32,
         ask: u64,
         sync: SyncCore<P>,
-        tickets: u64,
+        tickets: Tickets,
     ) -> Result<Change<P>, Refusal>
-        requires some { 1 ≤ length (shown self.now).readers }
         requires start { sync_step P.action sync ≡ due.Begin → CanStart (shown self.now).grace }
+        requires groups { LoadsNoGroup (sync_step P.action sync) }
         ensures { result ≡ worked worker ask tickets (grace_row (plans_of P.QSBR P.made P.action P.turn P.taken) (shown self.now) (Worker worker) ask sync) }
     {
         let Some(effect) = self.effect(Holder::Worker(worker), ask, sync.next()) else {
@@ -133,9 +139,10 @@ impl<P: WorldPlan + Drop> Board<P> {
         &self,
         worker: u32,
         mut state: WorkerState<P>,
-        tickets: u64,
+        tickets: Tickets,
     ) -> Result<Change<P>, Refusal>
-        requires { state.core ≡ place.Pops tickets }
+        requires at { state.core ≡ place.Pops tickets }
+        requires next { (first : Ticket × ObjectId) → first_in (slice_get (shown self.now).queues worker) ≡ Some first → first.0 ≡ next_of tickets }
         ensures { result ≡ run_row (shown self.now) worker state tickets (first_in (slice_get (shown self.now).queues worker)) }
     {
         let Some(queue) = self.queues.get(worker as usize) else {
@@ -165,9 +172,10 @@ fn work_told<P: WorldPlan + Drop>(
     worker: u32,
     ask: u64,
     sync: SyncCore<P>,
-    tickets: u64,
+    tickets: Tickets,
     effect: Effect<P>,
 ) -> Result<Change<P>, Refusal>
+    requires { MayHand P.is_begun (sync_step P.action sync) effect.plan }
     ensures { result ≡ worked worker ask tickets (stepped effect.grace ask (told_of P.action P.turn P.taken (planned sync effect.plan) effect.loaded)) }
 {
     let mut core = WorkerCore::Syncs { sync, tickets };

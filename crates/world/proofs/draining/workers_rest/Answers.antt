@@ -3,4 +3,4 @@ use Rattle.world.proofs.DrainSettled.{settles}
 use Rattle.world.proofs.draining.workers_rest.Goals as goal
 
 pub returns : goal.returns
-returns g c = settles _ (λ layout slots some. laws_of (c.plan_keeps_its_laws.ensures layout slots some))
+returns g c = settles _ (λ layout slots. laws_of (c.plan_keeps_its_laws.ensures layout slots))

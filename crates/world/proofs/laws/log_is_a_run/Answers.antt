@@ -3,4 +3,4 @@ use Rattle.world.proofs.TheLaws.{runs}
 use Rattle.world.proofs.laws.log_is_a_run.Goals as goal
 
 pub returns : goal.returns
-returns g c = runs _ (λ layout slots some. laws_of (c.plan_keeps_its_laws.ensures layout slots some))
+returns g c = runs _ (λ layout slots. laws_of (c.plan_keeps_its_laws.ensures layout slots))

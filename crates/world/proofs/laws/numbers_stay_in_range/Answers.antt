@@ -3,4 +3,4 @@ use Rattle.world.proofs.TheLaws.{ranges}
 use Rattle.world.proofs.laws.numbers_stay_in_range.Goals as goal
 
 pub returns : goal.returns
-returns g c = ranges _ (λ layout slots some. laws_of (c.plan_keeps_its_laws.ensures layout slots some))
+returns g c = ranges _ (λ layout slots. laws_of (c.plan_keeps_its_laws.ensures layout slots))

@@ -3,4 +3,4 @@ use Rattle.world.proofs.LockHolders.{locks_held}
 use Rattle.world.proofs.locking.board_locks_are_held_by_those_inside.Goals as goal
 
 pub returns : goal.returns
-returns g c = locks_held _ (λ layout slots some. laws_of (c.plan_keeps_its_laws.ensures layout slots some))
+returns g c = locks_held _ (λ layout slots. laws_of (c.plan_keeps_its_laws.ensures layout slots))

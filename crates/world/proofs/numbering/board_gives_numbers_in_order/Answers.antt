@@ -3,4 +3,4 @@ use Rattle.world.proofs.InOrder.{numbers_in_order}
 use Rattle.world.proofs.numbering.board_gives_numbers_in_order.Goals as goal
 
 pub returns : goal.returns
-returns g c = numbers_in_order _ (λ layout slots some. laws_of (c.plan_keeps_its_laws.ensures layout slots some))
+returns g c = numbers_in_order _ (λ layout slots. laws_of (c.plan_keeps_its_laws.ensures layout slots))

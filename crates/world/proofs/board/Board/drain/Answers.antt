@@ -14,13 +14,13 @@ sound : (g : given.Over) → AreSound (let p = g.P.GracePlan in plans_of p.QSBR 
 sound g =
     let p = g.P.GracePlan in
     let m = g.met.P.GracePlan in
-    λ layout slots seq word some.
+    λ layout slots seq word.
     let begun = g.met.P.WorldPlan.made_begun layout slots seq word in
     let plan = g.P.WorldPlan.made layout slots seq word in
     record {
-      order = m.order layout slots seq word plan begun;
-      finishes = m.finishes layout slots seq word plan begun some;
-      goes_on = sound_goes_on p.QSBR p.action p.turn p.taken p.layout_of p.present m.exact m.keeps_layout layout plan (m.begins_layout layout slots seq word plan begun);
+      order = m.order layout false slots seq word plan begun;
+      finishes = g.met.P.WorldPlan.finishes layout slots seq word;
+      goes_on = sound_goes_on p.QSBR p.action p.turn p.taken p.layout_of p.present m.exact m.keeps_layout layout plan (m.begins_layout layout false slots seq word plan begun);
     }
 
 pub items_to_drain-requires : goal.items_to_drain-requires
