@@ -29,7 +29,7 @@ use Rattle.world_state.specs.declared.worker.WorkerState.{WorkerState}
 use Rattle.world_state.specs.Queues.{new_worker, empty_queue_state}
 use Rattle.world_state.specs.Readers.{new_reader}
 use Rattle.world_state.specs.View.{Plans, BoardView, idle}
-use Rattle.world_state.proofs.Queueing.{queue_at}
+use Rattle.world_state.proofs.Lemmas.{queue_at}
 use Rattle.world.specs.Workers.{first_in}
 use Rattle.world.specs.Shown.{CanStart, LoadsNoGroup, IsAtQueue, IsInRange}
 use Rattle.world.proofs.Callbacks.{Callbacks, IsAt, BarKept, WorkAt, WorkKept}
