@@ -54,3 +54,4 @@ pub mod Promises
 mod Loads
 mod Checks
 mod Layouts
+mod RetireOrder

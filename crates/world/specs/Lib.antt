@@ -21,3 +21,4 @@ pub mod Notes
 pub mod Loads
 pub mod Checks
 pub mod Layouts
+pub mod Retiring

@@ -10,9 +10,11 @@ ghost use Rattle.world_state.specs.declared.config.Flavour.TheVariants.{Qsbr};
 ghost use Rattle.world.specs.Layouts.{answers_to, laid_out};
 ghost use Rattle.world.specs.Checks.{AnswersByItsCookie};
 ghost use Rattle.world.specs.Loads.{ReadersStoreWhatTheyLoaded};
+ghost use Rattle.world.specs.Retiring.{RetirementsGoInOrder};
 ghost use Rattle.world.specs.Notes.{AreNoted, NotesAreOfTheLatest, replies_to, replies_of};
 ghost use Rattle.world.specs.Steps.{WorldView, is_supported_at, fresh_world_at, world_after_lines};
 
+use crate::laws::numbers_stay_in_range;
 use gp_memb::MembPlan;
 use gp_qsbr::QsbrPlan;
 use world_state::WorldPlan;
@@ -51,3 +53,14 @@ pub fn checks_answer_by_their_cookie()
 pub fn quiescent_words_answer_alike()
     ensures { (config : Config) (seq : ℕ) (layout : Layout) (lines : List Line) → config.flavour ≡ Qsbr → answers_to (fresh_world_at (laid_out layout config) seq) lines ≡ answers_to (fresh_world_at config seq) lines }
 {}
+
+/// For every config and first sequence number that make a world, and all lines: a retirement begins where the lock of the
+/// updater's queue is free, which the updater holds from then on. Its further lines store the object's header and tell
+/// the retirement, raise the queued count, push the item and tell the queueing, and free the lock, one each, in this
+/// order.
+pub fn retirements_go_in_order()
+    ensures { (config : Config) (seq : ℕ) (lines : List Line) (updater : ℕ) → IsTrue (is_supported_at config seq) → RetirementsGoInOrder (world_after_lines (fresh_world_at config seq) lines) updater }
+{
+    numbers_stay_in_range::<MembPlan>();
+    numbers_stay_in_range::<QsbrPlan>();
+}
