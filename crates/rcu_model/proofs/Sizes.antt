@@ -1,5 +1,5 @@
 -- The events of a run count what the state after them has.
-use Rattle.std.proofs.Common.{◌≡◌, ◌≢◌, ◌⊎◌, inl, inr, ⊎_elim, ℕ, ◌+◌, ◌-◌, Bool, true, false, not, ◌||◌, cond, List, [], ◌∷◌, ◌++◌, filter, length, Option, Some, None, refl, sym, ap, ◌∙◌, subst, arith, true≢false, length-append}
+use Rattle.std.proofs.Common.{◌≡◌, ◌≢◌, inl, inr, ⊎_elim, ℕ, ◌+◌, Bool, true, false, not, ◌||◌, cond, List, [], ◌∷◌, ◌++◌, filter, length, Option, Some, None, refl, sym, ap, ◌∙◌, subst, arith, length-append}
 use Rattle.std.specs.Prelude.{count_by}
 use Rattle.std.proofs.lemmas.List.Sums.{sum_by-cons}
 use Rattle.rcu_model.specs.declared.event.Event.{Event}
@@ -7,7 +7,7 @@ use Rattle.rcu_model.specs.declared.event.Event.TheVariants.{Open, Close, First,
 use Rattle.rcu_model.specs.declared.event.ObjectId.{ObjectId}
 use Rattle.rcu_model.specs.declared.event.SectionId.{SectionId}
 use Rattle.rcu_model.specs.Machine.{State, start, IsAllowed, AreAllowed, after, after_all, got, IsRun}
-use Rattle.rcu_model.specs.Sets.{same_section, same_object, has_object, without_section}
+use Rattle.rcu_model.specs.Sets.{same_section, same_object, has_object}
 use Rattle.rcu_model.specs.Sizes.{opens, closes, retires, runs, waiting_in, CountsItsState}
 use Rattle.rcu_model.proofs.Members.{In, Tells, object_tells, section_tells, in_sections, has_section_in, in_objects, has_object_in, in_more}
 

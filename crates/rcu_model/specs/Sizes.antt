@@ -1,5 +1,5 @@
 -- How many sections are open, and how many objects are retired and run, by the events and by the machine's state.
-use Rattle.std.specs.Prelude.{◌≡◌, ℕ, ◌-◌, Bool, true, false, not, List, filter, length, count_by}
+use Rattle.std.specs.Prelude.{◌≡◌, ◌-◌, Bool, true, false, not, List, filter, length, count_by}
 use Rattle.rcu_model.specs.declared.event.Event.{Event}
 use Rattle.rcu_model.specs.declared.event.Event.TheVariants.{Open, Close, Retire, Run}
 use Rattle.rcu_model.specs.declared.event.ObjectId.{ObjectId}

@@ -13,14 +13,14 @@ use Rattle.schedule.specs.Spelling.{spelling, IsLine, LineText, IsLineText}
 use Rattle.schedule.specs.Header.{header, HeaderText, IsHeaderText}
 use Rattle.schedule.specs.Grammar.{line_at, header_at}
 use Rattle.schedule.specs.Answers.{counts_of, end_line}
-use Rattle.schedule.specs.Printed.{HasHeader, MakesWorld, lines_text, answers_of, line_after, IsSchedule, IsBad, OutOfLimits, Prints, IsBeginning, Ends}
+use Rattle.schedule.specs.Printed.{MakesWorld, lines_text, answers_of, line_after, IsSchedule, IsBad, OutOfLimits, Prints, IsBeginning, Ends}
 use Rattle.schedule.specs.Play.{point, number_on, Plays, PlaysAll, EndsLines}
 use Rattle.schedule.specs.Stream.{Progress, Header, Lines, Failed, Stands, Leads, LeadsTo, LeadsToEnd}
 use Rattle.schedule.proofs.Exact.{result_cases}
 use Rattle.schedule.proofs.Columns.{bad_within}
 use Rattle.schedule.proofs.Lines.{line_reads, no_line}
 use Rattle.schedule.proofs.Headers.{header_reads}
-use Rattle.schedule.proofs.More.{ok_more, err_more, partial_reads, reads_partial, bad_byte, bad_end}
+use Rattle.schedule.proofs.More.{err_more, partial_reads, reads_partial, bad_byte, bad_end}
 use Rattle.schedule.proofs.Bytes.{some_read}
 use Rattle.schedule.proofs.Playing.{after_append, answers_append}
 

@@ -1,5 +1,5 @@
 -- What is printed tells one log, and that log keeps all its promises.
-use Rattle.std.specs.Prelude.{◌≡◌, ℕ, ◌<◌, ◌^◌, List, ◌++◌, length, Result, Ok, Err}
+use Rattle.std.specs.Prelude.{◌≡◌, ℕ, ◌<◌, ◌^◌, List, ◌++◌, length, Result, Err}
 use Rattle.rcu_model.specs.declared.event.Event.{Event}
 use Rattle.rcu_model.specs.Promises.{IsSafeLog}
 use Rattle.schedule.specs.declared.fault.ReplayFault.{ReplayFault}

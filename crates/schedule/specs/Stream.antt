@@ -1,5 +1,5 @@
 -- A schedule that comes in pieces.
-use Rattle.std.specs.Prelude.{◌≡◌, ◌≢◌, ℕ, ◌<◌, List, [], ◌∷◌, ◌++◌, length, IfErr, Result, Ok, Err}
+use Rattle.std.specs.Prelude.{◌≡◌, ◌≢◌, ℕ, List, [], ◌∷◌, ◌++◌, length, IfErr, Result, Ok, Err}
 use Rattle.world_state.specs.declared.config.Config.{Config}
 use Rattle.world_state.specs.declared.line.Line.{Line}
 use Rattle.world.specs.Steps.{WorldView, fresh_world, world_after_lines}

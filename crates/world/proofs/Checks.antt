@@ -1,5 +1,5 @@
 -- What a check under the grace lock answers.
-use Rattle.std.proofs.Common.{◌≡◌, ℕ, nat_le, cond, Bool, true, false, get_or, slice_get, List, Option, Some, None, Result, Ok, Err, refl, sym, ap, ◌∙◌, subst}
+use Rattle.std.proofs.Common.{◌≡◌, ℕ, nat_le, cond, Bool, true, false, get_or, slice_get, List, Option, Some, None, Result, Ok, refl, sym, ap, ◌∙◌}
 use Rattle.std.specs.Option.{unwrap_or}
 use Rattle.std.proofs.lemmas.Option.{get_or_from_slice_get, unwrap_or-slice_get}
 use Rattle.rcu_model.specs.declared.event.Event.TheVariants.{Answer as EventAnswer}
@@ -7,18 +7,18 @@ use Rattle.rcu_model.specs.declared.refusal.Refusal.{Refusal}
 use Rattle.call_rcu_worker.specs.Sync.{telling}
 use Rattle.call_rcu_worker.specs.declared.sync.Told.TheVariants.{Quiet, Answered}
 use Rattle.call_rcu_worker.specs.declared.sync.SyncCore.{SyncCore}
-use Rattle.call_rcu_worker.specs.declared.sync.SyncCore.TheVariants.{Asks, Waits, Checks, Starts, Runs, Frees, Done}
+use Rattle.call_rcu_worker.specs.declared.sync.SyncCore.TheVariants.{Checks, Starts, Frees}
 use Rattle.call_rcu_worker.specs.declared.worker.Tickets.{Tickets}
 use Rattle.call_rcu_worker.specs.declared.worker.WorkerCore.{WorkerCore}
 use Rattle.call_rcu_worker.specs.declared.worker.WorkerCore.TheVariants as works
 use Rattle.world_state.specs.declared.line.Answer.{Answer}
 use Rattle.world_state.specs.declared.line.Answer.TheVariants.{Events, Quiet as Plain}
 use Rattle.world_state.specs.declared.line.Line.{Line}
-use Rattle.world_state.specs.declared.line.Line.TheVariants.{Reader, Updater, Worker}
+use Rattle.world_state.specs.declared.line.Line.TheVariants.{Updater, Worker}
 use Rattle.world_state.specs.declared.line.UpdaterVerb.TheVariants as updater
 use Rattle.world_state.specs.declared.line.WorkerVerb.TheVariants as worker
 use Rattle.world_state.specs.declared.updater.UpdaterPlace.{UpdaterPlace}
-use Rattle.world_state.specs.declared.updater.UpdaterPlace.TheVariants.{Idle, Publishes, Syncs, Retires, Bars}
+use Rattle.world_state.specs.declared.updater.UpdaterPlace.TheVariants.{Syncs}
 use Rattle.world_state.specs.declared.updater.UpdaterState.{UpdaterState}
 use Rattle.world_state.specs.declared.worker.WorkerState.{WorkerState}
 use Rattle.world_state.specs.Queues.{new_worker}
@@ -26,7 +26,7 @@ use Rattle.world_state.specs.View.{Plans, BoardView, idle}
 use Rattle.world.specs.declared.grace.GraceStep.{GraceStep}
 use Rattle.world.specs.Grace.{stepped}
 use Rattle.world.specs.Checks.{Check, check_in, check_of_place, check_of_core, check_by, answer_by}
-use Rattle.world.specs.Lines.{synced, updater_on, of_updater, of_worker, with_change, outcome_of, change_of}
+use Rattle.world.specs.Lines.{synced, updater_on, of_updater, of_worker, with_change, outcome_of}
 use Rattle.world.specs.Workers.{worked, worker_on}
 
 past : {X : Type 0} (xs : List X) (i : ℕ) (d : X) → slice_get xs i ≡ None → get_or xs i d ≡ d

@@ -9,26 +9,22 @@ use Rattle.reader_word.specs.declared.layout.Layout.{Layout}
 use Rattle.reader_word.specs.Word.{count_of, fresh, entered_of, left_of}
 use Rattle.reader_word.specs.Quiescent.{is_online, announced}
 use Rattle.world_state.specs.declared.config.Config.{Config}
-use Rattle.world_state.specs.declared.line.Answer.{Answer}
 use Rattle.world_state.specs.declared.line.Line.{Line}
 use Rattle.world_state.specs.declared.line.Line.TheVariants.{Reader, Updater, Worker}
 use Rattle.world_state.specs.declared.line.ReaderVerb.{ReaderVerb}
 use Rattle.world_state.specs.declared.line.ReaderVerb.TheVariants as reader
-use Rattle.world_state.specs.declared.line.WorkerVerb.{WorkerVerb}
-use Rattle.world_state.specs.declared.line.WorkerVerb.TheVariants as worker
 use Rattle.world_state.specs.declared.object.ObjectState.{ObjectState}
 use Rattle.world_state.specs.declared.reader.ReaderState.{ReaderState}
 use Rattle.world_state.specs.declared.reader.ReaderStep.{ReaderStep}
 use Rattle.world_state.specs.declared.updater.UpdaterState.{UpdaterState}
 use Rattle.world_state.specs.declared.updater.RetireStep.{RetireStep}
 use Rattle.world_state.specs.declared.updater.RetireStep.TheVariants as retire
-use Rattle.world_state.specs.declared.worker.WorkerState.{WorkerState}
 use Rattle.world_state.specs.declared.change.Change.{Change}
 use Rattle.world_state.specs.declared.change.Change.TheVariants.{Read, Begin, Publish, Grace, Hold, Retire, Bar, Work, Stay}
 use Rattle.world_state.specs.Readers.{new_reader, is_open_in, quietly, with_word, stores, touch_row, announce_row, go_online_row}
 use Rattle.world_state.specs.View.{Plans, BoardView, changed, fresh_at}
 use Rattle.world.specs.Chains.{first_row, next_row, next_from}
-use Rattle.world.specs.Lines.{reader_line, reader_begins, reader_on, read_by, of_reader, worker_line, with_change, outcome_of, change_of}
+use Rattle.world.specs.Lines.{reader_line, reader_begins, reader_on, read_by, of_reader, with_change, outcome_of, change_of}
 use Rattle.world.specs.Loads.{Move, opens_section, word_for, StoresWhatItLoaded, made_by, move_of, moves_of}
 use Rattle.world.specs.Queues.{retire_on}
 use Rattle.world.specs.Steps.{IsOfReader}
@@ -236,8 +232,7 @@ module _ {P : Type 0} (plans : Plans P) where
     own_step : (v : ReaderState) → slice_get w.readers r ≡ Some v → (step : ReaderStep) → Loads plans.qsbr w r v step → GoesBy (Ok (Read r step))
     own_step v was step l =
         let old : reader_of w r ≡ v = get_or_from_slice_get w.readers r v new_reader was in
-        let new : get_or (slice_set w.readers r step.state) r new_reader ≡ step.state = get_or-set_same w.readers r step.state new_reader (slice_get_within w.readers r v was) in
-        (
+        let new : get_or (slice_set w.readers r step.state) r new_reader ≡ step.state = get_or-set_same w.readers r step.state new_reader (slice_get_within w.readers r v was) in (
           Some w.grace.word,
           (λ copied e.
               let c = l.copies copied (sym (ap (λ (x : ReaderState). x.copy) new) ∙ e) in
@@ -273,6 +268,7 @@ module _ {P : Type 0} (plans : Plans P) where
           each : (x : Result ReaderStep Refusal) → reader_of (with_change w (read_by k x)).world r ≡ reader_of w r
           each (Ok step) = get_or-set_other w.readers k r step.state new_reader apart
           each (Err e) = refl
+
       by : (((k == r) ≡ true) × (k ≡ r)) ⊎ (((k == r) ≡ false) × (k ≢ r)) → Goes w r loaded (Reader k verb)
       by (inl same) = subst (λ (n : ℕ). Goes w n loaded (Reader k verb)) same.1 (here (subst (λ (n : ℕ). Fits w n loaded) (sym same.1) fits) (ap (λ (n : ℕ). k == n) same.1 ∙ same.0))
         where

@@ -1,8 +1,7 @@
 -- A step is refused by one of eight refusals.
-use Rattle.std.proofs.Common.{◌≡◌, ⊎_elim, ℕ, ◌<◌, ◌^◌, cond, Bool, true, false, nat_lt, List, [], ◌∷◌, Option, Some, None, Result, Ok, Err, slice_get, sym, subst}
-use Rattle.std.specs.Prelude.{IfErr, is_some, length, get_or}
+use Rattle.std.proofs.Common.{⊎_elim, ℕ, ◌^◌, cond, Bool, true, false, nat_lt, List, [], ◌∷◌, Option, Some, None, Result, Ok, Err, slice_get, sym, subst}
+use Rattle.std.specs.Prelude.{IfErr, length, get_or}
 use Rattle.rcu_model.specs.declared.refusal.Refusal.{Refusal}
-use Rattle.rcu_model.specs.declared.refusal.Refusal.TheVariants.{Memory}
 use Rattle.callback_queue.specs.Queue.{items_of}
 use Rattle.gp_memb.specs.declared.plan.Action.{Action}
 use Rattle.gp_memb.specs.declared.plan.Action.TheVariants.{Load}

@@ -1,13 +1,10 @@
 -- The steps of a retirement, in their order.
-use Rattle.std.proofs.Common.{◌≡◌, ℕ, ◌+◌, ◌<◌, ◌≤◌, ◌%◌, Bool, true, false, cond, List, length, get_or, slice_get, slice_set, Option, Some, None, Result, Ok, Err, refl, sym, ap, ◌∙◌, subst, arith, get_or-set_same}
+use Rattle.std.proofs.Common.{◌≡◌, ℕ, ◌<◌, Bool, true, false, cond, List, length, get_or, slice_get, slice_set, Option, Some, None, Result, Ok, refl, sym, ap, ◌∙◌, subst, get_or-set_same}
 use Rattle.std.specs.Option.{unwrap_or}
 use Rattle.std.proofs.lemmas.Option.{get_or_from_slice_get, slice_get_within, unwrap_or-slice_get}
-use Rattle.rcu_model.specs.declared.event.Event.TheVariants as events
 use Rattle.rcu_model.specs.declared.event.ObjectId.{ObjectId}
 use Rattle.rcu_model.specs.declared.refusal.Refusal.{Refusal}
-use Rattle.world_state.specs.declared.line.Answer.{Answer}
-use Rattle.world_state.specs.declared.line.Answer.TheVariants.{Events, Quiet}
-use Rattle.world_state.specs.declared.line.Line.TheVariants.{Updater}
+use Rattle.world_state.specs.declared.line.Answer.TheVariants.{Quiet}
 use Rattle.world_state.specs.declared.line.UpdaterVerb.TheVariants as verb
 use Rattle.world_state.specs.declared.queue.QueueState.{QueueState}
 use Rattle.world_state.specs.declared.updater.RetireStep.{RetireStep}
@@ -16,13 +13,13 @@ use Rattle.world_state.specs.declared.updater.UpdaterPlace.{UpdaterPlace}
 use Rattle.world_state.specs.declared.updater.UpdaterPlace.TheVariants.{Retires}
 use Rattle.world_state.specs.declared.updater.UpdaterState.{UpdaterState}
 use Rattle.world_state.specs.declared.change.Change.{Change}
-use Rattle.world_state.specs.Queues.{empty_queue_state, acted, held_by}
-use Rattle.world_state.specs.View.{Plans, BoardView, changed, idle}
-use Rattle.world_state.proofs.Lemmas.{queue_at, changed_here}
-use Rattle.world.specs.Lines.{is_idle, updater_on, updater_line, of_updater, with_change, outcome_of}
+use Rattle.world_state.specs.Queues.{empty_queue_state, held_by}
+use Rattle.world_state.specs.View.{Plans, BoardView, idle}
+use Rattle.world_state.proofs.Lemmas.{changed_here}
+use Rattle.world.specs.Lines.{is_idle, updater_on, of_updater, with_change}
 use Rattle.world.specs.Locks.{lock_of}
-use Rattle.world.specs.Queues.{queue_of, at_place, retire_on, may_retire, lock_free, lock_row, retire_row}
-use Rattle.world.specs.Retiring.{Due, due_at, due_of, queued_of, Leads, DoesItsStep, RetiresInOrder}
+use Rattle.world.specs.Queues.{queue_of, at_place, retire_on, may_retire, lock_free, lock_row}
+use Rattle.world.specs.Retiring.{Due, due_at, due_of, DoesItsStep, RetiresInOrder}
 
 past : {X : Type 0} (xs : List X) (i : ℕ) (d : X) → slice_get xs i ≡ None → get_or xs i d ≡ d
 past xs i d none = sym (unwrap_or-slice_get xs i d) ∙ ap (λ o. unwrap_or o d) none

@@ -1,5 +1,5 @@
 -- What a check under the grace lock answers.
-use Rattle.std.specs.Prelude.{◌≡◌, ℕ, nat_le, if◌then◌else◌, get_or, Option, Some, None, Result, Ok, Err}
+use Rattle.std.specs.Prelude.{◌≡◌, ℕ, nat_le, if◌then◌else◌, get_or, Option, Some, None, Result, Ok}
 use Rattle.rcu_model.specs.declared.event.Event.TheVariants.{Answer as Answered}
 use Rattle.rcu_model.specs.declared.refusal.Refusal.{Refusal}
 use Rattle.call_rcu_worker.specs.declared.sync.SyncCore.{SyncCore}

@@ -1,5 +1,5 @@
 -- The answers to lines, and worlds that differ in the layout of their words alone.
-use Rattle.std.specs.Prelude.{◌≡◌, ℕ, List, [], ◌∷◌, Result}
+use Rattle.std.specs.Prelude.{List, [], ◌∷◌, Result}
 use Rattle.rcu_model.specs.declared.refusal.Refusal.{Refusal}
 use Rattle.reader_word.specs.declared.layout.Layout.{Layout}
 use Rattle.world_state.specs.declared.config.Config.{Config}

@@ -1,6 +1,5 @@
 -- What a section's word is made of: the phase or number that was present at its reader's line before.
 use Rattle.std.specs.Prelude.{◌≡◌, ℕ, ◌==◌, Bool, true, false, if◌then◌else◌, IsTrue, List, [], ◌∷◌, ◌++◌, get_or, Option, Some, None, Result, Ok, Err}
-use Rattle.rcu_model.specs.declared.event.Event.{Event}
 use Rattle.rcu_model.specs.declared.event.Event.TheVariants.{Open}
 use Rattle.rcu_model.specs.declared.refusal.Refusal.{Refusal}
 use Rattle.reader_word.specs.declared.layout.Layout.{Layout}
@@ -12,7 +11,7 @@ use Rattle.world_state.specs.declared.line.Line.{Line}
 use Rattle.world_state.specs.declared.line.Line.TheVariants.{Reader}
 use Rattle.world_state.specs.Readers.{new_reader}
 use Rattle.world_state.specs.View.{Plans, BoardView}
-use Rattle.world.specs.Lines.{Outcome, outcome_of}
+use Rattle.world.specs.Lines.{outcome_of}
 use Rattle.world.specs.Steps.{WorldView, OfMemb, OfQsbr, memb_plans, qsbr_plans}
 
 -- a line of a reader that was not refused: the phase or number that was present, the answer, and the reader's word after

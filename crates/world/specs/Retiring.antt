@@ -1,8 +1,7 @@
 -- The steps of a retirement, in their order: what each stores and tells.
-use Rattle.std.specs.Prelude.{◌≡◌, ℕ, ◌+◌, get_or, Option, Some, None, Result, Ok, Err}
+use Rattle.std.specs.Prelude.{◌≡◌, ℕ, ◌+◌, get_or, Option, Some, None, Ok}
 use Rattle.rcu_model.specs.declared.event.Event.TheVariants as events
 use Rattle.rcu_model.specs.declared.event.ObjectId.{ObjectId}
-use Rattle.rcu_model.specs.declared.refusal.Refusal.{Refusal}
 use Rattle.world_state.specs.declared.line.Answer.{Answer}
 use Rattle.world_state.specs.declared.line.Answer.TheVariants.{Events, Quiet}
 use Rattle.world_state.specs.declared.line.Line.TheVariants.{Updater}

@@ -22,7 +22,10 @@ mod world;
 pub use actor::Actor;
 pub use laws::{every_schedule_reclaims_safely, log_is_a_run};
 pub use locking::locks_are_held_by_those_inside;
-pub use noting::{checks_answer_by_their_cookie, notes_are_of_the_latest_line, quiescent_words_answer_alike, readers_store_what_they_loaded, retirements_go_in_order};
+pub use noting::{
+    checks_answer_by_their_cookie, notes_are_of_the_latest_line, quiescent_words_answer_alike,
+    readers_store_what_they_loaded, retirements_go_in_order,
+};
 pub use numbering::{numbers_are_given_in_order, numbers_count_lines};
 pub use ordering::callbacks_run_in_the_order_of_their_queue;
 pub use world::World;
