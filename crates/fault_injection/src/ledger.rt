@@ -26,6 +26,10 @@ pub enum Call {
     Ripen,
     /// `CallbackQueue::pop_ready`.
     PopReady,
+    /// `Registry::new`.
+    NewRegistry,
+    /// `Registry::claim`.
+    Claim,
     /// `rcu_model::check_log`.
     CheckLog,
     /// `schedule::read_line`.
@@ -56,6 +60,8 @@ impl fmt::Display for Call {
             Call::Reserve => "reserve",
             Call::Ripen => "ripen",
             Call::PopReady => "pop_ready",
+            Call::NewRegistry => "new_registry",
+            Call::Claim => "claim",
             Call::CheckLog => "check_log",
             Call::ReadLine => "read_line",
             Call::ReadSchedule => "read_schedule",

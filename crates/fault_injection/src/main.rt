@@ -6,6 +6,7 @@ mod ledger;
 mod logs;
 mod operations;
 mod queues;
+mod registries;
 mod replays;
 mod rows;
 mod scenario;

@@ -3,6 +3,7 @@
 use crate::ledger::{Finding, Ledger};
 use crate::logs::{check_logs, read_logs, read_schedules};
 use crate::queues::push_items;
+use crate::registries::claim_slots;
 use crate::replays::{Way, replay_worked};
 use crate::worlds::{drain_worked, make_worlds, step_worked};
 use std::alloc::Global;
@@ -19,6 +20,8 @@ pub enum Scenario {
     Drain(Flavour),
     /// Items are pushed into a queue, with and without a reserved place, and after it was closed.
     Queue,
+    /// A registry is made, and its slots are claimed.
+    Registry,
     /// The logs of the worked schedules are judged, and broken ones.
     CheckLog,
     /// The texts of the worked schedules are read.
@@ -32,13 +35,14 @@ pub enum Scenario {
 }
 
 /// All scenarios, in the order in which they run.
-pub const SCENARIOS: [Scenario; 13] = [
+pub const SCENARIOS: [Scenario; 14] = [
     Scenario::New,
     Scenario::Step(Flavour::Memb),
     Scenario::Step(Flavour::Qsbr),
     Scenario::Drain(Flavour::Memb),
     Scenario::Drain(Flavour::Qsbr),
     Scenario::Queue,
+    Scenario::Registry,
     Scenario::CheckLog,
     Scenario::ReadSchedule,
     Scenario::ReadAnswers,
@@ -58,6 +62,7 @@ impl Scenario {
             Scenario::Drain(Flavour::Memb) => "drain-memb",
             Scenario::Drain(Flavour::Qsbr) => "drain-qsbr",
             Scenario::Queue => "queue",
+            Scenario::Registry => "registry",
             Scenario::CheckLog => "check-log",
             Scenario::ReadSchedule => "read-schedule",
             Scenario::ReadAnswers => "read-answers",
@@ -75,6 +80,7 @@ impl Scenario {
             Scenario::Step(flavour) => step_worked(alloc, ledger, flavour),
             Scenario::Drain(flavour) => drain_worked(alloc, ledger, flavour),
             Scenario::Queue => push_items(alloc, ledger),
+            Scenario::Registry => claim_slots(alloc, ledger),
             Scenario::CheckLog => check_logs(alloc, ledger),
             Scenario::ReadSchedule => read_schedules(alloc, ledger),
             Scenario::ReadAnswers => read_logs(alloc, ledger),

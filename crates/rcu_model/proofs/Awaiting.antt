@@ -1,15 +1,15 @@
 -- What a retired object awaits, as a log goes on.
-use Rattle.std.proofs.Common.{◌≡◌, ◌≢◌, ◌⊎◌, inl, inr, ⊎_elim, List, [], ◌∷◌, Some, None, ap, ◌∙◌, subst}
+use Rattle.std.proofs.Common.{◌≡◌, ◌≢◌, ◌⊎◌, inl, inr, ⊎_elim, List, [], ◌∷◌, ◌++◌, Some, None, refl, sym, ap, ◌∙◌, subst}
 use Rattle.rcu_model.specs.declared.event.Event.{Event}
 use Rattle.rcu_model.specs.declared.event.Event.TheVariants.{Open, Close, First, Next, Touch, Push, Replace, Cut, Retire, Queue, Run, Ask, Answer, Bar, Clear}
 use Rattle.rcu_model.specs.declared.event.ObjectId.{ObjectId}
 use Rattle.rcu_model.specs.declared.event.SectionId.{SectionId}
 use Rattle.rcu_model.specs.Sets.{at_object}
-use Rattle.rcu_model.specs.Machine.{State, start, IsAllowed, AreAllowed, after, after_all, state_after}
+use Rattle.rcu_model.specs.Machine.{State, start, IsAllowed, AreAllowed, IsRun, after, after_all, state_after}
 use Rattle.rcu_model.proofs.SetLemmas.{at_object_same, at_object_other, without_section_has, has_without_section}
 use Rattle.rcu_model.proofs.Members.{In, has_object_in, in_left, empty_from}
 use Rattle.rcu_model.proofs.Follows.{decide}
-use Rattle.rcu_model.proofs.Headline.{retired_step}
+use Rattle.rcu_model.proofs.Headline.{retired_step, run_parts}
 
 -- what an object awaits is open
 abbrev pub AwaitsOpen : State → Type 0
@@ -76,6 +76,14 @@ awaited_since now (e ∷ es) o s a r h =
     let later = awaited_since (after now e) es o s a.1 ((retired_step now e o).0 r) h in
     let one = awaited_back now e o s a.0 r later.0 in
     (one.0, λ c. ⊎_elim (λ (is : e ≡ Close s). one.1 is) later.1 c)
+
+-- so a section that an object awaits at the end of a run was open when the object had been retired, and was not closed
+-- since
+pub awaited_was_open : (earlier since : List Event) (o : ObjectId) (s : SectionId) → IsRun (earlier ++ since) → In (state_after earlier).retired o → In ((state_after (earlier ++ since)).awaited o) s → In (state_after earlier).sections s × (¬ In since (Close s))
+awaited_was_open earlier since o s run r h =
+    let parts = run_parts (earlier ++ since) earlier since run refl in
+    let was = awaited_since (state_after earlier) since o s parts.1 r (subst (λ (now : State). In (now.awaited o) s) (sym parts.2) h) in
+    (awaits_open earlier o s was.0, was.1)
 
 -- once each section that was open when an object had been retired is closed, the object awaits none
 pub awaits_none : (now : State) (es : List Event) (o : ObjectId) → AreAllowed now es → AwaitsOpen now → In now.retired o → ((s : SectionId) → In now.sections s → In es (Close s)) → (after_all now es).awaited o ≡ []

@@ -8,6 +8,7 @@ pub mod Opening
 pub mod Lifetimes
 pub mod Protection
 pub mod Backwards
+pub mod Growing
 pub mod Fitting
 pub mod Awaiting
 pub mod Endings
