@@ -55,7 +55,7 @@ pub fn sections_open_once()
     ensures { (log : List Event) → IsRun log → OpensOnce log }
 {}
 
-/// Every run keeps all the promises of logs: of callbacks, of sections, of asks and of barriers.
+/// Every run keeps the promises of logs: of callbacks, of what sections use, of asks and of barriers.
 pub fn every_run_is_safe()
     ensures { (log : List Event) → IsRun log → IsSafeLog log }
 {

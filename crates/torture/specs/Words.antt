@@ -103,7 +103,7 @@ status_of_kind _ = 2
 abbrev pub EndsBy : ErrorKind → ℕ → Type 0
 EndsBy kind status = (status ≡ status_of_kind kind) ⊎ ((status_of_kind kind ≡ 0) × (status ≡ 3))
 
--- the text of want of memory; the other texts are clap's own
+-- the text where memory is refused; the other texts are clap's own
 abbrev pub text_of_kind : ErrorKind → Option (List ℕ)
 text_of_kind OutOfMemory = Some (codes "no memory\n")
 text_of_kind _ = None

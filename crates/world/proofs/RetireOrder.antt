@@ -10,7 +10,7 @@ use Rattle.world_state.specs.declared.queue.QueueState.{QueueState}
 use Rattle.world_state.specs.declared.updater.RetireStep.{RetireStep}
 use Rattle.world_state.specs.declared.updater.RetireStep.TheVariants.{Mark, Count, Push, Free}
 use Rattle.world_state.specs.declared.updater.UpdaterPlace.{UpdaterPlace}
-use Rattle.world_state.specs.declared.updater.UpdaterPlace.TheVariants.{Retires}
+use Rattle.world_state.specs.declared.updater.UpdaterPlace.TheVariants.{Idle, Retires}
 use Rattle.world_state.specs.declared.updater.UpdaterState.{UpdaterState}
 use Rattle.world_state.specs.declared.change.Change.{Change}
 use Rattle.world_state.specs.Queues.{empty_queue_state, held_by}
@@ -31,10 +31,10 @@ module _ {P : Type 0} (plans : Plans P) (w : BoardView P) (u : ℕ) (there : que
 
   -- a step of a retirement
   of_step : (x : UpdaterState P) → slice_get w.updaters u ≡ Some x → (o : ObjectId) (step : RetireStep) → DoesItsStep w u (queue_of w u) (with_change w (Ok (retire_on w u x o step))) o step
-  of_step x was o Mark = record { answered = refl; due = set_place x was (Retires o Count); count = ap (λ (q : QueueState). q.queued) (changed_here _ w.queues (queue_of w u) there); lock = ap (λ (q : QueueState). q.holder) (changed_here _ w.queues (queue_of w u) there) }
-  of_step x was o Count = record { answered = refl; due = set_place x was (Retires o Push); count = ap (λ (q : QueueState). q.queued) (changed_here _ w.queues (queue_of w u) there); lock = ap (λ (q : QueueState). q.holder) (changed_here _ w.queues (queue_of w u) there) }
-  of_step x was o Push = record { answered = refl; due = set_place x was (Retires o Free); count = ap (λ (q : QueueState). q.queued) (changed_here _ w.queues (queue_of w u) there); lock = ap (λ (q : QueueState). q.holder) (changed_here _ w.queues (queue_of w u) there) }
-  of_step x was o Free = record { answered = refl; due = set_place x was _; count = ap (λ (q : QueueState). q.queued) (changed_here _ w.queues (queue_of w u) there); lock = ap (λ (q : QueueState). q.holder) (changed_here _ w.queues (queue_of w u) there) }
+  of_step x was o Mark = record { answered = refl; due = set_place x was (Retires o Count); headers = refl; stored = changed_here _ w.queues (queue_of w u) there }
+  of_step x was o Count = record { answered = refl; due = set_place x was (Retires o Push); headers = refl; stored = changed_here _ w.queues (queue_of w u) there }
+  of_step x was o Push = record { answered = refl; due = set_place x was (Retires o Free); headers = refl; stored = changed_here _ w.queues (queue_of w u) there }
+  of_step x was o Free = record { answered = refl; due = set_place x was Idle; headers = refl; stored = changed_here _ w.queues (queue_of w u) there }
 
   of_place : (x : UpdaterState P) → slice_get w.updaters u ≡ Some x → (place : UpdaterPlace P) (due : Due) → due_at place ≡ Some due → DoesItsStep w u (queue_of w u) (with_change w (updater_on plans w u x place)) due.object due.step
   of_place x was (Retires o step) due is =

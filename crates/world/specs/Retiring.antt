@@ -1,16 +1,22 @@
 -- The steps of a retirement, in their order: what each stores and tells.
-use Rattle.std.specs.Prelude.{◌≡◌, ℕ, ◌+◌, get_or, Option, Some, None, Ok}
+use Rattle.std.specs.Prelude.{◌≡◌, ℕ, ◌+◌, List, get_or, Option, Some, None, Ok}
 use Rattle.rcu_model.specs.declared.event.Event.TheVariants as events
 use Rattle.rcu_model.specs.declared.event.ObjectId.{ObjectId}
 use Rattle.world_state.specs.declared.line.Answer.{Answer}
 use Rattle.world_state.specs.declared.line.Answer.TheVariants.{Events, Quiet}
 use Rattle.world_state.specs.declared.line.Line.TheVariants.{Updater}
 use Rattle.world_state.specs.declared.line.UpdaterVerb.TheVariants as verb
+use Rattle.callback_queue.specs.Queue.{pushed}
+use Rattle.world_state.specs.declared.object.Life.{Life}
+use Rattle.world_state.specs.declared.object.Life.TheVariants as life
+use Rattle.world_state.specs.declared.object.ObjectState.{ObjectState}
+use Rattle.world_state.specs.declared.queue.QueueState.{QueueState}
 use Rattle.world_state.specs.declared.updater.RetireStep.{RetireStep}
 use Rattle.world_state.specs.declared.updater.RetireStep.TheVariants.{Mark, Count, Push, Free}
 use Rattle.world_state.specs.declared.updater.UpdaterPlace.{UpdaterPlace}
 use Rattle.world_state.specs.declared.updater.UpdaterPlace.TheVariants.{Retires}
-use Rattle.world_state.specs.Queues.{empty_queue_state}
+use Rattle.world_state.specs.Objects.{marked_life}
+use Rattle.world_state.specs.Queues.{empty_queue_state, item_of}
 use Rattle.world_state.specs.View.{Plans, BoardView, idle}
 use Rattle.world.specs.Lines.{Outcome, outcome_of}
 use Rattle.world.specs.Locks.{lock_of}
@@ -30,23 +36,27 @@ module _ {P : Type 0} where
   abbrev pub due_of : BoardView P → ℕ → Option Due
   due_of w u = due_at (get_or w.updaters u idle).place
 
-  abbrev pub queued_of : BoardView P → ℕ → ℕ
-  queued_of w q = (get_or w.queues q empty_queue_state).queued
+  abbrev pub queue_in : BoardView P → ℕ → QueueState
+  queue_in w q = get_or w.queues q empty_queue_state
 
-  -- this is answered, that step is due next, and the queue has this count and this holder of its lock
-  pub record Leads (u q : ℕ) (outcome : Outcome P) (answer : Answer) (next : Option Due) (queued : ℕ) (holder : Option ℕ) : Type 0 where
+  -- this is answered, that step is due next, and the objects and the queue are these
+  pub record Makes (u q : ℕ) (outcome : Outcome P) (answer : Answer) (next : Option Due) (objects : List ObjectState) (queue : QueueState) : Type 0 where
     pub answered : outcome.answer ≡ Ok answer
     pub due : due_of outcome.world u ≡ next
-    pub count : queued_of outcome.world q ≡ queued
-    pub lock : lock_of outcome.world q ≡ holder
+    pub headers : outcome.world.objects ≡ objects
+    pub stored : queue_in outcome.world q ≡ queue
+
+  -- the objects with this header of one of them
+  abbrev pub with_header : BoardView P → ObjectId → Life → List ObjectState
+  with_header w o life = marked_life w.objects (Some (record { object = o; life = life }))
 
   -- the header is stored and told first; then the queued count is raised; then the item is pushed and told; and last the
   -- lock is freed
   abbrev pub DoesItsStep : BoardView P → ℕ → ℕ → Outcome P → ObjectId → RetireStep → Type 0
-  DoesItsStep w u q outcome o Mark = Leads u q outcome (Events (events.Retire o) None) (Some (record { object = o; step = Count })) (queued_of w q) (lock_of w q)
-  DoesItsStep w u q outcome o Count = Leads u q outcome Quiet (Some (record { object = o; step = Push })) (queued_of w q + 1) (lock_of w q)
-  DoesItsStep w u q outcome o Push = Leads u q outcome (Events (events.Queue o q) None) (Some (record { object = o; step = Free })) (queued_of w q) (lock_of w q)
-  DoesItsStep w u q outcome o Free = Leads u q outcome Quiet None (queued_of w q) None
+  DoesItsStep w u q outcome o Mark = Makes u q outcome (Events (events.Retire o) None) (Some (record { object = o; step = Count })) (with_header w o life.Retired) (queue_in w q)
+  DoesItsStep w u q outcome o Count = Makes u q outcome Quiet (Some (record { object = o; step = Push })) w.objects (record (queue_in w q) { queued = (queue_in w q).queued + 1 })
+  DoesItsStep w u q outcome o Push = Makes u q outcome (Events (events.Queue o q) None) (Some (record { object = o; step = Free })) (with_header w o life.Queued) (record (queue_in w q) { items = pushed (queue_in w q).items (item_of o) })
+  DoesItsStep w u q outcome o Free = Makes u q outcome Quiet None w.objects (record (queue_in w q) { holder = None })
 
   -- a retirement begins with the free lock of the updater's queue, and does its steps in this order
   pub record RetiresInOrder (plans : Plans P) (w : BoardView P) (u : ℕ) : Type 0 where

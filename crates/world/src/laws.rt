@@ -39,7 +39,7 @@ pub(crate) fn numbers_stay_in_range<P: WorldPlan>()
     plan_keeps_its_laws::<P>();
 }
 
-/// The log of each world that lines led to keeps all the promises of logs.
+/// The log of each world that lines led to keeps the promises of logs.
 pub(crate) fn reached_worlds_are_safe()
     ensures { (w : WorldView) → IsReachedWorld w → IsSafeLog (log_of w) }
 {

@@ -37,7 +37,8 @@ pub fn notes_are_of_the_latest_line()
 }
 
 /// For every config and first sequence number, and all lines: the word of each section is made of the phase or number
-/// that was present at its reader's line before the one that opened it, and not of what is present by then.
+/// that was present at its reader's last line before the one that opened it (refused lines aside), and not of what is
+/// present by then.
 pub fn readers_store_what_they_loaded()
     ensures { (config : Config) (seq : ℕ) (lines : List Line) → ReadersStoreWhatTheyLoaded (fresh_world_at config seq) lines }
 {}
@@ -57,7 +58,7 @@ pub fn quiescent_words_answer_alike()
 /// For every config and first sequence number that make a world, and all lines: a retirement begins where the lock of the
 /// updater's queue is free, which the updater holds from then on. Its further lines store the object's header and tell
 /// the retirement, raise the queued count, push the item and tell the queueing, and free the lock, one each, in this
-/// order.
+/// order, and touch nothing else of the objects and of the queue.
 pub fn retirements_go_in_order()
     ensures { (config : Config) (seq : ℕ) (lines : List Line) (updater : ℕ) → IsTrue (is_supported_at config seq) → RetirementsGoInOrder (world_after_lines (fresh_world_at config seq) lines) updater }
 {
