@@ -1,19 +1,11 @@
 -- Places in a chain's list, what follows each, and what a splice makes of them.
 use Rattle.std.proofs.Common.{◌≡◌, ◌≢◌, ◌⊎◌, inl, inr, List, [], ◌∷◌, Option, Some, None, refl, sym, ap, ◌∙◌, subst}
 use Rattle.rcu_model.specs.declared.event.ObjectId.{ObjectId}
+pub use Rattle.rcu_model.specs.Sets.{IsPlace, follows}
 use Rattle.rcu_model.specs.Sets.{same_object, without_object, first_of, next_of, replaced}
 use Rattle.std.specs.Option.{option_or}
 use Rattle.rcu_model.proofs.Members.{In, Tells, object_tells}
 use Rattle.rcu_model.proofs.SetLemmas.{Once, next_of_has, Once-filter, Once-replaced, without_object_has, has_without_object, replaced_has, has_replaced}
-
--- the head, or the link of an object of the list
-abbrev pub IsPlace : List ObjectId → Option ObjectId → Type 0
-IsPlace xs None = Unit {0}
-IsPlace xs (Some o) = In xs o
-
-abbrev pub follows : List ObjectId → Option ObjectId → Option ObjectId
-follows xs None = first_of xs
-follows xs (Some o) = next_of xs o
 
 pub some_is : {X : Type 0} (x y : X) → Some x ≡ Some y → x ≡ y
 some_is x y e = cc

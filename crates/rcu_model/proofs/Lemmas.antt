@@ -1,11 +1,11 @@
 -- The lemmas of this crate that crates above it cite.
 pub use Rattle.rcu_model.proofs.Members.{In, Tells, object_tells, section_tells, in_sections, has_section_in, in_objects, has_object_in, in_numbers, has_number_in, in_append, in_left, in_last, in_more, empty_from}
-pub use Rattle.rcu_model.proofs.SetLemmas.{filter_has, without_object_has, has_without_object, without_section_has, has_without_section, at_number_same, at_number_other, at_object_same, at_object_other, at_section_same, at_section_other, next_of_has, Once, Once-filter, Once-replaced}
+pub use Rattle.rcu_model.proofs.SetLemmas.{filter_has, without_object_has, has_without_object, without_section_has, has_without_section, replaced_has, has_replaced, at_number_same, at_number_other, at_object_same, at_object_other, at_section_same, at_section_other, next_of_has, Once, Once-filter, Once-replaced}
 pub use Rattle.rcu_model.proofs.Follows.{IsPlace, follows, some_is, none_some, decide, decide_place, first_has, follows_has, one_before, Spliced, push_splices, cut_splices, replace_splices, ChainKept, Written, chain_framed, chain_spliced}
 pub use Rattle.rcu_model.proofs.Runs.{allowed_append, after_append, allowed_prop, run_prop}
 pub use Rattle.rcu_model.proofs.Headline.{contains_in, in_contains, decide_section, allowed_split, run_parts, at_event, open_left, opened_left, retired_step, runs_once, uses_none}
 pub use Rattle.rcu_model.proofs.Endings.{opens_once, queues_once, runs_queued}
-pub use Rattle.rcu_model.proofs.Safety.{Linking, Safe, linked, cut_last, cut_before, SafeIn, Kept, kept_start, kept_step, kept_run, kept_log, safe_step, safe_successor, not_reclaimed}
+pub use Rattle.rcu_model.proofs.Safety.{Linking, Safe, linked, cut_last, cut_before, SafeIn, Kept, kept_start, kept_step, kept_run, kept_log, safe_step, safe_successor, not_reclaimed, at_linked}
 pub use Rattle.rcu_model.proofs.Opening.{OpenSeen, open_seen, seen_since, open_between, not_closed, open_by_events, closed_by_events}
 pub use Rattle.rcu_model.proofs.Awaiting.{AwaitsOpen, awaits_open, awaited_since, awaited_was_open, awaits_none}
 pub use Rattle.rcu_model.proofs.Lifetimes.{stays_cut_run, LinkedWithin, CutWithin, linked_or_cut, IsPlaced, within_placed, used_placed, successor_placed}
