@@ -1,0 +1,6 @@
+use Rattle.std.proofs.Common.{rules, ◌≡◌, ◌≢◌, ℕ, ◌/◌, ◌%◌, ◌<◌, ap, sym, ◌∙◌, arith}
+use Rattle.live_rule.specs.Places.{bit_of}
+use Rattle.live_groups.proofs.claims.claim.Goals as goal
+
+pub store_set-requires-clause-word : goal.store_set-requires-clause-word
+store_set-requires-clause-word g c = ((λ q same other. c.with_bit-new.ensures.others (q % 64) (λ e. other (omega arith)) ∙ ap (λ (w : ℕ). bit_of w (q % 64)) (sym c.requires.word)), c.with_bit-new.ensures.on)

@@ -1,0 +1,20 @@
+//! What a store of a group word tells.
+ghost use Rattle.live_groups.specs.Bits.{claimed, released};
+
+use atomic_table::Play;
+use gp_memb::GracePlan;
+use live_log::ChainRule;
+use live_rule::View;
+use std::marker::PhantomData;
+
+pub(crate) struct Claims<P, K>(PhantomData<(P, K)>);
+
+impl<P: GracePlan, K: ChainRule> Play<(), View> for Claims<P, K> {
+    ghost then = { claimed P.QSBR K.allows };
+}
+
+pub(crate) struct Releases<P, K>(PhantomData<(P, K)>);
+
+impl<P: GracePlan, K: ChainRule> Play<(), View> for Releases<P, K> {
+    ghost then = { released P.QSBR K.allows };
+}

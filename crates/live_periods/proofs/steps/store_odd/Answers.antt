@@ -1,0 +1,12 @@
+use Rattle.std.proofs.Common.{rules, ◌≡◌, ℕ, ◌+◌, ◌∷◌, arith, sym, subst, ap, ◌∙◌}
+use Rattle.live_periods.proofs.Periods.{begins_period}
+use Rattle.live_periods.proofs.steps.store_odd.Goals as goal
+
+pub store-requires : goal.store-requires
+store-requires g c = (c.requires.seat, c.seq_place-place.ensures.1, rw (c.seq_place-place.ensures.0) (rw (c.requires.right.2) (begins_period g.P.GracePlan.QSBR g.K.ChainRule.allows _ _ _ _ _ _ c.requires.right.0 c.requires.right.1)))
+
+pub returns-clause-began : goal.returns-clause-began
+returns-clause-began g c = (c.store.ensures.2 _ _ c.requires.right.0).0
+
+pub returns-clause-turn : goal.returns-clause-turn
+returns-clause-turn g c = (c.store.ensures.2 _ _ c.requires.right.0).1

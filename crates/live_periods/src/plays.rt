@@ -1,0 +1,38 @@
+//! What each step of a grace period tells.
+ghost use Rattle.live_periods.specs.Graces.{began, ended, looked_seq, looked_word, turned};
+
+use atomic_table::Play;
+use gp_memb::GracePlan;
+use live_log::ChainRule;
+use live_rule::View;
+use std::marker::PhantomData;
+
+pub(crate) struct LooksSeq<P, K>(PhantomData<(P, K)>);
+
+impl<P: GracePlan, K: ChainRule> Play<(), View> for LooksSeq<P, K> {
+    ghost then = { looked_seq P.QSBR K.allows };
+}
+
+pub(crate) struct LooksWord<P, K>(PhantomData<(P, K)>);
+
+impl<P: GracePlan, K: ChainRule> Play<(), View> for LooksWord<P, K> {
+    ghost then = { looked_word P.QSBR K.allows };
+}
+
+pub(crate) struct Begins<P, K>(PhantomData<(P, K)>);
+
+impl<P: GracePlan, K: ChainRule> Play<(), View> for Begins<P, K> {
+    ghost then = { began P.QSBR K.allows };
+}
+
+pub(crate) struct Turns<P, K>(PhantomData<(P, K)>);
+
+impl<P: GracePlan, K: ChainRule> Play<(), View> for Turns<P, K> {
+    ghost then = { turned P.QSBR K.allows };
+}
+
+pub(crate) struct Ends<P, K>(PhantomData<(P, K)>);
+
+impl<P: GracePlan, K: ChainRule> Play<(), View> for Ends<P, K> {
+    ghost then = { ended P.QSBR K.allows };
+}

@@ -1,0 +1,39 @@
+//! What each step of a reader tells.
+ghost use Rattle.std.specs.Prelude.{[]};
+ghost use Rattle.live_readers.specs.Slots.{announces, closes_one, looked_turn, opens_one, stored};
+
+use atomic_table::Play;
+use gp_memb::GracePlan;
+use live_log::ChainRule;
+use live_rule::View;
+use std::marker::PhantomData;
+
+pub(crate) struct LooksTurn<P, K>(PhantomData<(P, K)>);
+
+impl<P: GracePlan, K: ChainRule> Play<(), View> for LooksTurn<P, K> {
+    ghost then = { looked_turn P.QSBR K.allows };
+}
+
+pub(crate) struct Opens<P, K>(PhantomData<(P, K)>);
+
+impl<P: GracePlan, K: ChainRule> Play<(), View> for Opens<P, K> {
+    ghost then = { stored P.QSBR K.allows (opens_one P.QSBR) };
+}
+
+pub(crate) struct Nests<P, K>(PhantomData<(P, K)>);
+
+impl<P: GracePlan, K: ChainRule> Play<(), View> for Nests<P, K> {
+    ghost then = { stored P.QSBR K.allows (λ _ _ _. []) };
+}
+
+pub(crate) struct Closes<P, K>(PhantomData<(P, K)>);
+
+impl<P: GracePlan, K: ChainRule> Play<(), View> for Closes<P, K> {
+    ghost then = { stored P.QSBR K.allows (closes_one P.QSBR) };
+}
+
+pub(crate) struct Announces<P, K>(PhantomData<(P, K)>);
+
+impl<P: GracePlan, K: ChainRule> Play<(), View> for Announces<P, K> {
+    ghost then = { stored P.QSBR K.allows (announces P.QSBR) };
+}
