@@ -1,17 +1,17 @@
 //! Claiming and releasing a slot, by its bit.
 ghost use Rattle.std.specs.Prelude.{◌≡◌, ◌≢◌, ℕ, ◌/◌, ◌%◌, ◌<◌, true, false};
 ghost use Rattle.live_rule.specs.declared.SlotRight.TheVariants.{Idle, Owns};
-ghost use Rattle.live_rule.specs.Reading.{IsShut};
+ghost use Rattle.live_rule.specs.ReaderWords.{IsClosed};
 ghost use Rattle.live_rule.specs.Places.{bit_of};
 ghost use Rattle.live_rule.specs.Plays.{Keeps};
-ghost use Rattle.live_table.specs.Rights.{HasBits, IsIdle, IsOwner, count_in, word_in};
+ghost use Rattle.live_table.specs.Rights.{HasGroups, IsIdle, IsOwner, count_in, word_in};
 ghost use Rattle.live_groups.specs.Bits.{Regrouped, group_word};
 
 use crate::steps::{store_clear, store_set};
 use gp_memb::GracePlan;
 use live_log::ChainRule;
 use live_table::LiveTable;
-use live_rule::Place;
+use live_rule::LiveSeat;
 
 /// The word with this bit set.
 pub fn with_bit(word: u64, bit: usize) -> u64
@@ -34,12 +34,12 @@ pub fn without_bit(word: u64, bit: usize) -> u64
 /// The bit of a slot is set in this word of its group. The new word.
 pub fn claim<P: GracePlan, K: ChainRule>(
     table: &LiveTable<P, K>,
-    seat: &mut Place,
+    seat: &mut LiveSeat,
     slot: usize,
     word: u64,
 ) -> u64
     requires seat { (seat.old.table_id ≡ table.now.words.shared.table_id) × (slot < table.now.slots) }
-    requires right { IsIdle seat.old.me.0 slot × HasBits seat.old.me.0 }
+    requires right { IsIdle seat.old.me.0 slot × HasGroups seat.old.me.0 }
     requires word { group_word seat.old.me.0 slot ≡ word }
     ensures seat { Keeps seat.old seat.new }
     ensures claimed { Regrouped P.QSBR K.allows slot result (Owns slot (word_in seat.old.me.0.slot) (count_in seat.old.me.0.slot)) seat.old.me seat.new.me }
@@ -52,12 +52,12 @@ pub fn claim<P: GracePlan, K: ChainRule>(
 /// The bit of a slot, in which no section is open, is cleared in this word of its group. The new word.
 pub fn release<P: GracePlan, K: ChainRule>(
     table: &LiveTable<P, K>,
-    seat: &mut Place,
+    seat: &mut LiveSeat,
     slot: usize,
     word: u64,
 ) -> u64
     requires seat { (seat.old.table_id ≡ table.now.words.shared.table_id) × (slot < table.now.slots) }
-    requires right { IsOwner seat.old.me.0 slot × IsShut P.QSBR (word_in seat.old.me.0.slot) × HasBits seat.old.me.0 }
+    requires right { IsOwner seat.old.me.0 slot × IsClosed P.QSBR (word_in seat.old.me.0.slot) × HasGroups seat.old.me.0 }
     requires word { group_word seat.old.me.0 slot ≡ word }
     ensures seat { Keeps seat.old seat.new }
     ensures released { Regrouped P.QSBR K.allows slot result (Idle slot (word_in seat.old.me.0.slot) (count_in seat.old.me.0.slot)) seat.old.me seat.new.me }

@@ -1,27 +1,27 @@
 //! One function for each kind of store of a group word.
 ghost use Rattle.std.specs.Prelude.{◌≡◌, ◌/◌, ◌%◌, ◌<◌, true, false};
 ghost use Rattle.live_rule.specs.declared.SlotRight.TheVariants.{Idle, Owns};
-ghost use Rattle.live_rule.specs.Reading.{IsShut};
+ghost use Rattle.live_rule.specs.ReaderWords.{IsClosed};
 ghost use Rattle.live_rule.specs.Places.{bit_of};
 ghost use Rattle.live_rule.specs.Plays.{Keeps};
-ghost use Rattle.live_table.specs.Rights.{HasBits, IsIdle, IsOwner, count_in, word_in};
+ghost use Rattle.live_table.specs.Rights.{HasGroups, IsIdle, IsOwner, count_in, word_in};
 ghost use Rattle.live_groups.specs.Bits.{DiffersAt, Regrouped, group_word};
 
 use crate::plays::{Claims, Releases};
 use gp_memb::GracePlan;
 use live_log::ChainRule;
 use live_table::LiveTable;
-use live_rule::Place;
+use live_rule::LiveSeat;
 
 /// The bit of a slot is set, before its reader is handed out. From here on sections may be opened there.
 pub fn store_set<P: GracePlan, K: ChainRule>(
     table: &LiveTable<P, K>,
-    seat: &mut Place,
+    seat: &mut LiveSeat,
     slot: usize,
     word: u64,
 )
     requires seat { (seat.old.table_id ≡ table.now.words.shared.table_id) × (slot < table.now.slots) }
-    requires right { IsIdle seat.old.me.0 slot × HasBits seat.old.me.0 }
+    requires right { IsIdle seat.old.me.0 slot × HasGroups seat.old.me.0 }
     requires word { DiffersAt slot (group_word seat.old.me.0 slot) word × (bit_of word (slot % 64) ≡ true) }
     ensures seat { Keeps seat.old seat.new }
     ensures claimed { Regrouped P.QSBR K.allows slot word (Owns slot (word_in seat.old.me.0.slot) (count_in seat.old.me.0.slot)) seat.old.me seat.new.me }
@@ -33,12 +33,12 @@ pub fn store_set<P: GracePlan, K: ChainRule>(
 /// The bit of a slot is cleared, once its reader's word is shut.
 pub fn store_clear<P: GracePlan, K: ChainRule>(
     table: &LiveTable<P, K>,
-    seat: &mut Place,
+    seat: &mut LiveSeat,
     slot: usize,
     word: u64,
 )
     requires seat { (seat.old.table_id ≡ table.now.words.shared.table_id) × (slot < table.now.slots) }
-    requires right { IsOwner seat.old.me.0 slot × IsShut P.QSBR (word_in seat.old.me.0.slot) × HasBits seat.old.me.0 }
+    requires right { IsOwner seat.old.me.0 slot × IsClosed P.QSBR (word_in seat.old.me.0.slot) × HasGroups seat.old.me.0 }
     requires word { DiffersAt slot (group_word seat.old.me.0 slot) word × (bit_of word (slot % 64) ≡ false) }
     ensures seat { Keeps seat.old seat.new }
     ensures released { Regrouped P.QSBR K.allows slot word (Idle slot (word_in seat.old.me.0.slot) (count_in seat.old.me.0.slot)) seat.old.me seat.new.me }

@@ -11,29 +11,29 @@ use Rattle.rcu_model.specs.Machine.{State, after}
 use Rattle.rcu_model.proofs.Lemmas.{In}
 use Rattle.rcu_model.specs.Sets.{ at_number}
 use Rattle.rcu_model.proofs.Lemmas.{at_number_same, at_number_other}
-use Rattle.live_log.specs.declared.Deed.{Deed}
-use Rattle.live_log.specs.declared.Deed.TheVariants.{Push, Replace, Cut, Retire, Queue, Run}
-use Rattle.live_log.specs.declared.Event.{Event}
-use Rattle.live_log.specs.declared.Event.TheVariants.{Open, Close, Odd, Even, Turn, Note, Shut, On}
+use Rattle.live_log.specs.declared.event.ObjectEvent.{ObjectEvent}
+use Rattle.live_log.specs.declared.event.ObjectEvent.TheVariants.{Push, Replace, Cut, Retire, Queue, Run}
+use Rattle.live_log.specs.declared.event.LiveEvent.{LiveEvent}
+use Rattle.live_log.specs.declared.event.LiveEvent.TheVariants.{Open, Close, SeqOdd, SeqEven, Present, ChainNote, CloseQueue, Object}
 use Rattle.live_log.specs.Log.{Log, state_of, line_of, HaveRun, Begins}
 
 abbrev More : List ObjectId → List ObjectId → Type 0
 More old new = (rest : List ObjectId) × (new ≡ old ++ rest)
 
-line_step : (e : Event) (log : Log) (q : ℕ) → More (line_of log q) (line_of (e ∷ log) q)
+line_step : (e : LiveEvent) (log : Log) (q : ℕ) → More (line_of log q) (line_of (e ∷ log) q)
 line_step (Open r i j) log q = ([], sym (append-nil (line_of log q)))
 line_step (Close r i) log q = ([], sym (append-nil (line_of log q)))
-line_step Odd log q = ([], sym (append-nil (line_of log q)))
-line_step Even log q = ([], sym (append-nil (line_of log q)))
-line_step (Turn _) log q = ([], sym (append-nil (line_of log q)))
-line_step (Note _ _) log q = ([], sym (append-nil (line_of log q)))
-line_step (Shut _) log q = ([], sym (append-nil (line_of log q)))
-line_step (On (Push c p i w)) log q = ([], sym (append-nil (line_of log q)))
-line_step (On (Replace c p n i w)) log q = ([], sym (append-nil (line_of log q)))
-line_step (On (Cut c p)) log q = ([], sym (append-nil (line_of log q)))
-line_step (On (Retire p)) log q = ([], sym (append-nil (line_of log q)))
-line_step (On (Run p)) log q = ([], sym (append-nil (line_of log q)))
-line_step (On (Queue p d)) log q = let f = line_of log in ⊎_elim
+line_step SeqOdd log q = ([], sym (append-nil (line_of log q)))
+line_step SeqEven log q = ([], sym (append-nil (line_of log q)))
+line_step (Present _) log q = ([], sym (append-nil (line_of log q)))
+line_step (ChainNote _ _) log q = ([], sym (append-nil (line_of log q)))
+line_step (CloseQueue _) log q = ([], sym (append-nil (line_of log q)))
+line_step (Object (Push c p i w)) log q = ([], sym (append-nil (line_of log q)))
+line_step (Object (Replace c p n i w)) log q = ([], sym (append-nil (line_of log q)))
+line_step (Object (Cut c p)) log q = ([], sym (append-nil (line_of log q)))
+line_step (Object (Retire p)) log q = ([], sym (append-nil (line_of log q)))
+line_step (Object (Run p)) log q = ([], sym (append-nil (line_of log q)))
+line_step (Object (Queue p d)) log q = let f = line_of log in ⊎_elim
     (λ (y : ((q == d) ≡ true) × (q ≡ d)). (p ∷ [], ap (at_number d (f d ++ p ∷ []) f) y.1 ∙ (at_number_same d (f d ++ p ∷ []) f ∙ ap (λ n. f n ++ p ∷ []) (sym y.1))))
     (λ (n : ((q == d) ≡ false) × (q ≢ d)). ([], at_number_other d q (f d ++ p ∷ []) f n.1 ∙ sym (append-nil (f q))))
     (eqb_tells q d)
@@ -55,19 +55,19 @@ pub line_has : (log : Log) (o : ObjectId) → In (state_of log).queued o → (q 
 line_has [] o h = absurd h
 line_has (Open r i j ∷ es) o h = line_has es o h
 line_has (Close r i ∷ es) o h = line_has es o h
-line_has (Odd ∷ es) o h = line_has es o h
-line_has (Even ∷ es) o h = line_has es o h
-line_has (Turn _ ∷ es) o h = line_has es o h
-line_has (Note _ _ ∷ es) o h = line_has es o h
-line_has (Shut _ ∷ es) o h = line_has es o h
-line_has (On (Push c p i w) ∷ es) o h = line_has es o h
-line_has (On (Replace c p n i w) ∷ es) o h = line_has es o h
-line_has (On (Cut c p) ∷ es) o h = line_has es o h
-line_has (On (Retire p) ∷ es) o h = line_has es o h
-line_has (On (Run p) ∷ es) o h = line_has es o h
-line_has (On (Queue p d) ∷ es) o h = let f = line_of es in ⊎_elim
+line_has (SeqOdd ∷ es) o h = line_has es o h
+line_has (SeqEven ∷ es) o h = line_has es o h
+line_has (Present _ ∷ es) o h = line_has es o h
+line_has (ChainNote _ _ ∷ es) o h = line_has es o h
+line_has (CloseQueue _ ∷ es) o h = line_has es o h
+line_has (Object (Push c p i w) ∷ es) o h = line_has es o h
+line_has (Object (Replace c p n i w) ∷ es) o h = line_has es o h
+line_has (Object (Cut c p) ∷ es) o h = line_has es o h
+line_has (Object (Retire p) ∷ es) o h = line_has es o h
+line_has (Object (Run p) ∷ es) o h = line_has es o h
+line_has (Object (Queue p d) ∷ es) o h = let f = line_of es in ⊎_elim
     (λ (e : p ≡ o). (d, length (f d), subst (λ (z : List ObjectId). get_elem? z (length (f d)) ≡ some o) (sym (at_number_same d (f d ++ p ∷ []) f)) (subst (λ (x : ObjectId). get_elem? (f d ++ p ∷ []) (length (f d)) ≡ some x) e (at_last (f d) p (length (f d)) refl))))
-    (λ (z : In (state_of es).queued o). let w = line_has es o z in let m = line_step (On (Queue p d)) es w.0 in
+    (λ (z : In (state_of es).queued o). let w = line_has es o z in let m = line_step (Object (Queue p d)) es w.0 in
       (w.0, w.1, subst (λ (l : List ObjectId). get_elem? l w.1 ≡ some o) (sym m.1) (at_longer (f w.0) m.0 w.1 o w.2))) h
 
 -- a queue of which as many have their Run as were queued at an earlier load

@@ -10,12 +10,12 @@ use Rattle.rcu_model.specs.Sets.{IsPlace, follows, at_object, at_number, without
 use Rattle.rcu_model.proofs.Lemmas.{in_objects}
 use Rattle.rcu_model.proofs.Lemmas.{at_object_same, at_object_other, at_number_same, at_number_other}
 use Rattle.rcu_model.proofs.Lemmas.{Spliced, push_splices, cut_splices, replace_splices, decide, decide_place, some_is, none_some}
-use Rattle.live_log.specs.declared.Deed.{Deed}
-use Rattle.live_log.specs.declared.Deed.TheVariants.{Push, Replace, Cut, Retire, Queue, Run}
-use Rattle.live_log.specs.declared.Event.{Event}
-use Rattle.live_log.specs.declared.Event.TheVariants.{On}
-use Rattle.live_log.specs.Log.{Log, state_of, objects_of, Objects, Spot, head, link, spot_of, Follows, Leads, IsRun}
-use Rattle.live_log.proofs.Protect.{kept_log, not_has}
+use Rattle.live_log.specs.declared.event.ObjectEvent.{ObjectEvent}
+use Rattle.live_log.specs.declared.event.ObjectEvent.TheVariants.{Push, Replace, Cut, Retire, Queue, Run}
+use Rattle.live_log.specs.declared.event.LiveEvent.{LiveEvent}
+use Rattle.live_log.specs.declared.event.LiveEvent.TheVariants.{Object}
+use Rattle.live_log.specs.Log.{Log, state_of, objects_of, Objects, Spot, head, link, spot_of, Follows, Leads, IsLiveRun}
+use Rattle.live_log.proofs.Machine.{kept_log, not_has}
 
 abbrev is_link : Spot → Option ObjectId
 is_link (head c) = None
@@ -51,9 +51,9 @@ pub record Moved (was now : Objects) (c : ℕ) (p next leaves enters : Option Ob
   pub line : now.line ≡ was.line
   pub note : (o : ObjectId) → enters ≢ Some o → now.note o ≡ was.note o
 
-module _ (qsbr : Bool) (allows : Log → Event → Type 0) where
-  pub push_moves : (log : Log) (c : ℕ) (o : ObjectId) (i : ℕ) (w : List ℕ) → IsRun qsbr allows (On (Push c o i w) ∷ log)
-      → Moved (objects_of log) (objects_of (On (Push c o i w) ∷ log)) c None (first_of ((state_of log).chain c)) None (Some o)
+module _ (qsbr : Bool) (allows : Log → LiveEvent → Type 0) where
+  pub push_moves : (log : Log) (c : ℕ) (o : ObjectId) (i : ℕ) (w : List ℕ) → IsLiveRun qsbr allows (Object (Push c o i w) ∷ log)
+      → Moved (objects_of log) (objects_of (Object (Push c o i w) ∷ log)) c None (first_of ((state_of log).chain c)) None (Some o)
   push_moves log c o i w run = let now = state_of log in let k = (kept_log qsbr allows log run.1).linking in let fresh = not_has now.used o run.0.0 in record {
     here = subst (λ (l : List ObjectId). Spliced (now.chain c) l None (first_of (now.chain c)) None (Some o)) (sym (at_number_same c (o ∷ now.chain c) now.chain))
         (push_splices (now.chain c) o (k.once c) (λ h. fresh (k.linked_used c o h)));
@@ -72,8 +72,8 @@ module _ (qsbr : Bool) (allows : Log → Event → Type 0) where
     note = λ p ne. at_object_other o p (i, w) (objects_of log).note (λ e. ne (ap Some (sym e)));
   }
 
-  pub cut_moves : (log : Log) (c : ℕ) (p : Option ObjectId) (o : ObjectId) → IsRun qsbr allows (On (Cut c o) ∷ log) → IsPlace ((state_of log).chain c) p → follows ((state_of log).chain c) p ≡ Some o
-      → Moved (objects_of log) (objects_of (On (Cut c o) ∷ log)) c p (next_of ((state_of log).chain c) o) (Some o) None
+  pub cut_moves : (log : Log) (c : ℕ) (p : Option ObjectId) (o : ObjectId) → IsLiveRun qsbr allows (Object (Cut c o) ∷ log) → IsPlace ((state_of log).chain c) p → follows ((state_of log).chain c) p ≡ Some o
+      → Moved (objects_of log) (objects_of (Object (Cut c o) ∷ log)) c p (next_of ((state_of log).chain c) o) (Some o) None
   cut_moves log c p o run at f = let now = state_of log in let k = (kept_log qsbr allows log run.1).linking in let has = in_objects (now.chain c) o run.0.0 in record {
     here = subst (λ (l : List ObjectId). Spliced (now.chain c) l p (next_of (now.chain c) o) (Some o) None) (sym (at_number_same c (without_object o (now.chain c)) now.chain))
         (cut_splices (now.chain c) o p (k.once c) has at f);
@@ -96,8 +96,8 @@ module _ (qsbr : Bool) (allows : Log → Event → Type 0) where
       cut_one log c o fresh q (inl e) = inl (ap Some e)
       cut_one log c o fresh q (inr h) = inr (h, at_object_other o q (next_of ((state_of log).chain c) o) (state_of log).successor (λ e. fresh (subst (In (state_of log).cut) e h)))
 
-  pub replace_moves : (log : Log) (c : ℕ) (p : Option ObjectId) (o m : ObjectId) (i : ℕ) (w : List ℕ) → IsRun qsbr allows (On (Replace c o m i w) ∷ log) → IsPlace ((state_of log).chain c) p → follows ((state_of log).chain c) p ≡ Some o
-      → Moved (objects_of log) (objects_of (On (Replace c o m i w) ∷ log)) c p (next_of ((state_of log).chain c) o) (Some o) (Some m)
+  pub replace_moves : (log : Log) (c : ℕ) (p : Option ObjectId) (o m : ObjectId) (i : ℕ) (w : List ℕ) → IsLiveRun qsbr allows (Object (Replace c o m i w) ∷ log) → IsPlace ((state_of log).chain c) p → follows ((state_of log).chain c) p ≡ Some o
+      → Moved (objects_of log) (objects_of (Object (Replace c o m i w) ∷ log)) c p (next_of ((state_of log).chain c) o) (Some o) (Some m)
   replace_moves log c p o m i w run at f = let now = state_of log in let k = (kept_log qsbr allows log run.1).linking in let has = in_objects (now.chain c) o run.0.0.0 in let fresh = not_has now.used m run.0.0.1 in record {
     here = subst (λ (l : List ObjectId). Spliced (now.chain c) l p (next_of (now.chain c) o) (Some o) (Some m)) (sym (at_number_same c (replaced o m (now.chain c)) now.chain))
         (replace_splices (now.chain c) o m p (k.once c) (λ h. fresh (k.linked_used c m h)) has at f);

@@ -8,35 +8,35 @@ use Rattle.std.proofs.Common.{lt_of_not-le}
 use Rattle.atomic_table.specs.Table.{State, Me, step, keeps, Allows}
 use Rattle.reader_word.specs.declared.layout.Layout.TheVariants.{Wide}
 use Rattle.gp_memb.specs.Plan.{Shows}
-use Rattle.live_log.specs.declared.Event.{Event}
-use Rattle.live_log.specs.declared.Event.TheVariants.{Close, Odd, Even, Turn}
-use Rattle.live_log.specs.Log.{Log, Has, open_of, opens, seq_of, turn_of, mark_of, Cleared, MayFollow, IsRun, IsNote, IsTurn, Begins}
+use Rattle.live_log.specs.declared.event.LiveEvent.{LiveEvent}
+use Rattle.live_log.specs.declared.event.LiveEvent.TheVariants.{Close, SeqOdd, SeqEven, Present}
+use Rattle.live_log.specs.Log.{Log, Has, open_of, sections_of, seq_of, present_of, before_odd, HaveEnded, MayFollow, IsLiveRun, MayCopy, MayBePresent, Begins}
 use Rattle.live_log.proofs.Runs.{still}
-use Rattle.live_log.proofs.Turns.{noted}
-use Rattle.live_log.proofs.Periods.{begins_mark, run_of}
+use Rattle.live_log.proofs.StoresPresent.{noted}
+use Rattle.live_log.proofs.Periods.{begins_before_odd, run_of}
 use Rattle.live_rule.specs.declared.Sizes.{Sizes}
 use Rattle.live_rule.specs.declared.View.{View}
 use Rattle.live_rule.specs.declared.GraceRight.{GraceRight}
 use Rattle.live_rule.specs.declared.GraceRight.TheVariants.{Nothing, Rests, Works}
-use Rattle.live_rule.specs.Places.{seq_at, turn_at, group_at, slot_at, words_of, bit_of, bit_at}
-use Rattle.live_rule.specs.Reading.{Shown, Saw, SawAll}
+use Rattle.live_rule.specs.Places.{seq_at, present_at, group_at, slot_at, words_of, bit_of, bit_at}
+use Rattle.live_rule.specs.ReaderWords.{Shown, Saw, SawAll}
 use Rattle.live_rule.specs.Rights.{grace, ClaimsGrace, KnowsGrace}
-use Rattle.live_rule.specs.Reading.{Fits}
-use Rattle.live_rule.specs.Rule.{Kept}
-use Rattle.live_rule.specs.Plays.{Tells, at_log}
+use Rattle.live_rule.specs.ReaderWords.{Fits}
+use Rattle.live_rule.specs.Rule.{KeepsRule}
+use Rattle.live_rule.specs.Plays.{Wrote, at_log}
 use Rattle.live_rule.proofs.Frames.{saw_later}
 use Rattle.live_rule.proofs.Readers.{Apart, quiet_same, low_loads}
-use Rattle.live_periods.specs.Graces.{ShownAll, RefutesAll, looked_seq, Graced, looked_word, turned, began, ended}
+use Rattle.live_periods.specs.Graces.{ShownAll, RefutesAll, looked_seq, Graced, looked_word, presented, began, ended}
 use Rattle.live_periods.proofs.Stores.{stores}
 
-apart_odd : (log : Log) → Apart Odd log
-apart_odd log = record { opened = λ _. refl; counted = λ _. refl; quiet = record { objects = refl; notes = λ _. refl; closed = λ _. refl; more = (Odd ∷ [], refl) } }
+apart_odd : (log : Log) → Apart SeqOdd log
+apart_odd log = record { opened = λ _. refl; counted = λ _. refl; quiet = record { objects = refl; notes = λ _. refl; closed = λ _. refl; more = (SeqOdd ∷ [], refl) } }
 
-apart_even : (log : Log) → Apart Even log
-apart_even log = record { opened = λ _. refl; counted = λ _. refl; quiet = record { objects = refl; notes = λ _. refl; closed = λ _. refl; more = (Even ∷ [], refl) } }
+apart_even : (log : Log) → Apart SeqEven log
+apart_even log = record { opened = λ _. refl; counted = λ _. refl; quiet = record { objects = refl; notes = λ _. refl; closed = λ _. refl; more = (SeqEven ∷ [], refl) } }
 
-apart_turn : (x : ℕ) (log : Log) → Apart (Turn x) log
-apart_turn x log = record { opened = λ _. refl; counted = λ _. refl; quiet = record { objects = refl; notes = λ _. refl; closed = λ _. refl; more = (Turn x ∷ [], refl) } }
+apart_present : (x : ℕ) (log : Log) → Apart (Present x) log
+apart_present x log = record { opened = λ _. refl; counted = λ _. refl; quiet = record { objects = refl; notes = λ _. refl; closed = λ _. refl; more = (Present x ∷ [], refl) } }
 
 -- a section that was open at the mark has its Close, or all that was loaded tells of it
 closed_or_shown : (qsbr : Bool) (slots : ℕ) (mark log : Log) (looks : List (ℕ × ℕ)) (r n m : ℕ) → r < slots → open_of r mark ≡ some (n, m) → SawAll qsbr slots mark log looks → Has (Close r n) log ⊎ ShownAll qsbr looks r m
@@ -52,14 +52,14 @@ grace_or _ = ((0, 0), [], [])
 shows_of : (b : Bool) (w n m : ℕ) → Fits b w (some (n, m)) → Shows b Wide m w
 shows_of b w n m f = f
 
-module _ {S : Type 0} (qsbr : Bool) (allows : Log → Event → Type 0) (key : Sizes) (slots id : ℕ) (me : Me S View) where
+module _ {S : Type 0} (qsbr : Bool) (allows : Log → LiveEvent → Type 0) (key : Sizes) (slots id : ℕ) (me : Me S View) where
   abbrev Rule : State S View → Type 0
-  Rule = Kept qsbr allows key
+  Rule = KeepsRule qsbr allows key
 
   granted : (s : State S View) (rule : Rule s) (g : GraceRight) → get_elem? s.views id ≡ some me.0 → me.0.grace ≡ g → ClaimsGrace g → KnowsGrace qsbr key rule.log s.words g
   granted s rule g at is claim = subst (KnowsGrace qsbr key rule.log s.words) is (rule.knows grace id me.0 at (subst ClaimsGrace (sym is) claim))
 
-  told : (s : State S View) (rule : Rule s) (events : Log) → get_elem? s.views id ≡ some me.0 → IsRun qsbr allows (events ++ rule.log) → Tells qsbr allows me.0 events (events ++ rule.log)
+  told : (s : State S View) (rule : Rule s) (events : Log) → get_elem? s.views id ≡ some me.0 → IsLiveRun qsbr allows (events ++ rule.log) → Wrote qsbr allows me.0 events (events ++ rule.log)
   told s rule events at run = (rule.log, refl, (rule.seen id me.0 at).0, (rule.seen id me.0 at).1, run)
 
   pub looks_seq : Allows Rule slots id me seq_at (λ n. n) (looked_seq qsbr allows (step slots seq_at 0 0 none) me)
@@ -73,10 +73,10 @@ module _ {S : Type 0} (qsbr : Bool) (allows : Log → Event → Type 0) (key : S
       let right : GraceRight = Works q t mark ((i, x) ∷ looks) in
       let w : View = record (at_log me.0 rule.log) { grace = right } in
       let k = granted s rule (Works q t mark looks) at is tt in
-      let b = begins_mark rule.log in
+      let b = begins_before_odd rule.log in
       let since : rule.log ≡ b.0 ++ mark = b.1 ∙ ap (λ l. b.0 ++ l) k.3 in
       let saw : Saw qsbr key.slots mark rule.log (i, x) = λ r n m low was. subst (λ (l : Log). Has (Close r n) l ⊎ Shown qsbr (i, x) r m) (sym since)
-          (⊎_elim inl (λ now. inr (shown s rule i r n m low (ap (open_of r) since ∙ now))) (still qsbr allows b.0 mark r n m (subst (IsRun qsbr allows) since rule.run) was)) in
+          (⊎_elim inl (λ now. inr (shown s rule i r n m low (ap (open_of r) since ∙ now))) (still qsbr allows b.0 mark r n m (subst (IsLiveRun qsbr allows) since rule.run) was)) in
       (w, keeps, tt,
         low_loads qsbr allows key s rule id i me.0 right at (λ _. ((k.0, k.1, k.2, k.3, (saw, k.4)), subst ClaimsGrace (sym is) tt)),
         λ q' t' mark' looks' is'. let z = ap grace_or (sym is ∙ is') in
@@ -97,28 +97,28 @@ module _ {S : Type 0} (qsbr : Bool) (allows : Log → Event → Type 0) (key : S
       let k0 = k.0 in let k2 = k.2 in
       let wide = rule.wide in
       let right : GraceRight = Works (q + 1) t rule.log [] in
-      let w : View = record (at_log me.0 (Odd ∷ rule.log)) { grace = right } in
-      let seq : seq_of (Odd ∷ rule.log) ≡ q + 1 = ap (λ (z : ℕ). z + 1) k.0 in
-      let may : MayFollow qsbr allows rule.log Odd = ((omega arith), (omega arith)) in
+      let w : View = record (at_log me.0 (SeqOdd ∷ rule.log)) { grace = right } in
+      let seq : seq_of (SeqOdd ∷ rule.log) ≡ q + 1 = ap (λ (z : ℕ). z + 1) k.0 in
+      let may : MayFollow qsbr allows rule.log SeqOdd = ((omega arith), (omega arith)) in
       (w, keeps, tt,
-        stores qsbr allows key s rule seq_at (q + 1) id me.0 right Odd at (inl refl) (subst ClaimsGrace (sym is) tt) may (apart_odd rule.log)
-          (get_or-set_same s.words seq_at (q + 1) 0 (omega arith) ∙ sym seq) (get_or-set_other s.words seq_at turn_at (q + 1) 0 (λ e. omega arith) ∙ rule.world.reading.turn)
+        stores qsbr allows key s rule seq_at (q + 1) id me.0 right SeqOdd at (inl refl) (subst ClaimsGrace (sym is) tt) may (apart_odd rule.log)
+          (get_or-set_same s.words seq_at (q + 1) 0 (omega arith) ∙ sym seq) (get_or-set_other s.words seq_at present_at (q + 1) 0 (λ e. omega arith) ∙ rule.world.reading.present)
           (seq, k.1, omega arith, refl, tt),
         λ q' t' is'. let z = ap grace_or (sym is ∙ is') in
-            subst (λ (y : (ℕ × ℕ) × Log × List (ℕ × ℕ)). Graced qsbr allows (Works (q + 1) y.0.1 rule.log []) (Odd ∷ []) me (w, me.1) × (turn_of rule.log ≡ y.0.1)) z ((refl, told s rule (Odd ∷ []) at (may, rule.run)), k.1))
+            subst (λ (y : (ℕ × ℕ) × Log × List (ℕ × ℕ)). Graced qsbr allows (Works (q + 1) y.0.1 rule.log []) (SeqOdd ∷ []) me (w, me.1) × (present_of rule.log ≡ y.0.1)) z ((refl, told s rule (SeqOdd ∷ []) at (may, rule.run)), k.1))
 
-  pub turns_word : (q t x : ℕ) (mark : Log) (looks : List (ℕ × ℕ)) → me.0.grace ≡ Works q t mark looks → IsTurn qsbr q t x
-      → Allows Rule slots id me turn_at (λ _. x) (λ _. turned qsbr allows (step slots turn_at x 0 none) me x)
-  turns_word q t x mark looks is fits s rule deep at fine =
+  pub stores_present : (q t x : ℕ) (mark : Log) (looks : List (ℕ × ℕ)) → me.0.grace ≡ Works q t mark looks → MayBePresent qsbr q t x
+      → Allows Rule slots id me present_at (λ _. x) (λ _. presented qsbr allows (step slots present_at x 0 none) me x)
+  stores_present q t x mark looks is fits s rule deep at fine =
       let k = granted s rule (Works q t mark looks) at is tt in
       let wide = rule.wide in
-      let e : Event = Turn x in
+      let e : LiveEvent = Present x in
       let right : GraceRight = Works q x mark looks in
       let w : View = record (at_log me.0 (e ∷ rule.log)) { grace = right } in
-      let may : MayFollow qsbr allows rule.log e = (ap (λ (z : ℕ). z % 2) k.0 ∙ k.2, subst (λ (z : ℕ × ℕ). IsTurn qsbr z.0 z.1 x) (λ i. (sym k.0 i, sym k.1 i)) fits) in
+      let may : MayFollow qsbr allows rule.log e = (ap (λ (z : ℕ). z % 2) k.0 ∙ k.2, subst (λ (z : ℕ × ℕ). MayBePresent qsbr z.0 z.1 x) (λ i. (sym k.0 i, sym k.1 i)) fits) in
       (w, keeps, tt,
-        stores qsbr allows key s rule turn_at x id me.0 right e at (inr refl) (subst ClaimsGrace (sym is) tt) may (apart_turn x rule.log)
-          (get_or-set_other s.words turn_at seq_at x 0 (λ e. omega arith) ∙ rule.world.reading.seq) (get_or-set_same s.words turn_at x 0 (omega arith))
+        stores qsbr allows key s rule present_at x id me.0 right e at (inr refl) (subst ClaimsGrace (sym is) tt) may (apart_present x rule.log)
+          (get_or-set_other s.words present_at seq_at x 0 (λ e. omega arith) ∙ rule.world.reading.seq) (get_or-set_same s.words present_at x 0 (omega arith))
           (k.0, refl, k.2, k.3, saw_later qsbr key.slots mark rule.log (e ∷ rule.log) looks (e ∷ [], refl) k.4),
         λ q' t' mark' looks' is'. let z = ap grace_or (sym is ∙ is') in
             subst (λ (y : (ℕ × ℕ) × Log × List (ℕ × ℕ)). Graced qsbr allows (Works y.0.0 x y.1 y.2) (e ∷ []) me (w, me.1)) z (refl, told s rule (e ∷ []) at (may, rule.run)))
@@ -130,28 +130,28 @@ module _ {S : Type 0} (qsbr : Bool) (allows : Log → Event → Type 0) (key : S
       let k2 = k.2 in
       let wide = rule.wide in
       let right : GraceRight = Rests (q + 1) t in
-      let w : View = record (at_log me.0 (Even ∷ rule.log)) { grace = right } in
-      let seq : seq_of (Even ∷ rule.log) ≡ q + 1 = ap (λ (z : ℕ). z + 1) k.0 in
-      let b = begins_mark rule.log in
-      let run_mark : IsRun qsbr allows mark = subst (IsRun qsbr allows) k.3 (run_of qsbr allows b.0 (mark_of rule.log) (subst (IsRun qsbr allows) b.1 rule.run)) in
-      let cleared : Cleared mark rule.log = λ r n m was. cleared_of s rule mark looks refutes k.3 run_mark k.4 r n m was in
-      let may : MayFollow qsbr allows rule.log Even = (ap (λ (z : ℕ). z % 2) k.0 ∙ k.2, subst (λ (l : Log). Cleared l rule.log) (sym k.3) cleared) in
+      let w : View = record (at_log me.0 (SeqEven ∷ rule.log)) { grace = right } in
+      let seq : seq_of (SeqEven ∷ rule.log) ≡ q + 1 = ap (λ (z : ℕ). z + 1) k.0 in
+      let b = begins_before_odd rule.log in
+      let run_mark : IsLiveRun qsbr allows mark = subst (IsLiveRun qsbr allows) k.3 (run_of qsbr allows b.0 (before_odd rule.log) (subst (IsLiveRun qsbr allows) b.1 rule.run)) in
+      let cleared : HaveEnded mark rule.log = λ r n m was. cleared_of s rule mark looks refutes k.3 run_mark k.4 r n m was in
+      let may : MayFollow qsbr allows rule.log SeqEven = (ap (λ (z : ℕ). z % 2) k.0 ∙ k.2, subst (λ (l : Log). HaveEnded l rule.log) (sym k.3) cleared) in
       (w, keeps, tt,
-        stores qsbr allows key s rule seq_at (q + 1) id me.0 right Even at (inl refl) (subst ClaimsGrace (sym is) tt) may (apart_even rule.log)
-          (get_or-set_same s.words seq_at (q + 1) 0 (omega arith) ∙ sym seq) (get_or-set_other s.words seq_at turn_at (q + 1) 0 (λ e. omega arith) ∙ rule.world.reading.turn)
+        stores qsbr allows key s rule seq_at (q + 1) id me.0 right SeqEven at (inl refl) (subst ClaimsGrace (sym is) tt) may (apart_even rule.log)
+          (get_or-set_same s.words seq_at (q + 1) 0 (omega arith) ∙ sym seq) (get_or-set_other s.words seq_at present_at (q + 1) 0 (λ e. omega arith) ∙ rule.world.reading.present)
           (seq, k.1, omega arith),
         λ q' t' mark' looks' is'. let z = ap grace_or (sym is ∙ is') in
-            subst (λ (y : (ℕ × ℕ) × Log × List (ℕ × ℕ)). Graced qsbr allows (Rests (q + 1) y.0.1) (Even ∷ []) me (w, me.1) × Cleared y.1 (Even ∷ rule.log)) z
-              ((refl, told s rule (Even ∷ []) at (may, rule.run)), λ r n m was. inr (cleared r n m was)))
+            subst (λ (y : (ℕ × ℕ) × Log × List (ℕ × ℕ)). Graced qsbr allows (Rests (q + 1) y.0.1) (SeqEven ∷ []) me (w, me.1) × HaveEnded y.1 (SeqEven ∷ rule.log)) z
+              ((refl, told s rule (SeqEven ∷ []) at (may, rule.run)), λ r n m was. inr (cleared r n m was)))
     where
-      cleared_of : (s : State S View) (rule : Rule s) (mark : Log) (looks : List (ℕ × ℕ)) → RefutesAll qsbr key.slots mark looks → mark_of rule.log ≡ mark → IsRun qsbr allows mark → SawAll qsbr key.slots mark rule.log looks → Cleared mark rule.log
+      cleared_of : (s : State S View) (rule : Rule s) (mark : Log) (looks : List (ℕ × ℕ)) → RefutesAll qsbr key.slots mark looks → before_odd rule.log ≡ mark → IsLiveRun qsbr allows mark → SawAll qsbr key.slots mark rule.log looks → HaveEnded mark rule.log
       cleared_of s rule mark looks refutes is run saw r n m was = dite (dec_le key.slots r)
-          (λ high. ⊎_elim (λ h. subst (Has (Close r n)) (sym since) h) (λ now. absurd (some-ne-none (n, m) (sym now ∙ (ap (open_of r) (sym since) ∙ rule.world.reading.beyond r high)))) (still qsbr allows b.0 mark r n m (subst (IsRun qsbr allows) since rule.run) was))
+          (λ high. ⊎_elim (λ h. subst (Has (Close r n)) (sym since) h) (λ now. absurd (some-ne-none (n, m) (sym now ∙ (ap (open_of r) (sym since) ∙ rule.world.reading.beyond r high)))) (still qsbr allows b.0 mark r n m (subst (IsLiveRun qsbr allows) since rule.run) was))
           (λ not. let low : r < key.slots = lt_of_not-le not in
             ⊎_elim (λ h. h) (λ shown. absurd (refutes r m low (noted qsbr allows mark r n m run was) shown)) (closed_or_shown qsbr key.slots mark rule.log looks r n m low was saw))
         where
-          b : Begins (mark_of rule.log) rule.log
-          b = begins_mark rule.log
+          b : Begins (before_odd rule.log) rule.log
+          b = begins_before_odd rule.log
 
           since : rule.log ≡ b.0 ++ mark
           since = b.1 ∙ ap (λ l. b.0 ++ l) is

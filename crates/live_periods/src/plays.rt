@@ -1,5 +1,5 @@
 //! What each step of a grace period tells.
-ghost use Rattle.live_periods.specs.Graces.{began, ended, looked_seq, looked_word, turned};
+ghost use Rattle.live_periods.specs.Graces.{began, ended, looked_seq, looked_word, presented};
 
 use atomic_table::Play;
 use gp_memb::GracePlan;
@@ -25,10 +25,10 @@ impl<P: GracePlan, K: ChainRule> Play<(), View> for Begins<P, K> {
     ghost then = { began P.QSBR K.allows };
 }
 
-pub(crate) struct Turns<P, K>(PhantomData<(P, K)>);
+pub(crate) struct StoresPresent<P, K>(PhantomData<(P, K)>);
 
-impl<P: GracePlan, K: ChainRule> Play<(), View> for Turns<P, K> {
-    ghost then = { turned P.QSBR K.allows };
+impl<P: GracePlan, K: ChainRule> Play<(), View> for StoresPresent<P, K> {
+    ghost then = { presented P.QSBR K.allows };
 }
 
 pub(crate) struct Ends<P, K>(PhantomData<(P, K)>);

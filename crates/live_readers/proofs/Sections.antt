@@ -4,38 +4,38 @@ use mathlib.Core.Option.{Option, none, some}
 use Rattle.atomic_table.specs.Table.{State, Me, step, keeps, Allows}
 use Rattle.reader_word.specs.declared.layout.Layout.TheVariants.{Wide}
 use Rattle.gp_memb.specs.Plan.{Shows}
-use Rattle.live_log.specs.declared.Event.{Event}
-use Rattle.live_log.specs.declared.Event.TheVariants.{Open, Close}
-use Rattle.live_log.specs.Log.{Log, open_of, opens, turn_of, IsRun, IsNote, Begins}
+use Rattle.live_log.specs.declared.event.LiveEvent.{LiveEvent}
+use Rattle.live_log.specs.declared.event.LiveEvent.TheVariants.{Open, Close}
+use Rattle.live_log.specs.Log.{Log, open_of, sections_of, present_of, IsLiveRun, MayCopy, Begins}
 use Rattle.live_log.proofs.Runs.{last_opened}
-use Rattle.live_log.proofs.Turns.{note_later, turn_begins}
+use Rattle.live_log.proofs.StoresPresent.{copy_later, present_begins}
 use Rattle.live_rule.specs.declared.Sizes.{Sizes}
 use Rattle.live_rule.specs.declared.View.{View}
 use Rattle.live_rule.specs.declared.SlotRight.TheVariants.{Owns}
-use Rattle.live_rule.specs.Places.{turn_at, slot_at}
-use Rattle.live_rule.specs.Reading.{IsShut}
-use Rattle.live_rule.specs.Reading.{Fits}
-use Rattle.live_rule.specs.Plays.{Follow}
-use Rattle.live_rule.specs.Rule.{Kept}
-use Rattle.live_rule.specs.Plays.{Tells, at_log}
+use Rattle.live_rule.specs.Places.{present_at, slot_at}
+use Rattle.live_rule.specs.ReaderWords.{IsClosed}
+use Rattle.live_rule.specs.ReaderWords.{Fits}
+use Rattle.live_rule.specs.Plays.{Precedes}
+use Rattle.live_rule.specs.Rule.{KeepsRule}
+use Rattle.live_rule.specs.Plays.{Wrote, at_log}
 use Rattle.live_rule.specs.Rights.{grace}
 use Rattle.live_rule.proofs.Readers.{low_loads}
-use Rattle.live_readers.specs.Slots.{copied, opened_in, IsAt, looked_turn, Stored, stored, opens_one, closes_one, announces}
+use Rattle.live_readers.specs.Slots.{copied, opened_in, IsAt, looked_present, Stored, stored, opens_one, closes_one, announces}
 use Rattle.live_readers.proofs.Stores.{slot_or, stores}
 
 -- a shut word fits no open section, and another one fits some
-pub shut_fits : (b : Bool) (w : ℕ) (o : Option (ℕ × ℕ)) → Fits b w o → IsShut b w → o ≡ none
+pub shut_fits : (b : Bool) (w : ℕ) (o : Option (ℕ × ℕ)) → Fits b w o → IsClosed b w → o ≡ none
 shut_fits b w none f z = refl
 shut_fits false w (some x) f z = absurd (f.0 z)
 shut_fits true w (some x) f z = absurd (omega arith)
 
-pub open_fits : (b : Bool) (w : ℕ) (o : Option (ℕ × ℕ)) → Fits b w o → (IsShut b w → ⊥) → (x : ℕ × ℕ) × (o ≡ some x) × Shows b Wide x.1 w
+pub open_fits : (b : Bool) (w : ℕ) (o : Option (ℕ × ℕ)) → Fits b w o → (IsClosed b w → ⊥) → (x : ℕ × ℕ) × (o ≡ some x) × Shows b Wide x.1 w
 open_fits b w none f z = absurd (z f)
 open_fits b w (some x) f z = (x, refl, f)
 
-module _ (qsbr : Bool) (allows : Log → Event → Type 0) where
+module _ (qsbr : Bool) (allows : Log → LiveEvent → Type 0) where
   -- the section that stands in a word
-  pub standing : (log : Log) (r w k : ℕ) → IsRun qsbr allows log → IsAt qsbr r w k log → (IsShut qsbr w → ⊥) → (m : ℕ) × (open_of r log ≡ some (k - 1, m)) × Shows qsbr Wide m w
+  pub standing : (log : Log) (r w k : ℕ) → IsLiveRun qsbr allows log → IsAt qsbr r w k log → (IsClosed qsbr w → ⊥) → (m : ℕ) × (open_of r log ≡ some (k - 1, m)) × Shows qsbr Wide m w
   standing log r w k run at stands =
       let o = open_fits qsbr w (open_of r log) at.0 stands in
       let last = (last_opened qsbr allows log r o.0.0 o.0.1 run o.1).0 in
@@ -43,23 +43,23 @@ module _ (qsbr : Bool) (allows : Log → Event → Type 0) where
       let ordinal : o.0.0 ≡ k - 1 = omega arith in
       (o.0.1, o.1 ∙ (λ i. some (ordinal i, o.0.1)), o.2)
 
-  opened : (log : Log) (r k m x : ℕ) → IsRun qsbr allows log → open_of r log ≡ none → opens r log ≡ k → IsNote qsbr (turn_of log) m → Shows qsbr Wide m x → IsRun qsbr allows (Open r k m ∷ log) × IsAt qsbr r x (k + 1) (Open r k m ∷ log)
+  opened : (log : Log) (r k m x : ℕ) → IsLiveRun qsbr allows log → open_of r log ≡ none → sections_of r log ≡ k → MayCopy qsbr (present_of log) m → Shows qsbr Wide m x → IsLiveRun qsbr allows (Open r k m ∷ log) × IsAt qsbr r x (k + 1) (Open r k m ∷ log)
   opened log r k m x run shut count note shows =
-      (((shut, count, note), run), (subst (Fits qsbr x) (ap (λ b. cond b (some (k, m)) (open_of r log)) (sym (eq-eqb r r refl))) shows, ap (λ b. cond b (opens r log + 1) (opens r log)) (eq-eqb r r refl) ∙ ap (λ z. z + 1) count))
+      (((shut, count, note), run), (subst (Fits qsbr x) (ap (λ b. cond b (some (k, m)) (open_of r log)) (sym (eq-eqb r r refl))) shows, ap (λ b. cond b (sections_of r log + 1) (sections_of r log)) (eq-eqb r r refl) ∙ ap (λ z. z + 1) count))
 
   closed : (log : Log) (r k m : ℕ) → open_of r log ≡ some (k, m) → open_of r (Close r k ∷ log) ≡ none
   closed log r k m at = ap (λ b. cond b none (open_of r log)) (eq-eqb r r refl)
 
   module _ {S : Type 0} (key : Sizes) (slots id : ℕ) (me : Me S View) where
     abbrev Rule : State S View → Type 0
-    Rule = Kept qsbr allows key
+    Rule = KeepsRule qsbr allows key
 
-    pub looks_turn : Allows Rule slots id me turn_at (λ n. n) (looked_turn qsbr allows (step slots turn_at 0 0 none) me)
-    looks_turn s r deep at fine = (at_log me.0 r.log, keeps, tt, low_loads qsbr allows key s r id turn_at me.0 me.0.grace at (λ c. (r.knows grace id me.0 at c, c)),
-        ((refl, (r.log, refl, (r.seen id me.0 at).0, (r.seen id me.0 at).1, r.run)), sym r.world.reading.turn))
+    pub looks_present : Allows Rule slots id me present_at (λ n. n) (looked_present qsbr allows (step slots present_at 0 0 none) me)
+    looks_present s r deep at fine = (at_log me.0 r.log, keeps, tt, low_loads qsbr allows key s r id present_at me.0 me.0.grace at (λ c. (r.knows grace id me.0 at c, c)),
+        ((refl, (r.log, refl, (r.seen id me.0 at).0, (r.seen id me.0 at).1, r.run)), sym r.world.reading.present))
 
-    note_now : (log : Log) (m : ℕ) → IsRun qsbr allows log → Follow me.0 log → IsNote qsbr (turn_of me.0.seen) m → IsNote qsbr (turn_of log) m
-    note_now log m run follow = note_later qsbr (turn_of me.0.seen) (turn_of log) m (turn_begins qsbr allows me.0.seen log run follow.0)
+    copy_now : (log : Log) (m : ℕ) → IsLiveRun qsbr allows log → Precedes me.0 log → MayCopy qsbr (present_of me.0.seen) m → MayCopy qsbr (present_of log) m
+    copy_now log m run follow = copy_later qsbr (present_of me.0.seen) (present_of log) m (present_begins qsbr allows me.0.seen log run follow.0)
 
     -- the store's Play tells of whatever right the seat has
     telling : (r w k x : ℕ) (events : ℕ → ℕ → ℕ → Log) → me.0.slot ≡ Owns r w k
@@ -69,24 +69,24 @@ module _ (qsbr : Bool) (allows : Log → Event → Type 0) where
     telling r w k x events is allowed s rule deep at fine = let t = allowed s rule deep at fine in (t.0, t.1, t.2, t.3, λ r' w' k' is'.
         subst (λ (z : ℕ × ℕ × ℕ). Stored qsbr allows z.0 x (z.2 + opened_in (events z.0 z.2 x)) (events z.0 z.2 x) me (t.0, Rattle.atomic_table.specs.Table.carried_after me.1 t.1)) (ap slot_or (sym is ∙ is')) t.4)
 
-    pub opens_slot : (r w k x : ℕ) → me.0.slot ≡ Owns r w k → IsShut qsbr w → Shows qsbr Wide (copied qsbr x) x → IsNote qsbr (turn_of me.0.seen) (copied qsbr x)
+    pub opens_slot : (r w k x : ℕ) → me.0.slot ≡ Owns r w k → IsClosed qsbr w → Shows qsbr Wide (copied qsbr x) x → MayCopy qsbr (present_of me.0.seen) (copied qsbr x)
         → Allows Rule slots id me (slot_at r) (λ _. x) (λ _. stored qsbr allows (opens_one qsbr) (step slots (slot_at r) x 0 none) me x)
     opens_slot r w k x is shut shows note = telling r w k x (opens_one qsbr) is (stores qsbr allows key slots id me r w k x (k + 1) (Open r k (copied qsbr x) ∷ []) is (refl, tt)
-        (λ log run follow at. opened log r k (copied qsbr x) x run (shut_fits qsbr w (open_of r log) at.0 shut) at.1 (note_now log (copied qsbr x) run follow note) shows))
+        (λ log run follow at. opened log r k (copied qsbr x) x run (shut_fits qsbr w (open_of r log) at.0 shut) at.1 (copy_now log (copied qsbr x) run follow note) shows))
 
-    pub closes_slot : (r w k x : ℕ) → me.0.slot ≡ Owns r w k → (IsShut qsbr w → ⊥) → IsShut qsbr x
+    pub closes_slot : (r w k x : ℕ) → me.0.slot ≡ Owns r w k → (IsClosed qsbr w → ⊥) → IsClosed qsbr x
         → Allows Rule slots id me (slot_at r) (λ _. x) (λ _. stored qsbr allows (closes_one qsbr) (step slots (slot_at r) x 0 none) me x)
     closes_slot r w k x is stands shut = telling r w k x (closes_one qsbr) is (stores qsbr allows key slots id me r w k x (k + 0) (Close r (k - 1) ∷ []) is (refl, tt)
         (λ log run follow at. let o = standing log r w k run at stands in
           (((o.0, o.1), run), (subst (Fits qsbr x) (sym (closed log r (k - 1) o.0 o.1)) shut, at.1 ∙ omega arith))))
 
-    pub nests_slot : (r w k x : ℕ) → me.0.slot ≡ Owns r w k → (IsShut qsbr w → ⊥) → ((m : ℕ) → Shows qsbr Wide m w → Shows qsbr Wide m x)
+    pub nests_slot : (r w k x : ℕ) → me.0.slot ≡ Owns r w k → (IsClosed qsbr w → ⊥) → ((m : ℕ) → Shows qsbr Wide m w → Shows qsbr Wide m x)
         → Allows Rule slots id me (slot_at r) (λ _. x) (λ _. stored qsbr allows (λ _ _ _. []) (step slots (slot_at r) x 0 none) me x)
     nests_slot r w k x is stands shows = telling r w k x (λ _ _ _. []) is (stores qsbr allows key slots id me r w k x (k + 0) [] is tt
         (λ log run follow at. let o = standing log r w k run at stands in (run, (subst (Fits qsbr x) (sym o.1) (shows o.0 o.2), at.1 ∙ omega arith))))
 
-    pub announces_slot : (r w k x : ℕ) → me.0.slot ≡ Owns r w k → (IsShut qsbr w → ⊥) → Shows qsbr Wide (copied qsbr x) x → IsNote qsbr (turn_of me.0.seen) (copied qsbr x)
+    pub announces_slot : (r w k x : ℕ) → me.0.slot ≡ Owns r w k → (IsClosed qsbr w → ⊥) → Shows qsbr Wide (copied qsbr x) x → MayCopy qsbr (present_of me.0.seen) (copied qsbr x)
         → Allows Rule slots id me (slot_at r) (λ _. x) (λ _. stored qsbr allows (announces qsbr) (step slots (slot_at r) x 0 none) me x)
     announces_slot r w k x is stands shows note = telling r w k x (announces qsbr) is (stores qsbr allows key slots id me r w k x (k + 1) (Open r k (copied qsbr x) ∷ Close r (k - 1) ∷ []) is (refl, (refl, tt))
         (λ log run follow at. let o = standing log r w k run at stands in
-          opened (Close r (k - 1) ∷ log) r k (copied qsbr x) x ((o.0, o.1), run) (closed log r (k - 1) o.0 o.1) at.1 (note_now log (copied qsbr x) run follow note) shows))
+          opened (Close r (k - 1) ∷ log) r k (copied qsbr x) x ((o.0, o.1), run) (closed log r (k - 1) o.0 o.1) at.1 (copy_now log (copied qsbr x) run follow note) shows))

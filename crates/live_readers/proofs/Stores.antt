@@ -4,19 +4,19 @@ use mathlib.Core.Logic.{dite}
 use mathlib.Core.Option.{Option, none, some}
 use native.Mathlib.Decide.{ℕ_discrete}
 use Rattle.atomic_table.specs.Table.{State, Me, keeps, Allows}
-use Rattle.live_log.specs.declared.Event.{Event}
-use Rattle.live_log.specs.declared.Event.TheVariants.{Open, Close, Odd, Even, Turn, Note, Shut, On}
-use Rattle.live_log.specs.Log.{Log, open_of, opens, seq_of, turn_of, mark_of, chain_note, closed_of, objects_of, IsRun}
+use Rattle.live_log.specs.declared.event.LiveEvent.{LiveEvent}
+use Rattle.live_log.specs.declared.event.LiveEvent.TheVariants.{Open, Close, SeqOdd, SeqEven, Present, ChainNote, CloseQueue, Object}
+use Rattle.live_log.specs.Log.{Log, open_of, sections_of, seq_of, present_of, before_odd, chain_note, closed_of, objects_of, IsLiveRun}
 use Rattle.live_rule.specs.declared.Sizes.{Sizes}
 use Rattle.live_rule.specs.declared.View.{View}
 use Rattle.live_rule.specs.declared.SlotRight.{SlotRight}
 use Rattle.live_rule.specs.declared.SlotRight.TheVariants.{Owns}
-use Rattle.live_rule.specs.Places.{seq_at, turn_at, group_at, slot_at, chains_from, words_of, bit_of, bit_at}
-use Rattle.live_rule.specs.Reading.{Fits, Reading}
+use Rattle.live_rule.specs.Places.{seq_at, present_at, group_at, slot_at, chains_from, words_of, bit_of, bit_at}
+use Rattle.live_rule.specs.ReaderWords.{Fits, ReaderWords}
 use Rattle.live_rule.specs.Rights.{slot, ClaimsSlot, KnowsSlot}
-use Rattle.live_rule.specs.Rule.{Kept}
-use Rattle.live_rule.specs.Plays.{Follow, Tells, at_log}
-use Rattle.live_rule.proofs.Readers.{Quiet, own_slot, bits_kept, grace_kept, low_stores}
+use Rattle.live_rule.specs.Rule.{KeepsRule}
+use Rattle.live_rule.specs.Plays.{Precedes, Wrote, at_log}
+use Rattle.live_rule.proofs.Readers.{Quiet, own_slot, groups_kept, grace_kept, low_stores}
 use Rattle.live_readers.specs.Slots.{IsAt, Stored}
 
 -- each of these events is of this slot
@@ -24,37 +24,37 @@ abbrev pub IsOf : ℕ → Log → Type 0
 IsOf r [] = Unit {0}
 IsOf r (Open q n m ∷ es) = (q ≡ r) × IsOf r es
 IsOf r (Close q n ∷ es) = (q ≡ r) × IsOf r es
-IsOf r (Odd ∷ es) = ⊥
-IsOf r (Even ∷ es) = ⊥
-IsOf r (Turn _ ∷ es) = ⊥
-IsOf r (Note _ _ ∷ es) = ⊥
-IsOf r (Shut _ ∷ es) = ⊥
-IsOf r (On _ ∷ es) = ⊥
+IsOf r (SeqOdd ∷ es) = ⊥
+IsOf r (SeqEven ∷ es) = ⊥
+IsOf r (Present _ ∷ es) = ⊥
+IsOf r (ChainNote _ _ ∷ es) = ⊥
+IsOf r (CloseQueue _ ∷ es) = ⊥
+IsOf r (Object _ ∷ es) = ⊥
 
 -- such events leave all else alone
 record Apart (r : ℕ) (events log : Log) : Type 0 where
-  others : (q : ℕ) → q ≢ r → (open_of q (events ++ log) ≡ open_of q log) × (opens q (events ++ log) ≡ opens q log)
+  others : (q : ℕ) → q ≢ r → (open_of q (events ++ log) ≡ open_of q log) × (sections_of q (events ++ log) ≡ sections_of q log)
   seq : seq_of (events ++ log) ≡ seq_of log
-  turn : turn_of (events ++ log) ≡ turn_of log
-  mark : mark_of (events ++ log) ≡ mark_of log
+  present : present_of (events ++ log) ≡ present_of log
+  mark : before_odd (events ++ log) ≡ before_odd log
   objects : objects_of (events ++ log) ≡ objects_of log
   notes : (c : ℕ) → chain_note c (events ++ log) ≡ chain_note c log
   closed : (q : ℕ) → closed_of q (events ++ log) ≡ closed_of q log
 
 apart : (r : ℕ) (events log : Log) → IsOf r events → Apart r events log
-apart r [] log of = record { others = λ q far. (refl, refl); seq = refl; turn = refl; mark = refl; objects = refl; notes = λ c. refl; closed = λ q. refl }
+apart r [] log of = record { others = λ q far. (refl, refl); seq = refl; present = refl; mark = refl; objects = refl; notes = λ c. refl; closed = λ q. refl }
 apart r (Open p n m ∷ es) log of = let a = apart r es log of.1 in record {
-  others = λ q far. let b = ne_eqb p q (λ e. far (sym e ∙ of.0)) in let o = a.others q far in (ap (λ b. cond b (some (n, m)) (open_of q (es ++ log))) b ∙ o.0, ap (λ b. cond b (opens q (es ++ log) + 1) (opens q (es ++ log))) b ∙ o.1);
-  seq = a.seq; turn = a.turn; mark = a.mark; objects = a.objects; notes = a.notes; closed = a.closed }
+  others = λ q far. let b = ne_eqb p q (λ e. far (sym e ∙ of.0)) in let o = a.others q far in (ap (λ b. cond b (some (n, m)) (open_of q (es ++ log))) b ∙ o.0, ap (λ b. cond b (sections_of q (es ++ log) + 1) (sections_of q (es ++ log))) b ∙ o.1);
+  seq = a.seq; present = a.present; mark = a.mark; objects = a.objects; notes = a.notes; closed = a.closed }
 apart r (Close p n ∷ es) log of = let a = apart r es log of.1 in record {
   others = λ q far. let b = ne_eqb p q (λ e. far (sym e ∙ of.0)) in let o = a.others q far in (ap (λ b. cond b none (open_of q (es ++ log))) b ∙ o.0, o.1);
-  seq = a.seq; turn = a.turn; mark = a.mark; objects = a.objects; notes = a.notes; closed = a.closed }
-apart r (Odd ∷ es) log of = absurd of
-apart r (Even ∷ es) log of = absurd of
-apart r (Turn _ ∷ es) log of = absurd of
-apart r (Note _ _ ∷ es) log of = absurd of
-apart r (Shut _ ∷ es) log of = absurd of
-apart r (On _ ∷ es) log of = absurd of
+  seq = a.seq; present = a.present; mark = a.mark; objects = a.objects; notes = a.notes; closed = a.closed }
+apart r (SeqOdd ∷ es) log of = absurd of
+apart r (SeqEven ∷ es) log of = absurd of
+apart r (Present _ ∷ es) log of = absurd of
+apart r (ChainNote _ _ ∷ es) log of = absurd of
+apart r (CloseQueue _ ∷ es) log of = absurd of
+apart r (Object _ ∷ es) log of = absurd of
 
 abbrev pub slot_or : SlotRight → ℕ × ℕ × ℕ
 slot_or (Owns r w k) = (r, w, k)
@@ -77,7 +77,7 @@ module _ (qsbr : Bool) (key : Sizes) (log : Log) (words : List ℕ) (r x : ℕ) 
   bits : (q : ℕ) → q < key.slots → bit_at W q ≡ bit_at words q
   bits q l = ap (λ (z : ℕ). bit_of z (q % 64)) (groups (q / 64) (omega arith))
 
-  reading : slot_at r < length words → bit_at words r ≡ true → Fits qsbr x (open_of r L) → Reading qsbr key.slots log words → Reading qsbr key.slots L W
+  reading : slot_at r < length words → bit_at words r ≡ true → Fits qsbr x (open_of r L) → ReaderWords qsbr key.slots log words → ReaderWords qsbr key.slots L W
   reading inside set_bit fits g = record {
     small = small;
     each_slot = λ q lq. dite (ℕ_discrete q r)
@@ -88,16 +88,16 @@ module _ (qsbr : Bool) (key : Sizes) (log : Log) (words : List ℕ) (r x : ℕ) 
         (λ e. absurd (true≢false (sym set_bit ∙ (ap (bit_at words) (sym e) ∙ (sym (bits q lq) ∙ zero)))))
         (λ far. (a.others q far).0 ∙ g.bits q lq (sym (bits q lq) ∙ zero));
     seq = get_or-set_other words (slot_at r) seq_at x 0 (λ e. omega arith) ∙ (g.seq ∙ sym a.seq);
-    turn = get_or-set_other words (slot_at r) turn_at x 0 (λ e. omega arith) ∙ (g.turn ∙ sym a.turn);
+    present = get_or-set_other words (slot_at r) present_at x 0 (λ e. omega arith) ∙ (g.present ∙ sym a.present);
   }
 
-module _ {S : Type 0} (qsbr : Bool) (allows : Log → Event → Type 0) (key : Sizes) where
+module _ {S : Type 0} (qsbr : Bool) (allows : Log → LiveEvent → Type 0) (key : Sizes) where
   abbrev Rule : State S View → Type 0
-  Rule = Kept qsbr allows key
+  Rule = KeepsRule qsbr allows key
 
   -- the owner of a slot stores a word that fits what the events leave open
   pub stores : (slots id : ℕ) (me : Me S View) (r w k x count : ℕ) (events : Log) → me.0.slot ≡ Owns r w k → IsOf r events
-      → ((log : Log) → IsRun qsbr allows log → Follow me.0 log → IsAt qsbr r w k log → IsRun qsbr allows (events ++ log) × IsAt qsbr r x count (events ++ log))
+      → ((log : Log) → IsLiveRun qsbr allows log → Precedes me.0 log → IsAt qsbr r w k log → IsLiveRun qsbr allows (events ++ log) × IsAt qsbr r x count (events ++ log))
       → Allows Rule slots id me (slot_at r) (λ _. x)
       (λ _ m'. Stored qsbr allows r x count events me m')
   stores slots id me r w k x count events is of fits s rule deep at fine =
@@ -118,6 +118,6 @@ module _ {S : Type 0} (qsbr : Bool) (allows : Log → Event → Type 0) (key : S
           (reading qsbr key rule.log s.words r x low small events a inside mine.3 f.1.0 g)
           (own_slot qsbr allows key s rule id (slot_at r) x v log' at r (Owns r x count) claim (λ p c. c) (low, get_or-set_same s.words (slot_at r) x 0 inside, f.1.1, bit r low ∙ mine.3)
             (λ p lp far. (slot_else qsbr key rule.log s.words r x low small events a p far, (a.others p far).1, bit p lp)))
-          (bits_kept qsbr allows key s rule id (slot_at r) x v log' at (groups qsbr key rule.log s.words r x low small events a))
-          (grace_kept qsbr allows key s rule id (slot_at r) x v log' at (events, refl) (a.seq, a.turn, a.mark)),
+          (groups_kept qsbr allows key s rule id (slot_at r) x v log' at (groups qsbr key rule.log s.words r x low small events a))
+          (grace_kept qsbr allows key s rule id (slot_at r) x v log' at (events, refl) (a.seq, a.present, a.mark)),
         (refl, (rule.log, refl, (rule.seen id v at).0, (rule.seen id v at).1, f.0), f.1))

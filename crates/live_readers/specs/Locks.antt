@@ -1,14 +1,14 @@
 -- What a lock and an announcement tell.
 use Rattle.std.specs.Prelude.{◌≡◌, ℕ, ◌+◌, ◌-◌, Bool, List, [], ◌∷◌}
 use Rattle.atomic_table.specs.Table.{Me}
-use Rattle.live_log.specs.declared.Event.{Event}
-use Rattle.live_log.specs.declared.Event.TheVariants.{Open, Close}
+use Rattle.live_log.specs.declared.event.LiveEvent.{LiveEvent}
+use Rattle.live_log.specs.declared.event.LiveEvent.TheVariants.{Open, Close}
 use Rattle.live_log.specs.Log.{Log}
 use Rattle.live_rule.specs.declared.View.{View}
 use Rattle.live_table.specs.Rights.{count_in}
 use Rattle.live_readers.specs.Slots.{Stored, copied}
 
-module _ {S : Type 0} (qsbr : Bool) (allows : Log → Event → Type 0) (slot word : ℕ) (old new : Me S View) where
+module _ {S : Type 0} (qsbr : Bool) (allows : Log → LiveEvent → Type 0) (slot word : ℕ) (old new : Me S View) where
   -- a section was opened, which copied what the word has
   abbrev pub Opened : Type 0
   Opened = Stored qsbr allows slot word (count_in old.0.slot + 1) (Open slot (count_in old.0.slot) (copied qsbr word) ∷ []) old new

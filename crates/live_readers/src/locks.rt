@@ -10,15 +10,15 @@ ghost use Rattle.live_readers.specs.Locks.{Closed, Nested, Opened};
 use gp_memb::GracePlan;
 use live_log::ChainRule;
 use live_table::LiveTable;
-use live_rule::Place;
-use crate::steps::{load_turn, store_close, store_inner, store_open};
+use live_rule::LiveSeat;
+use crate::steps::{load_present, store_close, store_inner, store_open};
 use rcu_model::Refusal;
 use reader_word::{Layout, entered, is_open, left};
 
-/// One lock: the outermost loads the phase and opens a section. The new word.
+/// One lock: the outermost loads the phase and sections_of a section. The new word.
 pub fn lock<P: GracePlan, K: ChainRule>(
     table: &LiveTable<P, K>,
-    seat: &mut Place,
+    seat: &mut LiveSeat,
     slot: usize,
     word: u64,
 ) -> Result<u64, Refusal>
@@ -36,7 +36,7 @@ pub fn lock<P: GracePlan, K: ChainRule>(
         store_inner(table, seat, slot, new);
         return Ok(new);
     }
-    let phase = load_turn(table, seat);
+    let phase = load_present(table, seat);
     let new = entered(Layout::Wide, word, phase == 1)?;
     store_open(table, seat, slot, new);
     Ok(new)
@@ -45,7 +45,7 @@ pub fn lock<P: GracePlan, K: ChainRule>(
 /// One unlock: the outermost closes the section. The new word.
 pub fn unlock<P: GracePlan, K: ChainRule>(
     table: &LiveTable<P, K>,
-    seat: &mut Place,
+    seat: &mut LiveSeat,
     slot: usize,
     word: u64,
 ) -> Result<u64, Refusal>

@@ -1,6 +1,6 @@
 //! What each step of a reader tells.
 ghost use Rattle.std.specs.Prelude.{[]};
-ghost use Rattle.live_readers.specs.Slots.{announces, closes_one, looked_turn, opens_one, stored};
+ghost use Rattle.live_readers.specs.Slots.{announces, closes_one, looked_present, opens_one, stored};
 
 use atomic_table::Play;
 use gp_memb::GracePlan;
@@ -8,10 +8,10 @@ use live_log::ChainRule;
 use live_rule::View;
 use std::marker::PhantomData;
 
-pub(crate) struct LooksTurn<P, K>(PhantomData<(P, K)>);
+pub(crate) struct LooksPresent<P, K>(PhantomData<(P, K)>);
 
-impl<P: GracePlan, K: ChainRule> Play<(), View> for LooksTurn<P, K> {
-    ghost then = { looked_turn P.QSBR K.allows };
+impl<P: GracePlan, K: ChainRule> Play<(), View> for LooksPresent<P, K> {
+    ghost then = { looked_present P.QSBR K.allows };
 }
 
 pub(crate) struct Opens<P, K>(PhantomData<(P, K)>);

@@ -8,7 +8,7 @@ use Rattle.live_log.specs.Log.{Objects, Spot, head, link, spot_of, Leads}
 use Rattle.live_log.proofs.Splices.{Moved, Still, head_no_link, link_is}
 use Rattle.live_rule.specs.declared.Sizes.{Sizes}
 use Rattle.live_rule.specs.Places.{head_at, last_at, cell_at}
-use Rattle.live_rule.specs.Heap.{ref, IsAlive, IsLive, spot_at, IsPayload, Header, Heap}
+use Rattle.live_rule.specs.ObjectWords.{ref, IsAlive, IsLive, spot_at, IsPayload, Header, ObjectWords}
 use Rattle.live_rule.proofs.Frames.{ref_same, header_same, SameObject}
 
 -- the record of the object that enters
@@ -23,7 +23,7 @@ module _ (key : Sizes) (was now : Objects) (words : List ℕ) (c : ℕ) (p next 
     (still : (t : Spot) (found : Option ObjectId) → Leads now t found → Still was c p next enters t found)
     (leads_used : (t : Spot) (o : ObjectId) → Leads was t (Some o) → In was.used o) (follower_used : (o : ObjectId) (found : Option ObjectId) → Leads was (link o) found → In was.used o)
     (entering : (m : ObjectId) → enters ≡ Some m → Enters key now words next m)
-    (low : c < key.chains) (live : IsLive key was (spot_of c p)) (stored : x ≡ ref now (option_or enters next)) (heap : Heap key was words) where
+    (low : c < key.chains) (live : IsLive key was (spot_of c p)) (stored : x ≡ ref now (option_or enters next)) (heap : ObjectWords key was words) where
   alive_before : (o : ObjectId) → IsAlive now o → (enters ≡ Some o) ⊎ IsAlive was o
   alive_before o a = ⊎_elim inl (λ (u : In was.used o). inr (u, λ b. a.1 (subst (λ (l : List ObjectId). In l o) (sym moved.reclaimed) b))) (moved.used_before o a.0)
 
@@ -75,7 +75,7 @@ module _ (key : Sizes) (was now : Objects) (words : List ℕ) (c : ℕ) (p next 
   kept : (i : ℕ) → i ≢ spot_at key now (spot_of c p) → get_or W i 0 ≡ get_or words i 0
   kept i far = get_or-set_other words (spot_at key was (spot_of c p)) i x 0 (λ e. far (e ∙ place.0))
 
-  pub heap_spliced : spot_at key was (spot_of c p) < length words → Heap key now W
+  pub heap_spliced : spot_at key was (spot_of c p) < length words → ObjectWords key now W
   heap_spliced inside = record {
     numbers = λ o u. subst (λ (z : ℕ). (1 ≤ o.0) × (o.0 ≤ z)) (sym (kept (last_at key) (no_last p))) (⊎_elim (λ (e : enters ≡ Some o). (entering o e).number) (heap.numbers o) (moved.used_before o u));
     low = λ o a. ⊎_elim (λ (e : enters ≡ Some o). (entering o e).low) (λ (b : IsAlive was o). subst (λ (z : ℕ × List ℕ). z.0 < key.pool) (sym (note_old o b.0)) (heap.low o b)) (alive_before o a);
@@ -127,7 +127,7 @@ module _ (key : Sizes) (was now : Objects) (words : List ℕ) (c : ℕ) (p next 
           let y : q.0 ≡ o.0 = omega arith in fresh (subst (In was.used) (λ j. record { 0 = y j }) k.0)
 
 -- a word leads to what one head or one link does
-pub same_spot : (key : Sizes) (w : Objects) (words : List ℕ) → Heap key w words → (t u : Spot) → IsLive key w t → IsLive key w u → spot_at key w t ≡ spot_at key w u → t ≡ u
+pub same_spot : (key : Sizes) (w : Objects) (words : List ℕ) → ObjectWords key w words → (t u : Spot) → IsLive key w t → IsLive key w u → spot_at key w t ≡ spot_at key w u → t ≡ u
 same_spot key w words heap (head c) (head d) l k e = let f : c ≡ d = omega arith in ap head f
 same_spot key w words heap (head c) (link o) l k e = let b : c < key.chains = l in absurd (omega arith)
 same_spot key w words heap (link o) (head c) l k e = let b : c < key.chains = k in absurd (omega arith)

@@ -2,16 +2,16 @@
 ghost use Rattle.std.specs.Prelude.{◌≡◌, ◌<◌, ◌≤◌};
 ghost use Rattle.live_rule.specs.Places.{words_of};
 
-use crate::plays::{CutBits, CutGrace, CutObject, CutOneSlot, CutPost, CutQueue, CutSlot, JoinAll, Learn, TakeObject, Tell};
+use crate::plays::{CutGroups, CutGrace, CutObject, CutSlot, CutPost, CutSpareQueue, CutSpareSlot, JoinAll, Learn, TakeObject, Tell};
 use atomic_table::Table;
 use gp_memb::GracePlan;
 use live_log::ChainRule;
-use live_rule::{Law, Sizes, Place, View};
+use live_rule::{LiveRule, Sizes, LiveSeat, View};
 use std::alloc::{AllocError, Global};
 
 #[derive(Drop)]
 pub struct LiveTable<P: GracePlan, K: ChainRule> {
-    pub words: Table<(), View, Sizes, Law<P, K>, Global>,
+    pub words: Table<(), View, Sizes, LiveRule<P, K>, Global>,
     pub slots: usize,
     pub chains: usize,
     pub queues: usize,
@@ -24,8 +24,8 @@ pub struct LiveTable<P: GracePlan, K: ChainRule> {
 impl<P: GracePlan, K: ChainRule> LiveTable<P, K> {
     ghost use Rattle.std.specs.Prelude.{ℕ, ◌+◌, ◌*◌, [], IfOk};
     ghost use Rattle.live_rule.specs.Views.{first_view};
-    ghost use Rattle.live_rule.specs.Seats.{IsSpareQueue, IsSpareSlot, bits_alone, but_bits, but_grace, but_slot, gets_object, gets_post, gets_queue, gets_slot, grace_alone, heard_view, loses_object, loses_post, loses_queue, loses_slot, merged, slot_alone, taken_view, told_view};
-    ghost use Rattle.live_rule.specs.Places.{group_at, seq_at, slot_at, turn_at};
+    ghost use Rattle.live_rule.specs.Seats.{IsSpareQueue, IsSpareSlot, groups_alone, but_groups, but_grace, but_slot, gets_object, gets_post, gets_queue, gets_slot, grace_alone, heard_view, loses_object, loses_post, loses_queue, loses_slot, merged, slot_alone, taken_view, told_view};
+    ghost use Rattle.live_rule.specs.Places.{group_at, seq_at, slot_at, present_at};
     ghost use Rattle.live_table.specs.Steps.{Cut, Joined};
 
     /// All words are 0, and the seat has every right that no hold word guards.
@@ -35,7 +35,7 @@ impl<P: GracePlan, K: ChainRule> LiveTable<P, K> {
         chains: usize,
         queues: usize,
         pool: usize,
-    ) -> Result<(LiveTable<P, K>, Place), AllocError>
+    ) -> Result<(LiveTable<P, K>, LiveSeat), AllocError>
         requires { (slots ≤ 256) × (chains ≤ 4096) × (queues ≤ 8) × (pool ≤ 65536) }
         ensures { IfOk result (λ b. (b.1.table_id ≡ b.0.words.shared.table_id) × (b.1.me ≡ (first_view b.0.words.shared.key, [])) × (b.0.slots ≡ slots) × (b.0.chains ≡ chains) × (b.0.queues ≡ queues) × (b.0.pool ≡ pool)) }
     {
@@ -57,7 +57,7 @@ impl<P: GracePlan, K: ChainRule> LiveTable<P, K> {
     }
 
     /// A seat that has seen as much, and has no right.
-    pub fn tell(&self, seat: &mut Place) -> Place
+    pub fn tell(&self, seat: &mut LiveSeat) -> LiveSeat
         requires { seat.old.table_id ≡ self.now.words.shared.table_id }
         ensures { Cut (λ v. v) told_view seat.old seat.new result }
     {
@@ -65,23 +65,23 @@ impl<P: GracePlan, K: ChainRule> LiveTable<P, K> {
     }
 
     /// A seat for the first spare slot.
-    pub fn cut_slot(&self, seat: &mut Place) -> Place
+    pub fn cut_spare_slot(&self, seat: &mut LiveSeat) -> LiveSeat
         requires { (seat.old.table_id ≡ self.now.words.shared.table_id) × IsSpareSlot seat.old.me.0 self.now.slots }
         ensures { Cut loses_slot gets_slot seat.old seat.new result }
     {
-        self.words.shared.split_seat::<CutSlot>(seat)
+        self.words.shared.split_seat::<CutSpareSlot>(seat)
     }
 
     /// A seat for the lock of the first spare queue.
-    pub fn cut_queue(&self, seat: &mut Place) -> Place
+    pub fn cut_spare_queue(&self, seat: &mut LiveSeat) -> LiveSeat
         requires { (seat.old.table_id ≡ self.now.words.shared.table_id) × IsSpareQueue seat.old.me.0 self.now.queues }
         ensures { Cut loses_queue gets_queue seat.old seat.new result }
     {
-        self.words.shared.split_seat::<CutQueue>(seat)
+        self.words.shared.split_seat::<CutSpareQueue>(seat)
     }
 
     /// A seat for the object.
-    pub fn cut_object(&self, seat: &mut Place) -> Place
+    pub fn cut_object(&self, seat: &mut LiveSeat) -> LiveSeat
         requires { seat.old.table_id ≡ self.now.words.shared.table_id }
         ensures { Cut loses_object gets_object seat.old seat.new result }
     {
@@ -89,7 +89,7 @@ impl<P: GracePlan, K: ChainRule> LiveTable<P, K> {
     }
 
     /// A seat for the chain, or for the work of the queue.
-    pub fn cut_post(&self, seat: &mut Place) -> Place
+    pub fn cut_post(&self, seat: &mut LiveSeat) -> LiveSeat
         requires { seat.old.table_id ≡ self.now.words.shared.table_id }
         ensures { Cut loses_post gets_post seat.old seat.new result }
     {
@@ -97,7 +97,7 @@ impl<P: GracePlan, K: ChainRule> LiveTable<P, K> {
     }
 
     /// The seat hears what another has seen.
-    pub fn learn(&self, seat: &mut Place, other: Place)
+    pub fn learn(&self, seat: &mut LiveSeat, other: LiveSeat)
         requires { (seat.old.table_id ≡ self.now.words.shared.table_id) × (other.table_id ≡ self.now.words.shared.table_id) × (other.me.1 ≡ []) }
         ensures { Joined heard_view seat.old seat.new other.me.0 }
     {
@@ -105,7 +105,7 @@ impl<P: GracePlan, K: ChainRule> LiveTable<P, K> {
     }
 
     /// The seat takes in another's object.
-    pub fn take_object(&self, seat: &mut Place, other: Place)
+    pub fn take_object(&self, seat: &mut LiveSeat, other: LiveSeat)
         requires { (seat.old.table_id ≡ self.now.words.shared.table_id) × (other.table_id ≡ self.now.words.shared.table_id) × (other.me.1 ≡ []) }
         ensures { Joined taken_view seat.old seat.new other.me.0 }
     {
@@ -113,23 +113,23 @@ impl<P: GracePlan, K: ChainRule> LiveTable<P, K> {
     }
 
     /// A seat for the slot.
-    pub fn cut_one_slot(&self, seat: &mut Place) -> Place
+    pub fn cut_slot(&self, seat: &mut LiveSeat) -> LiveSeat
         requires { seat.old.table_id ≡ self.now.words.shared.table_id }
         ensures { Cut but_slot slot_alone seat.old seat.new result }
     {
-        self.words.shared.split_seat::<CutOneSlot>(seat)
+        self.words.shared.split_seat::<CutSlot>(seat)
     }
 
     /// A seat for the group words.
-    pub fn cut_bits(&self, seat: &mut Place) -> Place
+    pub fn cut_groups(&self, seat: &mut LiveSeat) -> LiveSeat
         requires { seat.old.table_id ≡ self.now.words.shared.table_id }
-        ensures { Cut but_bits bits_alone seat.old seat.new result }
+        ensures { Cut but_groups groups_alone seat.old seat.new result }
     {
-        self.words.shared.split_seat::<CutBits>(seat)
+        self.words.shared.split_seat::<CutGroups>(seat)
     }
 
     /// A seat for SEQ, and PHASE or NUM.
-    pub fn cut_grace(&self, seat: &mut Place) -> Place
+    pub fn cut_grace(&self, seat: &mut LiveSeat) -> LiveSeat
         requires { seat.old.table_id ≡ self.now.words.shared.table_id }
         ensures { Cut but_grace grace_alone seat.old seat.new result }
     {
@@ -137,7 +137,7 @@ impl<P: GracePlan, K: ChainRule> LiveTable<P, K> {
     }
 
     /// The seat takes in what it lacks of another's rights, and hears what that has seen.
-    pub fn join(&self, seat: &mut Place, other: Place)
+    pub fn join(&self, seat: &mut LiveSeat, other: LiveSeat)
         requires { (seat.old.table_id ≡ self.now.words.shared.table_id) × (other.table_id ≡ self.now.words.shared.table_id) × (other.me.1 ≡ []) }
         ensures { Joined merged seat.old seat.new other.me.0 }
     {
@@ -168,8 +168,8 @@ impl<P: GracePlan, K: ChainRule> LiveTable<P, K> {
     }
 
     /// Where PHASE or NUM lies.
-    pub fn turn_place(&self) -> usize
-        ensures { (result ≡ turn_at) × (result < self.now.words.shared.table_id.words) }
+    pub fn present_place(&self) -> usize
+        ensures { (result ≡ present_at) × (result < self.now.words.shared.table_id.words) }
     {
         32
     }

@@ -1,0 +1,34 @@
+-- The record and the payload of an object that was put into a chain stay.
+use Rattle.std.proofs.Common.{Bool, ◌≡◌, ℕ, List, [], ◌∷◌, ◌++◌, sym, refl, ap, ◌∙◌, subst}
+use Rattle.rcu_model.specs.declared.event.ObjectId.{ObjectId}
+use Rattle.rcu_model.specs.Sets.{In}
+use Rattle.rcu_model.proofs.Lemmas.{at_object_other}
+use Rattle.live_log.specs.declared.event.ObjectEvent.TheVariants.{Push, Replace, Cut, Retire, Queue, Run}
+use Rattle.live_log.specs.declared.event.LiveEvent.{LiveEvent}
+use Rattle.live_log.specs.declared.event.LiveEvent.TheVariants.{Open, Close, SeqOdd, SeqEven, Present, ChainNote, CloseQueue, Object}
+use Rattle.live_log.specs.Log.{Log, Begins, state_of, note_of, IsLiveRun}
+use Rattle.live_log.proofs.Machine.{not_has, grows_log}
+
+module _ (qsbr : Bool) (allows : Log → LiveEvent → Type 0) where
+  -- the note of an object that was put into a chain stays
+  noted_once : (e : LiveEvent) (log : Log) (o : ObjectId) → IsLiveRun qsbr allows (e ∷ log) → In (state_of log).used o → note_of (e ∷ log) o ≡ note_of log o
+  noted_once (Open q i j) log o run h = refl
+  noted_once (Close q i) log o run h = refl
+  noted_once SeqOdd log o run h = refl
+  noted_once SeqEven log o run h = refl
+  noted_once (Present _) log o run h = refl
+  noted_once (ChainNote _ _) log o run h = refl
+  noted_once (CloseQueue _) log o run h = refl
+  noted_once (Object (Push c p i w)) log o run h = at_object_other p o (i, w) (note_of log) (λ e. not_has (state_of log).used p run.0.0 (subst (In (state_of log).used) e h))
+  noted_once (Object (Replace c p n i w)) log o run h = at_object_other n o (i, w) (note_of log) (λ e. not_has (state_of log).used n run.0.0.1 (subst (In (state_of log).used) e h))
+  noted_once (Object (Cut c p)) log o run h = refl
+  noted_once (Object (Retire p)) log o run h = refl
+  noted_once (Object (Queue p q)) log o run h = refl
+  noted_once (Object (Run p)) log o run h = refl
+
+  note_all : (since old : Log) (o : ObjectId) → IsLiveRun qsbr allows (since ++ old) → In (state_of old).used o → note_of (since ++ old) o ≡ note_of old o
+  note_all [] old o run h = refl
+  note_all (e ∷ es) old o run h = noted_once e (es ++ old) o run ((grows_log old (es ++ old) (es, refl)).used o h) ∙ note_all es old o run.1 h
+
+  pub note_stays : (old log : Log) (o : ObjectId) → Begins old log → IsLiveRun qsbr allows log → In (state_of old).used o → note_of log o ≡ note_of old o
+  note_stays old log o b run h = ap (λ (l : Log). note_of l o) b.1 ∙ note_all b.0 old o (subst (IsLiveRun qsbr allows) b.1 run) h
