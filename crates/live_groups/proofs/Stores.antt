@@ -6,18 +6,19 @@ use native.Mathlib.Decide.{ℕ_discrete}
 use Rattle.atomic_table.specs.Table.{State, Me, step, keeps, carried_after, Allows}
 use Rattle.live_log.specs.declared.event.LiveEvent.{LiveEvent}
 use Rattle.live_log.specs.Log.{Log, open_of, sections_of}
-use Rattle.live_rule.specs.declared.Sizes.{Sizes}
-use Rattle.live_rule.specs.declared.View.{View}
-use Rattle.live_rule.specs.declared.SlotRight.{SlotRight}
-use Rattle.live_rule.specs.declared.SlotRight.TheVariants.{Idle, Owns}
-use Rattle.live_rule.specs.declared.GroupsRight.{GroupsRight}
-use Rattle.live_rule.specs.declared.GroupsRight.TheVariants as groups_right
-use Rattle.live_rule.specs.Places.{seq_at, present_at, group_at, slot_at, words_of, bit_of, bit_at}
-use Rattle.live_rule.specs.ReaderWords.{IsClosed, Fits, ReaderWords}
-use Rattle.live_rule.specs.Rights.{slot, bits, ClaimsSlot, ClaimsGroups, KnowsSlot, KnowsGroups}
+use Rattle.live_rule.specs.declared.view.Sizes.{Sizes}
+use Rattle.live_rule.specs.declared.view.View.{View}
+use Rattle.live_rule.specs.declared.rights.SlotRight.{SlotRight}
+use Rattle.live_rule.specs.declared.rights.SlotRight.TheVariants.{Idle, Owns}
+use Rattle.live_rule.specs.declared.rights.GroupsRight.{GroupsRight}
+use Rattle.live_rule.specs.declared.rights.GroupsRight.TheVariants as groups_right
+use Rattle.live_rule.specs.Places.{seq_at, present_at, group_at, slot_at, words_of, bit_at}
+use Rattle.gp_memb.specs.Plan.{bit_of}
+use Rattle.live_rule.specs.Readers.{IsClosed, Fits, ReaderWords}
+use Rattle.live_rule.specs.Rights.{slot, group_words, ClaimsSlot, ClaimsGroups, KnowsSlot, KnowsGroups}
 use Rattle.live_rule.specs.Rule.{KeepsRule}
-use Rattle.live_rule.specs.Plays.{Wrote, at_log}
-use Rattle.live_rule.proofs.Readers.{quiet_same, own_slot, own_groups, grace_kept, low_stores}
+use Rattle.live_rule.specs.Steps.{Wrote, at_log}
+use Rattle.live_rule.proofs.Lemmas.{quiet_same, own_slot, own_groups, grace_kept, low_stores}
 use Rattle.live_table.specs.Rights.{groups_in}
 use Rattle.live_groups.specs.Bits.{DiffersAt, Regrouped, claimed, released}
 
@@ -64,7 +65,7 @@ module _ (qsbr : Bool) (key : Sizes) (small : key.slots ≤ 256) (log : Log) (wo
     }
 
     -- the group words, as the seat knows them
-    list_stays : (old : List ℕ) → KnowsGroups qsbr key log words (groups_right.Rests old) → KnowsGroups qsbr key log W (groups_right.Rests (set old (r / 64) x))
+    list_stays : (old : List ℕ) → KnowsGroups qsbr key log words (groups_right.Owns old) → KnowsGroups qsbr key log W (groups_right.Owns (set old (r / 64) x))
     list_stays old k = let long = k.0 in (length-set old (r / 64) x ∙ k.0, λ g lg. dite (ℕ_discrete g (r / 64))
         (λ e. ap (λ (z : ℕ). get_or W (group_at z) 0) e ∙ (get_or-set_same words i x 0 inside ∙ (sym (get_or-set_same old (r / 64) x 0 (omega arith)) ∙ ap (λ (z : ℕ). get_or (set old (r / 64) x) z 0) (sym e))))
         (λ far. else (group_at g) (λ e. far (omega arith)) ∙ (k.1 g lg ∙ sym (get_or-set_other old (r / 64) g x 0 far))))
@@ -79,17 +80,17 @@ module _ {S : Type 0} (qsbr : Bool) (allows : Log → LiveEvent → Type 0) (key
   Rule = KeepsRule qsbr allows key
 
   -- the seat with the group words and the right to a shut slot stores the slot's bit
-  stores : (r w k x : ℕ) (old : List ℕ) (right : SlotRight) → me.0.bits ≡ groups_right.Rests old → IsOfSlot key r me.0.slot → IsOfSlot key r right → DiffersAt r (get_or old (r / 64) 0) x
+  stores : (r w k x : ℕ) (old : List ℕ) (right : SlotRight) → me.0.groups ≡ groups_right.Owns old → IsOfSlot key r me.0.slot → IsOfSlot key r right → DiffersAt r (get_or old (r / 64) 0) x
       → ((log : Log) (words : List ℕ) → KnowsSlot qsbr key log words me.0.slot r → (r < key.slots) × (get_or words (slot_at r) 0 ≡ w) × (sections_of r log ≡ k) × IsClosed qsbr w)
       → ((log : Log) (words : List ℕ) → r < key.slots → get_or words (slot_at r) 0 ≡ w → sections_of r log ≡ k → IsClosed qsbr w → bit_at words r ≡ bit_of x (r % 64) → KnowsSlot qsbr key log words right r)
-      → Allows Rule slots id me (group_at (r / 64)) (λ _. x) (λ _ m'. (m' ≡ (record (at_log me.0 m'.0.seen) { slot = right; bits = groups_right.Rests (set old (r / 64) x) }, me.1)) × Wrote qsbr allows me.0 [] m'.0.seen)
+      → Allows Rule slots id me (group_at (r / 64)) (λ _. x) (λ _ m'. (m' ≡ (record (at_log me.0 m'.0.seen) { slot = right; groups = groups_right.Owns (set old (r / 64) x) }, me.1)) × Wrote qsbr allows me.0 [] m'.0.seen)
   stores r w k x old right has slot_old slot_new differs knew knows' s rule deep at fine =
       let v : View = me.0 in
       let mine = knew rule.log s.words (rule.knows (slot r) id v at slot_old.0) in
-      let own : ClaimsGroups v.bits = subst ClaimsGroups (sym has) tt in
-      let bits_known = subst (KnowsGroups qsbr key rule.log s.words) has (rule.knows bits id v at own) in
+      let own : ClaimsGroups v.groups = subst ClaimsGroups (sym has) tt in
+      let bits_known = subst (KnowsGroups qsbr key rule.log s.words) has (rule.knows group_words id v at own) in
       let low = mine.0 in
-      let g = rule.world.reading in
+      let g = rule.agree.readers in
       let small = g.small in
       let wide = rule.wide in
       let i : ℕ = group_at (r / 64) in
@@ -97,26 +98,26 @@ module _ {S : Type 0} (qsbr : Bool) (allows : Log → LiveEvent → Type 0) (key
       let diff : DiffersAt r (get_or s.words i 0) x = subst (λ (z : ℕ). DiffersAt r z x) (sym (bits_known.1 (r / 64) (omega arith))) differs in
       let shut = shut_fits qsbr w (open_of r rule.log) (subst (λ (z : ℕ). Fits qsbr z (open_of r rule.log)) mine.1 (g.each_slot r low)) mine.3 in
       let same = slot_else qsbr key small rule.log s.words r x low in
-      (record (at_log v rule.log) { slot = right; bits = groups_right.Rests (set old (r / 64) x) }, keeps, tt,
-        low_stores qsbr allows key s rule id i x v rule.log at right (groups_right.Rests (set old (r / 64) x)) v.grace (quiet_same rule.log) rule.run (omega arith)
+      (record (at_log v rule.log) { slot = right; groups = groups_right.Owns (set old (r / 64) x) }, keeps, tt,
+        low_stores qsbr allows key s rule id i x v rule.log at right (groups_right.Owns (set old (r / 64) x)) v.grace (quiet_same rule.log) rule.run (omega arith)
           (reading qsbr key small rule.log s.words r x low inside diff shut g)
           (own_slot qsbr allows key s rule id i x v rule.log at r right slot_old.0 slot_new.1
             (knows' rule.log (set s.words i x) low (same r ∙ mine.1) mine.2 mine.3 (ap (λ (z : ℕ). bit_of z (r % 64)) (get_or-set_same s.words i x 0 inside)))
             (λ q lq far. (same q, refl, bit_else qsbr key small rule.log s.words r x low inside diff q far)))
-          (own_groups qsbr allows key s rule id i x v rule.log at (groups_right.Rests (set old (r / 64) x)) own (list_stays qsbr key small rule.log s.words r x low inside diff old bits_known))
+          (own_groups qsbr allows key s rule id i x v rule.log at (groups_right.Owns (set old (r / 64) x)) own (list_stays qsbr key small rule.log s.words r x low inside diff old bits_known))
           (grace_kept qsbr allows key s rule id i x v rule.log at ([], refl) (refl, refl, refl)),
         (refl, (rule.log, refl, (rule.seen id v at).0, (rule.seen id v at).1, rule.run)))
 
-  pub claims : (r w k x : ℕ) → me.0.slot ≡ Idle r w k → me.0.bits ≡ groups_right.Rests (groups_in me.0.bits) → DiffersAt r (get_or (groups_in me.0.bits) (r / 64) 0) x → bit_of x (r % 64) ≡ true
+  pub claims : (r w k x : ℕ) → me.0.slot ≡ Idle r w k → me.0.groups ≡ groups_right.Owns (groups_in me.0.groups) → DiffersAt r (get_or (groups_in me.0.groups) (r / 64) 0) x → bit_of x (r % 64) ≡ true
       → Allows Rule slots id me (group_at (r / 64)) (λ _. x) (λ _. claimed qsbr allows (step slots (group_at (r / 64)) x 0 none) me x)
   claims r w k x is has differs on s rule deep at fine =
-      let t = stores r w k x (groups_in me.0.bits) (Owns r w k) has (subst (IsOfSlot key r) (sym is) (refl, λ q c. c)) (refl, λ q c. c) differs
+      let t = stores r w k x (groups_in me.0.groups) (Owns r w k) has (subst (IsOfSlot key r) (sym is) (refl, λ q c. c)) (refl, λ q c. c) differs
           (λ log words known. subst (λ (z : SlotRight). KnowsSlot qsbr key log words z r) is known) (λ log words low word count shut bit. (low, word, count, bit ∙ on)) s rule deep at fine in
       (t.0, t.1, t.2, t.3, λ r' w' k' is'. subst (λ (z : ℕ × ℕ × ℕ). Regrouped qsbr allows z.0 x (Owns z.0 z.1 z.2) me (t.0, carried_after me.1 t.1)) (ap slot_or (sym is ∙ is')) t.4)
 
-  pub releases : (r w k x : ℕ) → me.0.slot ≡ Owns r w k → IsClosed qsbr w → me.0.bits ≡ groups_right.Rests (groups_in me.0.bits) → DiffersAt r (get_or (groups_in me.0.bits) (r / 64) 0) x
+  pub releases : (r w k x : ℕ) → me.0.slot ≡ Owns r w k → IsClosed qsbr w → me.0.groups ≡ groups_right.Owns (groups_in me.0.groups) → DiffersAt r (get_or (groups_in me.0.groups) (r / 64) 0) x
       → Allows Rule slots id me (group_at (r / 64)) (λ _. x) (λ _. released qsbr allows (step slots (group_at (r / 64)) x 0 none) me x)
   releases r w k x is shut has differs s rule deep at fine =
-      let t = stores r w k x (groups_in me.0.bits) (Idle r w k) has (subst (IsOfSlot key r) (sym is) (refl, λ q c. c)) (refl, λ q c. c) differs
+      let t = stores r w k x (groups_in me.0.groups) (Idle r w k) has (subst (IsOfSlot key r) (sym is) (refl, λ q c. c)) (refl, λ q c. c) differs
           (λ log words known. let z = subst (λ (z : SlotRight). KnowsSlot qsbr key log words z r) is known in (z.0, z.1, z.2, shut)) (λ log words low word count closed bit. (low, word, count, closed)) s rule deep at fine in
       (t.0, t.1, t.2, t.3, λ r' w' k' is'. subst (λ (z : ℕ × ℕ × ℕ). Regrouped qsbr allows z.0 x (Idle z.0 z.1 z.2) me (t.0, carried_after me.1 t.1)) (ap slot_or (sym is ∙ is')) t.4)

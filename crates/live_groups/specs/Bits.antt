@@ -3,14 +3,14 @@ use Rattle.std.specs.Prelude.{◌≡◌, ◌≢◌, ℕ, ◌/◌, ◌%◌, Bool,
 use Rattle.atomic_table.specs.Table.{Me, Step}
 use Rattle.live_log.specs.declared.event.LiveEvent.{LiveEvent}
 use Rattle.live_log.specs.Log.{Log}
-use Rattle.live_rule.specs.declared.View.{View}
-use Rattle.live_rule.specs.declared.SlotRight.{SlotRight}
-use Rattle.live_rule.specs.declared.SlotRight.TheVariants.{Idle, Owns}
-use Rattle.live_rule.specs.declared.GroupsRight.{GroupsRight}
-use Rattle.live_rule.specs.declared.GroupsRight.TheVariants.{Rests}
-use Rattle.live_rule.specs.Places.{bit_of}
+use Rattle.live_rule.specs.declared.view.View.{View}
+use Rattle.live_rule.specs.declared.rights.SlotRight.{SlotRight}
+use Rattle.live_rule.specs.declared.rights.SlotRight.TheVariants.{Idle, Owns}
+use Rattle.live_rule.specs.declared.rights.GroupsRight.{GroupsRight}
+use Rattle.live_rule.specs.declared.rights.GroupsRight.TheVariants.{Rests}
+use Rattle.gp_memb.specs.Plan.{bit_of}
 use Rattle.live_table.specs.Rights.{groups_in}
-use Rattle.live_rule.specs.Plays.{Wrote, at_log}
+use Rattle.live_rule.specs.Steps.{Wrote, at_log}
 
 -- two words of the group of slot r differ in the bit of r alone
 abbrev pub DiffersAt : ℕ → ℕ → ℕ → Type 0
@@ -18,12 +18,12 @@ DiffersAt r old new = (q : ℕ) → q / 64 ≡ r / 64 → q ≢ r → bit_of new
 
 -- the word of the group of a slot
 abbrev pub group_word : View → ℕ → ℕ
-group_word v r = slice_index (groups_in v.bits) (r / 64)
+group_word v r = slice_index (groups_in v.groups) (r / 64)
 
 module _ {S : Type 0} (qsbr : Bool) (allows : Log → LiveEvent → Type 0) where
   -- the word x was stored for the group of slot r, and the slot's right is this one
   abbrev pub Regrouped : ℕ → ℕ → SlotRight → Me S View → Me S View → Type 0
-  Regrouped r x right m m' = (m' ≡ (record (at_log m.0 m'.0.seen) { slot = right; bits = Rests (slice_set (groups_in m.0.bits) (r / 64) x) }, m.1)) × Wrote qsbr allows m.0 [] m'.0.seen
+  Regrouped r x right m m' = (m' ≡ (record (at_log m.0 m'.0.seen) { slot = right; groups = Rests (slice_set (groups_in m.0.groups) (r / 64) x) }, m.1)) × Wrote qsbr allows m.0 [] m'.0.seen
 
   abbrev pub claimed : Step S → Me S View → ℕ → Me S View → Type 0
   claimed st m n m' = (r w k : ℕ) → m.0.slot ≡ Idle r w k → Regrouped r st.first (Owns r w k) m m'

@@ -1,9 +1,9 @@
 //! One function for each kind of store of a group word.
 ghost use Rattle.std.specs.Prelude.{◌≡◌, ◌/◌, ◌%◌, ◌<◌, true, false};
-ghost use Rattle.live_rule.specs.declared.SlotRight.TheVariants.{Idle, Owns};
-ghost use Rattle.live_rule.specs.ReaderWords.{IsClosed};
-ghost use Rattle.live_rule.specs.Places.{bit_of};
-ghost use Rattle.live_rule.specs.Plays.{Keeps};
+ghost use Rattle.live_rule.specs.declared.rights.SlotRight.TheVariants.{Idle, Owns};
+ghost use Rattle.live_rule.specs.Readers.{IsClosed};
+ghost use Rattle.gp_memb.specs.Plan.{bit_of};
+ghost use Rattle.live_rule.specs.Steps.{Keeps};
 ghost use Rattle.live_table.specs.Rights.{HasGroups, IsIdle, IsOwner, count_in, word_in};
 ghost use Rattle.live_groups.specs.Bits.{DiffersAt, Regrouped, group_word};
 

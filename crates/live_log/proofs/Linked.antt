@@ -5,21 +5,12 @@ use Rattle.rcu_model.specs.declared.event.SectionId.{SectionId}
 use Rattle.rcu_model.specs.declared.event.ObjectId.{ObjectId}
 use Rattle.rcu_model.specs.declared.event.Event as machine
 use Rattle.rcu_model.specs.Machine.{State, IsOpen, IsLinkedIn, IsSuccessor, IsRun, state_after}
-use Rattle.rcu_model.specs.Protection.{WasLinkedIn}
 use Rattle.rcu_model.specs.Sets.{In, HasObject, first_of, next_of}
 use Rattle.rcu_model.proofs.Lemmas.{in_objects, has_object_in, first_has, next_of_has, state_is, run_is, run_parts, grows_run, Kept, was_linked_not_reclaimed, successor_was_linked, used_placed, IsPlaced, successor_placed_back, kept_log}
 use Rattle.live_log.specs.declared.event.LiveEvent.{LiveEvent}
-use Rattle.live_log.specs.Log.{Log, Begins, machine_log, state_of, objects_of, Follows, IsLiveRun}
+use Rattle.live_log.specs.Log.{Log, Begins, machine_log, events_of, WasLinked, state_of, objects_of, Follows, IsLiveRun}
 use Rattle.live_log.proofs.Machine as logs
 use Rattle.live_log.proofs.Machine.{events_since, is_machine_run}
-
--- the machine's events, the oldest first
-abbrev pub events_of : Log → List machine.Event
-events_of log = reverse (machine_log log)
-
--- at some moment since the section opened the object was linked
-abbrev pub WasLinked : SectionId → ObjectId → Log → Type 0
-WasLinked s o log = WasLinkedIn (events_of log) s o
 
 -- what follows an object is its successor
 follows_is : (log : Log) (o : ObjectId) (found : Option ObjectId) → Kept (state_of log) → Follows (objects_of log) o found → IsSuccessor (state_of log) o found

@@ -5,9 +5,9 @@ use Rattle.rcu_model.specs.Machine.{State}
 use Rattle.rcu_model.specs.Sets.{In, next_of, first_of}
 use Rattle.rcu_model.proofs.Lemmas.{first_has, next_of_has, state_is, used_placed, IsPlaced, successor_placed_back}
 use Rattle.live_log.specs.declared.event.LiveEvent.{LiveEvent}
-use Rattle.live_log.specs.Log.{Log, machine_log, state_of, objects_of, Follows, IsLiveRun}
+use Rattle.live_log.specs.Log.{Log, machine_log, events_of, state_of, objects_of, Follows, IsLiveRun}
 use Rattle.live_log.proofs.Machine.{is_machine_run, kept_log}
-use Rattle.live_log.proofs.Linked.{events_of, forward}
+use Rattle.live_log.proofs.Linked.{forward}
 
 module _ (qsbr : Bool) (allows : Log → LiveEvent → Type 0) where
   pub chain_used : (log : Log) (c : ℕ) (o : ObjectId) → IsLiveRun qsbr allows log → In ((state_of log).chain c) o → In (state_of log).used o

@@ -7,25 +7,25 @@ use lib.ListN.{get_elem?}
 use Rattle.std.proofs.Common.{lt_of_not-le}
 use Rattle.atomic_table.specs.Table.{State, Me, step, keeps, Allows}
 use Rattle.reader_word.specs.declared.layout.Layout.TheVariants.{Wide}
-use Rattle.gp_memb.specs.Plan.{Shows}
+use Rattle.gp_memb.specs.Plan.{Shows, bit_of}
 use Rattle.live_log.specs.declared.event.LiveEvent.{LiveEvent}
 use Rattle.live_log.specs.declared.event.LiveEvent.TheVariants.{Close, SeqOdd, SeqEven, Present}
 use Rattle.live_log.specs.Log.{Log, Has, open_of, sections_of, seq_of, present_of, before_odd, HaveEnded, MayFollow, IsLiveRun, MayCopy, MayBePresent, Begins}
-use Rattle.live_log.proofs.Runs.{still}
+use Rattle.live_log.proofs.Lemmas.{still}
 use Rattle.live_log.proofs.StoresPresent.{noted}
-use Rattle.live_log.proofs.Periods.{begins_before_odd, run_of}
-use Rattle.live_rule.specs.declared.Sizes.{Sizes}
-use Rattle.live_rule.specs.declared.View.{View}
-use Rattle.live_rule.specs.declared.GraceRight.{GraceRight}
-use Rattle.live_rule.specs.declared.GraceRight.TheVariants.{Nothing, Rests, Works}
-use Rattle.live_rule.specs.Places.{seq_at, present_at, group_at, slot_at, words_of, bit_of, bit_at}
-use Rattle.live_rule.specs.ReaderWords.{Shown, Saw, SawAll}
+use Rattle.live_log.proofs.Lemmas.{begins_before_odd, run_of}
+use Rattle.live_rule.specs.declared.view.Sizes.{Sizes}
+use Rattle.live_rule.specs.declared.view.View.{View}
+use Rattle.live_rule.specs.declared.rights.GraceRight.{GraceRight}
+use Rattle.live_rule.specs.declared.rights.GraceRight.TheVariants.{Nothing, Rests, Works}
+use Rattle.live_rule.specs.Places.{seq_at, present_at, group_at, slot_at, words_of, bit_at}
+use Rattle.live_rule.specs.Readers.{Shown, Saw, SawAll}
 use Rattle.live_rule.specs.Rights.{grace, ClaimsGrace, KnowsGrace}
-use Rattle.live_rule.specs.ReaderWords.{Fits}
+use Rattle.live_rule.specs.Readers.{Fits}
 use Rattle.live_rule.specs.Rule.{KeepsRule}
-use Rattle.live_rule.specs.Plays.{Wrote, at_log}
-use Rattle.live_rule.proofs.Frames.{saw_later}
-use Rattle.live_rule.proofs.Readers.{Apart, quiet_same, low_loads}
+use Rattle.live_rule.specs.Steps.{Wrote, at_log}
+use Rattle.live_rule.proofs.Lemmas.{saw_later}
+use Rattle.live_rule.proofs.Lemmas.{Apart, quiet_same, low_loads}
 use Rattle.live_periods.specs.Graces.{ShownAll, RefutesAll, looked_seq, Graced, looked_word, presented, began, ended}
 use Rattle.live_periods.proofs.Stores.{stores}
 
@@ -64,7 +64,7 @@ module _ {S : Type 0} (qsbr : Bool) (allows : Log → LiveEvent → Type 0) (key
 
   pub looks_seq : Allows Rule slots id me seq_at (λ n. n) (looked_seq qsbr allows (step slots seq_at 0 0 none) me)
   looks_seq s r deep at fine = (at_log me.0 r.log, keeps, tt, low_loads qsbr allows key s r id seq_at me.0 me.0.grace at (λ c. (r.knows grace id me.0 at c, c)),
-      ((refl, told s r [] at r.run), sym r.world.reading.seq))
+      ((refl, told s r [] at r.run), sym r.agree.readers.seq))
 
   -- a load of any word tells of the sections that were open at the mark
   pub looks_word : (i q t : ℕ) (mark : Log) (looks : List (ℕ × ℕ)) → me.0.grace ≡ Works q t mark looks → Allows Rule slots id me i (λ n. n) (looked_word qsbr allows (step slots i 0 0 none) me)
@@ -84,12 +84,12 @@ module _ {S : Type 0} (qsbr : Bool) (allows : Log → LiveEvent → Type 0) (key
     where
       shown : (s : State S View) (rule : Rule s) (i r n m : ℕ) → r < key.slots → open_of r rule.log ≡ some (n, m) → Shown qsbr (i, get_or s.words i 0) r m
       shown s rule i r n m low now =
-          ((λ (e : i ≡ slot_at r). subst (λ (j : ℕ). Shows qsbr Wide m (get_or s.words j 0)) (sym e) (subst (Fits qsbr (get_or s.words (slot_at r) 0)) now (rule.world.reading.each_slot r low))),
+          ((λ (e : i ≡ slot_at r). subst (λ (j : ℕ). Shows qsbr Wide m (get_or s.words j 0)) (sym e) (subst (Fits qsbr (get_or s.words (slot_at r) 0)) now (rule.agree.readers.each_slot r low))),
           λ (e : i ≡ group_at (r / 64)). subst (λ (j : ℕ). bit_of (get_or s.words j 0) (r % 64) ≡ true) (sym e) (set_bit (bit_at s.words r) refl))
         where
           set_bit : (b : Bool) → bit_at s.words r ≡ b → bit_at s.words r ≡ true
           set_bit true f = f
-          set_bit false f = absurd (some-ne-none (n, m) (sym now ∙ rule.world.reading.bits r low f))
+          set_bit false f = absurd (some-ne-none (n, m) (sym now ∙ rule.agree.readers.bits r low f))
 
   pub begins_period : (q t : ℕ) → me.0.grace ≡ Rests q t → q ≤ 2 ^ 62 → Allows Rule slots id me seq_at (λ _. q + 1) (λ _. began qsbr allows (step slots seq_at (q + 1) 0 none) me (q + 1))
   begins_period q t is small s rule deep at fine =
@@ -102,7 +102,7 @@ module _ {S : Type 0} (qsbr : Bool) (allows : Log → LiveEvent → Type 0) (key
       let may : MayFollow qsbr allows rule.log SeqOdd = ((omega arith), (omega arith)) in
       (w, keeps, tt,
         stores qsbr allows key s rule seq_at (q + 1) id me.0 right SeqOdd at (inl refl) (subst ClaimsGrace (sym is) tt) may (apart_odd rule.log)
-          (get_or-set_same s.words seq_at (q + 1) 0 (omega arith) ∙ sym seq) (get_or-set_other s.words seq_at present_at (q + 1) 0 (λ e. omega arith) ∙ rule.world.reading.present)
+          (get_or-set_same s.words seq_at (q + 1) 0 (omega arith) ∙ sym seq) (get_or-set_other s.words seq_at present_at (q + 1) 0 (λ e. omega arith) ∙ rule.agree.readers.present)
           (seq, k.1, omega arith, refl, tt),
         λ q' t' is'. let z = ap grace_or (sym is ∙ is') in
             subst (λ (y : (ℕ × ℕ) × Log × List (ℕ × ℕ)). Graced qsbr allows (Works (q + 1) y.0.1 rule.log []) (SeqOdd ∷ []) me (w, me.1) × (present_of rule.log ≡ y.0.1)) z ((refl, told s rule (SeqOdd ∷ []) at (may, rule.run)), k.1))
@@ -118,7 +118,7 @@ module _ {S : Type 0} (qsbr : Bool) (allows : Log → LiveEvent → Type 0) (key
       let may : MayFollow qsbr allows rule.log e = (ap (λ (z : ℕ). z % 2) k.0 ∙ k.2, subst (λ (z : ℕ × ℕ). MayBePresent qsbr z.0 z.1 x) (λ i. (sym k.0 i, sym k.1 i)) fits) in
       (w, keeps, tt,
         stores qsbr allows key s rule present_at x id me.0 right e at (inr refl) (subst ClaimsGrace (sym is) tt) may (apart_present x rule.log)
-          (get_or-set_other s.words present_at seq_at x 0 (λ e. omega arith) ∙ rule.world.reading.seq) (get_or-set_same s.words present_at x 0 (omega arith))
+          (get_or-set_other s.words present_at seq_at x 0 (λ e. omega arith) ∙ rule.agree.readers.seq) (get_or-set_same s.words present_at x 0 (omega arith))
           (k.0, refl, k.2, k.3, saw_later qsbr key.slots mark rule.log (e ∷ rule.log) looks (e ∷ [], refl) k.4),
         λ q' t' mark' looks' is'. let z = ap grace_or (sym is ∙ is') in
             subst (λ (y : (ℕ × ℕ) × Log × List (ℕ × ℕ)). Graced qsbr allows (Works y.0.0 x y.1 y.2) (e ∷ []) me (w, me.1)) z (refl, told s rule (e ∷ []) at (may, rule.run)))
@@ -138,7 +138,7 @@ module _ {S : Type 0} (qsbr : Bool) (allows : Log → LiveEvent → Type 0) (key
       let may : MayFollow qsbr allows rule.log SeqEven = (ap (λ (z : ℕ). z % 2) k.0 ∙ k.2, subst (λ (l : Log). HaveEnded l rule.log) (sym k.3) cleared) in
       (w, keeps, tt,
         stores qsbr allows key s rule seq_at (q + 1) id me.0 right SeqEven at (inl refl) (subst ClaimsGrace (sym is) tt) may (apart_even rule.log)
-          (get_or-set_same s.words seq_at (q + 1) 0 (omega arith) ∙ sym seq) (get_or-set_other s.words seq_at present_at (q + 1) 0 (λ e. omega arith) ∙ rule.world.reading.present)
+          (get_or-set_same s.words seq_at (q + 1) 0 (omega arith) ∙ sym seq) (get_or-set_other s.words seq_at present_at (q + 1) 0 (λ e. omega arith) ∙ rule.agree.readers.present)
           (seq, k.1, omega arith),
         λ q' t' mark' looks' is'. let z = ap grace_or (sym is ∙ is') in
             subst (λ (y : (ℕ × ℕ) × Log × List (ℕ × ℕ)). Graced qsbr allows (Rests (q + 1) y.0.1) (SeqEven ∷ []) me (w, me.1) × HaveEnded y.1 (SeqEven ∷ rule.log)) z
@@ -146,7 +146,7 @@ module _ {S : Type 0} (qsbr : Bool) (allows : Log → LiveEvent → Type 0) (key
     where
       cleared_of : (s : State S View) (rule : Rule s) (mark : Log) (looks : List (ℕ × ℕ)) → RefutesAll qsbr key.slots mark looks → before_odd rule.log ≡ mark → IsLiveRun qsbr allows mark → SawAll qsbr key.slots mark rule.log looks → HaveEnded mark rule.log
       cleared_of s rule mark looks refutes is run saw r n m was = dite (dec_le key.slots r)
-          (λ high. ⊎_elim (λ h. subst (Has (Close r n)) (sym since) h) (λ now. absurd (some-ne-none (n, m) (sym now ∙ (ap (open_of r) (sym since) ∙ rule.world.reading.beyond r high)))) (still qsbr allows b.0 mark r n m (subst (IsLiveRun qsbr allows) since rule.run) was))
+          (λ high. ⊎_elim (λ h. subst (Has (Close r n)) (sym since) h) (λ now. absurd (some-ne-none (n, m) (sym now ∙ (ap (open_of r) (sym since) ∙ rule.agree.readers.beyond r high)))) (still qsbr allows b.0 mark r n m (subst (IsLiveRun qsbr allows) since rule.run) was))
           (λ not. let low : r < key.slots = lt_of_not-le not in
             ⊎_elim (λ h. h) (λ shown. absurd (refutes r m low (noted qsbr allows mark r n m run was) shown)) (closed_or_shown qsbr key.slots mark rule.log looks r n m low was saw))
         where

@@ -2,9 +2,9 @@
 ghost use Rattle.std.specs.Prelude.{◌≡◌, ◌+◌, ◌<◌, ◌≤◌, ◌^◌, [], ◌∷◌};
 ghost use Rattle.live_log.specs.declared.event.LiveEvent.TheVariants.{SeqEven, SeqOdd, Present};
 ghost use Rattle.live_log.specs.Log.{HaveEnded, MayBePresent, before_odd, seq_of, present_of};
-ghost use Rattle.live_rule.specs.declared.GraceRight.TheVariants.{Rests, Works};
+ghost use Rattle.live_rule.specs.declared.rights.GraceRight.TheVariants.{Rests, Works};
 ghost use Rattle.live_rule.specs.Places.{group_at, slot_at};
-ghost use Rattle.live_rule.specs.Plays.{Keeps, Looked};
+ghost use Rattle.live_rule.specs.Steps.{Keeps, Looked};
 ghost use Rattle.live_table.specs.Rights.{IsResting, IsWorking, looks_in, mark_in, seq_in, present_in};
 ghost use Rattle.live_periods.specs.Graces.{Graced, RefutesAll};
 

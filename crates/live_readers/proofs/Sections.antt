@@ -7,19 +7,19 @@ use Rattle.gp_memb.specs.Plan.{Shows}
 use Rattle.live_log.specs.declared.event.LiveEvent.{LiveEvent}
 use Rattle.live_log.specs.declared.event.LiveEvent.TheVariants.{Open, Close}
 use Rattle.live_log.specs.Log.{Log, open_of, sections_of, present_of, IsLiveRun, MayCopy, Begins}
-use Rattle.live_log.proofs.Runs.{last_opened}
+use Rattle.live_log.proofs.Lemmas.{last_opened}
 use Rattle.live_log.proofs.StoresPresent.{copy_later, present_begins}
-use Rattle.live_rule.specs.declared.Sizes.{Sizes}
-use Rattle.live_rule.specs.declared.View.{View}
-use Rattle.live_rule.specs.declared.SlotRight.TheVariants.{Owns}
+use Rattle.live_rule.specs.declared.view.Sizes.{Sizes}
+use Rattle.live_rule.specs.declared.view.View.{View}
+use Rattle.live_rule.specs.declared.rights.SlotRight.TheVariants.{Owns}
 use Rattle.live_rule.specs.Places.{present_at, slot_at}
-use Rattle.live_rule.specs.ReaderWords.{IsClosed}
-use Rattle.live_rule.specs.ReaderWords.{Fits}
-use Rattle.live_rule.specs.Plays.{Precedes}
+use Rattle.live_rule.specs.Readers.{IsClosed}
+use Rattle.live_rule.specs.Readers.{Fits}
+use Rattle.live_rule.specs.Steps.{Precedes}
 use Rattle.live_rule.specs.Rule.{KeepsRule}
-use Rattle.live_rule.specs.Plays.{Wrote, at_log}
+use Rattle.live_rule.specs.Steps.{Wrote, at_log}
 use Rattle.live_rule.specs.Rights.{grace}
-use Rattle.live_rule.proofs.Readers.{low_loads}
+use Rattle.live_rule.proofs.Lemmas.{low_loads}
 use Rattle.live_readers.specs.Slots.{copied, opened_in, IsAt, looked_present, Stored, stored, opens_one, closes_one, announces}
 use Rattle.live_readers.proofs.Stores.{slot_or, stores}
 
@@ -56,7 +56,7 @@ module _ (qsbr : Bool) (allows : Log → LiveEvent → Type 0) where
 
     pub looks_present : Allows Rule slots id me present_at (λ n. n) (looked_present qsbr allows (step slots present_at 0 0 none) me)
     looks_present s r deep at fine = (at_log me.0 r.log, keeps, tt, low_loads qsbr allows key s r id present_at me.0 me.0.grace at (λ c. (r.knows grace id me.0 at c, c)),
-        ((refl, (r.log, refl, (r.seen id me.0 at).0, (r.seen id me.0 at).1, r.run)), sym r.world.reading.present))
+        ((refl, (r.log, refl, (r.seen id me.0 at).0, (r.seen id me.0 at).1, r.run)), sym r.agree.readers.present))
 
     copy_now : (log : Log) (m : ℕ) → IsLiveRun qsbr allows log → Precedes me.0 log → MayCopy qsbr (present_of me.0.seen) m → MayCopy qsbr (present_of log) m
     copy_now log m run follow = copy_later qsbr (present_of me.0.seen) (present_of log) m (present_begins qsbr allows me.0.seen log run follow.0)

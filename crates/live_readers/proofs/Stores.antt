@@ -7,16 +7,17 @@ use Rattle.atomic_table.specs.Table.{State, Me, keeps, Allows}
 use Rattle.live_log.specs.declared.event.LiveEvent.{LiveEvent}
 use Rattle.live_log.specs.declared.event.LiveEvent.TheVariants.{Open, Close, SeqOdd, SeqEven, Present, ChainNote, CloseQueue, Object}
 use Rattle.live_log.specs.Log.{Log, open_of, sections_of, seq_of, present_of, before_odd, chain_note, closed_of, objects_of, IsLiveRun}
-use Rattle.live_rule.specs.declared.Sizes.{Sizes}
-use Rattle.live_rule.specs.declared.View.{View}
-use Rattle.live_rule.specs.declared.SlotRight.{SlotRight}
-use Rattle.live_rule.specs.declared.SlotRight.TheVariants.{Owns}
-use Rattle.live_rule.specs.Places.{seq_at, present_at, group_at, slot_at, chains_from, words_of, bit_of, bit_at}
-use Rattle.live_rule.specs.ReaderWords.{Fits, ReaderWords}
+use Rattle.live_rule.specs.declared.view.Sizes.{Sizes}
+use Rattle.live_rule.specs.declared.view.View.{View}
+use Rattle.live_rule.specs.declared.rights.SlotRight.{SlotRight}
+use Rattle.live_rule.specs.declared.rights.SlotRight.TheVariants.{Owns}
+use Rattle.live_rule.specs.Places.{seq_at, present_at, group_at, slot_at, chains_from, words_of, bit_at}
+use Rattle.gp_memb.specs.Plan.{bit_of}
+use Rattle.live_rule.specs.Readers.{Fits, ReaderWords}
 use Rattle.live_rule.specs.Rights.{slot, ClaimsSlot, KnowsSlot}
 use Rattle.live_rule.specs.Rule.{KeepsRule}
-use Rattle.live_rule.specs.Plays.{Precedes, Wrote, at_log}
-use Rattle.live_rule.proofs.Readers.{Quiet, own_slot, groups_kept, grace_kept, low_stores}
+use Rattle.live_rule.specs.Steps.{Precedes, Wrote, at_log}
+use Rattle.live_rule.proofs.Lemmas.{Quiet, own_slot, groups_kept, grace_kept, low_stores}
 use Rattle.live_readers.specs.Slots.{IsAt, Stored}
 
 -- each of these events is of this slot
@@ -105,7 +106,7 @@ module _ {S : Type 0} (qsbr : Bool) (allows : Log → LiveEvent → Type 0) (key
       let claim : ClaimsSlot key v.slot r = subst (λ (y : SlotRight). ClaimsSlot key y r) (sym is) refl in
       let mine = subst (λ (y : SlotRight). KnowsSlot qsbr key rule.log s.words y r) is (rule.knows (slot r) id v at claim) in
       let low = mine.0 in
-      let g = rule.world.reading in
+      let g = rule.agree.readers in
       let small = g.small in
       let wide = rule.wide in
       let f = fits rule.log rule.run (rule.seen id v at) (subst (λ (z : ℕ). Fits qsbr z (open_of r rule.log)) mine.1 (g.each_slot r low), mine.2) in
@@ -114,7 +115,7 @@ module _ {S : Type 0} (qsbr : Bool) (allows : Log → LiveEvent → Type 0) (key
       let a : Apart r events rule.log = apart r events rule.log of in
       let bit = bits qsbr key rule.log s.words r x low small events a in
       (record (at_log v log') { slot = Owns r x count }, keeps, tt,
-        low_stores qsbr allows key s rule id (slot_at r) x v log' at (Owns r x count) v.bits v.grace (record { objects = a.objects; notes = a.notes; closed = a.closed; more = (events, refl) }) f.0 (omega arith)
+        low_stores qsbr allows key s rule id (slot_at r) x v log' at (Owns r x count) v.groups v.grace (record { objects = a.objects; notes = a.notes; closed = a.closed; more = (events, refl) }) f.0 (omega arith)
           (reading qsbr key rule.log s.words r x low small events a inside mine.3 f.1.0 g)
           (own_slot qsbr allows key s rule id (slot_at r) x v log' at r (Owns r x count) claim (λ p c. c) (low, get_or-set_same s.words (slot_at r) x 0 inside, f.1.1, bit r low ∙ mine.3)
             (λ p lp far. (slot_else qsbr key rule.log s.words r x low small events a p far, (a.others p far).1, bit p lp)))

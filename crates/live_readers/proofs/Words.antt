@@ -11,12 +11,12 @@ use Rattle.gp_memb.specs.Plan.{Shows}
 use Rattle.live_log.specs.declared.event.LiveEvent.{LiveEvent}
 use Rattle.live_log.specs.Log.{Log, seq_of, present_of, IsLiveRun, MayCopy}
 use Rattle.live_log.proofs.StoresPresent.{IsBound, bounded, seq_bounded}
-use Rattle.live_rule.specs.declared.View.{View}
-use Rattle.live_rule.specs.declared.SlotRight.TheVariants.{Owns}
-use Rattle.live_rule.specs.ReaderWords.{IsClosed}
-use Rattle.live_rule.specs.Plays.{Precedes}
-use Rattle.live_rule.specs.Plays.{Wrote, at_log, Looked}
-use Rattle.live_log.proofs.Stays.{begins_trans}
+use Rattle.live_rule.specs.declared.view.View.{View}
+use Rattle.live_rule.specs.declared.rights.SlotRight.TheVariants.{Owns}
+use Rattle.live_rule.specs.Readers.{IsClosed}
+use Rattle.live_rule.specs.Steps.{Precedes}
+use Rattle.live_rule.specs.Steps.{Wrote, at_log, Looked}
+use Rattle.live_log.proofs.Lemmas.{begins_trans}
 use Rattle.live_log.specs.declared.event.LiveEvent.TheVariants.{Open, Close}
 use Rattle.live_table.specs.Rights.{count_in}
 use Rattle.live_readers.specs.Slots.{copied, IsAt, Stored}

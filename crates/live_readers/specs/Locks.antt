@@ -4,7 +4,7 @@ use Rattle.atomic_table.specs.Table.{Me}
 use Rattle.live_log.specs.declared.event.LiveEvent.{LiveEvent}
 use Rattle.live_log.specs.declared.event.LiveEvent.TheVariants.{Open, Close}
 use Rattle.live_log.specs.Log.{Log}
-use Rattle.live_rule.specs.declared.View.{View}
+use Rattle.live_rule.specs.declared.view.View.{View}
 use Rattle.live_table.specs.Rights.{count_in}
 use Rattle.live_readers.specs.Slots.{Stored, copied}
 

@@ -1,7 +1,7 @@
 //! Announcements of the quiescent-state flavour.
 ghost use Rattle.std.specs.Prelude.{◌≡◌, ◌≢◌, ◌+◌, ◌<◌, true};
 ghost use Rattle.live_log.specs.Log.{present_of};
-ghost use Rattle.live_rule.specs.Plays.{Keeps};
+ghost use Rattle.live_rule.specs.Steps.{Keeps};
 ghost use Rattle.live_table.specs.Rights.{IsOwner, word_in};
 ghost use Rattle.live_readers.specs.Locks.{Announced, Closed, Opened};
 

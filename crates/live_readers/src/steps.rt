@@ -4,8 +4,8 @@ ghost use Rattle.reader_word.specs.declared.layout.Layout.TheVariants.{Wide};
 ghost use Rattle.gp_memb.specs.Plan.{Shows};
 ghost use Rattle.live_log.specs.declared.event.LiveEvent.TheVariants.{Close, Open};
 ghost use Rattle.live_log.specs.Log.{MayCopy, present_of};
-ghost use Rattle.live_rule.specs.ReaderWords.{IsClosed};
-ghost use Rattle.live_rule.specs.Plays.{Keeps, Looked};
+ghost use Rattle.live_rule.specs.Readers.{IsClosed};
+ghost use Rattle.live_rule.specs.Steps.{Keeps, Looked};
 ghost use Rattle.live_table.specs.Rights.{IsOwner, count_in, word_in};
 ghost use Rattle.live_readers.specs.Slots.{Stored, copied};
 

@@ -5,10 +5,10 @@ use Rattle.rcu_model.specs.declared.event.ObjectId.{ObjectId}
 use Rattle.rcu_model.specs.Sets.{In, IsPlace}
 use Rattle.rcu_model.proofs.Lemmas.{decide}
 use Rattle.live_log.specs.Log.{Objects, Spot, head, link, spot_of, Leads}
-use Rattle.live_log.proofs.Splices.{Moved, Still, head_no_link, link_is}
-use Rattle.live_rule.specs.declared.Sizes.{Sizes}
+use Rattle.live_log.proofs.Lemmas.{Moved, Still, head_no_link, link_is}
+use Rattle.live_rule.specs.declared.view.Sizes.{Sizes}
 use Rattle.live_rule.specs.Places.{head_at, last_at, cell_at}
-use Rattle.live_rule.specs.ObjectWords.{ref, IsAlive, IsLive, spot_at, IsPayload, Header, ObjectWords}
+use Rattle.live_rule.specs.Objects.{ref, IsAlive, IsLive, spot_at, IsPayload, Header, ObjectWords}
 use Rattle.live_rule.proofs.Frames.{ref_same, header_same, SameObject}
 
 -- the record of the object that enters

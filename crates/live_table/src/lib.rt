@@ -1,7 +1,8 @@
-//! The table of one domain, and how its seats are cut and joined.
 #![tactic(auto)]
+//! The table of words under a library over live threads, and how its seats are cut and joined.
 
-mod table;
+mod places;
 mod plays;
+mod table;
 
 pub use table::LiveTable;

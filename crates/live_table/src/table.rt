@@ -2,33 +2,42 @@
 ghost use Rattle.std.specs.Prelude.{◌≡◌, ◌<◌, ◌≤◌};
 ghost use Rattle.live_rule.specs.Places.{words_of};
 
-use crate::plays::{CutGroups, CutGrace, CutObject, CutSlot, CutPost, CutSpareQueue, CutSpareSlot, JoinAll, Learn, TakeObject, Tell};
+use crate::plays::{
+    CutChains, CutGrace, CutGroups, CutLentChains, CutObject, CutSlot, CutSpareQueue, CutSpareSlot,
+    CutWork, JoinAll, Learn, TakeObject, Tell,
+};
 use atomic_table::Table;
 use gp_memb::GracePlan;
 use live_log::ChainRule;
-use live_rule::{LiveRule, Sizes, LiveSeat, View};
+use live_rule::{LiveRule, LiveSeat, Sizes, View};
 use std::alloc::{AllocError, Global};
 
+/// The words of one domain, under the rule for grace periods by the plans `P` and chains by the rule `K`.
 #[derive(Drop)]
 pub struct LiveTable<P: GracePlan, K: ChainRule> {
+    /// The words, with the atomic steps on them.
     pub words: Table<(), View, Sizes, LiveRule<P, K>, Global>,
+    /// How many slots for readers it has, at most 256.
     pub slots: usize,
+    /// How many chains, at most 4096.
     pub chains: usize,
+    /// How many queues, at most 8.
     pub queues: usize,
+    /// How many records, at most 65536.
     pub pool: usize,
     pub ghost laid: { words.shared.table_id.words ≡ words_of words.shared.key },
     pub ghost sized: { (slots ≡ words.shared.key.slots) × (slots ≤ 256) × (chains ≡ words.shared.key.chains) × (chains ≤ 4096) × (queues ≡ words.shared.key.queues) × (queues ≤ 8) × (pool ≡ words.shared.key.pool) × (pool ≤ 65536) },
 }
 
-/// What the domain's rule asks of a table.
+/// How seats are made, cut and joined. A cut and a join are one load of word 0 each.
 impl<P: GracePlan, K: ChainRule> LiveTable<P, K> {
     ghost use Rattle.std.specs.Prelude.{ℕ, ◌+◌, ◌*◌, [], IfOk};
     ghost use Rattle.live_rule.specs.Views.{first_view};
-    ghost use Rattle.live_rule.specs.Seats.{IsSpareQueue, IsSpareSlot, groups_alone, but_groups, but_grace, but_slot, gets_object, gets_post, gets_queue, gets_slot, grace_alone, heard_view, loses_object, loses_post, loses_queue, loses_slot, merged, slot_alone, taken_view, told_view};
-    ghost use Rattle.live_rule.specs.Places.{group_at, seq_at, slot_at, present_at};
+    ghost use Rattle.live_rule.specs.Seats.{IsSpareQueue, IsSpareSlot, but_chains, but_first_queue, but_first_slot, but_grace, but_groups, but_lent, but_object, but_slot, but_work, chains_alone, first_queue, first_slot, grace_alone, groups_alone, heard_view, lent_alone, merged, object_alone, slot_alone, taken_view, told_view, work_alone};
     ghost use Rattle.live_table.specs.Steps.{Cut, Joined};
 
-    /// All words are 0, and the seat has every right that no hold word guards.
+    /// A table of these sizes whose words are all 0, and its first seat, which has every right that no hold word guards.
+    /// It is refused where memory is.
     pub fn new(
         alloc: Global,
         slots: usize,
@@ -37,7 +46,7 @@ impl<P: GracePlan, K: ChainRule> LiveTable<P, K> {
         pool: usize,
     ) -> Result<(LiveTable<P, K>, LiveSeat), AllocError>
         requires { (slots ≤ 256) × (chains ≤ 4096) × (queues ≤ 8) × (pool ≤ 65536) }
-        ensures { IfOk result (λ b. (b.1.table_id ≡ b.0.words.shared.table_id) × (b.1.me ≡ (first_view b.0.words.shared.key, [])) × (b.0.slots ≡ slots) × (b.0.chains ≡ chains) × (b.0.queues ≡ queues) × (b.0.pool ≡ pool)) }
+        ensures { IfOk result (λ made. (made.1.table_id ≡ made.0.words.shared.table_id) × (made.1.me ≡ (first_view made.0.words.shared.key, [])) × (made.0.slots ≡ slots) × (made.0.chains ≡ chains) × (made.0.queues ≡ queues) × (made.0.pool ≡ pool)) }
     {
         let zeros = vec![in alloc; 0u64; 16 * slots + 8 * chains + 32 * queues + 6 * pool + 112]?;
         let key = Sizes {
@@ -56,7 +65,7 @@ impl<P: GracePlan, K: ChainRule> LiveTable<P, K> {
             }, seat))
     }
 
-    /// A seat that has seen as much, and has no right.
+    /// Cuts off a seat that has seen as much and has no right: what the first seat has seen can be told to another by it.
     pub fn tell(&self, seat: &mut LiveSeat) -> LiveSeat
         requires { seat.old.table_id ≡ self.now.words.shared.table_id }
         ensures { Cut (λ v. v) told_view seat.old seat.new result }
@@ -64,39 +73,7 @@ impl<P: GracePlan, K: ChainRule> LiveTable<P, K> {
         self.words.shared.split_seat::<Tell>(seat)
     }
 
-    /// A seat for the first spare slot.
-    pub fn cut_spare_slot(&self, seat: &mut LiveSeat) -> LiveSeat
-        requires { (seat.old.table_id ≡ self.now.words.shared.table_id) × IsSpareSlot seat.old.me.0 self.now.slots }
-        ensures { Cut loses_slot gets_slot seat.old seat.new result }
-    {
-        self.words.shared.split_seat::<CutSpareSlot>(seat)
-    }
-
-    /// A seat for the lock of the first spare queue.
-    pub fn cut_spare_queue(&self, seat: &mut LiveSeat) -> LiveSeat
-        requires { (seat.old.table_id ≡ self.now.words.shared.table_id) × IsSpareQueue seat.old.me.0 self.now.queues }
-        ensures { Cut loses_queue gets_queue seat.old seat.new result }
-    {
-        self.words.shared.split_seat::<CutSpareQueue>(seat)
-    }
-
-    /// A seat for the object.
-    pub fn cut_object(&self, seat: &mut LiveSeat) -> LiveSeat
-        requires { seat.old.table_id ≡ self.now.words.shared.table_id }
-        ensures { Cut loses_object gets_object seat.old seat.new result }
-    {
-        self.words.shared.split_seat::<CutObject>(seat)
-    }
-
-    /// A seat for the chain, or for the work of the queue.
-    pub fn cut_post(&self, seat: &mut LiveSeat) -> LiveSeat
-        requires { seat.old.table_id ≡ self.now.words.shared.table_id }
-        ensures { Cut loses_post gets_post seat.old seat.new result }
-    {
-        self.words.shared.split_seat::<CutPost>(seat)
-    }
-
-    /// The seat hears what another has seen.
+    /// The seat hears what another has seen, which is spent.
     pub fn learn(&self, seat: &mut LiveSeat, other: LiveSeat)
         requires { (seat.old.table_id ≡ self.now.words.shared.table_id) × (other.table_id ≡ self.now.words.shared.table_id) × (other.me.1 ≡ []) }
         ensures { Joined heard_view seat.old seat.new other.me.0 }
@@ -104,39 +81,8 @@ impl<P: GracePlan, K: ChainRule> LiveTable<P, K> {
         self.words.shared.join_seat::<Learn>(seat, other)
     }
 
-    /// The seat takes in another's object.
-    pub fn take_object(&self, seat: &mut LiveSeat, other: LiveSeat)
-        requires { (seat.old.table_id ≡ self.now.words.shared.table_id) × (other.table_id ≡ self.now.words.shared.table_id) × (other.me.1 ≡ []) }
-        ensures { Joined taken_view seat.old seat.new other.me.0 }
-    {
-        self.words.shared.join_seat::<TakeObject>(seat, other)
-    }
-
-    /// A seat for the slot.
-    pub fn cut_slot(&self, seat: &mut LiveSeat) -> LiveSeat
-        requires { seat.old.table_id ≡ self.now.words.shared.table_id }
-        ensures { Cut but_slot slot_alone seat.old seat.new result }
-    {
-        self.words.shared.split_seat::<CutSlot>(seat)
-    }
-
-    /// A seat for the group words.
-    pub fn cut_groups(&self, seat: &mut LiveSeat) -> LiveSeat
-        requires { seat.old.table_id ≡ self.now.words.shared.table_id }
-        ensures { Cut but_groups groups_alone seat.old seat.new result }
-    {
-        self.words.shared.split_seat::<CutGroups>(seat)
-    }
-
-    /// A seat for SEQ, and PHASE or NUM.
-    pub fn cut_grace(&self, seat: &mut LiveSeat) -> LiveSeat
-        requires { seat.old.table_id ≡ self.now.words.shared.table_id }
-        ensures { Cut but_grace grace_alone seat.old seat.new result }
-    {
-        self.words.shared.split_seat::<CutGrace>(seat)
-    }
-
-    /// The seat takes in what it lacks of another's rights, and hears what that has seen.
+    /// The seat takes in what it lacks of another's rights, and all its chains behind its own, and hears what that has
+    /// seen, which is spent.
     pub fn join(&self, seat: &mut LiveSeat, other: LiveSeat)
         requires { (seat.old.table_id ≡ self.now.words.shared.table_id) × (other.table_id ≡ self.now.words.shared.table_id) × (other.me.1 ≡ []) }
         ensures { Joined merged seat.old seat.new other.me.0 }
@@ -144,33 +90,83 @@ impl<P: GracePlan, K: ChainRule> LiveTable<P, K> {
         self.words.shared.join_seat::<JoinAll>(seat, other)
     }
 
-    /// Where the word of a slot lies.
-    pub fn slot_place(&self, slot: usize) -> usize
-        requires { slot < self.now.slots }
-        ensures { (result ≡ slot_at slot) × (result < self.now.words.shared.table_id.words) }
+    /// The seat takes in another's object, in the place of its own, and hears what that has seen, which is spent.
+    pub fn take_object(&self, seat: &mut LiveSeat, other: LiveSeat)
+        requires { (seat.old.table_id ≡ self.now.words.shared.table_id) × (other.table_id ≡ self.now.words.shared.table_id) × (other.me.1 ≡ []) }
+        ensures { Joined taken_view seat.old seat.new other.me.0 }
     {
-        16 * slot + 64
+        self.words.shared.join_seat::<TakeObject>(seat, other)
     }
 
-    /// Where the word of a group of 64 slots lies.
-    pub fn group_place(&self, group: usize) -> usize
-        requires { group < 4 }
-        ensures { (result ≡ group_at group) × (result < self.now.words.shared.table_id.words) }
+    /// Cuts off a seat for the first spare slot, which is idle.
+    pub fn cut_spare_slot(&self, seat: &mut LiveSeat) -> LiveSeat
+        requires { (seat.old.table_id ≡ self.now.words.shared.table_id) × IsSpareSlot seat.old.me.0 self.now.slots }
+        ensures { Cut but_first_slot first_slot seat.old seat.new result }
     {
-        48 + group
+        self.words.shared.split_seat::<CutSpareSlot>(seat)
     }
 
-    /// Where SEQ lies.
-    pub fn seq_place(&self) -> usize
-        ensures { (result ≡ seq_at) × (result < self.now.words.shared.table_id.words) }
+    /// Cuts off a seat with the right to slots, as it is.
+    pub fn cut_slot(&self, seat: &mut LiveSeat) -> LiveSeat
+        requires { seat.old.table_id ≡ self.now.words.shared.table_id }
+        ensures { Cut but_slot slot_alone seat.old seat.new result }
     {
-        16
+        self.words.shared.split_seat::<CutSlot>(seat)
     }
 
-    /// Where PHASE or NUM lies.
-    pub fn present_place(&self) -> usize
-        ensures { (result ≡ present_at) × (result < self.now.words.shared.table_id.words) }
+    /// Cuts off a seat with the right to the group words.
+    pub fn cut_groups(&self, seat: &mut LiveSeat) -> LiveSeat
+        requires { seat.old.table_id ≡ self.now.words.shared.table_id }
+        ensures { Cut but_groups groups_alone seat.old seat.new result }
     {
-        32
+        self.words.shared.split_seat::<CutGroups>(seat)
+    }
+
+    /// Cuts off a seat with the right to the words of grace periods.
+    pub fn cut_grace(&self, seat: &mut LiveSeat) -> LiveSeat
+        requires { seat.old.table_id ≡ self.now.words.shared.table_id }
+        ensures { Cut but_grace grace_alone seat.old seat.new result }
+    {
+        self.words.shared.split_seat::<CutGrace>(seat)
+    }
+
+    /// Cuts off a seat for the first spare queue.
+    pub fn cut_spare_queue(&self, seat: &mut LiveSeat) -> LiveSeat
+        requires { (seat.old.table_id ≡ self.now.words.shared.table_id) × IsSpareQueue seat.old.me.0 self.now.queues }
+        ensures { Cut but_first_queue first_queue seat.old seat.new result }
+    {
+        self.words.shared.split_seat::<CutSpareQueue>(seat)
+    }
+
+    /// Cuts off a seat with the right to the object.
+    pub fn cut_object(&self, seat: &mut LiveSeat) -> LiveSeat
+        requires { seat.old.table_id ≡ self.now.words.shared.table_id }
+        ensures { Cut but_object object_alone seat.old seat.new result }
+    {
+        self.words.shared.split_seat::<CutObject>(seat)
+    }
+
+    /// Cuts off a seat with all rights to chains.
+    pub fn cut_chains(&self, seat: &mut LiveSeat) -> LiveSeat
+        requires { seat.old.table_id ≡ self.now.words.shared.table_id }
+        ensures { Cut but_chains chains_alone seat.old seat.new result }
+    {
+        self.words.shared.split_seat::<CutChains>(seat)
+    }
+
+    /// Cuts off a seat with the rights to all chains but the first: those that were joined to it, in their order.
+    pub fn cut_lent_chains(&self, seat: &mut LiveSeat) -> LiveSeat
+        requires { seat.old.table_id ≡ self.now.words.shared.table_id }
+        ensures { Cut but_lent lent_alone seat.old seat.new result }
+    {
+        self.words.shared.split_seat::<CutLentChains>(seat)
+    }
+
+    /// Cuts off a seat with the right to a queue's work.
+    pub fn cut_work(&self, seat: &mut LiveSeat) -> LiveSeat
+        requires { seat.old.table_id ≡ self.now.words.shared.table_id }
+        ensures { Cut but_work work_alone seat.old seat.new result }
+    {
+        self.words.shared.split_seat::<CutWork>(seat)
     }
 }

@@ -1,5 +1,5 @@
 use Rattle.std.proofs.Common.{rules, ◌≡◌, ◌≢◌, ℕ, ◌/◌, ◌%◌, ◌<◌, ap, sym, ◌∙◌, arith}
-use Rattle.live_rule.specs.Places.{bit_of}
+use Rattle.gp_memb.specs.Plan.{bit_of}
 use Rattle.live_groups.proofs.claims.release.Goals as goal
 
 pub store_clear-requires-clause-word : goal.store_clear-requires-clause-word

@@ -1,6 +1,6 @@
 use Rattle.std.proofs.Common.{rules, ◌≡◌, ℕ, ◌+◌, ◌∷◌, arith, sym, subst, ap, ◌∙◌}
 use Rattle.std.proofs.Common.{[]}
-use Rattle.live_rule.specs.declared.GraceRight.TheVariants.{Works}
+use Rattle.live_rule.specs.declared.rights.GraceRight.TheVariants.{Works}
 use Rattle.live_table.specs.Rights.{looks_in, mark_in, seq_in, present_in}
 use Rattle.live_periods.specs.Graces.{Graced}
 use Rattle.live_periods.proofs.Periods.{looks_word}

@@ -1,5 +1,5 @@
 use Rattle.std.proofs.Common.{rules, ◌≡◌, ℕ, ◌+◌, ◌*◌, arith, ◌∙◌, refl, sym}
-use Rattle.live_rule.proofs.Seats.{starts_zero}
+use Rattle.live_rule.proofs.Lemmas.{starts_zero}
 use Rattle.live_table.proofs.table.LiveTable.new.Goals as goal
 
 pub of_words-requires : goal.of_words-requires

@@ -1,5 +1,5 @@
 use Rattle.std.proofs.Common.{rules, ◌+◌, ◌*◌, arith}
-use Rattle.live_rule.proofs.Seats.{tells}
+use Rattle.live_rule.proofs.Lemmas.{tells}
 use Rattle.live_table.proofs.table.LiveTable.tell.Goals as goal
 
 pub split_seat-requires : goal.split_seat-requires

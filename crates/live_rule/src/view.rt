@@ -1,0 +1,46 @@
+//! What a seat knows.
+
+use crate::rights::{
+    ChainRight, GraceRight, GroupsRight, QueueRight, RecordRight, SlotRight, WorkRight,
+};
+use live_log::LiveEvent;
+use std::collections::LinkedList;
+
+/// How many slots, chains, queues and records a table has.
+#[derive(Drop)]
+pub struct Sizes {
+    /// The slots of readers.
+    pub slots: u64,
+    /// The chains.
+    pub chains: u64,
+    /// The queues.
+    pub queues: u64,
+    /// The records.
+    pub pool: u64,
+}
+
+/// What a seat knows: what it has seen and heard of the log, and its rights. No value of it is made at run time.
+pub struct View {
+    /// What the table was made with.
+    pub sizes: Sizes,
+    /// The log at the seat's last step.
+    pub seen: LinkedList<LiveEvent>,
+    /// What another seat told it, which its next step makes a part of what it has seen.
+    pub heard: LinkedList<LiveEvent>,
+    /// Its right to the words of readers.
+    pub slot: SlotRight,
+    /// Its right to the group words.
+    pub groups: GroupsRight,
+    /// Its right to the words of grace periods.
+    pub grace: GraceRight,
+    /// Its rights to chains: its own one, and those that it was lent.
+    pub chains: LinkedList<ChainRight>,
+    /// Its right to an object.
+    pub object: RecordRight,
+    /// Its right to a queue.
+    pub queue: QueueRight,
+    /// Its right to a queue's work.
+    pub work: WorkRight,
+    /// Words that it loaded, each with its place, the last one first.
+    pub looks: LinkedList<(u64, u64)>,
+}
