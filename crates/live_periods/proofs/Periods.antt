@@ -12,7 +12,7 @@ use Rattle.live_log.specs.declared.event.LiveEvent.{LiveEvent}
 use Rattle.live_log.specs.declared.event.LiveEvent.TheVariants.{Close, SeqOdd, SeqEven, Present}
 use Rattle.live_log.specs.Log.{Log, Has, open_of, sections_of, seq_of, present_of, before_odd, HaveEnded, MayFollow, IsLiveRun, MayCopy, MayBePresent, Begins}
 use Rattle.live_log.proofs.Lemmas.{still}
-use Rattle.live_log.proofs.StoresPresent.{noted}
+use Rattle.live_log.proofs.Lemmas.{noted}
 use Rattle.live_log.proofs.Lemmas.{begins_before_odd, run_of}
 use Rattle.live_rule.specs.declared.view.Sizes.{Sizes}
 use Rattle.live_rule.specs.declared.view.View.{View}

@@ -18,7 +18,7 @@ use live_rule::LiveSeat;
 pub fn load_seq<P: GracePlan, K: ChainRule>(table: &LiveTable<P, K>, seat: &mut LiveSeat) -> u64
     requires { seat.old.table_id ≡ table.now.words.shared.table_id }
     ensures seat { Keeps seat.old seat.new }
-    ensures Looked { Looked P.QSBR K.allows seat.old.me seat.new.me }
+    ensures looked { Looked P.QSBR K.allows seat.old.me seat.new.me }
     ensures seq { seq_of seat.new.me.0.seen ≡ result }
 {
     let place = table.seq_place();
@@ -34,7 +34,7 @@ pub fn load_slot<P: GracePlan, K: ChainRule>(
     requires seat { (seat.old.table_id ≡ table.now.words.shared.table_id) × (slot < table.now.slots) }
     requires right { IsWorking seat.old.me.0 }
     ensures seat { Keeps seat.old seat.new }
-    ensures Looked { Graced P.QSBR K.allows (Works (seq_in seat.old.me.0.grace) (present_in seat.old.me.0.grace) (mark_in seat.old.me.0.grace) ((slot_at slot, result) ∷ looks_in seat.old.me.0.grace)) [] seat.old.me seat.new.me }
+    ensures looked { Graced P.QSBR K.allows (Works (seq_in seat.old.me.0.grace) (present_in seat.old.me.0.grace) (mark_in seat.old.me.0.grace) ((slot_at slot, result) ∷ looks_in seat.old.me.0.grace)) [] seat.old.me seat.new.me }
 {
     let place = table.slot_place(slot);
     table.words.shared.load::<LooksWord<P, K>>(seat, place)
@@ -49,7 +49,7 @@ pub fn load_group<P: GracePlan, K: ChainRule>(
     requires seat { (seat.old.table_id ≡ table.now.words.shared.table_id) × (group < 4) }
     requires right { IsWorking seat.old.me.0 }
     ensures seat { Keeps seat.old seat.new }
-    ensures Looked { Graced P.QSBR K.allows (Works (seq_in seat.old.me.0.grace) (present_in seat.old.me.0.grace) (mark_in seat.old.me.0.grace) ((group_at group, result) ∷ looks_in seat.old.me.0.grace)) [] seat.old.me seat.new.me }
+    ensures looked { Graced P.QSBR K.allows (Works (seq_in seat.old.me.0.grace) (present_in seat.old.me.0.grace) (mark_in seat.old.me.0.grace) ((group_at group, result) ∷ looks_in seat.old.me.0.grace)) [] seat.old.me seat.new.me }
 {
     let place = table.group_place(group);
     table.words.shared.load::<LooksWord<P, K>>(seat, place)

@@ -8,7 +8,7 @@ use Rattle.live_log.specs.declared.event.LiveEvent.{LiveEvent}
 use Rattle.live_log.specs.declared.event.LiveEvent.TheVariants.{Open, Close}
 use Rattle.live_log.specs.Log.{Log, open_of, sections_of, present_of, IsLiveRun, MayCopy, Begins}
 use Rattle.live_log.proofs.Lemmas.{last_opened}
-use Rattle.live_log.proofs.StoresPresent.{copy_later, present_begins}
+use Rattle.live_log.proofs.Lemmas.{copy_later, present_begins}
 use Rattle.live_rule.specs.declared.view.Sizes.{Sizes}
 use Rattle.live_rule.specs.declared.view.View.{View}
 use Rattle.live_rule.specs.declared.rights.SlotRight.TheVariants.{Owns}
@@ -20,7 +20,7 @@ use Rattle.live_rule.specs.Rule.{KeepsRule}
 use Rattle.live_rule.specs.Steps.{Wrote, at_log}
 use Rattle.live_rule.specs.Rights.{grace}
 use Rattle.live_rule.proofs.Lemmas.{low_loads}
-use Rattle.live_readers.specs.Slots.{copied, opened_in, IsAt, looked_present, Stored, stored, opens_one, closes_one, announces}
+use Rattle.live_readers.specs.Sections.{copied, opened_in, IsAt, looked_present, Stored, stored, opens, nests, closes, announces}
 use Rattle.live_readers.proofs.Stores.{slot_or, stores}
 
 -- a shut word fits no open section, and another one fits some
@@ -35,17 +35,15 @@ open_fits b w (some x) f z = (x, refl, f)
 
 module _ (qsbr : Bool) (allows : Log → LiveEvent → Type 0) where
   -- the section that stands in a word
-  pub standing : (log : Log) (r w k : ℕ) → IsLiveRun qsbr allows log → IsAt qsbr r w k log → (IsClosed qsbr w → ⊥) → (m : ℕ) × (open_of r log ≡ some (k - 1, m)) × Shows qsbr Wide m w
+  pub standing : (log : Log) (r w k : ℕ) → IsLiveRun qsbr allows log → IsAt qsbr r w k log → (IsClosed qsbr w → ⊥) → (m : ℕ) × (open_of r log ≡ some (k, m)) × Shows qsbr Wide m w
   standing log r w k run at stands =
       let o = open_fits qsbr w (open_of r log) at.0 stands in
-      let last = (last_opened qsbr allows log r o.0.0 o.0.1 run o.1).0 in
-      let count = at.1 in
-      let ordinal : o.0.0 ≡ k - 1 = omega arith in
+      let ordinal : o.0.0 ≡ k = sym (last_opened qsbr allows log r o.0.0 o.0.1 run o.1).0 ∙ at.1 in
       (o.0.1, o.1 ∙ (λ i. some (ordinal i, o.0.1)), o.2)
 
-  opened : (log : Log) (r k m x : ℕ) → IsLiveRun qsbr allows log → open_of r log ≡ none → sections_of r log ≡ k → MayCopy qsbr (present_of log) m → Shows qsbr Wide m x → IsLiveRun qsbr allows (Open r k m ∷ log) × IsAt qsbr r x (k + 1) (Open r k m ∷ log)
+  opened : (log : Log) (r k m x : ℕ) → IsLiveRun qsbr allows log → open_of r log ≡ none → sections_of r log ≡ k → MayCopy qsbr (present_of log) m → Shows qsbr Wide m x → IsLiveRun qsbr allows (Open r (k + 1) m ∷ log) × IsAt qsbr r x (k + 1) (Open r (k + 1) m ∷ log)
   opened log r k m x run shut count note shows =
-      (((shut, count, note), run), (subst (Fits qsbr x) (ap (λ b. cond b (some (k, m)) (open_of r log)) (sym (eq-eqb r r refl))) shows, ap (λ b. cond b (sections_of r log + 1) (sections_of r log)) (eq-eqb r r refl) ∙ ap (λ z. z + 1) count))
+      (((shut, ap (λ z. z + 1) (sym count), note), run), (subst (Fits qsbr x) (ap (λ b. cond b (some (k + 1, m)) (open_of r log)) (sym (eq-eqb r r refl))) shows, ap (λ b. cond b (sections_of r log + 1) (sections_of r log)) (eq-eqb r r refl) ∙ ap (λ z. z + 1) count))
 
   closed : (log : Log) (r k m : ℕ) → open_of r log ≡ some (k, m) → open_of r (Close r k ∷ log) ≡ none
   closed log r k m at = ap (λ b. cond b none (open_of r log)) (eq-eqb r r refl)
@@ -70,23 +68,23 @@ module _ (qsbr : Bool) (allows : Log → LiveEvent → Type 0) where
         subst (λ (z : ℕ × ℕ × ℕ). Stored qsbr allows z.0 x (z.2 + opened_in (events z.0 z.2 x)) (events z.0 z.2 x) me (t.0, Rattle.atomic_table.specs.Table.carried_after me.1 t.1)) (ap slot_or (sym is ∙ is')) t.4)
 
     pub opens_slot : (r w k x : ℕ) → me.0.slot ≡ Owns r w k → IsClosed qsbr w → Shows qsbr Wide (copied qsbr x) x → MayCopy qsbr (present_of me.0.seen) (copied qsbr x)
-        → Allows Rule slots id me (slot_at r) (λ _. x) (λ _. stored qsbr allows (opens_one qsbr) (step slots (slot_at r) x 0 none) me x)
-    opens_slot r w k x is shut shows note = telling r w k x (opens_one qsbr) is (stores qsbr allows key slots id me r w k x (k + 1) (Open r k (copied qsbr x) ∷ []) is (refl, tt)
+        → Allows Rule slots id me (slot_at r) (λ _. x) (λ _. stored qsbr allows (opens qsbr) (step slots (slot_at r) x 0 none) me x)
+    opens_slot r w k x is shut shows note = telling r w k x (opens qsbr) is (stores qsbr allows key slots id me r w k x (k + 1) (opens qsbr r k x) is (refl, tt)
         (λ log run follow at. opened log r k (copied qsbr x) x run (shut_fits qsbr w (open_of r log) at.0 shut) at.1 (copy_now log (copied qsbr x) run follow note) shows))
 
     pub closes_slot : (r w k x : ℕ) → me.0.slot ≡ Owns r w k → (IsClosed qsbr w → ⊥) → IsClosed qsbr x
-        → Allows Rule slots id me (slot_at r) (λ _. x) (λ _. stored qsbr allows (closes_one qsbr) (step slots (slot_at r) x 0 none) me x)
-    closes_slot r w k x is stands shut = telling r w k x (closes_one qsbr) is (stores qsbr allows key slots id me r w k x (k + 0) (Close r (k - 1) ∷ []) is (refl, tt)
+        → Allows Rule slots id me (slot_at r) (λ _. x) (λ _. stored qsbr allows (closes qsbr) (step slots (slot_at r) x 0 none) me x)
+    closes_slot r w k x is stands shut = telling r w k x (closes qsbr) is (stores qsbr allows key slots id me r w k x (k + 0) (closes qsbr r k x) is (refl, tt)
         (λ log run follow at. let o = standing log r w k run at stands in
-          (((o.0, o.1), run), (subst (Fits qsbr x) (sym (closed log r (k - 1) o.0 o.1)) shut, at.1 ∙ omega arith))))
+          (((o.0, o.1), run), (subst (Fits qsbr x) (sym (closed log r k o.0 o.1)) shut, at.1 ∙ omega arith))))
 
     pub nests_slot : (r w k x : ℕ) → me.0.slot ≡ Owns r w k → (IsClosed qsbr w → ⊥) → ((m : ℕ) → Shows qsbr Wide m w → Shows qsbr Wide m x)
-        → Allows Rule slots id me (slot_at r) (λ _. x) (λ _. stored qsbr allows (λ _ _ _. []) (step slots (slot_at r) x 0 none) me x)
-    nests_slot r w k x is stands shows = telling r w k x (λ _ _ _. []) is (stores qsbr allows key slots id me r w k x (k + 0) [] is tt
+        → Allows Rule slots id me (slot_at r) (λ _. x) (λ _. stored qsbr allows (nests qsbr) (step slots (slot_at r) x 0 none) me x)
+    nests_slot r w k x is stands shows = telling r w k x (nests qsbr) is (stores qsbr allows key slots id me r w k x (k + 0) [] is tt
         (λ log run follow at. let o = standing log r w k run at stands in (run, (subst (Fits qsbr x) (sym o.1) (shows o.0 o.2), at.1 ∙ omega arith))))
 
     pub announces_slot : (r w k x : ℕ) → me.0.slot ≡ Owns r w k → (IsClosed qsbr w → ⊥) → Shows qsbr Wide (copied qsbr x) x → MayCopy qsbr (present_of me.0.seen) (copied qsbr x)
         → Allows Rule slots id me (slot_at r) (λ _. x) (λ _. stored qsbr allows (announces qsbr) (step slots (slot_at r) x 0 none) me x)
-    announces_slot r w k x is stands shows note = telling r w k x (announces qsbr) is (stores qsbr allows key slots id me r w k x (k + 1) (Open r k (copied qsbr x) ∷ Close r (k - 1) ∷ []) is (refl, (refl, tt))
+    announces_slot r w k x is stands shows note = telling r w k x (announces qsbr) is (stores qsbr allows key slots id me r w k x (k + 1) (announces qsbr r k x) is (refl, (refl, tt))
         (λ log run follow at. let o = standing log r w k run at stands in
-          opened (Close r (k - 1) ∷ log) r k (copied qsbr x) x ((o.0, o.1), run) (closed log r (k - 1) o.0 o.1) at.1 (copy_now log (copied qsbr x) run follow note) shows))
+          opened (Close r k ∷ log) r k (copied qsbr x) x ((o.0, o.1), run) (closed log r k o.0 o.1) at.1 (copy_now log (copied qsbr x) run follow note) shows))

@@ -18,7 +18,7 @@ use Rattle.live_rule.specs.Rights.{slot, ClaimsSlot, KnowsSlot}
 use Rattle.live_rule.specs.Rule.{KeepsRule}
 use Rattle.live_rule.specs.Steps.{Precedes, Wrote, at_log}
 use Rattle.live_rule.proofs.Lemmas.{Quiet, own_slot, groups_kept, grace_kept, low_stores}
-use Rattle.live_readers.specs.Slots.{IsAt, Stored}
+use Rattle.live_readers.specs.Sections.{IsAt, Stored}
 
 -- each of these events is of this slot
 abbrev pub IsOf : ℕ → Log → Type 0

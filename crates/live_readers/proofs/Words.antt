@@ -1,26 +1,22 @@
 -- What the words of locks and announcements show.
-use Rattle.std.proofs.Common.{◌≡◌, ◌≢◌, ◌⊎◌, ℕ, ◌+◌, ◌-◌, ◌%◌, ◌<◌, ◌≤◌, ◌^◌, List, [], ◌∷◌, ◌++◌, Bool, true, false, not, ◌==◌, Result, Ok, Err, sym, refl, ap, ◌∙◌, subst, inl, inr, ⊎_elim, arith, true≢false}
+use Rattle.std.proofs.Common.{◌≡◌, ◌≢◌, ◌⊎◌, ℕ, zero, suc, ◌+◌, ◌-◌, ◌%◌, ◌<◌, ◌≤◌, ◌^◌, List, [], ◌∷◌, ◌++◌, Bool, true, false, not, ◌==◌, Result, Ok, Err, sym, refl, ap, ◌∙◌, subst, inl, inr, ⊎_elim, arith, true≢false}
 use Rattle.std.proofs.lemmas.Bool.Decides.{eqb_tells, nat_tests}
 use mathlib.Core.Option.{Option, none, some}
 use Rattle.atomic_table.specs.Table.{Me}
 use Rattle.rcu_model.specs.declared.refusal.Refusal.{Refusal}
 use Rattle.reader_word.specs.declared.layout.Layout.TheVariants.{Wide}
 use Rattle.reader_word.specs.Word.{number, count_of, phase_in, is_open_of, entered_of, left_of}
-use Rattle.reader_word.proofs.Lemmas.{NestsDeeper}
+use Rattle.reader_word.proofs.Lemmas.{NestsDeeper, entered_of-opens}
 use Rattle.gp_memb.specs.Plan.{Shows}
 use Rattle.live_log.specs.declared.event.LiveEvent.{LiveEvent}
-use Rattle.live_log.specs.Log.{Log, seq_of, present_of, IsLiveRun, MayCopy}
-use Rattle.live_log.proofs.StoresPresent.{IsBound, bounded, seq_bounded}
+use Rattle.live_log.specs.Log.{Log, seq_of, present_of, IsLiveRun, MayCopy, IsBound}
+use Rattle.live_log.proofs.Lemmas.{bounded, seq_low, begins_trans}
 use Rattle.live_rule.specs.declared.view.View.{View}
 use Rattle.live_rule.specs.declared.rights.SlotRight.TheVariants.{Owns}
 use Rattle.live_rule.specs.Readers.{IsClosed}
-use Rattle.live_rule.specs.Steps.{Precedes}
-use Rattle.live_rule.specs.Steps.{Wrote, at_log, Looked}
-use Rattle.live_log.proofs.Lemmas.{begins_trans}
-use Rattle.live_log.specs.declared.event.LiveEvent.TheVariants.{Open, Close}
+use Rattle.live_rule.specs.Steps.{Precedes, Wrote, at_log, Looked}
 use Rattle.live_table.specs.Rights.{count_in}
-use Rattle.live_readers.specs.Slots.{copied, IsAt, Stored}
-use Rattle.live_readers.specs.Locks.{Opened, Announced}
+use Rattle.live_readers.specs.Sections.{copied, IsAt, Stored, opens, announces, Opened, Announced, CopiedBefore}
 
 -- an open word shows what it copied
 pub shows_copied : (w : ℕ) → count_of Wide w ≢ 0 → Shows false Wide (copied false w) w
@@ -50,35 +46,59 @@ opened_is w t e = ⊎_elim (λ (y : ((count_of Wide w == 0) ≡ true) × (count_
 pub shut_is : (w : ℕ) → is_open_of Wide w ≡ false → count_of Wide w ≡ 0
 shut_is w t = ⊎_elim (λ (y : ((count_of Wide w == 0) ≡ true) × (count_of Wide w ≡ 0)). y.1) (λ (n : ((count_of Wide w == 0) ≡ false) × (count_of Wide w ≢ 0)). absurd (true≢false (sym (ap not n.0) ∙ t))) (eqb_tells (count_of Wide w) 0)
 
+-- a phase is copied by the word that it makes
+pub phase_copied : (b : Bool) → b ≡ false → (word new seq present : ℕ) → count_of Wide word ≡ 0 → entered_of Wide word (present == 1) ≡ Ok new → IsBound b seq present → present ≡ copied b new
+phase_copied true is word new seq present closed made low = absurd (true≢false is)
+phase_copied false is word new seq present closed made low = is_number present low ∙ ap number (sym (entered_of-opens Wide word (present == 1) new closed made).1)
+  where
+    is_number : (n : ℕ) → n < 2 → n ≡ number (n == 1)
+    is_number zero l = refl
+    is_number (suc zero) l = refl
+    is_number (suc (suc n)) l = absurd (omega arith)
+
+-- and a number by the word that announces it
+pub number_copied : (b : Bool) → b ≡ true → (word present : ℕ) → word ≡ present + 1 → present ≡ copied b word
+number_copied true is word present e = omega arith
+number_copied false is word present e = absurd (true≢false (sym is))
+
 module _ (qsbr : Bool) (allows : Log → LiveEvent → Type 0) where
-  -- NUM is far below 2^63
-  pub num_low : (log : Log) → IsLiveRun qsbr allows log → qsbr ≡ true → present_of log < 2 ^ 63
-  num_low log run is = let s = seq_bounded qsbr allows log run in go qsbr (present_of log) (seq_of log) (bounded qsbr allows log run) is s.0 s.1
+  -- a number is far below 2^63
+  pub number_low : (log : Log) → IsLiveRun qsbr allows log → qsbr ≡ true → present_of log < 2 ^ 63
+  number_low log run is = below qsbr (present_of log) (bounded qsbr allows log run) is
     where
-      go : (b : Bool) (present seq : ℕ) → IsBound b seq present → b ≡ true → (seq % 2 ≡ 0 → seq ≤ 2 ^ 62 + 2) → (seq % 2 ≡ 1 → seq ≤ 2 ^ 62 + 1) → present < 2 ^ 63
-      go true present seq b t even odd = ⊎_elim (λ (e : seq % 2 ≡ 0). let h = even e in omega arith) (λ (o : seq % 2 ≡ 1). let h = odd o in omega arith) (parity seq)
-        where
-          parity : (n : ℕ) → (n % 2 ≡ 0) ⊎ (n % 2 ≡ 1)
-          parity n = ⊎_elim (λ (y : ((n % 2 == 0) ≡ true) × (n % 2 ≡ 0)). inl y.1) (λ (z : ((n % 2 == 0) ≡ false) × (n % 2 ≢ 0)). let z1 = z.1 in inr (omega arith)) (eqb_tells (n % 2) 0)
-      go false present seq b t even odd = absurd (true≢false (sym t))
+      below : (b : Bool) (present : ℕ) → IsBound b (seq_of log) present → b ≡ true → present < 2 ^ 63
+      below true present b t = let s = seq_low qsbr allows log run in omega arith
+      below false present b t = absurd (true≢false (sym t))
 
 module _ {S : Type 0} (qsbr : Bool) (allows : Log → LiveEvent → Type 0) where
+  through : (m mid : Me S View) → Looked qsbr allows m mid → Precedes m.0 mid.0.seen
+  through m mid look = (begins_trans m.0.seen look.1.0 mid.0.seen look.1.2 ([], look.1.1), begins_trans m.0.heard look.1.0 mid.0.seen look.1.3 ([], look.1.1))
+
+  -- a load leaves the count of sections alone
+  same_count : (m mid : Me S View) → Looked qsbr allows m mid → count_in mid.0.slot ≡ count_in m.0.slot
+  same_count m mid look = ap (λ (z : Me S View). count_in z.0.slot) look.0
+
   -- a load, and then a store
-  pub looked_stored : (r x count : ℕ) (events : Log) (m mid m' : Me S View) → Looked qsbr allows m mid → Stored qsbr allows r x count events mid m' → Stored qsbr allows r x count events m m'
-  looked_stored r x count events m mid m' look st = (
+  stored_after : (r x count : ℕ) (events : Log) (m mid m' : Me S View) → Looked qsbr allows m mid → Stored qsbr allows r x count events mid m' → Stored qsbr allows r x count events m m'
+  stored_after r x count events m mid m' look st = (
     st.0 ∙ ap (λ (z : Me S View). (record (at_log z.0 m'.0.seen) { slot = Owns r x count }, z.1)) look.0,
     (st.1.0, st.1.1, begins_trans m.0.seen mid.0.seen st.1.0 (through m mid look).0 st.1.2, begins_trans m.0.heard mid.0.seen st.1.0 (through m mid look).1 st.1.2, st.1.4),
     st.2,
   )
-    where
-      through : (m mid : Me S View) → Looked qsbr allows m mid → Precedes m.0 mid.0.seen
-      through m mid look = (begins_trans m.0.seen look.1.0 mid.0.seen look.1.2 ([], look.1.1), begins_trans m.0.heard look.1.0 mid.0.seen look.1.3 ([], look.1.1))
 
   -- the same, of a lock and of an announcement
   pub opened_after : (r x : ℕ) (m mid m' : Me S View) → Looked qsbr allows m mid → Opened qsbr allows r x mid m' → Opened qsbr allows r x m m'
-  opened_after r x m mid m' look st = subst (λ (k : ℕ). Stored qsbr allows r x (k + 1) (Open r k (copied qsbr x) ∷ []) m m') (ap (λ (z : Me S View). count_in z.0.slot) look.0)
-      (looked_stored r x (count_in mid.0.slot + 1) (Open r (count_in mid.0.slot) (copied qsbr x) ∷ []) m mid m' look st)
+  opened_after r x m mid m' look st = subst (λ (k : ℕ). Stored qsbr allows r x (k + 1) (opens qsbr r k x) m m') (same_count m mid look)
+      (stored_after r x (count_in mid.0.slot + 1) (opens qsbr r (count_in mid.0.slot) x) m mid m' look st)
 
   pub announced_after : (r x : ℕ) (m mid m' : Me S View) → Looked qsbr allows m mid → Announced qsbr allows r x mid m' → Announced qsbr allows r x m m'
-  announced_after r x m mid m' look st = subst (λ (k : ℕ). Stored qsbr allows r x (k + 1) (Open r k (copied qsbr x) ∷ Close r (k - 1) ∷ []) m m') (ap (λ (z : Me S View). count_in z.0.slot) look.0)
-      (looked_stored r x (count_in mid.0.slot + 1) (Open r (count_in mid.0.slot) (copied qsbr x) ∷ Close r (count_in mid.0.slot - 1) ∷ []) m mid m' look st)
+  announced_after r x m mid m' look st = subst (λ (k : ℕ). Stored qsbr allows r x (k + 1) (announces qsbr r k x) m m') (same_count m mid look)
+      (stored_after r x (count_in mid.0.slot + 1) (announces qsbr r (count_in mid.0.slot) x) m mid m' look st)
+
+  -- what was loaded is what the store's word copied
+  pub copied_before : (written : ℕ → ℕ → ℕ → Log) (r x count : ℕ) (m mid m' : Me S View) → Looked qsbr allows m mid → Stored qsbr allows r x count (written r (count_in mid.0.slot) x) mid m' → present_of mid.0.seen ≡ copied qsbr x
+      → CopiedBefore qsbr allows r x m m' (written r (count_in m.0.slot) x)
+  copied_before written r x count m mid m' look st is =
+      let b = st.1.2 in
+      subst (λ (k : ℕ). CopiedBefore qsbr allows r x m m' (written r k x)) (same_count m mid look)
+        (mid.0.seen, b.0, (through m mid look).0, st.1.1 ∙ ap (λ (l : Log). written r (count_in mid.0.slot) x ++ l) b.1, is)

@@ -1,18 +1,18 @@
 //! Announcements of the quiescent-state flavour.
-ghost use Rattle.std.specs.Prelude.{◌≡◌, ◌≢◌, ◌+◌, ◌<◌, true};
-ghost use Rattle.live_log.specs.Log.{present_of};
+ghost use Rattle.std.specs.Prelude.{◌≡◌, ◌≢◌, ◌<◌, true};
 ghost use Rattle.live_rule.specs.Steps.{Keeps};
-ghost use Rattle.live_table.specs.Rights.{IsOwner, word_in};
-ghost use Rattle.live_readers.specs.Locks.{Announced, Closed, Opened};
+ghost use Rattle.live_table.specs.Rights.{IsOwner, count_in, word_in};
+ghost use Rattle.live_readers.specs.Sections.{Announced, Closed, CopiedBefore, Opened, announces, opens};
 
+use crate::steps::{load_present, store_close, store_open, store_quiescent};
 use gp_memb::GracePlan;
 use live_log::ChainRule;
-use live_table::LiveTable;
 use live_rule::LiveSeat;
-use crate::steps::{load_present, store_close, store_open, store_quiescent};
+use live_table::LiveTable;
 use reader_word::qs_announced;
 
-/// The reader goes online: it loads the number and sections_of a section. The new word.
+/// A reader goes online, liburcu's `rcu_thread_online`: it loads the number and then opens a section, which copied that
+/// number. Answers the word that it stores, which is not 0. It never waits.
 pub fn online<P: GracePlan, K: ChainRule>(
     table: &LiveTable<P, K>,
     seat: &mut LiveSeat,
@@ -23,6 +23,7 @@ pub fn online<P: GracePlan, K: ChainRule>(
     requires right { IsOwner seat.old.me.0 slot × (word_in seat.old.me.0.slot ≡ 0) }
     ensures seat { Keeps seat.old seat.new }
     ensures opened { Opened P.QSBR K.allows slot result seat.old.me seat.new.me × (result ≢ 0) }
+    ensures copied { CopiedBefore P.QSBR K.allows slot result seat.old.me seat.new.me (opens P.QSBR slot (count_in seat.old.me.0.slot) result) }
 {
     let num = load_present(table, seat);
     let word = qs_announced(num);
@@ -30,7 +31,9 @@ pub fn online<P: GracePlan, K: ChainRule>(
     word
 }
 
-/// The reader announces a quiescent state: it loads the number, and one store closes its section and sections_of the next one.
+/// An online reader announces a quiescent state, liburcu's `rcu_quiescent_state`: it loads the number, and one store closes
+/// its section and opens the next one, which copied that number. Answers the word that it stores, which is not 0. It never
+/// waits.
 pub fn quiescent<P: GracePlan, K: ChainRule>(
     table: &LiveTable<P, K>,
     seat: &mut LiveSeat,
@@ -41,6 +44,7 @@ pub fn quiescent<P: GracePlan, K: ChainRule>(
     requires right { IsOwner seat.old.me.0 slot × (word_in seat.old.me.0.slot ≢ 0) }
     ensures seat { Keeps seat.old seat.new }
     ensures announced { Announced P.QSBR K.allows slot result seat.old.me seat.new.me × (result ≢ 0) }
+    ensures copied { CopiedBefore P.QSBR K.allows slot result seat.old.me seat.new.me (announces P.QSBR slot (count_in seat.old.me.0.slot) result) }
 {
     let num = load_present(table, seat);
     let word = qs_announced(num);
@@ -48,8 +52,12 @@ pub fn quiescent<P: GracePlan, K: ChainRule>(
     word
 }
 
-/// The reader goes offline, and closes its section.
-pub fn offline<P: GracePlan, K: ChainRule>(table: &LiveTable<P, K>, seat: &mut LiveSeat, slot: usize)
+/// An online reader goes offline, liburcu's `rcu_thread_offline`, and closes its section. It never waits.
+pub fn offline<P: GracePlan, K: ChainRule>(
+    table: &LiveTable<P, K>,
+    seat: &mut LiveSeat,
+    slot: usize,
+)
     requires flavour { P.QSBR ≡ true }
     requires seat { (seat.old.table_id ≡ table.now.words.shared.table_id) × (slot < table.now.slots) }
     requires right { IsOwner seat.old.me.0 slot × (word_in seat.old.me.0.slot ≢ 0) }

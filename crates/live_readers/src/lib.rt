@@ -1,5 +1,5 @@
 #![tactic(auto)]
-//! The steps of readers on their words.
+//! The steps of readers on their words: locks, and announcements.
 
 mod announcements;
 mod locks;

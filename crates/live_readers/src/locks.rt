@@ -4,18 +4,21 @@ ghost use Rattle.rcu_model.specs.declared.refusal.Refusal.TheVariants.{NestFull,
 ghost use Rattle.reader_word.specs.declared.layout.Layout.TheVariants.{Wide};
 ghost use Rattle.reader_word.specs.Word.{count_of, entered_of, greatest_count, left_of};
 ghost use Rattle.live_rule.specs.Steps.{Keeps};
-ghost use Rattle.live_table.specs.Rights.{IsOwner, word_in};
-ghost use Rattle.live_readers.specs.Locks.{Closed, Nested, Opened};
+ghost use Rattle.live_table.specs.Rights.{IsOwner, count_in, word_in};
+ghost use Rattle.live_readers.specs.Sections.{Closed, CopiedBefore, Nested, Opened, opens};
 
+use crate::steps::{load_present, store_close, store_inner, store_open};
 use gp_memb::GracePlan;
 use live_log::ChainRule;
-use live_table::LiveTable;
 use live_rule::LiveSeat;
-use crate::steps::{load_present, store_close, store_inner, store_open};
+use live_table::LiveTable;
 use rcu_model::Refusal;
 use reader_word::{Layout, entered, is_open, left};
 
-/// One lock: the outermost loads the phase and sections_of a section. The new word.
+/// One lock of a reader, liburcu's `rcu_read_lock`, by the word that it stored last; answers the word that it stores now.
+/// An outermost lock loads the phase and then opens a section, which copied that phase.
+///
+/// Refused with `NestFull` exactly at the greatest count, 2,147,483,647, before any store. It never waits.
 pub fn lock<P: GracePlan, K: ChainRule>(
     table: &LiveTable<P, K>,
     seat: &mut LiveSeat,
@@ -28,6 +31,7 @@ pub fn lock<P: GracePlan, K: ChainRule>(
     ensures seat { Keeps seat.old seat.new }
     ensures word { IfOk result (λ new. (phase : Bool) × (entered_of Wide word phase ≡ Ok new)) }
     ensures outermost { count_of Wide word ≡ 0 → IfOk result (λ new. Opened P.QSBR K.allows slot new seat.old.me seat.new.me) }
+    ensures copied { count_of Wide word ≡ 0 → IfOk result (λ new. CopiedBefore P.QSBR K.allows slot new seat.old.me seat.new.me (opens P.QSBR slot (count_in seat.old.me.0.slot) new)) }
     ensures inner { count_of Wide word ≢ 0 → IfOk result (λ new. Nested P.QSBR K.allows slot new seat.old.me seat.new.me) }
     ensures refused { IfErr result (λ e. (e ≡ NestFull) × (count_of Wide word ≡ greatest_count Wide) × (seat.new ≡ seat.old)) }
 {
@@ -42,7 +46,10 @@ pub fn lock<P: GracePlan, K: ChainRule>(
     Ok(new)
 }
 
-/// One unlock: the outermost closes the section. The new word.
+/// One unlock of a reader, liburcu's `rcu_read_unlock`, by the word that it stored last; answers the word that it stores
+/// now. An outermost unlock closes the section.
+///
+/// Refused with `NotOpen` exactly where no lock is open, before any store. It never waits.
 pub fn unlock<P: GracePlan, K: ChainRule>(
     table: &LiveTable<P, K>,
     seat: &mut LiveSeat,

@@ -1,6 +1,5 @@
 //! What each step of a reader tells.
-ghost use Rattle.std.specs.Prelude.{[]};
-ghost use Rattle.live_readers.specs.Slots.{announces, closes_one, looked_present, opens_one, stored};
+ghost use Rattle.live_readers.specs.Sections.{announces, closes, looked_present, nests, opens, stored};
 
 use atomic_table::Play;
 use gp_memb::GracePlan;
@@ -17,19 +16,19 @@ impl<P: GracePlan, K: ChainRule> Play<(), View> for LooksPresent<P, K> {
 pub(crate) struct Opens<P, K>(PhantomData<(P, K)>);
 
 impl<P: GracePlan, K: ChainRule> Play<(), View> for Opens<P, K> {
-    ghost then = { stored P.QSBR K.allows (opens_one P.QSBR) };
+    ghost then = { stored P.QSBR K.allows (opens P.QSBR) };
 }
 
 pub(crate) struct Nests<P, K>(PhantomData<(P, K)>);
 
 impl<P: GracePlan, K: ChainRule> Play<(), View> for Nests<P, K> {
-    ghost then = { stored P.QSBR K.allows (λ _ _ _. []) };
+    ghost then = { stored P.QSBR K.allows (nests P.QSBR) };
 }
 
 pub(crate) struct Closes<P, K>(PhantomData<(P, K)>);
 
 impl<P: GracePlan, K: ChainRule> Play<(), View> for Closes<P, K> {
-    ghost then = { stored P.QSBR K.allows (closes_one P.QSBR) };
+    ghost then = { stored P.QSBR K.allows (closes P.QSBR) };
 }
 
 pub(crate) struct Announces<P, K>(PhantomData<(P, K)>);

@@ -1,6 +1,21 @@
-use Rattle.std.proofs.Common.{rules, ◌≡◌, ℕ, arith}
-use Rattle.live_readers.proofs.Words.{opened_after}
+use Rattle.std.proofs.Common.{rules, ◌≡◌, ℕ, ◌==◌, Result, Ok, arith, sym, ap, ◌∙◌, subst}
+use Rattle.reader_word.specs.declared.layout.Layout.TheVariants.{Wide}
+use Rattle.reader_word.specs.Word.{entered_of}
+use Rattle.live_log.specs.Log.{seq_of, IsBound}
+use Rattle.live_log.proofs.Lemmas.{bounded}
+use Rattle.live_readers.specs.Sections.{opens}
+use Rattle.live_readers.proofs.Words.{opened_after, copied_before, phase_copied}
 use Rattle.live_readers.proofs.locks.lock.Goals as goal
 
 pub returns-clause-outermost : goal.returns-clause-outermost
-returns-clause-outermost g c shut = opened_after g.P.GracePlan.QSBR g.K.ChainRule.allows c.args.slot c.in_ok-new-2.new c.args.seat.now.me c.load_turn-phase.new.seat.me c.store_open.new.seat.me c.load_turn-phase.ensures.Looked c.store_open.ensures.opened
+returns-clause-outermost g c closed = opened_after g.P.GracePlan.QSBR g.K.ChainRule.allows c.args.slot c.in_ok-new-2.new c.args.seat.now.me c.load_present-phase.new.seat.me c.store_open.new.seat.me c.load_present-phase.ensures.looked c.store_open.ensures.opened
+
+pub returns-clause-copied : goal.returns-clause-copied
+returns-clause-copied g c closed =
+    let qsbr = g.P.GracePlan.QSBR in
+    let mid = c.load_present-phase.new.seat.me in
+    let load = c.load_present-phase.ensures in
+    let made : entered_of Wide c.args.word (c.load_present-phase.result == 1) ≡ Ok c.in_ok-new-2.new = search rules in
+    let low : IsBound qsbr (seq_of mid.0.seen) c.load_present-phase.result = subst (IsBound qsbr (seq_of mid.0.seen)) load.present (bounded qsbr g.K.ChainRule.allows mid.0.seen load.looked.1.4) in
+    copied_before qsbr g.K.ChainRule.allows (opens qsbr) c.args.slot c.in_ok-new-2.new _ c.args.seat.now.me mid c.store_open.new.seat.me load.looked c.store_open.ensures.opened
+      (load.present ∙ phase_copied qsbr c.requires.flavour c.args.word c.in_ok-new-2.new (seq_of mid.0.seen) c.load_present-phase.result closed made low)
