@@ -20,7 +20,7 @@ use Rattle.live_rule.specs.Rule.{KeepsRule}
 use Rattle.live_rule.specs.Steps.{Wrote, at_log}
 use Rattle.live_rule.proofs.Lemmas.{quiet_same, own_slot, own_groups, grace_kept, low_stores}
 use Rattle.live_table.specs.Rights.{groups_in}
-use Rattle.live_groups.specs.Bits.{DiffersAt, Regrouped, claimed, released}
+use Rattle.live_groups.specs.Groups.{DiffersAt, Regrouped, claimed, released}
 
 -- a right to the slot r alone
 abbrev IsOfSlot : Sizes → ℕ → SlotRight → Type 0

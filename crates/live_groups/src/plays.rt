@@ -1,5 +1,5 @@
 //! What a store of a group word tells.
-ghost use Rattle.live_groups.specs.Bits.{claimed, released};
+ghost use Rattle.live_groups.specs.Groups.{claimed, released};
 
 use atomic_table::Play;
 use gp_memb::GracePlan;

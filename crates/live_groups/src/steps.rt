@@ -5,7 +5,7 @@ ghost use Rattle.live_rule.specs.Readers.{IsClosed};
 ghost use Rattle.gp_memb.specs.Plan.{bit_of};
 ghost use Rattle.live_rule.specs.Steps.{Keeps};
 ghost use Rattle.live_table.specs.Rights.{HasGroups, IsIdle, IsOwner, count_in, word_in};
-ghost use Rattle.live_groups.specs.Bits.{DiffersAt, Regrouped, group_word};
+ghost use Rattle.live_groups.specs.Groups.{DiffersAt, Regrouped, group_word};
 
 use crate::plays::{Claims, Releases};
 use gp_memb::GracePlan;
@@ -13,7 +13,8 @@ use live_log::ChainRule;
 use live_table::LiveTable;
 use live_rule::LiveSeat;
 
-/// The bit of a slot is set, before its reader is handed out. From here on sections may be opened there.
+/// The store that sets the bit of an idle slot, before its reader is handed out. From here on sections may be opened in
+/// the slot.
 pub fn store_set<P: GracePlan, K: ChainRule>(
     table: &LiveTable<P, K>,
     seat: &mut LiveSeat,
@@ -30,7 +31,7 @@ pub fn store_set<P: GracePlan, K: ChainRule>(
     table.words.shared.store::<Claims<P, K>>(seat, place, word);
 }
 
-/// The bit of a slot is cleared, once its reader's word is shut.
+/// The store that clears the bit of a slot, once its reader's word is closed. From here on no section may be opened there.
 pub fn store_clear<P: GracePlan, K: ChainRule>(
     table: &LiveTable<P, K>,
     seat: &mut LiveSeat,

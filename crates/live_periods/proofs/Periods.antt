@@ -12,7 +12,7 @@ use Rattle.live_log.specs.declared.event.LiveEvent.{LiveEvent}
 use Rattle.live_log.specs.declared.event.LiveEvent.TheVariants.{Close, SeqOdd, SeqEven, Present}
 use Rattle.live_log.specs.Log.{Log, Has, open_of, sections_of, seq_of, present_of, before_odd, HaveEnded, MayFollow, IsLiveRun, MayCopy, MayBePresent, Begins}
 use Rattle.live_log.proofs.Lemmas.{still}
-use Rattle.live_log.proofs.Lemmas.{noted}
+use Rattle.live_log.proofs.Lemmas.{copied_bounded}
 use Rattle.live_log.proofs.Lemmas.{begins_before_odd, run_of}
 use Rattle.live_rule.specs.declared.view.Sizes.{Sizes}
 use Rattle.live_rule.specs.declared.view.View.{View}
@@ -26,7 +26,7 @@ use Rattle.live_rule.specs.Rule.{KeepsRule}
 use Rattle.live_rule.specs.Steps.{Wrote, at_log}
 use Rattle.live_rule.proofs.Lemmas.{saw_later}
 use Rattle.live_rule.proofs.Lemmas.{Apart, quiet_same, low_loads}
-use Rattle.live_periods.specs.Graces.{ShownAll, RefutesAll, looked_seq, Graced, looked_word, presented, began, ended}
+use Rattle.live_periods.specs.Periods.{ShownAll, TellsAllEnded, looked_seq, GraceBecomes, looked_word, presented, began, ended}
 use Rattle.live_periods.proofs.Stores.{stores}
 
 apart_odd : (log : Log) → Apart SeqOdd log
@@ -80,7 +80,7 @@ module _ {S : Type 0} (qsbr : Bool) (allows : Log → LiveEvent → Type 0) (key
       (w, keeps, tt,
         low_loads qsbr allows key s rule id i me.0 right at (λ _. ((k.0, k.1, k.2, k.3, (saw, k.4)), subst ClaimsGrace (sym is) tt)),
         λ q' t' mark' looks' is'. let z = ap grace_or (sym is ∙ is') in
-            subst (λ (y : (ℕ × ℕ) × Log × List (ℕ × ℕ)). Graced qsbr allows (Works y.0.0 y.0.1 y.1 ((i, x) ∷ y.2)) [] me (w, me.1)) z (refl, told s rule [] at rule.run))
+            subst (λ (y : (ℕ × ℕ) × Log × List (ℕ × ℕ)). GraceBecomes qsbr allows (Works y.0.0 y.0.1 y.1 ((i, x) ∷ y.2)) [] me (w, me.1)) z (refl, told s rule [] at rule.run))
     where
       shown : (s : State S View) (rule : Rule s) (i r n m : ℕ) → r < key.slots → open_of r rule.log ≡ some (n, m) → Shown qsbr (i, get_or s.words i 0) r m
       shown s rule i r n m low now =
@@ -105,7 +105,7 @@ module _ {S : Type 0} (qsbr : Bool) (allows : Log → LiveEvent → Type 0) (key
           (get_or-set_same s.words seq_at (q + 1) 0 (omega arith) ∙ sym seq) (get_or-set_other s.words seq_at present_at (q + 1) 0 (λ e. omega arith) ∙ rule.agree.readers.present)
           (seq, k.1, omega arith, refl, tt),
         λ q' t' is'. let z = ap grace_or (sym is ∙ is') in
-            subst (λ (y : (ℕ × ℕ) × Log × List (ℕ × ℕ)). Graced qsbr allows (Works (q + 1) y.0.1 rule.log []) (SeqOdd ∷ []) me (w, me.1) × (present_of rule.log ≡ y.0.1)) z ((refl, told s rule (SeqOdd ∷ []) at (may, rule.run)), k.1))
+            subst (λ (y : (ℕ × ℕ) × Log × List (ℕ × ℕ)). GraceBecomes qsbr allows (Works (q + 1) y.0.1 rule.log []) (SeqOdd ∷ []) me (w, me.1) × (present_of rule.log ≡ y.0.1)) z ((refl, told s rule (SeqOdd ∷ []) at (may, rule.run)), k.1))
 
   pub stores_present : (q t x : ℕ) (mark : Log) (looks : List (ℕ × ℕ)) → me.0.grace ≡ Works q t mark looks → MayBePresent qsbr q t x
       → Allows Rule slots id me present_at (λ _. x) (λ _. presented qsbr allows (step slots present_at x 0 none) me x)
@@ -121,9 +121,9 @@ module _ {S : Type 0} (qsbr : Bool) (allows : Log → LiveEvent → Type 0) (key
           (get_or-set_other s.words present_at seq_at x 0 (λ e. omega arith) ∙ rule.agree.readers.seq) (get_or-set_same s.words present_at x 0 (omega arith))
           (k.0, refl, k.2, k.3, saw_later qsbr key.slots mark rule.log (e ∷ rule.log) looks (e ∷ [], refl) k.4),
         λ q' t' mark' looks' is'. let z = ap grace_or (sym is ∙ is') in
-            subst (λ (y : (ℕ × ℕ) × Log × List (ℕ × ℕ)). Graced qsbr allows (Works y.0.0 x y.1 y.2) (e ∷ []) me (w, me.1)) z (refl, told s rule (e ∷ []) at (may, rule.run)))
+            subst (λ (y : (ℕ × ℕ) × Log × List (ℕ × ℕ)). GraceBecomes qsbr allows (Works y.0.0 x y.1 y.2) (e ∷ []) me (w, me.1)) z (refl, told s rule (e ∷ []) at (may, rule.run)))
 
-  pub ends_period : (q t : ℕ) (mark : Log) (looks : List (ℕ × ℕ)) → me.0.grace ≡ Works q t mark looks → RefutesAll qsbr key.slots mark looks
+  pub ends_period : (q t : ℕ) (mark : Log) (looks : List (ℕ × ℕ)) → me.0.grace ≡ Works q t mark looks → TellsAllEnded qsbr key.slots mark looks
       → Allows Rule slots id me seq_at (λ _. q + 1) (λ _. ended qsbr allows (step slots seq_at (q + 1) 0 none) me (q + 1))
   ends_period q t mark looks is refutes s rule deep at fine =
       let k = granted s rule (Works q t mark looks) at is tt in
@@ -133,7 +133,7 @@ module _ {S : Type 0} (qsbr : Bool) (allows : Log → LiveEvent → Type 0) (key
       let w : View = record (at_log me.0 (SeqEven ∷ rule.log)) { grace = right } in
       let seq : seq_of (SeqEven ∷ rule.log) ≡ q + 1 = ap (λ (z : ℕ). z + 1) k.0 in
       let b = begins_before_odd rule.log in
-      let run_mark : IsLiveRun qsbr allows mark = subst (IsLiveRun qsbr allows) k.3 (run_of qsbr allows b.0 (before_odd rule.log) (subst (IsLiveRun qsbr allows) b.1 rule.run)) in
+      let run_mark : IsLiveRun qsbr allows mark = subst (IsLiveRun qsbr allows) k.3 (run_of qsbr allows (before_odd rule.log) rule.log b rule.run) in
       let cleared : HaveEnded mark rule.log = λ r n m was. cleared_of s rule mark looks refutes k.3 run_mark k.4 r n m was in
       let may : MayFollow qsbr allows rule.log SeqEven = (ap (λ (z : ℕ). z % 2) k.0 ∙ k.2, subst (λ (l : Log). HaveEnded l rule.log) (sym k.3) cleared) in
       (w, keeps, tt,
@@ -141,14 +141,14 @@ module _ {S : Type 0} (qsbr : Bool) (allows : Log → LiveEvent → Type 0) (key
           (get_or-set_same s.words seq_at (q + 1) 0 (omega arith) ∙ sym seq) (get_or-set_other s.words seq_at present_at (q + 1) 0 (λ e. omega arith) ∙ rule.agree.readers.present)
           (seq, k.1, omega arith),
         λ q' t' mark' looks' is'. let z = ap grace_or (sym is ∙ is') in
-            subst (λ (y : (ℕ × ℕ) × Log × List (ℕ × ℕ)). Graced qsbr allows (Rests (q + 1) y.0.1) (SeqEven ∷ []) me (w, me.1) × HaveEnded y.1 (SeqEven ∷ rule.log)) z
+            subst (λ (y : (ℕ × ℕ) × Log × List (ℕ × ℕ)). GraceBecomes qsbr allows (Rests (q + 1) y.0.1) (SeqEven ∷ []) me (w, me.1) × HaveEnded y.1 (SeqEven ∷ rule.log)) z
               ((refl, told s rule (SeqEven ∷ []) at (may, rule.run)), λ r n m was. inr (cleared r n m was)))
     where
-      cleared_of : (s : State S View) (rule : Rule s) (mark : Log) (looks : List (ℕ × ℕ)) → RefutesAll qsbr key.slots mark looks → before_odd rule.log ≡ mark → IsLiveRun qsbr allows mark → SawAll qsbr key.slots mark rule.log looks → HaveEnded mark rule.log
+      cleared_of : (s : State S View) (rule : Rule s) (mark : Log) (looks : List (ℕ × ℕ)) → TellsAllEnded qsbr key.slots mark looks → before_odd rule.log ≡ mark → IsLiveRun qsbr allows mark → SawAll qsbr key.slots mark rule.log looks → HaveEnded mark rule.log
       cleared_of s rule mark looks refutes is run saw r n m was = dite (dec_le key.slots r)
           (λ high. ⊎_elim (λ h. subst (Has (Close r n)) (sym since) h) (λ now. absurd (some-ne-none (n, m) (sym now ∙ (ap (open_of r) (sym since) ∙ rule.agree.readers.beyond r high)))) (still qsbr allows b.0 mark r n m (subst (IsLiveRun qsbr allows) since rule.run) was))
           (λ not. let low : r < key.slots = lt_of_not-le not in
-            ⊎_elim (λ h. h) (λ shown. absurd (refutes r m low (noted qsbr allows mark r n m run was) shown)) (closed_or_shown qsbr key.slots mark rule.log looks r n m low was saw))
+            ⊎_elim (λ h. h) (λ shown. absurd (refutes r m low (copied_bounded qsbr allows mark r n m run was) shown)) (closed_or_shown qsbr key.slots mark rule.log looks r n m low was saw))
         where
           b : Begins (before_odd rule.log) rule.log
           b = begins_before_odd rule.log

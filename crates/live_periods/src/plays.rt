@@ -1,5 +1,5 @@
 //! What each step of a grace period tells.
-ghost use Rattle.live_periods.specs.Graces.{began, ended, looked_seq, looked_word, presented};
+ghost use Rattle.live_periods.specs.Periods.{began, ended, looked_seq, looked_word, presented};
 
 use atomic_table::Play;
 use gp_memb::GracePlan;

@@ -1,8 +1,8 @@
 use Rattle.std.proofs.Common.{rules, ◌≡◌, ℕ, ◌+◌, ◌∷◌, arith, sym, subst, ap, ◌∙◌}
 use Rattle.std.proofs.Common.{[]}
 use Rattle.live_rule.specs.declared.rights.GraceRight.TheVariants.{Works}
-use Rattle.live_table.specs.Rights.{looks_in, mark_in, seq_in, present_in}
-use Rattle.live_periods.specs.Graces.{Graced}
+use Rattle.live_table.specs.Rights.{looks_in, before_in, seq_in, present_in}
+use Rattle.live_periods.specs.Periods.{GraceBecomes}
 use Rattle.live_periods.proofs.Periods.{looks_word}
 use Rattle.live_periods.proofs.steps.load_slot.Goals as goal
 
@@ -11,4 +11,4 @@ load-requires g c = (c.requires.seat.0, c.slot_place-place.ensures.1, looks_word
 
 pub returns-clause-looked : goal.returns-clause-looked
 returns-clause-looked g c = let old = c.args.seat.now.me.0.grace in
-    subst (λ (z : ℕ). Graced g.P.GracePlan.QSBR g.K.ChainRule.allows (Works (seq_in old) (present_in old) (mark_in old) ((z, c.load.result) ∷ looks_in old)) [] c.args.seat.now.me c.load.new.seat.me) c.slot_place-place.ensures.0 (c.load.ensures.2 _ _ _ _ c.requires.right)
+    subst (λ (z : ℕ). GraceBecomes g.P.GracePlan.QSBR g.K.ChainRule.allows (Works (seq_in old) (present_in old) (before_in old) ((z, c.load.result) ∷ looks_in old)) [] c.args.seat.now.me c.load.new.seat.me) c.slot_place-place.ensures.0 (c.load.ensures.2 _ _ _ _ c.requires.right)
