@@ -1,0 +1,19 @@
+#![tactic(auto)]
+//! The words under the library over live threads: the face of the crates `live_log`, `live_rule`, `live_table`,
+//! `live_readers`, `live_periods` and `live_groups` for those above.
+
+pub use live_groups::{claim, leave, release, store_clear, store_set};
+pub use live_log::{AnyChain, ChainRule, Keyed, LiveEvent, ObjectEvent};
+pub use live_periods::{load_group, load_seq, load_slot, store_even, store_odd, store_present};
+pub use live_readers::{
+    load_present, lock, offline, online, quiescent, store_close, store_inner, store_open,
+    store_quiescent, unlock,
+};
+pub use live_rule::{
+    ChainRight, GraceRight, GroupsRight, LiveRule, LiveSeat, QueueRight, RecordRight, Sizes,
+    SlotRight, View, WorkRight,
+};
+pub use live_table::LiveTable;
+
+#[cfg(test)]
+mod tests;
