@@ -66,9 +66,12 @@ module _ (qsbr : Bool) (key : Sizes) (small : key.slots ≤ 256) (log : Log) (wo
 
     -- the group words, as the seat knows them
     list_stays : (old : List ℕ) → KnowsGroups qsbr key log words (groups_right.Owns old) → KnowsGroups qsbr key log W (groups_right.Owns (set old (r / 64) x))
-    list_stays old k = let long = k.0 in (length-set old (r / 64) x ∙ k.0, λ g lg. dite (ℕ_discrete g (r / 64))
-        (λ e. ap (λ (z : ℕ). get_or W (group_at z) 0) e ∙ (get_or-set_same words i x 0 inside ∙ (sym (get_or-set_same old (r / 64) x 0 (omega arith)) ∙ ap (λ (z : ℕ). get_or (set old (r / 64) x) z 0) (sym e))))
-        (λ far. else (group_at g) (λ e. far (omega arith)) ∙ (k.1 g lg ∙ sym (get_or-set_other old (r / 64) g x 0 far))))
+    list_stays old k = let long = k.0 in (
+      length-set old (r / 64) x ∙ k.0,
+      λ g lg. dite (ℕ_discrete g (r / 64))
+          (λ e. ap (λ (z : ℕ). get_or W (group_at z) 0) e ∙ (get_or-set_same words i x 0 inside ∙ (sym (get_or-set_same old (r / 64) x 0 (omega arith)) ∙ ap (λ (z : ℕ). get_or (set old (r / 64) x) z 0) (sym e))))
+          (λ far. else (group_at g) (λ e. far (omega arith)) ∙ (k.1 g lg ∙ sym (get_or-set_other old (r / 64) g x 0 far))),
+    )
 
 abbrev slot_or : SlotRight → ℕ × ℕ × ℕ
 slot_or (Owns r w k) = (r, w, k)
@@ -97,27 +100,30 @@ module _ {S : Type 0} (qsbr : Bool) (allows : Log → LiveEvent → Type 0) (key
       let inside : i < length s.words = omega arith in
       let diff : DiffersAt r (get_or s.words i 0) x = subst (λ (z : ℕ). DiffersAt r z x) (sym (bits_known.1 (r / 64) (omega arith))) differs in
       let shut = shut_fits qsbr w (open_of r rule.log) (subst (λ (z : ℕ). Fits qsbr z (open_of r rule.log)) mine.1 (g.each_slot r low)) mine.3 in
-      let same = slot_else qsbr key small rule.log s.words r x low in
-      (record (at_log v rule.log) { slot = right; groups = groups_right.Owns (set old (r / 64) x) }, keeps, tt,
+      let same = slot_else qsbr key small rule.log s.words r x low in (
+        record (at_log v rule.log) { slot = right; groups = groups_right.Owns (set old (r / 64) x) },
+        keeps,
+        tt,
         low_stores qsbr allows key s rule id i x v rule.log at right (groups_right.Owns (set old (r / 64) x)) v.grace (quiet_same rule.log) rule.run (omega arith)
-          (reading qsbr key small rule.log s.words r x low inside diff shut g)
-          (own_slot qsbr allows key s rule id i x v rule.log at r right slot_old.0 slot_new.1
+            (reading qsbr key small rule.log s.words r x low inside diff shut g)
+            (own_slot qsbr allows key s rule id i x v rule.log at r right slot_old.0 slot_new.1
             (knows' rule.log (set s.words i x) low (same r ∙ mine.1) mine.2 mine.3 (ap (λ (z : ℕ). bit_of z (r % 64)) (get_or-set_same s.words i x 0 inside)))
             (λ q lq far. (same q, refl, bit_else qsbr key small rule.log s.words r x low inside diff q far)))
-          (own_groups qsbr allows key s rule id i x v rule.log at (groups_right.Owns (set old (r / 64) x)) own (list_stays qsbr key small rule.log s.words r x low inside diff old bits_known))
-          (grace_kept qsbr allows key s rule id i x v rule.log at ([], refl) (refl, refl, refl)),
-        (refl, (rule.log, refl, (rule.seen id v at).0, (rule.seen id v at).1, rule.run)))
+            (own_groups qsbr allows key s rule id i x v rule.log at (groups_right.Owns (set old (r / 64) x)) own (list_stays qsbr key small rule.log s.words r x low inside diff old bits_known))
+            (grace_kept qsbr allows key s rule id i x v rule.log at ([], refl) (refl, refl, refl)),
+        (refl, (rule.log, refl, (rule.seen id v at).0, (rule.seen id v at).1, rule.run)),
+      )
 
   pub claims : (r w k x : ℕ) → me.0.slot ≡ Idle r w k → me.0.groups ≡ groups_right.Owns (groups_in me.0.groups) → DiffersAt r (get_or (groups_in me.0.groups) (r / 64) 0) x → bit_of x (r % 64) ≡ true
       → Allows Rule slots id me (group_at (r / 64)) (λ _. x) (λ _. claimed qsbr allows (step slots (group_at (r / 64)) x 0 none) me x)
   claims r w k x is has differs on s rule deep at fine =
       let t = stores r w k x (groups_in me.0.groups) (Owns r w k) has (subst (IsOfSlot key r) (sym is) (refl, λ q c. c)) (refl, λ q c. c) differs
-          (λ log words known. subst (λ (z : SlotRight). KnowsSlot qsbr key log words z r) is known) (λ log words low word count shut bit. (low, word, count, bit ∙ on)) s rule deep at fine in
+      (λ log words known. subst (λ (z : SlotRight). KnowsSlot qsbr key log words z r) is known) (λ log words low word count shut bit. (low, word, count, bit ∙ on)) s rule deep at fine in
       (t.0, t.1, t.2, t.3, λ r' w' k' is'. subst (λ (z : ℕ × ℕ × ℕ). Regrouped qsbr allows z.0 x (Owns z.0 z.1 z.2) me (t.0, carried_after me.1 t.1)) (ap slot_or (sym is ∙ is')) t.4)
 
   pub releases : (r w k x : ℕ) → me.0.slot ≡ Owns r w k → IsClosed qsbr w → me.0.groups ≡ groups_right.Owns (groups_in me.0.groups) → DiffersAt r (get_or (groups_in me.0.groups) (r / 64) 0) x
       → Allows Rule slots id me (group_at (r / 64)) (λ _. x) (λ _. released qsbr allows (step slots (group_at (r / 64)) x 0 none) me x)
   releases r w k x is shut has differs s rule deep at fine =
       let t = stores r w k x (groups_in me.0.groups) (Idle r w k) has (subst (IsOfSlot key r) (sym is) (refl, λ q c. c)) (refl, λ q c. c) differs
-          (λ log words known. let z = subst (λ (z : SlotRight). KnowsSlot qsbr key log words z r) is known in (z.0, z.1, z.2, shut)) (λ log words low word count closed bit. (low, word, count, closed)) s rule deep at fine in
+      (λ log words known. let z = subst (λ (z : SlotRight). KnowsSlot qsbr key log words z r) is known in (z.0, z.1, z.2, shut)) (λ log words low word count closed bit. (low, word, count, closed)) s rule deep at fine in
       (t.0, t.1, t.2, t.3, λ r' w' k' is'. subst (λ (z : ℕ × ℕ × ℕ). Regrouped qsbr allows z.0 x (Idle z.0 z.1 z.2) me (t.0, carried_after me.1 t.1)) (ap slot_or (sym is ∙ is')) t.4)

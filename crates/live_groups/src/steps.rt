@@ -10,8 +10,8 @@ ghost use Rattle.live_groups.specs.Groups.{DiffersAt, Regrouped, group_word};
 use crate::plays::{Claims, Releases};
 use gp_memb::GracePlan;
 use live_log::ChainRule;
-use live_table::LiveTable;
 use live_rule::LiveSeat;
+use live_table::LiveTable;
 
 /// The store that sets the bit of an idle slot, before its reader is handed out. From here on sections may be opened in
 /// the slot.
@@ -45,5 +45,8 @@ pub fn store_clear<P: GracePlan, K: ChainRule>(
     ensures released { Regrouped P.QSBR K.allows slot word (Idle slot (word_in seat.old.me.0.slot) (count_in seat.old.me.0.slot)) seat.old.me seat.new.me }
 {
     let place = table.group_place(slot / 64);
-    table.words.shared.store::<Releases<P, K>>(seat, place, word);
+    table
+        .words
+        .shared
+        .store::<Releases<P, K>>(seat, place, word);
 }

@@ -9,7 +9,7 @@ use Rattle.atomic_table.proofs.Lists.{at_longer, at_last}
 use Rattle.rcu_model.specs.declared.event.ObjectId.{ObjectId}
 use Rattle.rcu_model.specs.Machine.{State, after}
 use Rattle.rcu_model.proofs.Lemmas.{In}
-use Rattle.rcu_model.specs.Sets.{ at_number}
+use Rattle.rcu_model.specs.Sets.{at_number}
 use Rattle.rcu_model.proofs.Lemmas.{at_number_same, at_number_other}
 use Rattle.live_log.specs.declared.event.ObjectEvent.{ObjectEvent}
 use Rattle.live_log.specs.declared.event.ObjectEvent.TheVariants.{Push, Replace, Cut, Retire, Queue, Run}
@@ -68,7 +68,7 @@ line_has (Object (Run p) ∷ es) o h = line_has es o h
 line_has (Object (Queue p d) ∷ es) o h = let f = line_of es in ⊎_elim
     (λ (e : p ≡ o). (d, length (f d), subst (λ (z : List ObjectId). get_elem? z (length (f d)) ≡ some o) (sym (at_number_same d (f d ++ p ∷ []) f)) (subst (λ (x : ObjectId). get_elem? (f d ++ p ∷ []) (length (f d)) ≡ some x) e (at_last (f d) p (length (f d)) refl))))
     (λ (z : In (state_of es).queued o). let w = line_has es o z in let m = line_step (Object (Queue p d)) es w.0 in
-      (w.0, w.1, subst (λ (l : List ObjectId). get_elem? l w.1 ≡ some o) (sym m.1) (at_longer (f w.0) m.0 w.1 o w.2))) h
+    (w.0, w.1, subst (λ (l : List ObjectId). get_elem? l w.1 ≡ some o) (sym m.1) (at_longer (f w.0) m.0 w.1 o w.2))) h
 
 -- a queue of which as many have their Run as were queued at an earlier load
 pub barrier_of : (old mid log : Log) (q n f : ℕ) → Begins old mid → Begins mid log → n ≡ length (line_of mid q) → n ≤ f → HaveRun q f log → (o : ObjectId) (k : ℕ) → get_elem? (line_of old q) k ≡ some o → In (state_of log).reclaimed o

@@ -59,14 +59,14 @@ module _ (qsbr : Bool) (allows : Log → LiveEvent → Type 0) where
   pub next_linked : (log : Log) (s : SectionId) (o m : ObjectId) → IsLiveRun qsbr allows log → WasLinked s o log → IsOpen (state_of log) s → Follows (objects_of log) o (Some m) → WasLinked s m log
   next_linked log s o m run was is next = let e = state_is (machine_log log) in
       successor_was_linked (events_of log) s o m (forward log run) was (subst (λ (now : State). IsOpen now s) e is)
-        (subst (λ (now : State). IsSuccessor now o (Some m)) e (follows_is log o (Some m) (logs.kept_log qsbr allows log run) next))
+      (subst (λ (now : State). IsSuccessor now o (Some m)) e (follows_is log o (Some m) (logs.kept_log qsbr allows log run) next))
 
   -- what was linked was put into a chain
   pub was_used : (log : Log) (s : SectionId) (o : ObjectId) → IsLiveRun qsbr allows log → WasLinked s o log → In (state_of log).used o
   was_used log s o run was =
       let parts = run_parts (events_of log) was.earlier was.since (forward log run) was.split in
       subst (λ (now : State). In now.used o) (parts.2 ∙ sym (state_is (machine_log log)))
-        ((grows_run (state_after was.earlier) was.since).used o ((kept_log was.earlier parts.0).linking.linked_used was.chain o (in_objects ((state_after was.earlier).chain was.chain) o was.linked)))
+      ((grows_run (state_after was.earlier) was.since).used o ((kept_log was.earlier parts.0).linking.linked_used was.chain o (in_objects ((state_after was.earlier).chain was.chain) o was.linked)))
 
   -- what is linked is not reclaimed
   pub linked_here : (log : Log) (c : ℕ) (o : ObjectId) → IsLiveRun qsbr allows log → first_of ((state_of log).chain c) ≡ Some o → ¬ In (state_of log).reclaimed o

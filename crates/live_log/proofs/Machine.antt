@@ -83,7 +83,7 @@ pub open_inside : (log : Log) (r n m : ℕ) → open_of r log ≡ some (n, m) �
 open_inside [] r n m at = absurd (some-ne-none (n, m) (sym at))
 open_inside (Open q i j ∷ es) r n m at = dite (ℕ_discrete q r)
     (λ same. let b = eq-eqb q r same in let z : (i, j) ≡ (n, m) = some-injective _ _ (subst (λ b. cond b (some (i, j)) (open_of r es) ≡ some (n, m)) b at) in
-        subst (In ((state_of es).sections ++ section q i ∷ [])) (λ k. section (same k) ((z k).0)) (in_last (state_of es).sections (section q i)))
+    subst (In ((state_of es).sections ++ section q i ∷ [])) (λ k. section (same k) ((z k).0)) (in_last (state_of es).sections (section q i)))
     (λ other. in_left (state_of es).sections (section q i ∷ []) (section r n) (open_inside es r n m (subst (λ b. cond b (some (i, j)) (open_of r es) ≡ some (n, m)) (ne_eqb q r other) at)))
 open_inside (Close q i ∷ es) r n m at = dite (ℕ_discrete q r)
     (λ same. absurd (some-ne-none (n, m) (sym (subst (λ b. cond b none (open_of r es) ≡ some (n, m)) (eq-eqb q r same) at))))
@@ -108,10 +108,10 @@ module _ (qsbr : Bool) (allows : Log → LiveEvent → Type 0) where
   seen_low [] s run h = absurd h
   seen_low (Open q i j ∷ es) s run h = dite (ℕ_discrete q s.reader)
       (λ same. subst (λ b. s.ordinal ≤ cond b (sections_of s.reader es + 1) (sections_of s.reader es)) (sym (eq-eqb q s.reader same))
-        (let count : i ≡ sections_of s.reader es + 1 = run.0.1 ∙ ap (λ z. sections_of z es + 1) same in
-        ⊎_elim (λ e. let o : i ≡ s.ordinal = ap (λ (t : SectionId). t.ordinal) e in omega arith) (λ z. let l = seen_low es s run.1 z in omega arith) h))
+      (let count : i ≡ sections_of s.reader es + 1 = run.0.1 ∙ ap (λ z. sections_of z es + 1) same in
+      ⊎_elim (λ e. let o : i ≡ s.ordinal = ap (λ (t : SectionId). t.ordinal) e in omega arith) (λ z. let l = seen_low es s run.1 z in omega arith) h))
       (λ other. subst (λ b. s.ordinal ≤ cond b (sections_of s.reader es + 1) (sections_of s.reader es)) (sym (ne_eqb q s.reader other))
-        (⊎_elim (λ e. absurd (other (ap (λ (t : SectionId). t.reader) e))) (λ z. seen_low es s run.1 z) h))
+      (⊎_elim (λ e. absurd (other (ap (λ (t : SectionId). t.reader) e))) (λ z. seen_low es s run.1 z) h))
   seen_low (Close q i ∷ es) s run h = seen_low es s run.1 h
   seen_low (SeqOdd ∷ es) s run h = seen_low es s run.1 h
   seen_low (SeqEven ∷ es) s run h = seen_low es s run.1 h
@@ -153,13 +153,15 @@ module _ (qsbr : Bool) (allows : Log → LiveEvent → Type 0) where
   inside_open [] s run h = absurd h
   inside_open (Open q i j ∷ es) s run h = ⊎_elim
       (λ (z : In (state_of es).sections s). let o = inside_open es s run.1 z in
-        (o.0, ap (λ b. cond b (some (i, j)) (open_of s.reader es)) (ne_eqb q s.reader (λ e. some-ne-none (s.ordinal, o.0) (sym o.1 ∙ (ap (λ t. open_of t es) (sym e) ∙ run.0.0)))) ∙ o.1))
+      (o.0, ap (λ b. cond b (some (i, j)) (open_of s.reader es)) (ne_eqb q s.reader (λ e. some-ne-none (s.ordinal, o.0) (sym o.1 ∙ (ap (λ t. open_of t es) (sym e) ∙ run.0.0)))) ∙ o.1))
       (λ (e : section q i ≡ s). let r = ap (λ (t : SectionId). t.reader) e in let n = ap (λ (t : SectionId). t.ordinal) e in
-        (j, ap (λ b. cond b (some (i, j)) (open_of s.reader es)) (eq-eqb q s.reader r) ∙ (λ k. some (n k, j))))
+      (j, ap (λ b. cond b (some (i, j)) (open_of s.reader es)) (eq-eqb q s.reader r) ∙ (λ k. some (n k, j))))
       (in_more (state_of es).sections (section q i) s h)
-  inside_open (Close q i ∷ es) s run h = let w = without_section_has (section q i) (state_of es).sections s h in let o = inside_open es s run.1 w.0 in
-      (o.0, ap (λ b. cond b none (open_of s.reader es)) (ne_eqb q s.reader (λ e.
-        let z : (s.ordinal, o.0) ≡ (i, run.0.0) = some-injective _ _ (sym o.1 ∙ (ap (λ t. open_of t es) (sym e) ∙ run.0.1)) in w.1 (λ k. record { reader = sym e k; ordinal = (z k).0 }))) ∙ o.1)
+  inside_open (Close q i ∷ es) s run h = let w = without_section_has (section q i) (state_of es).sections s h in let o = inside_open es s run.1 w.0 in (
+    o.0,
+    ap (λ b. cond b none (open_of s.reader es)) (ne_eqb q s.reader (λ e.
+        let z : (s.ordinal, o.0) ≡ (i, run.0.0) = some-injective _ _ (sym o.1 ∙ (ap (λ t. open_of t es) (sym e) ∙ run.0.1)) in w.1 (λ k. record { reader = sym e k; ordinal = (z k).0 }))) ∙ o.1,
+  )
   inside_open (SeqOdd ∷ es) s run h = inside_open es s run.1 h
   inside_open (SeqEven ∷ es) s run h = inside_open es s run.1 h
   inside_open (Present _ ∷ es) s run h = inside_open es s run.1 h

@@ -146,9 +146,9 @@ module _ (was now : Objects) (c : ℕ) (p next leaves enters : Option ObjectId)
   pub leads_still : (t : Spot) (found : Option ObjectId) → Leads now t found → Still was c p next enters t found
   leads_still (head d) found f = dite (ℕ_discrete d c)
       (λ same. let f' : first_of (now.chain c) ≡ found = subst (λ (n : ℕ). first_of (now.chain n) ≡ found) same f in ⊎_elim
-        (λ (e : None ≡ p). inl (ap head same ∙ ap (spot_of c) e, sym f' ∙ (ap (follows (now.chain c)) e ∙ m.here.becomes)))
-        (λ (ne : None ≢ p). inr (inl (no_head p d (λ _ e. ne (sym e)), subst (λ (n : ℕ). first_of (was.chain n) ≡ found) (sym same) (sym (m.here.other None tt ne (λ o _. none_some o)).1 ∙ f'))))
-        (decide_place None p))
+      (λ (e : None ≡ p). inl (ap head same ∙ ap (spot_of c) e, sym f' ∙ (ap (follows (now.chain c)) e ∙ m.here.becomes)))
+      (λ (ne : None ≢ p). inr (inl (no_head p d (λ _ e. ne (sym e)), subst (λ (n : ℕ). first_of (was.chain n) ≡ found) (sym same) (sym (m.here.other None tt ne (λ o _. none_some o)).1 ∙ f'))))
+      (decide_place None p))
       (λ other. inr (inl (no_head p d (λ same _. other same), ap first_of (sym (m.else d other)) ∙ f)))
   leads_still (link o) found (inr k) = ⊎_elim
       (λ (e : leaves ≡ Some o). let x = m.here.left o e in inr (inl (not_cut_place p o refl k.0, inl (c, x.0, x.1 ∙ (sym (m.left o e).1 ∙ k.1)))))
@@ -157,13 +157,13 @@ module _ (was now : Objects) (c : ℕ) (p next leaves enters : Option ObjectId)
   leads_still (link o) found (inl l) = dite (ℕ_discrete l.0 c)
       (λ same. linked o found (subst (λ (n : ℕ). In (now.chain n) o) same l.1) (subst (λ (n : ℕ). next_of (now.chain n) o ≡ found) same l.2))
       (λ other. let e = m.else l.0 other in let h = subst (λ (z : List ObjectId). In z o) e l.1 in
-        inr (inl (else_place p l.0 o refl other h, inl (l.0, h, subst (λ (z : List ObjectId). next_of z o ≡ found) e l.2))))
+      inr (inl (else_place p l.0 o refl other h, inl (l.0, h, subst (λ (z : List ObjectId). next_of z o ≡ found) e l.2))))
     where
       linked : (o : ObjectId) (found : Option ObjectId) → In (now.chain c) o → next_of (now.chain c) o ≡ found → Still was c p next enters (link o) found
       linked o found h n = ⊎_elim
           (λ (e : enters ≡ Some o). let x = m.here.entered o e in inr (inr (o, e, refl, sym n ∙ x.2)))
           (λ (b : In (was.chain c) o × (leaves ≢ Some o)). ⊎_elim
-            (λ (e : Some o ≡ p). inl (ap (spot_of c) e, sym n ∙ (ap (follows (now.chain c)) e ∙ m.here.becomes)))
-            (λ (ne : Some o ≢ p). inr (inl (not_spot p o ne, inl (c, b.0, sym (m.here.other (Some o) b.0 ne (λ q e g. b.1 (e ∙ sym g))).1 ∙ n))))
-            (decide_place (Some o) p))
+          (λ (e : Some o ≡ p). inl (ap (spot_of c) e, sym n ∙ (ap (follows (now.chain c)) e ∙ m.here.becomes)))
+          (λ (ne : Some o ≢ p). inr (inl (not_spot p o ne, inl (c, b.0, sym (m.here.other (Some o) b.0 ne (λ q e g. b.1 (e ∙ sym g))).1 ∙ n))))
+          (decide_place (Some o) p))
           (m.here.back o h)

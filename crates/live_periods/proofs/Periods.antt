@@ -63,8 +63,13 @@ module _ {S : Type 0} (qsbr : Bool) (allows : Log → LiveEvent → Type 0) (key
   told s rule events at run = (rule.log, refl, (rule.seen id me.0 at).0, (rule.seen id me.0 at).1, run)
 
   pub looks_seq : Allows Rule slots id me seq_at (λ n. n) (looked_seq qsbr allows (step slots seq_at 0 0 none) me)
-  looks_seq s r deep at fine = (at_log me.0 r.log, keeps, tt, low_loads qsbr allows key s r id seq_at me.0 me.0.grace at (λ c. (r.knows grace id me.0 at c, c)),
-      ((refl, told s r [] at r.run), sym r.agree.readers.seq))
+  looks_seq s r deep at fine = (
+    at_log me.0 r.log,
+    keeps,
+    tt,
+    low_loads qsbr allows key s r id seq_at me.0 me.0.grace at (λ c. (r.knows grace id me.0 at c, c)),
+    ((refl, told s r [] at r.run), sym r.agree.readers.seq),
+  )
 
   -- a load of any word tells of the sections that were open at the mark
   pub looks_word : (i q t : ℕ) (mark : Log) (looks : List (ℕ × ℕ)) → me.0.grace ≡ Works q t mark looks → Allows Rule slots id me i (λ n. n) (looked_word qsbr allows (step slots i 0 0 none) me)
@@ -76,16 +81,20 @@ module _ {S : Type 0} (qsbr : Bool) (allows : Log → LiveEvent → Type 0) (key
       let b = begins_before_odd rule.log in
       let since : rule.log ≡ b.0 ++ mark = b.1 ∙ ap (λ l. b.0 ++ l) k.3 in
       let saw : Saw qsbr key.slots mark rule.log (i, x) = λ r n m low was. subst (λ (l : Log). Has (Close r n) l ⊎ Shown qsbr (i, x) r m) (sym since)
-          (⊎_elim inl (λ now. inr (shown s rule i r n m low (ap (open_of r) since ∙ now))) (still qsbr allows b.0 mark r n m (subst (IsLiveRun qsbr allows) since rule.run) was)) in
-      (w, keeps, tt,
+      (⊎_elim inl (λ now. inr (shown s rule i r n m low (ap (open_of r) since ∙ now))) (still qsbr allows b.0 mark r n m (subst (IsLiveRun qsbr allows) since rule.run) was)) in (
+        w,
+        keeps,
+        tt,
         low_loads qsbr allows key s rule id i me.0 right at (λ _. ((k.0, k.1, k.2, k.3, (saw, k.4)), subst ClaimsGrace (sym is) tt)),
         λ q' t' mark' looks' is'. let z = ap grace_or (sym is ∙ is') in
-            subst (λ (y : (ℕ × ℕ) × Log × List (ℕ × ℕ)). GraceBecomes qsbr allows (Works y.0.0 y.0.1 y.1 ((i, x) ∷ y.2)) [] me (w, me.1)) z (refl, told s rule [] at rule.run))
+            subst (λ (y : (ℕ × ℕ) × Log × List (ℕ × ℕ)). GraceBecomes qsbr allows (Works y.0.0 y.0.1 y.1 ((i, x) ∷ y.2)) [] me (w, me.1)) z (refl, told s rule [] at rule.run),
+      )
     where
       shown : (s : State S View) (rule : Rule s) (i r n m : ℕ) → r < key.slots → open_of r rule.log ≡ some (n, m) → Shown qsbr (i, get_or s.words i 0) r m
-      shown s rule i r n m low now =
-          ((λ (e : i ≡ slot_at r). subst (λ (j : ℕ). Shows qsbr Wide m (get_or s.words j 0)) (sym e) (subst (Fits qsbr (get_or s.words (slot_at r) 0)) now (rule.agree.readers.each_slot r low))),
-          λ (e : i ≡ group_at (r / 64)). subst (λ (j : ℕ). bit_of (get_or s.words j 0) (r % 64) ≡ true) (sym e) (set_bit (bit_at s.words r) refl))
+      shown s rule i r n m low now = (
+        (λ (e : i ≡ slot_at r). subst (λ (j : ℕ). Shows qsbr Wide m (get_or s.words j 0)) (sym e) (subst (Fits qsbr (get_or s.words (slot_at r) 0)) now (rule.agree.readers.each_slot r low))),
+        λ (e : i ≡ group_at (r / 64)). subst (λ (j : ℕ). bit_of (get_or s.words j 0) (r % 64) ≡ true) (sym e) (set_bit (bit_at s.words r) refl),
+      )
         where
           set_bit : (b : Bool) → bit_at s.words r ≡ b → bit_at s.words r ≡ true
           set_bit true f = f
@@ -99,13 +108,16 @@ module _ {S : Type 0} (qsbr : Bool) (allows : Log → LiveEvent → Type 0) (key
       let right : GraceRight = Works (q + 1) t rule.log [] in
       let w : View = record (at_log me.0 (SeqOdd ∷ rule.log)) { grace = right } in
       let seq : seq_of (SeqOdd ∷ rule.log) ≡ q + 1 = ap (λ (z : ℕ). z + 1) k.0 in
-      let may : MayFollow qsbr allows rule.log SeqOdd = ((omega arith), (omega arith)) in
-      (w, keeps, tt,
+      let may : MayFollow qsbr allows rule.log SeqOdd = ((omega arith), (omega arith)) in (
+        w,
+        keeps,
+        tt,
         stores qsbr allows key s rule seq_at (q + 1) id me.0 right SeqOdd at (inl refl) (subst ClaimsGrace (sym is) tt) may (apart_odd rule.log)
-          (get_or-set_same s.words seq_at (q + 1) 0 (omega arith) ∙ sym seq) (get_or-set_other s.words seq_at present_at (q + 1) 0 (λ e. omega arith) ∙ rule.agree.readers.present)
-          (seq, k.1, omega arith, refl, tt),
+            (get_or-set_same s.words seq_at (q + 1) 0 (omega arith) ∙ sym seq) (get_or-set_other s.words seq_at present_at (q + 1) 0 (λ e. omega arith) ∙ rule.agree.readers.present)
+            (seq, k.1, omega arith, refl, tt),
         λ q' t' is'. let z = ap grace_or (sym is ∙ is') in
-            subst (λ (y : (ℕ × ℕ) × Log × List (ℕ × ℕ)). GraceBecomes qsbr allows (Works (q + 1) y.0.1 rule.log []) (SeqOdd ∷ []) me (w, me.1) × (present_of rule.log ≡ y.0.1)) z ((refl, told s rule (SeqOdd ∷ []) at (may, rule.run)), k.1))
+            subst (λ (y : (ℕ × ℕ) × Log × List (ℕ × ℕ)). GraceBecomes qsbr allows (Works (q + 1) y.0.1 rule.log []) (SeqOdd ∷ []) me (w, me.1) × (present_of rule.log ≡ y.0.1)) z ((refl, told s rule (SeqOdd ∷ []) at (may, rule.run)), k.1),
+      )
 
   pub stores_present : (q t x : ℕ) (mark : Log) (looks : List (ℕ × ℕ)) → me.0.grace ≡ Works q t mark looks → MayBePresent qsbr q t x
       → Allows Rule slots id me present_at (λ _. x) (λ _. presented qsbr allows (step slots present_at x 0 none) me x)
@@ -115,13 +127,16 @@ module _ {S : Type 0} (qsbr : Bool) (allows : Log → LiveEvent → Type 0) (key
       let e : LiveEvent = Present x in
       let right : GraceRight = Works q x mark looks in
       let w : View = record (at_log me.0 (e ∷ rule.log)) { grace = right } in
-      let may : MayFollow qsbr allows rule.log e = (ap (λ (z : ℕ). z % 2) k.0 ∙ k.2, subst (λ (z : ℕ × ℕ). MayBePresent qsbr z.0 z.1 x) (λ i. (sym k.0 i, sym k.1 i)) fits) in
-      (w, keeps, tt,
+      let may : MayFollow qsbr allows rule.log e = (ap (λ (z : ℕ). z % 2) k.0 ∙ k.2, subst (λ (z : ℕ × ℕ). MayBePresent qsbr z.0 z.1 x) (λ i. (sym k.0 i, sym k.1 i)) fits) in (
+        w,
+        keeps,
+        tt,
         stores qsbr allows key s rule present_at x id me.0 right e at (inr refl) (subst ClaimsGrace (sym is) tt) may (apart_present x rule.log)
-          (get_or-set_other s.words present_at seq_at x 0 (λ e. omega arith) ∙ rule.agree.readers.seq) (get_or-set_same s.words present_at x 0 (omega arith))
-          (k.0, refl, k.2, k.3, saw_later qsbr key.slots mark rule.log (e ∷ rule.log) looks (e ∷ [], refl) k.4),
+            (get_or-set_other s.words present_at seq_at x 0 (λ e. omega arith) ∙ rule.agree.readers.seq) (get_or-set_same s.words present_at x 0 (omega arith))
+            (k.0, refl, k.2, k.3, saw_later qsbr key.slots mark rule.log (e ∷ rule.log) looks (e ∷ [], refl) k.4),
         λ q' t' mark' looks' is'. let z = ap grace_or (sym is ∙ is') in
-            subst (λ (y : (ℕ × ℕ) × Log × List (ℕ × ℕ)). GraceBecomes qsbr allows (Works y.0.0 x y.1 y.2) (e ∷ []) me (w, me.1)) z (refl, told s rule (e ∷ []) at (may, rule.run)))
+            subst (λ (y : (ℕ × ℕ) × Log × List (ℕ × ℕ)). GraceBecomes qsbr allows (Works y.0.0 x y.1 y.2) (e ∷ []) me (w, me.1)) z (refl, told s rule (e ∷ []) at (may, rule.run)),
+      )
 
   pub ends_period : (q t : ℕ) (mark : Log) (looks : List (ℕ × ℕ)) → me.0.grace ≡ Works q t mark looks → TellsAllEnded qsbr key.slots mark looks
       → Allows Rule slots id me seq_at (λ _. q + 1) (λ _. ended qsbr allows (step slots seq_at (q + 1) 0 none) me (q + 1))
@@ -135,20 +150,23 @@ module _ {S : Type 0} (qsbr : Bool) (allows : Log → LiveEvent → Type 0) (key
       let b = begins_before_odd rule.log in
       let run_mark : IsLiveRun qsbr allows mark = subst (IsLiveRun qsbr allows) k.3 (run_of qsbr allows (before_odd rule.log) rule.log b rule.run) in
       let cleared : HaveEnded mark rule.log = λ r n m was. cleared_of s rule mark looks refutes k.3 run_mark k.4 r n m was in
-      let may : MayFollow qsbr allows rule.log SeqEven = (ap (λ (z : ℕ). z % 2) k.0 ∙ k.2, subst (λ (l : Log). HaveEnded l rule.log) (sym k.3) cleared) in
-      (w, keeps, tt,
+      let may : MayFollow qsbr allows rule.log SeqEven = (ap (λ (z : ℕ). z % 2) k.0 ∙ k.2, subst (λ (l : Log). HaveEnded l rule.log) (sym k.3) cleared) in (
+        w,
+        keeps,
+        tt,
         stores qsbr allows key s rule seq_at (q + 1) id me.0 right SeqEven at (inl refl) (subst ClaimsGrace (sym is) tt) may (apart_even rule.log)
-          (get_or-set_same s.words seq_at (q + 1) 0 (omega arith) ∙ sym seq) (get_or-set_other s.words seq_at present_at (q + 1) 0 (λ e. omega arith) ∙ rule.agree.readers.present)
-          (seq, k.1, omega arith),
+            (get_or-set_same s.words seq_at (q + 1) 0 (omega arith) ∙ sym seq) (get_or-set_other s.words seq_at present_at (q + 1) 0 (λ e. omega arith) ∙ rule.agree.readers.present)
+            (seq, k.1, omega arith),
         λ q' t' mark' looks' is'. let z = ap grace_or (sym is ∙ is') in
             subst (λ (y : (ℕ × ℕ) × Log × List (ℕ × ℕ)). GraceBecomes qsbr allows (Rests (q + 1) y.0.1) (SeqEven ∷ []) me (w, me.1) × HaveEnded y.1 (SeqEven ∷ rule.log)) z
-              ((refl, told s rule (SeqEven ∷ []) at (may, rule.run)), λ r n m was. inr (cleared r n m was)))
+            ((refl, told s rule (SeqEven ∷ []) at (may, rule.run)), λ r n m was. inr (cleared r n m was)),
+      )
     where
       cleared_of : (s : State S View) (rule : Rule s) (mark : Log) (looks : List (ℕ × ℕ)) → TellsAllEnded qsbr key.slots mark looks → before_odd rule.log ≡ mark → IsLiveRun qsbr allows mark → SawAll qsbr key.slots mark rule.log looks → HaveEnded mark rule.log
       cleared_of s rule mark looks refutes is run saw r n m was = dite (dec_le key.slots r)
           (λ high. ⊎_elim (λ h. subst (Has (Close r n)) (sym since) h) (λ now. absurd (some-ne-none (n, m) (sym now ∙ (ap (open_of r) (sym since) ∙ rule.agree.readers.beyond r high)))) (still qsbr allows b.0 mark r n m (subst (IsLiveRun qsbr allows) since rule.run) was))
           (λ not. let low : r < key.slots = lt_of_not-le not in
-            ⊎_elim (λ h. h) (λ shown. absurd (refutes r m low (copied_bounded qsbr allows mark r n m run was) shown)) (closed_or_shown qsbr key.slots mark rule.log looks r n m low was saw))
+          ⊎_elim (λ h. h) (λ shown. absurd (refutes r m low (copied_bounded qsbr allows mark r n m run was) shown)) (closed_or_shown qsbr key.slots mark rule.log looks r n m low was saw))
         where
           b : Begins (before_odd rule.log) rule.log
           b = begins_before_odd rule.log

@@ -69,19 +69,30 @@ pub fn store_odd<P: GracePlan, K: ChainRule>(table: &LiveTable<P, K>, seat: &mut
 }
 
 /// A store of the phase, or of the number, which does not fall and is at most the sequence number.
-pub fn store_present<P: GracePlan, K: ChainRule>(table: &LiveTable<P, K>, seat: &mut LiveSeat, present: u64)
+pub fn store_present<P: GracePlan, K: ChainRule>(
+    table: &LiveTable<P, K>,
+    seat: &mut LiveSeat,
+    present: u64,
+)
     requires seat { seat.old.table_id ≡ table.now.words.shared.table_id }
     requires right { IsWorking seat.old.me.0 × MayBePresent P.QSBR (seq_in seat.old.me.0.grace) (present_in seat.old.me.0.grace) present }
     ensures seat { Keeps seat.old seat.new }
     ensures presented { GraceBecomes P.QSBR K.allows (Works (seq_in seat.old.me.0.grace) present (before_in seat.old.me.0.grace) (looks_in seat.old.me.0.grace)) (Present present ∷ []) seat.old.me seat.new.me }
 {
     let place = table.present_place();
-    table.words.shared.store::<StoresPresent<P, K>>(seat, place, present);
+    table
+        .words
+        .shared
+        .store::<StoresPresent<P, K>>(seat, place, present);
 }
 
 /// The store that makes the sequence number even: the grace period is over. The caller has loaded what tells that each
 /// section that was open at the mark has ended.
-pub fn store_even<P: GracePlan, K: ChainRule>(table: &LiveTable<P, K>, seat: &mut LiveSeat, seq: u64)
+pub fn store_even<P: GracePlan, K: ChainRule>(
+    table: &LiveTable<P, K>,
+    seat: &mut LiveSeat,
+    seq: u64,
+)
     requires seat { seat.old.table_id ≡ table.now.words.shared.table_id }
     requires right { IsWorking seat.old.me.0 × (seq ≡ seq_in seat.old.me.0.grace + 1) }
     requires loads { TellsAllEnded P.QSBR table.now.slots (before_in seat.old.me.0.grace) (looks_in seat.old.me.0.grace) }

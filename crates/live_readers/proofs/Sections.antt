@@ -53,8 +53,13 @@ module _ (qsbr : Bool) (allows : Log → LiveEvent → Type 0) where
     Rule = KeepsRule qsbr allows key
 
     pub looks_present : Allows Rule slots id me present_at (λ n. n) (looked_present qsbr allows (step slots present_at 0 0 none) me)
-    looks_present s r deep at fine = (at_log me.0 r.log, keeps, tt, low_loads qsbr allows key s r id present_at me.0 me.0.grace at (λ c. (r.knows grace id me.0 at c, c)),
-        ((refl, (r.log, refl, (r.seen id me.0 at).0, (r.seen id me.0 at).1, r.run)), sym r.agree.readers.present))
+    looks_present s r deep at fine = (
+      at_log me.0 r.log,
+      keeps,
+      tt,
+      low_loads qsbr allows key s r id present_at me.0 me.0.grace at (λ c. (r.knows grace id me.0 at c, c)),
+      ((refl, (r.log, refl, (r.seen id me.0 at).0, (r.seen id me.0 at).1, r.run)), sym r.agree.readers.present),
+    )
 
     copy_now : (log : Log) (m : ℕ) → IsLiveRun qsbr allows log → Precedes me.0 log → MayCopy qsbr (present_of me.0.seen) m → MayCopy qsbr (present_of log) m
     copy_now log m run follow = copy_later qsbr (present_of me.0.seen) (present_of log) m (present_begins qsbr allows me.0.seen log run follow.0)
@@ -64,8 +69,14 @@ module _ (qsbr : Bool) (allows : Log → LiveEvent → Type 0) where
         → Allows Rule slots id me (slot_at r) (λ _. x)
         (λ _ m'. Stored qsbr allows r x (k + opened_in (events r k x)) (events r k x) me m')
         → Allows Rule slots id me (slot_at r) (λ _. x) (λ _. stored qsbr allows events (step slots (slot_at r) x 0 none) me x)
-    telling r w k x events is allowed s rule deep at fine = let t = allowed s rule deep at fine in (t.0, t.1, t.2, t.3, λ r' w' k' is'.
-        subst (λ (z : ℕ × ℕ × ℕ). Stored qsbr allows z.0 x (z.2 + opened_in (events z.0 z.2 x)) (events z.0 z.2 x) me (t.0, Rattle.atomic_table.specs.Table.carried_after me.1 t.1)) (ap slot_or (sym is ∙ is')) t.4)
+    telling r w k x events is allowed s rule deep at fine = let t = allowed s rule deep at fine in (
+      t.0,
+      t.1,
+      t.2,
+      t.3,
+      λ r' w' k' is'.
+          subst (λ (z : ℕ × ℕ × ℕ). Stored qsbr allows z.0 x (z.2 + opened_in (events z.0 z.2 x)) (events z.0 z.2 x) me (t.0, Rattle.atomic_table.specs.Table.carried_after me.1 t.1)) (ap slot_or (sym is ∙ is')) t.4,
+    )
 
     pub opens_slot : (r w k x : ℕ) → me.0.slot ≡ Owns r w k → IsClosed qsbr w → Shows qsbr Wide (copied qsbr x) x → MayCopy qsbr (present_of me.0.seen) (copied qsbr x)
         → Allows Rule slots id me (slot_at r) (λ _. x) (λ _. stored qsbr allows (opens qsbr) (step slots (slot_at r) x 0 none) me x)
@@ -76,7 +87,7 @@ module _ (qsbr : Bool) (allows : Log → LiveEvent → Type 0) where
         → Allows Rule slots id me (slot_at r) (λ _. x) (λ _. stored qsbr allows (closes qsbr) (step slots (slot_at r) x 0 none) me x)
     closes_slot r w k x is stands shut = telling r w k x (closes qsbr) is (stores qsbr allows key slots id me r w k x (k + 0) (closes qsbr r k x) is (refl, tt)
         (λ log run follow at. let o = standing log r w k run at stands in
-          (((o.0, o.1), run), (subst (Fits qsbr x) (sym (closed log r k o.0 o.1)) shut, at.1 ∙ omega arith))))
+        (((o.0, o.1), run), (subst (Fits qsbr x) (sym (closed log r k o.0 o.1)) shut, at.1 ∙ omega arith))))
 
     pub nests_slot : (r w k x : ℕ) → me.0.slot ≡ Owns r w k → (IsClosed qsbr w → ⊥) → ((m : ℕ) → Shows qsbr Wide m w → Shows qsbr Wide m x)
         → Allows Rule slots id me (slot_at r) (λ _. x) (λ _. stored qsbr allows (nests qsbr) (step slots (slot_at r) x 0 none) me x)
@@ -87,4 +98,4 @@ module _ (qsbr : Bool) (allows : Log → LiveEvent → Type 0) where
         → Allows Rule slots id me (slot_at r) (λ _. x) (λ _. stored qsbr allows (announces qsbr) (step slots (slot_at r) x 0 none) me x)
     announces_slot r w k x is stands shows note = telling r w k x (announces qsbr) is (stores qsbr allows key slots id me r w k x (k + 1) (announces qsbr r k x) is (refl, (refl, tt))
         (λ log run follow at. let o = standing log r w k run at stands in
-          opened (Close r k ∷ log) r k (copied qsbr x) x ((o.0, o.1), run) (closed log r k o.0 o.1) at.1 (copy_now log (copied qsbr x) run follow note) shows))
+        opened (Close r k ∷ log) r k (copied qsbr x) x ((o.0, o.1), run) (closed log r k o.0 o.1) at.1 (copy_now log (copied qsbr x) run follow note) shows))

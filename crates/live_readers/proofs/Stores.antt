@@ -46,10 +46,22 @@ apart : (r : ℕ) (events log : Log) → IsOf r events → Apart r events log
 apart r [] log of = record { others = λ q far. (refl, refl); seq = refl; present = refl; mark = refl; objects = refl; notes = λ c. refl; closed = λ q. refl }
 apart r (Open p n m ∷ es) log of = let a = apart r es log of.1 in record {
   others = λ q far. let b = ne_eqb p q (λ e. far (sym e ∙ of.0)) in let o = a.others q far in (ap (λ b. cond b (some (n, m)) (open_of q (es ++ log))) b ∙ o.0, ap (λ b. cond b (sections_of q (es ++ log) + 1) (sections_of q (es ++ log))) b ∙ o.1);
-  seq = a.seq; present = a.present; mark = a.mark; objects = a.objects; notes = a.notes; closed = a.closed }
+  seq = a.seq;
+  present = a.present;
+  mark = a.mark;
+  objects = a.objects;
+  notes = a.notes;
+  closed = a.closed;
+}
 apart r (Close p n ∷ es) log of = let a = apart r es log of.1 in record {
   others = λ q far. let b = ne_eqb p q (λ e. far (sym e ∙ of.0)) in let o = a.others q far in (ap (λ b. cond b none (open_of q (es ++ log))) b ∙ o.0, o.1);
-  seq = a.seq; present = a.present; mark = a.mark; objects = a.objects; notes = a.notes; closed = a.closed }
+  seq = a.seq;
+  present = a.present;
+  mark = a.mark;
+  objects = a.objects;
+  notes = a.notes;
+  closed = a.closed;
+}
 apart r (SeqOdd ∷ es) log of = absurd of
 apart r (SeqEven ∷ es) log of = absurd of
 apart r (Present _ ∷ es) log of = absurd of
@@ -113,12 +125,15 @@ module _ {S : Type 0} (qsbr : Bool) (allows : Log → LiveEvent → Type 0) (key
       let log' : Log = events ++ rule.log in
       let inside : slot_at r < length s.words = omega arith in
       let a : Apart r events rule.log = apart r events rule.log of in
-      let bit = bits qsbr key rule.log s.words r x low small events a in
-      (record (at_log v log') { slot = Owns r x count }, keeps, tt,
+      let bit = bits qsbr key rule.log s.words r x low small events a in (
+        record (at_log v log') { slot = Owns r x count },
+        keeps,
+        tt,
         low_stores qsbr allows key s rule id (slot_at r) x v log' at (Owns r x count) v.groups v.grace (record { objects = a.objects; notes = a.notes; closed = a.closed; more = (events, refl) }) f.0 (omega arith)
-          (reading qsbr key rule.log s.words r x low small events a inside mine.3 f.1.0 g)
-          (own_slot qsbr allows key s rule id (slot_at r) x v log' at r (Owns r x count) claim (λ p c. c) (low, get_or-set_same s.words (slot_at r) x 0 inside, f.1.1, bit r low ∙ mine.3)
+            (reading qsbr key rule.log s.words r x low small events a inside mine.3 f.1.0 g)
+            (own_slot qsbr allows key s rule id (slot_at r) x v log' at r (Owns r x count) claim (λ p c. c) (low, get_or-set_same s.words (slot_at r) x 0 inside, f.1.1, bit r low ∙ mine.3)
             (λ p lp far. (slot_else qsbr key rule.log s.words r x low small events a p far, (a.others p far).1, bit p lp)))
-          (groups_kept qsbr allows key s rule id (slot_at r) x v log' at (groups qsbr key rule.log s.words r x low small events a))
-          (grace_kept qsbr allows key s rule id (slot_at r) x v log' at (events, refl) (a.seq, a.present, a.mark)),
-        (refl, (rule.log, refl, (rule.seen id v at).0, (rule.seen id v at).1, f.0), f.1))
+            (groups_kept qsbr allows key s rule id (slot_at r) x v log' at (groups qsbr key rule.log s.words r x low small events a))
+            (grace_kept qsbr allows key s rule id (slot_at r) x v log' at (events, refl) (a.seq, a.present, a.mark)),
+        (refl, (rule.log, refl, (rule.seen id v at).0, (rule.seen id v at).1, f.0), f.1),
+      )

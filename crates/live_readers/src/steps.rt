@@ -15,10 +15,7 @@ use live_rule::LiveSeat;
 use live_table::LiveTable;
 
 /// Loads the present phase (0 or 1), or in the quiescent-state flavour the present number.
-pub fn load_present<P: GracePlan, K: ChainRule>(
-    table: &LiveTable<P, K>,
-    seat: &mut LiveSeat,
-) -> u64
+pub fn load_present<P: GracePlan, K: ChainRule>(table: &LiveTable<P, K>, seat: &mut LiveSeat) -> u64
     requires { seat.old.table_id ≡ table.now.words.shared.table_id }
     ensures seat { Keeps seat.old seat.new }
     ensures looked { Looked P.QSBR K.allows seat.old.me seat.new.me }
@@ -95,5 +92,8 @@ pub fn store_quiescent<P: GracePlan, K: ChainRule>(
     ensures announced { Announced P.QSBR K.allows slot word seat.old.me seat.new.me }
 {
     let place = table.slot_place(slot);
-    table.words.shared.store::<Announces<P, K>>(seat, place, word);
+    table
+        .words
+        .shared
+        .store::<Announces<P, K>>(seat, place, word);
 }

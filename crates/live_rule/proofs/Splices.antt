@@ -39,7 +39,7 @@ module _ (key : Sizes) (was now : Objects) (words : List ℕ) (c : ℕ) (p next 
   header_now : (o : ObjectId) → IsAlive now o → Header now o (get_or words (cell_at key (now.note o).0 0) 0)
   header_now o a = ⊎_elim (λ (e : enters ≡ Some o). (entering o e).header)
       (λ (b : IsAlive was o). subst (λ (z : ℕ × List ℕ). Header now o (get_or words (cell_at key z.0 0) 0)) (sym (note_old o b.0))
-        (header_same was now o (get_or words (cell_at key (was.note o).0 0) 0) (get_or words (cell_at key (was.note o).0 0) 0) (subst (λ (l : List ObjectId). In l o) moved.retired) (subst (λ (l : List ObjectId). In l o) (sym moved.retired)) refl (heap.header o b)))
+      (header_same was now o (get_or words (cell_at key (was.note o).0 0) 0) (get_or words (cell_at key (was.note o).0 0) 0) (subst (λ (l : List ObjectId). In l o) moved.retired) (subst (λ (l : List ObjectId). In l o) (sym moved.retired)) refl (heap.header o b)))
       (alive_before o a)
 
   -- two objects have two records

@@ -5,6 +5,18 @@ use crate::table::LiveTable;
 use gp_memb::GracePlan;
 use live_log::ChainRule;
 
+/// The sequence number's place.
+const SEQ: usize = 16;
+
+/// The place of the phase or number.
+const PRESENT: usize = 32;
+
+/// The place of the first group word.
+const GROUPS: usize = 48;
+
+/// The place of the first slot's word.
+const SLOTS: usize = 64;
+
 /// Where the words lie, by `Places` of the rule.
 impl<P: GracePlan, K: ChainRule> LiveTable<P, K> {
     ghost use Rattle.std.specs.Prelude.{ℕ, ◌+◌, ◌*◌};
@@ -15,7 +27,7 @@ impl<P: GracePlan, K: ChainRule> LiveTable<P, K> {
         requires { slot < self.now.slots }
         ensures { (result ≡ slot_at slot) × (result < self.now.words.shared.table_id.words) }
     {
-        16 * slot + 64
+        16 * slot + SLOTS
     }
 
     /// The word of a group of 64 slots.
@@ -23,21 +35,21 @@ impl<P: GracePlan, K: ChainRule> LiveTable<P, K> {
         requires { group < 4 }
         ensures { (result ≡ group_at group) × (result < self.now.words.shared.table_id.words) }
     {
-        48 + group
+        group + GROUPS
     }
 
     /// The sequence number.
     pub fn seq_place(&self) -> usize
         ensures { (result ≡ seq_at) × (result < self.now.words.shared.table_id.words) }
     {
-        16
+        SEQ
     }
 
     /// The present phase or number.
     pub fn present_place(&self) -> usize
         ensures { (result ≡ present_at) × (result < self.now.words.shared.table_id.words) }
     {
-        32
+        PRESENT
     }
 
     /// The head of a chain.

@@ -56,13 +56,16 @@ impl<P: GracePlan, K: ChainRule> LiveTable<P, K> {
             pool: pool as u64,
         };
         let (words, seat) = Table::of_words(alloc, zeros.as_slice(), &key)?;
-        Ok((LiveTable {
+        Ok((
+            LiveTable {
                 words,
                 slots,
                 chains,
                 queues,
                 pool,
-            }, seat))
+            },
+            seat,
+        ))
     }
 
     /// Cuts off a seat that has seen as much and has no right: what the first seat has seen can be told to another by it.

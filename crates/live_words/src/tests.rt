@@ -1,6 +1,11 @@
 //! Each step once, at concrete types of both flavours. Expected words are those of the layout: the sequence number is word
 //! 16, the phase or number word 32, the group words are words 48 to 51, and the word of slot s is word 16 s + 64.
 
+ghost use Rattle.std.specs.Prelude.{◌≡◌, ◌<◌, []};
+ghost use Rattle.live_rule.specs.Views.{first_view};
+ghost use Rattle.live_rule.specs.declared.rights.GraceRight.TheVariants.{Rests};
+ghost use Rattle.live_rule.specs.declared.rights.SlotRight.TheVariants.{Owns};
+
 use crate::{
     AnyChain, ChainRule, LiveSeat, LiveTable, claim, leave, load_group, load_present, load_seq,
     load_slot, lock, offline, online, quiescent, release, store_clear, store_even, store_odd,
@@ -9,11 +14,6 @@ use crate::{
 use gp_memb::{GracePlan, MembPlan};
 use gp_qsbr::QsbrPlan;
 use rcu_model::Refusal;
-
-ghost use Rattle.std.specs.Prelude.{◌≡◌, ◌<◌, []};
-ghost use Rattle.live_rule.specs.Views.{first_view};
-ghost use Rattle.live_rule.specs.declared.rights.GraceRight.TheVariants.{Rests};
-ghost use Rattle.live_rule.specs.declared.rights.SlotRight.TheVariants.{Owns};
 
 /// A seat for the first slot of a new table, whose bit is set.
 fn claimed_slot<P: GracePlan, K: ChainRule>(
@@ -35,8 +35,9 @@ fn claimed_slot<P: GracePlan, K: ChainRule>(
 
 #[test]
 fn locks_nest_in_one_section(rt: HostRuntime) {
-    let (table, mut root) =
-        LiveTable::<MembPlan, AnyChain>::new(rt.alloc(), 70, 1, 1, 4).expect(&rt, "memory");
+    let (table, mut root) = LiveTable::<MembPlan, AnyChain>::new(rt.alloc(), 70, 1, 1, 4).expect(
+        &rt, "memory",
+    );
     let mut reader = claimed_slot(&table, &mut root);
     assert_eq!(rt; table.words.shared.peek(48), 1);
     assert!(rt; matches!(unlock(&table, &mut reader, 0, 0), Err(Refusal::NotOpen)));
@@ -53,8 +54,9 @@ fn locks_nest_in_one_section(rt: HostRuntime) {
 
 #[test]
 fn announcements_copy_the_number(rt: HostRuntime) {
-    let (table, mut root) =
-        LiveTable::<QsbrPlan, AnyChain>::new(rt.alloc(), 2, 1, 1, 4).expect(&rt, "memory");
+    let (table, mut root) = LiveTable::<QsbrPlan, AnyChain>::new(rt.alloc(), 2, 1, 1, 4).expect(
+        &rt, "memory",
+    );
     let mut reader = claimed_slot(&table, &mut root);
     assert_eq!(rt; load_present(&table, &mut reader), 0);
     assert_eq!(rt; online(&table, &mut reader, 0), 1);
@@ -69,8 +71,9 @@ fn announcements_copy_the_number(rt: HostRuntime) {
 
 #[test]
 fn a_grace_period_with_no_slots(rt: HostRuntime) {
-    let (table, mut root) =
-        LiveTable::<MembPlan, AnyChain>::new(rt.alloc(), 0, 0, 0, 0).expect(&rt, "memory");
+    let (table, mut root) = LiveTable::<MembPlan, AnyChain>::new(rt.alloc(), 0, 0, 0, 0).expect(
+        &rt, "memory",
+    );
     let mut grace = table.cut_grace(&mut root);
     store_odd(&table, &mut grace, 1);
     assert_eq!(rt; load_seq(&table, &mut root), 1);
@@ -82,8 +85,9 @@ fn a_grace_period_with_no_slots(rt: HostRuntime) {
 
 #[test]
 fn a_reader_leaves(rt: HostRuntime) {
-    let (table, mut root) =
-        LiveTable::<QsbrPlan, AnyChain>::new(rt.alloc(), 2, 1, 1, 4).expect(&rt, "memory");
+    let (table, mut root) = LiveTable::<QsbrPlan, AnyChain>::new(rt.alloc(), 2, 1, 1, 4).expect(
+        &rt, "memory",
+    );
     let first = table.cut_spare_slot(&mut root);
     let _spare = table.cut_slot(&mut root);
     table.join(&mut root, first);
@@ -100,8 +104,9 @@ fn a_reader_leaves(rt: HostRuntime) {
 
 #[test]
 fn seats_are_cut_and_joined(rt: HostRuntime) {
-    let (table, mut root) =
-        LiveTable::<MembPlan, AnyChain>::new(rt.alloc(), 3, 2, 2, 4).expect(&rt, "memory");
+    let (table, mut root) = LiveTable::<MembPlan, AnyChain>::new(rt.alloc(), 3, 2, 2, 4).expect(
+        &rt, "memory",
+    );
     let told = table.tell(&mut root);
     let mut groups = table.cut_groups(&mut root);
     table.learn(&mut groups, told);
@@ -119,8 +124,9 @@ fn seats_are_cut_and_joined(rt: HostRuntime) {
 
 #[test]
 fn words_have_their_places(rt: HostRuntime) {
-    let (table, _root) =
-        LiveTable::<MembPlan, AnyChain>::new(rt.alloc(), 3, 2, 2, 4).expect(&rt, "memory");
+    let (table, _root) = LiveTable::<MembPlan, AnyChain>::new(rt.alloc(), 3, 2, 2, 4).expect(
+        &rt, "memory",
+    );
     assert_eq!(rt; table.seq_place(), 16);
     assert_eq!(rt; table.present_place(), 32);
     assert_eq!(rt; table.group_place(3), 51);

@@ -15,13 +15,13 @@ returns-clause-closed g c is online =
     let last = c.release.new.seat.me.0.seen in
     let e = Close c.args.slot (count_in c.args.seat.now.me.0.slot) in
     has_more e c.if-QSBR.seat.me.0.seen last (wrote_later qsbr allows c.if-QSBR.seat.me.0 [] last c.release.ensures.released.1)
-      (elim c.if-QSBR.branch [
-          then-QSBR+then-reader-ne0 w ↦ subst (Has e) (ap (λ z. z.me.0.seen) (sym w.seat-is)) (wrote_has qsbr allows c.args.seat.now.me.0 e w.offline.new.seat.me.0.seen w.offline.ensures.closed.1)
-        | else-QSBR w ↦ absurd (elim w.else-QSBR.branch [
-              else-QSBR-via-then-QSBR+else-reader-ne0 x ↦ online (search rules)
-            | else-QSBR-via-else-QSBR x ↦ true≢false (search rules)
-          ])
+    (elim c.if-QSBR.branch [
+      | then-QSBR+then-reader-ne0 w ↦ subst (Has e) (ap (λ z. z.me.0.seen) (sym w.seat-is)) (wrote_has qsbr allows c.args.seat.now.me.0 e w.offline.new.seat.me.0.seen w.offline.ensures.closed.1)
+      | else-QSBR w ↦ absurd (elim w.else-QSBR.branch [
+        | else-QSBR-via-then-QSBR+else-reader-ne0 x ↦ online (search rules)
+        | else-QSBR-via-else-QSBR x ↦ true≢false (search rules)
       ])
+    ])
 
 pub returns-clause-later : goal.returns-clause-later
 returns-clause-later g c =
@@ -31,7 +31,7 @@ returns-clause-later g c =
     let first = c.args.seat.now.me.0.seen in
     let mid = c.if-QSBR.seat.me.0.seen in
     let start : Begins first mid = elim c.if-QSBR.branch [
-        then-QSBR+then-reader-ne0 w ↦ subst (Begins first) (ap (λ z. z.me.0.seen) (sym w.seat-is)) (wrote_later qsbr allows c.args.seat.now.me.0 (Close c.args.slot (count_in c.args.seat.now.me.0.slot) ∷ []) w.offline.new.seat.me.0.seen w.offline.ensures.closed.1)
+      | then-QSBR+then-reader-ne0 w ↦ subst (Begins first) (ap (λ z. z.me.0.seen) (sym w.seat-is)) (wrote_later qsbr allows c.args.seat.now.me.0 (Close c.args.slot (count_in c.args.seat.now.me.0.slot) ∷ []) w.offline.new.seat.me.0.seen w.offline.ensures.closed.1)
       | else-QSBR w ↦ subst (Begins first) (ap (λ z. z.me.0.seen) (sym w.seat-is)) ([], refl)
     ] in
     (begins_trans first mid last start (wrote_later qsbr allows c.if-QSBR.seat.me.0 [] last c.release.ensures.released.1), c.release.ensures.released.1.4)

@@ -5,8 +5,12 @@ use Rattle.live_periods.proofs.Periods.{ends_period}
 use Rattle.live_periods.proofs.steps.store_even.Goals as goal
 
 pub store-requires : goal.store-requires
-store-requires g c = (c.requires.seat, c.seq_place-place.ensures.1, rw (c.seq_place-place.ensures.0) (rw (c.requires.right.1) (ends_period g.P.GracePlan.QSBR g.K.ChainRule.allows _ _ _ _ _ _ _ _ c.requires.right.0
-    (subst (λ (n : ℕ). TellsAllEnded g.P.GracePlan.QSBR n (before_in c.args.seat.now.me.0.grace) (looks_in c.args.seat.now.me.0.grace)) c.args.table.now.sized.0 c.requires.loads))))
+store-requires g c = (
+  c.requires.seat,
+  c.seq_place-place.ensures.1,
+  rw (c.seq_place-place.ensures.0) (rw (c.requires.right.1) (ends_period g.P.GracePlan.QSBR g.K.ChainRule.allows _ _ _ _ _ _ _ _ c.requires.right.0
+      (subst (λ (n : ℕ). TellsAllEnded g.P.GracePlan.QSBR n (before_in c.args.seat.now.me.0.grace) (looks_in c.args.seat.now.me.0.grace)) c.args.table.now.sized.0 c.requires.loads))),
+)
 
 pub returns-clause-ended : goal.returns-clause-ended
 returns-clause-ended g c = (c.store.ensures.2 _ _ _ _ c.requires.right.0).0

@@ -18,4 +18,4 @@ returns-clause-copied g c closed =
     let made : entered_of Wide c.args.word (c.load_present-phase.result == 1) ≡ Ok c.in_ok-new-2.new = search rules in
     let low : IsBound qsbr (seq_of mid.0.seen) c.load_present-phase.result = subst (IsBound qsbr (seq_of mid.0.seen)) load.present (bounded qsbr g.K.ChainRule.allows mid.0.seen load.looked.1.4) in
     copied_before qsbr g.K.ChainRule.allows (opens qsbr) c.args.slot c.in_ok-new-2.new _ c.args.seat.now.me mid c.store_open.new.seat.me load.looked c.store_open.ensures.opened
-      (load.present ∙ phase_copied qsbr c.requires.flavour c.args.word c.in_ok-new-2.new (seq_of mid.0.seen) c.load_present-phase.result closed made low)
+    (load.present ∙ phase_copied qsbr c.requires.flavour c.args.word c.in_ok-new-2.new (seq_of mid.0.seen) c.load_present-phase.result closed made low)
