@@ -26,11 +26,11 @@ use Rattle.live_groups.specs.Groups.{DiffersAt, Regrouped, claimed, released}
 abbrev IsOfSlot : Sizes → ℕ → SlotRight → Type 0
 IsOfSlot key r x = ClaimsSlot key x r × ((q : ℕ) → ClaimsSlot key x q → r ≡ q)
 
--- a shut word fits no open section
-shut_fits : (b : Bool) (w : ℕ) (o : Option (ℕ × ℕ)) → Fits b w o → IsClosed b w → o ≡ none
-shut_fits b w none f z = refl
-shut_fits false w (some x) f z = absurd (f.0 z)
-shut_fits true w (some x) f z = absurd (omega arith)
+-- a closed word fits no open section
+closed_fits : (b : Bool) (w : ℕ) (o : Option (ℕ × ℕ)) → Fits b w o → IsClosed b w → o ≡ none
+closed_fits b w none f z = refl
+closed_fits false w (some x) f z = absurd (f.0 z)
+closed_fits true w (some x) f z = absurd (omega arith)
 
 module _ (qsbr : Bool) (key : Sizes) (small : key.slots ≤ 256) (log : Log) (words : List ℕ) (r x : ℕ) (low : r < key.slots) where
   abbrev i : ℕ
@@ -82,7 +82,7 @@ module _ {S : Type 0} (qsbr : Bool) (allows : Log → LiveEvent → Type 0) (key
   abbrev Rule : State S View → Type 0
   Rule = KeepsRule qsbr allows key
 
-  -- the seat with the group words and the right to a shut slot stores the slot's bit
+  -- the seat with the group words and the right to a closed slot stores the slot's bit
   stores : (r w k x : ℕ) (old : List ℕ) (right : SlotRight) → me.0.groups ≡ groups_right.Owns old → IsOfSlot key r me.0.slot → IsOfSlot key r right → DiffersAt r (get_or old (r / 64) 0) x
       → ((log : Log) (words : List ℕ) → KnowsSlot qsbr key log words me.0.slot r → (r < key.slots) × (get_or words (slot_at r) 0 ≡ w) × (sections_of r log ≡ k) × IsClosed qsbr w)
       → ((log : Log) (words : List ℕ) → r < key.slots → get_or words (slot_at r) 0 ≡ w → sections_of r log ≡ k → IsClosed qsbr w → bit_at words r ≡ bit_of x (r % 64) → KnowsSlot qsbr key log words right r)
@@ -99,7 +99,7 @@ module _ {S : Type 0} (qsbr : Bool) (allows : Log → LiveEvent → Type 0) (key
       let i : ℕ = group_at (r / 64) in
       let inside : i < length s.words = omega arith in
       let diff : DiffersAt r (get_or s.words i 0) x = subst (λ (z : ℕ). DiffersAt r z x) (sym (bits_known.1 (r / 64) (omega arith))) differs in
-      let shut = shut_fits qsbr w (open_of r rule.log) (subst (λ (z : ℕ). Fits qsbr z (open_of r rule.log)) mine.1 (g.each_slot r low)) mine.3 in
+      let shut = closed_fits qsbr w (open_of r rule.log) (subst (λ (z : ℕ). Fits qsbr z (open_of r rule.log)) mine.1 (g.each_slot r low)) mine.3 in
       let same = slot_else qsbr key small rule.log s.words r x low in (
         record (at_log v rule.log) { slot = right; groups = groups_right.Owns (set old (r / 64) x) },
         keeps,

@@ -8,7 +8,7 @@ ghost use Rattle.live_log.specs.Log.{Begins, Has, IsLiveRun};
 ghost use Rattle.live_rule.specs.declared.rights.GroupsRight.TheVariants as groups_right;
 ghost use Rattle.live_rule.specs.declared.rights.SlotRight.TheVariants.{Idle, Owns};
 ghost use Rattle.live_rule.specs.Readers.{IsClosed};
-ghost use Rattle.live_rule.specs.Steps.{Keeps};
+ghost use Rattle.live_table.specs.Steps.{Keeps};
 ghost use Rattle.live_table.specs.Rights.{HasGroups, IsIdle, IsOwner, count_in, word_in};
 ghost use Rattle.live_groups.specs.Groups.{Regrouped, group_word, regrouped};
 

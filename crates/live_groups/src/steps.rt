@@ -3,7 +3,7 @@ ghost use Rattle.std.specs.Prelude.{◌≡◌, ◌/◌, ◌%◌, ◌<◌, true, 
 ghost use Rattle.live_rule.specs.declared.rights.SlotRight.TheVariants.{Idle, Owns};
 ghost use Rattle.live_rule.specs.Readers.{IsClosed};
 ghost use Rattle.gp_memb.specs.Plan.{bit_of};
-ghost use Rattle.live_rule.specs.Steps.{Keeps};
+ghost use Rattle.live_table.specs.Steps.{Keeps};
 ghost use Rattle.live_table.specs.Rights.{HasGroups, IsIdle, IsOwner, count_in, word_in};
 ghost use Rattle.live_groups.specs.Groups.{DiffersAt, Regrouped, group_word};
 

@@ -4,7 +4,8 @@ ghost use Rattle.live_log.specs.declared.event.LiveEvent.TheVariants.{Present, S
 ghost use Rattle.live_log.specs.Log.{HaveEnded, MayBePresent, before_odd, present_of, seq_of};
 ghost use Rattle.live_rule.specs.declared.rights.GraceRight.TheVariants.{Rests, Works};
 ghost use Rattle.live_rule.specs.Places.{group_at, slot_at};
-ghost use Rattle.live_rule.specs.Steps.{Keeps, Looked};
+ghost use Rattle.live_rule.specs.Steps.{Looked};
+ghost use Rattle.live_table.specs.Steps.{Keeps};
 ghost use Rattle.live_table.specs.Rights.{IsResting, IsWorking, before_in, looks_in, present_in, seq_in};
 ghost use Rattle.live_periods.specs.Periods.{GraceBecomes, TellsAllEnded};
 

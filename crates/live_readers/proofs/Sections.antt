@@ -23,11 +23,11 @@ use Rattle.live_rule.proofs.Lemmas.{low_loads}
 use Rattle.live_readers.specs.Sections.{copied, opened_in, IsAt, looked_present, Stored, stored, opens, nests, closes, announces}
 use Rattle.live_readers.proofs.Stores.{slot_or, stores}
 
--- a shut word fits no open section, and another one fits some
-pub shut_fits : (b : Bool) (w : ℕ) (o : Option (ℕ × ℕ)) → Fits b w o → IsClosed b w → o ≡ none
-shut_fits b w none f z = refl
-shut_fits false w (some x) f z = absurd (f.0 z)
-shut_fits true w (some x) f z = absurd (omega arith)
+-- a closed word fits no open section, and another one fits some
+pub closed_fits : (b : Bool) (w : ℕ) (o : Option (ℕ × ℕ)) → Fits b w o → IsClosed b w → o ≡ none
+closed_fits b w none f z = refl
+closed_fits false w (some x) f z = absurd (f.0 z)
+closed_fits true w (some x) f z = absurd (omega arith)
 
 pub open_fits : (b : Bool) (w : ℕ) (o : Option (ℕ × ℕ)) → Fits b w o → (IsClosed b w → ⊥) → (x : ℕ × ℕ) × (o ≡ some x) × Shows b Wide x.1 w
 open_fits b w none f z = absurd (z f)
@@ -81,7 +81,7 @@ module _ (qsbr : Bool) (allows : Log → LiveEvent → Type 0) where
     pub opens_slot : (r w k x : ℕ) → me.0.slot ≡ Owns r w k → IsClosed qsbr w → Shows qsbr Wide (copied qsbr x) x → MayCopy qsbr (present_of me.0.seen) (copied qsbr x)
         → Allows Rule slots id me (slot_at r) (λ _. x) (λ _. stored qsbr allows (opens qsbr) (step slots (slot_at r) x 0 none) me x)
     opens_slot r w k x is shut shows note = telling r w k x (opens qsbr) is (stores qsbr allows key slots id me r w k x (k + 1) (opens qsbr r k x) is (refl, tt)
-        (λ log run follow at. opened log r k (copied qsbr x) x run (shut_fits qsbr w (open_of r log) at.0 shut) at.1 (copy_now log (copied qsbr x) run follow note) shows))
+        (λ log run follow at. opened log r k (copied qsbr x) x run (closed_fits qsbr w (open_of r log) at.0 shut) at.1 (copy_now log (copied qsbr x) run follow note) shows))
 
     pub closes_slot : (r w k x : ℕ) → me.0.slot ≡ Owns r w k → (IsClosed qsbr w → ⊥) → IsClosed qsbr x
         → Allows Rule slots id me (slot_at r) (λ _. x) (λ _. stored qsbr allows (closes qsbr) (step slots (slot_at r) x 0 none) me x)

@@ -1,6 +1,6 @@
 //! Announcements of the quiescent-state flavour.
 ghost use Rattle.std.specs.Prelude.{◌≡◌, ◌≢◌, ◌<◌, true};
-ghost use Rattle.live_rule.specs.Steps.{Keeps};
+ghost use Rattle.live_table.specs.Steps.{Keeps};
 ghost use Rattle.live_table.specs.Rights.{IsOwner, count_in, word_in};
 ghost use Rattle.live_readers.specs.Sections.{Announced, Closed, CopiedBefore, Opened, announces, opens};
 

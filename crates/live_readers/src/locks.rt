@@ -3,7 +3,7 @@ ghost use Rattle.std.specs.Prelude.{◌≡◌, ◌≢◌, ◌<◌, ℕ, false, B
 ghost use Rattle.rcu_model.specs.declared.refusal.Refusal.TheVariants.{NestFull, NotOpen};
 ghost use Rattle.reader_word.specs.declared.layout.Layout.TheVariants.{Wide};
 ghost use Rattle.reader_word.specs.Word.{count_of, entered_of, greatest_count, left_of};
-ghost use Rattle.live_rule.specs.Steps.{Keeps};
+ghost use Rattle.live_table.specs.Steps.{Keeps};
 ghost use Rattle.live_table.specs.Rights.{IsOwner, count_in, word_in};
 ghost use Rattle.live_readers.specs.Sections.{Closed, CopiedBefore, Nested, Opened, opens};
 

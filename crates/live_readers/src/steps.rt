@@ -4,7 +4,8 @@ ghost use Rattle.reader_word.specs.declared.layout.Layout.TheVariants.{Wide};
 ghost use Rattle.gp_memb.specs.Plan.{Shows};
 ghost use Rattle.live_log.specs.Log.{MayCopy, present_of};
 ghost use Rattle.live_rule.specs.Readers.{IsClosed};
-ghost use Rattle.live_rule.specs.Steps.{Keeps, Looked};
+ghost use Rattle.live_rule.specs.Steps.{Looked};
+ghost use Rattle.live_table.specs.Steps.{Keeps};
 ghost use Rattle.live_table.specs.Rights.{IsOwner, word_in};
 ghost use Rattle.live_readers.specs.Sections.{Announced, Closed, Nested, Opened, copied};
 
