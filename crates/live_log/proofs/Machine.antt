@@ -1,5 +1,5 @@
 -- The machine's events of a log: they are a run of the machine, which opens sections as the log does.
-use Rattle.std.proofs.Common.{Bool, ◌≡◌, ◌≢◌, ◌⊎◌, ℕ, ◌+◌, ◌<◌, ◌≤◌, List, [], ◌∷◌, ◌++◌, cond, eqb, sym, refl, ap, ◌∙◌, subst, inl, inr, ⊎_elim, arith, eq-eqb, ne_eqb, append_assoc, true, false}
+use Rattle.std.proofs.Common.{Bool, ◌≡◌, ◌≢◌, ℕ, ◌+◌, ◌≤◌, List, [], ◌∷◌, ◌++◌, cond, sym, refl, ap, ◌∙◌, subst, inl, inr, ⊎_elim, arith, eq-eqb, ne_eqb, append_assoc, true, false}
 use mathlib.Core.Logic.{dite}
 use mathlib.Core.Option.{some, none, some-injective, some-ne-none}
 use native.Mathlib.Decide.{ℕ_discrete}
@@ -15,7 +15,7 @@ use Rattle.live_log.specs.declared.event.ObjectEvent.{ObjectEvent}
 use Rattle.live_log.specs.declared.event.ObjectEvent.TheVariants.{Push, Replace, Cut, Retire, Queue, Run}
 use Rattle.live_log.specs.declared.event.LiveEvent.{LiveEvent}
 use Rattle.live_log.specs.declared.event.LiveEvent.TheVariants.{Open, Close, SeqOdd, SeqEven, Present, ChainNote, CloseQueue, Object}
-use Rattle.live_log.specs.Log.{Log, Has, Begins, section, event_of, machine_log, state_of, open_of, sections_of, MayFollow, IsOpenSection, IsLiveRun}
+use Rattle.live_log.specs.Log.{Log, Has, Begins, section, event_of, machine_log, state_of, open_of, sections_of, IsOpenSection, IsLiveRun}
 use Rattle.live_log.proofs.Runs.{last_opened}
 
 pub begins_trans : (a b c : Log) → Begins a b → Begins b c → Begins a c

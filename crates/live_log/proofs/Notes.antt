@@ -1,5 +1,5 @@
 -- The record and the payload of an object that was put into a chain stay.
-use Rattle.std.proofs.Common.{Bool, ◌≡◌, ℕ, List, [], ◌∷◌, ◌++◌, sym, refl, ap, ◌∙◌, subst}
+use Rattle.std.proofs.Common.{Bool, ◌≡◌, [], ◌∷◌, ◌++◌, refl, ap, ◌∙◌, subst}
 use Rattle.rcu_model.specs.declared.event.ObjectId.{ObjectId}
 use Rattle.rcu_model.specs.Sets.{In}
 use Rattle.rcu_model.proofs.Lemmas.{at_object_other}

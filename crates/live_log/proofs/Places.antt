@@ -1,5 +1,5 @@
 -- Where objects are: each one that was put into a chain is linked or cut, and leads to such objects alone.
-use Rattle.std.proofs.Common.{Bool, ◌≡◌, ◌⊎◌, ℕ, List, Option, Some, None, sym, refl, subst, inl, inr, ⊎_elim}
+use Rattle.std.proofs.Common.{Bool, ◌≡◌, ℕ, Option, Some, sym, refl, subst, inl, inr, ⊎_elim}
 use Rattle.rcu_model.specs.declared.event.ObjectId.{ObjectId}
 use Rattle.rcu_model.specs.Machine.{State}
 use Rattle.rcu_model.specs.Sets.{In, next_of, first_of}

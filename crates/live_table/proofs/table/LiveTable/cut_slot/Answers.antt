@@ -1,4 +1,4 @@
-use Rattle.std.proofs.Common.{rules, ◌+◌, ◌*◌, arith}
+use Rattle.std.proofs.Common.{arith}
 use Rattle.live_rule.proofs.Lemmas.{cuts_slot}
 use Rattle.live_table.proofs.table.LiveTable.cut_slot.Goals as goal
 

@@ -1,4 +1,4 @@
-use Rattle.std.proofs.Common.{rules, ◌≡◌, ◌<◌, ℕ, ◌+◌, ◌*◌, arith, subst}
+use Rattle.std.proofs.Common.{arith}
 use Rattle.live_rule.proofs.Lemmas.{cuts_spare_slot}
 use Rattle.live_table.proofs.table.LiveTable.cut_spare_slot.Goals as goal
 

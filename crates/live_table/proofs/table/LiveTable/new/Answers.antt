@@ -1,4 +1,4 @@
-use Rattle.std.proofs.Common.{rules, ◌≡◌, ℕ, ◌+◌, ◌*◌, arith, ◌∙◌, refl, sym}
+use Rattle.std.proofs.Common.{rules, ◌+◌, ◌*◌, refl}
 use Rattle.live_rule.proofs.Lemmas.{starts_zero}
 use Rattle.live_table.proofs.table.LiveTable.new.Goals as goal
 

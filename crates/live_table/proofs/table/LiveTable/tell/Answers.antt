@@ -1,4 +1,4 @@
-use Rattle.std.proofs.Common.{rules, ◌+◌, ◌*◌, arith}
+use Rattle.std.proofs.Common.{arith}
 use Rattle.live_rule.proofs.Lemmas.{tells}
 use Rattle.live_table.proofs.table.LiveTable.tell.Goals as goal
 

@@ -1,0 +1,2 @@
+-- The variants of `WorkRight`.
+pub use Rattle.live_rule.specs.declared.rights.WorkRight.TheVariants.{Nothing, Works}
