@@ -13,6 +13,11 @@ pub copy_later : (qsbr : Bool) (old new m : ℕ) → (qsbr ≡ true → old ≤ 
 copy_later true old new m rises note = let r = rises refl in omega arith
 copy_later false old new m rises note = note
 
+-- what a section may have copied, by the flavour
+pub copy_bounds : (qsbr : Bool) (present m : ℕ) → MayCopy qsbr present m → (qsbr ≡ false → m < 2) × (qsbr ≡ true → m ≤ present)
+copy_bounds true present m may = ((λ is. absurd (Rattle.std.proofs.Common.true≢false is)), (λ is. may))
+copy_bounds false present m may = ((λ is. may), (λ is. absurd (Rattle.std.proofs.Common.true≢false (sym is))))
+
 -- the number after a store is no less
 present_rises : (qsbr : Bool) (seq present p : ℕ) → MayBePresent qsbr seq present p → qsbr ≡ true → present ≤ p
 present_rises true seq present p t is = t.0
