@@ -2,7 +2,7 @@
 
 ghost use Rattle.std.specs.Prelude.{◌≡◌, ◌-◌, length};
 
-use crate::board::Board;
+use crate::board::{Board, at};
 use call_rcu_worker::WorkerCore;
 use world_state::{UpdaterPlace, WorldPlan};
 
@@ -26,15 +26,15 @@ impl<P: WorldPlan + Drop> Board<P> {
         ensures { result ≡ is_between_steps (shown self.now) actor }
     {
         match actor {
-            Actor::Reader(reader) => match self.readers.get(reader as usize) {
+            Actor::Reader(reader) => match at(&self.readers, reader as usize) {
                 Some(state) => state.copy.is_some(),
                 None => false,
             },
-            Actor::Updater(updater) => match self.updaters.get(updater as usize) {
+            Actor::Updater(updater) => match at(&self.updaters, updater as usize) {
                 Some(state) => !matches!(state.place, UpdaterPlace::Idle),
                 None => false,
             },
-            Actor::Worker(worker) => match self.workers.get(worker as usize) {
+            Actor::Worker(worker) => match at(&self.workers, worker as usize) {
                 Some(state) => !matches!(state.core, WorkerCore::Idle),
                 None => false,
             },

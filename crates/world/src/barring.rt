@@ -2,7 +2,7 @@
 
 ghost use Rattle.std.specs.Prelude.{◌≡◌, ◌+◌, ◌<◌, ◌≤◌, length, slice_get};
 
-use crate::board::Board;
+use crate::board::{Board, entry};
 use crate::grace::one_event;
 use rcu_model::Event;
 use world_state::{
@@ -18,10 +18,7 @@ impl<P: WorldPlan + Drop> Board<P> {
     fn noted_at(&self, mut counts: [u64; QUEUES], queue: u32) -> [u64; QUEUES]
         ensures { result ≡ noted_at (shown self.now) counts queue }
     {
-        let queued = self
-            .queues
-            .get(queue as usize)
-            .map_or(0, |state| state.queued);
+        let queued = entry(&self.queues, queue as usize).map_or(0, |state| state.queued);
         put(&mut counts, queue as usize, queued);
         counts
     }
@@ -99,10 +96,7 @@ impl<P: WorldPlan + Drop> Board<P> {
         ensures { result ≡ barrier_on (shown self.now) updater state barrier (Check queue) }
     {
         let noted = barrier.counts.get(queue as usize).copied().unwrap_or(0);
-        let finished = self
-            .queues
-            .get(queue as usize)
-            .map_or(0, |state| state.finished);
+        let finished = entry(&self.queues, queue as usize).map_or(0, |state| state.finished);
         if finished < noted {
             return Change::Stay(Answer::Wait);
         }

@@ -1,6 +1,7 @@
 //! The board: what is kept between two lines, and one step of it.
 
 ghost use Rattle.std.specs.Prelude.{◌≡◌, ◌+◌, ◌≤◌, ◌<◌, ◌^◌, ◌++◌, length, slice_get, slice_set, replicate, OnOk, OnErr, IfOk, IfErr};
+ghost use Rattle.std.specs.Option.{option_copied};
 ghost use Rattle.rcu_model.specs.declared.refusal.Refusal.TheVariants as refusal;
 ghost use Rattle.world_state.specs.Queues.{empty_queue_state};
 
@@ -31,6 +32,20 @@ pub struct Board<P> {
     pub(crate) objects: Vec<ObjectState>,
     /// What the steps told, in order.
     pub(crate) log: Vec<Event>,
+}
+
+/// What stands at this place, if there is such a place.
+pub(crate) fn at<T: Copy>(items: &[T], place: usize) -> Option<T>
+    ensures { result ≡ slice_get items.now place }
+{
+    items.get(place).copied()
+}
+
+/// Where this place is, if there is such a place.
+pub(crate) fn entry<T>(items: &[T], place: usize) -> Option<&T>
+    ensures { option_copied result ≡ slice_get items.now place }
+{
+    items.get(place)
 }
 
 impl<P: WorldPlan + Drop> Board<P> {
@@ -104,20 +119,20 @@ impl<P: WorldPlan + Drop> Board<P> {
     {
         match *line {
             Line::Reader(reader, verb) => {
-                let Some(state) = self.readers.get(reader as usize).copied() else {
+                let Some(state) = at(&self.readers, reader as usize) else {
                     return Err(Refusal::NoActor);
                 };
                 let step = self.reader_line(reader, state, verb)?;
                 Ok(Change::Read { reader, step })
             }
             Line::Updater(updater, verb) => {
-                let Some(state) = self.updaters.get(updater as usize).copied() else {
+                let Some(state) = at(&self.updaters, updater as usize) else {
                     return Err(Refusal::NoActor);
                 };
                 self.updater_line(updater, state, verb)
             }
             Line::Worker(worker, verb) => {
-                let Some(state) = self.workers.get(worker as usize).copied() else {
+                let Some(state) = at(&self.workers, worker as usize) else {
                     return Err(Refusal::NoActor);
                 };
                 self.worker_line(worker, state, verb)

@@ -6,7 +6,7 @@ ghost use Rattle.world_state.specs.View.{BoardView, plans_of};
 ghost use Rattle.world.specs.Reached.{IsReached};
 ghost use Rattle.world.specs.Drain.{IsSettled};
 
-use crate::board::Board;
+use crate::board::{Board, at, entry};
 use crate::laws::{numbers_stay_in_range, plan_keeps_its_laws};
 use call_rcu_worker::WorkerCore;
 use rcu_model::Refusal;
@@ -59,13 +59,13 @@ impl<P: WorldPlan + Drop> Board<P> {
         requires { IsSettled (shown self.now) }
         ensures { result ≡ items_to_drain P.QSBR (shown self.now) worker }
     {
-        let Some(state) = self.workers.get(worker as usize) else {
+        let Some(state) = at(&self.workers, worker as usize) else {
             return Err(Refusal::NoActor);
         };
-        let Some(queue) = self.queues.get(worker as usize) else {
+        let Some(queue) = entry(&self.queues, worker as usize) else {
             return Err(Refusal::NoActor);
         };
-        if self.is_busy(*state, queue) {
+        if self.is_busy(state, queue) {
             return Err(Refusal::Busy);
         }
         if queue.items.is_empty() {

@@ -2,7 +2,7 @@
 
 ghost use Rattle.std.specs.Prelude.{◌≡◌, ◌<◌, length, slice_get};
 
-use crate::board::Board;
+use crate::board::{Board, at};
 use rcu_model::{Event, ObjectId, Refusal};
 use world_state::{Change, ObjectState, Publishing, Splice, UpdaterPlace, UpdaterState, WorldPlan};
 
@@ -29,7 +29,7 @@ impl<P: WorldPlan + Drop> Board<P> {
         requires { 0 < length (shown self.now).updaters }
         ensures { result ≡ linked_by (shown self.now) updater (slice_get (shown self.now).objects object.0) }
     {
-        let state = self.objects.get(object.0 as usize).copied()?;
+        let state = at(&self.objects, object.0 as usize)?;
         if state.is_linked() && self.writes(updater, state.chain) {
             Some(state)
         } else {
@@ -47,7 +47,7 @@ impl<P: WorldPlan + Drop> Board<P> {
         requires { 0 < length (shown self.now).updaters }
         ensures { result ≡ push_row (shown self.now) updater state chain (slice_get (shown self.now).heads chain) }
     {
-        let Some(head) = self.heads.get(chain as usize).copied() else {
+        let Some(head) = at(&self.heads, chain as usize) else {
             return Err(Refusal::NoPlace);
         };
         if !self.writes(updater, chain) {
@@ -143,7 +143,7 @@ impl<P: WorldPlan + Drop> Board<P> {
     ) -> Result<Change<P>, Refusal>
         ensures { result ≡ pushed_row updater state new (slice_get (shown self.now).objects new.0) }
     {
-        let Some(object) = self.objects.get(new.0 as usize).copied() else {
+        let Some(object) = at(&self.objects, new.0 as usize) else {
             return Err(Refusal::NoPlace);
         };
         Ok(Change::Publish {
@@ -173,7 +173,7 @@ impl<P: WorldPlan + Drop> Board<P> {
     ) -> Result<Change<P>, Refusal>
         ensures { result ≡ replaced_row updater state old new (slice_get (shown self.now).objects old.0) }
     {
-        let Some(object) = self.objects.get(old.0 as usize).copied() else {
+        let Some(object) = at(&self.objects, old.0 as usize) else {
             return Err(Refusal::NoPlace);
         };
         Ok(Change::Publish {

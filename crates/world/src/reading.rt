@@ -2,7 +2,7 @@
 
 ghost use Rattle.std.specs.Prelude.{◌≡◌, ◌+◌, ◌≤◌, ◌<◌, ◌^◌, length, slice_get, Some};
 
-use crate::board::Board;
+use crate::board::{Board, at};
 use rcu_model::Refusal;
 use reader_word::qs_is_online;
 use world_state::{ReaderState, ReaderStep, ReaderVerb, WorldPlan};
@@ -83,7 +83,7 @@ impl<P: WorldPlan + Drop> Board<P> {
     fn first(&self, reader: u32, state: ReaderState, chain: u32) -> Result<ReaderStep, Refusal>
         ensures { result ≡ first_row reader state chain (slice_get (shown self.now).heads chain) }
     {
-        let Some(found) = self.heads.get(chain as usize).copied() else {
+        let Some(found) = at(&self.heads, chain as usize) else {
             return Err(Refusal::NoPlace);
         };
         Ok(state.first(reader, chain, found))
@@ -95,7 +95,7 @@ impl<P: WorldPlan + Drop> Board<P> {
         let Some(from) = state.cursor else {
             return Err(Refusal::NoPlace);
         };
-        let Some(object) = self.objects.get(from.0 as usize).copied() else {
+        let Some(object) = at(&self.objects, from.0 as usize) else {
             return Err(Refusal::NoPlace);
         };
         Ok(state.next(reader, from, object.link))

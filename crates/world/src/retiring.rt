@@ -2,7 +2,7 @@
 
 ghost use Rattle.std.specs.Prelude.{◌≡◌, ◌<◌, ◌≤◌, length, slice_get};
 
-use crate::board::Board;
+use crate::board::{Board, at, entry};
 use crate::grace::one_event;
 use rcu_model::{Event, ObjectId, Refusal};
 use world_state::{
@@ -26,7 +26,7 @@ impl<P: WorldPlan + Drop> Board<P> {
         requires { 0 < length (shown self.now).updaters }
         ensures { result ≡ may_retire (shown self.now) updater (slice_get (shown self.now).objects object.0) }
     {
-        let Some(state) = self.objects.get(object.0 as usize).copied() else {
+        let Some(state) = at(&self.objects, object.0 as usize) else {
             return false;
         };
         matches!(state.stage, Stage::Cut)
@@ -49,7 +49,7 @@ impl<P: WorldPlan + Drop> Board<P> {
             return Err(Refusal::NoPlace);
         }
         let queue = self.queue_of(updater);
-        let Some(locked) = self.queues.get(queue as usize) else {
+        let Some(locked) = entry(&self.queues, queue as usize) else {
             return Err(Refusal::NoPlace);
         };
         if locked.holder.is_some() {

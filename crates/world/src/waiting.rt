@@ -2,7 +2,7 @@
 
 ghost use Rattle.std.specs.Prelude.{◌≡◌, ◌≢◌, ◌+◌, ◌≤◌, ◌<◌, ◌^◌, ℕ, length, slice_get, Some};
 
-use crate::board::Board;
+use crate::board::{Board, at};
 use crate::grace::{Effect, GraceStep, answer_to, one_event};
 use call_rcu_worker::{SyncCore, SyncStep};
 use gp_memb::Action;
@@ -242,7 +242,7 @@ impl<P: WorldPlan + Drop> Board<P> {
         let mut loaded = 0;
         match action {
             Action::Load(slot) => {
-                if let Some(reader) = self.readers.get(slot).copied() {
+                if let Some(reader) = at(&self.readers, slot) {
                     loaded = reader.word;
                 }
             }

@@ -5,7 +5,7 @@ ghost use Rattle.call_rcu_worker.specs.Sync.{told_of, step_of as sync_step};
 ghost use Rattle.world.specs.Grace.{MayHand, planned, stepped};
 ghost use Rattle.world.specs.Workers.{worker_act, worked};
 
-use crate::board::Board;
+use crate::board::{Board, entry};
 use crate::grace::{Effect, answer_to, one_event};
 use call_rcu_worker::{SyncCore, Tickets, Told, WorkerCore};
 use callback_queue::{Item, Ticket};
@@ -52,7 +52,7 @@ impl<P: WorldPlan + Drop> Board<P> {
         requires given { (queue : QueueState) → slice_get (shown self.now).queues worker ≡ Some queue → given_of queue.items ≤ length (shown self.now).log }
         ensures { result ≡ take_row (shown self.now) worker state (slice_get (shown self.now).queues worker) }
     {
-        let Some(queue) = self.queues.get(worker as usize) else {
+        let Some(queue) = entry(&self.queues, worker as usize) else {
             return Err(Refusal::NoActor);
         };
         if queue.holder.is_some() {
@@ -145,7 +145,7 @@ impl<P: WorldPlan + Drop> Board<P> {
         requires next { (first : Ticket × ObjectId) → first_in (slice_get (shown self.now).queues worker) ≡ Some first → first.0 ≡ next_of tickets }
         ensures { result ≡ run_row (shown self.now) worker state tickets (first_in (slice_get (shown self.now).queues worker)) }
     {
-        let Some(queue) = self.queues.get(worker as usize) else {
+        let Some(queue) = entry(&self.queues, worker as usize) else {
             return Err(Refusal::NotOpen);
         };
         let Some((ticket, object)) = queue.items.first_ready() else {
