@@ -54,17 +54,22 @@ with_course app =
     (number_rule (codes "stop") 0 87))
     (or_else (codes "1") (number_rule (codes "from") 1 1000000))
 
+-- a command of this name with no options
+abbrev pub IsPlain : Text → Command → Type 0
+IsPlain name c = (app_of c ≡ new_app name) × ((fields_of c).has_globals ≡ false)
+
+abbrev pub walk_app : Bor (List (Bor (List ℕ))) → App
+walk_app flavours = with_course (with_world flavours (new_app (codes "walk")))
+
+abbrev pub IsWalk : Command → Type 0
+IsWalk c = (flavours : Bor (List (Bor (List ℕ)))) × AreFlavours flavours × (app_of c ≡ walk_app flavours) × ((fields_of c).has_globals ≡ false)
+
 -- `torture`, which wants a subcommand and has a version, and its subcommands
-abbrev pub bare : App
-bare = new_app (codes "torture")
+abbrev pub bare_app : App
+bare_app = let app = new_app (codes "torture") in record app { top = record (app.top) { has_version = true; subcommand_required = true; arg_required_else_help = true } }
 
 abbrev pub torture_app : Bor (List (Bor (List ℕ))) → App
-torture_app flavours =
-    with_subcommand (with_subcommand (with_subcommand
-    (record bare { top = record (bare.top) { has_version = true; subcommand_required = true; arg_required_else_help = true } })
-    ((new_app (codes "replay")).top))
-    ((new_app (codes "check")).top))
-    ((with_course (with_world flavours (new_app (codes "walk")))).top)
+torture_app flavours = with_subcommand (with_subcommand (with_subcommand bare_app ((new_app (codes "replay")).top)) ((new_app (codes "check")).top)) ((walk_app flavours).top)
 
 -- what the program is to `clap`
 abbrev pub IsTorture : App → Type 0

@@ -1,8 +1,8 @@
 //! What the program says of itself: its commands, their words and their help.
 
-ghost use Rattle.std.specs.Prelude.{◌≡◌, Some, IfOk, false};
+ghost use Rattle.std.specs.Prelude.{◌≡◌, Some, IfOk, codes, false};
 ghost use Rattle.clap.specs.Words.{app_of, rule_of};
-ghost use Rattle.torture.specs.Words.{IsTorture, number_rule, IsFlavourRule, AddsWorld, AddsCourse};
+ghost use Rattle.torture.specs.Words.{IsPlain, IsWalk, IsTorture, bare_app, number_rule, IsFlavourRule, AddsWorld, AddsCourse};
 
 use clap::builder::ValueParser;
 use clap::{Arg, ArgAction, Command as Program};
@@ -169,29 +169,55 @@ fn with_course<'a>(alloc: Global, program: Program<'a>) -> Result<Program<'a>, A
         .arg(number(alloc, "from", 1, 1_000_000, FROM_HELP).default_value("1"))
 }
 
-/// The program's own description.
-pub fn program<'a>(alloc: Global) -> Result<Program<'a>, AllocError>
-    ensures { IfOk result (λ c. IsTorture (app_of c)) }
+/// The command `replay`.
+fn replay_command<'a>(alloc: Global) -> Program<'a>
+    ensures { IsPlain (codes "replay") result }
 {
-    let replay = Program::new(alloc, "replay")
+    Program::new(alloc, "replay")
         .override_usage(REPLAY_USAGE)
         .about(REPLAY_ABOUT)
-        .long_about(REPLAY_HELP);
-    let check = Program::new(alloc, "check")
+        .long_about(REPLAY_HELP)
+}
+
+/// The command `check`.
+fn check_command<'a>(alloc: Global) -> Program<'a>
+    ensures { IsPlain (codes "check") result }
+{
+    Program::new(alloc, "check")
         .override_usage(CHECK_USAGE)
         .about(CHECK_ABOUT)
-        .long_about(CHECK_HELP);
+        .long_about(CHECK_HELP)
+}
+
+/// The command `walk`, with its options.
+fn walk_command<'a>(alloc: Global) -> Result<Program<'a>, AllocError>
+    ensures { IfOk result IsWalk }
+{
     let walk = Program::new(alloc, "walk")
         .about(WALK_ABOUT)
         .long_about(WALK_HELP);
-    let walk = with_course(alloc, with_world(alloc, walk)?)?;
+    with_course(alloc, with_world(alloc, walk)?)
+}
+
+/// The program, which wants a command and has none yet.
+fn without_commands<'a>(alloc: Global) -> Program<'a>
+    ensures { app_of result ≡ bare_app }
+{
     Program::new(alloc, "torture")
         .about(ABOUT)
         .version(VERSION)
         .after_help(EXAMPLES)
         .subcommand_required(true)
         .arg_required_else_help(true)
-        .subcommand(replay)?
-        .subcommand(check)?
+}
+
+/// The program's own description.
+pub fn program<'a>(alloc: Global) -> Result<Program<'a>, AllocError>
+    ensures { IfOk result (λ c. IsTorture (app_of c)) }
+{
+    let walk = walk_command(alloc)?;
+    without_commands(alloc)
+        .subcommand(replay_command(alloc))?
+        .subcommand(check_command(alloc))?
         .subcommand(walk)
 }
