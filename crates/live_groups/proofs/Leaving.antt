@@ -1,5 +1,5 @@
 -- What a step leaves of the log before it.
-use Rattle.std.proofs.Common.{Bool, ◌≡◌, List, [], ◌∷◌, ◌++◌, sym, subst, inl, refl}
+use Rattle.std.proofs.Common.{Bool, [], ◌∷◌, sym, subst, inl, refl}
 use Rattle.live_log.specs.declared.event.LiveEvent.{LiveEvent}
 use Rattle.live_log.specs.Log.{Log, Has, Begins}
 use Rattle.live_log.proofs.Lemmas.{begins_trans}

@@ -1,5 +1,5 @@
 -- A store of a group word keeps the rule.
-use Rattle.std.proofs.Common.{◌≡◌, ◌≢◌, ◌⊎◌, ℕ, ◌+◌, ◌-◌, ◌*◌, ◌/◌, ◌%◌, ◌<◌, ◌≤◌, List, [], ◌∷◌, Bool, true, false, length, get_or, set, sym, refl, ap, ◌∙◌, subst, inl, inr, arith, length-set, get_or-set_other, get_or-set_same}
+use Rattle.std.proofs.Common.{◌≡◌, ◌≢◌, ℕ, ◌/◌, ◌%◌, ◌<◌, ◌≤◌, List, [], Bool, true, false, length, get_or, set, sym, refl, ap, ◌∙◌, subst, arith, length-set, get_or-set_other, get_or-set_same}
 use mathlib.Core.Logic.{dite}
 use mathlib.Core.Option.{Option, none, some}
 use native.Mathlib.Decide.{ℕ_discrete}
@@ -10,9 +10,8 @@ use Rattle.live_rule.specs.declared.view.Sizes.{Sizes}
 use Rattle.live_rule.specs.declared.view.View.{View}
 use Rattle.live_rule.specs.declared.rights.SlotRight.{SlotRight}
 use Rattle.live_rule.specs.declared.rights.SlotRight.TheVariants.{Idle, Owns}
-use Rattle.live_rule.specs.declared.rights.GroupsRight.{GroupsRight}
 use Rattle.live_rule.specs.declared.rights.GroupsRight.TheVariants as groups_right
-use Rattle.live_rule.specs.Places.{seq_at, present_at, group_at, slot_at, words_of, bit_at}
+use Rattle.live_rule.specs.Places.{seq_at, present_at, group_at, slot_at, bit_at}
 use Rattle.gp_memb.specs.Plan.{bit_of}
 use Rattle.live_rule.specs.Readers.{IsClosed, Fits, ReaderWords}
 use Rattle.live_rule.specs.Rights.{slot, group_words, ClaimsSlot, ClaimsGroups, KnowsSlot, KnowsGroups}

@@ -1,6 +1,6 @@
 -- Each step of a grace period keeps the rule.
-use Rattle.std.proofs.Common.{◌≡◌, ◌≢◌, ◌⊎◌, ℕ, ◌+◌, ◌-◌, ◌*◌, ◌/◌, ◌%◌, ◌^◌, ◌<◌, ◌≤◌, List, [], ◌∷◌, ◌++◌, Bool, true, false, length, get_or, set, sym, refl, ap, ◌∙◌, subst, inl, inr, ⊎_elim, arith, get_or-set_other, get_or-set_same, true≢false, append-nil}
-use mathlib.Core.Option.{Option, none, some, some-ne-none}
+use Rattle.std.proofs.Common.{◌≡◌, ◌⊎◌, ℕ, ◌+◌, ◌/◌, ◌%◌, ◌^◌, ◌<◌, ◌≤◌, List, [], ◌∷◌, ◌++◌, Bool, true, false, get_or, sym, refl, ap, ◌∙◌, subst, inl, inr, ⊎_elim, arith, get_or-set_other, get_or-set_same}
+use mathlib.Core.Option.{none, some, some-ne-none}
 use mathlib.Core.Logic.{dite}
 use native.Mathlib.Decide.{dec_le}
 use lib.ListN.{get_elem?}
@@ -10,22 +10,22 @@ use Rattle.reader_word.specs.declared.layout.Layout.TheVariants.{Wide}
 use Rattle.gp_memb.specs.Plan.{Shows, bit_of}
 use Rattle.live_log.specs.declared.event.LiveEvent.{LiveEvent}
 use Rattle.live_log.specs.declared.event.LiveEvent.TheVariants.{Close, SeqOdd, SeqEven, Present}
-use Rattle.live_log.specs.Log.{Log, Has, open_of, sections_of, seq_of, present_of, before_odd, HaveEnded, MayFollow, IsLiveRun, MayCopy, MayBePresent, Begins}
+use Rattle.live_log.specs.Log.{Log, Has, open_of, seq_of, present_of, before_odd, HaveEnded, MayFollow, IsLiveRun, MayBePresent, Begins}
 use Rattle.live_log.proofs.Lemmas.{still}
 use Rattle.live_log.proofs.Lemmas.{copied_bounded}
 use Rattle.live_log.proofs.Lemmas.{begins_before_odd, run_of}
 use Rattle.live_rule.specs.declared.view.Sizes.{Sizes}
 use Rattle.live_rule.specs.declared.view.View.{View}
 use Rattle.live_rule.specs.declared.rights.GraceRight.{GraceRight}
-use Rattle.live_rule.specs.declared.rights.GraceRight.TheVariants.{Nothing, Rests, Works}
-use Rattle.live_rule.specs.Places.{seq_at, present_at, group_at, slot_at, words_of, bit_at}
+use Rattle.live_rule.specs.declared.rights.GraceRight.TheVariants.{Rests, Works}
+use Rattle.live_rule.specs.Places.{seq_at, present_at, group_at, slot_at, bit_at}
 use Rattle.live_rule.specs.Readers.{Shown, Saw, SawAll}
 use Rattle.live_rule.specs.Rights.{grace, ClaimsGrace, KnowsGrace}
 use Rattle.live_rule.specs.Readers.{Fits}
 use Rattle.live_rule.specs.Rule.{KeepsRule}
 use Rattle.live_rule.specs.Steps.{Wrote, at_log}
 use Rattle.live_rule.proofs.Lemmas.{saw_later}
-use Rattle.live_rule.proofs.Lemmas.{Apart, quiet_same, low_loads}
+use Rattle.live_rule.proofs.Lemmas.{Apart, low_loads}
 use Rattle.live_periods.specs.Periods.{ShownAll, TellsAllEnded, looked_seq, GraceBecomes, looked_word, presented, began, ended}
 use Rattle.live_periods.proofs.Stores.{stores}
 

@@ -1,12 +1,12 @@
 -- What each kind of store does to its slot.
-use Rattle.std.proofs.Common.{◌≡◌, ◌≢◌, ◌⊎◌, ℕ, ◌+◌, ◌-◌, ◌*◌, ◌/◌, ◌%◌, ◌<◌, ◌≤◌, List, [], ◌∷◌, ◌++◌, Bool, true, false, cond, eqb, ◌==◌, sym, refl, ap, ◌∙◌, subst, inl, inr, arith, eq-eqb}
+use Rattle.std.proofs.Common.{◌≡◌, ℕ, ◌+◌, [], ◌∷◌, Bool, true, false, cond, sym, refl, ap, ◌∙◌, subst, arith, eq-eqb}
 use mathlib.Core.Option.{Option, none, some}
 use Rattle.atomic_table.specs.Table.{State, Me, step, keeps, Allows}
 use Rattle.reader_word.specs.declared.layout.Layout.TheVariants.{Wide}
 use Rattle.gp_memb.specs.Plan.{Shows}
 use Rattle.live_log.specs.declared.event.LiveEvent.{LiveEvent}
 use Rattle.live_log.specs.declared.event.LiveEvent.TheVariants.{Open, Close}
-use Rattle.live_log.specs.Log.{Log, open_of, sections_of, present_of, IsLiveRun, MayCopy, Begins}
+use Rattle.live_log.specs.Log.{Log, open_of, sections_of, present_of, IsLiveRun, MayCopy}
 use Rattle.live_log.proofs.Lemmas.{last_opened}
 use Rattle.live_log.proofs.Lemmas.{copy_later, present_begins}
 use Rattle.live_rule.specs.declared.view.Sizes.{Sizes}
@@ -17,7 +17,7 @@ use Rattle.live_rule.specs.Readers.{IsClosed}
 use Rattle.live_rule.specs.Readers.{Fits}
 use Rattle.live_rule.specs.Steps.{Precedes}
 use Rattle.live_rule.specs.Rule.{KeepsRule}
-use Rattle.live_rule.specs.Steps.{Wrote, at_log}
+use Rattle.live_rule.specs.Steps.{at_log}
 use Rattle.live_rule.specs.Rights.{grace}
 use Rattle.live_rule.proofs.Lemmas.{low_loads}
 use Rattle.live_readers.specs.Sections.{copied, opened_in, IsAt, looked_present, Stored, stored, opens, nests, closes, announces}

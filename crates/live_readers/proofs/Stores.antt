@@ -1,5 +1,5 @@
 -- A store of a reader's word keeps the rule.
-use Rattle.std.proofs.Common.{◌≡◌, ◌≢◌, ◌⊎◌, ℕ, ◌+◌, ◌-◌, ◌*◌, ◌/◌, ◌%◌, ◌<◌, ◌≤◌, List, [], ◌∷◌, ◌++◌, Bool, true, false, cond, length, get_or, set, sym, refl, ap, ◌∙◌, subst, arith, get_or-set_other, get_or-set_same, ne_eqb, true≢false}
+use Rattle.std.proofs.Common.{◌≡◌, ◌≢◌, ℕ, ◌+◌, ◌/◌, ◌%◌, ◌<◌, ◌≤◌, List, [], ◌∷◌, ◌++◌, Bool, true, cond, length, get_or, set, sym, refl, ap, ◌∙◌, subst, arith, get_or-set_other, get_or-set_same, ne_eqb, true≢false}
 use mathlib.Core.Logic.{dite}
 use mathlib.Core.Option.{Option, none, some}
 use native.Mathlib.Decide.{ℕ_discrete}
@@ -11,13 +11,13 @@ use Rattle.live_rule.specs.declared.view.Sizes.{Sizes}
 use Rattle.live_rule.specs.declared.view.View.{View}
 use Rattle.live_rule.specs.declared.rights.SlotRight.{SlotRight}
 use Rattle.live_rule.specs.declared.rights.SlotRight.TheVariants.{Owns}
-use Rattle.live_rule.specs.Places.{seq_at, present_at, group_at, slot_at, chains_from, words_of, bit_at}
+use Rattle.live_rule.specs.Places.{seq_at, present_at, group_at, slot_at, bit_at}
 use Rattle.gp_memb.specs.Plan.{bit_of}
 use Rattle.live_rule.specs.Readers.{Fits, ReaderWords}
 use Rattle.live_rule.specs.Rights.{slot, ClaimsSlot, KnowsSlot}
 use Rattle.live_rule.specs.Rule.{KeepsRule}
-use Rattle.live_rule.specs.Steps.{Precedes, Wrote, at_log}
-use Rattle.live_rule.proofs.Lemmas.{Quiet, own_slot, groups_kept, grace_kept, low_stores}
+use Rattle.live_rule.specs.Steps.{Precedes, at_log}
+use Rattle.live_rule.proofs.Lemmas.{own_slot, groups_kept, grace_kept, low_stores}
 use Rattle.live_readers.specs.Sections.{IsAt, Stored}
 
 -- each of these events is of this slot

@@ -1,11 +1,9 @@
 -- What the words of locks and announcements show.
-use Rattle.std.proofs.Common.{◌≡◌, ◌≢◌, ◌⊎◌, ℕ, zero, suc, ◌+◌, ◌-◌, ◌%◌, ◌<◌, ◌≤◌, ◌^◌, List, [], ◌∷◌, ◌++◌, Bool, true, false, not, ◌==◌, Result, Ok, Err, sym, refl, ap, ◌∙◌, subst, inl, inr, ⊎_elim, arith, true≢false}
-use Rattle.std.proofs.lemmas.Bool.Decides.{eqb_tells, nat_tests}
-use mathlib.Core.Option.{Option, none, some}
+use Rattle.std.proofs.Common.{◌≡◌, ◌≢◌, ℕ, zero, suc, ◌+◌, ◌<◌, ◌^◌, [], ◌++◌, Bool, true, false, not, ◌==◌, Ok, sym, refl, ap, ◌∙◌, subst, ⊎_elim, arith, true≢false}
+use Rattle.std.proofs.lemmas.Bool.Decides.{eqb_tells}
 use Rattle.atomic_table.specs.Table.{Me}
-use Rattle.rcu_model.specs.declared.refusal.Refusal.{Refusal}
 use Rattle.reader_word.specs.declared.layout.Layout.TheVariants.{Wide}
-use Rattle.reader_word.specs.Word.{number, count_of, phase_in, is_open_of, entered_of, left_of}
+use Rattle.reader_word.specs.Word.{number, count_of, phase_in, is_open_of, entered_of}
 use Rattle.reader_word.proofs.Lemmas.{NestsDeeper, entered_of-opens}
 use Rattle.gp_memb.specs.Plan.{Shows}
 use Rattle.live_log.specs.declared.event.LiveEvent.{LiveEvent}
@@ -13,10 +11,9 @@ use Rattle.live_log.specs.Log.{Log, seq_of, present_of, IsLiveRun, MayCopy, IsBo
 use Rattle.live_log.proofs.Lemmas.{bounded, seq_low, begins_trans}
 use Rattle.live_rule.specs.declared.view.View.{View}
 use Rattle.live_rule.specs.declared.rights.SlotRight.TheVariants.{Owns}
-use Rattle.live_rule.specs.Readers.{IsClosed}
-use Rattle.live_rule.specs.Steps.{Precedes, Wrote, at_log, Looked}
+use Rattle.live_rule.specs.Steps.{Precedes, at_log, Looked}
 use Rattle.live_table.specs.Rights.{count_in}
-use Rattle.live_readers.specs.Sections.{copied, IsAt, Stored, opens, announces, Opened, Announced, CopiedBefore}
+use Rattle.live_readers.specs.Sections.{copied, Stored, opens, announces, Opened, Announced, CopiedBefore}
 
 -- an open word shows what it copied
 pub shows_copied : (w : ℕ) → count_of Wide w ≢ 0 → Shows false Wide (copied false w) w

@@ -1,5 +1,5 @@
 -- What a step of a reader tells.
-use Rattle.std.specs.Prelude.{◌≡◌, ℕ, ◌+◌, ◌-◌, Bool, true, false, List, [], ◌∷◌, ◌++◌}
+use Rattle.std.specs.Prelude.{◌≡◌, ℕ, ◌+◌, ◌-◌, Bool, true, false, [], ◌∷◌, ◌++◌}
 use Rattle.atomic_table.specs.Table.{Me, Step}
 use Rattle.reader_word.specs.declared.layout.Layout.TheVariants.{Wide}
 use Rattle.reader_word.specs.Word.{number, phase_in}

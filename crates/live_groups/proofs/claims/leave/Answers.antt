@@ -1,6 +1,6 @@
-use Rattle.std.proofs.Common.{rules, ◌≡◌, ◌≢◌, ℕ, List, [], ◌∷◌, Bool, true, false, true≢false, sym, ap, ◌∙◌, subst, refl}
+use Rattle.std.proofs.Common.{rules, [], ◌∷◌, true≢false, sym, ap, subst, refl}
 use Rattle.live_log.specs.declared.event.LiveEvent.TheVariants.{Close}
-use Rattle.live_log.specs.Log.{Log, Begins, Has}
+use Rattle.live_log.specs.Log.{Begins, Has}
 use Rattle.live_log.proofs.Lemmas.{begins_trans}
 use Rattle.live_rule.proofs.Lemmas.{has_more}
 use Rattle.live_table.specs.Rights.{count_in}

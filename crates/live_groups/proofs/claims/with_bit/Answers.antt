@@ -1,4 +1,4 @@
-use Rattle.std.proofs.Common.{rules, ◌≡◌, ◌≢◌, ℕ, ◌==◌, w64, ap, arith, refl}
+use Rattle.std.proofs.Common.{ℕ, ◌==◌, w64, ap}
 use Rattle.std.proofs.lemmas.Nat.Bits.{bit_at_set_same, bit_at_set_other}
 use Rattle.live_groups.proofs.claims.with_bit.Goals as goal
 

@@ -1,4 +1,3 @@
-use Rattle.std.proofs.Common.{rules, ◌≡◌, ℕ, ◌/◌, ◌<◌, arith, sym}
 use Rattle.live_groups.proofs.Stores.{releases}
 use Rattle.live_groups.proofs.steps.store_clear.Goals as goal
 

@@ -1,4 +1,3 @@
-use Rattle.std.proofs.Common.{rules, ◌≡◌, ℕ, ◌+◌, ◌∷◌, arith, sym, subst, ap, ◌∙◌}
 use Rattle.live_periods.proofs.Periods.{looks_seq}
 use Rattle.live_periods.proofs.steps.load_seq.Goals as goal
 

@@ -1,4 +1,4 @@
-use Rattle.std.proofs.Common.{rules, ◌≡◌, ℕ, ◌+◌, ◌∷◌, arith, sym, subst, ap, ◌∙◌}
+use Rattle.std.proofs.Common.{ℕ, subst}
 use Rattle.live_table.specs.Rights.{looks_in, before_in}
 use Rattle.live_periods.specs.Periods.{TellsAllEnded}
 use Rattle.live_periods.proofs.Periods.{ends_period}

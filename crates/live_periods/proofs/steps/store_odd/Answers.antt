@@ -1,4 +1,3 @@
-use Rattle.std.proofs.Common.{rules, ◌≡◌, ℕ, ◌+◌, ◌∷◌, arith, sym, subst, ap, ◌∙◌}
 use Rattle.live_periods.proofs.Periods.{begins_period}
 use Rattle.live_periods.proofs.steps.store_odd.Goals as goal
 

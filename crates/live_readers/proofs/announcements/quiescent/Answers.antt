@@ -1,4 +1,4 @@
-use Rattle.std.proofs.Common.{rules, ◌≡◌, ◌≢◌, ℕ, ◌+◌, ◌<◌, ◌^◌, arith, sym, ap, ◌∙◌, subst}
+use Rattle.std.proofs.Common.{ℕ, ◌<◌, ◌^◌, arith, subst}
 use Rattle.live_readers.proofs.Words.{number_low, announced_after}
 use Rattle.live_readers.proofs.announcements.quiescent.Goals as goal
 

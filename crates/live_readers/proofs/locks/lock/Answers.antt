@@ -1,4 +1,4 @@
-use Rattle.std.proofs.Common.{rules, ◌≡◌, ℕ, ◌==◌, Result, Ok, arith, sym, ap, ◌∙◌, subst}
+use Rattle.std.proofs.Common.{rules, ◌≡◌, ◌==◌, Ok, ◌∙◌, subst}
 use Rattle.reader_word.specs.declared.layout.Layout.TheVariants.{Wide}
 use Rattle.reader_word.specs.Word.{entered_of}
 use Rattle.live_log.specs.Log.{seq_of, IsBound}

@@ -1,4 +1,3 @@
-use Rattle.std.proofs.Common.{rules, ◌≡◌, ℕ, arith, sym}
 use Rattle.live_readers.proofs.Sections.{looks_present}
 use Rattle.live_readers.proofs.steps.load_present.Goals as goal
 

@@ -1,4 +1,3 @@
-use Rattle.std.proofs.Common.{rules, ◌≡◌, ℕ, arith, sym}
 use Rattle.live_readers.proofs.Sections.{nests_slot}
 use Rattle.live_readers.proofs.steps.store_inner.Goals as goal
 
