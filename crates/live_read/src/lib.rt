@@ -9,4 +9,7 @@ mod witness;
 pub use reader::Reader;
 pub use section::Section;
 pub use site::Site;
-pub use witness::{Record, Witness};
+pub use witness::{Record, Witness, inform};
+
+#[cfg(test)]
+mod tests;
