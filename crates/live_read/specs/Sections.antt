@@ -1,0 +1,105 @@
+-- What a call of a reader or of a section tells.
+use Rattle.std.specs.Prelude.{◌≡◌, ◌≢◌, ◌⊎◌, ℕ, ◌+◌, ◌-◌, ◌<◌, Bool, true, false}
+use mathlib.Core.Option.{some}
+use Rattle.rcu_model.specs.declared.refusal.Refusal.{Refusal}
+use Rattle.rcu_model.specs.declared.refusal.Refusal.TheVariants.{Busy, NestFull, NotOpen, WrongFlavour}
+use Rattle.live_log.specs.declared.event.LiveEvent.{LiveEvent}
+use Rattle.live_log.specs.Log.{Log, IsOpenSection, open_of}
+use Rattle.live_table.specs.Rights.{count_in}
+use Rattle.live_readers.specs.Sections.{Announced, Closed, CopiedBefore, Nested, Opened, announces, opens}
+use Rattle.live_read.specs.declared.reader.Reader.{Reader}
+use Rattle.live_read.specs.declared.site.Site.{Ghosts}
+
+-- the greatest depth of nesting, in both flavours
+abbrev pub greatest_depth : ℕ
+greatest_depth = 2147483647
+
+module _ {P K B : Type 0} {g : Ghosts B} where
+  -- the log that the reader has seen
+  abbrev pub log_of : Reader P K B g → Log
+  log_of r = r.seat.me.0.seen
+
+  -- how many sections of the log its slot has had: the ordinal of the one that is open, where one is
+  abbrev pub ordinal : Reader P K B g → ℕ
+  ordinal r = count_in r.seat.me.0.slot
+
+  -- its section of the log is open in what it has seen: its Open is there, and its Close is not
+  pub record IsIn (r : Reader P K B g) : Type 0 where
+    pub note : ℕ
+    pub stands : open_of r.slot (log_of r) ≡ some (ordinal r, note)
+    pub inside : IsOpenSection r.slot (ordinal r) (log_of r)
+
+  -- a section or a lock of the quiescent-state flavour was begun or ended: a count, and no step of the table
+  pub record Local (r s : Reader P K B g) (n : ℕ) : Type 0 where
+    pub seat : s.seat ≡ r.seat
+    pub slot : s.slot ≡ r.slot
+    pub word : s.word ≡ r.word
+    pub depth : s.depth ≡ n
+
+  module _ (qsbr : Bool) (allows : Log → LiveEvent → Type 0) (r s : Reader P K B g) where
+    -- the outermost lock opens a section, which copied what was loaded before
+    abbrev pub OpensOutermost : Type 0
+    OpensOutermost = Opened qsbr allows r.slot s.word r.seat.me s.seat.me × CopiedBefore qsbr allows r.slot s.word r.seat.me s.seat.me (opens qsbr r.slot (ordinal r) s.word)
+
+    -- one more lock or section of the general-purpose flavour: the outermost opens a section of the log, and an inner one stays in it
+    pub record Enters : Type 0 where
+      pub slot : s.slot ≡ r.slot
+      pub depth : s.depth ≡ r.depth + 1
+      pub outermost : r.depth ≡ 0 → OpensOutermost
+      pub inner : r.depth ≢ 0 → Nested qsbr allows r.slot s.word r.seat.me s.seat.me
+      pub inside : IsIn s
+
+    -- one less: the outermost closes the section of the log, and an inner one stays in it
+    pub record Leaves : Type 0 where
+      pub slot : s.slot ≡ r.slot
+      pub depth : s.depth ≡ r.depth - 1
+      pub outermost : r.depth ≡ 1 → Closed qsbr allows r.slot s.word r.seat.me s.seat.me
+      pub inner : 1 < r.depth → Nested qsbr allows r.slot s.word r.seat.me s.seat.me × IsIn s
+
+    -- the same of either flavour
+    pub record Begins (n : ℕ) : Type 0 where
+      pub locks : s.locks ≡ n
+      pub general : qsbr ≡ false → Enters
+      pub quiescent : qsbr ≡ true → Local r s (r.depth + 1) × (r.word ≢ 0)
+      pub deeper : s.depth ≡ r.depth + 1
+
+    pub record Ends (n : ℕ) : Type 0 where
+      pub locks : s.locks ≡ n
+      pub general : qsbr ≡ false → Leaves
+      pub quiescent : qsbr ≡ true → Local r s (r.depth - 1)
+      pub shallower : s.depth ≡ r.depth - 1
+
+    -- an offline reader goes online, which opens a section of the log
+    pub record GoesOnline : Type 0 where
+      pub same : (s.slot ≡ r.slot) × (s.depth ≡ r.depth) × (s.locks ≡ r.locks)
+      pub was_offline : (qsbr ≡ true) × (r.word ≡ 0)
+      pub online : s.word ≢ 0
+      pub opened : OpensOutermost
+      pub inside : IsIn s
+
+    -- an online reader with no section announces: its section of the log closes, and the next one opens
+    pub record Announces : Type 0 where
+      pub same : (s.slot ≡ r.slot) × (s.depth ≡ r.depth) × (s.locks ≡ r.locks)
+      pub was_online : (qsbr ≡ true) × (r.word ≢ 0) × (r.depth ≡ 0)
+      pub online : s.word ≢ 0
+      pub announced : Announced qsbr allows r.slot s.word r.seat.me s.seat.me × CopiedBefore qsbr allows r.slot s.word r.seat.me s.seat.me (announces qsbr r.slot (ordinal r) s.word)
+      pub inside : IsIn s
+
+    -- an online reader with no section goes offline, which closes its section of the log
+    pub record GoesOffline : Type 0 where
+      pub same : (s.slot ≡ r.slot) × (s.depth ≡ r.depth) × (s.locks ≡ r.locks)
+      pub was_online : (qsbr ≡ true) × (r.word ≢ 0) × (r.depth ≡ 0)
+      pub offline : s.word ≡ 0
+      pub closed : Closed qsbr allows r.slot 0 r.seat.me s.seat.me
+
+  -- why a section or a lock is refused
+  abbrev pub MayNotBegin : Bool → Refusal → Reader P K B g → Type 0
+  MayNotBegin qsbr e r = ((e ≡ NotOpen) × (qsbr ≡ true) × (r.word ≡ 0)) ⊎ ((e ≡ NestFull) × (r.depth ≡ greatest_depth))
+
+  -- why going online is refused
+  abbrev pub MayNotGoOnline : Bool → Refusal → Reader P K B g → Type 0
+  MayNotGoOnline qsbr e r = ((e ≡ WrongFlavour) × (qsbr ≡ false)) ⊎ ((e ≡ Busy) × (qsbr ≡ true) × (r.word ≢ 0))
+
+  -- why an announcement is refused
+  abbrev pub MayNotAnnounce : Bool → Refusal → Reader P K B g → Type 0
+  MayNotAnnounce qsbr e r = ((e ≡ WrongFlavour) × (qsbr ≡ false)) ⊎ (((e ≡ NotOpen) × (qsbr ≡ true) × (r.word ≡ 0)) ⊎ ((e ≡ Busy) × (qsbr ≡ true) × (r.word ≢ 0) × (0 < r.depth)))

@@ -1,0 +1,15 @@
+#![tactic(auto)]
+//! Readers of the library over live threads, and their sections.
+
+mod reader;
+mod section;
+mod site;
+mod witness;
+
+pub use reader::Reader;
+pub use section::Section;
+pub use site::Site;
+pub use witness::{Record, Witness, inform};
+
+#[cfg(test)]
+mod tests;

@@ -1,0 +1,118 @@
+//! Who makes a call, and keeps what it has seen of the log.
+
+ghost use Rattle.std.specs.Prelude.{◌≡◌, []};
+ghost use Rattle.live_rule.specs.Seats.{told_view};
+
+use crate::reader::Reader;
+use crate::site::Site;
+use gp_memb::GracePlan;
+use live_words::{ChainRule, LiveSeat, LiveTable};
+use std::marker::PhantomData;
+
+/// Who makes a call, and keeps what it has seen of the log: a record, or a reader.
+pub trait Witness {
+    ghost use Rattle.std.specs.Prelude.{◌≡◌, []};
+    ghost use Rattle.atomic_table.specs.Seated.{TableId};
+    ghost use Rattle.live_log.specs.Log.{Log};
+
+    /// The log that it has seen.
+    ghost seen: { Self → Log };
+
+    /// The log that it has heard of, which its next step sees.
+    ghost heard: { Self → Log };
+
+    /// The table of the log.
+    ghost table_of: { Self → TableId };
+
+    /// A seat that has seen and heard as much. It never waits.
+    fn tell<P: GracePlan, K: ChainRule>(&mut self, table: &LiveTable<P, K>) -> LiveSeat
+        requires { table.now.words.shared.table_id ≡ table_of self.old }
+        ensures told { (result.table_id ≡ table_of self.old) × (result.me.1 ≡ []) × (result.me.0.seen ≡ seen self.old) × (result.me.0.heard ≡ heard self.old) }
+        ensures same { (seen self.new ≡ seen self.old) × (heard self.new ≡ heard self.old) × (table_of self.new ≡ table_of self.old) };
+
+    /// It hears what the seat has seen, which is spent. It never waits.
+    fn learn<P: GracePlan, K: ChainRule>(&mut self, table: &LiveTable<P, K>, other: LiveSeat)
+        requires table { (table.now.words.shared.table_id ≡ table_of self.old) × (other.table_id ≡ table_of self.old) × (other.me.1 ≡ []) }
+        ensures heard { heard self.new ≡ other.me.0.seen }
+        ensures same { (seen self.new ≡ seen self.old) × (table_of self.new ≡ table_of self.old) };
+}
+
+/// What a thread that has no reader has seen of the log: its seat, which has no bytes.
+#[derive(Drop)]
+pub struct Record<B: Site> {
+    pub(crate) seat: LiveSeat,
+    pub(crate) site: PhantomData<B>,
+    pub ghost seated: { (seat.table_id ≡ B.table) × (seat.me.1 ≡ []) },
+}
+
+impl<B: Site> Record<B> {
+    /// A record that has seen what the seat has.
+    pub fn new(seat: LiveSeat) -> Record<B>
+        requires { (seat.table_id ≡ B.table) × (seat.me.1 ≡ []) }
+        ensures { result.seat ≡ seat }
+    {
+        Record {
+            seat,
+            site: PhantomData,
+        }
+    }
+
+    /// A record that has seen and heard as much as the witness, for another thread. It never waits.
+    pub fn split<W: Witness, P: GracePlan, K: ChainRule>(
+        table: &LiveTable<P, K>,
+        witness: &mut W,
+    ) -> Record<B>
+        requires { (table.now.words.shared.table_id ≡ B.table) × (W.table_of witness.old ≡ B.table) }
+        ensures told { (result.seat.me.0.seen ≡ W.seen witness.old) × (result.seat.me.0.heard ≡ W.heard witness.old) }
+        ensures same { (W.seen witness.new ≡ W.seen witness.old) × (W.heard witness.new ≡ W.heard witness.old) × (W.table_of witness.new ≡ B.table) }
+    {
+        Record::new(witness.tell(table))
+    }
+}
+
+/// The one witness hears what the other has seen. It never waits.
+pub fn inform<S: Witness, T: Witness, P: GracePlan, K: ChainRule>(
+    table: &LiveTable<P, K>,
+    from: &mut S,
+    to: &mut T,
+)
+    requires { (table.now.words.shared.table_id ≡ S.table_of from.old) × (T.table_of to.old ≡ S.table_of from.old) }
+    ensures told { T.heard to.new ≡ S.seen from.old }
+    ensures from { (S.seen from.new ≡ S.seen from.old) × (S.heard from.new ≡ S.heard from.old) × (S.table_of from.new ≡ S.table_of from.old) }
+    ensures to { (T.seen to.new ≡ T.seen to.old) × (T.table_of to.new ≡ T.table_of to.old) }
+{
+    let told = from.tell(table);
+    to.learn(table, told);
+}
+
+impl<B: Site> Witness for Record<B> {
+    ghost seen = { λ r. r.seat.me.0.seen };
+
+    ghost heard = { λ r. r.seat.me.0.heard };
+
+    ghost table_of = { λ r. r.seat.table_id };
+
+    fn tell<P: GracePlan, K: ChainRule>(&mut self, table: &LiveTable<P, K>) -> LiveSeat {
+        table.tell(&mut self.seat)
+    }
+
+    fn learn<P: GracePlan, K: ChainRule>(&mut self, table: &LiveTable<P, K>, other: LiveSeat) {
+        table.learn(&mut self.seat, other);
+    }
+}
+
+impl<P: GracePlan, K: ChainRule, B: Site> Witness for Reader<P, K, B> {
+    ghost seen = { λ r. r.seat.me.0.seen };
+
+    ghost heard = { λ r. r.seat.me.0.heard };
+
+    ghost table_of = { λ r. r.seat.table_id };
+
+    fn tell<Q: GracePlan, L: ChainRule>(&mut self, table: &LiveTable<Q, L>) -> LiveSeat {
+        table.tell(&mut self.seat)
+    }
+
+    fn learn<Q: GracePlan, L: ChainRule>(&mut self, table: &LiveTable<Q, L>, other: LiveSeat) {
+        table.learn(&mut self.seat, other);
+    }
+}
