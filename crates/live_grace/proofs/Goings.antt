@@ -5,14 +5,14 @@ use Rattle.gp_memb.specs.Plan.{MayStore}
 use Rattle.live_log.specs.declared.event.LiveEvent.{LiveEvent}
 use Rattle.live_log.specs.declared.event.LiveEvent.TheVariants.{SeqOdd, SeqEven, Present}
 use Rattle.live_log.specs.Log.{Log, present_of, before_odd, HaveEnded, IsLiveRun, MayBePresent, Begins}
-use Rattle.live_log.proofs.Lemmas.{ended_before}
+use Rattle.live_log.proofs.Lemmas.{begins_trans}
 use Rattle.live_rule.specs.declared.view.View.{View}
 use Rattle.live_rule.specs.declared.rights.GraceRight.{GraceRight}
 use Rattle.live_rule.specs.declared.rights.GraceRight.TheVariants.{Rests, Works}
-use Rattle.live_rule.specs.Steps.{at_log}
-use Rattle.live_log.proofs.Lemmas.{begins_trans}
+use Rattle.live_rule.specs.Steps.{Precedes, at_log}
 use Rattle.live_table.specs.Rights.{looks_in, before_in, seq_in, present_in}
 use Rattle.live_periods.specs.Periods.{GraceBecomes}
+use Rattle.live_grace.specs.Answers.{WholeGracePeriod}
 use Rattle.live_grace.specs.Going.{Going}
 
 module _ {S : Type 0} (qsbr : Bool) (allows : Log → LiveEvent → Type 0) (old : Me S View) where
@@ -31,8 +31,8 @@ module _ {S : Type 0} (qsbr : Bool) (allows : Log → LiveEvent → Type 0) (old
       record {
         only = g.0 ∙ ap (λ (x : GraceRight). (record (at_log old.0 new.0.seen) { grace = x }, old.1)) (sym is);
         is = is ∙ (λ i. Works q t (sym (ap before_in is) i) []);
-        before = subst (Begins old.0.seen) (sym mark) g.1.2;
-        since = (SeqOdd ∷ [], seen ∙ ap (λ l. SeqOdd ∷ l) (sym mark));
+        after = subst (Precedes old.0) (sym mark) (g.1.2, g.1.3);
+        since = ([], seen ∙ ap (λ l. SeqOdd ∷ l) (sym mark));
         run = subst (IsLiveRun qsbr allows) (sym mark) (subst (IsLiveRun qsbr allows) seen g.1.4).1;
         began = ap present_of (ap before_in is) ∙ turn;
       }
@@ -46,21 +46,23 @@ module _ {S : Type 0} (qsbr : Bool) (allows : Log → LiveEvent → Type 0) (old
       record {
         only = only_after right events m m' go.only g;
         is = is ∙ (λ i. Works q turn' (sym mark i) looks');
-        before = subst (Begins old.0.seen) (sym mark) go.before;
-        since = subst (λ (l : Log). Begins l m'.0.seen) (sym mark) (begins_trans (before_in m.0.grace) m.0.seen m'.0.seen go.since (begins_trans m.0.seen g.1.0 m'.0.seen g.1.2 (events, g.1.1)));
+        after = subst (Precedes old.0) (sym mark) go.after;
+        since = subst (λ (l : Log). Begins (SeqOdd ∷ l) m'.0.seen) (sym mark) (begins_trans (SeqOdd ∷ before_in m.0.grace) m.0.seen m'.0.seen go.since (begins_trans m.0.seen g.1.0 m'.0.seen g.1.2 (events, g.1.1)));
         run = subst (IsLiveRun qsbr allows) (sym mark) go.run;
         began = ap present_of mark ∙ go.began;
       }
 
-  -- what was seen before the period is a beginning of what is seen after it
-  pub later_after : (q first turn : ℕ) (looks : List (ℕ × ℕ)) (right : GraceRight) (events : Log) (m m' : Me S View) → Going qsbr allows old q first turn looks m → GraceBecomes qsbr allows right events m m' → Begins old.0.seen m'.0.seen × IsLiveRun qsbr allows m'.0.seen
-  later_after q first turn looks right events m m' go g =
-      (begins_trans old.0.seen (before_in m.0.grace) m'.0.seen go.before (begins_trans (before_in m.0.grace) m.0.seen m'.0.seen go.since (begins_trans m.0.seen g.1.0 m'.0.seen g.1.2 (events, g.1.1))), g.1.4)
-
-  pub clears : (q first turn : ℕ) (looks : List (ℕ × ℕ)) (right : GraceRight) (events : Log) (m m' : Me S View) → Going qsbr allows old q first turn looks m → GraceBecomes qsbr allows right events m m' → HaveEnded (before_in m.0.grace) m'.0.seen → HaveEnded old.0.seen m'.0.seen
-  clears q first turn looks right events m m' go g cleared =
-      ended_before qsbr allows old.0.seen (before_in m.0.grace) m'.0.seen go.run go.before
-      (begins_trans (before_in m.0.grace) m.0.seen m'.0.seen go.since (begins_trans m.0.seen g.1.0 m'.0.seen g.1.2 (events, g.1.1))) cleared
+  -- the last store makes the period whole
+  pub whole : (q first turn : ℕ) (looks : List (ℕ × ℕ)) (right : GraceRight) (m m' : Me S View) → Going qsbr allows old q first turn looks m → GraceBecomes qsbr allows right (SeqEven ∷ []) m m' → HaveEnded (before_in m.0.grace) m'.0.seen → WholeGracePeriod qsbr allows old.0 m'.0.seen
+  whole q first turn looks right m m' go g ended = record {
+    before = before_in m.0.grace;
+    within = g.1.0;
+    after = go.after;
+    began = begins_trans (SeqOdd ∷ before_in m.0.grace) m.0.seen g.1.0 go.since g.1.2;
+    over = g.1.1;
+    ended = ended;
+    run = g.1.4;
+  }
 
 -- a plan's store is one that the rule allows, and keeps PHASE or NUM in its bounds
 pub stored_turn : (qsbr : Bool) (seq first turn value : ℕ) → MayStore qsbr first value → (qsbr ≡ true → turn ≤ value) → (qsbr ≡ true → first ≤ seq) → MayBePresent qsbr (seq + 1) turn value

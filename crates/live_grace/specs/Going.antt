@@ -5,19 +5,20 @@ use Rattle.gp_memb.specs.declared.plan.Action.{Action}
 use Rattle.gp_memb.specs.declared.plan.Action.TheVariants.{Load, LoadGroup, StorePhase, StoreSeq, Finished}
 use Rattle.gp_memb.specs.Plan.{after_loads}
 use Rattle.live_log.specs.declared.event.LiveEvent.{LiveEvent}
+use Rattle.live_log.specs.declared.event.LiveEvent.TheVariants.{SeqOdd}
 use Rattle.live_log.specs.Log.{Log, present_of, IsLiveRun, Begins}
 use Rattle.live_rule.specs.declared.view.View.{View}
 use Rattle.live_rule.specs.declared.rights.GraceRight.TheVariants.{Works}
 use Rattle.live_rule.specs.Places.{group_at, slot_at}
-use Rattle.live_rule.specs.Steps.{at_log}
+use Rattle.live_rule.specs.Steps.{Precedes, at_log}
 use Rattle.live_table.specs.Rights.{before_in}
 
 -- the period, with SEQ at q, began after `old`, when PHASE or NUM was `first`
 pub record Going {S : Type 0} (qsbr : Bool) (allows : Log → LiveEvent → Type 0) (old : Me S View) (q first turn : ℕ) (looks : List (ℕ × ℕ)) (now : Me S View) : Type 0 where
   pub only : now ≡ (record (at_log old.0 now.0.seen) { grace = now.0.grace }, old.1)
   pub is : now.0.grace ≡ Works q turn (before_in now.0.grace) looks
-  pub before : Begins old.0.seen (before_in now.0.grace)
-  pub since : Begins (before_in now.0.grace) now.0.seen
+  pub after : Precedes old.0 (before_in now.0.grace)
+  pub since : Begins (SeqOdd ∷ before_in now.0.grace) now.0.seen
   pub run : IsLiveRun qsbr allows (before_in now.0.grace)
   pub began : present_of (before_in now.0.grace) ≡ first
 
