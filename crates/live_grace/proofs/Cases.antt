@@ -27,22 +27,37 @@ module _ {P : Type 0} (is_begun : P → Type 0) (action : P → Action) (taken :
     After looks' turn = (turn ≡ present new) × Begun is_begun action taken new looks'
 
     pub after_load : (k word : ℕ) → action plan ≡ Load k → new ≡ taken plan word → After ((slot_at k, word) ∷ looks) (present plan)
-    after_load k word is next =
-        (sym (ap present next ∙ (laws.presents plan word ∙ ap (present_after (present plan)) is)),
-        record { start = b.start; begun = b.begun; told = subst (λ p. Rattle.live_grace.specs.Going.Told action taken b.start p ((slot_at k, word) ∷ looks)) (sym next)
-            (told_load action taken seq b.start (laws.order b.start b.begun) plan looks b.told (slot_at k, word) (subst (λ a. IsLogged ((slot_at k, word) ∷ looks) a word) (sym is) (inl refl)) (λ e. let f : Load k ≡ StoreSeq (seq + 2) = sym is ∙ e in cc)) })
+    after_load k word is next = (
+      sym (ap present next ∙ (laws.presents plan word ∙ ap (present_after (present plan)) is)),
+      record {
+        start = b.start;
+        begun = b.begun;
+        told = subst (λ p. Rattle.live_grace.specs.Going.Told action taken b.start p ((slot_at k, word) ∷ looks)) (sym next)
+            (told_load action taken seq b.start (laws.order b.start b.begun) plan looks b.told (slot_at k, word) (subst (λ a. IsLogged ((slot_at k, word) ∷ looks) a word) (sym is) (inl refl)) (λ e. let f : Load k ≡ StoreSeq (seq + 2) = sym is ∙ e in cc));
+      },
+    )
 
     pub after_group : (k word : ℕ) → action plan ≡ LoadGroup k → new ≡ taken plan word → After ((group_at k, word) ∷ looks) (present plan)
-    after_group k word is next =
-        (sym (ap present next ∙ (laws.presents plan word ∙ ap (present_after (present plan)) is)),
-        record { start = b.start; begun = b.begun; told = subst (λ p. Rattle.live_grace.specs.Going.Told action taken b.start p ((group_at k, word) ∷ looks)) (sym next)
-            (told_load action taken seq b.start (laws.order b.start b.begun) plan looks b.told (group_at k, word) (subst (λ a. IsLogged ((group_at k, word) ∷ looks) a word) (sym is) (inl refl)) (λ e. let f : LoadGroup k ≡ StoreSeq (seq + 2) = sym is ∙ e in cc)) })
+    after_group k word is next = (
+      sym (ap present next ∙ (laws.presents plan word ∙ ap (present_after (present plan)) is)),
+      record {
+        start = b.start;
+        begun = b.begun;
+        told = subst (λ p. Rattle.live_grace.specs.Going.Told action taken b.start p ((group_at k, word) ∷ looks)) (sym next)
+            (told_load action taken seq b.start (laws.order b.start b.begun) plan looks b.told (group_at k, word) (subst (λ a. IsLogged ((group_at k, word) ∷ looks) a word) (sym is) (inl refl)) (λ e. let f : LoadGroup k ≡ StoreSeq (seq + 2) = sym is ∙ e in cc));
+      },
+    )
 
     pub after_store : (value : ℕ) → action plan ≡ StorePhase value → new ≡ taken plan 0 → After looks value
-    after_store value is next =
-        (sym (ap present next ∙ (laws.presents plan 0 ∙ ap (present_after (present plan)) is)),
-        record { start = b.start; begun = b.begun; told = subst (λ p. Rattle.live_grace.specs.Going.Told action taken b.start p looks) (sym next)
-            (told_store action taken seq b.start (laws.order b.start b.begun) plan looks b.told (subst (λ a. IsLogged looks a 0) (sym is) tt) (λ e. let f : StorePhase value ≡ StoreSeq (seq + 2) = sym is ∙ e in cc)) })
+    after_store value is next = (
+      sym (ap present next ∙ (laws.presents plan 0 ∙ ap (present_after (present plan)) is)),
+      record {
+        start = b.start;
+        begun = b.begun;
+        told = subst (λ p. Rattle.live_grace.specs.Going.Told action taken b.start p looks) (sym next)
+            (told_store action taken seq b.start (laws.order b.start b.begun) plan looks b.told (subst (λ a. IsLogged looks a 0) (sym is) tt) (λ e. let f : StorePhase value ≡ StoreSeq (seq + 2) = sym is ∙ e in cc));
+      },
+    )
 
   -- what holds between two turns
   abbrev pub InLoop : {S : Type 0} → Bool → (Log → LiveEvent → Type 0) → Me S View → ℕ → P → Me S View → Type 0

@@ -88,7 +88,7 @@ module _ {P : Type 0} (action : P → Action) (taken : P → ℕ → P) where
         let ws : List ℕ = t.words ++ 0 ∷ [] in
         let logged : Logged action taken looks (taken begun 0) ws = one_more looks (taken begun 0) t.words 0 t.logged (subst (λ a. IsLogged looks a 0) (sym (ap action (sym t.is) ∙ ends)) tt) in
         let since : EachLoadShowsSince action taken (ShowsOpen qsbr Wide r m) begun (0 ∷ ws) =
-            subst (λ a. from_seq a (EachLoadShows action taken (ShowsOpen qsbr Wide r m) (taken begun 0) ws) (EachLoadShowsSince action taken (ShowsOpen qsbr Wide r m) (taken begun 0) ws)) (sym order.first) (each_shows qsbr looks r m all (taken begun 0) ws logged) in
+        subst (λ a. from_seq a (EachLoadShows action taken (ShowsOpen qsbr Wide r m) (taken begun 0) ws) (EachLoadShowsSince action taken (ShowsOpen qsbr Wide r m) (taken begun 0) ws)) (sym order.first) (each_shows qsbr looks r m all (taken begun 0) ws logged) in
         waits r m (0 ∷ ws) low (λ q. subst (λ (z : ℕ). m ≤ z) is (at_most qsbr (present_of mark) m note q)) since
         (ap action (after_more (taken begun 0) t.words 0) ∙ (order.last (0 ∷ t.words) 0 (λ g. t.unfinished (ap action t.is ∙ g))).1 (ap action (sym t.is) ∙ ends))
       where

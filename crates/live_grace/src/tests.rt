@@ -22,7 +22,10 @@ fn phases_answer_asks(rt: HostRuntime) {
     assert!(rt; poll(&table, &mut third, &early));
     assert_eq!(rt; table.words.shared.peek(16), 2);
     assert_eq!(rt; table.words.shared.peek(32), 0);
-    assert_eq!(rt; writer.answer(&rt, &table, &mut other, &shared), Answer::Shared);
+    assert_eq!(rt;
+        writer.answer(&rt, &table, &mut other, &shared),
+        Answer::Shared
+    );
     assert_eq!(rt; table.words.shared.peek(16), 2);
     let late = start_poll(&table, &mut third).expect(&rt, "not exhausted");
     assert!(rt; !poll(&table, &mut other, &late));
@@ -46,6 +49,9 @@ fn numbers_answer_asks(rt: HostRuntime) {
     assert!(rt; poll(&table, &mut third, &early));
     assert_eq!(rt; table.words.shared.peek(16), 2);
     assert_eq!(rt; table.words.shared.peek(32), 1);
-    assert_eq!(rt; writer.answer(&rt, &table, &mut other, &shared), Answer::Shared);
+    assert_eq!(rt;
+        writer.answer(&rt, &table, &mut other, &shared),
+        Answer::Shared
+    );
     assert_eq!(rt; table.words.shared.peek(32), 1);
 }

@@ -35,11 +35,15 @@ loop-init g c = let p = g.P.GracePlan in let m = g.met.P.GracePlan in let slots 
     let graced = subst (λ (t : ℕ). GraceBecomes p.QSBR g.K.ChainRule.allows (Works (seq + 1) t (before_odd new.0.seen) []) (SeqOdd ∷ []) c.args.seat.now.me new) was c.store_odd.ensures.began in
     let go = starts_going p.QSBR g.K.ChainRule.allows c.args.seat.now.me (seq + 1) turn new graced (c.store_odd.ensures.present ∙ was) in
     let present = m.begins Wide true slots seq turn start begun (may_start p.QSBR seq turn c.requires.right.3) in
-    let same = sym (ap p.present c.take.ensures.taken ∙ (m.presents start 0 ∙ (ap (present_after (p.present start)) order.first ∙ present))) in
-    (search rules, search rules, same, in_loop (p.is_begun Wide true slots seq turn) p.action p.taken p.present seq p.QSBR g.K.ChainRule.allows c.args.seat.now.me turn turn [] c.take.new.self new go
-      same
-      (record { start = start; begun = begun; told = subst (λ q. Rattle.live_grace.specs.Going.Told p.action p.taken start q []) (sym c.take.ensures.taken) (told_first p.action p.taken seq start order) })
-      (bound_next p.QSBR seq turn c.requires.right.3))
+    let same = sym (ap p.present c.take.ensures.taken ∙ (m.presents start 0 ∙ (ap (present_after (p.present start)) order.first ∙ present))) in (
+      search rules,
+      search rules,
+      same,
+      in_loop (p.is_begun Wide true slots seq turn) p.action p.taken p.present seq p.QSBR g.K.ChainRule.allows c.args.seat.now.me turn turn [] c.take.new.self new go
+          same
+          (record { start = start; begun = begun; told = subst (λ q. Rattle.live_grace.specs.Going.Told p.action p.taken start q []) (sym c.take.ensures.taken) (told_first p.action p.taken seq start order) })
+          (bound_next p.QSBR seq turn c.requires.right.3),
+    )
 
 pub load_slot-word-requires-clause-seat : goal.load_slot-word-requires-clause-seat
 load_slot-word-requires-clause-seat g c = let p = g.P.GracePlan in let inv = c.loop.invariant in let slots : ℕ = c.args.table.now.slots in let b = inv.3.1 in
@@ -50,11 +54,15 @@ loop-preserved-in-Load g c = let p = g.P.GracePlan in let inv = c.loop.invariant
     let go = inv.3.0 in let b = inv.3.1 in let x : ℕ × ℕ = (slot_at c.in-Load.slot, c.load_slot-word.result) in
     let begins = p.is_begun Wide true slots seq turn in
     let now = c.loop.seat.me in let plan = c.loop.plan in
-    let after = after_load begins p.action p.taken p.present seq (laws g slots seq turn) plan c.take-in-Load.new.self (looks_in now.0.grace) b c.in-Load.slot c.load_slot-word.result (sym c.next-in-loop.ensures ∙ c.in-Load.is) c.take-in-Load.ensures.taken in
-    (search rules, search rules, inv.2 ∙ after.0, in_loop begins p.action p.taken p.present seq p.QSBR g.K.ChainRule.allows c.args.seat.now.me turn (p.present plan) (x ∷ looks_in now.0.grace) c.take-in-Load.new.self c.load_slot-word.new.seat.me
-      (goes_on p.QSBR g.K.ChainRule.allows c.args.seat.now.me (seq + 1) turn (p.present plan) (p.present plan) (looks_in now.0.grace) (x ∷ looks_in now.0.grace) _ [] now c.load_slot-word.new.seat.me go
-        (named begins p.action p.taken p.present seq p.QSBR g.K.ChainRule.allows c.args.seat.now.me turn (p.present plan) (looks_in now.0.grace) now go x) c.load_slot-word.ensures.looked)
-      after.0 after.1 inv.3.2)
+    let after = after_load begins p.action p.taken p.present seq (laws g slots seq turn) plan c.take-in-Load.new.self (looks_in now.0.grace) b c.in-Load.slot c.load_slot-word.result (sym c.next-in-loop.ensures ∙ c.in-Load.is) c.take-in-Load.ensures.taken in (
+      search rules,
+      search rules,
+      inv.2 ∙ after.0,
+      in_loop begins p.action p.taken p.present seq p.QSBR g.K.ChainRule.allows c.args.seat.now.me turn (p.present plan) (x ∷ looks_in now.0.grace) c.take-in-Load.new.self c.load_slot-word.new.seat.me
+          (goes_on p.QSBR g.K.ChainRule.allows c.args.seat.now.me (seq + 1) turn (p.present plan) (p.present plan) (looks_in now.0.grace) (x ∷ looks_in now.0.grace) _ [] now c.load_slot-word.new.seat.me go
+          (named begins p.action p.taken p.present seq p.QSBR g.K.ChainRule.allows c.args.seat.now.me turn (p.present plan) (looks_in now.0.grace) now go x) c.load_slot-word.ensures.looked)
+          after.0 after.1 inv.3.2,
+    )
 
 pub load_group-word-requires-clause-seat : goal.load_group-word-requires-clause-seat
 load_group-word-requires-clause-seat g c = let p = g.P.GracePlan in let inv = c.loop.invariant in let slots : ℕ = c.args.table.now.slots in let b = inv.3.1 in
@@ -67,11 +75,15 @@ loop-preserved-in-LoadGroup g c = let p = g.P.GracePlan in let inv = c.loop.inva
     let go = inv.3.0 in let b = inv.3.1 in let x : ℕ × ℕ = (group_at c.in-LoadGroup.group, c.load_group-word.result) in
     let begins = p.is_begun Wide true slots seq turn in
     let now = c.loop.seat.me in let plan = c.loop.plan in
-    let after = after_group begins p.action p.taken p.present seq (laws g slots seq turn) plan c.take-in-LoadGroup.new.self (looks_in now.0.grace) b c.in-LoadGroup.group c.load_group-word.result (sym c.next-in-loop.ensures ∙ c.in-LoadGroup.is) c.take-in-LoadGroup.ensures.taken in
-    (search rules, search rules, inv.2 ∙ after.0, in_loop begins p.action p.taken p.present seq p.QSBR g.K.ChainRule.allows c.args.seat.now.me turn (p.present plan) (x ∷ looks_in now.0.grace) c.take-in-LoadGroup.new.self c.load_group-word.new.seat.me
-      (goes_on p.QSBR g.K.ChainRule.allows c.args.seat.now.me (seq + 1) turn (p.present plan) (p.present plan) (looks_in now.0.grace) (x ∷ looks_in now.0.grace) _ [] now c.load_group-word.new.seat.me go
-        (named begins p.action p.taken p.present seq p.QSBR g.K.ChainRule.allows c.args.seat.now.me turn (p.present plan) (looks_in now.0.grace) now go x) c.load_group-word.ensures.looked)
-      after.0 after.1 inv.3.2)
+    let after = after_group begins p.action p.taken p.present seq (laws g slots seq turn) plan c.take-in-LoadGroup.new.self (looks_in now.0.grace) b c.in-LoadGroup.group c.load_group-word.result (sym c.next-in-loop.ensures ∙ c.in-LoadGroup.is) c.take-in-LoadGroup.ensures.taken in (
+      search rules,
+      search rules,
+      inv.2 ∙ after.0,
+      in_loop begins p.action p.taken p.present seq p.QSBR g.K.ChainRule.allows c.args.seat.now.me turn (p.present plan) (x ∷ looks_in now.0.grace) c.take-in-LoadGroup.new.self c.load_group-word.new.seat.me
+          (goes_on p.QSBR g.K.ChainRule.allows c.args.seat.now.me (seq + 1) turn (p.present plan) (p.present plan) (looks_in now.0.grace) (x ∷ looks_in now.0.grace) _ [] now c.load_group-word.new.seat.me go
+          (named begins p.action p.taken p.present seq p.QSBR g.K.ChainRule.allows c.args.seat.now.me turn (p.present plan) (looks_in now.0.grace) now go x) c.load_group-word.ensures.looked)
+          after.0 after.1 inv.3.2,
+    )
 
 -- the store of a phase or number is one that the rule allows
 may_turn : (g : given.Over) (slots seq turn value : ℕ) (plan : g.row.P.Denot) (looks : List (ℕ × ℕ)) → Begun (g.P.GracePlan.is_begun Wide true slots seq turn) g.P.GracePlan.action g.P.GracePlan.taken plan looks
@@ -80,9 +92,11 @@ may_turn g slots seq turn value plan looks b low does = let p = g.P.GracePlan in
     stored_turn p.QSBR seq turn (p.present plan) value (m.stores Wide true slots seq turn b.start b.begun (0 ∷ b.told.words) value (ap p.action (sym b.told.is) ∙ does)) (λ q. m.rises plan value q does) (at_most p.QSBR seq turn low)
 
 pub store_present-requires-clause-right : goal.store_present-requires-clause-right
-store_present-requires-clause-right g c = let inv = c.loop.invariant in let go = inv.3.0 in
-    (search rules, subst (λ (z : ℕ × ℕ). MayBePresent g.P.GracePlan.QSBR z.0 z.1 c.in-StorePhase.value) (λ i. (sym (ap seq_in go.is) i, sym (ap present_in go.is) i))
-      (may_turn g c.args.table.now.slots c.args.seq c.args.first c.in-StorePhase.value c.loop.plan (looks_in c.loop.seat.me.0.grace) inv.3.1 c.requires.right.3 (sym c.next-in-loop.ensures ∙ c.in-StorePhase.is)))
+store_present-requires-clause-right g c = let inv = c.loop.invariant in let go = inv.3.0 in (
+  search rules,
+  subst (λ (z : ℕ × ℕ). MayBePresent g.P.GracePlan.QSBR z.0 z.1 c.in-StorePhase.value) (λ i. (sym (ap seq_in go.is) i, sym (ap present_in go.is) i))
+      (may_turn g c.args.table.now.slots c.args.seq c.args.first c.in-StorePhase.value c.loop.plan (looks_in c.loop.seat.me.0.grace) inv.3.1 c.requires.right.3 (sym c.next-in-loop.ensures ∙ c.in-StorePhase.is)),
+)
 
 pub loop-preserved : goal.loop-preserved
 loop-preserved g c = let p = g.P.GracePlan in let inv = c.loop.invariant in let slots : ℕ = c.args.table.now.slots in let seq : ℕ = c.args.seq in let turn : ℕ = c.args.first in
@@ -90,11 +104,15 @@ loop-preserved g c = let p = g.P.GracePlan in let inv = c.loop.invariant in let 
     let begins = p.is_begun Wide true slots seq turn in
     let now = c.loop.seat.me in let plan = c.loop.plan in
     let does = sym c.next-in-loop.ensures ∙ c.in-StorePhase.is in
-    let after = after_store begins p.action p.taken p.present seq (laws g slots seq turn) plan c.take-in-StorePhase.new.self (looks_in now.0.grace) b value does c.take-in-StorePhase.ensures.taken in
-    (search rules, search rules, after.0, in_loop begins p.action p.taken p.present seq p.QSBR g.K.ChainRule.allows c.args.seat.now.me turn value (looks_in now.0.grace) c.take-in-StorePhase.new.self c.store_present.new.seat.me
-      (goes_on p.QSBR g.K.ChainRule.allows c.args.seat.now.me (seq + 1) turn (p.present plan) value (looks_in now.0.grace) (looks_in now.0.grace) _ (Present value ∷ []) now c.store_present.new.seat.me go
-        (λ i. Works (ap seq_in go.is i) value (before_in now.0.grace) (looks_in now.0.grace)) c.store_present.ensures.presented)
-      after.0 after.1 (bound_turn p.QSBR (seq + 1) (p.present plan) value (may_turn g slots seq turn value plan (looks_in now.0.grace) b c.requires.right.3 does)))
+    let after = after_store begins p.action p.taken p.present seq (laws g slots seq turn) plan c.take-in-StorePhase.new.self (looks_in now.0.grace) b value does c.take-in-StorePhase.ensures.taken in (
+      search rules,
+      search rules,
+      after.0,
+      in_loop begins p.action p.taken p.present seq p.QSBR g.K.ChainRule.allows c.args.seat.now.me turn value (looks_in now.0.grace) c.take-in-StorePhase.new.self c.store_present.new.seat.me
+          (goes_on p.QSBR g.K.ChainRule.allows c.args.seat.now.me (seq + 1) turn (p.present plan) value (looks_in now.0.grace) (looks_in now.0.grace) _ (Present value ∷ []) now c.store_present.new.seat.me go
+          (λ i. Works (ap seq_in go.is i) value (before_in now.0.grace) (looks_in now.0.grace)) c.store_present.ensures.presented)
+          after.0 after.1 (bound_turn p.QSBR (seq + 1) (p.present plan) value (may_turn g slots seq turn value plan (looks_in now.0.grace) b c.requires.right.3 does)),
+    )
 
 even_of : (g : given.Over) (slots seq turn value : ℕ) (plan : g.row.P.Denot) (looks : List (ℕ × ℕ)) → Begun (g.P.GracePlan.is_begun Wide true slots seq turn) g.P.GracePlan.action g.P.GracePlan.taken plan looks
     → g.P.GracePlan.action plan ≡ StoreSeq value → value ≡ seq + 2
@@ -120,9 +138,10 @@ returns-in-StoreSeq-clause-right g c = let inv = c.loop.invariant in let go = in
     let g' = c.store_even.ensures.ended.0 in
     let last : present_in c.loop.seat.me.0.grace ≡ c.loop.present = ap present_in go.is ∙ sym inv.2 in
     let right : now.0.grace ≡ Rests (c.args.seq + 2) c.loop.present = ap (λ m. m.0.grace) g' ∙ (λ i. Rests (e i) (last i)) in
-    let only = only_after p.QSBR g.K.ChainRule.allows c.args.seat.now.me _ (SeqEven ∷ []) c.loop.seat.me now go.only c.store_even.ensures.ended in
-    (only ∙ ap (λ (x : GraceRight). (record (at_log c.args.seat.now.me.0 now.0.seen) { grace = x }, c.args.seat.now.me.1)) right,
-    subst (IsBound p.QSBR (c.args.seq + 2)) (sym inv.2) (subst (λ (n : ℕ). IsBound p.QSBR n (p.present c.loop.plan)) two (bound_next p.QSBR (c.args.seq + 1) (p.present c.loop.plan) inv.3.2)))
+    let only = only_after p.QSBR g.K.ChainRule.allows c.args.seat.now.me _ (SeqEven ∷ []) c.loop.seat.me now go.only c.store_even.ensures.ended in (
+      only ∙ ap (λ (x : GraceRight). (record (at_log c.args.seat.now.me.0 now.0.seen) { grace = x }, c.args.seat.now.me.1)) right,
+      subst (IsBound p.QSBR (c.args.seq + 2)) (sym inv.2) (subst (λ (n : ℕ). IsBound p.QSBR n (p.present c.loop.plan)) two (bound_next p.QSBR (c.args.seq + 1) (p.present c.loop.plan) inv.3.2)),
+    )
   where
     two : c.args.seq + 1 + 1 ≡ c.args.seq + 2
     two = omega arith
