@@ -1,0 +1,56 @@
+-- How an ask is answered.
+use Rattle.std.proofs.Common.{Bool, true, false, ◌≡◌, ℕ, ◌+◌, ◌<◌, ◌≤◌, List, [], ◌∷◌, ◌++◌, sym, refl, ap, ◌∙◌, subst, arith, true≢false}
+use mathlib.Core.Option.{some}
+use Rattle.live_log.specs.declared.event.LiveEvent.{LiveEvent}
+use Rattle.live_log.specs.declared.event.LiveEvent.TheVariants.{Close, SeqEven, SeqOdd}
+use Rattle.live_log.specs.Log.{Log, Begins, Has, HaveEnded, IsBound, IsLiveRun, open_of, seq_of}
+use Rattle.live_log.proofs.Lemmas.{begins_trans, ended_before, has_later, is_past, run_of, seq_begins}
+use Rattle.live_rule.specs.declared.view.View.{View}
+use Rattle.live_rule.specs.Steps.{Precedes, Wrote}
+use Rattle.live_grace.specs.Answers.{IsCookieOf, WholeGracePeriod}
+
+-- the bounds of a phase, and of a number, as facts that each flavour has
+pub bound_of : (qsbr : Bool) (seq present : ℕ) → (qsbr ≡ false → present < 2) → (qsbr ≡ true → present ≤ seq) → IsBound qsbr seq present
+bound_of false seq present phase number = phase refl
+bound_of true seq present phase number = number refl
+
+pub bound_phase : (qsbr : Bool) (seq present : ℕ) → IsBound qsbr seq present → qsbr ≡ false → present < 2
+bound_phase false seq present b is = b
+bound_phase true seq present b is = absurd (true≢false is)
+
+pub bound_number : (qsbr : Bool) (seq present : ℕ) → IsBound qsbr seq present → qsbr ≡ true → present ≤ seq
+bound_number true seq present b is = b
+bound_number false seq present b is = absurd (true≢false (sym is))
+
+-- what has ended stays so
+pub ended_later : (old log new : Log) → Begins log new → HaveEnded old log → HaveEnded old new
+ended_later old log new b ended r n m at = subst (Has (Close r n)) (sym b.1) (has_later (Close r n) b.0 log (ended r n m at))
+
+module _ (qsbr : Bool) (allows : Log → LiveEvent → Type 0) where
+  begins_whole : (v : View) (log : Log) (w : WholeGracePeriod qsbr allows v log) → Begins w.before log
+  begins_whole v log w = begins_trans w.before w.within log (begins_trans w.before (SeqOdd ∷ w.before) w.within (SeqOdd ∷ [], refl) w.began) (SeqEven ∷ [], w.over)
+
+  pub whole_later : (v : View) (log : Log) → WholeGracePeriod qsbr allows v log → Precedes v log × IsLiveRun qsbr allows log
+  whole_later v log w = let b = begins_whole v log w in ((begins_trans v.seen w.before log w.after.0 b, begins_trans v.heard w.before log w.after.1 b), w.run)
+
+  pub risen : (v : View) (log : Log) → WholeGracePeriod qsbr allows v log → seq_of v.seen + 2 ≤ seq_of log
+  risen v log w =
+      let a : seq_of v.seen ≤ seq_of w.before = seq_begins v.seen w.before w.after.0 in
+      let b : seq_of w.before + 1 ≤ seq_of w.within = seq_begins (SeqOdd ∷ w.before) w.within w.began in
+      let c : seq_of log ≡ seq_of w.within + 1 = ap seq_of w.over in
+      omega arith
+
+  -- a grace period of one's own answers what was asked before
+  pub whole_ended : (v : View) (old log : Log) → Begins old v.heard → WholeGracePeriod qsbr allows v log → HaveEnded old log
+  whole_ended v old log asked w = let b = begins_whole v log w in
+      ended_before qsbr allows old w.before log (run_of qsbr allows w.before log b w.run) (begins_trans old v.heard w.before asked w.after.1) b w.ended
+
+  pub looked_later : (v : View) (log : Log) → Wrote qsbr allows v [] log → Precedes v log × IsLiveRun qsbr allows log
+  looked_later v log w = ((begins_trans v.seen w.0 log w.2 ([], w.1), begins_trans v.heard w.0 log w.3 ([], w.1)), w.4)
+
+  -- another's answers it where the sequence number is at or above the cookie
+  pub shared_ended : (v : View) (old log : Log) (cookie seq : ℕ) → IsCookieOf old cookie → cookie ≤ seq → seq ≤ seq_of v.seen → Begins old v.heard → Wrote qsbr allows v [] log → HaveEnded old log
+  shared_ended v old log cookie seq fits far low asked w = let later = looked_later v log w in
+      let up : seq_of v.seen ≤ seq_of log = seq_begins v.seen log later.0.0 in
+      let past : cookie ≤ seq_of log = omega arith in
+      is_past qsbr allows old cookie fits.0 fits.1 log (begins_trans old v.heard log asked later.0.1) later.1 past

@@ -1,0 +1,14 @@
+use Rattle.std.proofs.Common.{rules, ◌≡◌, ◌+◌, ◌≤◌, ◌%◌, ◌^◌, ℕ, arith}
+use Rattle.live_grace.proofs.Answering.{bound_number, bound_of, bound_phase, risen}
+use Rattle.live_grace.proofs.writer.GraceWriter.run.Goals as goal
+
+pub grace_period-self-requires-clause-right : goal.grace_period-self-requires-clause-right
+grace_period-self-requires-clause-right g c = let now = c.args.self.now in let b = now.bounds in
+    (now.rests.0, b.0, c.requires.low, bound_of g.P.GracePlan.QSBR now.seq now.present b.2 b.3)
+
+pub invariant_of-self-clause-bounds : goal.invariant_of-self-clause-bounds
+invariant_of-self-clause-bounds g c = let p = g.P.GracePlan in let now = c.args.self.now in let done = c.grace_period-self in
+    let up = risen p.QSBR g.K.ChainRule.allows now.seat.me.0 done.new.seat.me.0.seen done.ensures.period in
+    let even = now.bounds.0 in
+    let low = now.bounds.1 in
+    (omega arith, omega arith, bound_phase p.QSBR (now.seq + 2) done.result done.ensures.right.1, bound_number p.QSBR (now.seq + 2) done.result done.ensures.right.1)
