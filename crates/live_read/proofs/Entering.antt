@@ -1,5 +1,5 @@
 -- What the steps on a reader's word tell of its section.
-use Rattle.std.proofs.Common.{◌≡◌, ◌≢◌, ℕ, zero, suc, ◌+◌, ◌-◌, ◌<◌, Bool, true, false, List, [], Result, Ok, sym, refl, ap, ◌∙◌, subst, arith, true≢false}
+use Rattle.std.proofs.Common.{◌≡◌, ◌≢◌, ℕ, zero, suc, ◌+◌, ◌-◌, Bool, true, false, [], Ok, sym, refl, ap, ◌∙◌, subst, arith, true≢false}
 use mathlib.Core.Option.{Option, none, some}
 use Rattle.atomic_table.specs.Table.{Me}
 use Rattle.reader_word.specs.declared.layout.Layout.TheVariants.{Wide}
@@ -14,7 +14,7 @@ use Rattle.live_table.specs.Rights.{count_in}
 use Rattle.live_readers.specs.Sections.{Announced, Closed, CopiedBefore, Nested, Opened, Stored, announces, opens}
 use Rattle.live_read.specs.declared.reader.Reader.{Reader}
 use Rattle.live_read.specs.declared.site.Site.{Ghosts}
-use Rattle.live_read.specs.Sections.{log_of, ordinal, IsIn, Enters, Leaves, OpensOutermost, GoesOnline, Announces}
+use Rattle.live_read.specs.Sections.{log_of, ordinal, IsIn, Enters, Leaves, GoesOnline, Announces}
 
 -- a word that is not closed fits an open section
 fits_some : (b : Bool) (w : ℕ) (o : Option (ℕ × ℕ)) → Fits b w o → (IsClosed b w → ⊥) → (x : ℕ × ℕ) × (o ≡ some x)

@@ -1,4 +1,4 @@
-use Rattle.std.proofs.Common.{rules, ◌≡◌, ◌≢◌, ℕ, refl, sym, ap, ◌∙◌, arith}
+use Rattle.std.proofs.Common.{refl}
 use Rattle.live_read.proofs.Entering.{enters}
 use Rattle.live_read.proofs.reader.Reader.lock_word.Goals as goal
 

@@ -1,4 +1,4 @@
-use Rattle.std.proofs.Common.{rules, ◌≡◌, ◌≢◌, ℕ, refl, sym, ap, ◌∙◌, arith}
+use Rattle.std.proofs.Common.{rules, refl}
 use Rattle.live_read.proofs.Entering.{announces_now}
 use Rattle.live_read.proofs.reader.Reader.quiescent.Goals as goal
 
