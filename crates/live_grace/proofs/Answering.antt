@@ -1,9 +1,8 @@
 -- How an ask is answered.
-use Rattle.std.proofs.Common.{Bool, true, false, ◌≡◌, ℕ, ◌+◌, ◌<◌, ◌≤◌, List, [], ◌∷◌, ◌++◌, sym, refl, ap, ◌∙◌, subst, arith, true≢false}
-use mathlib.Core.Option.{some}
+use Rattle.std.proofs.Common.{Bool, true, false, ◌≡◌, ℕ, ◌+◌, ◌<◌, ◌≤◌, [], ◌∷◌, sym, refl, ap, subst, arith, true≢false}
 use Rattle.live_log.specs.declared.event.LiveEvent.{LiveEvent}
 use Rattle.live_log.specs.declared.event.LiveEvent.TheVariants.{Close, SeqEven, SeqOdd}
-use Rattle.live_log.specs.Log.{Log, Begins, Has, HaveEnded, IsBound, IsLiveRun, open_of, seq_of}
+use Rattle.live_log.specs.Log.{Log, Begins, Has, HaveEnded, IsBound, IsLiveRun, seq_of}
 use Rattle.live_log.proofs.Lemmas.{begins_trans, ended_before, has_later, is_past, run_of, seq_begins}
 use Rattle.live_rule.specs.declared.view.View.{View}
 use Rattle.live_rule.specs.Steps.{Precedes, Wrote}

@@ -1,20 +1,18 @@
 -- What each turn of the loop keeps.
-use Rattle.std.proofs.Common.{◌≡◌, ◌≢◌, ℕ, ◌+◌, ◌≤◌, ◌<◌, ◌^◌, List, [], ◌∷◌, Bool, true, false, sym, refl, ap, ◌∙◌, subst, inl, arith, true≢false}
+use Rattle.std.proofs.Common.{◌≡◌, ℕ, ◌+◌, ◌≤◌, ◌^◌, List, ◌∷◌, Bool, true, false, sym, refl, ap, ◌∙◌, subst, inl, arith, true≢false}
 use Rattle.atomic_table.specs.Table.{Me}
 use Rattle.gp_memb.specs.declared.plan.Action.{Action}
-use Rattle.gp_memb.specs.declared.plan.Action.TheVariants.{Load, LoadGroup, StorePhase, StoreSeq, Finished}
-use Rattle.gp_memb.specs.Plan.{StoresInOrder, IsPresent, MayStore, present_after}
+use Rattle.gp_memb.specs.declared.plan.Action.TheVariants.{Load, LoadGroup, StorePhase, StoreSeq}
+use Rattle.gp_memb.specs.Plan.{StoresInOrder, IsPresent, present_after}
 use Rattle.live_log.specs.declared.event.LiveEvent.{LiveEvent}
 use Rattle.live_log.specs.Log.{Log, MayBePresent}
 use Rattle.live_rule.specs.declared.view.View.{View}
 use Rattle.live_rule.specs.declared.rights.GraceRight.TheVariants.{Works}
 use Rattle.live_rule.specs.Places.{group_at, slot_at}
 use Rattle.live_table.specs.Rights.{looks_in, before_in, seq_in, present_in}
-use Rattle.live_periods.specs.Periods.{GraceBecomes}
 use Rattle.live_grace.specs.Going.{Going, IsLogged, Begun}
 use Rattle.live_log.specs.Log.{IsBound}
 use Rattle.live_grace.proofs.Tellings.{told_load, told_store}
-use Rattle.live_grace.proofs.Goings.{goes_on}
 
 module _ {P : Type 0} (is_begun : P → Type 0) (action : P → Action) (taken : P → ℕ → P) (present : P → ℕ) (seq : ℕ) where
   -- the laws of the plan that the loop uses
@@ -24,7 +22,7 @@ module _ {P : Type 0} (is_begun : P → Type 0) (action : P → Action) (taken :
 
   module _ (laws : Laws) (plan new : P) (looks : List (ℕ × ℕ)) (b : Begun is_begun action taken plan looks) where
     abbrev After : List (ℕ × ℕ) → ℕ → Type 0
-    After looks' turn = (turn ≡ present new) × Begun is_begun action taken new looks'
+    After looks' number = (number ≡ present new) × Begun is_begun action taken new looks'
 
     pub after_load : (k word : ℕ) → action plan ≡ Load k → new ≡ taken plan word → After ((slot_at k, word) ∷ looks) (present plan)
     after_load k word is next = (
@@ -64,32 +62,32 @@ module _ {P : Type 0} (is_begun : P → Type 0) (action : P → Action) (taken :
   InLoop qsbr allows old first plan now = Going qsbr allows old (seq + 1) first (present plan) (looks_in now.0.grace) now × Begun is_begun action taken plan (looks_in now.0.grace) × IsBound qsbr (seq + 1) (present plan)
 
   -- a turn that led the seat on, and the plan
-  pub in_loop : {S : Type 0} (qsbr : Bool) (allows : Log → LiveEvent → Type 0) (old : Me S View) (first turn : ℕ) (looks : List (ℕ × ℕ)) (plan : P) (now : Me S View)
-      → Going qsbr allows old (seq + 1) first turn looks now → turn ≡ present plan → Begun is_begun action taken plan looks → IsBound qsbr (seq + 1) turn → InLoop qsbr allows old first plan now
-  in_loop qsbr allows old first turn looks plan now go is b low = let same : looks_in now.0.grace ≡ looks = ap looks_in go.is in
+  pub in_loop : {S : Type 0} (qsbr : Bool) (allows : Log → LiveEvent → Type 0) (old : Me S View) (first number : ℕ) (looks : List (ℕ × ℕ)) (plan : P) (now : Me S View)
+      → Going qsbr allows old (seq + 1) first number looks now → number ≡ present plan → Begun is_begun action taken plan looks → IsBound qsbr (seq + 1) number → InLoop qsbr allows old first plan now
+  in_loop qsbr allows old first number looks plan now go is b low = let same : looks_in now.0.grace ≡ looks = ap looks_in go.is in
       (subst (λ (z : ℕ × List (ℕ × ℕ)). Going qsbr allows old (seq + 1) first z.0 z.1 now) (λ i. (is i, sym same i)) go, subst (Begun is_begun action taken plan) (sym same) b, subst (IsBound qsbr (seq + 1)) is low)
 
   -- the seat's right, as the steps name it
-  pub named : {S : Type 0} (qsbr : Bool) (allows : Log → LiveEvent → Type 0) (old : Me S View) (first turn : ℕ) (looks : List (ℕ × ℕ)) (now : Me S View) → Going qsbr allows old (seq + 1) first turn looks now
-      → (x : ℕ × ℕ) → Works (seq_in now.0.grace) (present_in now.0.grace) (before_in now.0.grace) (x ∷ looks_in now.0.grace) ≡ Works (seq + 1) turn (before_in now.0.grace) (x ∷ looks)
-  named qsbr allows old first turn looks now go x = λ i. Works (ap seq_in go.is i) (ap present_in go.is i) (before_in now.0.grace) (x ∷ ap looks_in go.is i)
+  pub named : {S : Type 0} (qsbr : Bool) (allows : Log → LiveEvent → Type 0) (old : Me S View) (first number : ℕ) (looks : List (ℕ × ℕ)) (now : Me S View) → Going qsbr allows old (seq + 1) first number looks now
+      → (x : ℕ × ℕ) → Works (seq_in now.0.grace) (present_in now.0.grace) (before_in now.0.grace) (x ∷ looks_in now.0.grace) ≡ Works (seq + 1) number (before_in now.0.grace) (x ∷ looks)
+  named qsbr allows old first number looks now go x = λ i. Works (ap seq_in go.is i) (ap present_in go.is i) (before_in now.0.grace) (x ∷ ap looks_in go.is i)
 
-pub may_start : (qsbr : Bool) (seq turn : ℕ) → IsBound qsbr seq turn → IsPresent qsbr turn
-may_start false seq turn b = omega arith
-may_start true seq turn b = tt
+pub may_start : (qsbr : Bool) (seq number : ℕ) → IsBound qsbr seq number → IsPresent qsbr number
+may_start false seq number b = omega arith
+may_start true seq number b = tt
 
-pub bound_next : (qsbr : Bool) (seq turn : ℕ) → IsBound qsbr seq turn → IsBound qsbr (seq + 1) turn
-bound_next false seq turn b = b
-bound_next true seq turn b = omega arith
+pub bound_next : (qsbr : Bool) (seq number : ℕ) → IsBound qsbr seq number → IsBound qsbr (seq + 1) number
+bound_next false seq number b = b
+bound_next true seq number b = omega arith
 
-pub bound_turn : (qsbr : Bool) (seq turn value : ℕ) → MayBePresent qsbr seq turn value → IsBound qsbr seq value
-bound_turn false seq turn value t = t
-bound_turn true seq turn value t = t.1
+pub bound_turn : (qsbr : Bool) (seq number value : ℕ) → MayBePresent qsbr seq number value → IsBound qsbr seq value
+bound_turn false seq number value t = t
+bound_turn true seq number value t = t.1
 
-pub at_most : (qsbr : Bool) (seq turn : ℕ) → IsBound qsbr seq turn → qsbr ≡ true → turn ≤ seq
-at_most true seq turn b q = b
-at_most false seq turn b q = absurd (true≢false (sym q))
+pub at_most : (qsbr : Bool) (seq number : ℕ) → IsBound qsbr seq number → qsbr ≡ true → number ≤ seq
+at_most true seq number b q = b
+at_most false seq number b q = absurd (true≢false (sym q))
 
-pub turn_low : (qsbr : Bool) (seq turn : ℕ) → seq ≤ 2 ^ 62 → IsBound qsbr seq turn → turn ≤ 2 ^ 62
-turn_low false seq turn low b = omega arith
-turn_low true seq turn low b = omega arith
+pub turn_low : (qsbr : Bool) (seq number : ℕ) → seq ≤ 2 ^ 62 → IsBound qsbr seq number → number ≤ 2 ^ 62
+turn_low false seq number low b = omega arith
+turn_low true seq number low b = omega arith

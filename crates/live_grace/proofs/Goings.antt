@@ -1,16 +1,16 @@
 -- How a seat goes through a grace period.
-use Rattle.std.proofs.Common.{◌≡◌, ◌≢◌, ◌⊎◌, ℕ, ◌+◌, ◌≤◌, ◌<◌, ◌^◌, List, [], ◌∷◌, ◌++◌, Bool, true, false, sym, refl, ap, ◌∙◌, subst, arith}
+use Rattle.std.proofs.Common.{◌≡◌, ℕ, ◌+◌, ◌≤◌, List, [], ◌∷◌, Bool, true, false, sym, refl, ap, ◌∙◌, subst, arith}
 use Rattle.atomic_table.specs.Table.{Me}
 use Rattle.gp_memb.specs.Plan.{MayStore}
 use Rattle.live_log.specs.declared.event.LiveEvent.{LiveEvent}
-use Rattle.live_log.specs.declared.event.LiveEvent.TheVariants.{SeqOdd, SeqEven, Present}
+use Rattle.live_log.specs.declared.event.LiveEvent.TheVariants.{SeqOdd, SeqEven}
 use Rattle.live_log.specs.Log.{Log, present_of, before_odd, HaveEnded, IsLiveRun, MayBePresent, Begins}
 use Rattle.live_log.proofs.Lemmas.{begins_trans}
 use Rattle.live_rule.specs.declared.view.View.{View}
 use Rattle.live_rule.specs.declared.rights.GraceRight.{GraceRight}
-use Rattle.live_rule.specs.declared.rights.GraceRight.TheVariants.{Rests, Works}
+use Rattle.live_rule.specs.declared.rights.GraceRight.TheVariants.{Works}
 use Rattle.live_rule.specs.Steps.{Precedes, at_log}
-use Rattle.live_table.specs.Rights.{looks_in, before_in, seq_in, present_in}
+use Rattle.live_table.specs.Rights.{before_in}
 use Rattle.live_periods.specs.Periods.{GraceBecomes}
 use Rattle.live_grace.specs.Answers.{WholeGracePeriod}
 use Rattle.live_grace.specs.Going.{Going}
@@ -24,7 +24,7 @@ module _ {S : Type 0} (qsbr : Bool) (allows : Log → LiveEvent → Type 0) (old
   only_after right events m m' o g = g.0 ∙ (ap (λ (z : Me S View). (record (at_log z.0 m'.0.seen) { grace = right }, z.1)) o ∙ ap (λ (x : GraceRight). (record (at_log old.0 m'.0.seen) { grace = x }, old.1)) (sym (ap (λ (z : Me S View). z.0.grace) g.0)))
 
   pub starts_going : (q t : ℕ) (new : Me S View) → GraceBecomes qsbr allows (Works q t (before_odd new.0.seen) []) (SeqOdd ∷ []) old new → present_of (before_odd new.0.seen) ≡ t → Going qsbr allows old q t t [] new
-  starts_going q t new g turn =
+  starts_going q t new g number =
       let is = ap (λ (z : Me S View). z.0.grace) g.0 in
       let seen = g.1.1 in
       let mark : before_in new.0.grace ≡ g.1.0 = ap before_in is ∙ ap before_odd seen in
@@ -34,18 +34,18 @@ module _ {S : Type 0} (qsbr : Bool) (allows : Log → LiveEvent → Type 0) (old
         after = subst (Precedes old.0) (sym mark) (g.1.2, g.1.3);
         since = ([], seen ∙ ap (λ l. SeqOdd ∷ l) (sym mark));
         run = subst (IsLiveRun qsbr allows) (sym mark) (subst (IsLiveRun qsbr allows) seen g.1.4).1;
-        began = ap present_of (ap before_in is) ∙ turn;
+        began = ap present_of (ap before_in is) ∙ number;
       }
 
   -- a further step of the period
-  pub goes_on : (q first turn turn' : ℕ) (looks looks' : List (ℕ × ℕ)) (right : GraceRight) (events : Log) (m m' : Me S View) → Going qsbr allows old q first turn looks m → right ≡ Works q turn' (before_in m.0.grace) looks' → GraceBecomes qsbr allows right events m m'
-      → Going qsbr allows old q first turn' looks' m'
-  goes_on q first turn turn' looks looks' right events m m' go are g =
+  pub goes_on : (q first number number' : ℕ) (looks looks' : List (ℕ × ℕ)) (right : GraceRight) (events : Log) (m m' : Me S View) → Going qsbr allows old q first number looks m → right ≡ Works q number' (before_in m.0.grace) looks' → GraceBecomes qsbr allows right events m m'
+      → Going qsbr allows old q first number' looks' m'
+  goes_on q first number number' looks looks' right events m m' go are g =
       let is = ap (λ (z : Me S View). z.0.grace) g.0 ∙ are in
       let mark : before_in m'.0.grace ≡ before_in m.0.grace = ap before_in is in
       record {
         only = only_after right events m m' go.only g;
-        is = is ∙ (λ i. Works q turn' (sym mark i) looks');
+        is = is ∙ (λ i. Works q number' (sym mark i) looks');
         after = subst (Precedes old.0) (sym mark) go.after;
         since = subst (λ (l : Log). Begins (SeqOdd ∷ l) m'.0.seen) (sym mark) (begins_trans (SeqOdd ∷ before_in m.0.grace) m.0.seen m'.0.seen go.since (begins_trans m.0.seen g.1.0 m'.0.seen g.1.2 (events, g.1.1)));
         run = subst (IsLiveRun qsbr allows) (sym mark) go.run;
@@ -53,8 +53,8 @@ module _ {S : Type 0} (qsbr : Bool) (allows : Log → LiveEvent → Type 0) (old
       }
 
   -- the last store makes the period whole
-  pub whole : (q first turn : ℕ) (looks : List (ℕ × ℕ)) (right : GraceRight) (m m' : Me S View) → Going qsbr allows old q first turn looks m → GraceBecomes qsbr allows right (SeqEven ∷ []) m m' → HaveEnded (before_in m.0.grace) m'.0.seen → WholeGracePeriod qsbr allows old.0 m'.0.seen
-  whole q first turn looks right m m' go g ended = record {
+  pub whole : (q first number : ℕ) (looks : List (ℕ × ℕ)) (right : GraceRight) (m m' : Me S View) → Going qsbr allows old q first number looks m → GraceBecomes qsbr allows right (SeqEven ∷ []) m m' → HaveEnded (before_in m.0.grace) m'.0.seen → WholeGracePeriod qsbr allows old.0 m'.0.seen
+  whole q first number looks right m m' go g ended = record {
     before = before_in m.0.grace;
     within = g.1.0;
     after = go.after;
@@ -65,6 +65,6 @@ module _ {S : Type 0} (qsbr : Bool) (allows : Log → LiveEvent → Type 0) (old
   }
 
 -- a plan's store is one that the rule allows, and keeps PHASE or NUM in its bounds
-pub stored_turn : (qsbr : Bool) (seq first turn value : ℕ) → MayStore qsbr first value → (qsbr ≡ true → turn ≤ value) → (qsbr ≡ true → first ≤ seq) → MayBePresent qsbr (seq + 1) turn value
-stored_turn true seq first turn value may rises low = let r = rises refl in let l = low refl in (r, omega arith)
-stored_turn false seq first turn value may rises low = omega arith
+pub stored_turn : (qsbr : Bool) (seq first number value : ℕ) → MayStore qsbr first value → (qsbr ≡ true → number ≤ value) → (qsbr ≡ true → first ≤ seq) → MayBePresent qsbr (seq + 1) number value
+stored_turn true seq first number value may rises low = let r = rises refl in let l = low refl in (r, omega arith)
+stored_turn false seq first number value may rises low = omega arith

@@ -1,5 +1,5 @@
 -- What a plan was told, and why it is not finished while a section stays open.
-use Rattle.std.proofs.Common.{◌≡◌, ◌≢◌, ◌⊎◌, ◌↔◌, ℕ, ◌+◌, ◌/◌, ◌%◌, ◌<◌, ◌≤◌, ◌^◌, List, [], ◌∷◌, ◌++◌, Bool, true, false, sym, refl, ap, ◌∙◌, subst, inl, inr, ⊎_elim, arith, true≢false}
+use Rattle.std.proofs.Common.{◌≡◌, ℕ, ◌+◌, ◌≤◌, List, [], ◌∷◌, ◌++◌, Bool, true, false, sym, refl, ap, ◌∙◌, subst, inr, ⊎_elim, arith, true≢false}
 use Rattle.reader_word.specs.declared.layout.Layout.TheVariants.{Wide}
 use Rattle.gp_memb.specs.declared.plan.Action.{Action}
 use Rattle.gp_memb.specs.declared.plan.Action.TheVariants.{Load, LoadGroup, StorePhase, StoreSeq, Finished}
@@ -92,6 +92,6 @@ module _ {P : Type 0} (action : P → Action) (taken : P → ℕ → P) where
         waits r m (0 ∷ ws) low (λ q. subst (λ (z : ℕ). m ≤ z) is (at_most qsbr (present_of mark) m note q)) since
         (ap action (after_more (taken begun 0) t.words 0) ∙ (order.last (0 ∷ t.words) 0 (λ g. t.unfinished (ap action t.is ∙ g))).1 (ap action (sym t.is) ∙ ends))
       where
-        at_most : (b : Bool) (turn m : ℕ) → MayCopy b turn m → b ≡ true → m ≤ turn
-        at_most true turn m n q = n
-        at_most false turn m n q = absurd (true≢false (sym q))
+        at_most : (b : Bool) (number m : ℕ) → MayCopy b number m → b ≡ true → m ≤ number
+        at_most true number m n q = n
+        at_most false number m n q = absurd (true≢false (sym q))

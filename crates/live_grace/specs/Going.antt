@@ -14,9 +14,9 @@ use Rattle.live_rule.specs.Steps.{Precedes, at_log}
 use Rattle.live_table.specs.Rights.{before_in}
 
 -- the period, with SEQ at q, began after `old`, when PHASE or NUM was `first`
-pub record Going {S : Type 0} (qsbr : Bool) (allows : Log → LiveEvent → Type 0) (old : Me S View) (q first turn : ℕ) (looks : List (ℕ × ℕ)) (now : Me S View) : Type 0 where
+pub record Going {S : Type 0} (qsbr : Bool) (allows : Log → LiveEvent → Type 0) (old : Me S View) (q first number : ℕ) (looks : List (ℕ × ℕ)) (now : Me S View) : Type 0 where
   pub only : now ≡ (record (at_log old.0 now.0.seen) { grace = now.0.grace }, old.1)
-  pub is : now.0.grace ≡ Works q turn (before_in now.0.grace) looks
+  pub is : now.0.grace ≡ Works q number (before_in now.0.grace) looks
   pub after : Precedes old.0 (before_in now.0.grace)
   pub since : Begins (SeqOdd ∷ before_in now.0.grace) now.0.seen
   pub run : IsLiveRun qsbr allows (before_in now.0.grace)

@@ -1,8 +1,8 @@
-use Rattle.std.proofs.Common.{rules, ◌≡◌, ◌≢◌, ℕ, ◌+◌, ◌*◌, ◌≤◌, ◌<◌, List, true, [], ◌∷◌, arith, sym, ap, ◌∙◌, subst, refl}
+use Rattle.std.proofs.Common.{rules, ◌≡◌, ℕ, ◌+◌, List, true, [], ◌∷◌, arith, sym, ap, ◌∙◌, subst}
 use Rattle.reader_word.specs.declared.layout.Layout.TheVariants.{Wide}
-use Rattle.gp_memb.specs.declared.plan.Action.TheVariants.{Load, LoadGroup, StorePhase, StoreSeq, Finished}
-use Rattle.gp_memb.specs.Plan.{present_after, after_loads}
-use Rattle.live_log.specs.Log.{MayBePresent, before_odd, present_of}
+use Rattle.gp_memb.specs.declared.plan.Action.TheVariants.{StorePhase, StoreSeq}
+use Rattle.gp_memb.specs.Plan.{present_after}
+use Rattle.live_log.specs.Log.{MayBePresent, before_odd}
 use Rattle.live_log.specs.declared.event.LiveEvent.TheVariants.{SeqOdd, SeqEven, Present}
 use Rattle.live_rule.specs.declared.rights.GraceRight.TheVariants.{Rests, Works}
 use Rattle.live_rule.specs.Places.{slot_at, group_at}
@@ -18,31 +18,31 @@ use Rattle.live_grace.proofs.Cases.{Laws, after_load, after_group, after_store, 
 use Rattle.live_grace.proofs.period.grace_period.Given as given
 use Rattle.live_grace.proofs.period.grace_period.Goals as goal
 
-laws : (g : given.Over) (slots seq turn : ℕ) → Laws (g.P.GracePlan.is_begun Wide true slots seq turn) g.P.GracePlan.action g.P.GracePlan.taken g.P.GracePlan.present seq
-laws g slots seq turn = record { order = λ start begun. g.met.P.GracePlan.order Wide true slots seq turn start begun; presents = g.met.P.GracePlan.presents }
+laws : (g : given.Over) (slots seq number : ℕ) → Laws (g.P.GracePlan.is_begun Wide true slots seq number) g.P.GracePlan.action g.P.GracePlan.taken g.P.GracePlan.present seq
+laws g slots seq number = record { order = λ start begun. g.met.P.GracePlan.order Wide true slots seq number start begun; presents = g.met.P.GracePlan.presents }
 
 pub start-plan-requires-clause-word : goal.start-plan-requires-clause-word
 start-plan-requires-clause-word g c = turn_low g.P.GracePlan.QSBR c.args.seq c.args.first c.requires.right.2 c.requires.right.3
 
 pub loop-init : goal.loop-init
-loop-init g c = let p = g.P.GracePlan in let m = g.met.P.GracePlan in let slots : ℕ = c.args.table.now.slots in let seq : ℕ = c.args.seq in let turn : ℕ = c.args.first in
+loop-init g c = let p = g.P.GracePlan in let m = g.met.P.GracePlan in let slots : ℕ = c.args.table.now.slots in let seq : ℕ = c.args.seq in let number : ℕ = c.args.first in
     let start = c.start-plan.result in
     let begun = c.start-plan.ensures in
-    let l = laws g slots seq turn in
+    let l = laws g slots seq number in
     let order = l.order start begun in
-    let was : present_in c.args.seat.now.me.0.grace ≡ turn = ap present_in c.requires.right.0 in
+    let was : present_in c.args.seat.now.me.0.grace ≡ number = ap present_in c.requires.right.0 in
     let new = c.store_odd.new.seat.me in
     let graced = subst (λ (t : ℕ). GraceBecomes p.QSBR g.K.ChainRule.allows (Works (seq + 1) t (before_odd new.0.seen) []) (SeqOdd ∷ []) c.args.seat.now.me new) was c.store_odd.ensures.began in
-    let go = starts_going p.QSBR g.K.ChainRule.allows c.args.seat.now.me (seq + 1) turn new graced (c.store_odd.ensures.present ∙ was) in
-    let present = m.begins Wide true slots seq turn start begun (may_start p.QSBR seq turn c.requires.right.3) in
+    let go = starts_going p.QSBR g.K.ChainRule.allows c.args.seat.now.me (seq + 1) number new graced (c.store_odd.ensures.present ∙ was) in
+    let present = m.begins Wide true slots seq number start begun (may_start p.QSBR seq number c.requires.right.3) in
     let same = sym (ap p.present c.take.ensures.taken ∙ (m.presents start 0 ∙ (ap (present_after (p.present start)) order.first ∙ present))) in (
       search rules,
       search rules,
       same,
-      in_loop (p.is_begun Wide true slots seq turn) p.action p.taken p.present seq p.QSBR g.K.ChainRule.allows c.args.seat.now.me turn turn [] c.take.new.self new go
+      in_loop (p.is_begun Wide true slots seq number) p.action p.taken p.present seq p.QSBR g.K.ChainRule.allows c.args.seat.now.me number number [] c.take.new.self new go
           same
           (record { start = start; begun = begun; told = subst (λ q. Rattle.live_grace.specs.Going.Told p.action p.taken start q []) (sym c.take.ensures.taken) (told_first p.action p.taken seq start order) })
-          (bound_next p.QSBR seq turn c.requires.right.3),
+          (bound_next p.QSBR seq number c.requires.right.3),
     )
 
 pub load_slot-word-requires-clause-seat : goal.load_slot-word-requires-clause-seat
@@ -50,17 +50,17 @@ load_slot-word-requires-clause-seat g c = let p = g.P.GracePlan in let inv = c.l
     (inv.0, g.met.P.GracePlan.in_range Wide true slots c.args.seq c.args.first b.start b.begun (0 ∷ b.told.words) c.in-Load.slot (ap p.action (sym b.told.is) ∙ (sym c.next-in-loop.ensures ∙ c.in-Load.is)))
 
 pub loop-preserved-in-Load : goal.loop-preserved-in-Load
-loop-preserved-in-Load g c = let p = g.P.GracePlan in let inv = c.loop.invariant in let slots : ℕ = c.args.table.now.slots in let seq : ℕ = c.args.seq in let turn : ℕ = c.args.first in
+loop-preserved-in-Load g c = let p = g.P.GracePlan in let inv = c.loop.invariant in let slots : ℕ = c.args.table.now.slots in let seq : ℕ = c.args.seq in let number : ℕ = c.args.first in
     let go = inv.3.0 in let b = inv.3.1 in let x : ℕ × ℕ = (slot_at c.in-Load.slot, c.load_slot-word.result) in
-    let begins = p.is_begun Wide true slots seq turn in
+    let begins = p.is_begun Wide true slots seq number in
     let now = c.loop.seat.me in let plan = c.loop.plan in
-    let after = after_load begins p.action p.taken p.present seq (laws g slots seq turn) plan c.take-in-Load.new.self (looks_in now.0.grace) b c.in-Load.slot c.load_slot-word.result (sym c.next-in-loop.ensures ∙ c.in-Load.is) c.take-in-Load.ensures.taken in (
+    let after = after_load begins p.action p.taken p.present seq (laws g slots seq number) plan c.take-in-Load.new.self (looks_in now.0.grace) b c.in-Load.slot c.load_slot-word.result (sym c.next-in-loop.ensures ∙ c.in-Load.is) c.take-in-Load.ensures.taken in (
       search rules,
       search rules,
       inv.2 ∙ after.0,
-      in_loop begins p.action p.taken p.present seq p.QSBR g.K.ChainRule.allows c.args.seat.now.me turn (p.present plan) (x ∷ looks_in now.0.grace) c.take-in-Load.new.self c.load_slot-word.new.seat.me
-          (goes_on p.QSBR g.K.ChainRule.allows c.args.seat.now.me (seq + 1) turn (p.present plan) (p.present plan) (looks_in now.0.grace) (x ∷ looks_in now.0.grace) _ [] now c.load_slot-word.new.seat.me go
-          (named begins p.action p.taken p.present seq p.QSBR g.K.ChainRule.allows c.args.seat.now.me turn (p.present plan) (looks_in now.0.grace) now go x) c.load_slot-word.ensures.looked)
+      in_loop begins p.action p.taken p.present seq p.QSBR g.K.ChainRule.allows c.args.seat.now.me number (p.present plan) (x ∷ looks_in now.0.grace) c.take-in-Load.new.self c.load_slot-word.new.seat.me
+          (goes_on p.QSBR g.K.ChainRule.allows c.args.seat.now.me (seq + 1) number (p.present plan) (p.present plan) (looks_in now.0.grace) (x ∷ looks_in now.0.grace) _ [] now c.load_slot-word.new.seat.me go
+          (named begins p.action p.taken p.present seq p.QSBR g.K.ChainRule.allows c.args.seat.now.me number (p.present plan) (looks_in now.0.grace) now go x) c.load_slot-word.ensures.looked)
           after.0 after.1 inv.3.2,
     )
 
@@ -71,25 +71,25 @@ load_group-word-requires-clause-seat g c = let p = g.P.GracePlan in let inv = c.
     (inv.0, omega arith)
 
 pub loop-preserved-in-LoadGroup : goal.loop-preserved-in-LoadGroup
-loop-preserved-in-LoadGroup g c = let p = g.P.GracePlan in let inv = c.loop.invariant in let slots : ℕ = c.args.table.now.slots in let seq : ℕ = c.args.seq in let turn : ℕ = c.args.first in
+loop-preserved-in-LoadGroup g c = let p = g.P.GracePlan in let inv = c.loop.invariant in let slots : ℕ = c.args.table.now.slots in let seq : ℕ = c.args.seq in let number : ℕ = c.args.first in
     let go = inv.3.0 in let b = inv.3.1 in let x : ℕ × ℕ = (group_at c.in-LoadGroup.group, c.load_group-word.result) in
-    let begins = p.is_begun Wide true slots seq turn in
+    let begins = p.is_begun Wide true slots seq number in
     let now = c.loop.seat.me in let plan = c.loop.plan in
-    let after = after_group begins p.action p.taken p.present seq (laws g slots seq turn) plan c.take-in-LoadGroup.new.self (looks_in now.0.grace) b c.in-LoadGroup.group c.load_group-word.result (sym c.next-in-loop.ensures ∙ c.in-LoadGroup.is) c.take-in-LoadGroup.ensures.taken in (
+    let after = after_group begins p.action p.taken p.present seq (laws g slots seq number) plan c.take-in-LoadGroup.new.self (looks_in now.0.grace) b c.in-LoadGroup.group c.load_group-word.result (sym c.next-in-loop.ensures ∙ c.in-LoadGroup.is) c.take-in-LoadGroup.ensures.taken in (
       search rules,
       search rules,
       inv.2 ∙ after.0,
-      in_loop begins p.action p.taken p.present seq p.QSBR g.K.ChainRule.allows c.args.seat.now.me turn (p.present plan) (x ∷ looks_in now.0.grace) c.take-in-LoadGroup.new.self c.load_group-word.new.seat.me
-          (goes_on p.QSBR g.K.ChainRule.allows c.args.seat.now.me (seq + 1) turn (p.present plan) (p.present plan) (looks_in now.0.grace) (x ∷ looks_in now.0.grace) _ [] now c.load_group-word.new.seat.me go
-          (named begins p.action p.taken p.present seq p.QSBR g.K.ChainRule.allows c.args.seat.now.me turn (p.present plan) (looks_in now.0.grace) now go x) c.load_group-word.ensures.looked)
+      in_loop begins p.action p.taken p.present seq p.QSBR g.K.ChainRule.allows c.args.seat.now.me number (p.present plan) (x ∷ looks_in now.0.grace) c.take-in-LoadGroup.new.self c.load_group-word.new.seat.me
+          (goes_on p.QSBR g.K.ChainRule.allows c.args.seat.now.me (seq + 1) number (p.present plan) (p.present plan) (looks_in now.0.grace) (x ∷ looks_in now.0.grace) _ [] now c.load_group-word.new.seat.me go
+          (named begins p.action p.taken p.present seq p.QSBR g.K.ChainRule.allows c.args.seat.now.me number (p.present plan) (looks_in now.0.grace) now go x) c.load_group-word.ensures.looked)
           after.0 after.1 inv.3.2,
     )
 
 -- the store of a phase or number is one that the rule allows
-may_turn : (g : given.Over) (slots seq turn value : ℕ) (plan : g.row.P.Denot) (looks : List (ℕ × ℕ)) → Begun (g.P.GracePlan.is_begun Wide true slots seq turn) g.P.GracePlan.action g.P.GracePlan.taken plan looks
-    → IsBound g.P.GracePlan.QSBR seq turn → g.P.GracePlan.action plan ≡ StorePhase value → MayBePresent g.P.GracePlan.QSBR (seq + 1) (g.P.GracePlan.present plan) value
-may_turn g slots seq turn value plan looks b low does = let p = g.P.GracePlan in let m = g.met.P.GracePlan in
-    stored_turn p.QSBR seq turn (p.present plan) value (m.stores Wide true slots seq turn b.start b.begun (0 ∷ b.told.words) value (ap p.action (sym b.told.is) ∙ does)) (λ q. m.rises plan value q does) (at_most p.QSBR seq turn low)
+may_turn : (g : given.Over) (slots seq number value : ℕ) (plan : g.row.P.Denot) (looks : List (ℕ × ℕ)) → Begun (g.P.GracePlan.is_begun Wide true slots seq number) g.P.GracePlan.action g.P.GracePlan.taken plan looks
+    → IsBound g.P.GracePlan.QSBR seq number → g.P.GracePlan.action plan ≡ StorePhase value → MayBePresent g.P.GracePlan.QSBR (seq + 1) (g.P.GracePlan.present plan) value
+may_turn g slots seq number value plan looks b low does = let p = g.P.GracePlan in let m = g.met.P.GracePlan in
+    stored_turn p.QSBR seq number (p.present plan) value (m.stores Wide true slots seq number b.start b.begun (0 ∷ b.told.words) value (ap p.action (sym b.told.is) ∙ does)) (λ q. m.rises plan value q does) (at_most p.QSBR seq number low)
 
 pub store_present-requires-clause-right : goal.store_present-requires-clause-right
 store_present-requires-clause-right g c = let inv = c.loop.invariant in let go = inv.3.0 in (
@@ -99,24 +99,24 @@ store_present-requires-clause-right g c = let inv = c.loop.invariant in let go =
 )
 
 pub loop-preserved : goal.loop-preserved
-loop-preserved g c = let p = g.P.GracePlan in let inv = c.loop.invariant in let slots : ℕ = c.args.table.now.slots in let seq : ℕ = c.args.seq in let turn : ℕ = c.args.first in
+loop-preserved g c = let p = g.P.GracePlan in let inv = c.loop.invariant in let slots : ℕ = c.args.table.now.slots in let seq : ℕ = c.args.seq in let number : ℕ = c.args.first in
     let go = inv.3.0 in let b = inv.3.1 in let value : ℕ = c.in-StorePhase.value in
-    let begins = p.is_begun Wide true slots seq turn in
+    let begins = p.is_begun Wide true slots seq number in
     let now = c.loop.seat.me in let plan = c.loop.plan in
     let does = sym c.next-in-loop.ensures ∙ c.in-StorePhase.is in
-    let after = after_store begins p.action p.taken p.present seq (laws g slots seq turn) plan c.take-in-StorePhase.new.self (looks_in now.0.grace) b value does c.take-in-StorePhase.ensures.taken in (
+    let after = after_store begins p.action p.taken p.present seq (laws g slots seq number) plan c.take-in-StorePhase.new.self (looks_in now.0.grace) b value does c.take-in-StorePhase.ensures.taken in (
       search rules,
       search rules,
       after.0,
-      in_loop begins p.action p.taken p.present seq p.QSBR g.K.ChainRule.allows c.args.seat.now.me turn value (looks_in now.0.grace) c.take-in-StorePhase.new.self c.store_present.new.seat.me
-          (goes_on p.QSBR g.K.ChainRule.allows c.args.seat.now.me (seq + 1) turn (p.present plan) value (looks_in now.0.grace) (looks_in now.0.grace) _ (Present value ∷ []) now c.store_present.new.seat.me go
+      in_loop begins p.action p.taken p.present seq p.QSBR g.K.ChainRule.allows c.args.seat.now.me number value (looks_in now.0.grace) c.take-in-StorePhase.new.self c.store_present.new.seat.me
+          (goes_on p.QSBR g.K.ChainRule.allows c.args.seat.now.me (seq + 1) number (p.present plan) value (looks_in now.0.grace) (looks_in now.0.grace) _ (Present value ∷ []) now c.store_present.new.seat.me go
           (λ i. Works (ap seq_in go.is i) value (before_in now.0.grace) (looks_in now.0.grace)) c.store_present.ensures.presented)
-          after.0 after.1 (bound_turn p.QSBR (seq + 1) (p.present plan) value (may_turn g slots seq turn value plan (looks_in now.0.grace) b c.requires.right.3 does)),
+          after.0 after.1 (bound_turn p.QSBR (seq + 1) (p.present plan) value (may_turn g slots seq number value plan (looks_in now.0.grace) b c.requires.right.3 does)),
     )
 
-even_of : (g : given.Over) (slots seq turn value : ℕ) (plan : g.row.P.Denot) (looks : List (ℕ × ℕ)) → Begun (g.P.GracePlan.is_begun Wide true slots seq turn) g.P.GracePlan.action g.P.GracePlan.taken plan looks
+even_of : (g : given.Over) (slots seq number value : ℕ) (plan : g.row.P.Denot) (looks : List (ℕ × ℕ)) → Begun (g.P.GracePlan.is_begun Wide true slots seq number) g.P.GracePlan.action g.P.GracePlan.taken plan looks
     → g.P.GracePlan.action plan ≡ StoreSeq value → value ≡ seq + 2
-even_of g slots seq turn value plan looks b does = even_is g.P.GracePlan.action g.P.GracePlan.taken seq b.start ((laws g slots seq turn).order b.start b.begun) plan looks b.told value does
+even_of g slots seq number value plan looks b does = even_is g.P.GracePlan.action g.P.GracePlan.taken seq b.start ((laws g slots seq number).order b.start b.begun) plan looks b.told value does
 
 pub store_even-requires-clause-right : goal.store_even-requires-clause-right
 store_even-requires-clause-right g c = let inv = c.loop.invariant in let go = inv.3.0 in
@@ -126,10 +126,10 @@ store_even-requires-clause-right g c = let inv = c.loop.invariant in let go = in
 
 pub store_even-requires-clause-loads : goal.store_even-requires-clause-loads
 store_even-requires-clause-loads g c = let p = g.P.GracePlan in let inv = c.loop.invariant in let go = inv.3.0 in let b = inv.3.1 in
-    let slots : ℕ = c.args.table.now.slots in let seq : ℕ = c.args.seq in let turn : ℕ = c.args.first in
+    let slots : ℕ = c.args.table.now.slots in let seq : ℕ = c.args.seq in let number : ℕ = c.args.first in
     let does = sym c.next-in-loop.ensures ∙ c.in-StoreSeq.is in
-    let e = even_of g slots seq turn c.in-StoreSeq.value c.loop.plan (looks_in c.loop.seat.me.0.grace) b does in
-    refutes p.action p.taken seq b.start ((laws g slots seq turn).order b.start b.begun) p.QSBR slots turn (g.met.P.GracePlan.waits Wide true slots seq turn b.start b.begun) c.loop.plan (looks_in c.loop.seat.me.0.grace) b.told (does ∙ ap StoreSeq e)
+    let e = even_of g slots seq number c.in-StoreSeq.value c.loop.plan (looks_in c.loop.seat.me.0.grace) b does in
+    refutes p.action p.taken seq b.start ((laws g slots seq number).order b.start b.begun) p.QSBR slots number (g.met.P.GracePlan.waits Wide true slots seq number b.start b.begun) c.loop.plan (looks_in c.loop.seat.me.0.grace) b.told (does ∙ ap StoreSeq e)
     (before_in c.loop.seat.me.0.grace) go.began
 
 pub returns-in-StoreSeq-clause-right : goal.returns-in-StoreSeq-clause-right

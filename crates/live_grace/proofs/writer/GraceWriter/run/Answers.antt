@@ -1,4 +1,4 @@
-use Rattle.std.proofs.Common.{rules, ◌≡◌, ◌+◌, ◌≤◌, ◌%◌, ◌^◌, ℕ, arith}
+use Rattle.std.proofs.Common.{◌+◌, arith}
 use Rattle.live_grace.proofs.Answering.{bound_number, bound_of, bound_phase, risen}
 use Rattle.live_grace.proofs.writer.GraceWriter.run.Goals as goal
 

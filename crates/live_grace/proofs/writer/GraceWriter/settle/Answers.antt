@@ -1,4 +1,4 @@
-use Rattle.std.proofs.Common.{rules, ◌≡◌, ◌+◌, ◌≤◌, ◌<◌, ◌%◌, ◌^◌, ℕ, arith}
+use Rattle.std.proofs.Common.{◌≤◌, arith}
 use Rattle.live_log.specs.Log.{seq_of}
 use Rattle.live_log.proofs.Lemmas.{seq_begins}
 use Rattle.live_grace.proofs.Answering.{looked_later, shared_ended, whole_ended, whole_later}
