@@ -4,7 +4,7 @@
 use crate::answer_line::AnswerLine;
 
 /// An event of a section that opens or closes, and no more.
-#[derive(Clone, Copy, Debug, PartialEq, Eq)]
+#[derive(Clone, Copy)]
 pub enum SectionWord {
     /// A section begins: its reader and its ordinal come next.
     Open,
@@ -13,7 +13,7 @@ pub enum SectionWord {
 }
 
 /// An event in which a section reads.
-#[derive(Clone, Copy, Debug, PartialEq, Eq)]
+#[derive(Clone, Copy)]
 pub enum ReadingWord {
     /// It goes to the front of a chain: section, chain and what it found come next.
     First,
@@ -24,7 +24,7 @@ pub enum ReadingWord {
 }
 
 /// An event of a chain.
-#[derive(Clone, Copy, Debug, PartialEq, Eq)]
+#[derive(Clone, Copy)]
 pub enum ChainWord {
     /// A new object stands at the front: chain and object come next.
     Push,
@@ -35,7 +35,7 @@ pub enum ChainWord {
 }
 
 /// An event of an object that left its chain.
-#[derive(Clone, Copy, Debug, PartialEq, Eq)]
+#[derive(Clone, Copy)]
 pub enum ObjectWord {
     /// It is to be reclaimed: its number comes next.
     Retire,
@@ -46,7 +46,7 @@ pub enum ObjectWord {
 }
 
 /// An event of a grace period or a barrier, which have numbers.
-#[derive(Clone, Copy, Debug, PartialEq, Eq)]
+#[derive(Clone, Copy)]
 pub enum WaitWord {
     /// A grace period is asked for: the number of the ask comes next, from 1.
     Ask,
@@ -59,7 +59,7 @@ pub enum WaitWord {
 }
 
 /// The word of an event.
-#[derive(Clone, Copy, Debug, PartialEq, Eq)]
+#[derive(Clone, Copy)]
 pub enum EventWord {
     /// A section opens or closes.
     Section(SectionWord),
@@ -74,7 +74,7 @@ pub enum EventWord {
 }
 
 /// How a line of answers begins.
-#[derive(Clone, Copy, Debug, PartialEq, Eq)]
+#[derive(Clone, Copy)]
 pub enum AnswerWord {
     /// With an event, whose numbers come next.
     Event(EventWord),
@@ -87,7 +87,7 @@ pub enum AnswerWord {
 }
 
 /// What a section found.
-#[derive(Clone, Copy, Debug, PartialEq, Eq)]
+#[derive(Clone, Copy)]
 pub enum FoundWord {
     /// An object, whose number comes next.
     Object,

@@ -4,7 +4,7 @@
 use world::{Flavour, Layout, ReaderVerb, UpdaterVerb, WorkerVerb};
 
 /// Who acts.
-#[derive(Clone, Copy, Debug, PartialEq, Eq)]
+#[derive(Clone, Copy)]
 pub enum ActorWord {
     /// `r`, before the number of a reader.
     Reader,
@@ -15,7 +15,7 @@ pub enum ActorWord {
 }
 
 /// What a reader's word stands for.
-#[derive(Clone, Copy, Debug, PartialEq, Eq)]
+#[derive(Clone, Copy)]
 pub enum ReaderWord {
     /// A verb with its line feed.
     Whole(ReaderVerb),
@@ -24,7 +24,7 @@ pub enum ReaderWord {
 }
 
 /// What an updater's word stands for.
-#[derive(Clone, Copy, Debug, PartialEq, Eq)]
+#[derive(Clone, Copy)]
 pub enum UpdaterWord {
     /// A verb with its line feed.
     Whole(UpdaterVerb),

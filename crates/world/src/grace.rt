@@ -9,7 +9,7 @@ use rcu_model::Event;
 use world_state::{Answer, GraceState};
 
 /// What a step of a grace period does.
-#[derive(Clone, Copy, Debug, PartialEq, Eq, Drop)]
+#[derive(Drop)]
 pub struct Effect<P> {
     /// What the world keeps of grace periods then.
     pub grace: GraceState,
@@ -20,7 +20,7 @@ pub struct Effect<P> {
 }
 
 /// What a step makes of a grace period.
-#[derive(Clone, Copy, Debug, PartialEq, Eq, Drop)]
+#[derive(Drop)]
 pub struct GraceStep<P> {
     /// Where the grace period stands after it.
     pub core: SyncCore<P>,

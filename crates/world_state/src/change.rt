@@ -9,7 +9,7 @@ use crate::worker::WorkerState;
 use rcu_model::Event;
 
 /// What a step makes of the world.
-#[derive(Clone, Copy, Debug, PartialEq, Eq, Drop)]
+#[derive(Drop)]
 pub enum Change<P> {
     /// One reader's step.
     Read {

@@ -6,7 +6,7 @@ ghost use Rattle.std.specs.Option.{option_or};
 use rcu_model::ObjectId;
 
 /// Where an object is.
-#[derive(Clone, Copy, Debug, PartialEq, Eq, Drop)]
+#[derive(Clone, Copy, Drop)]
 pub enum Stage {
     /// In no chain yet.
     Fresh,
@@ -18,7 +18,7 @@ pub enum Stage {
 
 /// What was done with an object since it was cut. `Retired` and `Reclaimed` are stores of its header, `Queued` is the
 /// push of its item.
-#[derive(Clone, Copy, Debug, PartialEq, Eq, Drop)]
+#[derive(Clone, Copy, Drop)]
 pub enum Life {
     /// Nothing: it is in use, or nobody has retired it.
     Kept,
@@ -31,7 +31,7 @@ pub enum Life {
 }
 
 /// What the world keeps of an object.
-#[derive(Clone, Copy, Debug, PartialEq, Eq, Drop)]
+#[derive(Clone, Copy, Drop)]
 pub struct ObjectState {
     /// The chain that it was pushed into, or put into by a replacement.
     pub chain: u32,
@@ -46,7 +46,7 @@ pub struct ObjectState {
 }
 
 /// What becomes of an object: the store of its header, or, for `Queued`, the push of its item.
-#[derive(Clone, Copy, Debug, PartialEq, Eq, Drop)]
+#[derive(Clone, Copy, Drop)]
 pub struct Mark {
     /// The object that it is about.
     pub object: ObjectId,
@@ -55,7 +55,7 @@ pub struct Mark {
 }
 
 /// One store into a chain: what leaves it and what enters it, between two neighbours.
-#[derive(Clone, Copy, Debug, PartialEq, Eq, Drop)]
+#[derive(Clone, Copy, Drop)]
 pub struct Splice {
     /// The chain that is stored into.
     pub chain: u32,

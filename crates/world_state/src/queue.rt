@@ -23,7 +23,7 @@ pub struct QueueState {
 }
 
 /// What a step changes of a queue.
-#[derive(Clone, Copy, Debug, PartialEq, Eq, Drop)]
+#[derive(Clone, Copy, Drop)]
 pub enum QueueAct {
     /// Leaves it as it is.
     Leave,

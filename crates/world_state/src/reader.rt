@@ -7,7 +7,7 @@ use rcu_model::{Event, ObjectId, Refusal, SectionId};
 use reader_word::{Layout, count, entered, is_open, left, qs_announced, qs_is_online};
 
 /// What the world keeps of a reader.
-#[derive(Clone, Copy, Debug, PartialEq, Eq, Drop)]
+#[derive(Clone, Copy, Drop)]
 pub struct ReaderState {
     /// Its word, which scans load.
     pub word: u64,
@@ -20,7 +20,7 @@ pub struct ReaderState {
 }
 
 /// What a step makes of a reader, and what it answers.
-#[derive(Clone, Copy, Debug, PartialEq, Eq, Drop)]
+#[derive(Clone, Copy, Drop)]
 pub struct ReaderStep {
     /// The reader after it.
     pub state: ReaderState,

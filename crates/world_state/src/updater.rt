@@ -7,7 +7,7 @@ use poll_cookie::Cookie;
 use rcu_model::ObjectId;
 
 /// What an updater is about to publish, between the two steps of `push` or `replace`.
-#[derive(Clone, Copy, Debug, PartialEq, Eq, Drop)]
+#[derive(Clone, Copy, Drop)]
 pub enum Publishing {
     /// This one, at the front of its chain.
     Push(ObjectId),
@@ -16,7 +16,7 @@ pub enum Publishing {
 }
 
 /// What is due next of a retirement, whose queue is locked.
-#[derive(Clone, Copy, Debug, PartialEq, Eq, Drop)]
+#[derive(Clone, Copy, Drop)]
 pub enum RetireStep {
     /// Store the object's header.
     Mark,
@@ -32,7 +32,7 @@ pub enum RetireStep {
 pub const QUEUES: usize = 8;
 
 /// What is due next of a barrier.
-#[derive(Clone, Copy, Debug, PartialEq, Eq, Drop)]
+#[derive(Clone, Copy, Drop)]
 pub enum BarrierStep {
     /// Load the queued count of this queue.
     Note(u32),
@@ -41,7 +41,7 @@ pub enum BarrierStep {
 }
 
 /// A barrier under way, with the queued counts that it has loaded so far.
-#[derive(Clone, Copy, Debug, PartialEq, Eq, Drop)]
+#[derive(Clone, Copy, Drop)]
 pub struct Barrier {
     /// Its number among barriers, from 1.
     pub number: u64,
@@ -52,7 +52,7 @@ pub struct Barrier {
 }
 
 /// Where an updater stands in its operation.
-#[derive(Clone, Copy, Debug, PartialEq, Eq, Drop)]
+#[derive(Clone, Copy, Drop)]
 pub enum UpdaterPlace<P> {
     /// In no operation.
     Idle,
@@ -67,7 +67,7 @@ pub enum UpdaterPlace<P> {
 }
 
 /// An ask that `start` made, and its cookie, which `poll` has not spent.
-#[derive(Clone, Copy, Debug, PartialEq, Eq, Drop)]
+#[derive(Clone, Copy, Drop)]
 pub struct Started {
     /// The number of the ask.
     pub ask: u64,
@@ -76,7 +76,7 @@ pub struct Started {
 }
 
 /// What the world keeps of an updater.
-#[derive(Clone, Copy, Debug, PartialEq, Eq, Drop)]
+#[derive(Clone, Copy, Drop)]
 pub struct UpdaterState<P> {
     /// Where it stands.
     pub place: UpdaterPlace<P>,
@@ -99,7 +99,7 @@ impl<P> UpdaterState<P> {
 }
 
 /// Who may hold the grace lock.
-#[derive(Clone, Copy, Debug, PartialEq, Eq, Drop)]
+#[derive(Clone, Copy, Drop)]
 pub enum Holder {
     /// An updater in `sync`, by its number from 0.
     Updater(u32),
@@ -108,7 +108,7 @@ pub enum Holder {
 }
 
 /// What the world keeps of grace periods.
-#[derive(Clone, Copy, Debug, PartialEq, Eq, Drop)]
+#[derive(Clone, Copy, Drop)]
 pub struct GraceState {
     /// The sequence number: odd while a grace period runs.
     pub seq: u64,

@@ -5,7 +5,7 @@ ghost use Rattle.std.specs.Prelude.{◌≡◌};
 use call_rcu_worker::WorkerCore;
 
 /// What the world keeps of a worker, which runs what the queue of its number holds.
-#[derive(Clone, Copy, Debug, PartialEq, Eq, Drop)]
+#[derive(Clone, Copy, Drop)]
 pub struct WorkerState<P> {
     /// The number of its last ask.
     pub ask: u64,
