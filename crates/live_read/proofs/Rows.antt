@@ -108,9 +108,9 @@ module _ {P K B : Type 0} {g : Ghosts B} where
         (λ other. let was = (c.others s other).0 (claimed_there new s is) in get_other row n s.number (Claimed slot) (λ e. c.was_free s was e) ∙ f.kept s (there_claimed old s was));
     claimed = λ r s at. dite (ℕ_discrete r n)
         (λ e. let same : slot ≡ s = claimed_is slot s (some_is _ _ (sym (get_same row n (Claimed slot) inside) ∙ (ap (slice_get (slice_set row n (Claimed slot))) (sym e) ∙ at))) in
-            subst (λ (z : Slot). (z.number ≡ r) × (is_claimed new z ≡ true) × (bit_in words' r ≡ true)) same (sym e, there_claimed new slot c.claimed, ap (bit_in words') e ∙ t.bit))
+        subst (λ (z : Slot). (z.number ≡ r) × (is_claimed new z ≡ true) × (bit_in words' r ≡ true)) same (sym e, there_claimed new slot c.claimed, ap (bit_in words') e ∙ t.bit))
         (λ far. let was = f.claimed r s (sym (get_other row n r (Claimed slot) far) ∙ at) in
-            (was.0, there_claimed new s ((c.others s (λ e. far (sym was.0 ∙ ap (λ (z : Slot). z.number) e))).1 (claimed_there old s was.1)), t.others r far ∙ was.2));
+        (was.0, there_claimed new s ((c.others s (λ e. far (sym was.0 ∙ ap (λ (z : Slot). z.number) e))).1 (claimed_there old s was.1)), t.others r far ∙ was.2));
     free = λ r p at. dite (ℕ_discrete r n)
         (λ e. absurd (apart slot p (some_is _ _ (sym (get_same row n (Claimed slot) inside) ∙ (ap (slice_get (slice_set row n (Claimed slot))) (sym e) ∙ at)))))
         (λ far. let was = f.free r p (sym (get_other row n r (Claimed slot) far) ∙ at) in (was.0, t.others r far ∙ was.1));
@@ -125,14 +125,14 @@ module _ {P K B : Type 0} {g : Ghosts B} where
     kept = λ s c. either s slot
         (λ e. absurd (b.not_claimed (subst (IsClaimed new) e (claimed_there new s c))))
         (λ other. let was = f.kept s (there_claimed old s ((b.others s other).0 (claimed_there new s c))) in
-            get_other row n s.number (Free p) (λ e. other (claimed_is s slot (some_is _ _ (sym was ∙ (ap (slice_get row) e ∙ at))))) ∙ was);
+        get_other row n s.number (Free p) (λ e. other (claimed_is s slot (some_is _ _ (sym was ∙ (ap (slice_get row) e ∙ at))))) ∙ was);
     claimed = λ r s there. dite (ℕ_discrete r n)
         (λ e. absurd (apart s p (some_is _ _ (sym there ∙ (ap (slice_get (slice_set row n (Free p))) e ∙ get_same row n (Free p) inside)))))
         (λ far. let was = f.claimed r s (sym (get_other row n r (Free p) far) ∙ there) in
-            (was.0, there_claimed new s ((b.others s (λ e. far (sym was.0 ∙ (ap (λ (z : Slot). z.number) e ∙ (f.claimed n slot at).0)))).1 (claimed_there old s was.1)), t.others r far ∙ was.2));
+        (was.0, there_claimed new s ((b.others s (λ e. far (sym was.0 ∙ (ap (λ (z : Slot). z.number) e ∙ (f.claimed n slot at).0)))).1 (claimed_there old s was.1)), t.others r far ∙ was.2));
     free = λ r q there. dite (ℕ_discrete r n)
         (λ e. let same : p ≡ q = free_is p q (some_is _ _ (sym (get_same row n (Free p) inside) ∙ (ap (slice_get (slice_set row n (Free p))) (sym e) ∙ there))) in
-            (subst (λ (z : Parked P K B g). z.slot ≡ r) same (is ∙ sym e), ap (bit_in words') e ∙ t.bit))
+        (subst (λ (z : Parked P K B g). z.slot ≡ r) same (is ∙ sym e), ap (bit_in words') e ∙ t.bit))
         (λ far. let was = f.free r q (sym (get_other row n r (Free p) far) ∙ there) in (was.0, t.others r far ∙ was.1));
   }
     where

@@ -15,4 +15,6 @@ pub use site::Site;
 pub use witness::{Record, Witness, inform};
 
 #[cfg(test)]
+mod registering_tests;
+#[cfg(test)]
 mod tests;
