@@ -1,11 +1,11 @@
 -- How an ask is answered.
-use Rattle.std.proofs.Common.{Bool, true, false, ◌≡◌, ℕ, ◌+◌, ◌<◌, ◌≤◌, [], ◌∷◌, sym, refl, ap, subst, arith, true≢false}
+use Rattle.std.proofs.Common.{Bool, true, false, ◌≡◌, ℕ, ◌<◌, ◌≤◌, [], ◌∷◌, sym, refl, subst, true≢false}
 use Rattle.live_log.specs.declared.event.LiveEvent.{LiveEvent}
 use Rattle.live_log.specs.declared.event.LiveEvent.TheVariants.{Close, SeqEven, SeqOdd}
 use Rattle.live_log.specs.Log.{Log, Begins, Has, HaveEnded, IsBound, IsLiveRun, seq_of}
-use Rattle.live_log.proofs.Lemmas.{begins_trans, ended_before, has_later, is_past, run_of, seq_begins}
+use Rattle.live_log.proofs.Lemmas.{begins_trans, ended_before, has_later, is_past, run_of}
 use Rattle.live_rule.specs.declared.view.View.{View}
-use Rattle.live_rule.specs.Steps.{Precedes, Wrote}
+use Rattle.live_rule.specs.Steps.{Precedes, Wrote, at_log}
 use Rattle.live_grace.specs.Answers.{IsCookieOf, WholeGracePeriod}
 
 -- the bounds of a phase, and of a number, as facts that each flavour has
@@ -32,12 +32,17 @@ module _ (qsbr : Bool) (allows : Log → LiveEvent → Type 0) where
   pub whole_later : (v : View) (log : Log) → WholeGracePeriod qsbr allows v log → Precedes v log × IsLiveRun qsbr allows log
   whole_later v log w = let b = begins_whole v log w in ((begins_trans v.seen w.before log w.after.0 b, begins_trans v.heard w.before log w.after.1 b), w.run)
 
-  pub risen : (v : View) (log : Log) → WholeGracePeriod qsbr allows v log → seq_of v.seen + 2 ≤ seq_of log
-  risen v log w =
-      let a : seq_of v.seen ≤ seq_of w.before = seq_begins v.seen w.before w.after.0 in
-      let b : seq_of w.before + 1 ≤ seq_of w.within = seq_begins (SeqOdd ∷ w.before) w.within w.began in
-      let c : seq_of log ≡ seq_of w.within + 1 = ap seq_of w.over in
-      omega arith
+  -- so it is of a grace period that began after the seat looked at the log
+  pub whole_before : (v : View) (seen log : Log) → Wrote qsbr allows v [] seen → WholeGracePeriod qsbr allows (at_log v seen) log → WholeGracePeriod qsbr allows v log
+  whole_before v seen log looked w = record {
+    before = w.before;
+    within = w.within;
+    after = (begins_trans v.seen seen w.before (begins_trans v.seen looked.0 seen looked.2 ([], looked.1)) w.after.0, w.after.1);
+    began = w.began;
+    over = w.over;
+    ended = w.ended;
+    run = w.run;
+  }
 
   -- a grace period of one's own answers what was asked before
   pub whole_ended : (v : View) (old log : Log) → Begins old v.heard → WholeGracePeriod qsbr allows v log → HaveEnded old log
@@ -48,8 +53,6 @@ module _ (qsbr : Bool) (allows : Log → LiveEvent → Type 0) where
   looked_later v log w = ((begins_trans v.seen w.0 log w.2 ([], w.1), begins_trans v.heard w.0 log w.3 ([], w.1)), w.4)
 
   -- another's answers it where the sequence number is at or above the cookie
-  pub shared_ended : (v : View) (old log : Log) (cookie seq : ℕ) → IsCookieOf old cookie → cookie ≤ seq → seq ≤ seq_of v.seen → Begins old v.heard → Wrote qsbr allows v [] log → HaveEnded old log
-  shared_ended v old log cookie seq fits far low asked w = let later = looked_later v log w in
-      let up : seq_of v.seen ≤ seq_of log = seq_begins v.seen log later.0.0 in
-      let past : cookie ≤ seq_of log = omega arith in
+  pub shared_ended : (v : View) (old log : Log) (cookie : ℕ) → IsCookieOf old cookie → cookie ≤ seq_of log → Begins old v.heard → Wrote qsbr allows v [] log → HaveEnded old log
+  shared_ended v old log cookie fits past asked w = let later = looked_later v log w in
       is_past qsbr allows old cookie fits.0 fits.1 log (begins_trans old v.heard log asked later.0.1) later.1 past

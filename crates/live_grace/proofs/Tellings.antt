@@ -81,6 +81,10 @@ module _ {P : Type 0} (action : P → Action) (taken : P → ℕ → P) where
     pub even_is : (plan : P) (looks : List (ℕ × ℕ)) → Told action taken begun plan looks → (value : ℕ) → action plan ≡ StoreSeq value → value ≡ seq + 2
     even_is plan looks t value is = order.second 0 value t.words (ap action (sym t.is) ∙ is)
 
+    -- by the last store the plan is finished
+    pub told_last : (plan : P) (looks : List (ℕ × ℕ)) → Told action taken begun plan looks → Ended plan → action (taken plan 0) ≡ Finished
+    told_last plan looks t ends = subst (λ p. action (taken p 0) ≡ Finished) (sym t.is) ((order.last (0 ∷ t.words) 0 (λ g. t.unfinished (ap action t.is ∙ g))).1 (ap action (sym t.is) ∙ ends))
+
     -- before the last store all that was loaded tells of no section
     pub refutes : (qsbr : Bool) (slots first : ℕ) → WaitsForOpen qsbr action taken Wide slots first begun → (plan : P) (looks : List (ℕ × ℕ)) → Told action taken begun plan looks → Ended plan
         → (mark : Log) → present_of mark ≡ first → TellsAllEnded qsbr slots mark looks

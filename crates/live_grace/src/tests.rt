@@ -1,7 +1,7 @@
 //! Asks, polls and answers at concrete types of both flavours. Expected words are those of the layout: the sequence number
 //! is word 16, and the phase or number word 32.
 
-use crate::{Answer, GraceWriter, poll, start_poll};
+use crate::{Answer, GraceWriter, ask, poll, start_poll};
 use gp_memb::MembPlan;
 use gp_qsbr::QsbrPlan;
 use live_log::AnyChain;
@@ -16,21 +16,20 @@ fn phases_answer_asks(rt: HostRuntime) {
     let mut other = table.tell(&mut root);
     let mut third = table.tell(&mut root);
     let early = start_poll(&table, &mut root).expect(&rt, "not exhausted");
-    let shared = start_poll(&table, &mut other).expect(&rt, "not exhausted");
+    let own = ask(&table, &mut root).expect(&rt, "not exhausted");
+    let shared = ask(&table, &mut other).expect(&rt, "not exhausted");
     assert!(rt; !poll(&table, &mut third, &early));
-    assert_eq!(rt; writer.answer(&rt, &table, &mut root, &early), Answer::Own);
+    assert_eq!(rt; writer.answer(&rt, &table, &mut root, own), Answer::Own);
     assert!(rt; poll(&table, &mut third, &early));
     assert_eq!(rt; table.words.shared.peek(16), 2);
     assert_eq!(rt; table.words.shared.peek(32), 0);
     assert_eq!(rt;
-        writer.answer(&rt, &table, &mut other, &shared),
+        writer.answer(&rt, &table, &mut other, shared),
         Answer::Shared
     );
     assert_eq!(rt; table.words.shared.peek(16), 2);
-    let late = start_poll(&table, &mut third).expect(&rt, "not exhausted");
-    assert!(rt; !poll(&table, &mut other, &late));
-    assert_eq!(rt; writer.answer(&rt, &table, &mut third, &late), Answer::Own);
-    assert!(rt; poll(&table, &mut other, &late));
+    let late = ask(&table, &mut third).expect(&rt, "not exhausted");
+    assert_eq!(rt; writer.answer(&rt, &table, &mut third, late), Answer::Own);
     assert_eq!(rt; table.words.shared.peek(16), 4);
 }
 
@@ -40,18 +39,8 @@ fn numbers_answer_asks(rt: HostRuntime) {
         &rt, "memory",
     );
     let mut writer = GraceWriter::<QsbrPlan>::new(table.cut_grace(&mut root));
-    let mut other = table.tell(&mut root);
-    let mut third = table.tell(&mut root);
-    let early = start_poll(&table, &mut root).expect(&rt, "not exhausted");
-    let shared = start_poll(&table, &mut other).expect(&rt, "not exhausted");
-    assert!(rt; !poll(&table, &mut third, &early));
-    assert_eq!(rt; writer.answer(&rt, &table, &mut root, &early), Answer::Own);
-    assert!(rt; poll(&table, &mut third, &early));
+    let own = ask(&table, &mut root).expect(&rt, "not exhausted");
+    assert_eq!(rt; writer.answer(&rt, &table, &mut root, own), Answer::Own);
     assert_eq!(rt; table.words.shared.peek(16), 2);
-    assert_eq!(rt; table.words.shared.peek(32), 1);
-    assert_eq!(rt;
-        writer.answer(&rt, &table, &mut other, &shared),
-        Answer::Shared
-    );
     assert_eq!(rt; table.words.shared.peek(32), 1);
 }

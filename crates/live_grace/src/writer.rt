@@ -1,19 +1,21 @@
 //! What the grace lock guards, and how its holder answers an ask.
 ghost use Rattle.std.specs.Prelude.{◌≡◌, ◌+◌, ◌<◌, ◌≤◌, ◌%◌, ◌^◌, true, false, []};
-ghost use Rattle.live_log.specs.Log.{Begins, HaveEnded, IsLiveRun, seq_of};
+ghost use Rattle.call_rcu_worker.specs.declared.sync.SyncCore.TheVariants.{Starts};
+ghost use Rattle.live_log.specs.Log.{Begins, HaveEnded, IsLiveRun};
 ghost use Rattle.live_rule.specs.declared.rights.GraceRight.TheVariants.{Rests};
 ghost use Rattle.live_rule.specs.Steps.{Precedes, at_log};
 ghost use Rattle.live_table.specs.Steps.{Keeps};
 ghost use Rattle.live_grace.specs.Answers.{WholeGracePeriod};
+ghost use Rattle.live_grace.specs.Asks.{cookie_in};
 
-use crate::cookie::LiveCookie;
+use crate::asks::{LiveAsk, go_on};
 use crate::period::grace_period;
+use call_rcu_worker::{SyncCore, Told};
 use gp_memb::GracePlan;
 use live_log::ChainRule;
 use live_rule::LiveSeat;
 use live_table::LiveTable;
 use live_words::load_seq;
-use poll_cookie::is_past;
 use std::marker::PhantomData;
 use std::sync::Wait;
 
@@ -29,7 +31,7 @@ pub struct GraceWriter<P: GracePlan> {
     pub present: u64,
     plan: PhantomData<P>,
     pub ghost rests: { (seat.me.0.grace ≡ Rests seq present) × (seat.me.1 ≡ []) },
-    pub ghost bounds: { (seq % 2 ≡ 0) × (seq ≤ seq_of seat.me.0.seen) × (P.QSBR ≡ false → present < 2) × (P.QSBR ≡ true → present ≤ seq) },
+    pub ghost bounds: { (seq % 2 ≡ 0) × (P.QSBR ≡ false → present < 2) × (P.QSBR ≡ true → present ≤ seq) },
 }
 
 /// Whose grace period answered an ask.
@@ -58,65 +60,69 @@ impl<P: GracePlan + Drop> GraceWriter<P> {
         }
     }
 
-    /// A whole grace period.
-    fn run<K: ChainRule, R: Wait>(&mut self, rt: &R, table: &LiveTable<P, K>)
+    /// A whole grace period, whose steps the core names.
+    fn run<K: ChainRule, R: Wait>(&mut self, rt: &R, table: &LiveTable<P, K>, core: SyncCore<P>)
         requires seat { self.old.seat.table_id ≡ table.now.words.shared.table_id }
+        requires core { core ≡ Starts (cookie_in core) }
         requires low { self.old.seq ≤ 2 ^ 62 }
         ensures seat { Keeps self.old.seat self.new.seat }
         ensures seq { self.new.seq ≡ self.old.seq + 2 }
         ensures period { WholeGracePeriod P.QSBR K.allows self.old.seat.me.0 self.new.seat.me.0.seen }
     {
-        self.present = grace_period(rt, table, &mut self.seat, self.seq, self.present);
+        self.present = grace_period(rt, table, &mut self.seat, core, self.seq, self.present);
         self.seq += 2;
     }
 
-    /// Sees to it that the ask is answered, whose log the seat has heard of: by a look where the sequence number is at or
-    /// above its cookie, and else by a whole grace period.
+    /// Sees to it that the ask is answered, whose log the seat has heard of: by a check where the sequence number that it
+    /// loads is at or above the cookie, and else by a whole grace period.
     fn settle<K: ChainRule, R: Wait>(
         &mut self,
         rt: &R,
         table: &LiveTable<P, K>,
-        cookie: &LiveCookie,
+        ask: LiveAsk<P>,
     ) -> Answer
         requires seat { self.old.seat.table_id ≡ table.now.words.shared.table_id }
-        requires heard { Begins cookie.now.asked.value.me.0.seen self.old.seat.me.0.heard }
+        requires heard { Begins ask.asked.value.me.0.seen self.old.seat.me.0.heard }
         ensures seat { Keeps self.old.seat self.new.seat }
         ensures later { Precedes self.old.seat.me.0 self.new.seat.me.0.seen × IsLiveRun P.QSBR K.allows self.new.seat.me.0.seen }
-        ensures ended { HaveEnded cookie.now.asked.value.me.0.seen self.new.seat.me.0.seen }
-        ensures shared { cookie.now.cookie ≤ self.old.seq → (result ≡ Shared) × (self.new.seq ≡ self.old.seq) × (self.new.present ≡ self.old.present) }
-        ensures own { self.old.seq < cookie.now.cookie → (result ≡ Own) × (self.new.seq ≡ self.old.seq + 2) × WholeGracePeriod P.QSBR K.allows self.old.seat.me.0 self.new.seat.me.0.seen }
+        ensures ended { HaveEnded ask.asked.value.me.0.seen self.new.seat.me.0.seen }
+        ensures shared { cookie_in ask.core ≤ self.old.seq → (result ≡ Shared) × (self.new.seq ≡ self.old.seq) × (self.new.present ≡ self.old.present) }
+        ensures own { self.old.seq < cookie_in ask.core → (result ≡ Own) × (self.new.seq ≡ self.old.seq + 2) × WholeGracePeriod P.QSBR K.allows self.old.seat.me.0 self.new.seat.me.0.seen }
     {
-        if is_past(cookie.cookie, self.seq) {
-            load_seq(table, &mut self.seat);
+        let LiveAsk { mut core, asked: _ } = ask;
+        go_on(&mut core, 0);
+        let checked = load_seq(table, &mut self.seat);
+        if matches!(go_on(&mut core, checked), Told::Answered) {
             return Answer::Shared;
         }
-        self.run(rt, table);
+        self.run(rt, table, core);
         Answer::Own
     }
 
-    /// Answers an ask of the caller, by whoever holds the grace lock: each section that was open in the cookie's log has
-    /// ended in the log that the caller has seen then. Where the sequence number is at or above the cookie, a grace period
-    /// of another's has answered the ask already, and nothing is stored; else a whole one is run, which began after all that
-    /// the caller had seen. That waits for each section that is open at its first store, with a back-off.
+    /// Answers an ask of the caller, by whoever holds the grace lock, as liburcu's `synchronize_rcu` does under it: each
+    /// section that was open in the ask's log has ended in the log that the caller has seen then. Where the sequence number
+    /// is at or above the ask's cookie, a grace period of another's has answered the ask already, and nothing is stored; else
+    /// a whole one is run, which began after all that the caller had seen. That waits for each section that is open at its
+    /// first store, with a back-off.
     pub fn answer<K: ChainRule, R: Wait>(
         &mut self,
         rt: &R,
         table: &LiveTable<P, K>,
         seat: &mut LiveSeat,
-        cookie: &LiveCookie,
+        ask: LiveAsk<P>,
     ) -> Answer
         requires tables { (self.old.seat.table_id ≡ table.now.words.shared.table_id) × (seat.old.table_id ≡ table.now.words.shared.table_id) }
-        requires seen { Begins cookie.now.asked.value.me.0.seen seat.old.me.0.seen }
+        requires seen { Begins ask.asked.value.me.0.seen seat.old.me.0.seen }
         ensures seats { Keeps self.old.seat self.new.seat × Keeps seat.old seat.new }
         ensures only { seat.new.me ≡ (record (at_log seat.old.me.0 seat.new.me.0.seen) { heard = self.new.seat.me.0.seen }, seat.old.me.1) }
         ensures later { Begins seat.old.me.0.seen seat.new.me.0.seen × Begins self.new.seat.me.0.seen seat.new.me.0.seen × IsLiveRun P.QSBR K.allows seat.new.me.0.seen }
-        ensures ended { HaveEnded cookie.now.asked.value.me.0.seen seat.new.me.0.seen }
-        ensures shared { cookie.now.cookie ≤ self.old.seq → (result ≡ Shared) × (self.new.seq ≡ self.old.seq) × (self.new.present ≡ self.old.present) }
-        ensures own { self.old.seq < cookie.now.cookie → (result ≡ Own) × (self.new.seq ≡ self.old.seq + 2) × WholeGracePeriod P.QSBR K.allows (heard_view self.old.seat.me.0 seat.old.me.0) self.new.seat.me.0.seen }
+        ensures ended { HaveEnded ask.asked.value.me.0.seen seat.new.me.0.seen }
+        ensures shared { cookie_in ask.core ≤ self.old.seq → (result ≡ Shared) × (self.new.seq ≡ self.old.seq) × (self.new.present ≡ self.old.present) }
+        ensures own { self.old.seq < cookie_in ask.core → (result ≡ Own) × (self.new.seq ≡ self.old.seq + 2) × WholeGracePeriod P.QSBR K.allows (heard_view self.old.seat.me.0 seat.old.me.0) self.new.seat.me.0.seen }
     {
         let told = table.tell(seat);
         table.learn(&mut self.seat, told);
-        let answer = self.settle(rt, table, cookie);
+        let answer = self.settle(rt, table, ask);
         let told = table.tell(&mut self.seat);
         table.learn(seat, told);
         load_seq(table, seat);

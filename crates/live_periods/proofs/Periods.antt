@@ -17,13 +17,14 @@ use Rattle.live_log.proofs.Lemmas.{begins_before_odd, run_of}
 use Rattle.live_rule.specs.declared.view.Sizes.{Sizes}
 use Rattle.live_rule.specs.declared.view.View.{View}
 use Rattle.live_rule.specs.declared.rights.GraceRight.{GraceRight}
-use Rattle.live_rule.specs.declared.rights.GraceRight.TheVariants.{Rests, Works}
+use Rattle.live_rule.specs.declared.rights.GraceRight.TheVariants.{Nothing, Rests, Works}
 use Rattle.live_rule.specs.Places.{seq_at, present_at, group_at, slot_at, bit_at}
 use Rattle.live_rule.specs.Readers.{Shown, Saw, SawAll}
 use Rattle.live_rule.specs.Rights.{grace, ClaimsGrace, KnowsGrace}
 use Rattle.live_rule.specs.Readers.{Fits}
 use Rattle.live_rule.specs.Rule.{KeepsRule}
 use Rattle.live_rule.specs.Steps.{Wrote, at_log}
+use Rattle.live_table.specs.Rights.{seq_in}
 use Rattle.live_rule.proofs.Lemmas.{saw_later}
 use Rattle.live_rule.proofs.Lemmas.{Apart, low_loads}
 use Rattle.live_periods.specs.Periods.{ShownAll, TellsAllEnded, looked_seq, GraceBecomes, looked_word, presented, began, ended}
@@ -59,6 +60,12 @@ module _ {S : Type 0} (qsbr : Bool) (allows : Log → LiveEvent → Type 0) (key
   granted : (s : State S View) (rule : Rule s) (g : GraceRight) → get_elem? s.views id ≡ some me.0 → me.0.grace ≡ g → ClaimsGrace g → KnowsGrace qsbr key rule.log s.words g
   granted s rule g at is claim = subst (KnowsGrace qsbr key rule.log s.words) is (rule.knows grace id me.0 at (subst ClaimsGrace (sym is) claim))
 
+  -- who has the right knows the sequence number
+  known_seq : (log : Log) (words : List ℕ) (g : GraceRight) → ClaimsGrace g → KnowsGrace qsbr key log words g → seq_of log ≡ seq_in g
+  known_seq log words Nothing c k = absurd c
+  known_seq log words (Rests q t) c k = k.0
+  known_seq log words (Works q t mark looks) c k = k.0
+
   told : (s : State S View) (rule : Rule s) (events : Log) → get_elem? s.views id ≡ some me.0 → IsLiveRun qsbr allows (events ++ rule.log) → Wrote qsbr allows me.0 events (events ++ rule.log)
   told s rule events at run = (rule.log, refl, (rule.seen id me.0 at).0, (rule.seen id me.0 at).1, run)
 
@@ -68,7 +75,7 @@ module _ {S : Type 0} (qsbr : Bool) (allows : Log → LiveEvent → Type 0) (key
     keeps,
     tt,
     low_loads qsbr allows key s r id seq_at me.0 me.0.grace at (λ c. (r.knows grace id me.0 at c, c)),
-    ((refl, told s r [] at r.run), sym r.agree.readers.seq),
+    ((refl, told s r [] at r.run), sym r.agree.readers.seq, λ c. r.agree.readers.seq ∙ known_seq r.log s.words me.0.grace c (r.knows grace id me.0 at c)),
   )
 
   -- a load of any word tells of the sections that were open at the mark

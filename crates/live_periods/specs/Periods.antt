@@ -8,7 +8,9 @@ use Rattle.live_rule.specs.declared.view.View.{View}
 use Rattle.live_rule.specs.declared.rights.GraceRight.{GraceRight}
 use Rattle.live_rule.specs.declared.rights.GraceRight.TheVariants.{Rests, Works}
 use Rattle.live_rule.specs.Readers.{Shown}
+use Rattle.live_rule.specs.Rights.{ClaimsGrace}
 use Rattle.live_rule.specs.Steps.{Wrote, at_log, Looked}
+use Rattle.live_table.specs.Rights.{seq_in}
 
 -- each word that was loaded tells that a section that copied this is open in the slot
 abbrev pub ShownAll : Bool → List (ℕ × ℕ) → ℕ → ℕ → Type 0
@@ -20,9 +22,9 @@ abbrev pub TellsAllEnded : Bool → ℕ → Log → List (ℕ × ℕ) → Type 0
 TellsAllEnded qsbr slots mark looks = (r m : ℕ) → r < slots → MayCopy qsbr (present_of mark) m → ShownAll qsbr looks r m → ⊥
 
 module _ {S : Type 0} (qsbr : Bool) (allows : Log → LiveEvent → Type 0) where
-  -- the sequence number was loaded, by any seat
+  -- the sequence number was loaded, by any seat; the one with the right to the words of grace periods knew it
   abbrev pub looked_seq : Step S → Me S View → ℕ → Me S View → Type 0
-  looked_seq st m n m' = Looked qsbr allows m m' × (seq_of m'.0.seen ≡ n)
+  looked_seq st m n m' = Looked qsbr allows m m' × (seq_of m'.0.seen ≡ n) × (ClaimsGrace m.0.grace → n ≡ seq_in m.0.grace)
 
   -- the seat's right to the words of grace periods is this one now, and these events were written
   abbrev pub GraceBecomes : GraceRight → Log → Me S View → Me S View → Type 0

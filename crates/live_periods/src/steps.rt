@@ -4,6 +4,7 @@ ghost use Rattle.live_log.specs.declared.event.LiveEvent.TheVariants.{Present, S
 ghost use Rattle.live_log.specs.Log.{HaveEnded, MayBePresent, before_odd, present_of, seq_of};
 ghost use Rattle.live_rule.specs.declared.rights.GraceRight.TheVariants.{Rests, Works};
 ghost use Rattle.live_rule.specs.Places.{group_at, slot_at};
+ghost use Rattle.live_rule.specs.Rights.{ClaimsGrace};
 ghost use Rattle.live_rule.specs.Steps.{Looked};
 ghost use Rattle.live_table.specs.Steps.{Keeps};
 ghost use Rattle.live_table.specs.Rights.{IsResting, IsWorking, before_in, looks_in, present_in, seq_in};
@@ -15,12 +16,14 @@ use live_log::ChainRule;
 use live_rule::LiveSeat;
 use live_table::LiveTable;
 
-/// Loads the sequence number, by any seat. It never waits.
+/// Loads the sequence number, by any seat. It is the one that the seat knew, where that has the right to the words of grace
+/// periods. It never waits.
 pub fn load_seq<P: GracePlan, K: ChainRule>(table: &LiveTable<P, K>, seat: &mut LiveSeat) -> u64
     requires { seat.old.table_id ≡ table.now.words.shared.table_id }
     ensures seat { Keeps seat.old seat.new }
     ensures looked { Looked P.QSBR K.allows seat.old.me seat.new.me }
     ensures seq { seq_of seat.new.me.0.seen ≡ result }
+    ensures known { ClaimsGrace seat.old.me.0.grace → result ≡ seq_in seat.old.me.0.grace }
 {
     let place = table.seq_place();
     table.words.shared.load::<LooksSeq<P, K>>(seat, place)

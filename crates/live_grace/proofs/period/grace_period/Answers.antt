@@ -1,7 +1,9 @@
-use Rattle.std.proofs.Common.{rules, ◌≡◌, ℕ, ◌+◌, List, true, [], ◌∷◌, arith, sym, ap, ◌∙◌, subst}
+use Rattle.std.proofs.Common.{rules, ◌≡◌, ℕ, ◌+◌, List, true, [], ◌∷◌, arith, sym, refl, ap, ◌∙◌, subst}
 use Rattle.reader_word.specs.declared.layout.Layout.TheVariants.{Wide}
+use Rattle.gp_memb.specs.declared.plan.Action.{Action}
 use Rattle.gp_memb.specs.declared.plan.Action.TheVariants.{StorePhase, StoreSeq}
-use Rattle.gp_memb.specs.Plan.{present_after}
+use Rattle.gp_memb.specs.Plan.{present_after, turn_at}
+use Rattle.call_rcu_worker.specs.declared.sync.SyncCore.TheVariants.{Runs}
 use Rattle.live_log.specs.Log.{MayBePresent, before_odd}
 use Rattle.live_log.specs.declared.event.LiveEvent.TheVariants.{SeqOdd, SeqEven, Present}
 use Rattle.live_rule.specs.declared.rights.GraceRight.TheVariants.{Rests, Works}
@@ -11,78 +13,100 @@ use Rattle.live_rule.specs.Steps.{at_log}
 use Rattle.live_table.specs.Rights.{looks_in, before_in, seq_in, present_in}
 use Rattle.live_periods.specs.Periods.{GraceBecomes}
 use Rattle.live_log.specs.Log.{IsBound}
+use Rattle.live_grace.specs.Asks.{cookie_in}
 use Rattle.live_grace.specs.Going.{Begun}
-use Rattle.live_grace.proofs.Tellings.{told_first, even_is, refutes}
+use Rattle.live_grace.proofs.Tellings.{told_first, told_last, even_is, refutes}
 use Rattle.live_grace.proofs.Goings.{starts_going, goes_on, whole, stored_turn, only_after}
+use Rattle.live_grace.proofs.Cores.{answers, begins_with, due_is, runs_on, seq_is}
 use Rattle.live_grace.proofs.Cases.{Laws, after_load, after_group, after_store, in_loop, named, may_start, bound_next, bound_turn, at_most, turn_low}
 use Rattle.live_grace.proofs.period.grace_period.Given as given
+use Rattle.live_grace.proofs.period.grace_period.Goals.{in-Answered, in_default-matches}
 use Rattle.live_grace.proofs.period.grace_period.Goals as goal
 
 laws : (g : given.Over) (slots seq number : ℕ) → Laws (g.P.GracePlan.is_begun Wide true slots seq number) g.P.GracePlan.action g.P.GracePlan.taken g.P.GracePlan.present seq
 laws g slots seq number = record { order = λ start begun. g.met.P.GracePlan.order Wide true slots seq number start begun; presents = g.met.P.GracePlan.presents }
 
-pub start-plan-requires-clause-word : goal.start-plan-requires-clause-word
-start-plan-requires-clause-word g c = turn_low g.P.GracePlan.QSBR c.args.seq c.args.first c.requires.right.2 c.requires.right.3
+pub start-requires-clause-word : goal.start-requires-clause-word
+start-requires-clause-word g c = turn_low g.P.GracePlan.QSBR c.args.seq c.args.first c.requires.right.2 c.requires.right.3
+
+pub begin-requires-clause-begun : goal.begin-requires-clause-begun
+begin-requires-clause-begun g c = record { layout = Wide; grouped = true; slots = c.args.table.now.slots; seq = c.args.seq; word = c.args.first; begun = c.start.ensures }
 
 pub loop-init : goal.loop-init
 loop-init g c = let p = g.P.GracePlan in let m = g.met.P.GracePlan in let slots : ℕ = c.args.table.now.slots in let seq : ℕ = c.args.seq in let number : ℕ = c.args.first in
-    let start = c.start-plan.result in
-    let begun = c.start-plan.ensures in
+    let start = c.start.result in
+    let begun = c.start.ensures in
     let l = laws g slots seq number in
     let order = l.order start begun in
+    let runs : c.begin.new.self ≡ Runs (cookie_in c.args.core) start = begins_with c.args.core c.begin.new.self (cookie_in c.args.core) start c.requires.core c.begin.ensures in
+    let first = due_is p.action c.begin.new.self (cookie_in c.args.core) start c.next.result c.in-Plan-StoreSeq.field-0 runs c.next.ensures c.in-Plan-StoreSeq.is in
+    let odd : c.in-Plan-StoreSeq.odd ≡ seq + 1 = seq_is c.in-Plan-StoreSeq.odd (seq + 1) (sym c.in-Plan-StoreSeq.field-0-is ∙ (sym first ∙ order.first)) in
     let was : present_in c.args.seat.now.me.0.grace ≡ number = ap present_in c.requires.right.0 in
     let new = c.store_odd.new.seat.me in
-    let graced = subst (λ (t : ℕ). GraceBecomes p.QSBR g.K.ChainRule.allows (Works (seq + 1) t (before_odd new.0.seen) []) (SeqOdd ∷ []) c.args.seat.now.me new) was c.store_odd.ensures.began in
+    let graced = subst (λ (z : ℕ × ℕ). GraceBecomes p.QSBR g.K.ChainRule.allows (Works z.0 z.1 (before_odd new.0.seen) []) (SeqOdd ∷ []) c.args.seat.now.me new) (λ i. (odd i, was i)) c.store_odd.ensures.began in
     let go = starts_going p.QSBR g.K.ChainRule.allows c.args.seat.now.me (seq + 1) number new graced (c.store_odd.ensures.present ∙ was) in
     let present = m.begins Wide true slots seq number start begun (may_start p.QSBR seq number c.requires.right.3) in
-    let same = sym (ap p.present c.take.ensures.taken ∙ (m.presents start 0 ∙ (ap (present_after (p.present start)) order.first ∙ present))) in (
+    let same = sym (m.presents start 0 ∙ (ap (present_after (p.present start)) order.first ∙ present)) in
+    let told = told_first p.action p.taken seq start order in (
       search rules,
       search rules,
-      same,
-      in_loop (p.is_begun Wide true slots seq number) p.action p.taken p.present seq p.QSBR g.K.ChainRule.allows c.args.seat.now.me number number [] c.take.new.self new go
-          same
-          (record { start = start; begun = begun; told = subst (λ q. Rattle.live_grace.specs.Going.Told p.action p.taken start q []) (sym c.take.ensures.taken) (told_first p.action p.taken seq start order) })
-          (bound_next p.QSBR seq number c.requires.right.3),
+      (
+        p.taken start 0,
+        runs_on p.action p.turn p.taken m.still (cookie_in c.args.core) start 0 c.begin.new.self c.go_on.new.core c.go_on.result runs c.go_on.ensures told.unfinished,
+        same,
+        in_loop (p.is_begun Wide true slots seq number) p.action p.taken p.present seq p.QSBR g.K.ChainRule.allows c.args.seat.now.me number number [] (p.taken start 0) new go
+            same
+            (record { start = start; begun = begun; told = told })
+            (bound_next p.QSBR seq number c.requires.right.3),
+      ),
     )
 
 pub load_slot-word-requires-clause-seat : goal.load_slot-word-requires-clause-seat
-load_slot-word-requires-clause-seat g c = let p = g.P.GracePlan in let inv = c.loop.invariant in let slots : ℕ = c.args.table.now.slots in let b = inv.3.1 in
-    (inv.0, g.met.P.GracePlan.in_range Wide true slots c.args.seq c.args.first b.start b.begun (0 ∷ b.told.words) c.in-Load.slot (ap p.action (sym b.told.is) ∙ (sym c.next-in-loop.ensures ∙ c.in-Load.is)))
+load_slot-word-requires-clause-seat g c = let p = g.P.GracePlan in let inv = c.loop.invariant in let slots : ℕ = c.args.table.now.slots in let b = inv.2.3.1 in
+    (inv.0, g.met.P.GracePlan.in_range Wide true slots c.args.seq c.args.first b.start b.begun (0 ∷ b.told.words) c.in-Load.slot (ap p.action (sym b.told.is) ∙ (due_is p.action c.loop.core (cookie_in c.args.core) inv.2.0 c.next-in-loop-2.result c.in-Plan.action inv.2.1 c.next-in-loop-2.ensures c.in-Plan.is ∙ c.in-Load.is)))
 
 pub loop-preserved-in-Load : goal.loop-preserved-in-Load
 loop-preserved-in-Load g c = let p = g.P.GracePlan in let inv = c.loop.invariant in let slots : ℕ = c.args.table.now.slots in let seq : ℕ = c.args.seq in let number : ℕ = c.args.first in
-    let go = inv.3.0 in let b = inv.3.1 in let x : ℕ × ℕ = (slot_at c.in-Load.slot, c.load_slot-word.result) in
+    let go = inv.2.3.0 in let b = inv.2.3.1 in let x : ℕ × ℕ = (slot_at c.in-Load.slot, c.load_slot-word.result) in
     let begins = p.is_begun Wide true slots seq number in
-    let now = c.loop.seat.me in let plan = c.loop.plan in
-    let after = after_load begins p.action p.taken p.present seq (laws g slots seq number) plan c.take-in-Load.new.self (looks_in now.0.grace) b c.in-Load.slot c.load_slot-word.result (sym c.next-in-loop.ensures ∙ c.in-Load.is) c.take-in-Load.ensures.taken in (
+    let now = c.loop.seat.me in let plan = inv.2.0 in
+    let after = after_load begins p.action p.taken p.present seq (laws g slots seq number) plan (p.taken plan c.load_slot-word.result) (looks_in now.0.grace) b c.in-Load.slot c.load_slot-word.result (due_is p.action c.loop.core (cookie_in c.args.core) inv.2.0 c.next-in-loop-2.result c.in-Plan.action inv.2.1 c.next-in-loop-2.ensures c.in-Plan.is ∙ c.in-Load.is) refl in (
       search rules,
       search rules,
-      inv.2 ∙ after.0,
-      in_loop begins p.action p.taken p.present seq p.QSBR g.K.ChainRule.allows c.args.seat.now.me number (p.present plan) (x ∷ looks_in now.0.grace) c.take-in-Load.new.self c.load_slot-word.new.seat.me
-          (goes_on p.QSBR g.K.ChainRule.allows c.args.seat.now.me (seq + 1) number (p.present plan) (p.present plan) (looks_in now.0.grace) (x ∷ looks_in now.0.grace) _ [] now c.load_slot-word.new.seat.me go
-          (named begins p.action p.taken p.present seq p.QSBR g.K.ChainRule.allows c.args.seat.now.me number (p.present plan) (looks_in now.0.grace) now go x) c.load_slot-word.ensures.looked)
-          after.0 after.1 inv.3.2,
+      (
+        p.taken plan c.load_slot-word.result,
+        runs_on p.action p.turn p.taken g.met.P.GracePlan.still (cookie_in c.args.core) plan c.load_slot-word.result c.loop.core c.go_on-in-Load.new.core c.go_on-in-Load.result inv.2.1 c.go_on-in-Load.ensures after.1.told.unfinished,
+        inv.2.2 ∙ after.0,
+        in_loop begins p.action p.taken p.present seq p.QSBR g.K.ChainRule.allows c.args.seat.now.me number (p.present plan) (x ∷ looks_in now.0.grace) (p.taken plan c.load_slot-word.result) c.load_slot-word.new.seat.me
+            (goes_on p.QSBR g.K.ChainRule.allows c.args.seat.now.me (seq + 1) number (p.present plan) (p.present plan) (looks_in now.0.grace) (x ∷ looks_in now.0.grace) _ [] now c.load_slot-word.new.seat.me go
+            (named begins p.action p.taken p.present seq p.QSBR g.K.ChainRule.allows c.args.seat.now.me number (p.present plan) (looks_in now.0.grace) now go x) c.load_slot-word.ensures.looked)
+            after.0 after.1 inv.2.3.2,
+      ),
     )
 
 pub load_group-word-requires-clause-seat : goal.load_group-word-requires-clause-seat
-load_group-word-requires-clause-seat g c = let p = g.P.GracePlan in let inv = c.loop.invariant in let slots : ℕ = c.args.table.now.slots in let b = inv.3.1 in
-    let low = g.met.P.GracePlan.in_groups Wide true slots c.args.seq c.args.first b.start b.begun (0 ∷ b.told.words) c.in-LoadGroup.group (ap p.action (sym b.told.is) ∙ (sym c.next-in-loop.ensures ∙ c.in-LoadGroup.is)) in
+load_group-word-requires-clause-seat g c = let p = g.P.GracePlan in let inv = c.loop.invariant in let slots : ℕ = c.args.table.now.slots in let b = inv.2.3.1 in
+    let low = g.met.P.GracePlan.in_groups Wide true slots c.args.seq c.args.first b.start b.begun (0 ∷ b.told.words) c.in-LoadGroup.group (ap p.action (sym b.told.is) ∙ (due_is p.action c.loop.core (cookie_in c.args.core) inv.2.0 c.next-in-loop-2.result c.in-Plan.action inv.2.1 c.next-in-loop-2.ensures c.in-Plan.is ∙ c.in-LoadGroup.is)) in
     let small = c.args.table.now.sized.1 in
     (inv.0, omega arith)
 
 pub loop-preserved-in-LoadGroup : goal.loop-preserved-in-LoadGroup
 loop-preserved-in-LoadGroup g c = let p = g.P.GracePlan in let inv = c.loop.invariant in let slots : ℕ = c.args.table.now.slots in let seq : ℕ = c.args.seq in let number : ℕ = c.args.first in
-    let go = inv.3.0 in let b = inv.3.1 in let x : ℕ × ℕ = (group_at c.in-LoadGroup.group, c.load_group-word.result) in
+    let go = inv.2.3.0 in let b = inv.2.3.1 in let x : ℕ × ℕ = (group_at c.in-LoadGroup.group, c.load_group-word.result) in
     let begins = p.is_begun Wide true slots seq number in
-    let now = c.loop.seat.me in let plan = c.loop.plan in
-    let after = after_group begins p.action p.taken p.present seq (laws g slots seq number) plan c.take-in-LoadGroup.new.self (looks_in now.0.grace) b c.in-LoadGroup.group c.load_group-word.result (sym c.next-in-loop.ensures ∙ c.in-LoadGroup.is) c.take-in-LoadGroup.ensures.taken in (
+    let now = c.loop.seat.me in let plan = inv.2.0 in
+    let after = after_group begins p.action p.taken p.present seq (laws g slots seq number) plan (p.taken plan c.load_group-word.result) (looks_in now.0.grace) b c.in-LoadGroup.group c.load_group-word.result (due_is p.action c.loop.core (cookie_in c.args.core) inv.2.0 c.next-in-loop-2.result c.in-Plan.action inv.2.1 c.next-in-loop-2.ensures c.in-Plan.is ∙ c.in-LoadGroup.is) refl in (
       search rules,
       search rules,
-      inv.2 ∙ after.0,
-      in_loop begins p.action p.taken p.present seq p.QSBR g.K.ChainRule.allows c.args.seat.now.me number (p.present plan) (x ∷ looks_in now.0.grace) c.take-in-LoadGroup.new.self c.load_group-word.new.seat.me
-          (goes_on p.QSBR g.K.ChainRule.allows c.args.seat.now.me (seq + 1) number (p.present plan) (p.present plan) (looks_in now.0.grace) (x ∷ looks_in now.0.grace) _ [] now c.load_group-word.new.seat.me go
-          (named begins p.action p.taken p.present seq p.QSBR g.K.ChainRule.allows c.args.seat.now.me number (p.present plan) (looks_in now.0.grace) now go x) c.load_group-word.ensures.looked)
-          after.0 after.1 inv.3.2,
+      (
+        p.taken plan c.load_group-word.result,
+        runs_on p.action p.turn p.taken g.met.P.GracePlan.still (cookie_in c.args.core) plan c.load_group-word.result c.loop.core c.go_on-in-LoadGroup.new.core c.go_on-in-LoadGroup.result inv.2.1 c.go_on-in-LoadGroup.ensures after.1.told.unfinished,
+        inv.2.2 ∙ after.0,
+        in_loop begins p.action p.taken p.present seq p.QSBR g.K.ChainRule.allows c.args.seat.now.me number (p.present plan) (x ∷ looks_in now.0.grace) (p.taken plan c.load_group-word.result) c.load_group-word.new.seat.me
+            (goes_on p.QSBR g.K.ChainRule.allows c.args.seat.now.me (seq + 1) number (p.present plan) (p.present plan) (looks_in now.0.grace) (x ∷ looks_in now.0.grace) _ [] now c.load_group-word.new.seat.me go
+            (named begins p.action p.taken p.present seq p.QSBR g.K.ChainRule.allows c.args.seat.now.me number (p.present plan) (looks_in now.0.grace) now go x) c.load_group-word.ensures.looked)
+            after.0 after.1 inv.2.3.2,
+      ),
     )
 
 -- the store of a phase or number is one that the rule allows
@@ -92,26 +116,30 @@ may_turn g slots seq number value plan looks b low does = let p = g.P.GracePlan 
     stored_turn p.QSBR seq number (p.present plan) value (m.stores Wide true slots seq number b.start b.begun (0 ∷ b.told.words) value (ap p.action (sym b.told.is) ∙ does)) (λ q. m.rises plan value q does) (at_most p.QSBR seq number low)
 
 pub store_present-requires-clause-right : goal.store_present-requires-clause-right
-store_present-requires-clause-right g c = let inv = c.loop.invariant in let go = inv.3.0 in (
+store_present-requires-clause-right g c = let inv = c.loop.invariant in let go = inv.2.3.0 in (
   search rules,
   subst (λ (z : ℕ × ℕ). MayBePresent g.P.GracePlan.QSBR z.0 z.1 c.in-StorePhase.value) (λ i. (sym (ap seq_in go.is) i, sym (ap present_in go.is) i))
-      (may_turn g c.args.table.now.slots c.args.seq c.args.first c.in-StorePhase.value c.loop.plan (looks_in c.loop.seat.me.0.grace) inv.3.1 c.requires.right.3 (sym c.next-in-loop.ensures ∙ c.in-StorePhase.is)),
+      (may_turn g c.args.table.now.slots c.args.seq c.args.first c.in-StorePhase.value inv.2.0 (looks_in c.loop.seat.me.0.grace) inv.2.3.1 c.requires.right.3 (due_is g.P.GracePlan.action c.loop.core (cookie_in c.args.core) inv.2.0 c.next-in-loop-2.result c.in-Plan.action inv.2.1 c.next-in-loop-2.ensures c.in-Plan.is ∙ c.in-StorePhase.is)),
 )
 
-pub loop-preserved : goal.loop-preserved
-loop-preserved g c = let p = g.P.GracePlan in let inv = c.loop.invariant in let slots : ℕ = c.args.table.now.slots in let seq : ℕ = c.args.seq in let number : ℕ = c.args.first in
-    let go = inv.3.0 in let b = inv.3.1 in let value : ℕ = c.in-StorePhase.value in
+pub loop-preserved-in-StorePhase : goal.loop-preserved-in-StorePhase
+loop-preserved-in-StorePhase g c = let p = g.P.GracePlan in let inv = c.loop.invariant in let slots : ℕ = c.args.table.now.slots in let seq : ℕ = c.args.seq in let number : ℕ = c.args.first in
+    let go = inv.2.3.0 in let b = inv.2.3.1 in let value : ℕ = c.in-StorePhase.value in
     let begins = p.is_begun Wide true slots seq number in
-    let now = c.loop.seat.me in let plan = c.loop.plan in
-    let does = sym c.next-in-loop.ensures ∙ c.in-StorePhase.is in
-    let after = after_store begins p.action p.taken p.present seq (laws g slots seq number) plan c.take-in-StorePhase.new.self (looks_in now.0.grace) b value does c.take-in-StorePhase.ensures.taken in (
+    let now = c.loop.seat.me in let plan = inv.2.0 in
+    let does = (due_is p.action c.loop.core (cookie_in c.args.core) inv.2.0 c.next-in-loop-2.result c.in-Plan.action inv.2.1 c.next-in-loop-2.ensures c.in-Plan.is ∙ c.in-StorePhase.is) in
+    let after = after_store begins p.action p.taken p.present seq (laws g slots seq number) plan (p.taken plan 0) (looks_in now.0.grace) b value does refl in (
       search rules,
       search rules,
-      after.0,
-      in_loop begins p.action p.taken p.present seq p.QSBR g.K.ChainRule.allows c.args.seat.now.me number value (looks_in now.0.grace) c.take-in-StorePhase.new.self c.store_present.new.seat.me
-          (goes_on p.QSBR g.K.ChainRule.allows c.args.seat.now.me (seq + 1) number (p.present plan) value (looks_in now.0.grace) (looks_in now.0.grace) _ (Present value ∷ []) now c.store_present.new.seat.me go
-          (λ i. Works (ap seq_in go.is i) value (before_in now.0.grace) (looks_in now.0.grace)) c.store_present.ensures.presented)
-          after.0 after.1 (bound_turn p.QSBR (seq + 1) (p.present plan) value (may_turn g slots seq number value plan (looks_in now.0.grace) b c.requires.right.3 does)),
+      (
+        p.taken plan 0,
+        runs_on p.action p.turn p.taken g.met.P.GracePlan.still (cookie_in c.args.core) plan 0 c.loop.core c.go_on-in-StorePhase.new.core c.go_on-in-StorePhase.result inv.2.1 c.go_on-in-StorePhase.ensures after.1.told.unfinished,
+        after.0,
+        in_loop begins p.action p.taken p.present seq p.QSBR g.K.ChainRule.allows c.args.seat.now.me number value (looks_in now.0.grace) (p.taken plan 0) c.store_present.new.seat.me
+            (goes_on p.QSBR g.K.ChainRule.allows c.args.seat.now.me (seq + 1) number (p.present plan) value (looks_in now.0.grace) (looks_in now.0.grace) _ (Present value ∷ []) now c.store_present.new.seat.me go
+            (λ i. Works (ap seq_in go.is i) value (before_in now.0.grace) (looks_in now.0.grace)) c.store_present.ensures.presented)
+            after.0 after.1 (bound_turn p.QSBR (seq + 1) (p.present plan) value (may_turn g slots seq number value plan (looks_in now.0.grace) b c.requires.right.3 does)),
+      ),
     )
 
 even_of : (g : given.Over) (slots seq number value : ℕ) (plan : g.row.P.Denot) (looks : List (ℕ × ℕ)) → Begun (g.P.GracePlan.is_begun Wide true slots seq number) g.P.GracePlan.action g.P.GracePlan.taken plan looks
@@ -119,33 +147,47 @@ even_of : (g : given.Over) (slots seq number value : ℕ) (plan : g.row.P.Denot)
 even_of g slots seq number value plan looks b does = even_is g.P.GracePlan.action g.P.GracePlan.taken seq b.start ((laws g slots seq number).order b.start b.begun) plan looks b.told value does
 
 pub store_even-requires-clause-right : goal.store_even-requires-clause-right
-store_even-requires-clause-right g c = let inv = c.loop.invariant in let go = inv.3.0 in
-    let e = even_of g c.args.table.now.slots c.args.seq c.args.first c.in-StoreSeq.value c.loop.plan (looks_in c.loop.seat.me.0.grace) inv.3.1 (sym c.next-in-loop.ensures ∙ c.in-StoreSeq.is) in
+store_even-requires-clause-right g c = let inv = c.loop.invariant in let go = inv.2.3.0 in
+    let e = even_of g c.args.table.now.slots c.args.seq c.args.first c.in-StoreSeq.value inv.2.0 (looks_in c.loop.seat.me.0.grace) inv.2.3.1 (due_is g.P.GracePlan.action c.loop.core (cookie_in c.args.core) inv.2.0 c.next-in-loop-2.result c.in-Plan.action inv.2.1 c.next-in-loop-2.ensures c.in-Plan.is ∙ c.in-StoreSeq.is) in
     let s : seq_in c.loop.seat.me.0.grace ≡ c.args.seq + 1 = ap seq_in go.is in
     (search rules, omega arith)
 
 pub store_even-requires-clause-loads : goal.store_even-requires-clause-loads
-store_even-requires-clause-loads g c = let p = g.P.GracePlan in let inv = c.loop.invariant in let go = inv.3.0 in let b = inv.3.1 in
+store_even-requires-clause-loads g c = let p = g.P.GracePlan in let inv = c.loop.invariant in let go = inv.2.3.0 in let b = inv.2.3.1 in
     let slots : ℕ = c.args.table.now.slots in let seq : ℕ = c.args.seq in let number : ℕ = c.args.first in
-    let does = sym c.next-in-loop.ensures ∙ c.in-StoreSeq.is in
-    let e = even_of g slots seq number c.in-StoreSeq.value c.loop.plan (looks_in c.loop.seat.me.0.grace) b does in
-    refutes p.action p.taken seq b.start ((laws g slots seq number).order b.start b.begun) p.QSBR slots number (g.met.P.GracePlan.waits Wide true slots seq number b.start b.begun) c.loop.plan (looks_in c.loop.seat.me.0.grace) b.told (does ∙ ap StoreSeq e)
+    let does = (due_is p.action c.loop.core (cookie_in c.args.core) inv.2.0 c.next-in-loop-2.result c.in-Plan.action inv.2.1 c.next-in-loop-2.ensures c.in-Plan.is ∙ c.in-StoreSeq.is) in
+    let e = even_of g slots seq number c.in-StoreSeq.value inv.2.0 (looks_in c.loop.seat.me.0.grace) b does in
+    refutes p.action p.taken seq b.start ((laws g slots seq number).order b.start b.begun) p.QSBR slots number (g.met.P.GracePlan.waits Wide true slots seq number b.start b.begun) inv.2.0 (looks_in c.loop.seat.me.0.grace) b.told (does ∙ ap StoreSeq e)
     (before_in c.loop.seat.me.0.grace) go.began
 
-pub returns-in-StoreSeq-clause-right : goal.returns-in-StoreSeq-clause-right
-returns-in-StoreSeq-clause-right g c = let inv = c.loop.invariant in let go = inv.3.0 in let p = g.P.GracePlan in let now = c.store_even.new.seat.me in
-    let e = even_of g c.args.table.now.slots c.args.seq c.args.first c.in-StoreSeq.value c.loop.plan (looks_in c.loop.seat.me.0.grace) inv.3.1 (sym c.next-in-loop.ensures ∙ c.in-StoreSeq.is) in
+pub returns-then-matches-clause-right : goal.returns-then-matches-clause-right
+returns-then-matches-clause-right g c = let inv = c.loop.invariant in let go = inv.2.3.0 in let p = g.P.GracePlan in let now = c.store_even.new.seat.me in
+    let e = even_of g c.args.table.now.slots c.args.seq c.args.first c.in-StoreSeq.value inv.2.0 (looks_in c.loop.seat.me.0.grace) inv.2.3.1 (due_is p.action c.loop.core (cookie_in c.args.core) inv.2.0 c.next-in-loop-2.result c.in-Plan.action inv.2.1 c.next-in-loop-2.ensures c.in-Plan.is ∙ c.in-StoreSeq.is) in
     let g' = c.store_even.ensures.ended.0 in
-    let last : present_in c.loop.seat.me.0.grace ≡ c.loop.present = ap present_in go.is ∙ sym inv.2 in
+    let last : present_in c.loop.seat.me.0.grace ≡ c.loop.present = ap present_in go.is ∙ sym inv.2.2 in
     let right : now.0.grace ≡ Rests (c.args.seq + 2) c.loop.present = ap (λ m. m.0.grace) g' ∙ (λ i. Rests (e i) (last i)) in
     let only = only_after p.QSBR g.K.ChainRule.allows c.args.seat.now.me _ (SeqEven ∷ []) c.loop.seat.me now go.only c.store_even.ensures.ended in (
       only ∙ ap (λ (x : GraceRight). (record (at_log c.args.seat.now.me.0 now.0.seen) { grace = x }, c.args.seat.now.me.1)) right,
-      subst (IsBound p.QSBR (c.args.seq + 2)) (sym inv.2) (subst (λ (n : ℕ). IsBound p.QSBR n (p.present c.loop.plan)) two (bound_next p.QSBR (c.args.seq + 1) (p.present c.loop.plan) inv.3.2)),
+      subst (IsBound p.QSBR (c.args.seq + 2)) (sym inv.2.2) (subst (λ (n : ℕ). IsBound p.QSBR n (p.present inv.2.0)) two (bound_next p.QSBR (c.args.seq + 1) (p.present inv.2.0) inv.2.3.2)),
     )
   where
     two : c.args.seq + 1 + 1 ≡ c.args.seq + 2
     two = omega arith
 
-pub returns-in-StoreSeq-clause-period : goal.returns-in-StoreSeq-clause-period
-returns-in-StoreSeq-clause-period g c = let inv = c.loop.invariant in let go = inv.3.0 in
-    whole g.P.GracePlan.QSBR g.K.ChainRule.allows c.args.seat.now.me (c.args.seq + 1) c.args.first (g.P.GracePlan.present c.loop.plan) (looks_in c.loop.seat.me.0.grace) _ c.loop.seat.me c.store_even.new.seat.me go c.store_even.ensures.ended c.store_even.ensures.cleared
+pub returns-then-matches-clause-period : goal.returns-then-matches-clause-period
+returns-then-matches-clause-period g c = let inv = c.loop.invariant in let go = inv.2.3.0 in
+    whole g.P.GracePlan.QSBR g.K.ChainRule.allows c.args.seat.now.me (c.args.seq + 1) c.args.first (g.P.GracePlan.present inv.2.0) (looks_in c.loop.seat.me.0.grace) _ c.loop.seat.me c.store_even.new.seat.me go c.store_even.ensures.ended c.store_even.ensures.cleared
+
+-- the last store answers the ask
+pub loop-preserved : goal.loop-preserved
+loop-preserved g c = let p = g.P.GracePlan in let m = g.met.P.GracePlan in let inv = c.loop.invariant in let plan = inv.2.0 in let b = inv.2.3.1 in
+    let slots : ℕ = c.args.table.now.slots in let seq : ℕ = c.args.seq in
+    let does : p.action plan ≡ StoreSeq c.in-StoreSeq.value = due_is p.action c.loop.core (cookie_in c.args.core) plan c.next-in-loop-2.result c.in-Plan.action inv.2.1 c.next-in-loop-2.ensures c.in-Plan.is ∙ c.in-StoreSeq.is in
+    let steps = m.exact plan 0 ∙ ap (λ (a : Action). turn_at p.QSBR (p.layout_of plan) (p.present plan) a 0) does in
+    let e = even_of g slots seq c.args.first c.in-StoreSeq.value plan (looks_in c.loop.seat.me.0.grace) b does in
+    let ends = told_last p.action p.taken seq b.start ((laws g slots seq c.args.first).order b.start b.begun) plan (looks_in c.loop.seat.me.0.grace) b.told (does ∙ ap StoreSeq e) in
+    let over = answers p.action p.turn p.taken (cookie_in c.args.core) plan 0 c.loop.core c.go_on-in-StoreSeq.new.core c.go_on-in-StoreSeq.result inv.2.1 c.go_on-in-StoreSeq.ensures steps ends in
+    absurd (elim c.match-matches.branch [
+      | in-Answered w ↦ search rules
+      | in_default-matches w ↦ search rules
+    ])
