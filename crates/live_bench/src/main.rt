@@ -1,0 +1,112 @@
+#![tactic(auto)]
+//! Operations of the library over live threads, one after the other, for the benchmark: `live_bench FLAVOUR KIND COUNT`.
+//! With two readers, each in a thread of its own, `section-by-two` and the like.
+
+ghost use Rattle.std.specs.Prelude.{◌≡◌};
+
+mod reading;
+mod waiting;
+
+use domain::{LiveConfig, Opened, Site};
+use gp_memb::{GracePlan, MembPlan};
+use gp_qsbr::QsbrPlan;
+use live_words::AnyChain;
+use rcu_model::Refusal;
+use reading::{announcements, nested, sections};
+use std::alloc::Global;
+use std::marker::Brand;
+use std::process::ExitCode;
+use std::sync::Wait;
+use std::thread::Threads;
+use std::{env, io};
+use waiting::{polls, synchronizations};
+
+/// What is repeated.
+#[derive(Clone, Copy, Drop)]
+enum Kind {
+    /// A read-side section with nothing in it.
+    Section,
+    /// The same by two readers, each in a thread of its own.
+    SectionByTwo,
+    /// An inner section with nothing in it.
+    Nested,
+    /// A section, and then a quiescent state.
+    Announcement,
+    /// A grace period that is waited for, with two readers that are in no section.
+    Synchronize,
+    /// A look whether an ask is answered.
+    Poll,
+}
+
+fn kind_of(word: &str) -> Option<Kind> {
+    Some(match word {
+        "section" => Kind::Section,
+        "section-by-two" => Kind::SectionByTwo,
+        "nested" => Kind::Nested,
+        "announcement" => Kind::Announcement,
+        "synchronize" => Kind::Synchronize,
+        "poll" => Kind::Poll,
+        _ => return None,
+    })
+}
+
+/// Repeats it, in a domain of 256 slots.
+fn repeat<P: GracePlan + Drop + Send + Sync, B: Site + Send + Sync, R: Threads + Wait + Sync>(
+    rt: &R,
+    alloc: Global,
+    opened: Opened<P, AnyChain>,
+    kind: Kind,
+    count: u64,
+) -> Result<u64, Refusal>
+    requires { (P.QSBR ≡ B.qsbr) × (opened.table.words.shared.table_id ≡ B.table) × (opened.table.slots ≡ B.slots) }
+{
+    let (domain, mut record) = opened.named::<B>(alloc)?;
+    let mut one = domain.register(rt, &mut record)?;
+    let mut two = domain.register(rt, &mut record)?;
+    match kind {
+        Kind::Section => sections(&mut one, count),
+        Kind::SectionByTwo => reading::sections_by_two(rt, one, two, count),
+        Kind::Nested => nested(&mut one, count),
+        Kind::Announcement => announcements(&mut one, count),
+        Kind::Synchronize => synchronizations(rt, &domain, &mut record, count),
+        Kind::Poll => polls(&domain, &mut record, count),
+    }
+}
+
+const SIZE: LiveConfig = LiveConfig {
+    slots: 256,
+    queues: 1,
+    chains: 1,
+    pool: 1,
+};
+
+fn in_flavour<R: Threads + Wait + Sync>(
+    rt: &R,
+    alloc: Global,
+    flavour: &str,
+    kind: Kind,
+    count: u64,
+) -> Result<u64, Refusal> {
+    if flavour == "qsbr" {
+        let opened = Opened::<QsbrPlan, AnyChain>::new(alloc, SIZE)?;
+        return repeat::<QsbrPlan, Brand, R>(rt, alloc, opened, kind, count);
+    }
+    let opened = Opened::<MembPlan, AnyChain>::new(alloc, SIZE)?;
+    repeat::<MembPlan, Brand, R>(rt, alloc, opened, kind, count)
+}
+
+fn main(rt: HostRuntime) -> io::Result<ExitCode> {
+    let words: Vec<String> = env::args(&rt)?.collect(rt.alloc())?;
+    let (Some(flavour), Some(kind), Some(count)) = (words.get(1), words.get(2), words.get(3)) else {
+        println!(rt; "usage: live_bench memb|qsbr KIND COUNT")?;
+        return Ok(ExitCode::SUCCESS);
+    };
+    let (Some(kind), Ok(count)) = (kind_of(kind), count.parse::<u64>()) else {
+        return Ok(ExitCode::FAILURE);
+    };
+    match in_flavour(&rt, rt.alloc(), flavour, kind, count) {
+        Ok(done) => println!(rt; "{done}")?,
+        Err(refusal) => println!(rt; "{refusal}")?,
+    }
+    Ok(ExitCode::SUCCESS)
+}
