@@ -1,0 +1,188 @@
+/* What the benchmark holds the live library against: liburcu's flavours where they are installed, pthread_rwlock, and the
+   bare steps of a section. Built by bench/live. Usage: peers PEER KIND COUNT THREADS. */
+
+#define _GNU_SOURCE
+#include <pthread.h>
+#include <stdatomic.h>
+#include <stdint.h>
+#include <stdio.h>
+#include <stdlib.h>
+#include <string.h>
+
+#ifdef HAS_URCU
+#include <urcu/urcu-mb.h>
+#include <urcu/urcu-memb.h>
+#include <urcu/urcu-qsbr.h>
+#endif
+
+static unsigned long count;
+
+/* One thread's work, `count` times. */
+typedef void work(void);
+
+/* The bare steps: one load and two exchanges, each word in a line of its own. */
+static _Alignas(128) atomic_ulong present;
+static struct {
+	_Alignas(128) atomic_ulong word;
+} slots[256];
+static atomic_uint claimed;
+
+static void bare_section(void)
+{
+	atomic_ulong *word = &slots[atomic_fetch_add(&claimed, 1)].word;
+	for (unsigned long i = 0; i < count; i++) {
+		atomic_exchange(word, 1 + (atomic_load(&present) << 16));
+		atomic_exchange(word, 0);
+	}
+}
+
+static void bare_nested(void)
+{
+	atomic_ulong *word = &slots[atomic_fetch_add(&claimed, 1)].word;
+	atomic_exchange(word, 1);
+	for (unsigned long i = 0; i < count; i++) {
+		atomic_exchange(word, 2);
+		atomic_exchange(word, 1);
+	}
+}
+
+static pthread_rwlock_t lock = PTHREAD_RWLOCK_INITIALIZER;
+
+static void rwlock_section(void)
+{
+	for (unsigned long i = 0; i < count; i++) {
+		pthread_rwlock_rdlock(&lock);
+		pthread_rwlock_unlock(&lock);
+	}
+}
+
+#ifdef HAS_URCU
+#define FLAVOUR(name)                                                                                                  \
+	static void name##_section(void)                                                                               \
+	{                                                                                                              \
+		urcu_##name##_register_thread();                                                                       \
+		for (unsigned long i = 0; i < count; i++) {                                                            \
+			urcu_##name##_read_lock();                                                                     \
+			urcu_##name##_read_unlock();                                                                   \
+		}                                                                                                      \
+		urcu_##name##_unregister_thread();                                                                     \
+	}                                                                                                              \
+	static void name##_nested(void)                                                                                \
+	{                                                                                                              \
+		urcu_##name##_register_thread();                                                                       \
+		urcu_##name##_read_lock();                                                                             \
+		for (unsigned long i = 0; i < count; i++) {                                                            \
+			urcu_##name##_read_lock();                                                                     \
+			urcu_##name##_read_unlock();                                                                   \
+		}                                                                                                      \
+		urcu_##name##_read_unlock();                                                                           \
+		urcu_##name##_unregister_thread();                                                                     \
+	}                                                                                                              \
+	static void *name##_idle(void *ready)                                                                          \
+	{                                                                                                              \
+		urcu_##name##_register_thread();                                                                       \
+		name##_leave();                                                                                        \
+		pthread_barrier_wait(ready);                                                                           \
+		pthread_barrier_wait(ready);                                                                           \
+		urcu_##name##_unregister_thread();                                                                     \
+		return NULL;                                                                                           \
+	}                                                                                                              \
+	/* With two readers that are registered and in no section. */                                                  \
+	static void name##_synchronize(void)                                                                           \
+	{                                                                                                              \
+		pthread_barrier_t ready;                                                                               \
+		pthread_t readers[2];                                                                                  \
+		pthread_barrier_init(&ready, NULL, 3);                                                                 \
+		for (int i = 0; i < 2; i++)                                                                            \
+			pthread_create(&readers[i], NULL, name##_idle, &ready);                                        \
+		pthread_barrier_wait(&ready);                                                                          \
+		for (unsigned long i = 0; i < count; i++)                                                              \
+			urcu_##name##_synchronize_rcu();                                                               \
+		pthread_barrier_wait(&ready);                                                                          \
+		for (int i = 0; i < 2; i++)                                                                            \
+			pthread_join(readers[i], NULL);                                                                \
+	}                                                                                                              \
+	static void name##_poll(void)                                                                                  \
+	{                                                                                                              \
+		struct urcu_gp_poll_state state = urcu_##name##_start_poll_synchronize_rcu();                          \
+		for (unsigned long i = 0; i < count; i++)                                                              \
+			urcu_##name##_poll_state_synchronize_rcu(state);                                               \
+	}
+
+static void mb_leave(void)
+{
+}
+static void memb_leave(void)
+{
+}
+static void qsbr_leave(void)
+{
+	urcu_qsbr_thread_offline();
+}
+FLAVOUR(mb)
+FLAVOUR(memb)
+FLAVOUR(qsbr)
+
+static void qsbr_announcement(void)
+{
+	urcu_qsbr_register_thread();
+	for (unsigned long i = 0; i < count; i++) {
+		urcu_qsbr_read_lock();
+		urcu_qsbr_read_unlock();
+		urcu_qsbr_quiescent_state();
+	}
+	urcu_qsbr_unregister_thread();
+}
+#endif
+
+static const struct {
+	const char *peer, *kind;
+	work *run;
+} works[] = {
+	{ "bare", "section", bare_section },
+	{ "bare", "nested", bare_nested },
+	{ "rwlock", "section", rwlock_section },
+#ifdef HAS_URCU
+	{ "mb", "section", mb_section },
+	{ "mb", "nested", mb_nested },
+	{ "mb", "synchronize", mb_synchronize },
+	{ "mb", "poll", mb_poll },
+	{ "memb", "section", memb_section },
+	{ "memb", "nested", memb_nested },
+	{ "memb", "synchronize", memb_synchronize },
+	{ "memb", "poll", memb_poll },
+	{ "qsbr", "section", qsbr_section },
+	{ "qsbr", "announcement", qsbr_announcement },
+	{ "qsbr", "synchronize", qsbr_synchronize },
+	{ "qsbr", "poll", qsbr_poll },
+#endif
+};
+
+static void *run(void *it)
+{
+	(*(work **)it)();
+	return NULL;
+}
+
+int main(int argc, char **argv)
+{
+	if (argc != 5) {
+		for (size_t i = 0; i < sizeof works / sizeof *works; i++)
+			printf("%s %s\n", works[i].peer, works[i].kind);
+		return 0;
+	}
+	count = strtoul(argv[3], NULL, 10);
+	for (size_t i = 0; i < sizeof works / sizeof *works; i++) {
+		if (strcmp(argv[1], works[i].peer) || strcmp(argv[2], works[i].kind))
+			continue;
+		work *it = works[i].run;
+		pthread_t threads[16];
+		int n = atoi(argv[4]);
+		for (int k = 0; k < n; k++)
+			pthread_create(&threads[k], NULL, run, &it);
+		for (int k = 0; k < n; k++)
+			pthread_join(threads[k], NULL);
+		return 0;
+	}
+	return 2;
+}
