@@ -19,7 +19,7 @@ use Rattle.live_rule.specs.Rule.{KeepsRule}
 use Rattle.live_rule.specs.Steps.{Wrote, at_log}
 use Rattle.live_rule.proofs.Lemmas.{quiet_same, own_slot, own_groups, grace_kept, low_stores}
 use Rattle.live_table.specs.Rights.{groups_in}
-use Rattle.live_groups.specs.Groups.{DiffersAt, Regrouped, claimed, released}
+use Rattle.live_groups.specs.Groups.{DiffersAt, Regrouped, claimed, group_word, released}
 
 -- a right to the slot r alone
 abbrev IsOfSlot : Sizes → ℕ → SlotRight → Type 0
@@ -125,4 +125,9 @@ module _ {S : Type 0} (qsbr : Bool) (allows : Log → LiveEvent → Type 0) (key
   releases r w k x is shut has differs s rule deep at fine =
       let t = stores r w k x (groups_in me.0.groups) (Idle r w k) has (subst (IsOfSlot key r) (sym is) (refl, λ q c. c)) (refl, λ q c. c) differs
       (λ log words known. let z = subst (λ (z : SlotRight). KnowsSlot qsbr key log words z r) is known in (z.0, z.1, z.2, shut)) (λ log words low word count closed bit. (low, word, count, closed)) s rule deep at fine in
-      (t.0, t.1, t.2, t.3, λ r' w' k' is'. subst (λ (z : ℕ × ℕ × ℕ). Regrouped qsbr allows z.0 x (Idle z.0 z.1 z.2) me (t.0, carried_after me.1 t.1)) (ap slot_or (sym is ∙ is')) t.4)
+      let mine = subst (λ (z : SlotRight). KnowsSlot qsbr key rule.log s.words z r) is (rule.knows (slot r) id me.0 at (subst (λ (z : SlotRight). ClaimsSlot key z r) (sym is) refl)) in
+      let bits_known = subst (KnowsGroups qsbr key rule.log s.words) has (rule.knows group_words id me.0 at (subst ClaimsGroups (sym has) tt)) in
+      let low = mine.0 in
+      let small = rule.agree.readers.small in
+      let set : bit_of (group_word me.0 r) (r % 64) ≡ true = ap (λ (z : ℕ). bit_of z (r % 64)) (sym (bits_known.1 (r / 64) (omega arith))) ∙ mine.3 in
+      (t.0, t.1, t.2, t.3, λ r' w' k' is'. subst (λ (z : ℕ × ℕ × ℕ). Regrouped qsbr allows z.0 x (Idle z.0 z.1 z.2) me (t.0, carried_after me.1 t.1) × (bit_of (group_word me.0 z.0) (z.0 % 64) ≡ true)) (ap slot_or (sym is ∙ is')) (t.4, set))

@@ -1,5 +1,5 @@
 -- What a store of a group word tells.
-use Rattle.std.specs.Prelude.{◌≡◌, ◌≢◌, ℕ, ◌/◌, ◌%◌, Bool, List, [], slice_index, slice_set}
+use Rattle.std.specs.Prelude.{◌≡◌, ◌≢◌, ℕ, ◌/◌, ◌%◌, Bool, true, List, [], slice_index, slice_set}
 use Rattle.atomic_table.specs.Table.{Me, Step}
 use Rattle.gp_memb.specs.Plan.{bit_of}
 use Rattle.live_log.specs.declared.event.LiveEvent.{LiveEvent}
@@ -28,9 +28,9 @@ module _ {S : Type 0} (qsbr : Bool) (allows : Log → LiveEvent → Type 0) wher
   abbrev pub Regrouped : ℕ → ℕ → SlotRight → Me S View → Me S View → Type 0
   Regrouped r x right m m' = (m' ≡ (record (at_log m.0 m'.0.seen) { slot = right; groups = groups_right.Owns (regrouped m.0 r x) }, m.1)) × Wrote qsbr allows m.0 [] m'.0.seen
 
-  -- an idle slot is owned now, and an owned one idle
+  -- an idle slot is owned now, and an owned one, whose bit was set, idle
   abbrev pub claimed : Step S → Me S View → ℕ → Me S View → Type 0
   claimed st m n m' = (r w k : ℕ) → m.0.slot ≡ Idle r w k → Regrouped r st.first (Owns r w k) m m'
 
   abbrev pub released : Step S → Me S View → ℕ → Me S View → Type 0
-  released st m n m' = (r w k : ℕ) → m.0.slot ≡ Owns r w k → Regrouped r st.first (Idle r w k) m m'
+  released st m n m' = (r w k : ℕ) → m.0.slot ≡ Owns r w k → Regrouped r st.first (Idle r w k) m m' × (bit_of (group_word m.0 r) (r % 64) ≡ true)

@@ -58,7 +58,7 @@ pub fn claim<P: GracePlan, K: ChainRule>(
 }
 
 /// Releases a slot whose word is closed: its bit is cleared in this word of its group, and the slot is idle. Answers the
-/// word that it stores.
+/// word that it stores. The bit was set: no slot is released twice.
 pub fn release<P: GracePlan, K: ChainRule>(
     table: &LiveTable<P, K>,
     seat: &mut LiveSeat,
@@ -69,6 +69,7 @@ pub fn release<P: GracePlan, K: ChainRule>(
     requires right { IsOwner seat.old.me.0 slot × IsClosed P.QSBR (word_in seat.old.me.0.slot) × HasGroups seat.old.me.0 }
     requires word { group_word seat.old.me.0 slot ≡ word }
     ensures seat { Keeps seat.old seat.new }
+    ensures was_set { bit_of word (slot % 64) ≡ true }
     ensures bit { bit_of result (slot % 64) ≡ false }
     ensures others { (q : ℕ) → q < 64 → q ≢ slot % 64 → bit_of result q ≡ bit_of word q }
     ensures released { Regrouped P.QSBR K.allows slot result (Idle slot (word_in seat.old.me.0.slot) (count_in seat.old.me.0.slot)) seat.old.me seat.new.me }

@@ -42,6 +42,7 @@ pub fn store_clear<P: GracePlan, K: ChainRule>(
     requires right { IsOwner seat.old.me.0 slot × IsClosed P.QSBR (word_in seat.old.me.0.slot) × HasGroups seat.old.me.0 }
     requires word { DiffersAt slot (group_word seat.old.me.0 slot) word × (bit_of word (slot % 64) ≡ false) }
     ensures seat { Keeps seat.old seat.new }
+    ensures was_set { bit_of (group_word seat.old.me.0 slot) (slot % 64) ≡ true }
     ensures released { Regrouped P.QSBR K.allows slot word (Idle slot (word_in seat.old.me.0.slot) (count_in seat.old.me.0.slot)) seat.old.me seat.new.me }
 {
     let place = table.group_place(slot / 64);

@@ -1,1 +1,3 @@
 mod Entering
+mod Leaving
+mod Rows

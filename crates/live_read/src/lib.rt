@@ -1,15 +1,20 @@
 #![tactic(auto)]
 //! Readers of the library over live threads, and their sections.
 
+mod parked;
 mod reader;
+mod registrar;
 mod section;
 mod site;
 mod witness;
 
 pub use reader::Reader;
+pub use registrar::Registrar;
 pub use section::Section;
 pub use site::Site;
 pub use witness::{Record, Witness, inform};
 
+#[cfg(test)]
+mod registering_tests;
 #[cfg(test)]
 mod tests;

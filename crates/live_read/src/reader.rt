@@ -10,6 +10,7 @@ ghost use Rattle.live_table.specs.Rights.{IsOwner, word_in};
 
 use crate::section::Section;
 use crate::site::Site;
+use crate::witness::Witness;
 use gp_memb::GracePlan;
 use live_words::{ChainRule, LiveSeat, LiveTable, lock, unlock};
 use rcu_model::Refusal;
@@ -38,7 +39,7 @@ pub struct Reader<P: GracePlan, K: ChainRule, B: Site> {
     pub(crate) site: PhantomData<B>,
     pub(crate) ghost seated: { (seat.table_id ≡ B.table) × ((arc_value table).words.shared.table_id ≡ B.table) × (seat.me.1 ≡ []) },
     pub(crate) ghost flavour: { quiet ≡ B.qsbr },
-    pub(crate) ghost owns: { IsOwner seat.me.0 slot × (word_in seat.me.0.slot ≡ word) × (slot < (arc_value table).slots) },
+    pub(crate) ghost owns: { IsOwner seat.me.0 slot × (word_in seat.me.0.slot ≡ word) × (slot < (arc_value table).slots) × ((arc_value table).slots ≡ B.slots) },
     pub(crate) ghost counted: { (B.qsbr ≡ false → count_of Wide word ≡ depth) × (B.qsbr ≡ true → word ≡ 0 → depth ≡ 0) × (locks ≤ depth) × (depth ≤ 2147483647) },
 }
 
@@ -55,7 +56,7 @@ impl<P: GracePlan, K: ChainRule, B: Site> Reader<P, K, B> {
         word: u64,
     ) -> Reader<P, K, B>
         requires site { (P.QSBR ≡ B.qsbr) × (seat.table_id ≡ B.table) × ((arc_value table).words.shared.table_id ≡ B.table) × (seat.me.1 ≡ []) }
-        requires owns { IsOwner seat.me.0 slot × (word_in seat.me.0.slot ≡ word) × (slot < (arc_value table).slots) }
+        requires owns { IsOwner seat.me.0 slot × (word_in seat.me.0.slot ≡ word) × (slot < (arc_value table).slots) × ((arc_value table).slots ≡ B.slots) }
         requires closed { (B.qsbr ≡ false → count_of Wide word ≡ 0) × (B.qsbr ≡ true → word ≡ 0) }
         ensures { (result.seat ≡ seat) × (result.slot ≡ slot) × (result.word ≡ word) × (result.depth ≡ 0) × (result.locks ≡ 0) }
     {
@@ -69,6 +70,18 @@ impl<P: GracePlan, K: ChainRule, B: Site> Reader<P, K, B> {
             locks: 0,
             site: PhantomData,
         }
+    }
+
+    // Hears what the witness has seen.
+    pub(crate) fn hear<W: Witness>(&mut self, witness: &mut W)
+        requires { W.table_of witness.old ≡ B.table }
+        ensures reader { (self.new.slot ≡ self.old.slot) × (self.new.word ≡ self.old.word) × (self.new.depth ≡ self.old.depth) × (self.new.locks ≡ self.old.locks) }
+        ensures heard { (self.new.seat.me.0.heard ≡ W.seen witness.old) × (self.new.seat.me.0.seen ≡ self.old.seat.me.0.seen) }
+        ensures witness { (W.seen witness.new ≡ W.seen witness.old) × (W.heard witness.new ≡ W.heard witness.old) × (W.table_of witness.new ≡ B.table) }
+    {
+        let told = witness.tell(&self.table);
+        let reader = &mut *self;
+        reader.table.learn(&mut reader.seat, told);
     }
 
     // One more section or lock, with so many locks of the standard's face.

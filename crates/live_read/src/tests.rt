@@ -18,7 +18,7 @@ fn first_reader<P: GracePlan, K: ChainRule, B: Site>(
     words: Arc<LiveTable<P, K>>,
     mut root: LiveSeat,
 ) -> Reader<P, K, B>
-    requires site { (P.QSBR ≡ B.qsbr) × ((arc_value words).words.shared.table_id ≡ B.table) × (root.table_id ≡ B.table) × (0 < (arc_value words).slots) }
+    requires site { (P.QSBR ≡ B.qsbr) × ((arc_value words).words.shared.table_id ≡ B.table) × (root.table_id ≡ B.table) × (0 < (arc_value words).slots) × ((arc_value words).slots ≡ B.slots) }
     requires new { root.me ≡ (first_view (arc_value words).words.shared.key, []) }
     ensures { (result.depth ≡ 0) × (result.locks ≡ 0) × (result.word ≡ 0) }
 {
@@ -107,7 +107,7 @@ fn general<B: Site>(
     words: Arc<LiveTable<MembPlan, AnyChain>>,
     root: LiveSeat,
 ) -> Result<(([u64; 5], bool), [bool; 6]), Refusal>
-    requires site { (B.qsbr ≡ false) × ((arc_value words).words.shared.table_id ≡ B.table) × (root.table_id ≡ B.table) × (0 < (arc_value words).slots) }
+    requires site { (B.qsbr ≡ false) × ((arc_value words).words.shared.table_id ≡ B.table) × (root.table_id ≡ B.table) × (0 < (arc_value words).slots) × ((arc_value words).slots ≡ B.slots) }
     requires new { root.me ≡ (first_view (arc_value words).words.shared.key, []) }
 {
     let mut reader = first_reader::<MembPlan, AnyChain, B>(words, root);
@@ -120,7 +120,7 @@ fn quiescent<B: Site>(
     other: Arc<LiveTable<QsbrPlan, AnyChain>>,
     root: LiveSeat,
 ) -> Result<([bool; 5], [bool; 4], [u64; 3]), Refusal>
-    requires site { (B.qsbr ≡ true) × ((arc_value words).words.shared.table_id ≡ B.table) × ((arc_value other).words.shared.table_id ≡ B.table) × (root.table_id ≡ B.table) × (0 < (arc_value words).slots) }
+    requires site { (B.qsbr ≡ true) × ((arc_value words).words.shared.table_id ≡ B.table) × ((arc_value other).words.shared.table_id ≡ B.table) × (root.table_id ≡ B.table) × (0 < (arc_value words).slots) × ((arc_value words).slots ≡ B.slots) }
     requires new { root.me ≡ (first_view (arc_value words).words.shared.key, []) }
 {
     let mut reader = first_reader::<QsbrPlan, AnyChain, B>(words, root);
