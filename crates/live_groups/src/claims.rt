@@ -10,7 +10,7 @@ ghost use Rattle.live_rule.specs.declared.rights.SlotRight.TheVariants.{Idle, Ow
 ghost use Rattle.live_rule.specs.Readers.{IsClosed};
 ghost use Rattle.live_table.specs.Steps.{Keeps};
 ghost use Rattle.live_table.specs.Rights.{HasGroups, IsIdle, IsOwner, count_in, word_in};
-ghost use Rattle.live_groups.specs.Groups.{Regrouped, group_word, regrouped};
+ghost use Rattle.live_groups.specs.Groups.{Left, Regrouped, group_word, regrouped};
 
 use crate::steps::{store_clear, store_set};
 use gp_memb::GracePlan;
@@ -93,8 +93,11 @@ pub fn leave<P: GracePlan, K: ChainRule>(
     requires unlocked { P.QSBR ≡ false → count_of Wide reader ≡ 0 }
     requires group { group_word seat.old.me.0 slot ≡ group }
     ensures seat { Keeps seat.old seat.new }
+    ensures was_set { bit_of group (slot % 64) ≡ true }
     ensures bit { bit_of result (slot % 64) ≡ false }
-    ensures idle { IsIdle seat.new.me.0 slot × (count_in seat.new.me.0.slot ≡ count_in seat.old.me.0.slot) }
+    ensures others { (q : ℕ) → q < 64 → q ≢ slot % 64 → bit_of result q ≡ bit_of group q }
+    ensures left { Left P.QSBR K.allows slot reader result seat.old.me seat.new.me }
+    ensures idle { IsIdle seat.new.me.0 slot × IsClosed P.QSBR (word_in seat.new.me.0.slot) × (count_in seat.new.me.0.slot ≡ count_in seat.old.me.0.slot) }
     ensures groups { seat.new.me.0.groups ≡ groups_right.Owns (regrouped seat.old.me.0 slot result) }
     ensures closed { P.QSBR ≡ true → reader ≢ 0 → Has (Close slot (count_in seat.old.me.0.slot)) seat.new.me.0.seen }
     ensures later { Begins seat.old.me.0.seen seat.new.me.0.seen × IsLiveRun P.QSBR K.allows seat.new.me.0.seen }

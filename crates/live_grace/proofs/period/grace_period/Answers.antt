@@ -1,4 +1,4 @@
-use Rattle.std.proofs.Common.{rules, ◌≡◌, ℕ, ◌+◌, List, true, [], ◌∷◌, arith, sym, refl, ap, ◌∙◌, subst}
+use Rattle.std.proofs.Common.{rules, ◌≡◌, ℕ, ◌+◌, List, true, [], ◌∷◌, ◌++◌, arith, sym, refl, ap, ◌∙◌, subst}
 use Rattle.reader_word.specs.declared.layout.Layout.TheVariants.{Wide}
 use Rattle.gp_memb.specs.declared.plan.Action.{Action}
 use Rattle.gp_memb.specs.declared.plan.Action.TheVariants.{StorePhase, StoreSeq}
@@ -15,7 +15,7 @@ use Rattle.live_periods.specs.Periods.{GraceBecomes}
 use Rattle.live_log.specs.Log.{IsBound}
 use Rattle.live_grace.specs.Asks.{cookie_in}
 use Rattle.live_grace.specs.Going.{Begun}
-use Rattle.live_grace.proofs.Tellings.{told_first, told_last, even_is, refutes}
+use Rattle.live_grace.proofs.Tellings.{all_turns, told_first, told_last, even_is, refutes}
 use Rattle.live_grace.proofs.Goings.{starts_going, goes_on, whole, stored_turn, only_after}
 use Rattle.live_grace.proofs.Cores.{answers, begins_with, due_is, runs_on, seq_is}
 use Rattle.live_grace.proofs.Cases.{Laws, after_load, after_group, after_store, in_loop, named, may_start, bound_next, bound_turn, at_most, turn_low}
@@ -44,7 +44,7 @@ loop-init g c = let p = g.P.GracePlan in let m = g.met.P.GracePlan in let slots 
     let was : present_in c.args.seat.now.me.0.grace ≡ number = ap present_in c.requires.right.0 in
     let new = c.store_odd.new.seat.me in
     let graced = subst (λ (z : ℕ × ℕ). GraceBecomes p.QSBR g.K.ChainRule.allows (Works z.0 z.1 (before_odd new.0.seen) []) (SeqOdd ∷ []) c.args.seat.now.me new) (λ i. (odd i, was i)) c.store_odd.ensures.began in
-    let go = starts_going p.QSBR g.K.ChainRule.allows c.args.seat.now.me (seq + 1) number new graced (c.store_odd.ensures.present ∙ was) in
+    let go = starts_going p.QSBR g.K.ChainRule.allows c.args.seat.now.me (seq + 1) number new graced (c.store_odd.ensures.words.1 ∙ was) (ap (λ (n : ℕ). n + 1) (c.store_odd.ensures.words.0 ∙ ap seq_in c.requires.right.0)) in
     let present = m.begins Wide true slots seq number start begun (may_start p.QSBR seq number c.requires.right.3) in
     let same = sym (m.presents start 0 ∙ (ap (present_after (p.present start)) order.first ∙ present)) in
     let told = told_first p.action p.taken seq start order in (
@@ -174,9 +174,29 @@ returns-then-matches-clause-right g c = let inv = c.loop.invariant in let go = i
     two : c.args.seq + 1 + 1 ≡ c.args.seq + 2
     two = omega arith
 
+pub returns-then-matches-clause-words : goal.returns-then-matches-clause-words
+returns-then-matches-clause-words g c = let inv = c.loop.invariant in let told = c.store_even.ensures.words in
+    let e = even_of g c.args.table.now.slots c.args.seq c.args.first c.in-StoreSeq.value inv.2.0 (looks_in c.loop.seat.me.0.grace) inv.2.3.1 (due_is g.P.GracePlan.action c.loop.core (cookie_in c.args.core) inv.2.0 c.next-in-loop-2.result c.in-Plan.action inv.2.1 c.next-in-loop-2.ensures c.in-Plan.is ∙ c.in-StoreSeq.is) in
+    (told.0 ∙ e, told.1 ∙ (ap present_in inv.2.3.0.is ∙ sym inv.2.2))
+
+pub returns-then-matches-clause-plan : goal.returns-then-matches-clause-plan
+returns-then-matches-clause-plan g c = let p = g.P.GracePlan in let inv = c.loop.invariant in let plan = inv.2.0 in let b = inv.2.3.1 in let looks = looks_in c.loop.seat.me.0.grace in
+    let slots : ℕ = c.args.table.now.slots in let seq : ℕ = c.args.seq in
+    let does : p.action plan ≡ StoreSeq c.in-StoreSeq.value = due_is p.action c.loop.core (cookie_in c.args.core) plan c.next-in-loop-2.result c.in-Plan.action inv.2.1 c.next-in-loop-2.ensures c.in-Plan.is ∙ c.in-StoreSeq.is in
+    let e = even_of g slots seq c.args.first c.in-StoreSeq.value plan looks b does in
+    let order = (laws g slots seq c.args.first).order b.start b.begun in
+    let turns = all_turns p.action p.taken seq b.start order plan looks b.told in
+    record {
+      start = b.start;
+      begun = b.begun;
+      loaded = 0 ∷ (b.told.words ++ 0 ∷ []);
+      finished = ap p.action turns ∙ told_last p.action p.taken seq b.start order plan looks b.told (does ∙ ap StoreSeq e);
+      left = ap p.present turns ∙ (g.met.P.GracePlan.presents plan 0 ∙ (ap (present_after (p.present plan)) does ∙ sym inv.2.2));
+    }
+
 pub returns-then-matches-clause-period : goal.returns-then-matches-clause-period
 returns-then-matches-clause-period g c = let inv = c.loop.invariant in let go = inv.2.3.0 in
-    whole g.P.GracePlan.QSBR g.K.ChainRule.allows c.args.seat.now.me (c.args.seq + 1) c.args.first (g.P.GracePlan.present inv.2.0) (looks_in c.loop.seat.me.0.grace) _ c.loop.seat.me c.store_even.new.seat.me go c.store_even.ensures.ended c.store_even.ensures.cleared
+    whole g.P.GracePlan.QSBR g.K.ChainRule.allows c.args.seat.now.me c.args.seq c.args.first (g.P.GracePlan.present inv.2.0) (looks_in c.loop.seat.me.0.grace) _ c.loop.seat.me c.store_even.new.seat.me go c.store_even.ensures.ended c.store_even.ensures.cleared
 
 -- the last store answers the ask
 pub loop-preserved : goal.loop-preserved
