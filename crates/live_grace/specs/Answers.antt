@@ -31,8 +31,8 @@ pub record WholeGracePeriod (qsbr : Bool) (allows : Log → LiveEvent → Type 0
   pub ended : HaveEnded before log
   pub run : IsLiveRun qsbr allows log
 
--- a plan that was made for so many slots at this sequence number and this phase or number has run to its end, and left the
--- last phase or number
+-- a plan that was made for so many slots at this sequence number and this phase or number has run to its end, and left
+-- the last phase or number
 pub record RanPlan {P : Type 0} (is_begun : Layout → Bool → ℕ → ℕ → ℕ → P → Type 0) (action : P → Action) (taken : P → ℕ → P) (present : P → ℕ) (slots seq first last : ℕ) : Type 0 where
   pub start : P
   pub begun : is_begun Wide true slots seq first start

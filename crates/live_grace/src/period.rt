@@ -18,9 +18,9 @@ use live_table::LiveTable;
 use live_words::{load_group, load_slot, store_even, store_odd, store_present};
 use std::sync::Wait;
 
-/// A whole grace period by the seat that has the right to its words, from their present values: the sequence number, and
-/// the phase or number; answers the phase or number that it stored last. The core, whose check found the cookie not reached,
-/// names each step. It waits for each section that is open at its first store, with a back-off.
+/// A whole grace period by the seat that has the right to its words, from their present values: the sequence number,
+/// and the phase or number; answers the phase or number that it stored last. The core, whose check found the cookie not
+/// reached, names each step. It waits for each section that is open at its first store, with a back-off.
 pub(crate) fn grace_period<P: GracePlan + Drop, K: ChainRule, R: Wait>(
     rt: &R,
     table: &LiveTable<P, K>,

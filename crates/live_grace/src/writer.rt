@@ -19,8 +19,8 @@ use live_words::load_seq;
 use std::marker::PhantomData;
 use std::sync::Wait;
 
-/// What the grace lock guards: the seat with the right to the words of grace periods, and their present values, between two
-/// grace periods by plans `P`.
+/// What the grace lock guards: the seat with the right to the words of grace periods, and their present values, between
+/// two grace periods by plans `P`.
 #[derive(Drop)]
 pub struct GraceWriter<P: GracePlan> {
     /// The seat.
@@ -75,8 +75,8 @@ impl<P: GracePlan + Drop> GraceWriter<P> {
         self.seq += 2;
     }
 
-    /// Sees to it that the ask is answered, whose log the seat has heard of: by a check where the sequence number that it
-    /// loads is at or above the cookie, and else by a whole grace period.
+    /// Sees to it that the ask is answered, whose log the seat has heard of: by a check where the sequence number that
+    /// it loads is at or above the cookie, and else by a whole grace period.
     fn settle<K: ChainRule, R: Wait>(
         &mut self,
         rt: &R,
@@ -103,11 +103,11 @@ impl<P: GracePlan + Drop> GraceWriter<P> {
         Answer::Own
     }
 
-    /// Answers an ask of the caller, by whoever holds the grace lock, as liburcu's `synchronize_rcu` does under it: each
-    /// section that was open in the ask's log has ended in the log that the caller has seen then. Where the sequence number
-    /// is at or above the ask's cookie, a grace period of another's has answered the ask already, and nothing is stored; else
-    /// a whole one is run, which began after all that the caller had seen, by a plan that runs to its end. That waits for each section that is open at its
-    /// first store, with a back-off.
+    /// Answers an ask of the caller, by whoever holds the grace lock, as liburcu's `synchronize_rcu` does under it:
+    /// each section that was open in the ask's log has ended in the log that the caller has seen then. Where the
+    /// sequence number is at or above the ask's cookie, a grace period of another's has answered the ask already, and
+    /// nothing is stored; else a whole one is run, which began after all that the caller had seen, by a plan that runs
+    /// to its end. That waits for each section that is open at its first store, with a back-off.
     pub fn answer<K: ChainRule, R: Wait>(
         &mut self,
         rt: &R,

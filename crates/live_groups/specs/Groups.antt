@@ -36,8 +36,8 @@ module _ {S : Type 0} (qsbr : Bool) (allows : Log → LiveEvent → Type 0) wher
   abbrev pub released : Step S → Me S View → ℕ → Me S View → Type 0
   released st m n m' = (r w k : ℕ) → m.0.slot ≡ Owns r w k → Regrouped r st.first (Idle r w k) m m' × (bit_of (group_word m.0 r) (r % 64) ≡ true)
 
-  -- A reader left slot r, whose word was w, and the word x was stored for the slot's group. An online reader's section was
-  -- closed before, by a store that led to the seat between; the seat of another one was still as it had been.
+  -- A reader left slot r, whose word was w, and the word x was stored for the slot's group. An online reader's section
+  -- was closed before, by a store that led to the seat between; the seat of another one was still as it had been.
   pub record Left (r w x : ℕ) (m m' : Me S View) : Type 0 where
     pub between : Me S View
     pub online : qsbr ≡ true → w ≢ 0 → Closed qsbr allows r 0 m between

@@ -37,7 +37,8 @@ pub(crate) fn without_bit(word: u64, bit: usize) -> u64
     word & !(1 << bit)
 }
 
-/// Claims an idle slot: its bit is set in this word of its group, and the seat owns it. Answers the word that it stores.
+/// Claims an idle slot: its bit is set in this word of its group, and the seat owns it. Answers the word that it
+/// stores.
 pub fn claim<P: GracePlan, K: ChainRule>(
     table: &LiveTable<P, K>,
     seat: &mut LiveSeat,
@@ -57,8 +58,8 @@ pub fn claim<P: GracePlan, K: ChainRule>(
     new
 }
 
-/// Releases a slot whose word is closed: its bit is cleared in this word of its group, and the slot is idle. Answers the
-/// word that it stores. The bit was set: no slot is released twice.
+/// Releases a slot whose word is closed: its bit is cleared in this word of its group, and the slot is idle. Answers
+/// the word that it stores. The bit was set: no slot is released twice.
 pub fn release<P: GracePlan, K: ChainRule>(
     table: &LiveTable<P, K>,
     seat: &mut LiveSeat,
@@ -79,8 +80,9 @@ pub fn release<P: GracePlan, K: ChainRule>(
     new
 }
 
-/// Takes the slot of a reader that leaves, by the word that it stored last: an online reader of the quiescent-state flavour
-/// goes offline first, which closes its section; then the slot is released, as `release` does with this word of its group.
+/// Takes the slot of a reader that leaves, by the word that it stored last: an online reader of the quiescent-state
+/// flavour goes offline first, which closes its section; then the slot is released, as `release` does with this word of
+/// its group.
 pub fn leave<P: GracePlan, K: ChainRule>(
     table: &LiveTable<P, K>,
     seat: &mut LiveSeat,

@@ -22,8 +22,8 @@ abbrev pub TellsAllEnded : Bool → ℕ → Log → List (ℕ × ℕ) → Type 0
 TellsAllEnded qsbr slots mark looks = (r m : ℕ) → r < slots → MayCopy qsbr (present_of mark) m → ShownAll qsbr looks r m → ⊥
 
 module _ {S : Type 0} (qsbr : Bool) (allows : Log → LiveEvent → Type 0) where
-  -- the sequence number was loaded, by any seat; the one with the right to the words of grace periods knew it, and the phase
-  -- or number
+  -- the sequence number was loaded, by any seat; the one with the right to the words of grace periods knew it, and the
+  -- phase or number
   abbrev pub looked_seq : Step S → Me S View → ℕ → Me S View → Type 0
   looked_seq st m n m' = Looked qsbr allows m m' × (seq_of m'.0.seen ≡ n) × (ClaimsGrace m.0.grace → (n ≡ seq_in m.0.grace) × (present_of m'.0.seen ≡ present_in m.0.grace))
 

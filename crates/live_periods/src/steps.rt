@@ -16,8 +16,8 @@ use live_log::ChainRule;
 use live_rule::LiveSeat;
 use live_table::LiveTable;
 
-/// Loads the sequence number, by any seat. A seat with the right to the words of grace periods knew it, and the phase or
-/// number: nobody else stores them. It never waits.
+/// Loads the sequence number, by any seat. A seat with the right to the words of grace periods knew it, and the phase
+/// or number: nobody else stores them. It never waits.
 pub fn load_seq<P: GracePlan, K: ChainRule>(table: &LiveTable<P, K>, seat: &mut LiveSeat) -> u64
     requires { seat.old.table_id ≡ table.now.words.shared.table_id }
     ensures seat { Keeps seat.old seat.new }
@@ -59,8 +59,8 @@ pub fn load_group<P: GracePlan, K: ChainRule>(
     table.words.shared.load::<LooksWord<P, K>>(seat, place)
 }
 
-/// The store that makes the sequence number odd: a grace period begins, whose mark is the log before the store. The caller
-/// has an even number of at most 2^62.
+/// The store that makes the sequence number odd: a grace period begins, whose mark is the log before the store. The
+/// caller has an even number of at most 2^62.
 pub fn store_odd<P: GracePlan, K: ChainRule>(table: &LiveTable<P, K>, seat: &mut LiveSeat, seq: u64)
     requires seat { seat.old.table_id ≡ table.now.words.shared.table_id }
     requires right { IsResting seat.old.me.0 × (seq_in seat.old.me.0.grace ≤ 2 ^ 62) × (seq ≡ seq_in seat.old.me.0.grace + 1) }

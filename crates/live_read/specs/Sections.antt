@@ -41,7 +41,8 @@ module _ {P K B : Type 0} {g : Ghosts B} where
     abbrev pub OpensOutermost : Type 0
     OpensOutermost = Opened qsbr allows r.slot s.word r.seat.me s.seat.me × CopiedBefore qsbr allows r.slot s.word r.seat.me s.seat.me (opens qsbr r.slot (ordinal r) s.word)
 
-    -- one more lock or section of the general-purpose flavour: the outermost opens a section of the log, and an inner one stays in it
+    -- one more lock or section of the general-purpose flavour: the outermost opens a section of the log, and an inner
+    -- one stays in it
     pub record Enters : Type 0 where
       pub slot : s.slot ≡ r.slot
       pub depth : s.depth ≡ r.depth + 1
@@ -56,7 +57,8 @@ module _ {P K B : Type 0} {g : Ghosts B} where
       pub outermost : r.depth ≡ 1 → Closed qsbr allows r.slot s.word r.seat.me s.seat.me
       pub inner : 1 < r.depth → Nested qsbr allows r.slot s.word r.seat.me s.seat.me × IsIn s
 
-    -- The same of either flavour. The reader is in a section of the log, in the quiescent-state flavour where it was before.
+    -- The same of either flavour. The reader is in a section of the log, in the quiescent-state flavour where it was
+    -- before.
     pub record BeginsSection (n : ℕ) : Type 0 where
       pub locks : s.locks ≡ n
       pub general : qsbr ≡ false → Enters

@@ -148,8 +148,8 @@ impl<P: GracePlan, K: ChainRule, B: Site> Reader<P, K, B> {
     /// A read-side section, which is an inner one where the reader is in one, as by liburcu's `rcu_read_lock`. In the
     /// quiescent-state flavour it is a count, and no step of the table.
     ///
-    /// Refused with `NestFull` exactly at the greatest depth, 2,147,483,647, and with `NotOpen` where the reader is of the
-    /// quiescent-state flavour and offline; then the reader is as it was. It never waits.
+    /// Refused with `NestFull` exactly at the greatest depth, 2,147,483,647, and with `NotOpen` where the reader is of
+    /// the quiescent-state flavour and offline; then the reader is as it was. It never waits.
     pub fn section(&mut self) -> Result<Section<'_, P, K, B>, Refusal>
         requires { P.QSBR ≡ B.qsbr }
         ensures* refused { sem 𝓛 (RestsIfErr (the_row P.row K.row B.row B.Site P.GracePlan K.ChainRule) self.entry (λ s. s.reader.ghost_name) result (λ last. last ≡ self.old)) }
@@ -199,8 +199,8 @@ impl<P: GracePlan, K: ChainRule, B: Site> Reader<P, K, B> {
 
     /// An offline reader goes online, liburcu's `rcu_thread_online`, which opens a section of the log.
     ///
-    /// Refused with `WrongFlavour` in the general-purpose flavour, else with `Busy` exactly where the reader is online; then
-    /// it is as it was. It never waits.
+    /// Refused with `WrongFlavour` in the general-purpose flavour, else with `Busy` exactly where the reader is online;
+    /// then it is as it was. It never waits.
     pub fn online(&mut self) -> Result<(), Refusal>
         requires { P.QSBR ≡ B.qsbr }
         ensures ok { IfOk result (λ _. GoesOnline P.QSBR K.allows self.old self.new) }
@@ -218,11 +218,11 @@ impl<P: GracePlan, K: ChainRule, B: Site> Reader<P, K, B> {
         Ok(())
     }
 
-    /// An online reader announces a quiescent state, liburcu's `rcu_quiescent_state`: its section of the log closes, and the
-    /// next one opens.
+    /// An online reader announces a quiescent state, liburcu's `rcu_quiescent_state`: its section of the log closes,
+    /// and the next one opens.
     ///
-    /// Refused with `WrongFlavour` in the general-purpose flavour, else with `NotOpen` exactly where the reader is offline,
-    /// else with `Busy` exactly while a lock or a section is open; then it is as it was. It never waits.
+    /// Refused with `WrongFlavour` in the general-purpose flavour, else with `NotOpen` exactly where the reader is
+    /// offline, else with `Busy` exactly while a lock or a section is open; then it is as it was. It never waits.
     pub fn quiescent(&mut self) -> Result<(), Refusal>
         requires { P.QSBR ≡ B.qsbr }
         ensures ok { IfOk result (λ _. Announces P.QSBR K.allows self.old self.new) }

@@ -9,8 +9,8 @@ use gp_memb::GracePlan;
 use live_words::ChainRule;
 use rcu_model::Refusal;
 
-/// A read-side section, open until it is dropped. `section.reader.section()` begins an inner one, after whose end the outer
-/// one is known to be open still.
+/// A read-side section, open until it is dropped. `section.reader.section()` begins an inner one, after whose end the
+/// outer one is known to be open still.
 pub struct Section<'a, P: GracePlan, K: ChainRule, B: Site> {
     /// The reader whose section it is.
     pub reader: &'a mut Reader<P, K, B>,

@@ -1,9 +1,14 @@
 use Rattle.std.proofs.Common.{rules, ◌≡◌, ℕ, ◌+◌, List, true, [], ◌∷◌, ◌++◌, arith, sym, refl, ap, ◌∙◌, subst}
 use Rattle.reader_word.specs.declared.layout.Layout.TheVariants.{Wide}
 use Rattle.gp_memb.specs.declared.plan.Action.{Action}
-use Rattle.gp_memb.specs.declared.plan.Action.TheVariants.{StorePhase, StoreSeq}
+use Rattle.gp_memb.specs.declared.plan.Action.TheVariants.{Load, LoadGroup, StorePhase, StoreSeq}
 use Rattle.gp_memb.specs.Plan.{present_after, turn_at}
+use Rattle.call_rcu_worker.specs.declared.sync.SyncCore.{SyncCore}
 use Rattle.call_rcu_worker.specs.declared.sync.SyncCore.TheVariants.{Runs}
+use Rattle.call_rcu_worker.specs.declared.sync.Told.{Told}
+use Rattle.call_rcu_worker.specs.Sync.{telling, told_of}
+use Rattle.atomic_table.specs.Table.{Me}
+use Rattle.live_rule.specs.declared.view.View.{View}
 use Rattle.live_log.specs.Log.{MayBePresent, before_odd}
 use Rattle.live_log.specs.declared.event.LiveEvent.TheVariants.{SeqOdd, SeqEven, Present}
 use Rattle.live_rule.specs.declared.rights.GraceRight.TheVariants.{Rests, Works}
@@ -18,7 +23,7 @@ use Rattle.live_grace.specs.Going.{Begun}
 use Rattle.live_grace.proofs.Tellings.{all_turns, told_first, told_last, even_is, refutes}
 use Rattle.live_grace.proofs.Goings.{starts_going, goes_on, whole, stored_turn, only_after}
 use Rattle.live_grace.proofs.Cores.{answers, begins_with, due_is, runs_on, seq_is}
-use Rattle.live_grace.proofs.Cases.{Laws, after_load, after_group, after_store, in_loop, named, may_start, bound_next, bound_turn, at_most, turn_low}
+use Rattle.live_grace.proofs.Cases.{Laws, InLoop, Loads, after_look, after_store, in_loop, named, may_start, bound_next, bound_turn, at_most, turn_low}
 use Rattle.live_grace.proofs.period.grace_period.Given as given
 use Rattle.live_grace.proofs.period.grace_period.Goals.{in-Answered, in_default-matches}
 use Rattle.live_grace.proofs.period.grace_period.Goals as goal
@@ -65,23 +70,31 @@ pub load_slot-word-requires-clause-seat : goal.load_slot-word-requires-clause-se
 load_slot-word-requires-clause-seat g c = let p = g.P.GracePlan in let inv = c.loop.invariant in let slots : ℕ = c.args.table.now.slots in let b = inv.2.3.1 in
     (inv.0, g.met.P.GracePlan.in_range Wide true slots c.args.seq c.args.first b.start b.begun (0 ∷ b.told.words) c.in-Load.slot (ap p.action (sym b.told.is) ∙ (due_is p.action c.loop.core (cookie_in c.args.core) inv.2.0 c.next-in-loop-2.result c.in-Plan.action inv.2.1 c.next-in-loop-2.ensures c.in-Plan.is ∙ c.in-Load.is)))
 
+-- a word that the plan asked for was loaded, and the core told of it
+look_on : (g : given.Over) (slots seq number cookie stored place word : ℕ) (old now new : Me Unit View) (core next : SyncCore g.row.P.Denot) (told : Told) (plan : g.row.P.Denot) (a : Action)
+    → let p = g.P.GracePlan in core ≡ Runs cookie plan → stored ≡ p.present plan → InLoop (p.is_begun Wide true slots seq number) p.action p.taken p.present seq p.QSBR g.K.ChainRule.allows old number plan now
+    → p.action plan ≡ a → Loads a place → told_of p.action p.turn p.taken core word ≡ telling told next
+    → GraceBecomes p.QSBR g.K.ChainRule.allows (Works (seq_in now.0.grace) (present_in now.0.grace) (before_in now.0.grace) ((place, word) ∷ looks_in now.0.grace)) [] now new
+    → (x : g.row.P.Denot) × (next ≡ Runs cookie x) × (stored ≡ p.present x) × InLoop (p.is_begun Wide true slots seq number) p.action p.taken p.present seq p.QSBR g.K.ChainRule.allows old number x new
+look_on g slots seq number cookie stored place word old now new core next told plan a runs last inv does loads says looked = let p = g.P.GracePlan in let allows = g.K.ChainRule.allows in
+    let begins = p.is_begun Wide true slots seq number in let looks = looks_in now.0.grace in let go = inv.0 in let taken = p.taken plan word in
+    let after = after_look begins p.action p.taken p.present seq (laws g slots seq number) plan taken looks inv.1 a place word does loads refl in (
+      taken,
+      runs_on p.action p.turn p.taken g.met.P.GracePlan.still cookie plan word core next told runs says after.1.told.unfinished,
+      last ∙ after.0,
+      in_loop begins p.action p.taken p.present seq p.QSBR allows old number (p.present plan) ((place, word) ∷ looks) taken new
+          (goes_on p.QSBR allows old (seq + 1) number (p.present plan) (p.present plan) looks ((place, word) ∷ looks) _ [] now new go
+          (named begins p.action p.taken p.present seq p.QSBR allows old number (p.present plan) looks now go (place, word)) looked)
+          after.0 after.1 inv.2,
+    )
+
 pub loop-preserved-in-Load : goal.loop-preserved-in-Load
-loop-preserved-in-Load g c = let p = g.P.GracePlan in let inv = c.loop.invariant in let slots : ℕ = c.args.table.now.slots in let seq : ℕ = c.args.seq in let number : ℕ = c.args.first in
-    let go = inv.2.3.0 in let b = inv.2.3.1 in let x : ℕ × ℕ = (slot_at c.in-Load.slot, c.load_slot-word.result) in
-    let begins = p.is_begun Wide true slots seq number in
-    let now = c.loop.seat.me in let plan = inv.2.0 in
-    let after = after_load begins p.action p.taken p.present seq (laws g slots seq number) plan (p.taken plan c.load_slot-word.result) (looks_in now.0.grace) b c.in-Load.slot c.load_slot-word.result (due_is p.action c.loop.core (cookie_in c.args.core) inv.2.0 c.next-in-loop-2.result c.in-Plan.action inv.2.1 c.next-in-loop-2.ensures c.in-Plan.is ∙ c.in-Load.is) refl in (
+loop-preserved-in-Load g c = let inv = c.loop.invariant in
+    let does = due_is g.P.GracePlan.action c.loop.core (cookie_in c.args.core) inv.2.0 c.next-in-loop-2.result c.in-Plan.action inv.2.1 c.next-in-loop-2.ensures c.in-Plan.is ∙ c.in-Load.is in (
       search rules,
       search rules,
-      (
-        p.taken plan c.load_slot-word.result,
-        runs_on p.action p.turn p.taken g.met.P.GracePlan.still (cookie_in c.args.core) plan c.load_slot-word.result c.loop.core c.go_on-in-Load.new.core c.go_on-in-Load.result inv.2.1 c.go_on-in-Load.ensures after.1.told.unfinished,
-        inv.2.2 ∙ after.0,
-        in_loop begins p.action p.taken p.present seq p.QSBR g.K.ChainRule.allows c.args.seat.now.me number (p.present plan) (x ∷ looks_in now.0.grace) (p.taken plan c.load_slot-word.result) c.load_slot-word.new.seat.me
-            (goes_on p.QSBR g.K.ChainRule.allows c.args.seat.now.me (seq + 1) number (p.present plan) (p.present plan) (looks_in now.0.grace) (x ∷ looks_in now.0.grace) _ [] now c.load_slot-word.new.seat.me go
-            (named begins p.action p.taken p.present seq p.QSBR g.K.ChainRule.allows c.args.seat.now.me number (p.present plan) (looks_in now.0.grace) now go x) c.load_slot-word.ensures.looked)
-            after.0 after.1 inv.2.3.2,
-      ),
+      look_on g c.args.table.now.slots c.args.seq c.args.first (cookie_in c.args.core) c.loop.present (slot_at c.in-Load.slot) c.load_slot-word.result c.args.seat.now.me c.loop.seat.me c.load_slot-word.new.seat.me c.loop.core c.go_on-in-Load.new.core
+          c.go_on-in-Load.result inv.2.0 (Load c.in-Load.slot) inv.2.1 inv.2.2 inv.2.3 does refl c.go_on-in-Load.ensures c.load_slot-word.ensures.looked,
     )
 
 pub load_group-word-requires-clause-seat : goal.load_group-word-requires-clause-seat
@@ -91,22 +104,12 @@ load_group-word-requires-clause-seat g c = let p = g.P.GracePlan in let inv = c.
     (inv.0, omega arith)
 
 pub loop-preserved-in-LoadGroup : goal.loop-preserved-in-LoadGroup
-loop-preserved-in-LoadGroup g c = let p = g.P.GracePlan in let inv = c.loop.invariant in let slots : ℕ = c.args.table.now.slots in let seq : ℕ = c.args.seq in let number : ℕ = c.args.first in
-    let go = inv.2.3.0 in let b = inv.2.3.1 in let x : ℕ × ℕ = (group_at c.in-LoadGroup.group, c.load_group-word.result) in
-    let begins = p.is_begun Wide true slots seq number in
-    let now = c.loop.seat.me in let plan = inv.2.0 in
-    let after = after_group begins p.action p.taken p.present seq (laws g slots seq number) plan (p.taken plan c.load_group-word.result) (looks_in now.0.grace) b c.in-LoadGroup.group c.load_group-word.result (due_is p.action c.loop.core (cookie_in c.args.core) inv.2.0 c.next-in-loop-2.result c.in-Plan.action inv.2.1 c.next-in-loop-2.ensures c.in-Plan.is ∙ c.in-LoadGroup.is) refl in (
+loop-preserved-in-LoadGroup g c = let inv = c.loop.invariant in
+    let does = due_is g.P.GracePlan.action c.loop.core (cookie_in c.args.core) inv.2.0 c.next-in-loop-2.result c.in-Plan.action inv.2.1 c.next-in-loop-2.ensures c.in-Plan.is ∙ c.in-LoadGroup.is in (
       search rules,
       search rules,
-      (
-        p.taken plan c.load_group-word.result,
-        runs_on p.action p.turn p.taken g.met.P.GracePlan.still (cookie_in c.args.core) plan c.load_group-word.result c.loop.core c.go_on-in-LoadGroup.new.core c.go_on-in-LoadGroup.result inv.2.1 c.go_on-in-LoadGroup.ensures after.1.told.unfinished,
-        inv.2.2 ∙ after.0,
-        in_loop begins p.action p.taken p.present seq p.QSBR g.K.ChainRule.allows c.args.seat.now.me number (p.present plan) (x ∷ looks_in now.0.grace) (p.taken plan c.load_group-word.result) c.load_group-word.new.seat.me
-            (goes_on p.QSBR g.K.ChainRule.allows c.args.seat.now.me (seq + 1) number (p.present plan) (p.present plan) (looks_in now.0.grace) (x ∷ looks_in now.0.grace) _ [] now c.load_group-word.new.seat.me go
-            (named begins p.action p.taken p.present seq p.QSBR g.K.ChainRule.allows c.args.seat.now.me number (p.present plan) (looks_in now.0.grace) now go x) c.load_group-word.ensures.looked)
-            after.0 after.1 inv.2.3.2,
-      ),
+      look_on g c.args.table.now.slots c.args.seq c.args.first (cookie_in c.args.core) c.loop.present (group_at c.in-LoadGroup.group) c.load_group-word.result c.args.seat.now.me c.loop.seat.me c.load_group-word.new.seat.me c.loop.core c.go_on-in-LoadGroup.new.core
+          c.go_on-in-LoadGroup.result inv.2.0 (LoadGroup c.in-LoadGroup.group) inv.2.1 inv.2.2 inv.2.3 does refl c.go_on-in-LoadGroup.ensures c.load_group-word.ensures.looked,
     )
 
 -- the store of a phase or number is one that the rule allows
