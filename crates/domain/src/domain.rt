@@ -1,0 +1,146 @@
+//! What a program calls.
+
+ghost use Rattle.std.specs.Prelude.{◌≡◌, ◌<◌, ◌≤◌, ◌^◌, ◌↔◌, true, IfErr, IfOk, IsOk, IsTrue};
+ghost use Rattle.std.specs.Arc.{arc_value};
+ghost use Rattle.rcu_model.specs.declared.refusal.Refusal.TheVariants.{Busy, Exhausted, NoSlot};
+ghost use Rattle.poll_cookie.specs.Cookie.{cookie_for};
+ghost use Rattle.live_log.specs.Log.{Begins, HaveEnded, seq_of};
+ghost use Rattle.live_table.specs.Steps.{Keeps};
+ghost use Rattle.domain.specs.Waiting.{Follows, Synchronized};
+
+use crate::grace_lock::GraceLock;
+use gp_memb::GracePlan;
+use live_grace::{LiveCookie, ask};
+use live_read::{Reader, Record, Registrar, Site, Witness};
+use live_words::{ChainRule, LiveSeat, LiveTable};
+use rcu_model::Refusal;
+use std::sync::{Arc, Mutex, Wait};
+
+/// A domain: readers register in it, and grace periods of it are waited for and polled. Threads share it by reference or by
+/// `Arc`.
+#[derive(Drop)]
+pub struct Domain<P: GracePlan, K: ChainRule, B: Site> {
+    pub(crate) table: Arc<LiveTable<P, K>>,
+    pub(crate) registrar: Mutex<Registrar<P, K, B>>,
+    pub(crate) grace: Mutex<GraceLock<P, B>>,
+    pub(crate) ghost named: { ((arc_value table).words.shared.table_id ≡ B.table) × (P.QSBR ≡ B.qsbr) },
+}
+
+impl<P: GracePlan + Drop, K: ChainRule, B: Site> Domain<P, K, B> {
+    /// Registers a reader, liburcu's `rcu_register_thread`. It is offline in the quiescent-state flavour, hears what the caller
+    /// has seen, and may be moved into any thread.
+    ///
+    /// Refused with `NoSlot` where every slot is claimed. It takes no memory, and waits for the registry lock alone.
+    pub fn register<W: Witness, R: Wait>(
+        &self,
+        rt: &R,
+        witness: &mut W,
+    ) -> Result<Reader<P, K, B>, Refusal>
+        requires { W.table_of witness.old ≡ B.table }
+        ensures idle { IfOk result (λ r. (r.depth ≡ 0) × (r.locks ≡ 0) × (B.qsbr ≡ true → r.word ≡ 0)) }
+        ensures told { IfOk result (λ r. r.seat.me.0.heard ≡ W.seen witness.old) }
+        ensures refused { IfErr result (λ e. e ≡ NoSlot) }
+        ensures witness { (W.seen witness.new ≡ W.seen witness.old) × (W.heard witness.new ≡ W.heard witness.old) × (W.table_of witness.new ≡ B.table) }
+    {
+        self.registrar.lock(rt).register(witness)
+    }
+
+    /// Gives the slot of a reader back, liburcu's `rcu_unregister_thread`. An online reader of the quiescent-state flavour goes
+    /// offline first. A reader that is dropped keeps its slot claimed.
+    ///
+    /// Refused with `Busy` exactly while a section or a lock of it is open, and then it comes back as it was. It takes no
+    /// memory, and waits for the registry lock alone.
+    pub fn unregister<R: Wait>(
+        &self,
+        rt: &R,
+        reader: Reader<P, K, B>,
+    ) -> Result<(), (Refusal, Reader<P, K, B>)>
+        ensures left { IfOk result (λ _. reader.depth ≡ 0) }
+        ensures busy { IfErr result (λ e. (e.0 ≡ Busy) × (e.1 ≡ reader) × (0 < reader.depth)) }
+    {
+        self.registrar.lock(rt).unregister(reader)
+    }
+
+    /// A record that has seen and heard as much as the witness, for another thread. It never waits.
+    pub fn split<W: Witness>(&self, witness: &mut W) -> Record<B>
+        requires { W.table_of witness.old ≡ B.table }
+        ensures told { (result.seat.me.0.seen ≡ W.seen witness.old) × (result.seat.me.0.heard ≡ W.heard witness.old) }
+        ensures same { (W.seen witness.new ≡ W.seen witness.old) × (W.heard witness.new ≡ W.heard witness.old) × (W.table_of witness.new ≡ B.table) }
+    {
+        Record::split(&self.table, witness)
+    }
+
+    /// The one witness hears what the other has seen. It never waits.
+    pub fn inform<S: Witness, T: Witness>(&self, from: &mut S, to: &mut T)
+        requires { (S.table_of from.old ≡ B.table) × (T.table_of to.old ≡ B.table) }
+        ensures told { T.heard to.new ≡ S.seen from.old }
+        ensures from { (S.seen from.new ≡ S.seen from.old) × (S.heard from.new ≡ S.heard from.old) × (S.table_of from.new ≡ B.table) }
+        ensures to { (T.seen to.new ≡ T.seen to.old) × (T.table_of to.new ≡ B.table) }
+    {
+        live_read::inform(&self.table, from, to);
+    }
+
+    /// Asks, and waits for the answer.
+    fn wait<R: Wait>(&self, rt: &R, seat: &mut LiveSeat) -> Result<(), Refusal>
+        requires { seat.old.table_id ≡ B.table }
+        ensures seat { Keeps seat.old seat.new × (seat.new.me.1 ≡ seat.old.me.1) }
+        ensures ended { IfOk result (λ _. Synchronized P.QSBR K.allows seat.old.me.0.seen seat.old.me.0.heard seat.new.me.0.seen) }
+        ensures refused { IfErr result (λ e. (e ≡ Exhausted) × Follows P.QSBR K.allows seat.old.me.0.seen seat.old.me.0.heard seat.new.me.0.seen × (2 ^ 62 ≤ seq_of seat.new.me.0.seen)) }
+    {
+        let asked = ask::<P, K>(&self.table, seat)?;
+        self.grace.lock(rt).answer(rt, &self.table, seat, asked);
+        Ok(())
+    }
+
+    /// Waits for a grace period, liburcu's `synchronize_rcu`: each section that was open at its ask's load, which was after
+    /// all that the caller had seen and heard of, has ended in the log that the caller hears of at the return. It waits for
+    /// the grace lock and for those sections, so a caller is in none of its own.
+    ///
+    /// Refused with `Exhausted` exactly where the sequence number that its ask loads is at or above 2^62.
+    pub fn synchronize<W: Witness, R: Wait>(&self, rt: &R, witness: &mut W) -> Result<(), Refusal>
+        requires { W.table_of witness.old ≡ B.table }
+        ensures ended { IfOk result (λ _. Synchronized P.QSBR K.allows (W.seen witness.old) (W.heard witness.old) (W.heard witness.new)) }
+        ensures refused { IfErr result (λ e. (e ≡ Exhausted) × Follows P.QSBR K.allows (W.seen witness.old) (W.heard witness.old) (W.heard witness.new) × (2 ^ 62 ≤ seq_of (W.heard witness.new))) }
+        ensures witness { (W.seen witness.new ≡ W.seen witness.old) × (W.table_of witness.new ≡ B.table) }
+    {
+        let mut seat = witness.tell(&self.table);
+        let answered = self.wait(rt, &mut seat);
+        witness.learn(&self.table, seat);
+        answered
+    }
+
+    /// Asks for a grace period that nobody waits for, liburcu's `start_poll_synchronize_rcu`. The cookie keeps the log at its
+    /// load, which was after all that the caller had seen and heard of.
+    ///
+    /// Refused with `Exhausted` exactly where the sequence number that it loads is at or above 2^62. It never waits and takes
+    /// no memory.
+    pub fn start_poll<W: Witness>(&self, witness: &mut W) -> Result<LiveCookie, Refusal>
+        requires { W.table_of witness.old ≡ B.table }
+        ensures loaded { Follows P.QSBR K.allows (W.seen witness.old) (W.heard witness.old) (W.heard witness.new) }
+        ensures cookie { IfOk result (λ c. (c.asked.value.me.0.seen ≡ W.heard witness.new) × (cookie_for (seq_of (W.heard witness.new)) ≡ Ok c.cookie)) }
+        ensures refused { IfErr result (λ e. e ≡ Exhausted) }
+        ensures taken { IsOk result ↔ (seq_of (W.heard witness.new) < 2 ^ 62) }
+        ensures witness { (W.seen witness.new ≡ W.seen witness.old) × (W.table_of witness.new ≡ B.table) }
+    {
+        let mut seat = witness.tell(&self.table);
+        let cookie = live_grace::start_poll(&self.table, &mut seat);
+        witness.learn(&self.table, seat);
+        cookie
+    }
+
+    /// Whether a grace period has passed since the cookie was taken, liburcu's `poll_state_synchronize_rcu`: true exactly where
+    /// the sequence number that it loads is at or above the cookie. Then each section that was open in the cookie's log has
+    /// ended, where the caller had seen that log or heard of it. It never waits and takes no memory.
+    pub fn poll<W: Witness>(&self, witness: &mut W, cookie: &LiveCookie) -> bool
+        requires { W.table_of witness.old ≡ B.table }
+        ensures loaded { Follows P.QSBR K.allows (W.seen witness.old) (W.heard witness.old) (W.heard witness.new) }
+        ensures exact { IsTrue result ↔ (cookie.now.cookie ≤ seq_of (W.heard witness.new)) }
+        ensures past { Begins cookie.now.asked.value.me.0.seen (W.heard witness.new) → IsTrue result → HaveEnded cookie.now.asked.value.me.0.seen (W.heard witness.new) }
+        ensures witness { (W.seen witness.new ≡ W.seen witness.old) × (W.table_of witness.new ≡ B.table) }
+    {
+        let mut seat = witness.tell(&self.table);
+        let past = live_grace::poll(&self.table, &mut seat, cookie);
+        witness.learn(&self.table, seat);
+        past
+    }
+}

@@ -1,0 +1,19 @@
+#![tactic(auto)]
+//! A domain of the library over live threads: readers are registered, and grace periods are waited for and polled. Its locks
+//! are here alone.
+
+mod config;
+mod domain;
+mod grace_lock;
+mod opened;
+
+pub use config::LiveConfig;
+pub use domain::Domain;
+pub use live_grace::LiveCookie;
+pub use live_read::{Reader, Record, Section, Site, Witness};
+pub use opened::Opened;
+
+#[cfg(test)]
+mod tests;
+#[cfg(test)]
+mod thread_tests;

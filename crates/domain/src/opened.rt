@@ -1,0 +1,76 @@
+//! How a domain is made.
+
+ghost use Rattle.std.specs.Prelude.{◌≡◌, ◌<◌, [], true, IfErr, IfOk};
+ghost use Rattle.rcu_model.specs.declared.refusal.Refusal.TheVariants.{Memory};
+ghost use Rattle.live_rule.specs.Views.{first_view};
+ghost use Rattle.domain.specs.Config.{is_supported, new_refusal};
+
+use crate::config::LiveConfig;
+use crate::domain::Domain;
+use crate::grace_lock::GraceLock;
+use gp_memb::GracePlan;
+use live_read::{Record, Registrar, Site};
+use live_words::{ChainRule, LiveSeat, LiveTable};
+use rcu_model::Refusal;
+use std::alloc::Global;
+use std::sync::{Arc, Mutex};
+
+/// The words of a domain that has no name yet. A program picks the name, a type that is a `Site`, where it calls `named`.
+#[derive(Drop)]
+pub struct Opened<P: GracePlan, K: ChainRule> {
+    /// The words.
+    pub table: LiveTable<P, K>,
+    seat: LiveSeat,
+    pub ghost fresh: { (seat.table_id ≡ table.words.shared.table_id) × (seat.me ≡ (first_view table.words.shared.key, [])) × (0 < table.slots) },
+}
+
+impl<P: GracePlan + Drop, K: ChainRule> Opened<P, K> {
+    /// The words of a domain of this size.
+    ///
+    /// Refused with `BadConfig` exactly where a number is out of its limits, else with `Memory` where memory is refused.
+    pub fn new(alloc: Global, config: LiveConfig) -> Result<Opened<P, K>, Refusal>
+        ensures ok { IfOk result (λ o. (is_supported config ≡ true) × (o.table.slots ≡ config.slots) × (o.table.queues ≡ config.queues) × (o.table.chains ≡ config.chains) × (o.table.pool ≡ config.pool)) }
+        ensures err { IfErr result (λ e. e ≡ new_refusal config) }
+    {
+        if !config.is_supported() {
+            return Err(Refusal::BadConfig);
+        }
+        let made = LiveTable::new(
+            alloc,
+            config.slots,
+            config.chains,
+            config.queues,
+            config.pool,
+        );
+        let Ok((table, seat)) = made else {
+            return Err(Refusal::Memory);
+        };
+        Ok(Opened { table, seat })
+    }
+
+    /// The domain under this name, none of whose slots is claimed, and the first record, which has seen nothing yet. All the
+    /// memory that registering takes is taken here.
+    ///
+    /// Refused with `Memory` where memory is.
+    pub fn named<B: Site>(self, alloc: Global) -> Result<(Domain<P, K, B>, Record<B>), Refusal>
+        requires { (P.QSBR ≡ B.qsbr) × (self.table.words.shared.table_id ≡ B.table) × (self.table.slots ≡ B.slots) }
+        ensures ok { IfOk result (λ made. (made.1.seat.me.0.seen ≡ []) × (made.1.seat.me.0.heard ≡ [])) }
+        ensures err { IfErr result (λ e. e ≡ Memory) }
+    {
+        let Opened { table, mut seat } = self;
+        let Ok(table) = Arc::new(alloc, table) else {
+            return Err(Refusal::Memory);
+        };
+        let registrar = Registrar::new(alloc, &table, &mut seat)?;
+        let grace = GraceLock::new(table.cut_grace(&mut seat));
+        let record = Record::new(table.tell(&mut seat));
+        Ok((
+            Domain {
+                table,
+                registrar: Mutex::new(registrar),
+                grace: Mutex::new(grace),
+            },
+            record,
+        ))
+    }
+}
