@@ -44,7 +44,7 @@ loop-init g c = let p = g.P.GracePlan in let m = g.met.P.GracePlan in let slots 
     let l = laws g slots seq number in
     let order = l.order start begun in
     let runs : c.begin.new.self ≡ Runs (cookie_in c.args.core) start = begins_with c.args.core c.begin.new.self (cookie_in c.args.core) start c.requires.core c.begin.ensures in
-    let first = due_is p.action c.begin.new.self (cookie_in c.args.core) start c.next.result c.in-Plan-StoreSeq.field-0 runs c.next.ensures c.in-Plan-StoreSeq.is in
+    let first = due_is p.action runs c.next.ensures c.in-Plan-StoreSeq.is in
     let odd : c.in-Plan-StoreSeq.odd ≡ seq + 1 = seq_is c.in-Plan-StoreSeq.odd (seq + 1) (sym c.in-Plan-StoreSeq.field-0-is ∙ (sym first ∙ order.first)) in
     let was : present_in c.args.seat.now.me.0.grace ≡ number = ap present_in c.requires.right.0 in
     let new = c.store_odd.new.seat.me in
@@ -68,7 +68,7 @@ loop-init g c = let p = g.P.GracePlan in let m = g.met.P.GracePlan in let slots 
 
 pub load_slot-word-requires-clause-seat : goal.load_slot-word-requires-clause-seat
 load_slot-word-requires-clause-seat g c = let p = g.P.GracePlan in let inv = c.loop.invariant in let slots : ℕ = c.args.table.now.slots in let b = inv.2.3.1 in
-    (inv.0, g.met.P.GracePlan.in_range Wide true slots c.args.seq c.args.first b.start b.begun (0 ∷ b.told.words) c.in-Load.slot (ap p.action (sym b.told.is) ∙ (due_is p.action c.loop.core (cookie_in c.args.core) inv.2.0 c.next-in-loop-2.result c.in-Plan.action inv.2.1 c.next-in-loop-2.ensures c.in-Plan.is ∙ c.in-Load.is)))
+    (inv.0, g.met.P.GracePlan.in_range Wide true slots c.args.seq c.args.first b.start b.begun (0 ∷ b.told.words) c.in-Load.slot (ap p.action (sym b.told.is) ∙ (due_is p.action inv.2.1 c.next-in-loop-2.ensures c.in-Plan.is ∙ c.in-Load.is)))
 
 -- a word that the plan asked for was loaded, and the core told of it
 look_on : (g : given.Over) (slots seq number cookie stored place word : ℕ) (old now new : Me Unit View) (core next : SyncCore g.row.P.Denot) (told : Told) (plan : g.row.P.Denot) (a : Action)
@@ -90,7 +90,7 @@ look_on g slots seq number cookie stored place word old now new core next told p
 
 pub loop-preserved-in-Load : goal.loop-preserved-in-Load
 loop-preserved-in-Load g c = let inv = c.loop.invariant in
-    let does = due_is g.P.GracePlan.action c.loop.core (cookie_in c.args.core) inv.2.0 c.next-in-loop-2.result c.in-Plan.action inv.2.1 c.next-in-loop-2.ensures c.in-Plan.is ∙ c.in-Load.is in (
+    let does = due_is g.P.GracePlan.action inv.2.1 c.next-in-loop-2.ensures c.in-Plan.is ∙ c.in-Load.is in (
       search rules,
       search rules,
       look_on g c.args.table.now.slots c.args.seq c.args.first (cookie_in c.args.core) c.loop.present (slot_at c.in-Load.slot) c.load_slot-word.result c.args.seat.now.me c.loop.seat.me c.load_slot-word.new.seat.me c.loop.core c.go_on-in-Load.new.core
@@ -99,13 +99,13 @@ loop-preserved-in-Load g c = let inv = c.loop.invariant in
 
 pub load_group-word-requires-clause-seat : goal.load_group-word-requires-clause-seat
 load_group-word-requires-clause-seat g c = let p = g.P.GracePlan in let inv = c.loop.invariant in let slots : ℕ = c.args.table.now.slots in let b = inv.2.3.1 in
-    let low = g.met.P.GracePlan.in_groups Wide true slots c.args.seq c.args.first b.start b.begun (0 ∷ b.told.words) c.in-LoadGroup.group (ap p.action (sym b.told.is) ∙ (due_is p.action c.loop.core (cookie_in c.args.core) inv.2.0 c.next-in-loop-2.result c.in-Plan.action inv.2.1 c.next-in-loop-2.ensures c.in-Plan.is ∙ c.in-LoadGroup.is)) in
+    let low = g.met.P.GracePlan.in_groups Wide true slots c.args.seq c.args.first b.start b.begun (0 ∷ b.told.words) c.in-LoadGroup.group (ap p.action (sym b.told.is) ∙ (due_is p.action inv.2.1 c.next-in-loop-2.ensures c.in-Plan.is ∙ c.in-LoadGroup.is)) in
     let small = c.args.table.now.sized.1 in
     (inv.0, omega arith)
 
 pub loop-preserved-in-LoadGroup : goal.loop-preserved-in-LoadGroup
 loop-preserved-in-LoadGroup g c = let inv = c.loop.invariant in
-    let does = due_is g.P.GracePlan.action c.loop.core (cookie_in c.args.core) inv.2.0 c.next-in-loop-2.result c.in-Plan.action inv.2.1 c.next-in-loop-2.ensures c.in-Plan.is ∙ c.in-LoadGroup.is in (
+    let does = due_is g.P.GracePlan.action inv.2.1 c.next-in-loop-2.ensures c.in-Plan.is ∙ c.in-LoadGroup.is in (
       search rules,
       search rules,
       look_on g c.args.table.now.slots c.args.seq c.args.first (cookie_in c.args.core) c.loop.present (group_at c.in-LoadGroup.group) c.load_group-word.result c.args.seat.now.me c.loop.seat.me c.load_group-word.new.seat.me c.loop.core c.go_on-in-LoadGroup.new.core
@@ -122,7 +122,7 @@ pub store_present-requires-clause-right : goal.store_present-requires-clause-rig
 store_present-requires-clause-right g c = let inv = c.loop.invariant in let go = inv.2.3.0 in (
   search rules,
   subst (λ (z : ℕ × ℕ). MayBePresent g.P.GracePlan.QSBR z.0 z.1 c.in-StorePhase.value) (λ i. (sym (ap seq_in go.is) i, sym (ap present_in go.is) i))
-      (may_turn g c.args.table.now.slots c.args.seq c.args.first c.in-StorePhase.value inv.2.0 (looks_in c.loop.seat.me.0.grace) inv.2.3.1 c.requires.right.3 (due_is g.P.GracePlan.action c.loop.core (cookie_in c.args.core) inv.2.0 c.next-in-loop-2.result c.in-Plan.action inv.2.1 c.next-in-loop-2.ensures c.in-Plan.is ∙ c.in-StorePhase.is)),
+      (may_turn g c.args.table.now.slots c.args.seq c.args.first c.in-StorePhase.value inv.2.0 (looks_in c.loop.seat.me.0.grace) inv.2.3.1 c.requires.right.3 (due_is g.P.GracePlan.action inv.2.1 c.next-in-loop-2.ensures c.in-Plan.is ∙ c.in-StorePhase.is)),
 )
 
 pub loop-preserved-in-StorePhase : goal.loop-preserved-in-StorePhase
@@ -130,7 +130,7 @@ loop-preserved-in-StorePhase g c = let p = g.P.GracePlan in let inv = c.loop.inv
     let go = inv.2.3.0 in let b = inv.2.3.1 in let value : ℕ = c.in-StorePhase.value in
     let begins = p.is_begun Wide true slots seq number in
     let now = c.loop.seat.me in let plan = inv.2.0 in
-    let does = (due_is p.action c.loop.core (cookie_in c.args.core) inv.2.0 c.next-in-loop-2.result c.in-Plan.action inv.2.1 c.next-in-loop-2.ensures c.in-Plan.is ∙ c.in-StorePhase.is) in
+    let does = (due_is p.action inv.2.1 c.next-in-loop-2.ensures c.in-Plan.is ∙ c.in-StorePhase.is) in
     let after = after_store begins p.action p.taken p.present seq (laws g slots seq number) plan (p.taken plan 0) (looks_in now.0.grace) b value does refl in (
       search rules,
       search rules,
@@ -151,21 +151,21 @@ even_of g slots seq number value plan looks b does = even_is g.P.GracePlan.actio
 
 pub store_even-requires-clause-right : goal.store_even-requires-clause-right
 store_even-requires-clause-right g c = let inv = c.loop.invariant in let go = inv.2.3.0 in
-    let e = even_of g c.args.table.now.slots c.args.seq c.args.first c.in-StoreSeq.value inv.2.0 (looks_in c.loop.seat.me.0.grace) inv.2.3.1 (due_is g.P.GracePlan.action c.loop.core (cookie_in c.args.core) inv.2.0 c.next-in-loop-2.result c.in-Plan.action inv.2.1 c.next-in-loop-2.ensures c.in-Plan.is ∙ c.in-StoreSeq.is) in
+    let e = even_of g c.args.table.now.slots c.args.seq c.args.first c.in-StoreSeq.value inv.2.0 (looks_in c.loop.seat.me.0.grace) inv.2.3.1 (due_is g.P.GracePlan.action inv.2.1 c.next-in-loop-2.ensures c.in-Plan.is ∙ c.in-StoreSeq.is) in
     let s : seq_in c.loop.seat.me.0.grace ≡ c.args.seq + 1 = ap seq_in go.is in
     (search rules, omega arith)
 
 pub store_even-requires-clause-loads : goal.store_even-requires-clause-loads
 store_even-requires-clause-loads g c = let p = g.P.GracePlan in let inv = c.loop.invariant in let go = inv.2.3.0 in let b = inv.2.3.1 in
     let slots : ℕ = c.args.table.now.slots in let seq : ℕ = c.args.seq in let number : ℕ = c.args.first in
-    let does = (due_is p.action c.loop.core (cookie_in c.args.core) inv.2.0 c.next-in-loop-2.result c.in-Plan.action inv.2.1 c.next-in-loop-2.ensures c.in-Plan.is ∙ c.in-StoreSeq.is) in
+    let does = (due_is p.action inv.2.1 c.next-in-loop-2.ensures c.in-Plan.is ∙ c.in-StoreSeq.is) in
     let e = even_of g slots seq number c.in-StoreSeq.value inv.2.0 (looks_in c.loop.seat.me.0.grace) b does in
     refutes p.action p.taken seq b.start ((laws g slots seq number).order b.start b.begun) p.QSBR slots number (g.met.P.GracePlan.waits Wide true slots seq number b.start b.begun) inv.2.0 (looks_in c.loop.seat.me.0.grace) b.told (does ∙ ap StoreSeq e)
     (before_in c.loop.seat.me.0.grace) go.began
 
 pub returns-then-matches-clause-right : goal.returns-then-matches-clause-right
 returns-then-matches-clause-right g c = let inv = c.loop.invariant in let go = inv.2.3.0 in let p = g.P.GracePlan in let now = c.store_even.new.seat.me in
-    let e = even_of g c.args.table.now.slots c.args.seq c.args.first c.in-StoreSeq.value inv.2.0 (looks_in c.loop.seat.me.0.grace) inv.2.3.1 (due_is p.action c.loop.core (cookie_in c.args.core) inv.2.0 c.next-in-loop-2.result c.in-Plan.action inv.2.1 c.next-in-loop-2.ensures c.in-Plan.is ∙ c.in-StoreSeq.is) in
+    let e = even_of g c.args.table.now.slots c.args.seq c.args.first c.in-StoreSeq.value inv.2.0 (looks_in c.loop.seat.me.0.grace) inv.2.3.1 (due_is p.action inv.2.1 c.next-in-loop-2.ensures c.in-Plan.is ∙ c.in-StoreSeq.is) in
     let g' = c.store_even.ensures.ended.0 in
     let last : present_in c.loop.seat.me.0.grace ≡ c.loop.present = ap present_in go.is ∙ sym inv.2.2 in
     let right : now.0.grace ≡ Rests (c.args.seq + 2) c.loop.present = ap (λ m. m.0.grace) g' ∙ (λ i. Rests (e i) (last i)) in
@@ -179,13 +179,13 @@ returns-then-matches-clause-right g c = let inv = c.loop.invariant in let go = i
 
 pub returns-then-matches-clause-words : goal.returns-then-matches-clause-words
 returns-then-matches-clause-words g c = let inv = c.loop.invariant in let told = c.store_even.ensures.words in
-    let e = even_of g c.args.table.now.slots c.args.seq c.args.first c.in-StoreSeq.value inv.2.0 (looks_in c.loop.seat.me.0.grace) inv.2.3.1 (due_is g.P.GracePlan.action c.loop.core (cookie_in c.args.core) inv.2.0 c.next-in-loop-2.result c.in-Plan.action inv.2.1 c.next-in-loop-2.ensures c.in-Plan.is ∙ c.in-StoreSeq.is) in
+    let e = even_of g c.args.table.now.slots c.args.seq c.args.first c.in-StoreSeq.value inv.2.0 (looks_in c.loop.seat.me.0.grace) inv.2.3.1 (due_is g.P.GracePlan.action inv.2.1 c.next-in-loop-2.ensures c.in-Plan.is ∙ c.in-StoreSeq.is) in
     (told.0 ∙ e, told.1 ∙ (ap present_in inv.2.3.0.is ∙ sym inv.2.2))
 
 pub returns-then-matches-clause-plan : goal.returns-then-matches-clause-plan
 returns-then-matches-clause-plan g c = let p = g.P.GracePlan in let inv = c.loop.invariant in let plan = inv.2.0 in let b = inv.2.3.1 in let looks = looks_in c.loop.seat.me.0.grace in
     let slots : ℕ = c.args.table.now.slots in let seq : ℕ = c.args.seq in
-    let does : p.action plan ≡ StoreSeq c.in-StoreSeq.value = due_is p.action c.loop.core (cookie_in c.args.core) plan c.next-in-loop-2.result c.in-Plan.action inv.2.1 c.next-in-loop-2.ensures c.in-Plan.is ∙ c.in-StoreSeq.is in
+    let does : p.action plan ≡ StoreSeq c.in-StoreSeq.value = due_is p.action inv.2.1 c.next-in-loop-2.ensures c.in-Plan.is ∙ c.in-StoreSeq.is in
     let e = even_of g slots seq c.args.first c.in-StoreSeq.value plan looks b does in
     let order = (laws g slots seq c.args.first).order b.start b.begun in
     let turns = all_turns p.action p.taken seq b.start order plan looks b.told in
@@ -205,7 +205,7 @@ returns-then-matches-clause-period g c = let inv = c.loop.invariant in let go = 
 pub loop-preserved : goal.loop-preserved
 loop-preserved g c = let p = g.P.GracePlan in let m = g.met.P.GracePlan in let inv = c.loop.invariant in let plan = inv.2.0 in let b = inv.2.3.1 in
     let slots : ℕ = c.args.table.now.slots in let seq : ℕ = c.args.seq in
-    let does : p.action plan ≡ StoreSeq c.in-StoreSeq.value = due_is p.action c.loop.core (cookie_in c.args.core) plan c.next-in-loop-2.result c.in-Plan.action inv.2.1 c.next-in-loop-2.ensures c.in-Plan.is ∙ c.in-StoreSeq.is in
+    let does : p.action plan ≡ StoreSeq c.in-StoreSeq.value = due_is p.action inv.2.1 c.next-in-loop-2.ensures c.in-Plan.is ∙ c.in-StoreSeq.is in
     let steps = m.exact plan 0 ∙ ap (λ (a : Action). turn_at p.QSBR (p.layout_of plan) (p.present plan) a 0) does in
     let e = even_of g slots seq c.args.first c.in-StoreSeq.value plan (looks_in c.loop.seat.me.0.grace) b does in
     let ends = told_last p.action p.taken seq b.start ((laws g slots seq c.args.first).order b.start b.begun) plan (looks_in c.loop.seat.me.0.grace) b.told (does ∙ ap StoreSeq e) in
