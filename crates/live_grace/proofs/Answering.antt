@@ -26,18 +26,19 @@ pub ended_later : (old log new : Log) → Begins log new → HaveEnded old log �
 ended_later old log new b ended r n m at = subst (Has (Close r n)) (sym b.1) (has_later (Close r n) b.0 log (ended r n m at))
 
 module _ (qsbr : Bool) (allows : Log → LiveEvent → Type 0) where
-  begins_whole : (v : View) (log : Log) (w : WholeGracePeriod qsbr allows v log) → Begins w.before log
+  begins_whole : (v : View) (log : Log) → {seq present : ℕ} → (w : WholeGracePeriod qsbr allows v seq present log) → Begins w.before log
   begins_whole v log w = begins_trans w.before w.within log (begins_trans w.before (SeqOdd ∷ w.before) w.within (SeqOdd ∷ [], refl) w.began) (SeqEven ∷ [], w.over)
 
-  pub whole_later : (v : View) (log : Log) → WholeGracePeriod qsbr allows v log → Precedes v log × IsLiveRun qsbr allows log
+  pub whole_later : (v : View) (log : Log) → {seq present : ℕ} → WholeGracePeriod qsbr allows v seq present log → Precedes v log × IsLiveRun qsbr allows log
   whole_later v log w = let b = begins_whole v log w in ((begins_trans v.seen w.before log w.after.0 b, begins_trans v.heard w.before log w.after.1 b), w.run)
 
   -- so it is of a grace period that began after the seat looked at the log
-  pub whole_before : (v : View) (seen log : Log) → Wrote qsbr allows v [] seen → WholeGracePeriod qsbr allows (at_log v seen) log → WholeGracePeriod qsbr allows v log
+  pub whole_before : (v : View) (seen log : Log) → Wrote qsbr allows v [] seen → {seq present : ℕ} → WholeGracePeriod qsbr allows (at_log v seen) seq present log → WholeGracePeriod qsbr allows v seq present log
   whole_before v seen log looked w = record {
     before = w.before;
     within = w.within;
     after = (begins_trans v.seen seen w.before (begins_trans v.seen looked.0 seen looked.2 ([], looked.1)) w.after.0, w.after.1);
+    words = w.words;
     began = w.began;
     over = w.over;
     ended = w.ended;
@@ -45,7 +46,7 @@ module _ (qsbr : Bool) (allows : Log → LiveEvent → Type 0) where
   }
 
   -- a grace period of one's own answers what was asked before
-  pub whole_ended : (v : View) (old log : Log) → Begins old v.heard → WholeGracePeriod qsbr allows v log → HaveEnded old log
+  pub whole_ended : (v : View) (old log : Log) → Begins old v.heard → {seq present : ℕ} → WholeGracePeriod qsbr allows v seq present log → HaveEnded old log
   whole_ended v old log asked w = let b = begins_whole v log w in
       ended_before qsbr allows old w.before log (run_of qsbr allows w.before log b w.run) (begins_trans old v.heard w.before asked w.after.1) b w.ended
 

@@ -2,7 +2,7 @@
 use Rattle.std.proofs.Common.{◌≡◌, ℕ, ◌+◌, ◌≤◌, ◌^◌, List, ◌∷◌, Bool, true, false, sym, refl, ap, ◌∙◌, subst, inl, arith, true≢false}
 use Rattle.atomic_table.specs.Table.{Me}
 use Rattle.gp_memb.specs.declared.plan.Action.{Action}
-use Rattle.gp_memb.specs.declared.plan.Action.TheVariants.{Load, LoadGroup, StorePhase, StoreSeq}
+use Rattle.gp_memb.specs.declared.plan.Action.TheVariants.{Load, LoadGroup, StorePhase, StoreSeq, Finished}
 use Rattle.gp_memb.specs.Plan.{StoresInOrder, IsPresent, present_after}
 use Rattle.live_log.specs.declared.event.LiveEvent.{LiveEvent}
 use Rattle.live_log.specs.Log.{Log, MayBePresent}
@@ -14,6 +14,33 @@ use Rattle.live_grace.specs.Going.{Going, IsLogged, Begun}
 use Rattle.live_log.specs.Log.{IsBound}
 use Rattle.live_grace.proofs.Tellings.{told_load, told_store}
 
+-- the action loads the word at this place
+abbrev pub Loads : Action → ℕ → Type 0
+Loads (Load k) place = place ≡ slot_at k
+Loads (LoadGroup g) place = place ≡ group_at g
+Loads _ place = ⊥
+
+same_present : (a : Action) (place : ℕ) → Loads a place → (n : ℕ) → present_after n a ≡ n
+same_present (Load k) place loads n = refl
+same_present (LoadGroup g) place loads n = refl
+same_present (StorePhase value) place loads n = absurd loads
+same_present (StoreSeq value) place loads n = absurd loads
+same_present Finished place loads n = absurd loads
+
+logged : (a : Action) (place : ℕ) → Loads a place → (word : ℕ) (looks : List (ℕ × ℕ)) → IsLogged ((place, word) ∷ looks) a word
+logged (Load k) place loads word looks = inl (ap (λ (i : ℕ). (i, word)) loads)
+logged (LoadGroup g) place loads word looks = inl (ap (λ (i : ℕ). (i, word)) loads)
+logged (StorePhase value) place loads word looks = absurd loads
+logged (StoreSeq value) place loads word looks = absurd loads
+logged Finished place loads word looks = absurd loads
+
+no_store : (a : Action) (place : ℕ) → Loads a place → (value : ℕ) → a ≡ StoreSeq value → ⊥
+no_store (Load k) place loads value e = cc
+no_store (LoadGroup g) place loads value e = cc
+no_store (StorePhase other) place loads value e = absurd loads
+no_store (StoreSeq other) place loads value e = absurd loads
+no_store Finished place loads value e = absurd loads
+
 module _ {P : Type 0} (is_begun : P → Type 0) (action : P → Action) (taken : P → ℕ → P) (present : P → ℕ) (seq : ℕ) where
   -- the laws of the plan that the loop uses
   pub record Laws : Type 0 where
@@ -24,25 +51,14 @@ module _ {P : Type 0} (is_begun : P → Type 0) (action : P → Action) (taken :
     abbrev After : List (ℕ × ℕ) → ℕ → Type 0
     After looks' number = (number ≡ present new) × Begun is_begun action taken new looks'
 
-    pub after_load : (k word : ℕ) → action plan ≡ Load k → new ≡ taken plan word → After ((slot_at k, word) ∷ looks) (present plan)
-    after_load k word is next = (
-      sym (ap present next ∙ (laws.presents plan word ∙ ap (present_after (present plan)) is)),
+    pub after_look : (a : Action) (place word : ℕ) → action plan ≡ a → Loads a place → new ≡ taken plan word → After ((place, word) ∷ looks) (present plan)
+    after_look a place word is loads next = (
+      sym (ap present next ∙ (laws.presents plan word ∙ (ap (present_after (present plan)) is ∙ same_present a place loads (present plan)))),
       record {
         start = b.start;
         begun = b.begun;
-        told = subst (λ p. Rattle.live_grace.specs.Going.Told action taken b.start p ((slot_at k, word) ∷ looks)) (sym next)
-            (told_load action taken seq b.start (laws.order b.start b.begun) plan looks b.told (slot_at k, word) (subst (λ a. IsLogged ((slot_at k, word) ∷ looks) a word) (sym is) (inl refl)) (λ e. let f : Load k ≡ StoreSeq (seq + 2) = sym is ∙ e in cc));
-      },
-    )
-
-    pub after_group : (k word : ℕ) → action plan ≡ LoadGroup k → new ≡ taken plan word → After ((group_at k, word) ∷ looks) (present plan)
-    after_group k word is next = (
-      sym (ap present next ∙ (laws.presents plan word ∙ ap (present_after (present plan)) is)),
-      record {
-        start = b.start;
-        begun = b.begun;
-        told = subst (λ p. Rattle.live_grace.specs.Going.Told action taken b.start p ((group_at k, word) ∷ looks)) (sym next)
-            (told_load action taken seq b.start (laws.order b.start b.begun) plan looks b.told (group_at k, word) (subst (λ a. IsLogged ((group_at k, word) ∷ looks) a word) (sym is) (inl refl)) (λ e. let f : LoadGroup k ≡ StoreSeq (seq + 2) = sym is ∙ e in cc));
+        told = subst (λ p. Rattle.live_grace.specs.Going.Told action taken b.start p ((place, word) ∷ looks)) (sym next)
+            (told_load action taken seq b.start (laws.order b.start b.begun) plan looks b.told (place, word) (subst (λ x. IsLogged ((place, word) ∷ looks) x word) (sym is) (logged a place loads word looks)) (λ e. no_store a place loads (seq + 2) (sym is ∙ e)));
       },
     )
 

@@ -48,8 +48,8 @@ module _ {P : Type 0} where
   begins_with core new cookie plan is begun = begun ∙ ap (λ c. begun_with c plan) is
 
   -- the plan's next action is due
-  pub due_is : (action : P → Action) (core : SyncCore P) (cookie : ℕ) (plan : P) (step : SyncStep) (a : Action) → core ≡ Runs cookie plan → step ≡ step_of action core → step ≡ Plan a → action plan ≡ a
-  due_is action core cookie plan step a runs due is = ap action_or (ap (step_of action) (sym runs) ∙ (sym due ∙ is))
+  pub due_is : (action : P → Action) {core : SyncCore P} {cookie : ℕ} {plan : P} {step : SyncStep} {a : Action} → core ≡ Runs cookie plan → step ≡ step_of action core → step ≡ Plan a → action plan ≡ a
+  due_is action runs due is = ap action_or (ap (step_of action) (sym runs) ∙ (sym due ∙ is))
 
   module _ (action : P → Action) (turn : P → ℕ → Turn) (taken : P → ℕ → P) where
     -- by a turn after which the plan is not finished the core goes on, whether it waits or not

@@ -4,7 +4,7 @@ use Rattle.atomic_table.specs.Table.{Me}
 use Rattle.gp_memb.specs.Plan.{MayStore}
 use Rattle.live_log.specs.declared.event.LiveEvent.{LiveEvent}
 use Rattle.live_log.specs.declared.event.LiveEvent.TheVariants.{SeqOdd, SeqEven}
-use Rattle.live_log.specs.Log.{Log, present_of, before_odd, HaveEnded, IsLiveRun, MayBePresent, Begins}
+use Rattle.live_log.specs.Log.{Log, present_of, seq_of, before_odd, HaveEnded, IsLiveRun, MayBePresent, Begins}
 use Rattle.live_log.proofs.Lemmas.{begins_trans}
 use Rattle.live_rule.specs.declared.view.View.{View}
 use Rattle.live_rule.specs.declared.rights.GraceRight.{GraceRight}
@@ -23,8 +23,9 @@ module _ {S : Type 0} (qsbr : Bool) (allows : Log → LiveEvent → Type 0) (old
   pub only_after : (right : GraceRight) (events : Log) (m m' : Me S View) → Only m → GraceBecomes qsbr allows right events m m' → Only m'
   only_after right events m m' o g = g.0 ∙ (ap (λ (z : Me S View). (record (at_log z.0 m'.0.seen) { grace = right }, z.1)) o ∙ ap (λ (x : GraceRight). (record (at_log old.0 m'.0.seen) { grace = x }, old.1)) (sym (ap (λ (z : Me S View). z.0.grace) g.0)))
 
-  pub starts_going : (q t : ℕ) (new : Me S View) → GraceBecomes qsbr allows (Works q t (before_odd new.0.seen) []) (SeqOdd ∷ []) old new → present_of (before_odd new.0.seen) ≡ t → Going qsbr allows old q t t [] new
-  starts_going q t new g number =
+  pub starts_going : (q t : ℕ) (new : Me S View) → GraceBecomes qsbr allows (Works q t (before_odd new.0.seen) []) (SeqOdd ∷ []) old new → present_of (before_odd new.0.seen) ≡ t → seq_of (before_odd new.0.seen) + 1 ≡ q
+      → Going qsbr allows old q t t [] new
+  starts_going q t new g number odd =
       let is = ap (λ (z : Me S View). z.0.grace) g.0 in
       let seen = g.1.1 in
       let mark : before_in new.0.grace ≡ g.1.0 = ap before_in is ∙ ap before_odd seen in
@@ -35,6 +36,7 @@ module _ {S : Type 0} (qsbr : Bool) (allows : Log → LiveEvent → Type 0) (old
         since = ([], seen ∙ ap (λ l. SeqOdd ∷ l) (sym mark));
         run = subst (IsLiveRun qsbr allows) (sym mark) (subst (IsLiveRun qsbr allows) seen g.1.4).1;
         began = ap present_of (ap before_in is) ∙ number;
+        numbered = ap (λ (l : Log). seq_of l + 1) (ap before_in is) ∙ odd;
       }
 
   -- a further step of the period
@@ -50,14 +52,17 @@ module _ {S : Type 0} (qsbr : Bool) (allows : Log → LiveEvent → Type 0) (old
         since = subst (λ (l : Log). Begins (SeqOdd ∷ l) m'.0.seen) (sym mark) (begins_trans (SeqOdd ∷ before_in m.0.grace) m.0.seen m'.0.seen go.since (begins_trans m.0.seen g.1.0 m'.0.seen g.1.2 (events, g.1.1)));
         run = subst (IsLiveRun qsbr allows) (sym mark) go.run;
         began = ap present_of mark ∙ go.began;
+        numbered = ap (λ (l : Log). seq_of l + 1) mark ∙ go.numbered;
       }
 
   -- the last store makes the period whole
-  pub whole : (q first number : ℕ) (looks : List (ℕ × ℕ)) (right : GraceRight) (m m' : Me S View) → Going qsbr allows old q first number looks m → GraceBecomes qsbr allows right (SeqEven ∷ []) m m' → HaveEnded (before_in m.0.grace) m'.0.seen → WholeGracePeriod qsbr allows old.0 m'.0.seen
-  whole q first number looks right m m' go g ended = record {
+  pub whole : (seq first number : ℕ) (looks : List (ℕ × ℕ)) (right : GraceRight) (m m' : Me S View) → Going qsbr allows old (seq + 1) first number looks m → GraceBecomes qsbr allows right (SeqEven ∷ []) m m'
+      → HaveEnded (before_in m.0.grace) m'.0.seen → WholeGracePeriod qsbr allows old.0 seq first m'.0.seen
+  whole seq first number looks right m m' go g ended = record {
     before = before_in m.0.grace;
     within = g.1.0;
     after = go.after;
+    words = (let n = go.numbered in omega arith, go.began);
     began = begins_trans (SeqOdd ∷ before_in m.0.grace) m.0.seen g.1.0 go.since g.1.2;
     over = g.1.1;
     ended = ended;

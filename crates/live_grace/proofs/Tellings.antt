@@ -81,6 +81,10 @@ module _ {P : Type 0} (action : P → Action) (taken : P → ℕ → P) where
     pub even_is : (plan : P) (looks : List (ℕ × ℕ)) → Told action taken begun plan looks → (value : ℕ) → action plan ≡ StoreSeq value → value ≡ seq + 2
     even_is plan looks t value is = order.second 0 value t.words (ap action (sym t.is) ∙ is)
 
+    -- its turns, up to the last store
+    pub all_turns : (plan : P) (looks : List (ℕ × ℕ)) (t : Told action taken begun plan looks) → after_loads taken begun (0 ∷ (t.words ++ 0 ∷ [])) ≡ taken plan 0
+    all_turns plan looks t = after_more (taken begun 0) t.words 0 ∙ ap (λ p. taken p 0) (sym t.is)
+
     -- by the last store the plan is finished
     pub told_last : (plan : P) (looks : List (ℕ × ℕ)) → Told action taken begun plan looks → Ended plan → action (taken plan 0) ≡ Finished
     told_last plan looks t ends = subst (λ p. action (taken p 0) ≡ Finished) (sym t.is) ((order.last (0 ∷ t.words) 0 (λ g. t.unfinished (ap action t.is ∙ g))).1 (ap action (sym t.is) ∙ ends))

@@ -1,8 +1,13 @@
 -- Why an ask is answered.
-use Rattle.std.specs.Prelude.{Bool, ◌≡◌, ℕ, ◌+◌, ◌%◌, ◌≤◌, ◌∷◌}
+use Rattle.std.specs.Prelude.{Bool, true, ◌≡◌, ℕ, ◌+◌, ◌%◌, ◌≤◌, List, ◌∷◌}
+use Rattle.reader_word.specs.declared.layout.Layout.{Layout}
+use Rattle.reader_word.specs.declared.layout.Layout.TheVariants.{Wide}
+use Rattle.gp_memb.specs.declared.plan.Action.{Action}
+use Rattle.gp_memb.specs.declared.plan.Action.TheVariants.{Finished}
+use Rattle.gp_memb.specs.Plan.{after_loads}
 use Rattle.live_log.specs.declared.event.LiveEvent.{LiveEvent}
 use Rattle.live_log.specs.declared.event.LiveEvent.TheVariants.{SeqEven, SeqOdd}
-use Rattle.live_log.specs.Log.{Log, Begins, HaveEnded, IsLiveRun, seq_of}
+use Rattle.live_log.specs.Log.{Log, Begins, HaveEnded, IsLiveRun, present_of, seq_of}
 use Rattle.live_rule.specs.declared.view.View.{View}
 use Rattle.live_rule.specs.Steps.{Precedes}
 
@@ -10,13 +15,27 @@ use Rattle.live_rule.specs.Steps.{Precedes}
 abbrev pub IsCookieOf : Log → ℕ → Type 0
 IsCookieOf log cookie = (cookie % 2 ≡ 0) × (seq_of log + 2 ≤ cookie)
 
--- The log ends with the last store of a grace period. That began after all that the view had seen and heard, and each
--- section that was open when it began has ended.
-pub record WholeGracePeriod (qsbr : Bool) (allows : Log → LiveEvent → Type 0) (v : View) (log : Log) : Type 0 where
+-- the log has these words of grace periods: the sequence number, and the phase or number
+abbrev pub HasWords : ℕ → ℕ → Log → Type 0
+HasWords seq present log = (seq_of log ≡ seq) × (present_of log ≡ present)
+
+-- The log ends with the last store of a grace period. That began after all that the view had seen and heard, at this
+-- sequence number and this phase or number, and each section that was open when it began has ended.
+pub record WholeGracePeriod (qsbr : Bool) (allows : Log → LiveEvent → Type 0) (v : View) (seq present : ℕ) (log : Log) : Type 0 where
   pub before : Log
   pub within : Log
   pub after : Precedes v before
+  pub words : HasWords seq present before
   pub began : Begins (SeqOdd ∷ before) within
   pub over : log ≡ SeqEven ∷ within
   pub ended : HaveEnded before log
   pub run : IsLiveRun qsbr allows log
+
+-- a plan that was made for so many slots at this sequence number and this phase or number has run to its end, and left
+-- the last phase or number
+pub record RanPlan {P : Type 0} (is_begun : Layout → Bool → ℕ → ℕ → ℕ → P → Type 0) (action : P → Action) (taken : P → ℕ → P) (present : P → ℕ) (slots seq first last : ℕ) : Type 0 where
+  pub start : P
+  pub begun : is_begun Wide true slots seq first start
+  pub loaded : List ℕ
+  pub finished : action (after_loads taken start loaded) ≡ Finished
+  pub left : present (after_loads taken start loaded) ≡ last

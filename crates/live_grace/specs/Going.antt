@@ -1,12 +1,12 @@
 -- A seat within a grace period, and what the plan was told.
-use Rattle.std.specs.Prelude.{◌≡◌, ◌≢◌, ◌⊎◌, ℕ, Bool, List, [], ◌∷◌}
+use Rattle.std.specs.Prelude.{◌≡◌, ◌≢◌, ◌⊎◌, ℕ, ◌+◌, Bool, List, [], ◌∷◌}
 use Rattle.atomic_table.specs.Table.{Me}
 use Rattle.gp_memb.specs.declared.plan.Action.{Action}
 use Rattle.gp_memb.specs.declared.plan.Action.TheVariants.{Load, LoadGroup, StorePhase, StoreSeq, Finished}
 use Rattle.gp_memb.specs.Plan.{after_loads}
 use Rattle.live_log.specs.declared.event.LiveEvent.{LiveEvent}
 use Rattle.live_log.specs.declared.event.LiveEvent.TheVariants.{SeqOdd}
-use Rattle.live_log.specs.Log.{Log, present_of, IsLiveRun, Begins}
+use Rattle.live_log.specs.Log.{Log, present_of, seq_of, IsLiveRun, Begins}
 use Rattle.live_rule.specs.declared.view.View.{View}
 use Rattle.live_rule.specs.declared.rights.GraceRight.TheVariants.{Works}
 use Rattle.live_rule.specs.Places.{group_at, slot_at}
@@ -21,6 +21,7 @@ pub record Going {S : Type 0} (qsbr : Bool) (allows : Log → LiveEvent → Type
   pub since : Begins (SeqOdd ∷ before_in now.0.grace) now.0.seen
   pub run : IsLiveRun qsbr allows (before_in now.0.grace)
   pub began : present_of (before_in now.0.grace) ≡ first
+  pub numbered : seq_of (before_in now.0.grace) + 1 ≡ q
 
 abbrev pub In : ℕ × ℕ → List (ℕ × ℕ) → Type 0
 In x [] = ⊥

@@ -19,7 +19,8 @@ use live_words::load_seq;
 use rcu_model::Refusal;
 use std::snapshot::Snapshot;
 
-/// An ask of a caller who waits for its answer: where the wait stands, and the log at the ask's load. The log has no bytes.
+/// An ask of a caller who waits for its answer: where the wait stands, and the log at the ask's load. The log has no
+/// bytes.
 #[derive(Drop)]
 pub struct LiveAsk<P: GracePlan> {
     pub(crate) core: SyncCore<P>,
@@ -29,8 +30,8 @@ pub struct LiveAsk<P: GracePlan> {
 }
 
 /// Asks for a grace period, as the first step of liburcu's `synchronize_rcu`, before the grace lock is taken: loads the
-/// sequence number and notes its cookie. The ask keeps the log at that load, which begins with all that the caller had seen
-/// and heard. `GraceWriter::answer` answers it.
+/// sequence number and notes its cookie. The ask keeps the log at that load, which begins with all that the caller had
+/// seen and heard. `GraceWriter::answer` answers it.
 ///
 /// Refused with `Exhausted` exactly where the loaded number is at or above 2^62. It never waits and takes no memory.
 pub fn ask<P: GracePlan + Drop, K: ChainRule>(

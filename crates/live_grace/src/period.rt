@@ -5,7 +5,7 @@ ghost use Rattle.live_log.specs.Log.{IsBound};
 ghost use Rattle.live_rule.specs.declared.rights.GraceRight.TheVariants.{Rests};
 ghost use Rattle.live_rule.specs.Steps.{at_log};
 ghost use Rattle.live_table.specs.Steps.{Keeps};
-ghost use Rattle.live_grace.specs.Answers.{WholeGracePeriod};
+ghost use Rattle.live_grace.specs.Answers.{HasWords, RanPlan, WholeGracePeriod};
 ghost use Rattle.live_grace.specs.Asks.{cookie_in};
 
 use crate::asks::go_on;
@@ -18,9 +18,9 @@ use live_table::LiveTable;
 use live_words::{load_group, load_slot, store_even, store_odd, store_present};
 use std::sync::Wait;
 
-/// A whole grace period by the seat that has the right to its words, from their present values: the sequence number, and
-/// the phase or number; answers the phase or number that it stored last. The core, whose check found the cookie not reached,
-/// names each step. It waits for each section that is open at its first store, with a back-off.
+/// A whole grace period by the seat that has the right to its words, from their present values: the sequence number,
+/// and the phase or number; answers the phase or number that it stored last. The core, whose check found the cookie not
+/// reached, names each step. It waits for each section that is open at its first store, with a back-off.
 pub(crate) fn grace_period<P: GracePlan + Drop, K: ChainRule, R: Wait>(
     rt: &R,
     table: &LiveTable<P, K>,
@@ -34,7 +34,9 @@ pub(crate) fn grace_period<P: GracePlan + Drop, K: ChainRule, R: Wait>(
     requires right { (seat.old.me.0.grace ≡ Rests seq first) × (seq % 2 ≡ 0) × (seq ≤ 2 ^ 62) × IsBound P.QSBR seq first }
     ensures seat { Keeps seat.old seat.new }
     ensures right { (seat.new.me ≡ (record (at_log seat.old.me.0 seat.new.me.0.seen) { grace = Rests (seq + 2) result }, seat.old.me.1)) × IsBound P.QSBR (seq + 2) result }
-    ensures period { WholeGracePeriod P.QSBR K.allows seat.old.me.0 seat.new.me.0.seen }
+    ensures words { HasWords (seq + 2) result seat.new.me.0.seen }
+    ensures period { WholeGracePeriod P.QSBR K.allows seat.old.me.0 seq first seat.new.me.0.seen }
+    ensures plan { RanPlan P.is_begun P.action P.taken P.present table.now.slots seq first result }
 {
     core.begin(P::start(table.slots, seq, first));
     let SyncStep::Plan(Action::StoreSeq(odd)) = core.next() else {

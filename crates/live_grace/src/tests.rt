@@ -1,5 +1,5 @@
-//! Asks, polls and answers at concrete types of both flavours. Expected words are those of the layout: the sequence number
-//! is word 16, and the phase or number word 32.
+//! Asks, polls and answers at concrete types of both flavours. Expected words are those of the layout: the sequence
+//! number is word 16, and the phase or number word 32.
 
 use crate::{Answer, GraceWriter, ask, poll, start_poll};
 use gp_memb::MembPlan;

@@ -5,7 +5,7 @@ ghost use Rattle.live_log.specs.Log.{Begins, HaveEnded, IsLiveRun};
 ghost use Rattle.live_rule.specs.declared.rights.GraceRight.TheVariants.{Rests};
 ghost use Rattle.live_rule.specs.Steps.{Precedes, at_log};
 ghost use Rattle.live_table.specs.Steps.{Keeps};
-ghost use Rattle.live_grace.specs.Answers.{WholeGracePeriod};
+ghost use Rattle.live_grace.specs.Answers.{HasWords, RanPlan, WholeGracePeriod};
 ghost use Rattle.live_grace.specs.Asks.{cookie_in};
 
 use crate::asks::{LiveAsk, go_on};
@@ -19,8 +19,8 @@ use live_words::load_seq;
 use std::marker::PhantomData;
 use std::sync::Wait;
 
-/// What the grace lock guards: the seat with the right to the words of grace periods, and their present values, between two
-/// grace periods by plans `P`.
+/// What the grace lock guards: the seat with the right to the words of grace periods, and their present values, between
+/// two grace periods by plans `P`.
 #[derive(Drop)]
 pub struct GraceWriter<P: GracePlan> {
     /// The seat.
@@ -67,14 +67,16 @@ impl<P: GracePlan + Drop> GraceWriter<P> {
         requires low { self.old.seq ≤ 2 ^ 62 }
         ensures seat { Keeps self.old.seat self.new.seat }
         ensures seq { self.new.seq ≡ self.old.seq + 2 }
-        ensures period { WholeGracePeriod P.QSBR K.allows self.old.seat.me.0 self.new.seat.me.0.seen }
+        ensures words { HasWords self.new.seq self.new.present self.new.seat.me.0.seen }
+        ensures period { WholeGracePeriod P.QSBR K.allows self.old.seat.me.0 self.old.seq self.old.present self.new.seat.me.0.seen }
+        ensures plan { RanPlan P.is_begun P.action P.taken P.present table.now.slots self.old.seq self.old.present self.new.present }
     {
         self.present = grace_period(rt, table, &mut self.seat, core, self.seq, self.present);
         self.seq += 2;
     }
 
-    /// Sees to it that the ask is answered, whose log the seat has heard of: by a check where the sequence number that it
-    /// loads is at or above the cookie, and else by a whole grace period.
+    /// Sees to it that the ask is answered, whose log the seat has heard of: by a check where the sequence number that
+    /// it loads is at or above the cookie, and else by a whole grace period.
     fn settle<K: ChainRule, R: Wait>(
         &mut self,
         rt: &R,
@@ -86,8 +88,10 @@ impl<P: GracePlan + Drop> GraceWriter<P> {
         ensures seat { Keeps self.old.seat self.new.seat }
         ensures later { Precedes self.old.seat.me.0 self.new.seat.me.0.seen × IsLiveRun P.QSBR K.allows self.new.seat.me.0.seen }
         ensures ended { HaveEnded ask.asked.value.me.0.seen self.new.seat.me.0.seen }
+        ensures words { HasWords self.new.seq self.new.present self.new.seat.me.0.seen }
         ensures shared { cookie_in ask.core ≤ self.old.seq → (result ≡ Shared) × (self.new.seq ≡ self.old.seq) × (self.new.present ≡ self.old.present) }
-        ensures own { self.old.seq < cookie_in ask.core → (result ≡ Own) × (self.new.seq ≡ self.old.seq + 2) × WholeGracePeriod P.QSBR K.allows self.old.seat.me.0 self.new.seat.me.0.seen }
+        ensures own { self.old.seq < cookie_in ask.core → (result ≡ Own) × (self.new.seq ≡ self.old.seq + 2) × WholeGracePeriod P.QSBR K.allows self.old.seat.me.0 self.old.seq self.old.present self.new.seat.me.0.seen }
+        ensures plan { self.old.seq < cookie_in ask.core → RanPlan P.is_begun P.action P.taken P.present table.now.slots self.old.seq self.old.present self.new.present }
     {
         let LiveAsk { mut core, asked: _ } = ask;
         go_on(&mut core, 0);
@@ -99,11 +103,11 @@ impl<P: GracePlan + Drop> GraceWriter<P> {
         Answer::Own
     }
 
-    /// Answers an ask of the caller, by whoever holds the grace lock, as liburcu's `synchronize_rcu` does under it: each
-    /// section that was open in the ask's log has ended in the log that the caller has seen then. Where the sequence number
-    /// is at or above the ask's cookie, a grace period of another's has answered the ask already, and nothing is stored; else
-    /// a whole one is run, which began after all that the caller had seen. That waits for each section that is open at its
-    /// first store, with a back-off.
+    /// Answers an ask of the caller, by whoever holds the grace lock, as liburcu's `synchronize_rcu` does under it:
+    /// each section that was open in the ask's log has ended in the log that the caller has seen then. Where the
+    /// sequence number is at or above the ask's cookie, a grace period of another's has answered the ask already, and
+    /// nothing is stored; else a whole one is run, which began after all that the caller had seen, by a plan that runs
+    /// to its end. That waits for each section that is open at its first store, with a back-off.
     pub fn answer<K: ChainRule, R: Wait>(
         &mut self,
         rt: &R,
@@ -117,8 +121,10 @@ impl<P: GracePlan + Drop> GraceWriter<P> {
         ensures only { seat.new.me ≡ (record (at_log seat.old.me.0 seat.new.me.0.seen) { heard = self.new.seat.me.0.seen }, seat.old.me.1) }
         ensures later { Begins seat.old.me.0.seen seat.new.me.0.seen × Begins self.new.seat.me.0.seen seat.new.me.0.seen × IsLiveRun P.QSBR K.allows seat.new.me.0.seen }
         ensures ended { HaveEnded ask.asked.value.me.0.seen seat.new.me.0.seen }
+        ensures words { HasWords self.new.seq self.new.present self.new.seat.me.0.seen }
         ensures shared { cookie_in ask.core ≤ self.old.seq → (result ≡ Shared) × (self.new.seq ≡ self.old.seq) × (self.new.present ≡ self.old.present) }
-        ensures own { self.old.seq < cookie_in ask.core → (result ≡ Own) × (self.new.seq ≡ self.old.seq + 2) × WholeGracePeriod P.QSBR K.allows (heard_view self.old.seat.me.0 seat.old.me.0) self.new.seat.me.0.seen }
+        ensures own { self.old.seq < cookie_in ask.core → (result ≡ Own) × (self.new.seq ≡ self.old.seq + 2) × WholeGracePeriod P.QSBR K.allows (heard_view self.old.seat.me.0 seat.old.me.0) self.old.seq self.old.present self.new.seat.me.0.seen }
+        ensures plan { self.old.seq < cookie_in ask.core → RanPlan P.is_begun P.action P.taken P.present table.now.slots self.old.seq self.old.present self.new.present }
     {
         let told = table.tell(seat);
         table.learn(&mut self.seat, told);

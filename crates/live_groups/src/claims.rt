@@ -10,7 +10,7 @@ ghost use Rattle.live_rule.specs.declared.rights.SlotRight.TheVariants.{Idle, Ow
 ghost use Rattle.live_rule.specs.Readers.{IsClosed};
 ghost use Rattle.live_table.specs.Steps.{Keeps};
 ghost use Rattle.live_table.specs.Rights.{HasGroups, IsIdle, IsOwner, count_in, word_in};
-ghost use Rattle.live_groups.specs.Groups.{Regrouped, group_word, regrouped};
+ghost use Rattle.live_groups.specs.Groups.{Left, Regrouped, group_word, regrouped};
 
 use crate::steps::{store_clear, store_set};
 use gp_memb::GracePlan;
@@ -37,7 +37,8 @@ pub(crate) fn without_bit(word: u64, bit: usize) -> u64
     word & !(1 << bit)
 }
 
-/// Claims an idle slot: its bit is set in this word of its group, and the seat owns it. Answers the word that it stores.
+/// Claims an idle slot: its bit is set in this word of its group, and the seat owns it. Answers the word that it
+/// stores.
 pub fn claim<P: GracePlan, K: ChainRule>(
     table: &LiveTable<P, K>,
     seat: &mut LiveSeat,
@@ -57,8 +58,8 @@ pub fn claim<P: GracePlan, K: ChainRule>(
     new
 }
 
-/// Releases a slot whose word is closed: its bit is cleared in this word of its group, and the slot is idle. Answers the
-/// word that it stores. The bit was set: no slot is released twice.
+/// Releases a slot whose word is closed: its bit is cleared in this word of its group, and the slot is idle. Answers
+/// the word that it stores. The bit was set: no slot is released twice.
 pub fn release<P: GracePlan, K: ChainRule>(
     table: &LiveTable<P, K>,
     seat: &mut LiveSeat,
@@ -79,8 +80,9 @@ pub fn release<P: GracePlan, K: ChainRule>(
     new
 }
 
-/// Takes the slot of a reader that leaves, by the word that it stored last: an online reader of the quiescent-state flavour
-/// goes offline first, which closes its section; then the slot is released, as `release` does with this word of its group.
+/// Takes the slot of a reader that leaves, by the word that it stored last: an online reader of the quiescent-state
+/// flavour goes offline first, which closes its section; then the slot is released, as `release` does with this word of
+/// its group.
 pub fn leave<P: GracePlan, K: ChainRule>(
     table: &LiveTable<P, K>,
     seat: &mut LiveSeat,
@@ -93,8 +95,11 @@ pub fn leave<P: GracePlan, K: ChainRule>(
     requires unlocked { P.QSBR ≡ false → count_of Wide reader ≡ 0 }
     requires group { group_word seat.old.me.0 slot ≡ group }
     ensures seat { Keeps seat.old seat.new }
+    ensures was_set { bit_of group (slot % 64) ≡ true }
     ensures bit { bit_of result (slot % 64) ≡ false }
-    ensures idle { IsIdle seat.new.me.0 slot × (count_in seat.new.me.0.slot ≡ count_in seat.old.me.0.slot) }
+    ensures others { (q : ℕ) → q < 64 → q ≢ slot % 64 → bit_of result q ≡ bit_of group q }
+    ensures left { Left P.QSBR K.allows slot reader result seat.old.me seat.new.me }
+    ensures idle { IsIdle seat.new.me.0 slot × IsClosed P.QSBR (word_in seat.new.me.0.slot) × (count_in seat.new.me.0.slot ≡ count_in seat.old.me.0.slot) }
     ensures groups { seat.new.me.0.groups ≡ groups_right.Owns (regrouped seat.old.me.0 slot result) }
     ensures closed { P.QSBR ≡ true → reader ≢ 0 → Has (Close slot (count_in seat.old.me.0.slot)) seat.new.me.0.seen }
     ensures later { Begins seat.old.me.0.seen seat.new.me.0.seen × IsLiveRun P.QSBR K.allows seat.new.me.0.seen }

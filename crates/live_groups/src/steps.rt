@@ -31,7 +31,8 @@ pub fn store_set<P: GracePlan, K: ChainRule>(
     table.words.shared.store::<Claims<P, K>>(seat, place, word);
 }
 
-/// The store that clears the bit of a slot, once its reader's word is closed. From here on no section may be opened there.
+/// The store that clears the bit of a slot, once its reader's word is closed. From here on no section may be opened
+/// there.
 pub fn store_clear<P: GracePlan, K: ChainRule>(
     table: &LiveTable<P, K>,
     seat: &mut LiveSeat,

@@ -24,7 +24,7 @@ use Rattle.live_rule.specs.Rights.{grace, ClaimsGrace, KnowsGrace}
 use Rattle.live_rule.specs.Readers.{Fits}
 use Rattle.live_rule.specs.Rule.{KeepsRule}
 use Rattle.live_rule.specs.Steps.{Wrote, at_log}
-use Rattle.live_table.specs.Rights.{seq_in}
+use Rattle.live_table.specs.Rights.{present_in, seq_in}
 use Rattle.live_rule.proofs.Lemmas.{saw_later}
 use Rattle.live_rule.proofs.Lemmas.{Apart, low_loads}
 use Rattle.live_periods.specs.Periods.{ShownAll, TellsAllEnded, looked_seq, GraceBecomes, looked_word, presented, began, ended}
@@ -60,11 +60,11 @@ module _ {S : Type 0} (qsbr : Bool) (allows : Log → LiveEvent → Type 0) (key
   granted : (s : State S View) (rule : Rule s) (g : GraceRight) → get_elem? s.views id ≡ some me.0 → me.0.grace ≡ g → ClaimsGrace g → KnowsGrace qsbr key rule.log s.words g
   granted s rule g at is claim = subst (KnowsGrace qsbr key rule.log s.words) is (rule.knows grace id me.0 at (subst ClaimsGrace (sym is) claim))
 
-  -- who has the right knows the sequence number
-  known_seq : (log : Log) (words : List ℕ) (g : GraceRight) → ClaimsGrace g → KnowsGrace qsbr key log words g → seq_of log ≡ seq_in g
-  known_seq log words Nothing c k = absurd c
-  known_seq log words (Rests q t) c k = k.0
-  known_seq log words (Works q t mark looks) c k = k.0
+  -- who has the right knows the sequence number, and the phase or number
+  known : (log : Log) (words : List ℕ) (g : GraceRight) → ClaimsGrace g → KnowsGrace qsbr key log words g → (seq_of log ≡ seq_in g) × (present_of log ≡ present_in g)
+  known log words Nothing c k = absurd c
+  known log words (Rests q t) c k = (k.0, k.1)
+  known log words (Works q t mark looks) c k = (k.0, k.1)
 
   told : (s : State S View) (rule : Rule s) (events : Log) → get_elem? s.views id ≡ some me.0 → IsLiveRun qsbr allows (events ++ rule.log) → Wrote qsbr allows me.0 events (events ++ rule.log)
   told s rule events at run = (rule.log, refl, (rule.seen id me.0 at).0, (rule.seen id me.0 at).1, run)
@@ -75,7 +75,7 @@ module _ {S : Type 0} (qsbr : Bool) (allows : Log → LiveEvent → Type 0) (key
     keeps,
     tt,
     low_loads qsbr allows key s r id seq_at me.0 me.0.grace at (λ c. (r.knows grace id me.0 at c, c)),
-    ((refl, told s r [] at r.run), sym r.agree.readers.seq, λ c. r.agree.readers.seq ∙ known_seq r.log s.words me.0.grace c (r.knows grace id me.0 at c)),
+    ((refl, told s r [] at r.run), sym r.agree.readers.seq, λ c. let k = known r.log s.words me.0.grace c (r.knows grace id me.0 at c) in (r.agree.readers.seq ∙ k.0, k.1)),
   )
 
   -- a load of any word tells of the sections that were open at the mark
@@ -123,7 +123,7 @@ module _ {S : Type 0} (qsbr : Bool) (allows : Log → LiveEvent → Type 0) (key
             (get_or-set_same s.words seq_at (q + 1) 0 (omega arith) ∙ sym seq) (get_or-set_other s.words seq_at present_at (q + 1) 0 (λ e. omega arith) ∙ rule.agree.readers.present)
             (seq, k.1, omega arith, refl, tt),
         λ q' t' is'. let z = ap grace_or (sym is ∙ is') in
-            subst (λ (y : (ℕ × ℕ) × Log × List (ℕ × ℕ)). GraceBecomes qsbr allows (Works (q + 1) y.0.1 rule.log []) (SeqOdd ∷ []) me (w, me.1) × (present_of rule.log ≡ y.0.1)) z ((refl, told s rule (SeqOdd ∷ []) at (may, rule.run)), k.1),
+            subst (λ (y : (ℕ × ℕ) × Log × List (ℕ × ℕ)). GraceBecomes qsbr allows (Works (q + 1) y.0.1 rule.log []) (SeqOdd ∷ []) me (w, me.1) × (present_of rule.log ≡ y.0.1) × (seq_of rule.log ≡ y.0.0)) z ((refl, told s rule (SeqOdd ∷ []) at (may, rule.run)), k.1, k.0),
       )
 
   pub stores_present : (q t x : ℕ) (mark : Log) (looks : List (ℕ × ℕ)) → me.0.grace ≡ Works q t mark looks → MayBePresent qsbr q t x
@@ -165,8 +165,8 @@ module _ {S : Type 0} (qsbr : Bool) (allows : Log → LiveEvent → Type 0) (key
             (get_or-set_same s.words seq_at (q + 1) 0 (omega arith) ∙ sym seq) (get_or-set_other s.words seq_at present_at (q + 1) 0 (λ e. omega arith) ∙ rule.agree.readers.present)
             (seq, k.1, omega arith),
         λ q' t' mark' looks' is'. let z = ap grace_or (sym is ∙ is') in
-            subst (λ (y : (ℕ × ℕ) × Log × List (ℕ × ℕ)). GraceBecomes qsbr allows (Rests (q + 1) y.0.1) (SeqEven ∷ []) me (w, me.1) × HaveEnded y.1 (SeqEven ∷ rule.log)) z
-            ((refl, told s rule (SeqEven ∷ []) at (may, rule.run)), λ r n m was. inr (cleared r n m was)),
+            subst (λ (y : (ℕ × ℕ) × Log × List (ℕ × ℕ)). GraceBecomes qsbr allows (Rests (q + 1) y.0.1) (SeqEven ∷ []) me (w, me.1) × HaveEnded y.1 (SeqEven ∷ rule.log) × (seq_of (SeqEven ∷ rule.log) ≡ q + 1) × (present_of rule.log ≡ y.0.1)) z
+            ((refl, told s rule (SeqEven ∷ []) at (may, rule.run)), (λ r n m was. inr (cleared r n m was)), seq, k.1),
       )
     where
       cleared_of : (s : State S View) (rule : Rule s) (mark : Log) (looks : List (ℕ × ℕ)) → TellsAllEnded qsbr key.slots mark looks → before_odd rule.log ≡ mark → IsLiveRun qsbr allows mark → SawAll qsbr key.slots mark rule.log looks → HaveEnded mark rule.log

@@ -10,7 +10,7 @@ use Rattle.live_rule.specs.declared.rights.GraceRight.TheVariants.{Rests, Works}
 use Rattle.live_rule.specs.Readers.{Shown}
 use Rattle.live_rule.specs.Rights.{ClaimsGrace}
 use Rattle.live_rule.specs.Steps.{Wrote, at_log, Looked}
-use Rattle.live_table.specs.Rights.{seq_in}
+use Rattle.live_table.specs.Rights.{present_in, seq_in}
 
 -- each word that was loaded tells that a section that copied this is open in the slot
 abbrev pub ShownAll : Bool → List (ℕ × ℕ) → ℕ → ℕ → Type 0
@@ -22,9 +22,10 @@ abbrev pub TellsAllEnded : Bool → ℕ → Log → List (ℕ × ℕ) → Type 0
 TellsAllEnded qsbr slots mark looks = (r m : ℕ) → r < slots → MayCopy qsbr (present_of mark) m → ShownAll qsbr looks r m → ⊥
 
 module _ {S : Type 0} (qsbr : Bool) (allows : Log → LiveEvent → Type 0) where
-  -- the sequence number was loaded, by any seat; the one with the right to the words of grace periods knew it
+  -- the sequence number was loaded, by any seat; the one with the right to the words of grace periods knew it, and the
+  -- phase or number
   abbrev pub looked_seq : Step S → Me S View → ℕ → Me S View → Type 0
-  looked_seq st m n m' = Looked qsbr allows m m' × (seq_of m'.0.seen ≡ n) × (ClaimsGrace m.0.grace → n ≡ seq_in m.0.grace)
+  looked_seq st m n m' = Looked qsbr allows m m' × (seq_of m'.0.seen ≡ n) × (ClaimsGrace m.0.grace → (n ≡ seq_in m.0.grace) × (present_of m'.0.seen ≡ present_in m.0.grace))
 
   -- the seat's right to the words of grace periods is this one now, and these events were written
   abbrev pub GraceBecomes : GraceRight → Log → Me S View → Me S View → Type 0
@@ -40,8 +41,8 @@ module _ {S : Type 0} (qsbr : Bool) (allows : Log → LiveEvent → Type 0) wher
 
   -- the sequence number became odd; the mark is the log before that
   abbrev pub began : Step S → Me S View → ℕ → Me S View → Type 0
-  began st m n m' = (q t : ℕ) → m.0.grace ≡ Rests q t → GraceBecomes (Works st.first t (before_odd m'.0.seen) []) (SeqOdd ∷ []) m m' × (present_of (before_odd m'.0.seen) ≡ t)
+  began st m n m' = (q t : ℕ) → m.0.grace ≡ Rests q t → GraceBecomes (Works st.first t (before_odd m'.0.seen) []) (SeqOdd ∷ []) m m' × (present_of (before_odd m'.0.seen) ≡ t) × (seq_of (before_odd m'.0.seen) ≡ q)
 
   -- it became even, and each section that was open at the mark has ended
   abbrev pub ended : Step S → Me S View → ℕ → Me S View → Type 0
-  ended st m n m' = (q t : ℕ) (mark : Log) (looks : List (ℕ × ℕ)) → m.0.grace ≡ Works q t mark looks → GraceBecomes (Rests st.first t) (SeqEven ∷ []) m m' × HaveEnded mark m'.0.seen
+  ended st m n m' = (q t : ℕ) (mark : Log) (looks : List (ℕ × ℕ)) → m.0.grace ≡ Works q t mark looks → GraceBecomes (Rests st.first t) (SeqEven ∷ []) m m' × HaveEnded mark m'.0.seen × (seq_of m'.0.seen ≡ st.first) × (present_of m'.0.seen ≡ t)

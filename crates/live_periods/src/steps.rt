@@ -16,14 +16,14 @@ use live_log::ChainRule;
 use live_rule::LiveSeat;
 use live_table::LiveTable;
 
-/// Loads the sequence number, by any seat. It is the one that the seat knew, where that has the right to the words of grace
-/// periods. It never waits.
+/// Loads the sequence number, by any seat. A seat with the right to the words of grace periods knew it, and the phase
+/// or number: nobody else stores them. It never waits.
 pub fn load_seq<P: GracePlan, K: ChainRule>(table: &LiveTable<P, K>, seat: &mut LiveSeat) -> u64
     requires { seat.old.table_id ≡ table.now.words.shared.table_id }
     ensures seat { Keeps seat.old seat.new }
     ensures looked { Looked P.QSBR K.allows seat.old.me seat.new.me }
     ensures seq { seq_of seat.new.me.0.seen ≡ result }
-    ensures known { ClaimsGrace seat.old.me.0.grace → result ≡ seq_in seat.old.me.0.grace }
+    ensures known { ClaimsGrace seat.old.me.0.grace → (result ≡ seq_in seat.old.me.0.grace) × (present_of seat.new.me.0.seen ≡ present_in seat.old.me.0.grace) }
 {
     let place = table.seq_place();
     table.words.shared.load::<LooksSeq<P, K>>(seat, place)
@@ -59,14 +59,14 @@ pub fn load_group<P: GracePlan, K: ChainRule>(
     table.words.shared.load::<LooksWord<P, K>>(seat, place)
 }
 
-/// The store that makes the sequence number odd: a grace period begins, whose mark is the log before the store. The caller
-/// has an even number of at most 2^62.
+/// The store that makes the sequence number odd: a grace period begins, whose mark is the log before the store. The
+/// caller has an even number of at most 2^62.
 pub fn store_odd<P: GracePlan, K: ChainRule>(table: &LiveTable<P, K>, seat: &mut LiveSeat, seq: u64)
     requires seat { seat.old.table_id ≡ table.now.words.shared.table_id }
     requires right { IsResting seat.old.me.0 × (seq_in seat.old.me.0.grace ≤ 2 ^ 62) × (seq ≡ seq_in seat.old.me.0.grace + 1) }
     ensures seat { Keeps seat.old seat.new }
     ensures began { GraceBecomes P.QSBR K.allows (Works seq (present_in seat.old.me.0.grace) (before_odd seat.new.me.0.seen) []) (SeqOdd ∷ []) seat.old.me seat.new.me }
-    ensures present { present_of (before_odd seat.new.me.0.seen) ≡ present_in seat.old.me.0.grace }
+    ensures words { (seq_of (before_odd seat.new.me.0.seen) ≡ seq_in seat.old.me.0.grace) × (present_of (before_odd seat.new.me.0.seen) ≡ present_in seat.old.me.0.grace) }
 {
     let place = table.seq_place();
     table.words.shared.store::<Begins<P, K>>(seat, place, seq);
@@ -103,6 +103,7 @@ pub fn store_even<P: GracePlan, K: ChainRule>(
     ensures seat { Keeps seat.old seat.new }
     ensures ended { GraceBecomes P.QSBR K.allows (Rests seq (present_in seat.old.me.0.grace)) (SeqEven ∷ []) seat.old.me seat.new.me }
     ensures cleared { HaveEnded (before_in seat.old.me.0.grace) seat.new.me.0.seen }
+    ensures words { (seq_of seat.new.me.0.seen ≡ seq) × (present_of seat.new.me.0.seen ≡ present_in seat.old.me.0.grace) }
 {
     let place = table.seq_place();
     table.words.shared.store::<Ends<P, K>>(seat, place, seq);

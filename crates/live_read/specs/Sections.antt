@@ -41,7 +41,8 @@ module _ {P K B : Type 0} {g : Ghosts B} where
     abbrev pub OpensOutermost : Type 0
     OpensOutermost = Opened qsbr allows r.slot s.word r.seat.me s.seat.me × CopiedBefore qsbr allows r.slot s.word r.seat.me s.seat.me (opens qsbr r.slot (ordinal r) s.word)
 
-    -- one more lock or section of the general-purpose flavour: the outermost opens a section of the log, and an inner one stays in it
+    -- one more lock or section of the general-purpose flavour: the outermost opens a section of the log, and an inner
+    -- one stays in it
     pub record Enters : Type 0 where
       pub slot : s.slot ≡ r.slot
       pub depth : s.depth ≡ r.depth + 1
@@ -56,18 +57,22 @@ module _ {P K B : Type 0} {g : Ghosts B} where
       pub outermost : r.depth ≡ 1 → Closed qsbr allows r.slot s.word r.seat.me s.seat.me
       pub inner : 1 < r.depth → Nested qsbr allows r.slot s.word r.seat.me s.seat.me × IsIn s
 
-    -- the same of either flavour
-    pub record Begins (n : ℕ) : Type 0 where
+    -- The same of either flavour. The reader is in a section of the log, in the quiescent-state flavour where it was
+    -- before.
+    pub record BeginsSection (n : ℕ) : Type 0 where
       pub locks : s.locks ≡ n
       pub general : qsbr ≡ false → Enters
       pub quiescent : qsbr ≡ true → Local r s (r.depth + 1) × (r.word ≢ 0)
       pub deeper : s.depth ≡ r.depth + 1
+      pub inside : (qsbr ≡ true → IsIn r) → IsIn s
 
-    pub record Ends (n : ℕ) : Type 0 where
+    -- where an inner one ends, the reader stays in the section of the log in which it was
+    pub record EndsSection (n : ℕ) : Type 0 where
       pub locks : s.locks ≡ n
       pub general : qsbr ≡ false → Leaves
       pub quiescent : qsbr ≡ true → Local r s (r.depth - 1)
       pub shallower : s.depth ≡ r.depth - 1
+      pub inside : 1 < r.depth → IsIn r → IsIn s
 
     -- an offline reader goes online, which opens a section of the log
     pub record GoesOnline : Type 0 where

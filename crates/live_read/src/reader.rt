@@ -46,7 +46,7 @@ pub struct Reader<P: GracePlan, K: ChainRule, B: Site> {
 impl<P: GracePlan, K: ChainRule, B: Site> Reader<P, K, B> {
     ghost use Rattle.std.specs.Borrow.{sem, RestsIfErr};
     ghost use Rattle.live_read.specs.contracts.reader.Reader.{the_row};
-    ghost use Rattle.live_read.specs.Sections.{Announces, Begins, Ends, Enters, GoesOffline, GoesOnline, Leaves, Local, MayNotAnnounce, MayNotBegin, MayNotGoOnline, greatest_depth};
+    ghost use Rattle.live_read.specs.Sections.{Announces, BeginsSection, EndsSection, Enters, GoesOffline, GoesOnline, Leaves, Local, MayNotAnnounce, MayNotBegin, MayNotGoOnline, greatest_depth};
 
     /// A reader by a seat that owns a slot whose word is closed.
     pub(crate) fn new(
@@ -87,7 +87,7 @@ impl<P: GracePlan, K: ChainRule, B: Site> Reader<P, K, B> {
     // One more section or lock, with so many locks of the standard's face.
     pub(crate) fn enter(&mut self, locks: u64) -> Result<(), Refusal>
         requires { (P.QSBR ≡ B.qsbr) × (locks ≤ self.old.depth + 1) }
-        ensures ok { IfOk result (λ _. Begins P.QSBR K.allows self.old self.new locks) }
+        ensures ok { IfOk result (λ _. BeginsSection P.QSBR K.allows self.old self.new locks) }
         ensures same { IfErr result (λ _. self.new ≡ self.old) }
         ensures err { IfErr result (λ e. MayNotBegin P.QSBR e self.old) }
     {
@@ -122,7 +122,7 @@ impl<P: GracePlan, K: ChainRule, B: Site> Reader<P, K, B> {
     // One section or lock less, with so many locks of the standard's face.
     pub(crate) fn leave(&mut self, locks: u64)
         requires { (P.QSBR ≡ B.qsbr) × (locks < self.old.depth) }
-        ensures { Ends P.QSBR K.allows self.old self.new locks }
+        ensures { EndsSection P.QSBR K.allows self.old self.new locks }
     {
         if P::QSBR {
             self.depth -= 1;
@@ -148,13 +148,13 @@ impl<P: GracePlan, K: ChainRule, B: Site> Reader<P, K, B> {
     /// A read-side section, which is an inner one where the reader is in one, as by liburcu's `rcu_read_lock`. In the
     /// quiescent-state flavour it is a count, and no step of the table.
     ///
-    /// Refused with `NestFull` exactly at the greatest depth, 2,147,483,647, and with `NotOpen` where the reader is of the
-    /// quiescent-state flavour and offline; then the reader is as it was. It never waits.
+    /// Refused with `NestFull` exactly at the greatest depth, 2,147,483,647, and with `NotOpen` where the reader is of
+    /// the quiescent-state flavour and offline; then the reader is as it was. It never waits.
     pub fn section(&mut self) -> Result<Section<'_, P, K, B>, Refusal>
         requires { P.QSBR ≡ B.qsbr }
         ensures* refused { sem 𝓛 (RestsIfErr (the_row P.row K.row B.row B.Site P.GracePlan K.ChainRule) self.entry (λ s. s.reader.ghost_name) result (λ last. last ≡ self.old)) }
         ensures same { IfOk result (λ s. s.reader.ghost_name ≡ self.entry.ghost_name) }
-        ensures inside { IfOk result (λ s. Begins P.QSBR K.allows self.old s.reader.now self.old.locks) }
+        ensures inside { IfOk result (λ s. BeginsSection P.QSBR K.allows self.old s.reader.now self.old.locks) }
         ensures err { IfErr result (λ e. MayNotBegin P.QSBR e self.old) }
     {
         self.enter(self.locks)?;
@@ -166,7 +166,7 @@ impl<P: GracePlan, K: ChainRule, B: Site> Reader<P, K, B> {
     /// Refused as `section`, and then the reader is as it was. It never waits.
     pub fn lock(&mut self) -> Result<(), Refusal>
         requires { P.QSBR ≡ B.qsbr }
-        ensures ok { IfOk result (λ _. Begins P.QSBR K.allows self.old self.new (self.old.locks + 1)) }
+        ensures ok { IfOk result (λ _. BeginsSection P.QSBR K.allows self.old self.new (self.old.locks + 1)) }
         ensures same { IfErr result (λ _. self.new ≡ self.old) }
         ensures err { IfErr result (λ e. MayNotBegin P.QSBR e self.old) }
     {
@@ -176,7 +176,7 @@ impl<P: GracePlan, K: ChainRule, B: Site> Reader<P, K, B> {
     /// Whether `lock` succeeds; if so it is locked, and else the reader is as it was. It never waits.
     pub fn try_lock(&mut self) -> bool
         requires { P.QSBR ≡ B.qsbr }
-        ensures { MatchBool result (Begins P.QSBR K.allows self.old self.new (self.old.locks + 1)) ((self.new ≡ self.old) × (((P.QSBR ≡ true) × (self.old.word ≡ 0)) ⊎ (self.old.depth ≡ greatest_depth))) }
+        ensures { MatchBool result (BeginsSection P.QSBR K.allows self.old self.new (self.old.locks + 1)) ((self.new ≡ self.old) × (((P.QSBR ≡ true) × (self.old.word ≡ 0)) ⊎ (self.old.depth ≡ greatest_depth))) }
     {
         self.lock().is_ok()
     }
@@ -186,7 +186,7 @@ impl<P: GracePlan, K: ChainRule, B: Site> Reader<P, K, B> {
     /// Refused with `NotOpen` exactly where no lock is open, and then the reader is as it was. It never waits.
     pub fn unlock(&mut self) -> Result<(), Refusal>
         requires { P.QSBR ≡ B.qsbr }
-        ensures ok { IfOk result (λ _. (0 < self.old.locks) × Ends P.QSBR K.allows self.old self.new (self.old.locks - 1)) }
+        ensures ok { IfOk result (λ _. (0 < self.old.locks) × EndsSection P.QSBR K.allows self.old self.new (self.old.locks - 1)) }
         ensures same { IfErr result (λ _. self.new ≡ self.old) }
         ensures err { IfErr result (λ e. (e ≡ NotOpen) × (self.old.locks ≡ 0)) }
     {
@@ -199,8 +199,8 @@ impl<P: GracePlan, K: ChainRule, B: Site> Reader<P, K, B> {
 
     /// An offline reader goes online, liburcu's `rcu_thread_online`, which opens a section of the log.
     ///
-    /// Refused with `WrongFlavour` in the general-purpose flavour, else with `Busy` exactly where the reader is online; then
-    /// it is as it was. It never waits.
+    /// Refused with `WrongFlavour` in the general-purpose flavour, else with `Busy` exactly where the reader is online;
+    /// then it is as it was. It never waits.
     pub fn online(&mut self) -> Result<(), Refusal>
         requires { P.QSBR ≡ B.qsbr }
         ensures ok { IfOk result (λ _. GoesOnline P.QSBR K.allows self.old self.new) }
@@ -218,11 +218,11 @@ impl<P: GracePlan, K: ChainRule, B: Site> Reader<P, K, B> {
         Ok(())
     }
 
-    /// An online reader announces a quiescent state, liburcu's `rcu_quiescent_state`: its section of the log closes, and the
-    /// next one opens.
+    /// An online reader announces a quiescent state, liburcu's `rcu_quiescent_state`: its section of the log closes,
+    /// and the next one opens.
     ///
-    /// Refused with `WrongFlavour` in the general-purpose flavour, else with `NotOpen` exactly where the reader is offline,
-    /// else with `Busy` exactly while a lock or a section is open; then it is as it was. It never waits.
+    /// Refused with `WrongFlavour` in the general-purpose flavour, else with `NotOpen` exactly where the reader is
+    /// offline, else with `Busy` exactly while a lock or a section is open; then it is as it was. It never waits.
     pub fn quiescent(&mut self) -> Result<(), Refusal>
         requires { P.QSBR ≡ B.qsbr }
         ensures ok { IfOk result (λ _. Announces P.QSBR K.allows self.old self.new) }

@@ -31,9 +31,9 @@ pub fn online<P: GracePlan, K: ChainRule>(
     word
 }
 
-/// An online reader announces a quiescent state, liburcu's `rcu_quiescent_state`: it loads the number, and one store closes
-/// its section and opens the next one, which copied that number. Answers the word that it stores, which is not 0. It never
-/// waits.
+/// An online reader announces a quiescent state, liburcu's `rcu_quiescent_state`: it loads the number, and one store
+/// closes its section and opens the next one, which copied that number. Answers the word that it stores, which is not
+/// 0. It never waits.
 pub fn quiescent<P: GracePlan, K: ChainRule>(
     table: &LiveTable<P, K>,
     seat: &mut LiveSeat,

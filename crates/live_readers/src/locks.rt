@@ -15,8 +15,8 @@ use live_table::LiveTable;
 use rcu_model::Refusal;
 use reader_word::{Layout, entered, is_open, left};
 
-/// One lock of a reader, liburcu's `rcu_read_lock`, by the word that it stored last; answers the word that it stores now.
-/// An outermost lock loads the phase and then opens a section, which copied that phase.
+/// One lock of a reader, liburcu's `rcu_read_lock`, by the word that it stored last; answers the word that it stores
+/// now. An outermost lock loads the phase and then opens a section, which copied that phase.
 ///
 /// Refused with `NestFull` exactly at the greatest count, 2,147,483,647, before any store. It never waits.
 pub fn lock<P: GracePlan, K: ChainRule>(
@@ -46,8 +46,8 @@ pub fn lock<P: GracePlan, K: ChainRule>(
     Ok(new)
 }
 
-/// One unlock of a reader, liburcu's `rcu_read_unlock`, by the word that it stored last; answers the word that it stores
-/// now. An outermost unlock closes the section.
+/// One unlock of a reader, liburcu's `rcu_read_unlock`, by the word that it stored last; answers the word that it
+/// stores now. An outermost unlock closes the section.
 ///
 /// Refused with `NotOpen` exactly where no lock is open, before any store. It never waits.
 pub fn unlock<P: GracePlan, K: ChainRule>(

@@ -26,8 +26,8 @@ pub fn load_present<P: GracePlan, K: ChainRule>(table: &LiveTable<P, K>, seat: &
     table.words.shared.load::<LooksPresent<P, K>>(seat, place)
 }
 
-/// The store of an outermost lock, or of going online: it opens the slot's next section. What the word copied was loaded
-/// before.
+/// The store of an outermost lock, or of going online: it opens the slot's next section. What the word copied was
+/// loaded before.
 pub fn store_open<P: GracePlan, K: ChainRule>(
     table: &LiveTable<P, K>,
     seat: &mut LiveSeat,

@@ -17,3 +17,6 @@ returns-clause-ended g c = (c.store.ensures.2 _ _ _ _ c.requires.right.0).0
 
 pub returns-clause-cleared : goal.returns-clause-cleared
 returns-clause-cleared g c = (c.store.ensures.2 _ _ _ _ c.requires.right.0).1
+
+pub returns-clause-words : goal.returns-clause-words
+returns-clause-words g c = let told = c.store.ensures.2 _ _ _ _ c.requires.right.0 in (told.2, told.3)

@@ -7,5 +7,5 @@ store-requires g c = (c.requires.seat, c.seq_place-place.ensures.1, rw (c.seq_pl
 pub returns-clause-began : goal.returns-clause-began
 returns-clause-began g c = (c.store.ensures.2 _ _ c.requires.right.0).0
 
-pub returns-clause-present : goal.returns-clause-present
-returns-clause-present g c = (c.store.ensures.2 _ _ c.requires.right.0).1
+pub returns-clause-words : goal.returns-clause-words
+returns-clause-words g c = let told = c.store.ensures.2 _ _ c.requires.right.0 in (told.2, told.1)
