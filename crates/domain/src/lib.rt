@@ -14,8 +14,6 @@ pub use live_read::{Reader, Record, Section, Site, Witness};
 pub use opened::Opened;
 
 #[cfg(test)]
-mod shared_tests;
-#[cfg(test)]
 mod tests;
 #[cfg(test)]
 mod thread_tests;
