@@ -40,7 +40,7 @@ impl<P: GracePlan + Drop, K: ChainRule, B: Site> Domain<P, K, B> {
         ensures idle { IfOk result (λ r. (r.depth ≡ 0) × (r.locks ≡ 0) × (B.qsbr ≡ true → r.word ≡ 0)) }
         ensures told { IfOk result (λ r. r.seat.me.0.heard ≡ W.seen witness.old) }
         ensures refused { IfErr result (λ e. e ≡ NoSlot) }
-        ensures witness { (W.seen witness.new ≡ W.seen witness.old) × (W.heard witness.new ≡ W.heard witness.old) × (W.table_of witness.new ≡ B.table) }
+        ensures witness { (W.seen witness.new ≡ W.seen witness.old) × (W.heard witness.new ≡ W.heard witness.old) × (W.table_of witness.new ≡ B.table) × (W.standing witness.new ≡ W.standing witness.old) }
     {
         self.registrar.lock(rt).register(witness)
     }
@@ -65,7 +65,7 @@ impl<P: GracePlan + Drop, K: ChainRule, B: Site> Domain<P, K, B> {
     pub fn split<W: Witness>(&self, witness: &mut W) -> Record<B>
         requires { W.table_of witness.old ≡ B.table }
         ensures told { (result.seat.me.0.seen ≡ W.seen witness.old) × (result.seat.me.0.heard ≡ W.heard witness.old) }
-        ensures same { (W.seen witness.new ≡ W.seen witness.old) × (W.heard witness.new ≡ W.heard witness.old) × (W.table_of witness.new ≡ B.table) }
+        ensures same { (W.seen witness.new ≡ W.seen witness.old) × (W.heard witness.new ≡ W.heard witness.old) × (W.table_of witness.new ≡ B.table) × (W.standing witness.new ≡ W.standing witness.old) }
     {
         Record::split(&self.table, witness)
     }
@@ -74,8 +74,8 @@ impl<P: GracePlan + Drop, K: ChainRule, B: Site> Domain<P, K, B> {
     pub fn inform<S: Witness, T: Witness>(&self, from: &mut S, to: &mut T)
         requires { (S.table_of from.old ≡ B.table) × (T.table_of to.old ≡ B.table) }
         ensures told { T.heard to.new ≡ S.seen from.old }
-        ensures from { (S.seen from.new ≡ S.seen from.old) × (S.heard from.new ≡ S.heard from.old) × (S.table_of from.new ≡ B.table) }
-        ensures to { (T.seen to.new ≡ T.seen to.old) × (T.table_of to.new ≡ B.table) }
+        ensures from { (S.seen from.new ≡ S.seen from.old) × (S.heard from.new ≡ S.heard from.old) × (S.table_of from.new ≡ B.table) × (S.standing from.new ≡ S.standing from.old) }
+        ensures to { (T.seen to.new ≡ T.seen to.old) × (T.table_of to.new ≡ B.table) × (T.standing to.new ≡ T.standing to.old) }
     {
         live_read::inform(&self.table, from, to);
     }
@@ -101,7 +101,7 @@ impl<P: GracePlan + Drop, K: ChainRule, B: Site> Domain<P, K, B> {
         requires { W.table_of witness.old ≡ B.table }
         ensures ended { IfOk result (λ _. Synchronized P.QSBR K.allows (W.seen witness.old) (W.heard witness.old) (W.heard witness.new)) }
         ensures refused { IfErr result (λ e. (e ≡ Exhausted) × Follows P.QSBR K.allows (W.seen witness.old) (W.heard witness.old) (W.heard witness.new) × (2 ^ 62 ≤ seq_of (W.heard witness.new))) }
-        ensures witness { (W.seen witness.new ≡ W.seen witness.old) × (W.table_of witness.new ≡ B.table) }
+        ensures witness { (W.seen witness.new ≡ W.seen witness.old) × (W.table_of witness.new ≡ B.table) × (W.standing witness.new ≡ W.standing witness.old) }
     {
         let mut seat = witness.tell(&self.table);
         let answered = self.wait(rt, &mut seat);
@@ -120,7 +120,7 @@ impl<P: GracePlan + Drop, K: ChainRule, B: Site> Domain<P, K, B> {
         ensures cookie { IfOk result (λ c. (c.asked.value.me.0.seen ≡ W.heard witness.new) × (cookie_for (seq_of (W.heard witness.new)) ≡ Ok c.cookie)) }
         ensures refused { IfErr result (λ e. e ≡ Exhausted) }
         ensures taken { IsOk result ↔ (seq_of (W.heard witness.new) < 2 ^ 62) }
-        ensures witness { (W.seen witness.new ≡ W.seen witness.old) × (W.table_of witness.new ≡ B.table) }
+        ensures witness { (W.seen witness.new ≡ W.seen witness.old) × (W.table_of witness.new ≡ B.table) × (W.standing witness.new ≡ W.standing witness.old) }
     {
         let mut seat = witness.tell(&self.table);
         let cookie = live_grace::start_poll(&self.table, &mut seat);
@@ -136,7 +136,7 @@ impl<P: GracePlan + Drop, K: ChainRule, B: Site> Domain<P, K, B> {
         ensures loaded { Follows P.QSBR K.allows (W.seen witness.old) (W.heard witness.old) (W.heard witness.new) }
         ensures exact { IsTrue result ↔ (cookie.now.cookie ≤ seq_of (W.heard witness.new)) }
         ensures past { Begins cookie.now.asked.value.me.0.seen (W.heard witness.new) → IsTrue result → HaveEnded cookie.now.asked.value.me.0.seen (W.heard witness.new) }
-        ensures witness { (W.seen witness.new ≡ W.seen witness.old) × (W.table_of witness.new ≡ B.table) }
+        ensures witness { (W.seen witness.new ≡ W.seen witness.old) × (W.table_of witness.new ≡ B.table) × (W.standing witness.new ≡ W.standing witness.old) }
     {
         let mut seat = witness.tell(&self.table);
         let past = live_grace::poll(&self.table, &mut seat, cookie);

@@ -121,7 +121,10 @@ fn waits<B: Site, R: Wait>(
         return Err(Refusal::NotOpen);
     };
     reader.unlock()?;
-    let asked = domain.start_poll(&mut reader).is_ok();
+    domain.synchronize(rt, &mut reader)?;
+    let section = reader.section()?;
+    let asked = domain.start_poll(section.reader).is_ok();
+    section.close();
     Ok([!early, late, asked, domain.unregister(rt, reader).is_ok()])
 }
 

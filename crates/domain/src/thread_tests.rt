@@ -54,10 +54,27 @@ fn one_section<P: GracePlan, B: Site>(
     Ok(())
 }
 
+/// A reader with no section or lock open.
+#[derive(Drop)]
+struct Idle<P: GracePlan, B: Site> {
+    reader: Reader<P, AnyChain, B>,
+    ghost idle: { (reader.depth ≡ 0) × (reader.locks ≡ 0) },
+}
+
+fn registered<P: GracePlan + Drop, B: Site, R: Wait>(
+    rt: &R,
+    domain: &Domain<P, AnyChain, B>,
+    record: &mut Record<B>,
+) -> Result<Idle<P, B>, Refusal> {
+    let reader = domain.register(rt, record)?;
+    Ok(Idle { reader })
+}
+
 /// Sections, one after the other, and an announcement after each in the quiescent-state flavour. Whether none was refused.
-fn reads<P: GracePlan, B: Site>(mut reader: Reader<P, AnyChain, B>, all: &[Numbers]) -> bool
-    requires { (P.QSBR ≡ B.qsbr) × (reader.depth ≡ 0) × (reader.locks ≡ 0) }
+fn reads<P: GracePlan, B: Site>(idle: Idle<P, B>, all: &[Numbers]) -> bool
+    requires { P.QSBR ≡ B.qsbr }
 {
+    let Idle { mut reader } = idle;
     let Some(numbers) = all.get(reader.slot) else {
         return false;
     };
@@ -78,19 +95,19 @@ fn reads<P: GracePlan, B: Site>(mut reader: Reader<P, AnyChain, B>, all: &[Numbe
 /// Two readers, in a thread each.
 fn two_read<P: GracePlan + Send + Sync, B: Site + Send + Sync, R: Threads + Sync>(
     rt: &R,
-    one: Reader<P, AnyChain, B>,
-    two: Reader<P, AnyChain, B>,
+    one: Idle<P, B>,
+    two: Idle<P, B>,
     all: &[Numbers],
 ) -> bool
-    requires { (P.QSBR ≡ B.qsbr) × (one.depth ≡ 0) × (one.locks ≡ 0) × (two.depth ≡ 0) × (two.locks ≡ 0) }
+    requires { P.QSBR ≡ B.qsbr }
 {
     let (first, second) = join(
         rt,
         move ||
-            requires { (P.QSBR ≡ B.qsbr) × (one.depth ≡ 0) × (one.locks ≡ 0) }
+            requires { P.QSBR ≡ B.qsbr }
         { reads(one, all) },
         move ||
-            requires { (P.QSBR ≡ B.qsbr) × (two.depth ≡ 0) × (two.locks ≡ 0) }
+            requires { P.QSBR ≡ B.qsbr }
         { reads(two, all) },
     );
     first && second
@@ -172,48 +189,63 @@ fn waits<P: GracePlan + Drop, B: Site, R: Wait>(
     true
 }
 
+/// Two who wait, in a thread each.
+fn two_wait<P: GracePlan + Drop + Send + Sync, B: Site + Send + Sync, R: Threads + Wait + Sync>(
+    rt: &R,
+    domain: &Domain<P, AnyChain, B>,
+    one: Record<B>,
+    two: Record<B>,
+    all: &[Numbers],
+) -> bool {
+    let (first, second) = join(
+        rt,
+        move ||
+            requires { IsSync R.row }
+        { waits(rt, domain, one, all) },
+        move ||
+            requires { IsSync R.row }
+        { waits(rt, domain, two, all) },
+    );
+    first && second
+}
+
 /// Four readers and two who wait. Whether no section was refused, and each wait saw the sections end.
 fn serves<P: GracePlan + Drop + Send + Sync, B: Site + Send + Sync, R: Threads + Wait + Sync>(
     rt: &R,
     alloc: Global,
     opened: Opened<P, AnyChain>,
-) -> Result<(bool, bool), Refusal>
+) -> Result<(bool, bool, bool), Refusal>
     requires { (P.QSBR ≡ B.qsbr) × (opened.table.words.shared.table_id ≡ B.table) × (opened.table.slots ≡ B.slots) }
 {
     let (domain, mut record) = opened.named::<B>(alloc)?;
     let other = domain.split(&mut record);
-    let one = domain.register(rt, &mut record)?;
-    let two = domain.register(rt, &mut record)?;
-    let three = domain.register(rt, &mut record)?;
-    let four = domain.register(rt, &mut record)?;
+    let one = registered(rt, &domain, &mut record)?;
+    let two = registered(rt, &domain, &mut record)?;
+    let three = registered(rt, &domain, &mut record)?;
+    let four = registered(rt, &domain, &mut record)?;
     let numbers = [no_sections(), no_sections(), no_sections(), no_sections()];
     let all = numbers.as_slice();
-    let (read, waited) = join(
+    let home = &domain;
+    let (first, (second, waited)) = join(
         rt,
         move ||
-            requires { IsSync R.row × (P.QSBR ≡ B.qsbr) × (one.depth ≡ 0) × (one.locks ≡ 0) × (two.depth ≡ 0) × (two.locks ≡ 0) × (three.depth ≡ 0) × (three.locks ≡ 0) × (four.depth ≡ 0) × (four.locks ≡ 0) }
+            requires { IsSync R.row × (P.QSBR ≡ B.qsbr) }
+        { two_read(rt, one, two, all) },
+        move ||
+            requires { IsSync R.row × (P.QSBR ≡ B.qsbr) }
         {
             join(
                 rt,
                 move ||
-                    requires { IsSync R.row × (P.QSBR ≡ B.qsbr) × (one.depth ≡ 0) × (one.locks ≡ 0) × (two.depth ≡ 0) × (two.locks ≡ 0) }
-                { two_read(rt, one, two, all) },
-                move ||
-                    requires { IsSync R.row × (P.QSBR ≡ B.qsbr) × (three.depth ≡ 0) × (three.locks ≡ 0) × (four.depth ≡ 0) × (four.locks ≡ 0) }
+                    requires { IsSync R.row × (P.QSBR ≡ B.qsbr) }
                 { two_read(rt, three, four, all) },
-            )
-        },
-        ||
-            requires { IsSync R.row }
-        {
-            join(
-                rt,
-                || waits(rt, &domain, record, all),
-                || waits(rt, &domain, other, all),
+                move ||
+                    requires { IsSync R.row }
+                { two_wait(rt, home, record, other, all) },
             )
         },
     );
-    Ok((read.0 && read.1, waited.0 && waited.1))
+    Ok((first, second, waited))
 }
 
 fn of_four_slots() -> LiveConfig
@@ -233,7 +265,7 @@ fn waits_see_sections_end(rt: HostRuntime) {
         &rt, "memory",
     );
     let served = serves::<MembPlan, Brand, _>(&rt, rt.alloc(), opened).expect(&rt, "not refused");
-    assert_eq!(rt; served, (true, true));
+    assert_eq!(rt; served, (true, true, true));
 }
 
 #[test]
@@ -242,5 +274,5 @@ fn waits_see_announcements(rt: HostRuntime) {
         &rt, "memory",
     );
     let served = serves::<QsbrPlan, Brand, _>(&rt, rt.alloc(), opened).expect(&rt, "not refused");
-    assert_eq!(rt; served, (true, true));
+    assert_eq!(rt; served, (true, true, true));
 }

@@ -1,8 +1,8 @@
 -- How the row of a registrar changes.
-use Rattle.std.proofs.Common.{◌≡◌, ◌≢◌, ◌⊎◌, inl, inr, ⊎_elim, ℕ, zero, suc, ◌+◌, ◌/◌, ◌%◌, ◌<◌, ◌==◌, ◌&&◌, ◌||◌, ◌^◌, ◌++◌, Bool, true, false, List, [], ◌∷◌, length, slice_get, slice_set, Option, Some, None, sym, refl, ap, ◌∙◌, subst, arith, true≢false, length-set, length-append, get_or}
+use Rattle.std.proofs.Common.{◌≡◌, ◌≢◌, ◌⊎◌, inl, inr, ⊎_elim, ℕ, zero, suc, ◌+◌, ◌/◌, ◌%◌, ◌<◌, ◌==◌, ◌||◌, ◌^◌, ◌++◌, Bool, true, false, List, [], ◌∷◌, length, slice_get, slice_set, Some, sym, refl, ap, ◌∙◌, subst, arith, true≢false, length-set, length-append, get_or}
 use mathlib.Core.Logic.{dite}
 use native.Mathlib.Decide.{ℕ_discrete}
-use Rattle.std.specs.List.{Contains, list_any}
+use Rattle.std.specs.List.{list_any}
 use Rattle.std.proofs.lemmas.Map.Views.{Contains-from_any}
 use Rattle.std.proofs.lemmas.Bool.Decides.{nat_tests}
 use Rattle.std.proofs.lemmas.Nat.Bits.{bit_at-zero}

@@ -77,7 +77,7 @@ impl<P: GracePlan, K: ChainRule, B: Site> Reader<P, K, B> {
         requires { W.table_of witness.old ≡ B.table }
         ensures reader { (self.new.slot ≡ self.old.slot) × (self.new.word ≡ self.old.word) × (self.new.depth ≡ self.old.depth) × (self.new.locks ≡ self.old.locks) }
         ensures heard { (self.new.seat.me.0.heard ≡ W.seen witness.old) × (self.new.seat.me.0.seen ≡ self.old.seat.me.0.seen) }
-        ensures witness { (W.seen witness.new ≡ W.seen witness.old) × (W.heard witness.new ≡ W.heard witness.old) × (W.table_of witness.new ≡ B.table) }
+        ensures witness { (W.seen witness.new ≡ W.seen witness.old) × (W.heard witness.new ≡ W.heard witness.old) × (W.table_of witness.new ≡ B.table) × (W.standing witness.new ≡ W.standing witness.old) }
     {
         let told = witness.tell(&self.table);
         let reader = &mut *self;

@@ -96,6 +96,7 @@ fn announces<B: Site>(
 
 fn tells<P: GracePlan, K: ChainRule, B: Site>(table: &LiveTable<P, K>, reader: &mut Reader<P, K, B>)
     requires { table.now.words.shared.table_id ≡ B.table }
+    ensures { (reader.new.depth ≡ reader.old.depth) × (reader.new.locks ≡ reader.old.locks) }
 {
     let mut record = Record::<B>::split(table, reader);
     inform(table, &mut record, reader);

@@ -14,6 +14,7 @@ pub trait Witness {
     ghost use Rattle.std.specs.Prelude.{◌≡◌, []};
     ghost use Rattle.atomic_table.specs.Seated.{TableId};
     ghost use Rattle.live_log.specs.Log.{Log};
+    ghost use Rattle.live_read.specs.Standings.{Standing};
 
     /// The log that it has seen.
     ghost seen: { Self → Log };
@@ -24,17 +25,20 @@ pub trait Witness {
     /// The table of the log.
     ghost table_of: { Self → TableId };
 
+    /// How it stands beside that: of a reader its slot, its word, and what it has open.
+    ghost standing: { Self → Standing };
+
     /// A seat that has seen and heard as much. It never waits.
     fn tell<P: GracePlan, K: ChainRule>(&mut self, table: &LiveTable<P, K>) -> LiveSeat
         requires { table.now.words.shared.table_id ≡ table_of self.old }
         ensures told { (result.table_id ≡ table_of self.old) × (result.me.1 ≡ []) × (result.me.0.seen ≡ seen self.old) × (result.me.0.heard ≡ heard self.old) }
-        ensures same { (seen self.new ≡ seen self.old) × (heard self.new ≡ heard self.old) × (table_of self.new ≡ table_of self.old) };
+        ensures same { (seen self.new ≡ seen self.old) × (heard self.new ≡ heard self.old) × (table_of self.new ≡ table_of self.old) × (standing self.new ≡ standing self.old) };
 
     /// It hears what the seat has seen, which is spent. It never waits.
     fn learn<P: GracePlan, K: ChainRule>(&mut self, table: &LiveTable<P, K>, other: LiveSeat)
         requires table { (table.now.words.shared.table_id ≡ table_of self.old) × (other.table_id ≡ table_of self.old) × (other.me.1 ≡ []) }
         ensures heard { heard self.new ≡ other.me.0.seen }
-        ensures same { (seen self.new ≡ seen self.old) × (table_of self.new ≡ table_of self.old) };
+        ensures same { (seen self.new ≡ seen self.old) × (table_of self.new ≡ table_of self.old) × (standing self.new ≡ standing self.old) };
 }
 
 /// What a thread that has no reader has seen of the log: its seat, which has no bytes.
@@ -64,7 +68,7 @@ impl<B: Site> Record<B> {
     ) -> Record<B>
         requires { (table.now.words.shared.table_id ≡ B.table) × (W.table_of witness.old ≡ B.table) }
         ensures told { (result.seat.me.0.seen ≡ W.seen witness.old) × (result.seat.me.0.heard ≡ W.heard witness.old) }
-        ensures same { (W.seen witness.new ≡ W.seen witness.old) × (W.heard witness.new ≡ W.heard witness.old) × (W.table_of witness.new ≡ B.table) }
+        ensures same { (W.seen witness.new ≡ W.seen witness.old) × (W.heard witness.new ≡ W.heard witness.old) × (W.table_of witness.new ≡ B.table) × (W.standing witness.new ≡ W.standing witness.old) }
     {
         Record::new(witness.tell(table))
     }
@@ -78,19 +82,23 @@ pub fn inform<S: Witness, T: Witness, P: GracePlan, K: ChainRule>(
 )
     requires { (table.now.words.shared.table_id ≡ S.table_of from.old) × (T.table_of to.old ≡ S.table_of from.old) }
     ensures told { T.heard to.new ≡ S.seen from.old }
-    ensures from { (S.seen from.new ≡ S.seen from.old) × (S.heard from.new ≡ S.heard from.old) × (S.table_of from.new ≡ S.table_of from.old) }
-    ensures to { (T.seen to.new ≡ T.seen to.old) × (T.table_of to.new ≡ T.table_of to.old) }
+    ensures from { (S.seen from.new ≡ S.seen from.old) × (S.heard from.new ≡ S.heard from.old) × (S.table_of from.new ≡ S.table_of from.old) × (S.standing from.new ≡ S.standing from.old) }
+    ensures to { (T.seen to.new ≡ T.seen to.old) × (T.table_of to.new ≡ T.table_of to.old) × (T.standing to.new ≡ T.standing to.old) }
 {
     let told = from.tell(table);
     to.learn(table, told);
 }
 
 impl<B: Site> Witness for Record<B> {
+    ghost use Rattle.live_read.specs.Standings.{nowhere};
+
     ghost seen = { λ r. r.seat.me.0.seen };
 
     ghost heard = { λ r. r.seat.me.0.heard };
 
     ghost table_of = { λ r. r.seat.table_id };
+
+    ghost standing = { λ r. nowhere };
 
     fn tell<P: GracePlan, K: ChainRule>(&mut self, table: &LiveTable<P, K>) -> LiveSeat {
         table.tell(&mut self.seat)
@@ -107,6 +115,8 @@ impl<P: GracePlan, K: ChainRule, B: Site> Witness for Reader<P, K, B> {
     ghost heard = { λ r. r.seat.me.0.heard };
 
     ghost table_of = { λ r. r.seat.table_id };
+
+    ghost standing = { λ r. record { slot = r.slot; word = r.word; depth = r.depth; locks = r.locks } };
 
     fn tell<Q: GracePlan, L: ChainRule>(&mut self, table: &LiveTable<Q, L>) -> LiveSeat {
         table.tell(&mut self.seat)

@@ -1,5 +1,4 @@
 use Rattle.std.proofs.Common.{rules, Some, sym, ap, ◌∙◌, subst}
-use Rattle.live_read.specs.declared.parked.Place.{Place}
 use Rattle.live_read.specs.Registering.{Fits}
 use Rattle.live_read.proofs.Rows.{claimed_there, claimed_place, gives_fit}
 use Rattle.live_read.proofs.registrar.Registrar.unregister.Goals as goal
