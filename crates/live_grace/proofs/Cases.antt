@@ -1,5 +1,5 @@
 -- What each turn of the loop keeps.
-use Rattle.std.proofs.Common.{◌≡◌, ℕ, ◌+◌, ◌≤◌, ◌^◌, List, ◌∷◌, Bool, true, false, sym, refl, ap, ◌∙◌, subst, inl, arith, true≢false}
+use Rattle.std.proofs.Common.{◌≡◌, ℕ, ◌+◌, ◌≤◌, ◌^◌, List, [], ◌∷◌, ◌++◌, Bool, true, false, sym, refl, ap, ◌∙◌, subst, inl, arith, true≢false}
 use Rattle.atomic_table.specs.Table.{Me}
 use Rattle.gp_memb.specs.declared.plan.Action.{Action}
 use Rattle.gp_memb.specs.declared.plan.Action.TheVariants.{Load, LoadGroup, StorePhase, StoreSeq, Finished}
@@ -10,6 +10,8 @@ use Rattle.live_rule.specs.declared.view.View.{View}
 use Rattle.live_rule.specs.declared.rights.GraceRight.TheVariants.{Works}
 use Rattle.live_rule.specs.Places.{group_at, slot_at}
 use Rattle.live_table.specs.Rights.{looks_in, before_in, seq_in, present_in}
+use Rattle.live_log.specs.declared.event.LiveEvent.TheVariants.{Present, SeqOdd}
+use Rattle.live_grace.specs.Answers.{Holds, stored_by, stores_of}
 use Rattle.live_grace.specs.Going.{Going, IsLogged, Begun}
 use Rattle.live_log.specs.Log.{IsBound}
 use Rattle.live_grace.proofs.Tellings.{told_load, told_store}
@@ -41,47 +43,56 @@ no_store (StorePhase other) place loads value e = absurd loads
 no_store (StoreSeq other) place loads value e = absurd loads
 no_store Finished place loads value e = absurd loads
 
+no_stores : (a : Action) (place : ℕ) → Loads a place → stores_of a ≡ []
+no_stores (Load k) place loads = refl
+no_stores (LoadGroup g) place loads = refl
+no_stores (StorePhase value) place loads = absurd loads
+no_stores (StoreSeq value) place loads = absurd loads
+no_stores Finished place loads = absurd loads
+
 module _ {P : Type 0} (is_begun : P → Type 0) (action : P → Action) (taken : P → ℕ → P) (present : P → ℕ) (seq : ℕ) where
   -- the laws of the plan that the loop uses
   pub record Laws : Type 0 where
     pub order : (start : P) → is_begun start → StoresInOrder action taken seq start
     pub presents : (plan : P) (word : ℕ) → present (taken plan word) ≡ present_after (present plan) (action plan)
 
-  module _ (laws : Laws) (plan new : P) (looks : List (ℕ × ℕ)) (b : Begun is_begun action taken plan looks) where
+  module _ (laws : Laws) (plan new : P) (looks : List (ℕ × ℕ)) (log log' : Log) (b : Begun is_begun action taken plan looks log) where
     abbrev After : List (ℕ × ℕ) → ℕ → Type 0
-    After looks' number = (number ≡ present new) × Begun is_begun action taken new looks'
+    After looks' number = (number ≡ present new) × Begun is_begun action taken new looks' log'
 
-    pub after_look : (a : Action) (place word : ℕ) → action plan ≡ a → Loads a place → new ≡ taken plan word → After ((place, word) ∷ looks) (present plan)
-    after_look a place word is loads next = (
+    pub after_look : (a : Action) (place word : ℕ) → action plan ≡ a → Loads a place → new ≡ taken plan word → ((es : Log) → Holds es log → Holds es log') → After ((place, word) ∷ looks) (present plan)
+    after_look a place word is loads next weaves = (
       sym (ap present next ∙ (laws.presents plan word ∙ (ap (present_after (present plan)) is ∙ same_present a place loads (present plan)))),
       record {
         start = b.start;
         begun = b.begun;
-        told = subst (λ p. Rattle.live_grace.specs.Going.Told action taken b.start p ((place, word) ∷ looks)) (sym next)
-            (told_load action taken seq b.start (laws.order b.start b.begun) plan looks b.told (place, word) (subst (λ x. IsLogged ((place, word) ∷ looks) x word) (sym is) (logged a place loads word looks)) (λ e. no_store a place loads (seq + 2) (sym is ∙ e)));
+        told = subst (λ p. Rattle.live_grace.specs.Going.Told action taken b.start p ((place, word) ∷ looks) log') (sym next)
+            (told_load action taken seq b.start (laws.order b.start b.begun) plan looks b.told (place, word) (subst (λ x. IsLogged ((place, word) ∷ looks) x word) (sym is) (logged a place loads word looks)) (λ e. no_store a place loads (seq + 2) (sym is ∙ e))
+            log' (subst (λ (ev : Log). Holds (ev ++ (stored_by action taken (taken b.start 0) b.told.words ++ SeqOdd ∷ [])) log') (sym (ap stores_of is ∙ no_stores a place loads)) (weaves (stored_by action taken (taken b.start 0) b.told.words ++ SeqOdd ∷ []) b.told.stored)));
       },
     )
 
-    pub after_store : (value : ℕ) → action plan ≡ StorePhase value → new ≡ taken plan 0 → After looks value
-    after_store value is next = (
+    pub after_store : (value : ℕ) → action plan ≡ StorePhase value → new ≡ taken plan 0 → ((es : Log) → Holds es log → Holds (Present value ∷ es) log') → After looks value
+    after_store value is next weaves = (
       sym (ap present next ∙ (laws.presents plan 0 ∙ ap (present_after (present plan)) is)),
       record {
         start = b.start;
         begun = b.begun;
-        told = subst (λ p. Rattle.live_grace.specs.Going.Told action taken b.start p looks) (sym next)
-            (told_store action taken seq b.start (laws.order b.start b.begun) plan looks b.told (subst (λ a. IsLogged looks a 0) (sym is) tt) (λ e. let f : StorePhase value ≡ StoreSeq (seq + 2) = sym is ∙ e in cc));
+        told = subst (λ p. Rattle.live_grace.specs.Going.Told action taken b.start p looks log') (sym next)
+            (told_store action taken seq b.start (laws.order b.start b.begun) plan looks b.told (subst (λ a. IsLogged looks a 0) (sym is) tt) (λ e. let f : StorePhase value ≡ StoreSeq (seq + 2) = sym is ∙ e in cc)
+            log' (subst (λ (ev : Log). Holds (ev ++ (stored_by action taken (taken b.start 0) b.told.words ++ SeqOdd ∷ [])) log') (sym (ap stores_of is)) (weaves (stored_by action taken (taken b.start 0) b.told.words ++ SeqOdd ∷ []) b.told.stored)));
       },
     )
 
   -- what holds between two turns
   abbrev pub InLoop : {S : Type 0} → Bool → (Log → LiveEvent → Type 0) → Me S View → ℕ → P → Me S View → Type 0
-  InLoop qsbr allows old first plan now = Going qsbr allows old (seq + 1) first (present plan) (looks_in now.0.grace) now × Begun is_begun action taken plan (looks_in now.0.grace) × IsBound qsbr (seq + 1) (present plan)
+  InLoop qsbr allows old first plan now = Going qsbr allows old (seq + 1) first (present plan) (looks_in now.0.grace) now × Begun is_begun action taken plan (looks_in now.0.grace) now.0.seen × IsBound qsbr (seq + 1) (present plan)
 
   -- a turn that led the seat on, and the plan
   pub in_loop : {S : Type 0} (qsbr : Bool) (allows : Log → LiveEvent → Type 0) (old : Me S View) (first number : ℕ) (looks : List (ℕ × ℕ)) (plan : P) (now : Me S View)
-      → Going qsbr allows old (seq + 1) first number looks now → number ≡ present plan → Begun is_begun action taken plan looks → IsBound qsbr (seq + 1) number → InLoop qsbr allows old first plan now
+      → Going qsbr allows old (seq + 1) first number looks now → number ≡ present plan → Begun is_begun action taken plan looks now.0.seen → IsBound qsbr (seq + 1) number → InLoop qsbr allows old first plan now
   in_loop qsbr allows old first number looks plan now go is b low = let same : looks_in now.0.grace ≡ looks = ap looks_in go.is in
-      (subst (λ (z : ℕ × List (ℕ × ℕ)). Going qsbr allows old (seq + 1) first z.0 z.1 now) (λ i. (is i, sym same i)) go, subst (Begun is_begun action taken plan) (sym same) b, subst (IsBound qsbr (seq + 1)) is low)
+      (subst (λ (z : ℕ × List (ℕ × ℕ)). Going qsbr allows old (seq + 1) first z.0 z.1 now) (λ i. (is i, sym same i)) go, subst (λ (ls : List (ℕ × ℕ)). Begun is_begun action taken plan ls now.0.seen) (sym same) b, subst (IsBound qsbr (seq + 1)) is low)
 
   -- the seat's right, as the steps name it
   pub named : {S : Type 0} (qsbr : Bool) (allows : Log → LiveEvent → Type 0) (old : Me S View) (first number : ℕ) (looks : List (ℕ × ℕ)) (now : Me S View) → Going qsbr allows old (seq + 1) first number looks now

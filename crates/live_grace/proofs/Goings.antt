@@ -1,5 +1,5 @@
 -- How a seat goes through a grace period.
-use Rattle.std.proofs.Common.{◌≡◌, ℕ, ◌+◌, ◌≤◌, List, [], ◌∷◌, Bool, true, false, sym, refl, ap, ◌∙◌, subst, arith}
+use Rattle.std.proofs.Common.{◌≡◌, ℕ, ◌+◌, ◌≤◌, List, [], ◌∷◌, ◌++◌, Bool, true, false, sym, refl, ap, ◌∙◌, subst, arith, append_assoc}
 use Rattle.atomic_table.specs.Table.{Me}
 use Rattle.gp_memb.specs.Plan.{MayStore}
 use Rattle.live_log.specs.declared.event.LiveEvent.{LiveEvent}
@@ -9,10 +9,10 @@ use Rattle.live_log.proofs.Lemmas.{begins_trans}
 use Rattle.live_rule.specs.declared.view.View.{View}
 use Rattle.live_rule.specs.declared.rights.GraceRight.{GraceRight}
 use Rattle.live_rule.specs.declared.rights.GraceRight.TheVariants.{Works}
-use Rattle.live_rule.specs.Steps.{Precedes, at_log}
+use Rattle.live_rule.specs.Steps.{Precedes, Wrote, at_log}
 use Rattle.live_table.specs.Rights.{before_in}
 use Rattle.live_periods.specs.Periods.{GraceBecomes}
-use Rattle.live_grace.specs.Answers.{WholeGracePeriod}
+use Rattle.live_grace.specs.Answers.{Holds, WholeGracePeriod}
 use Rattle.live_grace.specs.Going.{Going}
 
 module _ {S : Type 0} (qsbr : Bool) (allows : Log → LiveEvent → Type 0) (old : Me S View) where
@@ -73,3 +73,16 @@ module _ {S : Type 0} (qsbr : Bool) (allows : Log → LiveEvent → Type 0) (old
 pub stored_turn : (qsbr : Bool) (seq first number value : ℕ) → MayStore qsbr first value → (qsbr ≡ true → number ≤ value) → (qsbr ≡ true → first ≤ seq) → MayBePresent qsbr (seq + 1) number value
 stored_turn true seq first number value may rises low = let r = rises refl in let l = low refl in (r, omega arith)
 stored_turn false seq first number value may rises low = omega arith
+
+-- what stood in the log stands there still
+holds_later : (es old new : Log) → Begins old new → Holds es old → Holds es new
+holds_later [] old new b h = tt
+holds_later (e ∷ es) old new b h = (b.0 ++ h.0, h.1, b.1 ∙ (ap (λ (l : Log). b.0 ++ l) h.2 ∙ sym (append_assoc b.0 h.0 (e ∷ h.1))), h.3)
+
+on_top : (events es log : Log) → Holds es log → Holds (events ++ es) (events ++ log)
+on_top [] es log h = h
+on_top (e ∷ events) es log h = ([], events ++ log, refl, on_top events es log h)
+
+-- and what a step wrote stands above it
+pub holds_wrote : (qsbr : Bool) (allows : Log → LiveEvent → Type 0) (events es : Log) (v : View) (seen : Log) → Wrote qsbr allows v events seen → Holds es v.seen → Holds (events ++ es) seen
+holds_wrote qsbr allows events es v seen w h = subst (Holds (events ++ es)) (sym w.1) (on_top events es w.0 (holds_later es v.seen w.0 w.2 h))

@@ -1,5 +1,5 @@
 -- What a plan was told, and why it is not finished while a section stays open.
-use Rattle.std.proofs.Common.{◌≡◌, ℕ, ◌+◌, ◌≤◌, List, [], ◌∷◌, ◌++◌, Bool, true, false, sym, refl, ap, ◌∙◌, subst, inr, ⊎_elim, arith, true≢false}
+use Rattle.std.proofs.Common.{◌≡◌, ℕ, ◌+◌, ◌≤◌, List, [], ◌∷◌, ◌++◌, Bool, true, false, sym, refl, ap, ◌∙◌, subst, inr, ⊎_elim, arith, true≢false, append_assoc, append-nil}
 use Rattle.reader_word.specs.declared.layout.Layout.TheVariants.{Wide}
 use Rattle.gp_memb.specs.declared.plan.Action.{Action}
 use Rattle.gp_memb.specs.declared.plan.Action.TheVariants.{Load, LoadGroup, StorePhase, StoreSeq, Finished}
@@ -8,6 +8,8 @@ use Rattle.live_log.specs.Log.{Log, present_of, MayCopy}
 use Rattle.live_rule.specs.Readers.{Shown}
 use Rattle.live_rule.specs.Places.{group_at, slot_at}
 use Rattle.live_periods.specs.Periods.{ShownAll, TellsAllEnded}
+use Rattle.live_log.specs.declared.event.LiveEvent.TheVariants.{SeqOdd}
+use Rattle.live_grace.specs.Answers.{Holds, stored_by, stores_of}
 use Rattle.live_grace.specs.Going.{In, IsLogged, Logged, Told}
 
 shown_in : (qsbr : Bool) (looks : List (ℕ × ℕ)) (r m : ℕ) (x : ℕ × ℕ) → ShownAll qsbr looks r m → In x looks → Shown qsbr x r m
@@ -46,13 +48,24 @@ module _ {P : Type 0} (action : P → Action) (taken : P → ℕ → P) where
   after_more plan [] word = refl
   after_more plan (w ∷ ws) word = after_more (taken plan w) ws word
 
+  stored_more : (plan : P) (words : List ℕ) (word : ℕ) → stored_by action taken plan (words ++ word ∷ []) ≡ stores_of (action (after_loads taken plan words)) ++ stored_by action taken plan words
+  stored_more plan [] word = sym (append-nil (stores_of (action plan)))
+  stored_more plan (w ∷ ws) word =
+      ap (λ (es : Log). es ++ stores_of (action plan)) (stored_more (taken plan w) ws word) ∙ append_assoc (stores_of (action (after_loads taken (taken plan w) ws))) (stored_by action taken (taken plan w) ws) (stores_of (action plan))
+
+  -- what stands in the log, once a turn was taken
+  all_stored : (plan : P) (words : List ℕ) (word : ℕ) {a : Action} → a ≡ action (after_loads taken plan words) → stores_of a ++ (stored_by action taken plan words ++ SeqOdd ∷ []) ≡ stored_by action taken plan (words ++ word ∷ []) ++ SeqOdd ∷ []
+  all_stored plan words word is =
+      ap (λ (x : Action). stores_of x ++ (stored_by action taken plan words ++ SeqOdd ∷ [])) is
+      ∙ (sym (append_assoc (stores_of (action (after_loads taken plan words))) (stored_by action taken plan words) (SeqOdd ∷ [])) ∙ ap (λ (es : Log). es ++ SeqOdd ∷ []) (sym (stored_more plan words word)))
+
   module _ (seq : ℕ) (begun : P) (order : StoresInOrder action taken seq begun) where
     store_is : (a b : ℕ) → StoreSeq a ≡ StoreSeq b → a ≡ b
     store_is a b e = cc
 
     -- the first turn was taken
-    pub told_first : Told action taken begun (taken begun 0) []
-    told_first = record { words = []; is = refl; logged = tt; unfinished = λ f. let s = (order.last [] 0 (λ g. finished g)).0 f in let e : seq + 1 ≡ seq + 2 = store_is (seq + 1) (seq + 2) (sym order.first ∙ s) in omega arith }
+    pub told_first : (log : Log) → Holds (SeqOdd ∷ []) log → Told action taken begun (taken begun 0) [] log
+    told_first log odd = record { words = []; is = refl; logged = tt; stored = odd; unfinished = λ f. let s = (order.last [] 0 (λ g. finished g)).0 f in let e : seq + 1 ≡ seq + 2 = store_is (seq + 1) (seq + 2) (sym order.first ∙ s) in omega arith }
       where
         finished : action begun ≡ Finished → ⊥
         finished g = let e : StoreSeq (seq + 1) ≡ Finished = sym order.first ∙ g in cc
@@ -61,36 +74,45 @@ module _ {P : Type 0} (action : P → Action) (taken : P → ℕ → P) where
     Ended plan = action plan ≡ StoreSeq (seq + 2)
 
     -- a further turn, which is not the last one
-    pub told_more : (plan : P) (looks : List (ℕ × ℕ)) (t : Told action taken begun plan looks) (looks' : List (ℕ × ℕ)) (word : ℕ) → Logged action taken looks' (taken begun 0) t.words → IsLogged looks' (action plan) word
-        → (Ended plan → ⊥) → Told action taken begun (taken plan word) looks'
-    told_more plan looks t looks' word logged here goes = record {
+    pub told_more : (plan : P) (looks : List (ℕ × ℕ)) {log : Log} (t : Told action taken begun plan looks log) (looks' : List (ℕ × ℕ)) (word : ℕ) → Logged action taken looks' (taken begun 0) t.words → IsLogged looks' (action plan) word
+        → (Ended plan → ⊥) → (log' : Log) → Holds (stores_of (action plan) ++ (stored_by action taken (taken begun 0) t.words ++ SeqOdd ∷ [])) log' → Told action taken begun (taken plan word) looks' log'
+    told_more plan looks t looks' word logged here goes log' holds = record {
       words = t.words ++ word ∷ [];
       is = ap (λ p. taken p word) t.is ∙ sym (after_more (taken begun 0) t.words word);
       logged = one_more looks' (taken begun 0) t.words word logged (subst (λ p. IsLogged looks' (action p) word) t.is here);
       unfinished = λ f. goes (ap action t.is ∙ (order.last (0 ∷ t.words) word (λ g. t.unfinished (ap action t.is ∙ g))).0 (subst (λ p. action (taken p word) ≡ Finished) t.is f));
+      stored = subst (λ (es : Log). Holds es log') (all_stored (taken begun 0) t.words word (ap action t.is)) holds;
     }
 
     -- a turn that loaded a word
-    pub told_load : (plan : P) (looks : List (ℕ × ℕ)) (t : Told action taken begun plan looks) (x : ℕ × ℕ) → IsLogged (x ∷ looks) (action plan) x.1 → (Ended plan → ⊥) → Told action taken begun (taken plan x.1) (x ∷ looks)
-    told_load plan looks t x here goes = told_more plan looks t (x ∷ looks) x.1 (longer looks x (taken begun 0) t.words t.logged) here goes
+    pub told_load : (plan : P) (looks : List (ℕ × ℕ)) {log : Log} (t : Told action taken begun plan looks log) (x : ℕ × ℕ) → IsLogged (x ∷ looks) (action plan) x.1 → (Ended plan → ⊥)
+        → (log' : Log) → Holds (stores_of (action plan) ++ (stored_by action taken (taken begun 0) t.words ++ SeqOdd ∷ [])) log' → Told action taken begun (taken plan x.1) (x ∷ looks) log'
+    told_load plan looks t x here goes log' holds = told_more plan looks t (x ∷ looks) x.1 (longer looks x (taken begun 0) t.words t.logged) here goes log' holds
 
-    pub told_store : (plan : P) (looks : List (ℕ × ℕ)) (t : Told action taken begun plan looks) → IsLogged looks (action plan) 0 → (Ended plan → ⊥) → Told action taken begun (taken plan 0) looks
-    told_store plan looks t here goes = told_more plan looks t looks 0 t.logged here goes
+    pub told_store : (plan : P) (looks : List (ℕ × ℕ)) {log : Log} (t : Told action taken begun plan looks log) → IsLogged looks (action plan) 0 → (Ended plan → ⊥)
+        → (log' : Log) → Holds (stores_of (action plan) ++ (stored_by action taken (taken begun 0) t.words ++ SeqOdd ∷ [])) log' → Told action taken begun (taken plan 0) looks log'
+    told_store plan looks t here goes log' holds = told_more plan looks t looks 0 t.logged here goes log' holds
 
     -- the even number that is stored
-    pub even_is : (plan : P) (looks : List (ℕ × ℕ)) → Told action taken begun plan looks → (value : ℕ) → action plan ≡ StoreSeq value → value ≡ seq + 2
+    pub even_is : (plan : P) (looks : List (ℕ × ℕ)) → {log : Log} → Told action taken begun plan looks log → (value : ℕ) → action plan ≡ StoreSeq value → value ≡ seq + 2
     even_is plan looks t value is = order.second 0 value t.words (ap action (sym t.is) ∙ is)
 
     -- its turns, up to the last store
-    pub all_turns : (plan : P) (looks : List (ℕ × ℕ)) (t : Told action taken begun plan looks) → after_loads taken begun (0 ∷ (t.words ++ 0 ∷ [])) ≡ taken plan 0
+    pub all_turns : (plan : P) (looks : List (ℕ × ℕ)) {log : Log} (t : Told action taken begun plan looks log) → after_loads taken begun (0 ∷ (t.words ++ 0 ∷ [])) ≡ taken plan 0
     all_turns plan looks t = after_more (taken begun 0) t.words 0 ∙ ap (λ p. taken p 0) (sym t.is)
 
+    -- what they stored as the phase or number
+    pub all_stores : (plan : P) (looks : List (ℕ × ℕ)) {log : Log} (t : Told action taken begun plan looks log) → Ended plan → stored_by action taken begun (0 ∷ (t.words ++ 0 ∷ [])) ≡ stored_by action taken (taken begun 0) t.words
+    all_stores plan looks t ends = let ws : List ℕ = t.words in
+        ap (λ (a : Action). stored_by action taken (taken begun 0) (ws ++ 0 ∷ []) ++ stores_of a) order.first
+        ∙ (append-nil (stored_by action taken (taken begun 0) (ws ++ 0 ∷ [])) ∙ (stored_more (taken begun 0) ws 0 ∙ ap (λ (a : Action). stores_of a ++ stored_by action taken (taken begun 0) ws) (ap action (sym t.is) ∙ ends)))
+
     -- by the last store the plan is finished
-    pub told_last : (plan : P) (looks : List (ℕ × ℕ)) → Told action taken begun plan looks → Ended plan → action (taken plan 0) ≡ Finished
+    pub told_last : (plan : P) (looks : List (ℕ × ℕ)) → {log : Log} → Told action taken begun plan looks log → Ended plan → action (taken plan 0) ≡ Finished
     told_last plan looks t ends = subst (λ p. action (taken p 0) ≡ Finished) (sym t.is) ((order.last (0 ∷ t.words) 0 (λ g. t.unfinished (ap action t.is ∙ g))).1 (ap action (sym t.is) ∙ ends))
 
     -- before the last store all that was loaded tells of no section
-    pub refutes : (qsbr : Bool) (slots first : ℕ) → WaitsForOpen qsbr action taken Wide slots first begun → (plan : P) (looks : List (ℕ × ℕ)) → Told action taken begun plan looks → Ended plan
+    pub refutes : (qsbr : Bool) (slots first : ℕ) → WaitsForOpen qsbr action taken Wide slots first begun → (plan : P) (looks : List (ℕ × ℕ)) → {log : Log} → Told action taken begun plan looks log → Ended plan
         → (mark : Log) → present_of mark ≡ first → TellsAllEnded qsbr slots mark looks
     refutes qsbr slots first waits plan looks t ends mark is r m low note all =
         let ws : List ℕ = t.words ++ 0 ∷ [] in

@@ -1,12 +1,12 @@
 -- Why an ask is answered.
-use Rattle.std.specs.Prelude.{Bool, true, ◌≡◌, ℕ, ◌+◌, ◌%◌, ◌≤◌, List, ◌∷◌}
+use Rattle.std.specs.Prelude.{Bool, true, ◌≡◌, ℕ, ◌+◌, ◌%◌, ◌≤◌, List, [], ◌∷◌, ◌++◌}
 use Rattle.reader_word.specs.declared.layout.Layout.{Layout}
 use Rattle.reader_word.specs.declared.layout.Layout.TheVariants.{Wide}
 use Rattle.gp_memb.specs.declared.plan.Action.{Action}
-use Rattle.gp_memb.specs.declared.plan.Action.TheVariants.{Finished}
+use Rattle.gp_memb.specs.declared.plan.Action.TheVariants.{StorePhase, Finished}
 use Rattle.gp_memb.specs.Plan.{after_loads}
 use Rattle.live_log.specs.declared.event.LiveEvent.{LiveEvent}
-use Rattle.live_log.specs.declared.event.LiveEvent.TheVariants.{SeqEven, SeqOdd}
+use Rattle.live_log.specs.declared.event.LiveEvent.TheVariants.{Present, SeqEven, SeqOdd}
 use Rattle.live_log.specs.Log.{Log, Begins, HaveEnded, IsLiveRun, present_of, seq_of}
 use Rattle.live_rule.specs.declared.view.View.{View}
 use Rattle.live_rule.specs.Steps.{Precedes}
@@ -31,11 +31,27 @@ pub record WholeGracePeriod (qsbr : Bool) (allows : Log → LiveEvent → Type 0
   pub ended : HaveEnded before log
   pub run : IsLiveRun qsbr allows log
 
--- a plan that was made for so many slots at this sequence number and this phase or number has run to its end, and left
--- the last phase or number
-pub record RanPlan {P : Type 0} (is_begun : Layout → Bool → ℕ → ℕ → ℕ → P → Type 0) (action : P → Action) (taken : P → ℕ → P) (present : P → ℕ) (slots seq first last : ℕ) : Type 0 where
+-- these events stand in the log in this order, whatever others stand between them: the first of them is the last
+abbrev pub Holds : Log → Log → Type 0
+Holds [] log = Unit {0}
+Holds (e ∷ es) log = (since before : Log) × (log ≡ since ++ e ∷ before) × Holds es before
+
+-- what an action stores as the phase or number
+abbrev pub stores_of : Action → Log
+stores_of (StorePhase value) = Present value ∷ []
+stores_of _ = []
+
+-- what a plan's turns with these loaded words store so, the last one first
+abbrev pub stored_by : {P : Type 0} → (P → Action) → (P → ℕ → P) → P → List ℕ → Log
+stored_by action taken plan [] = []
+stored_by action taken plan (word ∷ words) = stored_by action taken (taken plan word) words ++ stores_of (action plan)
+
+-- A plan that was made for so many slots at this sequence number and this phase or number has run to its end, and left
+-- the last phase or number. The log has all that it stored.
+pub record RanPlan {P : Type 0} (is_begun : Layout → Bool → ℕ → ℕ → ℕ → P → Type 0) (action : P → Action) (taken : P → ℕ → P) (present : P → ℕ) (slots seq first last : ℕ) (log : Log) : Type 0 where
   pub start : P
   pub begun : is_begun Wide true slots seq first start
   pub loaded : List ℕ
   pub finished : action (after_loads taken start loaded) ≡ Finished
   pub left : present (after_loads taken start loaded) ≡ last
+  pub stores : Holds (SeqEven ∷ stored_by action taken start loaded ++ SeqOdd ∷ []) log

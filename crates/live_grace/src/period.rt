@@ -36,7 +36,7 @@ pub(crate) fn grace_period<P: GracePlan + Drop, K: ChainRule, R: Wait>(
     ensures right { (seat.new.me ≡ (record (at_log seat.old.me.0 seat.new.me.0.seen) { grace = Rests (seq + 2) result }, seat.old.me.1)) × IsBound P.QSBR (seq + 2) result }
     ensures words { HasWords (seq + 2) result seat.new.me.0.seen }
     ensures period { WholeGracePeriod P.QSBR K.allows seat.old.me.0 seq first seat.new.me.0.seen }
-    ensures plan { RanPlan P.is_begun P.action P.taken P.present table.now.slots seq first result }
+    ensures plan { RanPlan P.is_begun P.action P.taken P.present table.now.slots seq first result seat.new.me.0.seen }
 {
     core.begin(P::start(table.slots, seq, first));
     let SyncStep::Plan(Action::StoreSeq(odd)) = core.next() else {

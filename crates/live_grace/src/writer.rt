@@ -69,7 +69,7 @@ impl<P: GracePlan + Drop> GraceWriter<P> {
         ensures seq { self.new.seq ≡ self.old.seq + 2 }
         ensures words { HasWords self.new.seq self.new.present self.new.seat.me.0.seen }
         ensures period { WholeGracePeriod P.QSBR K.allows self.old.seat.me.0 self.old.seq self.old.present self.new.seat.me.0.seen }
-        ensures plan { RanPlan P.is_begun P.action P.taken P.present table.now.slots self.old.seq self.old.present self.new.present }
+        ensures plan { RanPlan P.is_begun P.action P.taken P.present table.now.slots self.old.seq self.old.present self.new.present self.new.seat.me.0.seen }
     {
         self.present = grace_period(rt, table, &mut self.seat, core, self.seq, self.present);
         self.seq += 2;
@@ -91,7 +91,7 @@ impl<P: GracePlan + Drop> GraceWriter<P> {
         ensures words { HasWords self.new.seq self.new.present self.new.seat.me.0.seen }
         ensures shared { cookie_in ask.core ≤ self.old.seq → (result ≡ Shared) × (self.new.seq ≡ self.old.seq) × (self.new.present ≡ self.old.present) }
         ensures own { self.old.seq < cookie_in ask.core → (result ≡ Own) × (self.new.seq ≡ self.old.seq + 2) × WholeGracePeriod P.QSBR K.allows self.old.seat.me.0 self.old.seq self.old.present self.new.seat.me.0.seen }
-        ensures plan { self.old.seq < cookie_in ask.core → RanPlan P.is_begun P.action P.taken P.present table.now.slots self.old.seq self.old.present self.new.present }
+        ensures plan { self.old.seq < cookie_in ask.core → RanPlan P.is_begun P.action P.taken P.present table.now.slots self.old.seq self.old.present self.new.present self.new.seat.me.0.seen }
     {
         let LiveAsk { mut core, asked: _ } = ask;
         go_on(&mut core, 0);
@@ -124,7 +124,7 @@ impl<P: GracePlan + Drop> GraceWriter<P> {
         ensures words { HasWords self.new.seq self.new.present self.new.seat.me.0.seen }
         ensures shared { cookie_in ask.core ≤ self.old.seq → (result ≡ Shared) × (self.new.seq ≡ self.old.seq) × (self.new.present ≡ self.old.present) }
         ensures own { self.old.seq < cookie_in ask.core → (result ≡ Own) × (self.new.seq ≡ self.old.seq + 2) × WholeGracePeriod P.QSBR K.allows (heard_view self.old.seat.me.0 seat.old.me.0) self.old.seq self.old.present self.new.seat.me.0.seen }
-        ensures plan { self.old.seq < cookie_in ask.core → RanPlan P.is_begun P.action P.taken P.present table.now.slots self.old.seq self.old.present self.new.present }
+        ensures plan { self.old.seq < cookie_in ask.core → RanPlan P.is_begun P.action P.taken P.present table.now.slots self.old.seq self.old.present self.new.present self.new.seat.me.0.seen }
     {
         let told = table.tell(seat);
         table.learn(&mut self.seat, told);
