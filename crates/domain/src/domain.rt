@@ -1,17 +1,20 @@
 //! What a program calls.
 
-ghost use Rattle.std.specs.Prelude.{◌≡◌, ◌<◌, ◌≤◌, ◌^◌, ◌↔◌, true, IfErr, IfOk, IsOk, IsTrue};
+ghost use Rattle.std.specs.Prelude.{◌≡◌, ◌≢◌, ◌<◌, ◌≤◌, ◌^◌, ◌↔◌, true, IfErr, IfOk, IsOk, IsTrue};
 ghost use Rattle.std.specs.Arc.{arc_value};
 ghost use Rattle.rcu_model.specs.declared.refusal.Refusal.TheVariants.{Busy, Exhausted, NoSlot};
 ghost use Rattle.poll_cookie.specs.Cookie.{cookie_for};
-ghost use Rattle.live_log.specs.Log.{Begins, HaveEnded, seq_of};
+ghost use Rattle.live_log.specs.declared.event.LiveEvent.TheVariants.{Close};
+ghost use Rattle.live_log.specs.Log.{Begins, Has, HaveEnded, seq_of};
+ghost use Rattle.live_table.specs.Rights.{count_in};
 ghost use Rattle.live_table.specs.Steps.{Keeps};
-ghost use Rattle.domain.specs.Waiting.{Follows, Synchronized};
+ghost use Rattle.live_read.specs.Hearing.{IsAfter};
+ghost use Rattle.domain.specs.Waiting.{Synchronized};
 
 use crate::grace_lock::GraceLock;
 use gp_memb::GracePlan;
 use live_grace::{LiveCookie, ask};
-use live_read::{Reader, Record, Registrar, Site, Witness};
+use live_read::{Reader, Record, Registrar, Site, Witness, learn_more};
 use live_words::{ChainRule, LiveSeat, LiveTable};
 use rcu_model::Refusal;
 use std::sync::{Arc, Mutex, Wait};
@@ -27,8 +30,8 @@ pub struct Domain<P: GracePlan, K: ChainRule, B: Site> {
 }
 
 impl<P: GracePlan + Drop, K: ChainRule, B: Site> Domain<P, K, B> {
-    /// Registers a reader, liburcu's `rcu_register_thread`. It is offline in the quiescent-state flavour, hears what the caller
-    /// has seen, and may be moved into any thread.
+    /// Registers a reader, liburcu's `rcu_register_thread`. It is offline in the quiescent-state flavour, hears what the
+    /// caller has seen and heard of, and may be moved into any thread.
     ///
     /// Refused with `NoSlot` where every slot is claimed. It takes no memory, and waits for the registry lock alone.
     pub fn register<W: Witness, R: Wait>(
@@ -38,27 +41,38 @@ impl<P: GracePlan + Drop, K: ChainRule, B: Site> Domain<P, K, B> {
     ) -> Result<Reader<P, K, B>, Refusal>
         requires { W.table_of witness.old ≡ B.table }
         ensures idle { IfOk result (λ r. (r.depth ≡ 0) × (r.locks ≡ 0) × (B.qsbr ≡ true → r.word ≡ 0)) }
-        ensures told { IfOk result (λ r. r.seat.me.0.heard ≡ W.seen witness.old) }
+        ensures told { IfOk result (λ r. IsAfter P.QSBR K.allows (W.seen witness.old) (W.heard witness.old) r.seat.me.0.heard) }
         ensures refused { IfErr result (λ e. e ≡ NoSlot) }
         ensures witness { (W.seen witness.new ≡ W.seen witness.old) × (W.heard witness.new ≡ W.heard witness.old) × (W.table_of witness.new ≡ B.table) × (W.standing witness.new ≡ W.standing witness.old) }
     {
         self.registrar.lock(rt).register(witness)
     }
 
-    /// Gives the slot of a reader back, liburcu's `rcu_unregister_thread`. An online reader of the quiescent-state flavour goes
-    /// offline first. A reader that is dropped keeps its slot claimed.
+    /// Gives the slot of a reader back, liburcu's `rcu_unregister_thread`. An online reader of the quiescent-state flavour
+    /// goes offline first, which closes its section. The caller hears of that, and of all that the reader had seen. A
+    /// reader that is dropped keeps its slot claimed.
     ///
     /// Refused with `Busy` exactly while a section or a lock of it is open, and then it comes back as it was. It takes no
     /// memory, and waits for the registry lock alone.
-    pub fn unregister<R: Wait>(
+    pub fn unregister<W: Witness, R: Wait>(
         &self,
         rt: &R,
+        witness: &mut W,
         reader: Reader<P, K, B>,
     ) -> Result<(), (Refusal, Reader<P, K, B>)>
+        requires { W.table_of witness.old ≡ B.table }
         ensures left { IfOk result (λ _. reader.depth ≡ 0) }
-        ensures busy { IfErr result (λ e. (e.0 ≡ Busy) × (e.1 ≡ reader) × (0 < reader.depth)) }
+        ensures kept { IfOk result (λ _. IsAfter P.QSBR K.allows (W.seen witness.old) (W.heard witness.old) (W.heard witness.new)) }
+        ensures told { IfOk result (λ _. Begins reader.seat.me.0.seen (W.heard witness.new)) }
+        ensures closed { IfOk result (λ _. P.QSBR ≡ true → reader.word ≢ 0 → Has (Close reader.slot (count_in reader.seat.me.0.slot)) (W.heard witness.new)) }
+        ensures busy { IfErr result (λ e. (e.0 ≡ Busy) × (e.1 ≡ reader) × (0 < reader.depth) × (W.heard witness.new ≡ W.heard witness.old)) }
+        ensures witness { (W.seen witness.new ≡ W.seen witness.old) × (W.table_of witness.new ≡ B.table) × (W.standing witness.new ≡ W.standing witness.old) }
     {
-        self.registrar.lock(rt).unregister(reader)
+        let mut registrar = self.registrar.lock(rt);
+        registrar.unregister(reader)?;
+        let told = registrar.tell(&self.table);
+        learn_more(&self.table, witness, told);
+        Ok(())
     }
 
     /// A record that has seen and heard as much as the witness, for another thread. It never waits.
@@ -70,10 +84,12 @@ impl<P: GracePlan + Drop, K: ChainRule, B: Site> Domain<P, K, B> {
         Record::split(&self.table, witness)
     }
 
-    /// The one witness hears what the other has seen. It never waits.
+    /// The one witness hears what the other has seen and heard of, beside all that it had seen and heard of itself. It
+    /// never waits.
     pub fn inform<S: Witness, T: Witness>(&self, from: &mut S, to: &mut T)
         requires { (S.table_of from.old ≡ B.table) × (T.table_of to.old ≡ B.table) }
-        ensures told { T.heard to.new ≡ S.seen from.old }
+        ensures told { Begins (S.seen from.old) (T.heard to.new) × Begins (S.heard from.old) (T.heard to.new) }
+        ensures kept { IsAfter P.QSBR K.allows (T.seen to.old) (T.heard to.old) (T.heard to.new) }
         ensures from { (S.seen from.new ≡ S.seen from.old) × (S.heard from.new ≡ S.heard from.old) × (S.table_of from.new ≡ B.table) × (S.standing from.new ≡ S.standing from.old) }
         ensures to { (T.seen to.new ≡ T.seen to.old) × (T.table_of to.new ≡ B.table) × (T.standing to.new ≡ T.standing to.old) }
     {
@@ -85,7 +101,7 @@ impl<P: GracePlan + Drop, K: ChainRule, B: Site> Domain<P, K, B> {
         requires { seat.old.table_id ≡ B.table }
         ensures seat { Keeps seat.old seat.new × (seat.new.me.1 ≡ seat.old.me.1) }
         ensures ended { IfOk result (λ _. Synchronized P.QSBR K.allows seat.old.me.0.seen seat.old.me.0.heard seat.new.me.0.seen) }
-        ensures refused { IfErr result (λ e. (e ≡ Exhausted) × Follows P.QSBR K.allows seat.old.me.0.seen seat.old.me.0.heard seat.new.me.0.seen × (2 ^ 62 ≤ seq_of seat.new.me.0.seen)) }
+        ensures refused { IfErr result (λ e. (e ≡ Exhausted) × IsAfter P.QSBR K.allows seat.old.me.0.seen seat.old.me.0.heard seat.new.me.0.seen × (2 ^ 62 ≤ seq_of seat.new.me.0.seen)) }
     {
         let asked = ask::<P, K>(&self.table, seat)?;
         self.grace.lock(rt).answer(rt, &self.table, seat, asked);
@@ -100,7 +116,7 @@ impl<P: GracePlan + Drop, K: ChainRule, B: Site> Domain<P, K, B> {
     pub fn synchronize<W: Witness, R: Wait>(&self, rt: &R, witness: &mut W) -> Result<(), Refusal>
         requires { W.table_of witness.old ≡ B.table }
         ensures ended { IfOk result (λ _. Synchronized P.QSBR K.allows (W.seen witness.old) (W.heard witness.old) (W.heard witness.new)) }
-        ensures refused { IfErr result (λ e. (e ≡ Exhausted) × Follows P.QSBR K.allows (W.seen witness.old) (W.heard witness.old) (W.heard witness.new) × (2 ^ 62 ≤ seq_of (W.heard witness.new))) }
+        ensures refused { IfErr result (λ e. (e ≡ Exhausted) × IsAfter P.QSBR K.allows (W.seen witness.old) (W.heard witness.old) (W.heard witness.new) × (2 ^ 62 ≤ seq_of (W.heard witness.new))) }
         ensures witness { (W.seen witness.new ≡ W.seen witness.old) × (W.table_of witness.new ≡ B.table) × (W.standing witness.new ≡ W.standing witness.old) }
     {
         let mut seat = witness.tell(&self.table);
@@ -116,7 +132,7 @@ impl<P: GracePlan + Drop, K: ChainRule, B: Site> Domain<P, K, B> {
     /// no memory.
     pub fn start_poll<W: Witness>(&self, witness: &mut W) -> Result<LiveCookie, Refusal>
         requires { W.table_of witness.old ≡ B.table }
-        ensures loaded { Follows P.QSBR K.allows (W.seen witness.old) (W.heard witness.old) (W.heard witness.new) }
+        ensures loaded { IsAfter P.QSBR K.allows (W.seen witness.old) (W.heard witness.old) (W.heard witness.new) }
         ensures cookie { IfOk result (λ c. (c.asked.value.me.0.seen ≡ W.heard witness.new) × (cookie_for (seq_of (W.heard witness.new)) ≡ Ok c.cookie)) }
         ensures refused { IfErr result (λ e. e ≡ Exhausted) }
         ensures taken { IsOk result ↔ (seq_of (W.heard witness.new) < 2 ^ 62) }
@@ -133,7 +149,7 @@ impl<P: GracePlan + Drop, K: ChainRule, B: Site> Domain<P, K, B> {
     /// ended, where the caller had seen that log or heard of it. It never waits and takes no memory.
     pub fn poll<W: Witness>(&self, witness: &mut W, cookie: &LiveCookie) -> bool
         requires { W.table_of witness.old ≡ B.table }
-        ensures loaded { Follows P.QSBR K.allows (W.seen witness.old) (W.heard witness.old) (W.heard witness.new) }
+        ensures loaded { IsAfter P.QSBR K.allows (W.seen witness.old) (W.heard witness.old) (W.heard witness.new) }
         ensures exact { IsTrue result ↔ (cookie.now.cookie ≤ seq_of (W.heard witness.new)) }
         ensures past { Begins cookie.now.asked.value.me.0.seen (W.heard witness.new) → IsTrue result → HaveEnded cookie.now.asked.value.me.0.seen (W.heard witness.new) }
         ensures witness { (W.seen witness.new ≡ W.seen witness.old) × (W.table_of witness.new ≡ B.table) × (W.standing witness.new ≡ W.standing witness.old) }

@@ -73,7 +73,7 @@ fn fills<B: Site, R: Wait>(
     }
     let full = matches!(domain.register(rt, &mut record), Err(Refusal::NoSlot));
     if let Some(last) = readers.pop() {
-        if let Err((refusal, _)) = domain.unregister(rt, last) {
+        if let Err((refusal, _)) = domain.unregister(rt, &mut record, last) {
             return Err(refusal);
         }
     }
@@ -117,7 +117,7 @@ fn waits<B: Site, R: Wait>(
     domain.inform(&mut other, &mut record);
     let mut reader = domain.register(rt, &mut record)?;
     reader.lock()?;
-    let Err((Refusal::Busy, mut reader)) = domain.unregister(rt, reader) else {
+    let Err((Refusal::Busy, mut reader)) = domain.unregister(rt, &mut record, reader) else {
         return Err(Refusal::NotOpen);
     };
     reader.unlock()?;
@@ -125,7 +125,12 @@ fn waits<B: Site, R: Wait>(
     let section = reader.section()?;
     let asked = domain.start_poll(section.reader).is_ok();
     section.close();
-    Ok([!early, late, asked, domain.unregister(rt, reader).is_ok()])
+    Ok([
+        !early,
+        late,
+        asked,
+        domain.unregister(rt, &mut record, reader).is_ok(),
+    ])
 }
 
 #[test]
@@ -161,7 +166,7 @@ fn announces<B: Site, R: Wait>(
     let (domain, mut record) = opened.named::<B>(alloc)?;
     let mut reader = domain.register(rt, &mut record)?;
     let row = refused(&mut reader)?;
-    let left = domain.unregister(rt, reader).is_ok();
+    let left = domain.unregister(rt, &mut record, reader).is_ok();
     domain.synchronize(rt, &mut record)?;
     Ok((row, left))
 }

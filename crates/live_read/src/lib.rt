@@ -12,7 +12,7 @@ pub use reader::Reader;
 pub use registrar::Registrar;
 pub use section::Section;
 pub use site::Site;
-pub use witness::{Record, Witness, inform};
+pub use witness::{Record, Witness, inform, learn_more, tell_all};
 
 #[cfg(test)]
 mod registering_tests;

@@ -10,7 +10,7 @@ ghost use Rattle.live_table.specs.Rights.{IsOwner, word_in};
 
 use crate::section::Section;
 use crate::site::Site;
-use crate::witness::Witness;
+use crate::witness::{Witness, tell_all};
 use gp_memb::GracePlan;
 use live_words::{ChainRule, LiveSeat, LiveTable, lock, unlock};
 use rcu_model::Refusal;
@@ -45,6 +45,7 @@ pub struct Reader<P: GracePlan, K: ChainRule, B: Site> {
 
 impl<P: GracePlan, K: ChainRule, B: Site> Reader<P, K, B> {
     ghost use Rattle.std.specs.Borrow.{sem, RestsIfErr};
+    ghost use Rattle.live_read.specs.Hearing.{IsAfter};
     ghost use Rattle.live_read.specs.contracts.reader.Reader.{the_row};
     ghost use Rattle.live_read.specs.Sections.{Announces, BeginsSection, EndsSection, Enters, GoesOffline, GoesOnline, Leaves, Local, MayNotAnnounce, MayNotBegin, MayNotGoOnline, greatest_depth};
 
@@ -72,14 +73,14 @@ impl<P: GracePlan, K: ChainRule, B: Site> Reader<P, K, B> {
         }
     }
 
-    // Hears what the witness has seen.
+    // Hears what the witness has seen and heard of.
     pub(crate) fn hear<W: Witness>(&mut self, witness: &mut W)
         requires { W.table_of witness.old ≡ B.table }
         ensures reader { (self.new.slot ≡ self.old.slot) × (self.new.word ≡ self.old.word) × (self.new.depth ≡ self.old.depth) × (self.new.locks ≡ self.old.locks) }
-        ensures heard { (self.new.seat.me.0.heard ≡ W.seen witness.old) × (self.new.seat.me.0.seen ≡ self.old.seat.me.0.seen) }
+        ensures heard { IsAfter P.QSBR K.allows (W.seen witness.old) (W.heard witness.old) self.new.seat.me.0.heard × (self.new.seat.me.0.seen ≡ self.old.seat.me.0.seen) }
         ensures witness { (W.seen witness.new ≡ W.seen witness.old) × (W.heard witness.new ≡ W.heard witness.old) × (W.table_of witness.new ≡ B.table) × (W.standing witness.new ≡ W.standing witness.old) }
     {
-        let told = witness.tell(&self.table);
+        let told = tell_all(&self.table, witness);
         let reader = &mut *self;
         reader.table.learn(&mut reader.seat, told);
     }

@@ -10,6 +10,7 @@ ghost use Rattle.live_rule.specs.declared.rights.GroupsRight.TheVariants as grou
 ghost use Rattle.live_rule.specs.declared.rights.SlotRight.TheVariants.{Spare};
 ghost use Rattle.live_rule.specs.Seats.{but_groups};
 ghost use Rattle.live_table.specs.Rights.{count_in};
+ghost use Rattle.live_read.specs.Hearing.{IsAfter};
 ghost use Rattle.live_read.specs.Registering.{AreFree, Fits, Registers, Unregisters};
 
 use crate::parked::{GroupWords, Parked, Place};
@@ -62,7 +63,7 @@ impl<P: GracePlan, K: ChainRule, B: Site> Registrar<P, K, B> {
     }
 
     /// Claims a slot for a reader, liburcu's `rcu_register_thread`: its bit is set before the reader is handed out. The
-    /// reader is offline in the quiescent-state flavour, and hears what the witness has seen.
+    /// reader is offline in the quiescent-state flavour, and hears what the witness has seen and heard of.
     ///
     /// Refused with `NoSlot` exactly where every slot is claimed, and then the registrar is as it was. It takes no memory and
     /// never waits.
@@ -70,7 +71,7 @@ impl<P: GracePlan, K: ChainRule, B: Site> Registrar<P, K, B> {
         requires { (P.QSBR ≡ B.qsbr) × (W.table_of witness.old ≡ B.table) }
         ensures registered { IfOk result (λ r. Registers self.old.registry self.new.registry r.slot) }
         ensures idle { IfOk result (λ r. (r.depth ≡ 0) × (r.locks ≡ 0) × (B.qsbr ≡ true → r.word ≡ 0)) }
-        ensures told { IfOk result (λ r. r.seat.me.0.heard ≡ W.seen witness.old) }
+        ensures told { IfOk result (λ r. IsAfter P.QSBR K.allows (W.seen witness.old) (W.heard witness.old) r.seat.me.0.heard) }
         ensures later { IfOk result (λ r. Begins self.old.groups.seat.me.0.seen r.seat.me.0.seen) }
         ensures refused { IfErr result (λ e. (e ≡ NoSlot) × AllAreClaimed self.old.registry × (self.new.registry ≡ self.old.registry) × (self.new.groups ≡ self.old.groups) × (self.new.row ≡ self.old.row)) }
         ensures witness { (W.seen witness.new ≡ W.seen witness.old) × (W.heard witness.new ≡ W.heard witness.old) × (W.table_of witness.new ≡ B.table) × (W.standing witness.new ≡ W.standing witness.old) }
@@ -110,6 +111,15 @@ impl<P: GracePlan, K: ChainRule, B: Site> Registrar<P, K, B> {
             Place::Free(_) => unreachable!(),
         }
         Ok(())
+    }
+
+    /// A seat that has seen what the last one saw who registered or left. It never waits.
+    pub fn tell(&mut self, table: &LiveTable<P, K>) -> LiveSeat
+        requires { table.now.words.shared.table_id ≡ B.table }
+        ensures seat { (result.table_id ≡ B.table) × (result.me.1 ≡ []) × (result.me.0.seen ≡ self.old.groups.seat.me.0.seen) }
+        ensures same { (self.new.registry ≡ self.old.registry) × (self.new.groups.words ≡ self.old.groups.words) × (self.new.row ≡ self.old.row) × (self.new.groups.seat.me.0.seen ≡ self.old.groups.seat.me.0.seen) }
+    {
+        table.tell(&mut self.groups.seat)
     }
 }
 

@@ -1,12 +1,14 @@
 //! Who makes a call, and keeps what it has seen of the log.
 
 ghost use Rattle.std.specs.Prelude.{◌≡◌, []};
+ghost use Rattle.live_log.specs.Log.{Begins};
 ghost use Rattle.live_rule.specs.Seats.{told_view};
+ghost use Rattle.live_read.specs.Hearing.{IsAfter};
 
 use crate::reader::Reader;
 use crate::site::Site;
 use gp_memb::GracePlan;
-use live_words::{ChainRule, LiveSeat, LiveTable};
+use live_words::{ChainRule, LiveSeat, LiveTable, load_seq};
 use std::marker::PhantomData;
 
 /// Who makes a call, and keeps what it has seen of the log: a record, or a reader.
@@ -25,7 +27,7 @@ pub trait Witness {
     /// The table of the log.
     ghost table_of: { Self → TableId };
 
-    /// How it stands beside that: of a reader its slot, its word, and what it has open.
+    /// How it stands beside that: of a reader its slot, its word, its sections so far, and what it has open.
     ghost standing: { Self → Standing };
 
     /// A seat that has seen and heard as much. It never waits.
@@ -74,19 +76,53 @@ impl<B: Site> Record<B> {
     }
 }
 
-/// The one witness hears what the other has seen. It never waits.
+/// A seat that has seen all that the witness has seen and heard of. It never waits.
+pub fn tell_all<W: Witness, P: GracePlan, K: ChainRule>(
+    table: &LiveTable<P, K>,
+    witness: &mut W,
+) -> LiveSeat
+    requires { table.now.words.shared.table_id ≡ W.table_of witness.old }
+    ensures seat { (result.table_id ≡ W.table_of witness.old) × (result.me.1 ≡ []) }
+    ensures told { IsAfter P.QSBR K.allows (W.seen witness.old) (W.heard witness.old) result.me.0.seen }
+    ensures same { (W.seen witness.new ≡ W.seen witness.old) × (W.heard witness.new ≡ W.heard witness.old) × (W.table_of witness.new ≡ W.table_of witness.old) × (W.standing witness.new ≡ W.standing witness.old) }
+{
+    let mut told = witness.tell(table);
+    load_seq(table, &mut told);
+    told
+}
+
+/// The witness hears what the seat has seen, which is spent, beside all that it had seen and heard of. It never waits.
+pub fn learn_more<W: Witness, P: GracePlan, K: ChainRule>(
+    table: &LiveTable<P, K>,
+    witness: &mut W,
+    told: LiveSeat,
+)
+    requires table { (table.now.words.shared.table_id ≡ W.table_of witness.old) × (told.table_id ≡ W.table_of witness.old) × (told.me.1 ≡ []) }
+    ensures kept { IsAfter P.QSBR K.allows (W.seen witness.old) (W.heard witness.old) (W.heard witness.new) }
+    ensures heard { Begins told.me.0.seen (W.heard witness.new) }
+    ensures same { (W.seen witness.new ≡ W.seen witness.old) × (W.table_of witness.new ≡ W.table_of witness.old) × (W.standing witness.new ≡ W.standing witness.old) }
+{
+    let mut own = tell_all(table, witness);
+    table.learn(&mut own, told);
+    load_seq(table, &mut own);
+    witness.learn(table, own);
+}
+
+/// The one witness hears what the other has seen and heard of, beside all that it had seen and heard of itself. It never
+/// waits.
 pub fn inform<S: Witness, T: Witness, P: GracePlan, K: ChainRule>(
     table: &LiveTable<P, K>,
     from: &mut S,
     to: &mut T,
 )
     requires { (table.now.words.shared.table_id ≡ S.table_of from.old) × (T.table_of to.old ≡ S.table_of from.old) }
-    ensures told { T.heard to.new ≡ S.seen from.old }
+    ensures told { Begins (S.seen from.old) (T.heard to.new) × Begins (S.heard from.old) (T.heard to.new) }
+    ensures kept { IsAfter P.QSBR K.allows (T.seen to.old) (T.heard to.old) (T.heard to.new) }
     ensures from { (S.seen from.new ≡ S.seen from.old) × (S.heard from.new ≡ S.heard from.old) × (S.table_of from.new ≡ S.table_of from.old) × (S.standing from.new ≡ S.standing from.old) }
     ensures to { (T.seen to.new ≡ T.seen to.old) × (T.table_of to.new ≡ T.table_of to.old) × (T.standing to.new ≡ T.standing to.old) }
 {
-    let told = from.tell(table);
-    to.learn(table, told);
+    let told = tell_all(table, from);
+    learn_more(table, to, told);
 }
 
 impl<B: Site> Witness for Record<B> {
@@ -116,7 +152,9 @@ impl<P: GracePlan, K: ChainRule, B: Site> Witness for Reader<P, K, B> {
 
     ghost table_of = { λ r. r.seat.table_id };
 
-    ghost standing = { λ r. record { slot = r.slot; word = r.word; depth = r.depth; locks = r.locks } };
+    ghost use Rattle.live_table.specs.Rights.{count_in};
+
+    ghost standing = { λ r. record { slot = r.slot; word = r.word; ordinal = count_in r.seat.me.0.slot; depth = r.depth; locks = r.locks } };
 
     fn tell<Q: GracePlan, L: ChainRule>(&mut self, table: &LiveTable<Q, L>) -> LiveSeat {
         table.tell(&mut self.seat)

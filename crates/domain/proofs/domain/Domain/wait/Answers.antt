@@ -9,7 +9,7 @@ returns-clause-ended g c =
     let looked = c.ask.ensures.looked.1 in
     record {
       asked = asked;
-      follows = record { after_seen = subst (Begins seat.seen) (sym looked.1) looked.2; after_heard = subst (Begins seat.heard) (sym looked.1) looked.3; run = looked.4 };
+      after = record { after_seen = subst (Begins seat.seen) (sym looked.1) looked.2; after_heard = subst (Begins seat.heard) (sym looked.1) looked.3; run = looked.4 };
       low = c.in_ok-asked.ensures.taken.0 refl;
       later = c.answer.ensures.later.0;
       run = c.answer.ensures.later.1;
