@@ -79,6 +79,7 @@ impl<P: GracePlan, K: ChainRule, B: Site> Reader<P, K, B> {
         ensures reader { (self.new.slot ≡ self.old.slot) × (self.new.word ≡ self.old.word) × (self.new.depth ≡ self.old.depth) × (self.new.locks ≡ self.old.locks) }
         ensures heard { IsAfter P.QSBR K.allows (W.seen witness.old) (W.heard witness.old) self.new.seat.me.0.heard × (self.new.seat.me.0.seen ≡ self.old.seat.me.0.seen) }
         ensures witness { (W.seen witness.new ≡ W.seen witness.old) × (W.heard witness.new ≡ W.heard witness.old) × (W.table_of witness.new ≡ B.table) × (W.standing witness.new ≡ W.standing witness.old) }
+        ensures inside { W.is_in witness.old → W.is_in witness.new }
     {
         let told = tell_all(&self.table, witness);
         let reader = &mut *self;

@@ -2,8 +2,9 @@ use Rattle.std.proofs.Common.{rules, [], ◌∷◌, true≢false, sym, ap, subst
 use Rattle.live_log.specs.declared.event.LiveEvent.TheVariants.{Close}
 use Rattle.live_log.specs.Log.{Begins, Has}
 use Rattle.live_log.proofs.Lemmas.{begins_trans}
+use Rattle.live_rule.proofs.Lemmas.{has_more}
 use Rattle.live_table.specs.Rights.{count_in}
-use Rattle.live_read.proofs.Leaving.{both_later, has_more, wrote_has, wrote_later}
+use Rattle.live_read.proofs.Leaving.{both_later, wrote_has, wrote_later}
 use Rattle.live_read.proofs.parked.GroupWords.clear.Goals.{then-QSBR+then-word-ne0, else-QSBR, else-QSBR-via-then-QSBR+else-word-ne0, else-QSBR-via-else-QSBR}
 use Rattle.live_read.proofs.parked.GroupWords.clear.Given as given
 use Rattle.live_read.proofs.parked.GroupWords.clear.Goals as goal
