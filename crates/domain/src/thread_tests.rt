@@ -2,7 +2,7 @@
 //! and another where it ends one: a wait saw the sections end where no number of those that it found begun is missing among
 //! those ended after it.
 
-ghost use Rattle.std.specs.Prelude.{◌≡◌};
+ghost use Rattle.std.specs.Prelude.{◌≡◌, false};
 ghost use Rattle.std.specs.Thread.{IsSync};
 
 use crate::{Domain, LiveConfig, Opened, Reader, Record, Site};
@@ -12,8 +12,8 @@ use live_words::AnyChain;
 use rcu_model::Refusal;
 use std::alloc::Global;
 use std::marker::Brand;
-use std::sync::Wait;
 use std::sync::atomic::{AtomicU64, Ordering};
+use std::sync::{Arc, Wait};
 use std::thread;
 use std::thread::{Threads, join};
 
@@ -248,6 +248,51 @@ fn serves<P: GracePlan + Drop + Send + Sync, B: Site + Send + Sync, R: Threads +
     Ok((first, second, waited))
 }
 
+/// Sections of a reader that no table of numbers is kept of. Whether none was refused.
+fn spins<B: Site>(idle: Idle<MembPlan, B>) -> bool
+    requires { B.qsbr ≡ false }
+{
+    let Idle { mut reader } = idle;
+    for _ in 0..SECTIONS {
+        let Ok(section) = reader.section() else {
+            return false;
+        };
+        drop(section);
+    }
+    true
+}
+
+/// A reader in a thread that owns it, and a domain that is shared with a thread that outlives the call.
+fn spawns<B: Site + Send + Sync + 'static, R: Threads + Wait + Copy + Send + 'static>(
+    rt: R,
+    alloc: Global,
+    opened: Opened<MembPlan, AnyChain>,
+) -> Result<(bool, bool), Refusal>
+    requires { (B.qsbr ≡ false) × (opened.table.words.shared.table_id ≡ B.table) × (opened.table.slots ≡ B.slots) }
+{
+    let (domain, mut record) = opened.named::<B>(alloc)?;
+    let mut other = domain.split(&mut record);
+    let one = registered(&rt, &domain, &mut record)?;
+    let Ok(home) = Arc::new(alloc, domain) else {
+        return Err(Refusal::Memory);
+    };
+    let Ok(theirs) = Arc::try_clone(&home) else {
+        return Err(Refusal::Memory);
+    };
+    let reads = thread::spawn(
+        &rt,
+        move ||
+            requires { B.qsbr ≡ false }
+        { spins(one) },
+    );
+    let waits = thread::spawn(&rt, move || theirs.synchronize(&rt, &mut other).is_ok());
+    home.synchronize(&rt, &mut record)?;
+    match (reads, waits) {
+        (Ok(reader), Ok(waiter)) => Ok((reader.join(&rt), waiter.join(&rt))),
+        _ => Err(Refusal::Memory),
+    }
+}
+
 fn of_four_slots() -> LiveConfig
     ensures { result.slots ≡ 4 }
 {
@@ -275,4 +320,13 @@ fn waits_see_announcements(rt: HostRuntime) {
     );
     let served = serves::<QsbrPlan, Brand, _>(&rt, rt.alloc(), opened).expect(&rt, "not refused");
     assert_eq!(rt; served, (true, true, true));
+}
+
+#[test]
+fn threads_own_readers_and_share_domains(rt: HostRuntime) {
+    let opened = Opened::<MembPlan, AnyChain>::new(rt.alloc(), of_four_slots()).expect(
+        &rt, "memory",
+    );
+    let spawned = spawns::<Brand, _>(rt, rt.alloc(), opened).expect(&rt, "not refused");
+    assert_eq!(rt; spawned, (true, true));
 }
