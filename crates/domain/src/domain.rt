@@ -41,6 +41,7 @@ impl<P: GracePlan + Drop, K: ChainRule, B: Site> Domain<P, K, B> {
         ensures told { IfOk result (λ r. r.seat.me.0.heard ≡ W.seen witness.old) }
         ensures refused { IfErr result (λ e. e ≡ NoSlot) }
         ensures witness { (W.seen witness.new ≡ W.seen witness.old) × (W.heard witness.new ≡ W.heard witness.old) × (W.table_of witness.new ≡ B.table) × (W.standing witness.new ≡ W.standing witness.old) }
+        ensures inside { W.is_in witness.old → W.is_in witness.new }
     {
         self.registrar.lock(rt).register(witness)
     }
@@ -66,6 +67,7 @@ impl<P: GracePlan + Drop, K: ChainRule, B: Site> Domain<P, K, B> {
         requires { W.table_of witness.old ≡ B.table }
         ensures told { (result.seat.me.0.seen ≡ W.seen witness.old) × (result.seat.me.0.heard ≡ W.heard witness.old) }
         ensures same { (W.seen witness.new ≡ W.seen witness.old) × (W.heard witness.new ≡ W.heard witness.old) × (W.table_of witness.new ≡ B.table) × (W.standing witness.new ≡ W.standing witness.old) }
+        ensures inside { W.is_in witness.old → W.is_in witness.new }
     {
         Record::split(&self.table, witness)
     }
@@ -76,6 +78,7 @@ impl<P: GracePlan + Drop, K: ChainRule, B: Site> Domain<P, K, B> {
         ensures told { T.heard to.new ≡ S.seen from.old }
         ensures from { (S.seen from.new ≡ S.seen from.old) × (S.heard from.new ≡ S.heard from.old) × (S.table_of from.new ≡ B.table) × (S.standing from.new ≡ S.standing from.old) }
         ensures to { (T.seen to.new ≡ T.seen to.old) × (T.table_of to.new ≡ B.table) × (T.standing to.new ≡ T.standing to.old) }
+        ensures inside { (S.is_in from.old → S.is_in from.new) × (T.is_in to.old → T.is_in to.new) }
     {
         live_read::inform(&self.table, from, to);
     }
@@ -102,6 +105,7 @@ impl<P: GracePlan + Drop, K: ChainRule, B: Site> Domain<P, K, B> {
         ensures ended { IfOk result (λ _. Synchronized P.QSBR K.allows (W.seen witness.old) (W.heard witness.old) (W.heard witness.new)) }
         ensures refused { IfErr result (λ e. (e ≡ Exhausted) × Follows P.QSBR K.allows (W.seen witness.old) (W.heard witness.old) (W.heard witness.new) × (2 ^ 62 ≤ seq_of (W.heard witness.new))) }
         ensures witness { (W.seen witness.new ≡ W.seen witness.old) × (W.table_of witness.new ≡ B.table) × (W.standing witness.new ≡ W.standing witness.old) }
+        ensures inside { W.is_in witness.old → W.is_in witness.new }
     {
         let mut seat = witness.tell(&self.table);
         let answered = self.wait(rt, &mut seat);
@@ -121,6 +125,7 @@ impl<P: GracePlan + Drop, K: ChainRule, B: Site> Domain<P, K, B> {
         ensures refused { IfErr result (λ e. e ≡ Exhausted) }
         ensures taken { IsOk result ↔ (seq_of (W.heard witness.new) < 2 ^ 62) }
         ensures witness { (W.seen witness.new ≡ W.seen witness.old) × (W.table_of witness.new ≡ B.table) × (W.standing witness.new ≡ W.standing witness.old) }
+        ensures inside { W.is_in witness.old → W.is_in witness.new }
     {
         let mut seat = witness.tell(&self.table);
         let cookie = live_grace::start_poll(&self.table, &mut seat);
@@ -137,6 +142,7 @@ impl<P: GracePlan + Drop, K: ChainRule, B: Site> Domain<P, K, B> {
         ensures exact { IsTrue result ↔ (cookie.now.cookie ≤ seq_of (W.heard witness.new)) }
         ensures past { Begins cookie.now.asked.value.me.0.seen (W.heard witness.new) → IsTrue result → HaveEnded cookie.now.asked.value.me.0.seen (W.heard witness.new) }
         ensures witness { (W.seen witness.new ≡ W.seen witness.old) × (W.table_of witness.new ≡ B.table) × (W.standing witness.new ≡ W.standing witness.old) }
+        ensures inside { W.is_in witness.old → W.is_in witness.new }
     {
         let mut seat = witness.tell(&self.table);
         let past = live_grace::poll(&self.table, &mut seat, cookie);

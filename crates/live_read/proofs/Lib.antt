@@ -1,3 +1,4 @@
 mod Entering
 mod Leaving
 mod Rows
+mod Staying

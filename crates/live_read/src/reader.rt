@@ -78,6 +78,7 @@ impl<P: GracePlan, K: ChainRule, B: Site> Reader<P, K, B> {
         ensures reader { (self.new.slot ≡ self.old.slot) × (self.new.word ≡ self.old.word) × (self.new.depth ≡ self.old.depth) × (self.new.locks ≡ self.old.locks) }
         ensures heard { (self.new.seat.me.0.heard ≡ W.seen witness.old) × (self.new.seat.me.0.seen ≡ self.old.seat.me.0.seen) }
         ensures witness { (W.seen witness.new ≡ W.seen witness.old) × (W.heard witness.new ≡ W.heard witness.old) × (W.table_of witness.new ≡ B.table) × (W.standing witness.new ≡ W.standing witness.old) }
+        ensures inside { W.is_in witness.old → W.is_in witness.new }
     {
         let told = witness.tell(&self.table);
         let reader = &mut *self;

@@ -74,6 +74,7 @@ impl<P: GracePlan, K: ChainRule, B: Site> Registrar<P, K, B> {
         ensures later { IfOk result (λ r. Begins self.old.groups.seat.me.0.seen r.seat.me.0.seen) }
         ensures refused { IfErr result (λ e. (e ≡ NoSlot) × AllAreClaimed self.old.registry × (self.new.registry ≡ self.old.registry) × (self.new.groups ≡ self.old.groups) × (self.new.row ≡ self.old.row)) }
         ensures witness { (W.seen witness.new ≡ W.seen witness.old) × (W.heard witness.new ≡ W.heard witness.old) × (W.table_of witness.new ≡ B.table) × (W.standing witness.new ≡ W.standing witness.old) }
+        ensures inside { W.is_in witness.old → W.is_in witness.new }
     {
         let slot = self.registry.claim()?;
         let number = slot.number();

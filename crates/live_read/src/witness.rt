@@ -28,17 +28,22 @@ pub trait Witness {
     /// How it stands beside that: of a reader its slot, its word, and what it has open.
     ghost standing: { Self → Standing };
 
+    /// Of a reader, that its section of the log is open in what it has seen. It says nothing of a record.
+    ghost is_in: { Self → Type 0 };
+
     /// A seat that has seen and heard as much. It never waits.
     fn tell<P: GracePlan, K: ChainRule>(&mut self, table: &LiveTable<P, K>) -> LiveSeat
         requires { table.now.words.shared.table_id ≡ table_of self.old }
         ensures told { (result.table_id ≡ table_of self.old) × (result.me.1 ≡ []) × (result.me.0.seen ≡ seen self.old) × (result.me.0.heard ≡ heard self.old) }
-        ensures same { (seen self.new ≡ seen self.old) × (heard self.new ≡ heard self.old) × (table_of self.new ≡ table_of self.old) × (standing self.new ≡ standing self.old) };
+        ensures same { (seen self.new ≡ seen self.old) × (heard self.new ≡ heard self.old) × (table_of self.new ≡ table_of self.old) × (standing self.new ≡ standing self.old) }
+        ensures inside { is_in self.old → is_in self.new };
 
     /// It hears what the seat has seen, which is spent. It never waits.
     fn learn<P: GracePlan, K: ChainRule>(&mut self, table: &LiveTable<P, K>, other: LiveSeat)
         requires table { (table.now.words.shared.table_id ≡ table_of self.old) × (other.table_id ≡ table_of self.old) × (other.me.1 ≡ []) }
         ensures heard { heard self.new ≡ other.me.0.seen }
-        ensures same { (seen self.new ≡ seen self.old) × (table_of self.new ≡ table_of self.old) × (standing self.new ≡ standing self.old) };
+        ensures same { (seen self.new ≡ seen self.old) × (table_of self.new ≡ table_of self.old) × (standing self.new ≡ standing self.old) }
+        ensures inside { is_in self.old → is_in self.new };
 }
 
 /// What a thread that has no reader has seen of the log: its seat, which has no bytes.
@@ -69,6 +74,7 @@ impl<B: Site> Record<B> {
         requires { (table.now.words.shared.table_id ≡ B.table) × (W.table_of witness.old ≡ B.table) }
         ensures told { (result.seat.me.0.seen ≡ W.seen witness.old) × (result.seat.me.0.heard ≡ W.heard witness.old) }
         ensures same { (W.seen witness.new ≡ W.seen witness.old) × (W.heard witness.new ≡ W.heard witness.old) × (W.table_of witness.new ≡ B.table) × (W.standing witness.new ≡ W.standing witness.old) }
+        ensures inside { W.is_in witness.old → W.is_in witness.new }
     {
         Record::new(witness.tell(table))
     }
@@ -84,12 +90,14 @@ pub fn inform<S: Witness, T: Witness, P: GracePlan, K: ChainRule>(
     ensures told { T.heard to.new ≡ S.seen from.old }
     ensures from { (S.seen from.new ≡ S.seen from.old) × (S.heard from.new ≡ S.heard from.old) × (S.table_of from.new ≡ S.table_of from.old) × (S.standing from.new ≡ S.standing from.old) }
     ensures to { (T.seen to.new ≡ T.seen to.old) × (T.table_of to.new ≡ T.table_of to.old) × (T.standing to.new ≡ T.standing to.old) }
+    ensures inside { (S.is_in from.old → S.is_in from.new) × (T.is_in to.old → T.is_in to.new) }
 {
     let told = from.tell(table);
     to.learn(table, told);
 }
 
 impl<B: Site> Witness for Record<B> {
+    ghost use Rattle.std.specs.Prelude.{⊤};
     ghost use Rattle.live_read.specs.Standings.{nowhere};
 
     ghost seen = { λ r. r.seat.me.0.seen };
@@ -99,6 +107,8 @@ impl<B: Site> Witness for Record<B> {
     ghost table_of = { λ r. r.seat.table_id };
 
     ghost standing = { λ r. nowhere };
+
+    ghost is_in = { λ r. ⊤ };
 
     fn tell<P: GracePlan, K: ChainRule>(&mut self, table: &LiveTable<P, K>) -> LiveSeat {
         table.tell(&mut self.seat)
@@ -110,11 +120,15 @@ impl<B: Site> Witness for Record<B> {
 }
 
 impl<P: GracePlan, K: ChainRule, B: Site> Witness for Reader<P, K, B> {
+    ghost use Rattle.live_read.specs.Sections.{IsIn};
+
     ghost seen = { λ r. r.seat.me.0.seen };
 
     ghost heard = { λ r. r.seat.me.0.heard };
 
     ghost table_of = { λ r. r.seat.table_id };
+
+    ghost is_in = { λ r. IsIn r };
 
     ghost standing = { λ r. record { slot = r.slot; word = r.word; depth = r.depth; locks = r.locks } };
 
