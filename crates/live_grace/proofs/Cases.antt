@@ -11,7 +11,7 @@ use Rattle.live_rule.specs.declared.rights.GraceRight.TheVariants.{Works}
 use Rattle.live_rule.specs.Places.{group_at, slot_at}
 use Rattle.live_table.specs.Rights.{looks_in, before_in, seq_in, present_in}
 use Rattle.live_log.specs.declared.event.LiveEvent.TheVariants.{Present, SeqOdd}
-use Rattle.live_grace.specs.Answers.{Holds, stored_by, stores_of}
+use Rattle.live_grace.specs.Answers.{Gained, stored_by, stores_of}
 use Rattle.live_grace.specs.Going.{Going, IsLogged, Begun}
 use Rattle.live_log.specs.Log.{IsBound}
 use Rattle.live_grace.proofs.Tellings.{told_load, told_store}
@@ -56,43 +56,43 @@ module _ {P : Type 0} (is_begun : P → Type 0) (action : P → Action) (taken :
     pub order : (start : P) → is_begun start → StoresInOrder action taken seq start
     pub presents : (plan : P) (word : ℕ) → present (taken plan word) ≡ present_after (present plan) (action plan)
 
-  module _ (laws : Laws) (plan new : P) (looks : List (ℕ × ℕ)) (log log' : Log) (b : Begun is_begun action taken plan looks log) where
+  module _ (laws : Laws) (plan new : P) (looks : List (ℕ × ℕ)) (old log log' : Log) (b : Begun is_begun action taken plan looks old log) where
     abbrev After : List (ℕ × ℕ) → ℕ → Type 0
-    After looks' number = (number ≡ present new) × Begun is_begun action taken new looks' log'
+    After looks' number = (number ≡ present new) × Begun is_begun action taken new looks' old log'
 
-    pub after_look : (a : Action) (place word : ℕ) → action plan ≡ a → Loads a place → new ≡ taken plan word → ((es : Log) → Holds es log → Holds es log') → After ((place, word) ∷ looks) (present plan)
+    pub after_look : (a : Action) (place word : ℕ) → action plan ≡ a → Loads a place → new ≡ taken plan word → ((es : Log) → Gained es old log → Gained es old log') → After ((place, word) ∷ looks) (present plan)
     after_look a place word is loads next weaves = (
       sym (ap present next ∙ (laws.presents plan word ∙ (ap (present_after (present plan)) is ∙ same_present a place loads (present plan)))),
       record {
         start = b.start;
         begun = b.begun;
-        told = subst (λ p. Rattle.live_grace.specs.Going.Told action taken b.start p ((place, word) ∷ looks) log') (sym next)
+        told = subst (λ p. Rattle.live_grace.specs.Going.Told action taken b.start p ((place, word) ∷ looks) old log') (sym next)
             (told_load action taken seq b.start (laws.order b.start b.begun) plan looks b.told (place, word) (subst (λ x. IsLogged ((place, word) ∷ looks) x word) (sym is) (logged a place loads word looks)) (λ e. no_store a place loads (seq + 2) (sym is ∙ e))
-            log' (subst (λ (ev : Log). Holds (ev ++ (stored_by action taken (taken b.start 0) b.told.words ++ SeqOdd ∷ [])) log') (sym (ap stores_of is ∙ no_stores a place loads)) (weaves (stored_by action taken (taken b.start 0) b.told.words ++ SeqOdd ∷ []) b.told.stored)));
+            log' (subst (λ (ev : Log). Gained (ev ++ (stored_by action taken (taken b.start 0) b.told.words ++ SeqOdd ∷ [])) old log') (sym (ap stores_of is ∙ no_stores a place loads)) (weaves (stored_by action taken (taken b.start 0) b.told.words ++ SeqOdd ∷ []) b.told.stored)));
       },
     )
 
-    pub after_store : (value : ℕ) → action plan ≡ StorePhase value → new ≡ taken plan 0 → ((es : Log) → Holds es log → Holds (Present value ∷ es) log') → After looks value
+    pub after_store : (value : ℕ) → action plan ≡ StorePhase value → new ≡ taken plan 0 → ((es : Log) → Gained es old log → Gained (Present value ∷ es) old log') → After looks value
     after_store value is next weaves = (
       sym (ap present next ∙ (laws.presents plan 0 ∙ ap (present_after (present plan)) is)),
       record {
         start = b.start;
         begun = b.begun;
-        told = subst (λ p. Rattle.live_grace.specs.Going.Told action taken b.start p looks log') (sym next)
+        told = subst (λ p. Rattle.live_grace.specs.Going.Told action taken b.start p looks old log') (sym next)
             (told_store action taken seq b.start (laws.order b.start b.begun) plan looks b.told (subst (λ a. IsLogged looks a 0) (sym is) tt) (λ e. let f : StorePhase value ≡ StoreSeq (seq + 2) = sym is ∙ e in cc)
-            log' (subst (λ (ev : Log). Holds (ev ++ (stored_by action taken (taken b.start 0) b.told.words ++ SeqOdd ∷ [])) log') (sym (ap stores_of is)) (weaves (stored_by action taken (taken b.start 0) b.told.words ++ SeqOdd ∷ []) b.told.stored)));
+            log' (subst (λ (ev : Log). Gained (ev ++ (stored_by action taken (taken b.start 0) b.told.words ++ SeqOdd ∷ [])) old log') (sym (ap stores_of is)) (weaves (stored_by action taken (taken b.start 0) b.told.words ++ SeqOdd ∷ []) b.told.stored)));
       },
     )
 
   -- what holds between two turns
   abbrev pub InLoop : {S : Type 0} → Bool → (Log → LiveEvent → Type 0) → Me S View → ℕ → P → Me S View → Type 0
-  InLoop qsbr allows old first plan now = Going qsbr allows old (seq + 1) first (present plan) (looks_in now.0.grace) now × Begun is_begun action taken plan (looks_in now.0.grace) now.0.seen × IsBound qsbr (seq + 1) (present plan)
+  InLoop qsbr allows old first plan now = Going qsbr allows old (seq + 1) first (present plan) (looks_in now.0.grace) now × Begun is_begun action taken plan (looks_in now.0.grace) (before_in now.0.grace) now.0.seen × IsBound qsbr (seq + 1) (present plan)
 
   -- a turn that led the seat on, and the plan
   pub in_loop : {S : Type 0} (qsbr : Bool) (allows : Log → LiveEvent → Type 0) (old : Me S View) (first number : ℕ) (looks : List (ℕ × ℕ)) (plan : P) (now : Me S View)
-      → Going qsbr allows old (seq + 1) first number looks now → number ≡ present plan → Begun is_begun action taken plan looks now.0.seen → IsBound qsbr (seq + 1) number → InLoop qsbr allows old first plan now
+      → Going qsbr allows old (seq + 1) first number looks now → number ≡ present plan → Begun is_begun action taken plan looks (before_in now.0.grace) now.0.seen → IsBound qsbr (seq + 1) number → InLoop qsbr allows old first plan now
   in_loop qsbr allows old first number looks plan now go is b low = let same : looks_in now.0.grace ≡ looks = ap looks_in go.is in
-      (subst (λ (z : ℕ × List (ℕ × ℕ)). Going qsbr allows old (seq + 1) first z.0 z.1 now) (λ i. (is i, sym same i)) go, subst (λ (ls : List (ℕ × ℕ)). Begun is_begun action taken plan ls now.0.seen) (sym same) b, subst (IsBound qsbr (seq + 1)) is low)
+      (subst (λ (z : ℕ × List (ℕ × ℕ)). Going qsbr allows old (seq + 1) first z.0 z.1 now) (λ i. (is i, sym same i)) go, subst (λ (ls : List (ℕ × ℕ)). Begun is_begun action taken plan ls (before_in now.0.grace) now.0.seen) (sym same) b, subst (IsBound qsbr (seq + 1)) is low)
 
   -- the seat's right, as the steps name it
   pub named : {S : Type 0} (qsbr : Bool) (allows : Log → LiveEvent → Type 0) (old : Me S View) (first number : ℕ) (looks : List (ℕ × ℕ)) (now : Me S View) → Going qsbr allows old (seq + 1) first number looks now

@@ -9,7 +9,7 @@ use Rattle.live_rule.specs.Readers.{Shown}
 use Rattle.live_rule.specs.Places.{group_at, slot_at}
 use Rattle.live_periods.specs.Periods.{ShownAll, TellsAllEnded}
 use Rattle.live_log.specs.declared.event.LiveEvent.TheVariants.{SeqOdd}
-use Rattle.live_grace.specs.Answers.{Holds, stored_by, stores_of}
+use Rattle.live_grace.specs.Answers.{Gained, stored_by, stores_of}
 use Rattle.live_grace.specs.Going.{In, IsLogged, Logged, Told}
 
 shown_in : (qsbr : Bool) (looks : List (ℕ × ℕ)) (r m : ℕ) (x : ℕ × ℕ) → ShownAll qsbr looks r m → In x looks → Shown qsbr x r m
@@ -64,8 +64,8 @@ module _ {P : Type 0} (action : P → Action) (taken : P → ℕ → P) where
     store_is a b e = cc
 
     -- the first turn was taken
-    pub told_first : (log : Log) → Holds (SeqOdd ∷ []) log → Told action taken begun (taken begun 0) [] log
-    told_first log odd = record { words = []; is = refl; logged = tt; stored = odd; unfinished = λ f. let s = (order.last [] 0 (λ g. finished g)).0 f in let e : seq + 1 ≡ seq + 2 = store_is (seq + 1) (seq + 2) (sym order.first ∙ s) in omega arith }
+    pub told_first : (old log : Log) → Gained (SeqOdd ∷ []) old log → Told action taken begun (taken begun 0) [] old log
+    told_first old log odd = record { words = []; is = refl; logged = tt; stored = odd; unfinished = λ f. let s = (order.last [] 0 (λ g. finished g)).0 f in let e : seq + 1 ≡ seq + 2 = store_is (seq + 1) (seq + 2) (sym order.first ∙ s) in omega arith }
       where
         finished : action begun ≡ Finished → ⊥
         finished g = let e : StoreSeq (seq + 1) ≡ Finished = sym order.first ∙ g in cc
@@ -74,45 +74,45 @@ module _ {P : Type 0} (action : P → Action) (taken : P → ℕ → P) where
     Ended plan = action plan ≡ StoreSeq (seq + 2)
 
     -- a further turn, which is not the last one
-    pub told_more : (plan : P) (looks : List (ℕ × ℕ)) {log : Log} (t : Told action taken begun plan looks log) (looks' : List (ℕ × ℕ)) (word : ℕ) → Logged action taken looks' (taken begun 0) t.words → IsLogged looks' (action plan) word
-        → (Ended plan → ⊥) → (log' : Log) → Holds (stores_of (action plan) ++ (stored_by action taken (taken begun 0) t.words ++ SeqOdd ∷ [])) log' → Told action taken begun (taken plan word) looks' log'
-    told_more plan looks t looks' word logged here goes log' holds = record {
+    pub told_more : (plan : P) (looks : List (ℕ × ℕ)) {old log : Log} (t : Told action taken begun plan looks old log) (looks' : List (ℕ × ℕ)) (word : ℕ) → Logged action taken looks' (taken begun 0) t.words → IsLogged looks' (action plan) word
+        → (Ended plan → ⊥) → (log' : Log) → Gained (stores_of (action plan) ++ (stored_by action taken (taken begun 0) t.words ++ SeqOdd ∷ [])) old log' → Told action taken begun (taken plan word) looks' old log'
+    told_more plan looks {old} t looks' word logged here goes log' holds = record {
       words = t.words ++ word ∷ [];
       is = ap (λ p. taken p word) t.is ∙ sym (after_more (taken begun 0) t.words word);
       logged = one_more looks' (taken begun 0) t.words word logged (subst (λ p. IsLogged looks' (action p) word) t.is here);
       unfinished = λ f. goes (ap action t.is ∙ (order.last (0 ∷ t.words) word (λ g. t.unfinished (ap action t.is ∙ g))).0 (subst (λ p. action (taken p word) ≡ Finished) t.is f));
-      stored = subst (λ (es : Log). Holds es log') (all_stored (taken begun 0) t.words word (ap action t.is)) holds;
+      stored = subst (λ (es : Log). Gained es old log') (all_stored (taken begun 0) t.words word (ap action t.is)) holds;
     }
 
     -- a turn that loaded a word
-    pub told_load : (plan : P) (looks : List (ℕ × ℕ)) {log : Log} (t : Told action taken begun plan looks log) (x : ℕ × ℕ) → IsLogged (x ∷ looks) (action plan) x.1 → (Ended plan → ⊥)
-        → (log' : Log) → Holds (stores_of (action plan) ++ (stored_by action taken (taken begun 0) t.words ++ SeqOdd ∷ [])) log' → Told action taken begun (taken plan x.1) (x ∷ looks) log'
+    pub told_load : (plan : P) (looks : List (ℕ × ℕ)) {old log : Log} (t : Told action taken begun plan looks old log) (x : ℕ × ℕ) → IsLogged (x ∷ looks) (action plan) x.1 → (Ended plan → ⊥)
+        → (log' : Log) → Gained (stores_of (action plan) ++ (stored_by action taken (taken begun 0) t.words ++ SeqOdd ∷ [])) old log' → Told action taken begun (taken plan x.1) (x ∷ looks) old log'
     told_load plan looks t x here goes log' holds = told_more plan looks t (x ∷ looks) x.1 (longer looks x (taken begun 0) t.words t.logged) here goes log' holds
 
-    pub told_store : (plan : P) (looks : List (ℕ × ℕ)) {log : Log} (t : Told action taken begun plan looks log) → IsLogged looks (action plan) 0 → (Ended plan → ⊥)
-        → (log' : Log) → Holds (stores_of (action plan) ++ (stored_by action taken (taken begun 0) t.words ++ SeqOdd ∷ [])) log' → Told action taken begun (taken plan 0) looks log'
+    pub told_store : (plan : P) (looks : List (ℕ × ℕ)) {old log : Log} (t : Told action taken begun plan looks old log) → IsLogged looks (action plan) 0 → (Ended plan → ⊥)
+        → (log' : Log) → Gained (stores_of (action plan) ++ (stored_by action taken (taken begun 0) t.words ++ SeqOdd ∷ [])) old log' → Told action taken begun (taken plan 0) looks old log'
     told_store plan looks t here goes log' holds = told_more plan looks t looks 0 t.logged here goes log' holds
 
     -- the even number that is stored
-    pub even_is : (plan : P) (looks : List (ℕ × ℕ)) → {log : Log} → Told action taken begun plan looks log → (value : ℕ) → action plan ≡ StoreSeq value → value ≡ seq + 2
+    pub even_is : (plan : P) (looks : List (ℕ × ℕ)) → {old log : Log} → Told action taken begun plan looks old log → (value : ℕ) → action plan ≡ StoreSeq value → value ≡ seq + 2
     even_is plan looks t value is = order.second 0 value t.words (ap action (sym t.is) ∙ is)
 
     -- its turns, up to the last store
-    pub all_turns : (plan : P) (looks : List (ℕ × ℕ)) {log : Log} (t : Told action taken begun plan looks log) → after_loads taken begun (0 ∷ (t.words ++ 0 ∷ [])) ≡ taken plan 0
+    pub all_turns : (plan : P) (looks : List (ℕ × ℕ)) {old log : Log} (t : Told action taken begun plan looks old log) → after_loads taken begun (0 ∷ (t.words ++ 0 ∷ [])) ≡ taken plan 0
     all_turns plan looks t = after_more (taken begun 0) t.words 0 ∙ ap (λ p. taken p 0) (sym t.is)
 
     -- what they stored as the phase or number
-    pub all_stores : (plan : P) (looks : List (ℕ × ℕ)) {log : Log} (t : Told action taken begun plan looks log) → Ended plan → stored_by action taken begun (0 ∷ (t.words ++ 0 ∷ [])) ≡ stored_by action taken (taken begun 0) t.words
+    pub all_stores : (plan : P) (looks : List (ℕ × ℕ)) {old log : Log} (t : Told action taken begun plan looks old log) → Ended plan → stored_by action taken begun (0 ∷ (t.words ++ 0 ∷ [])) ≡ stored_by action taken (taken begun 0) t.words
     all_stores plan looks t ends = let ws : List ℕ = t.words in
         ap (λ (a : Action). stored_by action taken (taken begun 0) (ws ++ 0 ∷ []) ++ stores_of a) order.first
         ∙ (append-nil (stored_by action taken (taken begun 0) (ws ++ 0 ∷ [])) ∙ (stored_more (taken begun 0) ws 0 ∙ ap (λ (a : Action). stores_of a ++ stored_by action taken (taken begun 0) ws) (ap action (sym t.is) ∙ ends)))
 
     -- by the last store the plan is finished
-    pub told_last : (plan : P) (looks : List (ℕ × ℕ)) → {log : Log} → Told action taken begun plan looks log → Ended plan → action (taken plan 0) ≡ Finished
+    pub told_last : (plan : P) (looks : List (ℕ × ℕ)) → {old log : Log} → Told action taken begun plan looks old log → Ended plan → action (taken plan 0) ≡ Finished
     told_last plan looks t ends = subst (λ p. action (taken p 0) ≡ Finished) (sym t.is) ((order.last (0 ∷ t.words) 0 (λ g. t.unfinished (ap action t.is ∙ g))).1 (ap action (sym t.is) ∙ ends))
 
     -- before the last store all that was loaded tells of no section
-    pub refutes : (qsbr : Bool) (slots first : ℕ) → WaitsForOpen qsbr action taken Wide slots first begun → (plan : P) (looks : List (ℕ × ℕ)) → {log : Log} → Told action taken begun plan looks log → Ended plan
+    pub refutes : (qsbr : Bool) (slots first : ℕ) → WaitsForOpen qsbr action taken Wide slots first begun → (plan : P) (looks : List (ℕ × ℕ)) → {old log : Log} → Told action taken begun plan looks old log → Ended plan
         → (mark : Log) → present_of mark ≡ first → TellsAllEnded qsbr slots mark looks
     refutes qsbr slots first waits plan looks t ends mark is r m low note all =
         let ws : List ℕ = t.words ++ 0 ∷ [] in

@@ -12,7 +12,7 @@ use Rattle.live_rule.specs.declared.rights.GraceRight.TheVariants.{Works}
 use Rattle.live_rule.specs.Places.{group_at, slot_at}
 use Rattle.live_rule.specs.Steps.{Precedes, at_log}
 use Rattle.live_table.specs.Rights.{before_in}
-use Rattle.live_grace.specs.Answers.{Holds, stored_by}
+use Rattle.live_grace.specs.Answers.{Gained, stored_by}
 
 -- the period, with SEQ at q, began after `old`, when PHASE or NUM was `first`
 pub record Going {S : Type 0} (qsbr : Bool) (allows : Log → LiveEvent → Type 0) (old : Me S View) (q first number : ℕ) (looks : List (ℕ × ℕ)) (now : Me S View) : Type 0 where
@@ -42,15 +42,15 @@ Logged action taken looks plan [] = Unit {0}
 Logged action taken looks plan (word ∷ words) = IsLogged looks (action plan) word × Logged action taken looks (taken plan word) words
 
 -- a plan that was begun, took its first turn, and is not finished; the log has what it stored
-pub record Told {P : Type 0} (action : P → Action) (taken : P → ℕ → P) (begun plan : P) (looks : List (ℕ × ℕ)) (log : Log) : Type 0 where
+pub record Told {P : Type 0} (action : P → Action) (taken : P → ℕ → P) (begun plan : P) (looks : List (ℕ × ℕ)) (old log : Log) : Type 0 where
   pub words : List ℕ
   pub is : plan ≡ after_loads taken (taken begun 0) words
   pub logged : Logged action taken looks (taken begun 0) words
   pub unfinished : action plan ≢ Finished
-  pub stored : Holds (stored_by action taken (taken begun 0) words ++ SeqOdd ∷ []) log
+  pub stored : Gained (stored_by action taken (taken begun 0) words ++ SeqOdd ∷ []) old log
 
 -- a plan that was begun so, took its first turn, and is not finished
-pub record Begun {P : Type 0} (is_begun : P → Type 0) (action : P → Action) (taken : P → ℕ → P) (plan : P) (looks : List (ℕ × ℕ)) (log : Log) : Type 0 where
+pub record Begun {P : Type 0} (is_begun : P → Type 0) (action : P → Action) (taken : P → ℕ → P) (plan : P) (looks : List (ℕ × ℕ)) (old log : Log) : Type 0 where
   pub start : P
   pub begun : is_begun start
-  pub told : Told action taken start plan looks log
+  pub told : Told action taken start plan looks old log

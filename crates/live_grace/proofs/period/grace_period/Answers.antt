@@ -18,11 +18,11 @@ use Rattle.live_rule.specs.Steps.{at_log}
 use Rattle.live_table.specs.Rights.{looks_in, before_in, seq_in, present_in}
 use Rattle.live_periods.specs.Periods.{GraceBecomes}
 use Rattle.live_log.specs.Log.{IsBound}
-use Rattle.live_grace.specs.Answers.{Holds, stored_by}
+use Rattle.live_grace.specs.Answers.{Gained, stored_by}
 use Rattle.live_grace.specs.Asks.{cookie_in}
 use Rattle.live_grace.specs.Going.{Begun}
 use Rattle.live_grace.proofs.Tellings.{all_stores, all_turns, told_first, told_last, even_is, refutes}
-use Rattle.live_grace.proofs.Goings.{starts_going, goes_on, holds_wrote, whole, stored_turn, only_after}
+use Rattle.live_grace.proofs.Goings.{starts_going, goes_on, gained_more, whole, stored_turn, only_after}
 use Rattle.live_grace.proofs.Cores.{answers, begins_with, due_is, runs_on, seq_is}
 use Rattle.live_grace.proofs.Cases.{Laws, InLoop, Loads, after_look, after_store, in_loop, named, may_start, bound_next, bound_turn, at_most, turn_low}
 use Rattle.live_grace.proofs.period.grace_period.Given as given
@@ -54,7 +54,8 @@ loop-init g c = let p = g.P.GracePlan in let m = g.met.P.GracePlan in let slots 
     let present = m.begins Wide true slots seq number start begun (may_start p.QSBR seq number c.requires.right.3) in
     let same = sym (m.presents start 0 ∙ (ap (present_after (p.present start)) order.first ∙ present)) in
     let wrote = c.store_odd.ensures.began.1 in
-    let told = told_first p.action p.taken seq start order new.0.seen ([], wrote.0, wrote.1, tt) in (
+    let mark : before_in new.0.grace ≡ wrote.0 = ap (λ (z : Me Unit View). before_in z.0.grace) graced.0 ∙ ap before_odd wrote.1 in
+    let told = told_first p.action p.taken seq start order (before_in new.0.grace) new.0.seen ([], wrote.0, wrote.1, ([], sym mark)) in (
       search rules,
       search rules,
       (
@@ -80,14 +81,15 @@ look_on : (g : given.Over) (slots seq number cookie stored place word : ℕ) (ol
     → (x : g.row.P.Denot) × (next ≡ Runs cookie x) × (stored ≡ p.present x) × InLoop (p.is_begun Wide true slots seq number) p.action p.taken p.present seq p.QSBR g.K.ChainRule.allows old number x new
 look_on g slots seq number cookie stored place word old now new core next told plan a runs last inv does loads says looked = let p = g.P.GracePlan in let allows = g.K.ChainRule.allows in
     let begins = p.is_begun Wide true slots seq number in let looks = looks_in now.0.grace in let go = inv.0 in let taken = p.taken plan word in
-    let after = after_look begins p.action p.taken p.present seq (laws g slots seq number) plan taken looks now.0.seen new.0.seen inv.1 a place word does loads refl (λ es h. holds_wrote p.QSBR allows [] es now.0 new.0.seen looked.1 h) in (
+    let after = after_look begins p.action p.taken p.present seq (laws g slots seq number) plan taken looks (before_in now.0.grace) now.0.seen new.0.seen inv.1 a place word does loads refl (λ es h. gained_more p.QSBR allows [] es (before_in now.0.grace) now.0 new.0.seen looked.1 h) in
+    let mark : before_in new.0.grace ≡ before_in now.0.grace = ap (λ (z : Me Unit View). before_in z.0.grace) looked.0 in (
       taken,
       runs_on p.action p.turn p.taken g.met.P.GracePlan.still cookie plan word core next told runs says after.1.told.unfinished,
       last ∙ after.0,
       in_loop begins p.action p.taken p.present seq p.QSBR allows old number (p.present plan) ((place, word) ∷ looks) taken new
           (goes_on p.QSBR allows old (seq + 1) number (p.present plan) (p.present plan) looks ((place, word) ∷ looks) _ [] now new go
           (named begins p.action p.taken p.present seq p.QSBR allows old number (p.present plan) looks now go (place, word)) looked)
-          after.0 after.1 inv.2,
+          after.0 (subst (λ (l : Log). Begun begins p.action p.taken taken ((place, word) ∷ looks) l new.0.seen) (sym mark) after.1) inv.2,
     )
 
 pub loop-preserved-in-Load : goal.loop-preserved-in-Load
@@ -115,7 +117,7 @@ loop-preserved-in-LoadGroup g c = let inv = c.loop.invariant in
     )
 
 -- the store of a phase or number is one that the rule allows
-may_turn : (g : given.Over) (slots seq number value : ℕ) (plan : g.row.P.Denot) (looks : List (ℕ × ℕ)) {log : Log} → Begun (g.P.GracePlan.is_begun Wide true slots seq number) g.P.GracePlan.action g.P.GracePlan.taken plan looks log
+may_turn : (g : given.Over) (slots seq number value : ℕ) (plan : g.row.P.Denot) (looks : List (ℕ × ℕ)) {old log : Log} → Begun (g.P.GracePlan.is_begun Wide true slots seq number) g.P.GracePlan.action g.P.GracePlan.taken plan looks old log
     → IsBound g.P.GracePlan.QSBR seq number → g.P.GracePlan.action plan ≡ StorePhase value → MayBePresent g.P.GracePlan.QSBR (seq + 1) (g.P.GracePlan.present plan) value
 may_turn g slots seq number value plan looks b low does = let p = g.P.GracePlan in let m = g.met.P.GracePlan in
     stored_turn p.QSBR seq number (p.present plan) value (m.stores Wide true slots seq number b.start b.begun (0 ∷ b.told.words) value (ap p.action (sym b.told.is) ∙ does)) (λ q. m.rises plan value q does) (at_most p.QSBR seq number low)
@@ -133,8 +135,9 @@ loop-preserved-in-StorePhase g c = let p = g.P.GracePlan in let inv = c.loop.inv
     let begins = p.is_begun Wide true slots seq number in
     let now = c.loop.seat.me in let plan = inv.2.0 in
     let does = (due_is p.action inv.2.1 c.next-in-loop-2.ensures c.in-Plan.is ∙ c.in-StorePhase.is) in
-    let after = after_store begins p.action p.taken p.present seq (laws g slots seq number) plan (p.taken plan 0) (looks_in now.0.grace) now.0.seen c.store_present.new.seat.me.0.seen b value does refl
-    (λ es h. holds_wrote p.QSBR g.K.ChainRule.allows (Present value ∷ []) es now.0 c.store_present.new.seat.me.0.seen c.store_present.ensures.presented.1 h) in (
+    let after = after_store begins p.action p.taken p.present seq (laws g slots seq number) plan (p.taken plan 0) (looks_in now.0.grace) (before_in now.0.grace) now.0.seen c.store_present.new.seat.me.0.seen b value does refl
+    (λ es h. gained_more p.QSBR g.K.ChainRule.allows (Present value ∷ []) es (before_in now.0.grace) now.0 c.store_present.new.seat.me.0.seen c.store_present.ensures.presented.1 h) in
+    let mark : before_in c.store_present.new.seat.me.0.grace ≡ before_in now.0.grace = ap (λ (z : Me Unit View). before_in z.0.grace) c.store_present.ensures.presented.0 in (
       search rules,
       search rules,
       (
@@ -144,11 +147,11 @@ loop-preserved-in-StorePhase g c = let p = g.P.GracePlan in let inv = c.loop.inv
         in_loop begins p.action p.taken p.present seq p.QSBR g.K.ChainRule.allows c.args.seat.now.me number value (looks_in now.0.grace) (p.taken plan 0) c.store_present.new.seat.me
             (goes_on p.QSBR g.K.ChainRule.allows c.args.seat.now.me (seq + 1) number (p.present plan) value (looks_in now.0.grace) (looks_in now.0.grace) _ (Present value ∷ []) now c.store_present.new.seat.me go
             (λ i. Works (ap seq_in go.is i) value (before_in now.0.grace) (looks_in now.0.grace)) c.store_present.ensures.presented)
-            after.0 after.1 (bound_turn p.QSBR (seq + 1) (p.present plan) value (may_turn g slots seq number value plan (looks_in now.0.grace) b c.requires.right.3 does)),
+            after.0 (subst (λ (l : Log). Begun begins p.action p.taken (p.taken plan 0) (looks_in now.0.grace) l c.store_present.new.seat.me.0.seen) (sym mark) after.1) (bound_turn p.QSBR (seq + 1) (p.present plan) value (may_turn g slots seq number value plan (looks_in now.0.grace) b c.requires.right.3 does)),
       ),
     )
 
-even_of : (g : given.Over) (slots seq number value : ℕ) (plan : g.row.P.Denot) (looks : List (ℕ × ℕ)) {log : Log} → Begun (g.P.GracePlan.is_begun Wide true slots seq number) g.P.GracePlan.action g.P.GracePlan.taken plan looks log
+even_of : (g : given.Over) (slots seq number value : ℕ) (plan : g.row.P.Denot) (looks : List (ℕ × ℕ)) {old log : Log} → Begun (g.P.GracePlan.is_begun Wide true slots seq number) g.P.GracePlan.action g.P.GracePlan.taken plan looks old log
     → g.P.GracePlan.action plan ≡ StoreSeq value → value ≡ seq + 2
 even_of g slots seq number value plan looks b does = even_is g.P.GracePlan.action g.P.GracePlan.taken seq b.start ((laws g slots seq number).order b.start b.begun) plan looks b.told value does
 
@@ -199,8 +202,10 @@ returns-then-matches-clause-plan g c = let p = g.P.GracePlan in let inv = c.loop
       loaded = 0 ∷ (b.told.words ++ 0 ∷ []);
       finished = ap p.action turns ∙ told_last p.action p.taken seq b.start order plan looks b.told (does ∙ ap StoreSeq e);
       left = ap p.present turns ∙ (g.met.P.GracePlan.presents plan 0 ∙ (ap (present_after (p.present plan)) does ∙ sym inv.2.2));
-      stores = subst (λ (es : Log). Holds (SeqEven ∷ es ++ SeqOdd ∷ []) last) (sym (all_stores p.action p.taken seq b.start order plan looks b.told (does ∙ ap StoreSeq e)))
-          (holds_wrote p.QSBR g.K.ChainRule.allows (SeqEven ∷ []) (stored_by p.action p.taken (p.taken b.start 0) b.told.words ++ SeqOdd ∷ []) c.loop.seat.me.0 last c.store_even.ensures.ended.1 b.told.stored);
+      before = before_in c.loop.seat.me.0.grace;
+      words = (let n = inv.2.3.0.numbered in omega arith, inv.2.3.0.began);
+      stores = subst (λ (es : Log). Gained (SeqEven ∷ es ++ SeqOdd ∷ []) (before_in c.loop.seat.me.0.grace) last) (sym (all_stores p.action p.taken seq b.start order plan looks b.told (does ∙ ap StoreSeq e)))
+          (gained_more p.QSBR g.K.ChainRule.allows (SeqEven ∷ []) (stored_by p.action p.taken (p.taken b.start 0) b.told.words ++ SeqOdd ∷ []) (before_in c.loop.seat.me.0.grace) c.loop.seat.me.0 last c.store_even.ensures.ended.1 b.told.stored);
     }
 
 pub returns-then-matches-clause-period : goal.returns-then-matches-clause-period
