@@ -31,8 +31,8 @@ impl<P: GracePlan + Drop, B: Site> GraceLock<P, B> {
         }
     }
 
-    /// Answers an ask: each section that was open in its log has ended in the log that the seat has seen then. It waits for
-    /// sections, where it runs a grace period of its own.
+    /// Answers an ask: each section that was open in its log has ended in the log that the seat has seen then. It waits
+    /// for sections, where it runs a grace period of its own.
     pub(crate) fn answer<K: ChainRule, R: Wait>(
         &mut self,
         rt: &R,

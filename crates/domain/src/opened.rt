@@ -15,7 +15,8 @@ use rcu_model::Refusal;
 use std::alloc::Global;
 use std::sync::{Arc, Mutex};
 
-/// The words of a domain that has no name yet. A program picks the name, a type that is a `Site`, where it calls `named`.
+/// The words of a domain that has no name yet. A program picks the name, a type that is a `Site`, where it calls
+/// `named`.
 #[derive(Drop)]
 pub struct Opened<P: GracePlan, K: ChainRule> {
     /// The words.
@@ -27,7 +28,8 @@ pub struct Opened<P: GracePlan, K: ChainRule> {
 impl<P: GracePlan + Drop, K: ChainRule> Opened<P, K> {
     /// The words of a domain of this size.
     ///
-    /// Refused with `BadConfig` exactly where a number is out of its limits, else with `Memory` where memory is refused.
+    /// Refused with `BadConfig` exactly where a number is out of its limits, else with `Memory` where memory is
+    /// refused.
     pub fn new(alloc: Global, config: LiveConfig) -> Result<Opened<P, K>, Refusal>
         ensures ok { IfOk result (λ o. (is_supported config ≡ true) × (o.table.slots ≡ config.slots) × (o.table.queues ≡ config.queues) × (o.table.chains ≡ config.chains) × (o.table.pool ≡ config.pool)) }
         ensures err { IfErr result (λ e. e ≡ new_refusal config) }
@@ -48,8 +50,8 @@ impl<P: GracePlan + Drop, K: ChainRule> Opened<P, K> {
         Ok(Opened { table, seat })
     }
 
-    /// The domain under this name, none of whose slots is claimed, and the first record, which has seen nothing yet. All the
-    /// memory that registering takes is taken here.
+    /// The domain under this name, none of whose slots is claimed, and the first record, which has seen nothing yet.
+    /// All the memory that registering takes is taken here.
     ///
     /// Refused with `Memory` where memory is.
     pub fn named<B: Site>(self, alloc: Global) -> Result<(Domain<P, K, B>, Record<B>), Refusal>

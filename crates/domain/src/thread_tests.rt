@@ -1,6 +1,6 @@
-//! Four readers and two who wait, in threads of their own. Each reader raises a number of its own where it begins a section,
-//! and another where it ends one: a wait saw the sections end where no number of those that it found begun is missing among
-//! those ended after it.
+//! Four readers and two who wait, in threads of their own. Each reader raises a number of its own where it begins a
+//! section, and another where it ends one: a wait saw the sections end where no number of those that it found begun is
+//! missing among those ended after it.
 
 ghost use Rattle.std.specs.Prelude.{◌≡◌, false};
 ghost use Rattle.std.specs.Thread.{IsSync};
@@ -70,7 +70,8 @@ fn registered<P: GracePlan + Drop, B: Site, R: Wait>(
     Ok(Idle { reader })
 }
 
-/// Sections, one after the other, and an announcement after each in the quiescent-state flavour. Whether none was refused.
+/// Sections, one after the other, and an announcement after each in the quiescent-state flavour. Whether none was
+/// refused.
 fn reads<P: GracePlan, B: Site>(idle: Idle<P, B>, all: &[Numbers]) -> bool
     requires { P.QSBR ≡ B.qsbr }
 {

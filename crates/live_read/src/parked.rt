@@ -116,7 +116,8 @@ impl<B: Site> GroupWords<B> {
         Reader::new(table, seat, slot, word)
     }
 
-    /// Takes the slot of a reader that has no section or lock open: an online one goes offline, and then the bit is cleared.
+    /// Takes the slot of a reader that has no section or lock open: an online one goes offline, and then the bit is
+    /// cleared.
     pub(crate) fn clear<P: GracePlan, K: ChainRule>(
         &mut self,
         reader: Reader<P, K, B>,

@@ -1,5 +1,5 @@
-//! Registering at concrete types of both flavours. Expected words are those of the layout: the group words are words 48 to
-//! 51, and the word of slot s is word 16 s + 64. Slots are claimed from 0 on.
+//! Registering at concrete types of both flavours. Expected words are those of the layout: the group words are words 48
+//! to 51, and the word of slot s is word 16 s + 64. Slots are claimed from 0 on.
 
 ghost use Rattle.std.specs.Prelude.{◌≡◌, ◌<◌, ◌∷◌, [], true, false};
 ghost use Rattle.std.specs.Arc.{arc_value};
@@ -28,8 +28,8 @@ fn opened<P: GracePlan, K: ChainRule, B: Site>(
     Ok((registrar, record))
 }
 
-/// Claims every slot, and then one that was given back: how many readers there were, how the next was refused, which slot
-/// was given back and which was claimed then, and whether there is none again.
+/// Claims every slot, and then one that was given back: how many readers there were, how the next was refused, which
+/// slot was given back and which was claimed then, and whether there is none again.
 fn fills<B: Site>(
     alloc: Global,
     words: &Arc<LiveTable<MembPlan, AnyChain>>,
