@@ -1,6 +1,6 @@
 #![tactic(auto)]
 //! Operations of the library over live threads, one after the other, for the benchmark: `live_bench FLAVOUR KIND COUNT`.
-//! With two readers, each in a thread of its own, `section-by-two` and the like.
+//! With `section-by-two` two readers make sections, each in a thread of its own.
 
 ghost use Rattle.std.specs.Prelude.{◌≡◌};
 
