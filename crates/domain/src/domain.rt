@@ -112,10 +112,10 @@ impl<P: GracePlan + Drop, K: ChainRule, B: Site> Domain<P, K, B> {
         Ok(())
     }
 
-    /// Waits for a grace period, liburcu's `synchronize_rcu`: each section that was open at its ask's load, which was after
-    /// all that the caller had seen and heard of, has ended in the log that the caller hears of at the return. It waits for
-    /// the grace lock and for those sections, so a caller has no section or lock open, and is offline where its reader is of
-    /// the quiescent-state flavour.
+    /// Waits for a grace period, liburcu's `synchronize_rcu`: there was a log after all that the caller had seen and
+    /// heard of, and each section that was open in it has ended in the log that the caller hears of at the return. It
+    /// waits for the grace lock and for those sections, so a caller has no section or lock open, and is offline where
+    /// its reader is of the quiescent-state flavour.
     ///
     /// Refused with `Exhausted` exactly where the sequence number that its ask loads is at or above 2^62.
     pub fn synchronize<W: Witness, R: Wait>(&self, rt: &R, witness: &mut W) -> Result<(), Refusal>
