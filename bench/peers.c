@@ -10,6 +10,7 @@
 #include <string.h>
 
 #ifdef HAS_URCU
+#define _LGPL_SOURCE /* its small functions inline */
 #include <urcu/urcu-mb.h>
 #include <urcu/urcu-memb.h>
 #include <urcu/urcu-qsbr.h>
@@ -101,12 +102,6 @@ static void rwlock_section(void)
 		pthread_barrier_wait(&ready);                                                                          \
 		for (int i = 0; i < 2; i++)                                                                            \
 			pthread_join(readers[i], NULL);                                                                \
-	}                                                                                                              \
-	static void name##_poll(void)                                                                                  \
-	{                                                                                                              \
-		struct urcu_gp_poll_state state = urcu_##name##_start_poll_synchronize_rcu();                          \
-		for (unsigned long i = 0; i < count; i++)                                                              \
-			urcu_##name##_poll_state_synchronize_rcu(state);                                               \
 	}
 
 static void mb_leave(void)
@@ -122,6 +117,22 @@ static void qsbr_leave(void)
 FLAVOUR(mb)
 FLAVOUR(memb)
 FLAVOUR(qsbr)
+
+/* Polls came with liburcu 0.14. */
+#if __has_include(<urcu/urcu-poll.h>)
+#define HAS_POLL
+#define POLL(name)                                                                                                     \
+	static void name##_poll(void)                                                                                  \
+	{                                                                                                              \
+		struct urcu_gp_poll_state state = urcu_##name##_start_poll_synchronize_rcu();                          \
+		for (unsigned long i = 0; i < count; i++)                                                              \
+			urcu_##name##_poll_state_synchronize_rcu(state);                                               \
+	}
+
+POLL(mb)
+POLL(memb)
+POLL(qsbr)
+#endif
 
 static void qsbr_announcement(void)
 {
@@ -146,14 +157,16 @@ static const struct {
 	{ "mb", "section", mb_section },
 	{ "mb", "nested", mb_nested },
 	{ "mb", "synchronize", mb_synchronize },
-	{ "mb", "poll", mb_poll },
 	{ "memb", "section", memb_section },
 	{ "memb", "nested", memb_nested },
 	{ "memb", "synchronize", memb_synchronize },
-	{ "memb", "poll", memb_poll },
 	{ "qsbr", "section", qsbr_section },
 	{ "qsbr", "announcement", qsbr_announcement },
 	{ "qsbr", "synchronize", qsbr_synchronize },
+#endif
+#ifdef HAS_POLL
+	{ "mb", "poll", mb_poll },
+	{ "memb", "poll", memb_poll },
 	{ "qsbr", "poll", qsbr_poll },
 #endif
 };

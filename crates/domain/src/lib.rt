@@ -12,8 +12,3 @@ pub use domain::Domain;
 pub use live_grace::LiveCookie;
 pub use live_read::{Reader, Record, Section, Site, Witness};
 pub use opened::Opened;
-
-#[cfg(test)]
-mod tests;
-#[cfg(test)]
-mod thread_tests;

@@ -10,6 +10,3 @@ pub use laws::{early_group_words_break_the_law, shorter_plans_break_the_law};
 pub use memb::MembPlan;
 pub use plan::{Action, GracePlan, Turn};
 pub use scan::{Look, Scan};
-
-#[cfg(test)]
-mod tests;

@@ -13,8 +13,3 @@ pub use registrar::Registrar;
 pub use section::Section;
 pub use site::Site;
 pub use witness::{Record, Witness, inform, learn_more, tell_all};
-
-#[cfg(test)]
-mod registering_tests;
-#[cfg(test)]
-mod tests;

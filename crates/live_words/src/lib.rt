@@ -14,6 +14,3 @@ pub use live_rule::{
     SlotRight, View, WorkRight,
 };
 pub use live_table::LiveTable;
-
-#[cfg(test)]
-mod tests;

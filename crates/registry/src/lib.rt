@@ -4,8 +4,6 @@
 mod laws;
 mod registry;
 mod slot;
-#[cfg(test)]
-mod tests;
 
 pub use laws::slots_are_claimed_once;
 pub use registry::Registry;

@@ -1,4 +1,2 @@
-pub mod Verdicts
-pub mod Courses
 pub mod Options
 pub mod Readings

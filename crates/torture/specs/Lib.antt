@@ -1,7 +1,3 @@
-pub mod Limits
-pub mod Drawing
-pub mod Checking
-pub mod Walking
 pub mod Said
 pub mod Words
 pub mod Status

@@ -10,9 +10,9 @@ use Rattle.reader_word.specs.declared.layout.Layout.TheVariants.{Narrow, Wide}
 use Rattle.world_state.specs.declared.config.Config.{Config}
 use Rattle.world_state.specs.declared.config.Flavour.{Flavour}
 use Rattle.world_state.specs.declared.config.Flavour.TheVariants.{Memb, Qsbr}
-use Rattle.torture.specs.declared.command.Command.{Command}
-use Rattle.torture.specs.declared.command.Command.TheVariants as command
-use Rattle.torture.specs.declared.command.Walk.{Walk}
+use Rattle.torture_commands.specs.declared.command.Command.{Command}
+use Rattle.torture_commands.specs.declared.command.Command.TheVariants as command
+use Rattle.torture_commands.specs.declared.command.Walk.{Walk}
 
 -- the number that the text writes, where it is one of so many bits
 abbrev pub number_in : ℕ → Text → Option ℕ

@@ -9,8 +9,8 @@ use Rattle.clap.specs.declared.error.kind.ErrorKind.{ErrorKind}
 use Rattle.clap.specs.declared.error.kind.ErrorKind.TheVariants.{DisplayHelp, DisplayVersion, OutOfMemory, ValueValidation}
 use Rattle.clap.specs.declared.builder.command.Command.TheViews.{out-Command as fields_of}
 use Rattle.std.specs.Borrow.{Bor}
-use Rattle.torture.specs.declared.command.Command.{Command as Asked}
-use Rattle.torture.specs.Limits.{is_within}
+use Rattle.torture_commands.specs.declared.command.Command.{Command as Asked}
+use Rattle.torture_commands.specs.Limits.{is_within}
 use Rattle.torture.specs.Said.{command_said}
 
 -- an option of a number between limits

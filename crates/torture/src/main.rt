@@ -7,18 +7,13 @@ ghost use Rattle.clap.specs.Words.{kind_of};
 ghost use Rattle.torture.specs.Status.{IsStatus, EndsAfter, status_of_words};
 ghost use Rattle.torture.specs.Words.{EndsBy};
 
-mod checking;
-mod command;
-mod drawing;
-mod execution;
 mod program;
-mod walking;
 mod words;
 
-use execution::execute;
 use std::io::{Read, Write};
 use std::process::ExitCode;
 use std::{env, io};
+use torture_commands::execute;
 use words::{WordsFault, read_words};
 
 /// Tells why the words give no command: help and the version on standard output, all else on standard error, where a

@@ -1,14 +1,10 @@
-//! Words, and what commands write and end with.
+//! Words, and what they ask for.
 
-mod streams;
-mod words;
-
-use crate::command::{Command, Stop, Walk};
-use crate::execution::execute;
+use crate::words::read_words;
 use std::alloc::Global;
-use std::io::{Read, Write};
 use std::process::Abort;
-use streams::{Pieces, Sink};
+use std::test::Fail;
+use torture_commands::{Command, Stop, Walk};
 use world::{Config, Flavour, Layout};
 
 /// What the words say where they say nothing.
@@ -27,348 +23,225 @@ const DEFAULT: Walk = Walk {
     stop: None,
 };
 
-/// What a command writes, tells and ends with.
-#[derive(Drop)]
-struct Ended {
-    printed: Vec<u8>,
-    told: Vec<u8>,
-    status: u8,
-}
-
-/// Executes a command that is within its limits. No command ends with 9.
-fn executed_on<R: Read, W: Write>(
-    alloc: Global,
-    command: Command,
-    reader: &mut R,
-    writer: &mut W,
-    told: &mut Vec<u8>,
-) -> u8 {
-    if command.is_within_limits() {
-        execute(alloc, command, reader, writer, told)
-    } else {
-        9
+/// Takes the words as this command.
+fn check_words(rt: &impl Abort, alloc: Global, words: &[&str], wanted: Command) {
+    match read_words(alloc, words) {
+        Ok(command) => assert_eq!(rt; command, wanted),
+        Err(_) => assert!(rt; false),
     }
 }
 
-/// Executes a command on a text that is read whole.
-fn executed(alloc: Global, command: Command, text: &[u8]) -> Ended {
-    let mut reader = text;
-    let mut printed: Vec<u8> = Vec::new(alloc);
-    let mut told: Vec<u8> = Vec::new(alloc);
-    let status = executed_on(alloc, command, &mut reader, &mut printed, &mut told);
-    Ended {
-        printed,
-        told,
-        status,
-    }
-}
-
-/// A text, and what is printed and told of it, with the status.
-type Row<'a> = (&'a [u8], &'a [u8], &'a [u8], u8);
-
-fn check_row(rt: &impl Abort, alloc: Global, command: Command, row: Row) {
-    let (text, printed, told, status) = row;
-    let ended = executed(alloc, command, text);
-    assert_eq!(rt; ended.status, status);
-    assert_eq!(rt; ended.printed.as_slice(), printed);
-    assert_eq!(rt; ended.told.as_slice(), told);
-}
-
-#[test]
-fn a_replay_ends_by_its_fault(rt: HostRuntime) {
-    let rows: [Row; 4] = [
-        (
-            b"schedule 1 memb 1 1 1 1\nr0 lock\nr0 .\n",
-            b".\nopen r0.1\nend open=1 waiting=0 run=0\n",
-            b"",
-            0,
-        ),
-        (
-            b"schedule 1 memb 1 1 1 1\nr0 lock\nr0 l",
-            b".\n",
-            b"line 3 column 5: bad text\n",
-            2,
-        ),
-        (
-            b"schedule 1 memb 0 1 1 1\n",
-            b"",
-            b"line 1: bad config\n",
-            2,
-        ),
-        (b"", b"", b"line 1 column 1: bad text\n", 2),
-    ];
-    for row in rows {
-        check_row(&rt, rt.alloc(), Command::Replay, row);
-    }
-}
-
-#[test]
-fn a_check_ends_by_its_verdict(rt: HostRuntime) {
-    let rows: [Row; 7] = [
-        (b"", b"yes events=0\n", b"", 0),
-        (b"end open=0 waiting=0 run=0\n", b"yes events=0\n", b"", 0),
-        (
-            b".\nopen r0.1\nwait\nclose r0.1; open r0.2\nrefused E99\n",
-            b"yes events=3\n",
-            b"",
-            0,
-        ),
-        (
-            b"push c0 o1\nopen r0.1\ncut c0 o1\nretire o1\nqueue o1 q0\nrun o1\n",
-            b"no event=6 rule=D7\n",
-            b"",
-            1,
-        ),
-        (
-            b"ask a1\nanswer a1\nopen r0.1\nask a2\nanswer a2\n",
-            b"no event=5 rule=D8\n",
-            b"",
-            1,
-        ),
-        // A bad line is a fault even after an event that breaks its rule.
-        (b"close r0.1\nx", b"", b"line 2 column 1: bad text\n", 2),
-        (b"idle", b"", b"line 1 column 5: bad text\n", 2),
-    ];
-    for row in rows {
-        check_row(&rt, rt.alloc(), Command::Check, row);
-    }
-}
-
-#[test]
-fn a_walk_of_no_lines_is_a_run(rt: HostRuntime) {
-    let walk = Walk {
-        lines: 0,
-        ..DEFAULT
-    };
-    let ended = executed(rt.alloc(), Command::Walk(walk), b"");
-    let line = b"walk lines=0 events=0 open=0 waiting=0 run=0 verdict=yes\n";
-    assert_eq!(rt; ended.printed.as_slice(), line.as_slice());
-    assert!(rt; ended.told.is_empty());
-    assert_eq!(rt; ended.status, 0);
-}
-
-#[test]
-fn a_walk_tells_what_happened(rt: HostRuntime) {
-    let ended = executed(rt.alloc(), Command::Walk(DEFAULT), b"");
-    let line = b"walk lines=1000 events=116 open=2 waiting=0 run=0 verdict=yes\n";
-    assert_eq!(rt; ended.printed.as_slice(), line.as_slice());
-    assert_eq!(rt; ended.status, 0);
-}
-
-#[test]
-fn a_schedule_begins_with_its_header(rt: HostRuntime) {
-    let rows: [(Layout, Flavour, &[u8]); 2] = [
-        (Layout::Narrow, Flavour::Memb, b"schedule 1 memb 2 1 1 1\n"),
-        (Layout::Wide, Flavour::Qsbr, b"schedule 2 qsbr 2 1 1 1\n"),
-    ];
-    for (layout, flavour, header) in rows {
-        let config = Config {
-            layout,
-            flavour,
-            ..DEFAULT.config
-        };
-        let bare = Walk {
-            config,
-            schedule: true,
-            lines: 0,
-            ..DEFAULT
-        };
-        let ended = executed(rt.alloc(), Command::Walk(bare), b"");
-        assert_eq!(rt; ended.printed.as_slice(), header);
-        assert_eq!(rt; ended.status, 0);
-        let ended = executed(rt.alloc(), Command::Walk(Walk { lines: 500, ..bare }), b"");
-        let printed = ended.printed.as_slice();
-        assert!(rt; printed.starts_with(header));
-        let lines = printed.iter().filter(|byte| **byte == b'\n').count();
-        assert_eq!(rt; lines, 501);
-        assert_eq!(rt; ended.status, 0);
-        let replayed = executed(rt.alloc(), Command::Replay, printed);
-        assert_eq!(rt; replayed.status, 0);
-    }
-}
-
-#[test]
-fn who_stops_gets_no_line(rt: HostRuntime) {
-    for (actor, name) in [(0, b'r'), (2, b'u'), (3, b'w')] {
-        let walk = Walk {
-            schedule: true,
-            stop: Some(Stop { actor, from: 1 }),
-            ..DEFAULT
-        };
-        let ended = executed(rt.alloc(), Command::Walk(walk), b"");
-        assert_eq!(rt; ended.status, 0);
-        let printed = ended.printed.as_slice();
-        // It makes no line, from the first one on.
-        let told = printed
-            .windows(3)
-            .filter(|bytes| bytes[0] == b'\n' && bytes[1] == name && bytes[2] == b'0')
-            .count();
-        assert_eq!(rt; told, 0);
-    }
-}
-
-/// The commands that write, each with a text that it is read.
-const WRITERS: [(Command, &[u8]); 4] = [
-    (Command::Replay, b"schedule 1 memb 1 1 1 1\n"),
-    (Command::Check, b".\n"),
-    (Command::Walk(DEFAULT), b""),
-    (
-        Command::Walk(Walk {
-            schedule: true,
-            ..DEFAULT
-        }),
-        b"",
-    ),
-];
-
-/// A walk that writes a short text.
-const SHORT: Walk = Walk {
-    lines: 12,
-    ..DEFAULT
+/// Each option with its greatest value, or with the one before where another option has the same.
+const GREATEST: Walk = Walk {
+    config: Config {
+        layout: Layout::Wide,
+        flavour: Flavour::Qsbr,
+        readers: 64,
+        updaters: 16,
+        workers: 8,
+        chains: 63,
+    },
+    lines: 1_000_000,
+    seed: 18_446_744_073_709_551_615,
+    schedule: true,
+    stop: Some(Stop {
+        actor: 87,
+        from: 999_999,
+    }),
 };
 
-/// The same, which write short texts.
-const SHORT_WRITERS: [(Command, &[u8]); 4] = [
-    (Command::Replay, b"schedule 1 memb 1 1 1 1\nr0 lock\nr0 .\n"),
-    (Command::Check, b"open r0.1\n"),
-    (Command::Walk(SHORT), b""),
+const COMMANDS: [(&[&str], Command); 5] = [
+    (&["torture", "replay"], Command::Replay),
+    (&["torture", "check"], Command::Check),
+    (&["torture", "walk"], Command::Walk(DEFAULT)),
     (
+        &[
+            "torture",
+            "walk",
+            "--flavour=qsbr",
+            "--readers=64",
+            "--updaters=16",
+            "--workers=8",
+            "--chains=63",
+            "--lines=1000000",
+            "--seed=18446744073709551615",
+            "--schedule",
+            "--stop=87",
+            "--from=999999",
+            "--format=2",
+        ],
+        Command::Walk(GREATEST),
+    ),
+    // A value may be a word of its own.
+    (
+        &[
+            "torture",
+            "walk",
+            "--lines",
+            "0",
+            "--seed",
+            "0",
+            "--format",
+            "1",
+            "--flavour",
+            "memb",
+        ],
         Command::Walk(Walk {
-            schedule: true,
-            ..SHORT
+            lines: 0,
+            seed: 0,
+            ..DEFAULT
         }),
-        b"",
     ),
 ];
 
 #[test]
-fn writers_may_take_one_byte_at_a_time(rt: HostRuntime) {
-    for (command, text) in WRITERS {
-        let whole = executed(rt.alloc(), command, text);
-        let mut reader = Pieces::new(text, 1);
-        let mut slow = Sink::new(rt.alloc(), 1);
-        let mut told: Vec<u8> = Vec::new(rt.alloc());
-        let status = executed_on(rt.alloc(), command, &mut reader, &mut slow, &mut told);
-        assert_eq!(rt; status, 0);
-        assert_eq!(rt; slow.bytes.as_slice(), whole.printed.as_slice());
-        assert!(rt; told.is_empty());
-    }
-}
-
-/// The command ends with 3 where its writer fails after so many bytes, or takes nothing then, and is not called again.
-fn check_broken(
-    rt: &impl Abort,
-    alloc: Global,
-    command: Command,
-    text: &[u8],
-    printed: &[u8],
-    before: usize,
-) {
-    for takes_nothing in [false, true] {
-        let mut reader = text;
-        let mut broken = Sink {
-            before: Some(before),
-            takes_nothing,
-            ..Sink::new(alloc, 1)
-        };
-        let mut told: Vec<u8> = Vec::new(alloc);
-        let status = executed_on(alloc, command, &mut reader, &mut broken, &mut told);
-        assert_eq!(rt; status, 3);
-        assert_eq!(rt; told.as_slice(), b"write fault\n".as_slice());
-        assert_eq!(rt; broken.faults, 1, "after {before} bytes");
-        assert_eq!(rt; broken.bytes.len(), before);
-        assert!(rt; printed.starts_with(&broken.bytes));
-    }
-}
-
-/// Each place of a short text.
-fn check_each_place(rt: &impl Abort, alloc: Global, command: Command, text: &[u8]) {
-    let whole = executed(alloc, command, text);
-    for before in 0..whole.printed.len() {
-        check_broken(rt, alloc, command, text, &whole.printed, before);
-    }
-}
-
-/// Some places of a long text, which is written in two pieces.
-fn check_long_text(rt: &impl Abort, alloc: Global) {
-    let long = Command::Walk(Walk {
-        schedule: true,
-        ..DEFAULT
-    });
-    let whole = executed(alloc, long, b"");
-    for before in [0, 4095, 4096, 5000] {
-        check_broken(rt, alloc, long, b"", &whole.printed, before);
+fn words_name_a_command(rt: HostRuntime) {
+    for (words, command) in COMMANDS {
+        check_words(&rt, rt.alloc(), words, command);
     }
 }
 
 #[test]
-fn writers_that_fail_end_with_three(rt: HostRuntime) {
-    for (command, text) in SHORT_WRITERS {
-        check_each_place(&rt, rt.alloc(), command, text);
-    }
-    check_long_text(&rt, rt.alloc());
-}
-
-/// The command ends with 3 where its reader fails after so many bytes, each of them read alone.
-fn check_cut_off(
-    rt: &impl Abort,
-    alloc: Global,
-    command: Command,
-    text: &[u8],
-    before: usize,
-    wanted: &[u8],
-) {
-    let mut reader = Pieces {
-        before: Some(before),
-        ..Pieces::new(text, 1)
-    };
-    let mut out: Vec<u8> = Vec::new(alloc);
-    let mut told: Vec<u8> = Vec::new(alloc);
-    let status = executed_on(alloc, command, &mut reader, &mut out, &mut told);
-    assert_eq!(rt; status, 3);
-    assert_eq!(rt; told.as_slice(), b"read fault\n".as_slice());
-    assert_eq!(rt; reader.faults, 1, "after {before} bytes");
-    assert_eq!(rt; out.as_slice(), wanted);
-}
-
-/// Nothing is printed where the text is cut off, and this where the fault comes after all of it.
-fn check_each_cut(rt: &impl Abort, alloc: Global, command: Command, text: &[u8], printed: &[u8]) {
-    for before in 0..text.len() {
-        check_cut_off(rt, alloc, command, text, before, b"");
-    }
-    check_cut_off(rt, alloc, command, text, text.len(), printed);
-}
-
-#[test]
-fn readers_that_fail_end_with_three(rt: HostRuntime) {
-    let rows: [(Command, &[u8], &[u8]); 2] = [
+fn an_actor_may_stop(rt: HostRuntime) {
+    let rows: [(&[&str], Option<(u32, u32)>); 4] = [
+        (&["torture", "walk", "--stop", "3"], Some((3, 1))),
         (
-            Command::Replay,
-            b"schedule 1 memb 1 1 1 1\nr0 lock\n",
-            b".\n",
+            &["torture", "walk", "--stop", "0", "--from", "100"],
+            Some((0, 100)),
         ),
-        (Command::Check, b"open r0.1\nclose r0.1\n", b""),
+        (
+            &["torture", "walk", "--stop=2", "--readers=2", "--workers=1"],
+            Some((2, 1)),
+        ),
+        // Nobody stops.
+        (&["torture", "walk", "--from", "100"], None),
     ];
-    for (command, text, printed) in rows {
-        check_each_cut(&rt, rt.alloc(), command, text, printed);
+    for (words, wanted) in rows {
+        let stop = wanted.map(|(actor, from)| Stop { actor, from });
+        check_words(
+            &rt,
+            rt.alloc(),
+            words,
+            Command::Walk(Walk { stop, ..DEFAULT }),
+        );
+    }
+}
+
+fn check_taken(rt: &impl Abort, alloc: Global, option: &str, values: &[&str]) {
+    for value in values {
+        assert!(rt; read_words(alloc, &["torture", "walk", option, *value]).is_ok());
+    }
+}
+
+fn check_refused(rt: &impl Abort, alloc: Global, option: &str, values: &[&str]) {
+    for value in values {
+        match read_words(alloc, &["torture", "walk", option, *value]) {
+            Ok(_) => assert!(rt; false),
+            Err(fault) => assert_eq!(rt; fault.status(), 2),
+        }
     }
 }
 
 #[test]
-fn a_fault_that_cannot_be_told_is_passed_over(rt: HostRuntime) {
-    let mut reader = Pieces {
-        before: Some(0),
-        ..Pieces::new(b"", 1)
-    };
-    let mut out: Vec<u8> = Vec::new(rt.alloc());
-    let mut broken = Sink::new(rt.alloc(), 0);
-    let status = execute(
-        rt.alloc(),
-        Command::Check,
-        &mut reader,
-        &mut out,
-        &mut broken,
-    );
-    assert_eq!(rt; status, 3);
-    assert!(rt; out.is_empty());
+fn each_limit_is_kept(rt: HostRuntime) {
+    let rows: [(&str, &[&str], &[&str]); 9] = [
+        ("--readers", &["1", "63", "64"], &["0", "65", "-1", "x", ""]),
+        ("--updaters", &["1", "15", "16"], &["0", "17"]),
+        ("--workers", &["1", "7", "8"], &["0", "9"]),
+        ("--chains", &["1", "63", "64"], &["0", "65"]),
+        ("--lines", &["0", "1", "1000000"], &["1000001", "-1"]),
+        (
+            "--seed",
+            &["0", "18446744073709551615"],
+            &["18446744073709551616", "-1"],
+        ),
+        ("--stop", &["0", "3"], &["4", "87", "88", "-1"]),
+        ("--from", &["1", "1000000"], &["0", "1000001"]),
+        ("--format", &["1", "2"], &["0", "3"]),
+    ];
+    for (option, good, bad) in rows {
+        check_taken(&rt, rt.alloc(), option, good);
+        check_refused(&rt, rt.alloc(), option, bad);
+    }
+}
+
+/// Mistakes and calls for help or the version, with the status and how the text begins.
+const OTHER_WORDS: [(&[&str], u8, &str); 15] = [
+    (
+        &["torture", "repla"],
+        2,
+        "error: unrecognized subcommand 'repla'\n\n  tip: a similar subcommand exists: 'replay'\n\nUsage: torture <COMMAND>\n\nFor more information, try '--help'.\n",
+    ),
+    (
+        &["torture", "replay", "x"],
+        2,
+        "error: unexpected argument 'x' found\n\nUsage: torture replay < SCHEDULE\n\nFor more information, try '--help'.\n",
+    ),
+    (
+        &["torture", "check", "x"],
+        2,
+        "error: unexpected argument 'x' found\n",
+    ),
+    (
+        &["torture", "walk", "x"],
+        2,
+        "error: unexpected argument 'x' found\n",
+    ),
+    (
+        &["torture", "walk", "--flavour", "membr"],
+        2,
+        "error: invalid value 'membr' for '--flavour <F>'\n  [possible values: memb, qsbr]\n",
+    ),
+    (
+        &["torture", "walk", "--readers", "65"],
+        2,
+        "error: invalid value '65' for '--readers <N>': 65 is not in 1..=64\n",
+    ),
+    (
+        &["torture", "walk", "--stop", "4"],
+        2,
+        "error: invalid value '4' for '--stop <N>': 4 is not in 0..=3\n",
+    ),
+    (
+        &["torture", "walk", "--seed", "1", "--seed", "2"],
+        2,
+        "error: the argument '--seed <N>' cannot be used multiple times\n",
+    ),
+    (&["torture"], 2, "Replays, checks and draws schedules"),
+    (
+        &["torture", "--help"],
+        0,
+        "Replays, checks and draws schedules",
+    ),
+    (&["torture", "--version"], 0, "torture 0.1.0\n"),
+    (&["torture", "-V"], 0, "torture 0.1.0\n"),
+    (
+        &["torture", "walk", "--version"],
+        2,
+        "error: unexpected argument '--version' found\n",
+    ),
+    (
+        &["torture", "check", "--help"],
+        0,
+        "Reads lines of answers, as `replay` writes them",
+    ),
+    (
+        &["torture", "walk", "--help"],
+        0,
+        "Draws a schedule by the seed",
+    ),
+];
+
+#[test]
+fn other_words_are_told(rt: HostRuntime) -> Result<(), Fail> {
+    for (words, status, text) in OTHER_WORDS {
+        match read_words(rt.alloc(), words) {
+            Ok(_) => assert!(rt; false),
+            Err(fault) => {
+                assert_eq!(rt; fault.status(), status);
+                assert!(rt; fault.to_string(rt.alloc())?.as_str().starts_with(text));
+            }
+        }
+    }
+    Ok(())
 }

@@ -3,17 +3,17 @@
 ghost use Rattle.std.specs.Prelude.{◌≡◌, codes, map, IfOk, IfErr};
 ghost use Rattle.clap.specs.Words.{first_of, found_of, kind_of, rows_of, subcommand_rows_of};
 ghost use Rattle.clap.specs.declared.error.kind.ErrorKind.TheVariants.{ValueValidation};
-ghost use Rattle.torture.specs.Limits.{IsWithin};
+ghost use Rattle.torture_commands.specs.Limits.{IsWithin};
 ghost use Rattle.torture.specs.Said.{number_of, number_or, flag_of, layout_said, flavour_said, config_said, walk_said, command_said};
 ghost use Rattle.torture.specs.Words.{status_of_kind, text_of_kind, IsTaken, IsRefused, SayCommand};
 
-use crate::command::{Command, Stop, Walk};
 use crate::program::program;
 use clap::error::ErrorKind;
 use clap::{ArgMatches, Error};
 use std::alloc::{AllocError, Global};
 use std::convert::AsStr;
 use std::fmt;
+use torture_commands::{Command, Stop, Walk};
 use world::{Config, Flavour, Layout};
 
 /// Why the words give no command: a mistake, a call for help or for the version, or no memory.

@@ -1,6 +1,6 @@
 use Rattle.std.proofs.Common.{rules, ◌≡◌, false, inl, inr, sym, ◌∙◌}
 use Rattle.clap.specs.Words.{subcommand_rows_of}
-use Rattle.torture.specs.Limits.{is_within}
+use Rattle.torture_commands.specs.Limits.{is_within}
 use Rattle.torture.proofs.words.read_words.Goals as goal
 
 pub returns-in_default : goal.returns-in_default

@@ -1,5 +1,0 @@
-use Rattle.std.specs.Prelude.{false}
-use Rattle.domain.proofs.tests.asks_are_answered.Given as goal
-
-abbrev pub ghosts-waits : goal.ghosts-waits
-ghosts-waits g a = record { table = a.opened.table.words.shared.table_id; slots = a.opened.table.slots; qsbr = false }

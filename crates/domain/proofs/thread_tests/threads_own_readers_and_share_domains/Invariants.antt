@@ -1,5 +1,0 @@
-use Rattle.std.specs.Prelude.{false}
-use Rattle.domain.proofs.thread_tests.threads_own_readers_and_share_domains.Given as goal
-
-abbrev pub ghosts-spawns : goal.ghosts-spawns
-ghosts-spawns g a = record { table = a.opened.table.words.shared.table_id; slots = a.opened.table.slots; qsbr = false }

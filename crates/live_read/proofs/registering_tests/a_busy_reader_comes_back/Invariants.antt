@@ -1,5 +1,0 @@
-use Rattle.std.specs.Prelude.{false}
-use Rattle.live_read.proofs.registering_tests.a_busy_reader_comes_back.Given as goal
-
-abbrev pub ghosts-leaves : goal.ghosts-leaves
-ghosts-leaves g a = record { table = a.root.table_id; slots = 2; qsbr = false }

@@ -1,5 +1,0 @@
-use Rattle.std.specs.Prelude.{false}
-use Rattle.live_read.proofs.registering_tests.no_slot_is_left_after_the_last.Given as goal
-
-abbrev pub ghosts-fills : goal.ghosts-fills
-ghosts-fills g a = record { table = a.root.table_id; slots = 256; qsbr = false }

@@ -1,5 +1,0 @@
-use Rattle.std.specs.Prelude.{true}
-use Rattle.live_read.proofs.tests.announcements.Given as goal
-
-abbrev pub ghosts-quiescent : goal.ghosts-quiescent
-ghosts-quiescent g a = record { table = a.root.table_id; slots = 2; qsbr = true }

@@ -1,5 +1,0 @@
-use Rattle.std.specs.Prelude.{false}
-use Rattle.live_read.proofs.tests.sections_and_locks_nest.Given as goal
-
-abbrev pub ghosts-general : goal.ghosts-general
-ghosts-general g a = record { table = a.root.table_id; slots = 2; qsbr = false }

@@ -1,0 +1,15 @@
+#![tactic(auto)]
+//! Tests of the library over live threads by the public faces of its crates.
+
+#[cfg(test)]
+mod domains;
+#[cfg(test)]
+mod grace_periods;
+#[cfg(test)]
+mod readers;
+#[cfg(test)]
+mod registering;
+#[cfg(test)]
+mod threads;
+#[cfg(test)]
+mod words;

@@ -1,0 +1,152 @@
+//! Each call once, in both flavours. An outermost lock that copies phase 0 stores 1, and each inner one adds 1; going online
+//! at number 0 stores 1, and offline is 0.
+
+ghost use Rattle.std.specs.Prelude.{◌≡◌, ◌<◌, [], true, false, IfOk};
+ghost use Rattle.std.specs.Arc.{arc_value};
+ghost use Rattle.live_rule.specs.Views.{first_view};
+
+use crate::registering::opened;
+use live_read::{Reader, Record, Site, Witness, inform};
+use gp_memb::{GracePlan, MembPlan};
+use gp_qsbr::QsbrPlan;
+use live_words::{AnyChain, ChainRule, LiveSeat, LiveTable};
+use rcu_model::Refusal;
+use std::alloc::Global;
+use std::marker::Brand;
+use std::sync::Arc;
+
+/// The first reader of a new table.
+fn first_reader<P: GracePlan, K: ChainRule, B: Site>(
+    alloc: Global,
+    words: &Arc<LiveTable<P, K>>,
+    root: LiveSeat,
+) -> Result<Reader<P, K, B>, Refusal>
+    requires site { (P.QSBR ≡ B.qsbr) × ((arc_value words.now).words.shared.table_id ≡ B.table) × (root.table_id ≡ B.table) × (0 < (arc_value words.now).slots) × ((arc_value words.now).slots ≡ B.slots) }
+    requires new { root.me ≡ (first_view (arc_value words.now).words.shared.key, []) }
+    ensures { IfOk result (λ r. (r.depth ≡ 0) × (r.locks ≡ 0)) }
+{
+    let (mut registrar, mut record) = opened::<P, K, B>(alloc, words, root)?;
+    registrar.register(&mut record)
+}
+
+fn nests<B: Site>(reader: &mut Reader<MembPlan, AnyChain, B>) -> Result<([u64; 5], bool), Refusal>
+    requires { (B.qsbr ≡ false) × (reader.old.depth ≡ 0) × (reader.old.locks ≡ 0) }
+{
+    let mut outer = reader.section()?;
+    let one = outer.reader.word;
+    let inner = outer.reader.section()?;
+    let two = inner.reader.word;
+    inner.close();
+    let left = outer.reader.word;
+    outer.reader.lock()?;
+    let locked = outer.reader.word;
+    outer.reader.unlock()?;
+    let refused = matches!(outer.reader.unlock(), Err(Refusal::NotOpen));
+    let alive = outer.reader.word;
+    outer.close();
+    Ok(([one, two, left, locked, alive], refused))
+}
+
+fn locks<B: Site>(reader: &mut Reader<MembPlan, AnyChain, B>) -> Result<[bool; 6], Refusal>
+    requires { B.qsbr ≡ false }
+{
+    let none = matches!(reader.unlock(), Err(Refusal::NotOpen));
+    let locked = reader.try_lock() && reader.word == 1;
+    reader.unlock()?;
+    let left = reader.word == 0;
+    let online = matches!(reader.online(), Err(Refusal::WrongFlavour));
+    let quiescent = matches!(reader.quiescent(), Err(Refusal::WrongFlavour));
+    let offline = matches!(reader.offline(), Err(Refusal::WrongFlavour));
+    Ok([none, locked, left, online, quiescent, offline])
+}
+
+fn announces<B: Site>(
+    reader: &mut Reader<QsbrPlan, AnyChain, B>,
+) -> Result<([bool; 5], [bool; 4], [u64; 3]), Refusal>
+    requires { B.qsbr ≡ true }
+{
+    let outside = matches!(reader.section(), Err(Refusal::NotOpen));
+    let unlocked = matches!(reader.lock(), Err(Refusal::NotOpen));
+    let tried = !reader.try_lock();
+    let silent = matches!(reader.quiescent(), Err(Refusal::NotOpen));
+    let gone = matches!(reader.offline(), Err(Refusal::NotOpen));
+    reader.online()?;
+    let online = reader.word;
+    let again = matches!(reader.online(), Err(Refusal::Busy));
+    reader.lock()?;
+    let locked = matches!(reader.quiescent(), Err(Refusal::Busy));
+    reader.unlock()?;
+    let mut section = reader.section()?;
+    let inside = matches!(section.reader.quiescent(), Err(Refusal::Busy));
+    let nested = section.nest()?;
+    let within = matches!(nested.reader.offline(), Err(Refusal::Busy));
+    drop(nested);
+    drop(section);
+    reader.quiescent()?;
+    let announced = reader.word;
+    reader.offline()?;
+    Ok((
+        [outside, unlocked, tried, silent, gone],
+        [again, locked, inside, within],
+        [online, announced, reader.word],
+    ))
+}
+
+fn tells<P: GracePlan, K: ChainRule, B: Site>(table: &LiveTable<P, K>, reader: &mut Reader<P, K, B>)
+    requires { table.now.words.shared.table_id ≡ B.table }
+    ensures { (reader.new.depth ≡ reader.old.depth) × (reader.new.locks ≡ reader.old.locks) }
+{
+    let mut record = Record::<B>::split(table, reader);
+    inform(table, &mut record, reader);
+    let told = reader.tell(table);
+    record.learn(table, told);
+}
+
+fn general<B: Site>(
+    alloc: Global,
+    words: &Arc<LiveTable<MembPlan, AnyChain>>,
+    root: LiveSeat,
+) -> Result<(([u64; 5], bool), [bool; 6]), Refusal>
+    requires site { (B.qsbr ≡ false) × ((arc_value words.now).words.shared.table_id ≡ B.table) × (root.table_id ≡ B.table) × (0 < (arc_value words.now).slots) × ((arc_value words.now).slots ≡ B.slots) }
+    requires new { root.me ≡ (first_view (arc_value words.now).words.shared.key, []) }
+{
+    let mut reader = first_reader::<MembPlan, AnyChain, B>(alloc, words, root)?;
+    let words = nests(&mut reader)?;
+    Ok((words, locks(&mut reader)?))
+}
+
+fn quiescent<B: Site>(
+    alloc: Global,
+    words: &Arc<LiveTable<QsbrPlan, AnyChain>>,
+    root: LiveSeat,
+) -> Result<([bool; 5], [bool; 4], [u64; 3]), Refusal>
+    requires site { (B.qsbr ≡ true) × ((arc_value words.now).words.shared.table_id ≡ B.table) × (root.table_id ≡ B.table) × (0 < (arc_value words.now).slots) × ((arc_value words.now).slots ≡ B.slots) }
+    requires new { root.me ≡ (first_view (arc_value words.now).words.shared.key, []) }
+{
+    let mut reader = first_reader::<QsbrPlan, AnyChain, B>(alloc, words, root)?;
+    tells(words, &mut reader);
+    announces(&mut reader)
+}
+
+#[test]
+fn sections_and_locks_nest(rt: HostRuntime) {
+    let (table, root) = LiveTable::<MembPlan, AnyChain>::new(rt.alloc(), 2, 1, 1, 4).expect(
+        &rt, "memory",
+    );
+    let words = Arc::new(rt.alloc(), table).expect(&rt, "memory");
+    let (sections, locks) = general::<Brand>(rt.alloc(), &words, root).expect(&rt, "not refused");
+    assert_eq!(rt; sections, ([1, 2, 1, 2, 1], true));
+    assert_eq!(rt; locks, [true, true, true, true, true, true]);
+}
+
+#[test]
+fn announcements(rt: HostRuntime) {
+    let (table, root) = LiveTable::<QsbrPlan, AnyChain>::new(rt.alloc(), 2, 1, 1, 4).expect(
+        &rt, "memory",
+    );
+    let words = Arc::new(rt.alloc(), table).expect(&rt, "memory");
+    let (away, busy, stored) = quiescent::<Brand>(rt.alloc(), &words, root).expect(&rt, "not refused");
+    assert_eq!(rt; away, [true, true, true, true, true]);
+    assert_eq!(rt; busy, [true, true, true, true]);
+    assert_eq!(rt; stored, [1, 1, 0]);
+}

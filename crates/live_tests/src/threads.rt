@@ -1,0 +1,333 @@
+//! Four readers and two who wait, in threads of their own. Each reader raises a number of its own where it begins a
+//! section, and another where it ends one: a wait saw the sections end where no number of those that it found begun is
+//! missing among those ended after it.
+
+ghost use Rattle.std.specs.Prelude.{◌≡◌, false};
+ghost use Rattle.std.specs.Thread.{IsSync};
+
+use domain::{Domain, LiveConfig, Opened, Reader, Record, Site};
+use gp_memb::{GracePlan, MembPlan};
+use gp_qsbr::QsbrPlan;
+use live_words::AnyChain;
+use rcu_model::Refusal;
+use std::alloc::Global;
+use std::marker::Brand;
+use std::sync::atomic::{AtomicU64, Ordering};
+use std::sync::{Arc, Wait};
+use std::thread;
+use std::thread::{Threads, join};
+
+/// How many sections each reader opens.
+const SECTIONS: u64 = 5000;
+
+/// How many grace periods are waited for.
+const WAITS: usize = 50;
+
+/// The numbers of one reader: of the section that it began last, and of the one that it ended last.
+#[derive(Drop)]
+struct Numbers {
+    begun: AtomicU64,
+    ended: AtomicU64,
+}
+
+fn no_sections() -> Numbers {
+    Numbers {
+        begun: AtomicU64::new(0),
+        ended: AtomicU64::new(0),
+    }
+}
+
+/// One section, in which the numbers are raised.
+fn one_section<P: GracePlan, B: Site>(
+    reader: &mut Reader<P, AnyChain, B>,
+    numbers: &Numbers,
+    number: u64,
+) -> Result<(), Refusal>
+    requires { (P.QSBR ≡ B.qsbr) × (reader.old.depth ≡ 0) × (reader.old.locks ≡ 0) }
+    ensures { (reader.new.depth ≡ 0) × (reader.new.locks ≡ 0) }
+{
+    let section = reader.section()?;
+    numbers.begun.store(number, Ordering::SeqCst);
+    thread::yield_now();
+    numbers.ended.store(number, Ordering::SeqCst);
+    section.close();
+    Ok(())
+}
+
+/// A reader with no section or lock open.
+#[derive(Drop)]
+struct Idle<P: GracePlan, B: Site> {
+    reader: Reader<P, AnyChain, B>,
+    ghost idle: { (reader.depth ≡ 0) × (reader.locks ≡ 0) },
+}
+
+fn registered<P: GracePlan + Drop, B: Site, R: Wait>(
+    rt: &R,
+    domain: &Domain<P, AnyChain, B>,
+    record: &mut Record<B>,
+) -> Result<Idle<P, B>, Refusal> {
+    let reader = domain.register(rt, record)?;
+    Ok(Idle { reader })
+}
+
+/// Sections, one after the other, and an announcement after each in the quiescent-state flavour. Whether none was
+/// refused.
+fn reads<P: GracePlan, B: Site>(idle: Idle<P, B>, all: &[Numbers]) -> bool
+    requires { P.QSBR ≡ B.qsbr }
+{
+    let Idle { mut reader } = idle;
+    let Some(numbers) = all.get(reader.slot) else {
+        return false;
+    };
+    if P::QSBR && reader.online().is_err() {
+        return false;
+    }
+    for number in 1..=SECTIONS {
+        if one_section(&mut reader, numbers, number).is_err() {
+            return false;
+        }
+        if P::QSBR && reader.quiescent().is_err() {
+            return false;
+        }
+    }
+    !P::QSBR || reader.offline().is_ok()
+}
+
+/// Two readers, in a thread each.
+fn two_read<P: GracePlan + Send + Sync, B: Site + Send + Sync, R: Threads + Sync>(
+    rt: &R,
+    one: Idle<P, B>,
+    two: Idle<P, B>,
+    all: &[Numbers],
+) -> bool
+    requires { P.QSBR ≡ B.qsbr }
+{
+    let (first, second) = join(
+        rt,
+        move ||
+            requires { P.QSBR ≡ B.qsbr }
+        { reads(one, all) },
+        move ||
+            requires { P.QSBR ≡ B.qsbr }
+        { reads(two, all) },
+    );
+    first && second
+}
+
+fn begun(all: &[Numbers], reader: usize) -> u64 {
+    match all.get(reader) {
+        Some(numbers) => numbers.begun.load(Ordering::SeqCst),
+        None => 0,
+    }
+}
+
+fn ended(all: &[Numbers], reader: usize) -> u64 {
+    match all.get(reader) {
+        Some(numbers) => numbers.ended.load(Ordering::SeqCst),
+        None => 0,
+    }
+}
+
+fn all_begun(all: &[Numbers]) -> [u64; 4] {
+    [begun(all, 0), begun(all, 1), begun(all, 2), begun(all, 3)]
+}
+
+/// Whether each of these sections has ended.
+fn have_ended(all: &[Numbers], found: &[u64; 4]) -> bool {
+    found
+        .iter()
+        .enumerate()
+        .all(|(reader, number)| *number <= ended(all, reader))
+}
+
+/// Whether a grace period that was waited for saw the sections end.
+fn waits_once<P: GracePlan + Drop, B: Site, R: Wait>(
+    rt: &R,
+    domain: &Domain<P, AnyChain, B>,
+    record: &mut Record<B>,
+    all: &[Numbers],
+) -> Result<bool, Refusal> {
+    let found = all_begun(all);
+    let cookie = domain.start_poll(record)?;
+    domain.synchronize(rt, record)?;
+    Ok(domain.poll(record, &cookie) && have_ended(all, &found))
+}
+
+/// Whether a grace period that was polled for saw the sections end. Where none ends soon, it waits for one.
+fn polls_once<P: GracePlan + Drop, B: Site, R: Wait>(
+    rt: &R,
+    domain: &Domain<P, AnyChain, B>,
+    record: &mut Record<B>,
+    all: &[Numbers],
+) -> Result<bool, Refusal> {
+    let found = all_begun(all);
+    let cookie = domain.start_poll(record)?;
+    for _ in 0..1000 {
+        if domain.poll(record, &cookie) {
+            return Ok(have_ended(all, &found));
+        }
+        thread::yield_now();
+    }
+    domain.synchronize(rt, record)?;
+    Ok(domain.poll(record, &cookie) && have_ended(all, &found))
+}
+
+/// Waits and polls in turn. Whether each saw the sections end.
+fn waits<P: GracePlan + Drop, B: Site, R: Wait>(
+    rt: &R,
+    domain: &Domain<P, AnyChain, B>,
+    mut record: Record<B>,
+    all: &[Numbers],
+) -> bool {
+    for _ in 0..WAITS {
+        if !matches!(waits_once(rt, domain, &mut record, all), Ok(true)) {
+            return false;
+        }
+        if !matches!(polls_once(rt, domain, &mut record, all), Ok(true)) {
+            return false;
+        }
+    }
+    true
+}
+
+/// Two who wait, in a thread each.
+fn two_wait<P: GracePlan + Drop + Send + Sync, B: Site + Send + Sync, R: Threads + Wait + Sync>(
+    rt: &R,
+    domain: &Domain<P, AnyChain, B>,
+    one: Record<B>,
+    two: Record<B>,
+    all: &[Numbers],
+) -> bool {
+    let (first, second) = join(
+        rt,
+        move ||
+            requires { IsSync R.row }
+        { waits(rt, domain, one, all) },
+        move ||
+            requires { IsSync R.row }
+        { waits(rt, domain, two, all) },
+    );
+    first && second
+}
+
+/// Four readers and two who wait. Whether no section was refused, and each wait saw the sections end.
+fn serves<P: GracePlan + Drop + Send + Sync, B: Site + Send + Sync, R: Threads + Wait + Sync>(
+    rt: &R,
+    alloc: Global,
+    opened: Opened<P, AnyChain>,
+) -> Result<(bool, bool, bool), Refusal>
+    requires { (P.QSBR ≡ B.qsbr) × (opened.table.words.shared.table_id ≡ B.table) × (opened.table.slots ≡ B.slots) }
+{
+    let (domain, mut record) = opened.named::<B>(alloc)?;
+    let other = domain.split(&mut record);
+    let one = registered(rt, &domain, &mut record)?;
+    let two = registered(rt, &domain, &mut record)?;
+    let three = registered(rt, &domain, &mut record)?;
+    let four = registered(rt, &domain, &mut record)?;
+    let numbers = [no_sections(), no_sections(), no_sections(), no_sections()];
+    let all = numbers.as_slice();
+    let home = &domain;
+    let (first, (second, waited)) = join(
+        rt,
+        move ||
+            requires { IsSync R.row × (P.QSBR ≡ B.qsbr) }
+        { two_read(rt, one, two, all) },
+        move ||
+            requires { IsSync R.row × (P.QSBR ≡ B.qsbr) }
+        {
+            join(
+                rt,
+                move ||
+                    requires { IsSync R.row × (P.QSBR ≡ B.qsbr) }
+                { two_read(rt, three, four, all) },
+                move ||
+                    requires { IsSync R.row }
+                { two_wait(rt, home, record, other, all) },
+            )
+        },
+    );
+    Ok((first, second, waited))
+}
+
+/// Sections of a reader that no table of numbers is kept of. Whether none was refused.
+fn spins<B: Site>(idle: Idle<MembPlan, B>) -> bool
+    requires { B.qsbr ≡ false }
+{
+    let Idle { mut reader } = idle;
+    for _ in 0..SECTIONS {
+        let Ok(section) = reader.section() else {
+            return false;
+        };
+        drop(section);
+    }
+    true
+}
+
+/// A reader in a thread that owns it, and a domain that is shared with a thread that outlives the call.
+fn spawns<B: Site + Send + Sync + 'static, R: Threads + Wait + Copy + Send + 'static>(
+    rt: R,
+    alloc: Global,
+    opened: Opened<MembPlan, AnyChain>,
+) -> Result<(bool, bool), Refusal>
+    requires { (B.qsbr ≡ false) × (opened.table.words.shared.table_id ≡ B.table) × (opened.table.slots ≡ B.slots) }
+{
+    let (domain, mut record) = opened.named::<B>(alloc)?;
+    let mut other = domain.split(&mut record);
+    let one = registered(&rt, &domain, &mut record)?;
+    let Ok(home) = Arc::new(alloc, domain) else {
+        return Err(Refusal::Memory);
+    };
+    let Ok(theirs) = Arc::try_clone(&home) else {
+        return Err(Refusal::Memory);
+    };
+    let reads = thread::spawn(
+        &rt,
+        move ||
+            requires { B.qsbr ≡ false }
+        { spins(one) },
+    );
+    let waits = thread::spawn(&rt, move || theirs.synchronize(&rt, &mut other).is_ok());
+    home.synchronize(&rt, &mut record)?;
+    match (reads, waits) {
+        (Ok(reader), Ok(waiter)) => Ok((reader.join(&rt), waiter.join(&rt))),
+        _ => Err(Refusal::Memory),
+    }
+}
+
+fn of_four_slots() -> LiveConfig
+    ensures { result.slots ≡ 4 }
+{
+    LiveConfig {
+        slots: 4,
+        queues: 1,
+        chains: 1,
+        pool: 4,
+    }
+}
+
+#[test]
+fn waits_see_sections_end(rt: HostRuntime) {
+    let opened = Opened::<MembPlan, AnyChain>::new(rt.alloc(), of_four_slots()).expect(
+        &rt, "memory",
+    );
+    let served = serves::<MembPlan, Brand, _>(&rt, rt.alloc(), opened).expect(&rt, "not refused");
+    assert_eq!(rt; served, (true, true, true));
+}
+
+#[test]
+fn waits_see_announcements(rt: HostRuntime) {
+    let opened = Opened::<QsbrPlan, AnyChain>::new(rt.alloc(), of_four_slots()).expect(
+        &rt, "memory",
+    );
+    let served = serves::<QsbrPlan, Brand, _>(&rt, rt.alloc(), opened).expect(&rt, "not refused");
+    assert_eq!(rt; served, (true, true, true));
+}
+
+#[test]
+fn threads_own_readers_and_share_domains(rt: HostRuntime) {
+    let opened = Opened::<MembPlan, AnyChain>::new(rt.alloc(), of_four_slots()).expect(
+        &rt, "memory",
+    );
+    let spawned = spawns::<Brand, _>(rt, rt.alloc(), opened).expect(&rt, "not refused");
+    assert_eq!(rt; spawned, (true, true));
+}

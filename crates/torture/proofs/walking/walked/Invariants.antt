@@ -1,7 +1,0 @@
-use Rattle.std.proofs.Common.{List}
-use Rattle.world_state.specs.declared.line.Line.{Line}
-use Rattle.torture.specs.Walking.{IsUnderWay}
-use Rattle.torture.proofs.walking.walked.Given as goal
-
-abbrev pub invariant-loop-done : goal.invariant-loop-done
-invariant-loop-done l = (lines : List Line) × IsUnderWay l.walk l.walking.world l.walking.draw l.done lines

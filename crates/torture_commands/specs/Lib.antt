@@ -1,0 +1,5 @@
+pub mod Limits
+pub mod Drawing
+pub mod Checking
+pub mod Walking
+pub mod Ending
