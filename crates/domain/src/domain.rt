@@ -9,7 +9,7 @@ ghost use Rattle.live_log.specs.Log.{Begins, Has, HaveEnded, seq_of};
 ghost use Rattle.live_table.specs.Rights.{count_in};
 ghost use Rattle.live_table.specs.Steps.{Keeps};
 ghost use Rattle.live_read.specs.Hearing.{IsAfter};
-ghost use Rattle.domain.specs.Waiting.{Synchronized};
+ghost use Rattle.domain.specs.Waiting.{LoadedOnce, Synchronized};
 
 use crate::grace_lock::GraceLock;
 use gp_memb::GracePlan;
@@ -19,8 +19,8 @@ use live_words::{ChainRule, LiveSeat, LiveTable};
 use rcu_model::Refusal;
 use std::sync::{Arc, Mutex, Wait};
 
-/// A domain: readers register in it, and grace periods of it are waited for and polled. Threads share it by reference or by
-/// `Arc`.
+/// A domain: readers register in it, and grace periods of it are waited for and polled. Threads share it by reference
+/// or by `Arc`.
 #[derive(Drop)]
 pub struct Domain<P: GracePlan, K: ChainRule, B: Site> {
     pub(crate) table: Arc<LiveTable<P, K>>,
@@ -30,8 +30,8 @@ pub struct Domain<P: GracePlan, K: ChainRule, B: Site> {
 }
 
 impl<P: GracePlan + Drop, K: ChainRule, B: Site> Domain<P, K, B> {
-    /// Registers a reader, liburcu's `rcu_register_thread`. It is offline in the quiescent-state flavour, hears what the
-    /// caller has seen and heard of, and may be moved into any thread.
+    /// Registers a reader, liburcu's `rcu_register_thread`. It is offline in the quiescent-state flavour, hears what
+    /// the caller has seen and heard of, and may be moved into any thread.
     ///
     /// Refused with `NoSlot` where every slot is claimed. It takes no memory, and waits for the registry lock alone.
     pub fn register<W: Witness, R: Wait>(
@@ -49,12 +49,12 @@ impl<P: GracePlan + Drop, K: ChainRule, B: Site> Domain<P, K, B> {
         self.registrar.lock(rt).register(witness)
     }
 
-    /// Gives the slot of a reader back, liburcu's `rcu_unregister_thread`. An online reader of the quiescent-state flavour
-    /// goes offline first, which closes its section. The caller hears of that, and of all that the reader had seen. A
-    /// reader that is dropped keeps its slot claimed.
+    /// Gives the slot of a reader back, liburcu's `rcu_unregister_thread`. An online reader of the quiescent-state
+    /// flavour goes offline first, which closes its section. The caller hears of that, and of all that the reader had
+    /// seen. A reader that is dropped keeps its slot claimed.
     ///
-    /// Refused with `Busy` exactly while a section or a lock of it is open, and then it comes back as it was. It takes no
-    /// memory, and waits for the registry lock alone.
+    /// Refused with `Busy` exactly while a section or a lock of it is open, and then it comes back as it was. It takes
+    /// no memory, and waits for the registry lock alone.
     pub fn unregister<W: Witness, R: Wait>(
         &self,
         rt: &R,
@@ -104,24 +104,24 @@ impl<P: GracePlan + Drop, K: ChainRule, B: Site> Domain<P, K, B> {
     fn wait<R: Wait>(&self, rt: &R, seat: &mut LiveSeat) -> Result<(), Refusal>
         requires { seat.old.table_id ≡ B.table }
         ensures seat { Keeps seat.old seat.new × (seat.new.me.1 ≡ seat.old.me.1) }
-        ensures ended { IfOk result (λ _. Synchronized P.QSBR K.allows seat.old.me.0.seen seat.old.me.0.heard seat.new.me.0.seen) }
-        ensures refused { IfErr result (λ e. (e ≡ Exhausted) × IsAfter P.QSBR K.allows seat.old.me.0.seen seat.old.me.0.heard seat.new.me.0.seen × (2 ^ 62 ≤ seq_of seat.new.me.0.seen)) }
+        ensures ended { IfOk result (λ _. Synchronized P.QSBR K.allows seat.old.me.0.seen seat.old.me.0.heard seat.old.me.0.loads seat.new.me.0.loads seat.new.me.0.seen) }
+        ensures refused { IfErr result (λ e. (e ≡ Exhausted) × LoadedOnce P.QSBR K.allows seat.old.me.0.seen seat.old.me.0.heard seat.old.me.0.loads seat.new.me.0.loads seat.new.me.0.seen × (2 ^ 62 ≤ seq_of seat.new.me.0.seen)) }
     {
         let asked = ask::<P, K>(&self.table, seat)?;
         self.grace.lock(rt).answer(rt, &self.table, seat, asked);
         Ok(())
     }
 
-    /// Waits for a grace period, liburcu's `synchronize_rcu`: there was a log after all that the caller had seen and
-    /// heard of, and each section that was open in it has ended in the log that the caller hears of at the return. It
-    /// waits for the grace lock and for those sections, so a caller has no section or lock open, and is offline where
-    /// its reader is of the quiescent-state flavour.
+    /// Waits for a grace period, liburcu's `synchronize_rcu`: the log at its first load of the sequence number begins
+    /// with all that the caller had seen and heard of, and each section that was open in it has ended in the log that
+    /// the caller hears of at the return. It waits for the grace lock and for those sections, so a caller has no
+    /// section or lock open, and is offline where its reader is of the quiescent-state flavour.
     ///
     /// Refused with `Exhausted` exactly where the sequence number that its ask loads is at or above 2^62.
     pub fn synchronize<W: Witness, R: Wait>(&self, rt: &R, witness: &mut W) -> Result<(), Refusal>
         requires { W.table_of witness.old ≡ B.table }
-        ensures ended { IfOk result (λ _. Synchronized P.QSBR K.allows (W.seen witness.old) (W.heard witness.old) (W.heard witness.new)) }
-        ensures refused { IfErr result (λ e. (e ≡ Exhausted) × IsAfter P.QSBR K.allows (W.seen witness.old) (W.heard witness.old) (W.heard witness.new) × (2 ^ 62 ≤ seq_of (W.heard witness.new))) }
+        ensures ended { IfOk result (λ _. Synchronized P.QSBR K.allows (W.seen witness.old) (W.heard witness.old) (W.loads witness.old) (W.loads witness.new) (W.heard witness.new)) }
+        ensures refused { IfErr result (λ e. (e ≡ Exhausted) × LoadedOnce P.QSBR K.allows (W.seen witness.old) (W.heard witness.old) (W.loads witness.old) (W.loads witness.new) (W.heard witness.new) × (2 ^ 62 ≤ seq_of (W.heard witness.new))) }
         ensures witness { (W.seen witness.new ≡ W.seen witness.old) × (W.table_of witness.new ≡ B.table) × (W.standing witness.new ≡ W.standing witness.old) }
         ensures inside { W.is_in witness.old → W.is_in witness.new }
     {
@@ -131,14 +131,14 @@ impl<P: GracePlan + Drop, K: ChainRule, B: Site> Domain<P, K, B> {
         answered
     }
 
-    /// Asks for a grace period that nobody waits for, liburcu's `start_poll_synchronize_rcu`. The cookie keeps the log at its
-    /// load, which was after all that the caller had seen and heard of.
+    /// Asks for a grace period that nobody waits for, liburcu's `start_poll_synchronize_rcu`. The cookie keeps the log
+    /// at its load, which was after all that the caller had seen and heard of.
     ///
-    /// Refused with `Exhausted` exactly where the sequence number that it loads is at or above 2^62. It never waits and takes
-    /// no memory.
+    /// Refused with `Exhausted` exactly where the sequence number that it loads is at or above 2^62. It never waits and
+    /// takes no memory.
     pub fn start_poll<W: Witness>(&self, witness: &mut W) -> Result<LiveCookie, Refusal>
         requires { W.table_of witness.old ≡ B.table }
-        ensures loaded { IsAfter P.QSBR K.allows (W.seen witness.old) (W.heard witness.old) (W.heard witness.new) }
+        ensures loaded { LoadedOnce P.QSBR K.allows (W.seen witness.old) (W.heard witness.old) (W.loads witness.old) (W.loads witness.new) (W.heard witness.new) }
         ensures cookie { IfOk result (λ c. (c.asked.value.me.0.seen ≡ W.heard witness.new) × (cookie_for (seq_of (W.heard witness.new)) ≡ Ok c.cookie)) }
         ensures refused { IfErr result (λ e. e ≡ Exhausted) }
         ensures taken { IsOk result ↔ (seq_of (W.heard witness.new) < 2 ^ 62) }
@@ -151,12 +151,13 @@ impl<P: GracePlan + Drop, K: ChainRule, B: Site> Domain<P, K, B> {
         cookie
     }
 
-    /// Whether a grace period has passed since the cookie was taken, liburcu's `poll_state_synchronize_rcu`: true exactly where
-    /// the sequence number that it loads is at or above the cookie. Then each section that was open in the cookie's log has
-    /// ended, where the caller had seen that log or heard of it. It never waits and takes no memory.
+    /// Whether a grace period has passed since the cookie was taken, liburcu's `poll_state_synchronize_rcu`: true
+    /// exactly where the sequence number that it loads is at or above the cookie. Then each section that was open in
+    /// the cookie's log has ended, where the caller had seen that log or heard of it. It never waits and takes no
+    /// memory.
     pub fn poll<W: Witness>(&self, witness: &mut W, cookie: &LiveCookie) -> bool
         requires { W.table_of witness.old ≡ B.table }
-        ensures loaded { IsAfter P.QSBR K.allows (W.seen witness.old) (W.heard witness.old) (W.heard witness.new) }
+        ensures loaded { LoadedOnce P.QSBR K.allows (W.seen witness.old) (W.heard witness.old) (W.loads witness.old) (W.loads witness.new) (W.heard witness.new) }
         ensures exact { IsTrue result ↔ (cookie.now.cookie ≤ seq_of (W.heard witness.new)) }
         ensures past { Begins cookie.now.asked.value.me.0.seen (W.heard witness.new) → IsTrue result → HaveEnded cookie.now.asked.value.me.0.seen (W.heard witness.new) }
         ensures witness { (W.seen witness.new ≡ W.seen witness.old) × (W.table_of witness.new ≡ B.table) × (W.standing witness.new ≡ W.standing witness.old) }

@@ -1,6 +1,6 @@
 //! What the grace lock guards.
 
-ghost use Rattle.std.specs.Prelude.{◌≡◌, []};
+ghost use Rattle.std.specs.Prelude.{◌≡◌, [], ◌∷◌};
 ghost use Rattle.live_log.specs.Log.{Begins, HaveEnded, IsLiveRun};
 ghost use Rattle.live_rule.specs.declared.rights.GraceRight.TheVariants.{Rests};
 ghost use Rattle.live_table.specs.Steps.{Keeps};
@@ -21,7 +21,7 @@ pub(crate) struct GraceLock<P: GracePlan, B: Site> {
 }
 
 impl<P: GracePlan + Drop, B: Site> GraceLock<P, B> {
-    /// Of a seat with the right to the words of grace periods of a new table.
+    /// Of a seat with the right to the words of grace periods of a new table. It never waits.
     pub(crate) fn new(seat: LiveSeat) -> GraceLock<P, B>
         requires { (seat.table_id ≡ B.table) × (seat.me.0.grace ≡ Rests 0 0) × (seat.me.1 ≡ []) }
     {
@@ -43,6 +43,7 @@ impl<P: GracePlan + Drop, B: Site> GraceLock<P, B> {
         requires tables { (table.now.words.shared.table_id ≡ B.table) × (seat.old.table_id ≡ B.table) }
         requires seen { Begins ask.asked.value.me.0.seen seat.old.me.0.seen }
         ensures seat { Keeps seat.old seat.new × (seat.new.me.1 ≡ seat.old.me.1) }
+        ensures load { seat.new.me.0.loads ≡ seat.new.me.0.seen ∷ seat.old.me.0.loads }
         ensures later { Begins seat.old.me.0.seen seat.new.me.0.seen × IsLiveRun P.QSBR K.allows seat.new.me.0.seen }
         ensures ended { HaveEnded ask.asked.value.me.0.seen seat.new.me.0.seen }
     {

@@ -29,7 +29,7 @@ impl<P: GracePlan + Drop, K: ChainRule> Opened<P, K> {
     /// The words of a domain of this size.
     ///
     /// Refused with `BadConfig` exactly where a number is out of its limits, else with `Memory` where memory is
-    /// refused.
+    /// refused. It never waits.
     pub fn new(alloc: Global, config: LiveConfig) -> Result<Opened<P, K>, Refusal>
         ensures ok { IfOk result (λ o. (is_supported config ≡ true) × (o.table.slots ≡ config.slots) × (o.table.queues ≡ config.queues) × (o.table.chains ≡ config.chains) × (o.table.pool ≡ config.pool)) }
         ensures err { IfErr result (λ e. e ≡ new_refusal config) }
@@ -53,7 +53,7 @@ impl<P: GracePlan + Drop, K: ChainRule> Opened<P, K> {
     /// The domain under this name, none of whose slots is claimed, and the first record, which has seen nothing yet.
     /// All the memory that registering takes is taken here.
     ///
-    /// Refused with `Memory` where memory is.
+    /// Refused with `Memory` where memory is. It never waits.
     pub fn named<B: Site>(self, alloc: Global) -> Result<(Domain<P, K, B>, Record<B>), Refusal>
         requires { (P.QSBR ≡ B.qsbr) × (self.table.words.shared.table_id ≡ B.table) × (self.table.slots ≡ B.slots) }
         ensures ok { IfOk result (λ made. (made.1.seat.me.0.seen ≡ []) × (made.1.seat.me.0.heard ≡ [])) }

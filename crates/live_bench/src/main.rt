@@ -1,6 +1,6 @@
 #![tactic(auto)]
-//! Operations of the library over live threads, one after the other, for the benchmark: `live_bench FLAVOUR KIND COUNT`.
-//! With `section-by-two` two readers make sections, each in a thread of its own.
+//! Operations of the library over live threads, one after the other, for the benchmark: `live_bench FLAVOUR KIND
+//! COUNT`. With `section-by-two` two readers make sections, each in a thread of its own.
 
 ghost use Rattle.std.specs.Prelude.{◌≡◌};
 

@@ -5,7 +5,8 @@ use Rattle.live_log.specs.declared.event.LiveEvent.TheVariants.{Close, SeqEven, 
 use Rattle.live_log.specs.Log.{Log, Begins, Has, HaveEnded, IsBound, IsLiveRun, seq_of}
 use Rattle.live_log.proofs.Lemmas.{begins_trans, ended_before, has_later, is_past, run_of}
 use Rattle.live_rule.specs.declared.view.View.{View}
-use Rattle.live_rule.specs.Steps.{Precedes, Wrote, at_log}
+use Rattle.live_rule.specs.Steps.{Precedes, Wrote}
+use Rattle.live_periods.specs.Periods.{at_load}
 use Rattle.live_grace.specs.Answers.{IsCookieOf, WholeGracePeriod}
 
 -- the bounds of a phase, and of a number, as facts that each flavour has
@@ -33,7 +34,7 @@ module _ (qsbr : Bool) (allows : Log → LiveEvent → Type 0) where
   whole_later v log w = let b = begins_whole v log w in ((begins_trans v.seen w.before log w.after.0 b, begins_trans v.heard w.before log w.after.1 b), w.run)
 
   -- so it is of a grace period that began after the seat looked at the log
-  pub whole_before : (v : View) (seen log : Log) → Wrote qsbr allows v [] seen → {seq present : ℕ} → WholeGracePeriod qsbr allows (at_log v seen) seq present log → WholeGracePeriod qsbr allows v seq present log
+  pub whole_before : (v : View) (seen log : Log) → Wrote qsbr allows v [] seen → {seq present : ℕ} → WholeGracePeriod qsbr allows (at_load v seen) seq present log → WholeGracePeriod qsbr allows v seq present log
   whole_before v seen log looked w = record {
     before = w.before;
     within = w.within;

@@ -12,7 +12,7 @@ use Rattle.live_rule.specs.Places.{group_at, slot_at}
 use Rattle.live_table.specs.Rights.{looks_in, before_in, seq_in, present_in}
 use Rattle.live_log.specs.declared.event.LiveEvent.TheVariants.{Present, SeqOdd}
 use Rattle.live_grace.specs.Answers.{Gained, stored_by, stores_of}
-use Rattle.live_grace.specs.Going.{Going, IsLogged, Begun}
+use Rattle.live_grace.specs.Going.{Going, IsLogged, Begun, WasTold}
 use Rattle.live_log.specs.Log.{IsBound}
 use Rattle.live_grace.proofs.Tellings.{told_load, told_store}
 
@@ -66,7 +66,7 @@ module _ {P : Type 0} (is_begun : P → Type 0) (action : P → Action) (taken :
       record {
         start = b.start;
         begun = b.begun;
-        told = subst (λ p. Rattle.live_grace.specs.Going.Told action taken b.start p ((place, word) ∷ looks) old log') (sym next)
+        told = subst (λ p. WasTold action taken b.start p ((place, word) ∷ looks) old log') (sym next)
             (told_load action taken seq b.start (laws.order b.start b.begun) plan looks b.told (place, word) (subst (λ x. IsLogged ((place, word) ∷ looks) x word) (sym is) (logged a place loads word looks)) (λ e. no_store a place loads (seq + 2) (sym is ∙ e))
             log' (subst (λ (ev : Log). Gained (ev ++ (stored_by action taken (taken b.start 0) b.told.words ++ SeqOdd ∷ [])) old log') (sym (ap stores_of is ∙ no_stores a place loads)) (weaves (stored_by action taken (taken b.start 0) b.told.words ++ SeqOdd ∷ []) b.told.stored)));
       },
@@ -78,7 +78,7 @@ module _ {P : Type 0} (is_begun : P → Type 0) (action : P → Action) (taken :
       record {
         start = b.start;
         begun = b.begun;
-        told = subst (λ p. Rattle.live_grace.specs.Going.Told action taken b.start p looks old log') (sym next)
+        told = subst (λ p. WasTold action taken b.start p looks old log') (sym next)
             (told_store action taken seq b.start (laws.order b.start b.begun) plan looks b.told (subst (λ a. IsLogged looks a 0) (sym is) tt) (λ e. let f : StorePhase value ≡ StoreSeq (seq + 2) = sym is ∙ e in cc)
             log' (subst (λ (ev : Log). Gained (ev ++ (stored_by action taken (taken b.start 0) b.told.words ++ SeqOdd ∷ [])) old log') (sym (ap stores_of is)) (weaves (stored_by action taken (taken b.start 0) b.told.words ++ SeqOdd ∷ []) b.told.stored)));
       },

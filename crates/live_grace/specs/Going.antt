@@ -42,7 +42,7 @@ Logged action taken looks plan [] = Unit {0}
 Logged action taken looks plan (word ∷ words) = IsLogged looks (action plan) word × Logged action taken looks (taken plan word) words
 
 -- a plan that was begun, took its first turn, and is not finished; the log has what it stored
-pub record Told {P : Type 0} (action : P → Action) (taken : P → ℕ → P) (begun plan : P) (looks : List (ℕ × ℕ)) (old log : Log) : Type 0 where
+pub record WasTold {P : Type 0} (action : P → Action) (taken : P → ℕ → P) (begun plan : P) (looks : List (ℕ × ℕ)) (old log : Log) : Type 0 where
   pub words : List ℕ
   pub is : plan ≡ after_loads taken (taken begun 0) words
   pub logged : Logged action taken looks (taken begun 0) words
@@ -53,4 +53,4 @@ pub record Told {P : Type 0} (action : P → Action) (taken : P → ℕ → P) (
 pub record Begun {P : Type 0} (is_begun : P → Type 0) (action : P → Action) (taken : P → ℕ → P) (plan : P) (looks : List (ℕ × ℕ)) (old log : Log) : Type 0 where
   pub start : P
   pub begun : is_begun start
-  pub told : Told action taken start plan looks old log
+  pub told : WasTold action taken start plan looks old log

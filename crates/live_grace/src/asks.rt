@@ -5,8 +5,8 @@ ghost use Rattle.poll_cookie.specs.Cookie.{cookie_for};
 ghost use Rattle.call_rcu_worker.specs.declared.sync.SyncCore.TheVariants.{Asks, Waits};
 ghost use Rattle.call_rcu_worker.specs.Sync.{telling, told_of};
 ghost use Rattle.live_log.specs.Log.{seq_of};
-ghost use Rattle.live_rule.specs.Steps.{Looked};
 ghost use Rattle.live_table.specs.Steps.{Keeps};
+ghost use Rattle.live_periods.specs.Periods.{LoadedSeq};
 ghost use Rattle.live_grace.specs.Answers.{IsCookieOf};
 ghost use Rattle.live_grace.specs.Asks.{cookie_in};
 
@@ -40,7 +40,7 @@ pub fn ask<P: GracePlan + Drop, K: ChainRule>(
 ) -> Result<LiveAsk<P>, Refusal>
     requires { seat.old.table_id ≡ table.now.words.shared.table_id }
     ensures seat { Keeps seat.old seat.new }
-    ensures looked { Looked P.QSBR K.allows seat.old.me seat.new.me }
+    ensures looked { LoadedSeq P.QSBR K.allows seat.old.me seat.new.me }
     ensures ask { IfOk result (λ a. (a.asked.value.me.0.seen ≡ seat.new.me.0.seen) × (cookie_for (seq_of seat.new.me.0.seen) ≡ Ok (cookie_in a.core))) }
     ensures refused { IfErr result (λ e. e ≡ Exhausted) }
     ensures taken { IsOk result ↔ (seq_of seat.new.me.0.seen < 2 ^ 62) }
@@ -54,7 +54,8 @@ pub fn ask<P: GracePlan + Drop, K: ChainRule>(
     })
 }
 
-/// Tells the core that its step was made, and what it loaded. After the ask that is never refused.
+/// Tells the core that its step was made, and what it loaded. After the ask that is never refused. It never
+/// waits.
 pub(crate) fn go_on<P: GracePlan + Drop>(core: &mut SyncCore<P>, loaded: u64) -> Told
     requires { core.old ≢ Asks }
     ensures { told_of P.action P.turn P.taken core.old loaded ≡ telling result core.new }

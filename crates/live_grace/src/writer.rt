@@ -3,8 +3,9 @@ ghost use Rattle.std.specs.Prelude.{◌≡◌, ◌+◌, ◌<◌, ◌≤◌, ◌%
 ghost use Rattle.call_rcu_worker.specs.declared.sync.SyncCore.TheVariants.{Starts};
 ghost use Rattle.live_log.specs.Log.{Begins, HaveEnded, IsLiveRun};
 ghost use Rattle.live_rule.specs.declared.rights.GraceRight.TheVariants.{Rests};
-ghost use Rattle.live_rule.specs.Steps.{Precedes, at_log};
+ghost use Rattle.live_rule.specs.Steps.{Precedes};
 ghost use Rattle.live_table.specs.Steps.{Keeps};
+ghost use Rattle.live_periods.specs.Periods.{at_load};
 ghost use Rattle.live_grace.specs.Answers.{HasWords, RanPlan, WholeGracePeriod};
 ghost use Rattle.live_grace.specs.Asks.{cookie_in};
 
@@ -44,10 +45,10 @@ pub enum Answer {
 }
 
 impl<P: GracePlan + Drop> GraceWriter<P> {
-    ghost use Rattle.live_rule.specs.Seats.{heard_view};
+    ghost use Rattle.live_rule.specs.Seats.{heard_view, told_view};
     ghost use Rattle.live_grace.specs.declared.writer.Answer.TheVariants.{Own, Shared};
 
-    /// Of a seat with the right to the words of grace periods of a new table.
+    /// Of a seat with the right to the words of grace periods of a new table. It never waits.
     pub fn new(seat: LiveSeat) -> GraceWriter<P>
         requires { (seat.me.0.grace ≡ Rests 0 0) × (seat.me.1 ≡ []) }
         ensures { (result.seat ≡ seat) × (result.seq ≡ 0) × (result.present ≡ 0) }
@@ -118,12 +119,12 @@ impl<P: GracePlan + Drop> GraceWriter<P> {
         requires tables { (self.old.seat.table_id ≡ table.now.words.shared.table_id) × (seat.old.table_id ≡ table.now.words.shared.table_id) }
         requires seen { Begins ask.asked.value.me.0.seen seat.old.me.0.seen }
         ensures seats { Keeps self.old.seat self.new.seat × Keeps seat.old seat.new }
-        ensures only { seat.new.me ≡ (record (at_log seat.old.me.0 seat.new.me.0.seen) { heard = self.new.seat.me.0.seen }, seat.old.me.1) }
+        ensures only { seat.new.me ≡ (record (at_load seat.old.me.0 seat.new.me.0.seen) { heard = self.new.seat.me.0.seen }, seat.old.me.1) }
         ensures later { Begins seat.old.me.0.seen seat.new.me.0.seen × Begins self.new.seat.me.0.seen seat.new.me.0.seen × IsLiveRun P.QSBR K.allows seat.new.me.0.seen }
         ensures ended { HaveEnded ask.asked.value.me.0.seen seat.new.me.0.seen }
         ensures words { HasWords self.new.seq self.new.present self.new.seat.me.0.seen }
         ensures shared { cookie_in ask.core ≤ self.old.seq → (result ≡ Shared) × (self.new.seq ≡ self.old.seq) × (self.new.present ≡ self.old.present) }
-        ensures own { self.old.seq < cookie_in ask.core → (result ≡ Own) × (self.new.seq ≡ self.old.seq + 2) × WholeGracePeriod P.QSBR K.allows (heard_view self.old.seat.me.0 seat.old.me.0) self.old.seq self.old.present self.new.seat.me.0.seen }
+        ensures own { self.old.seq < cookie_in ask.core → (result ≡ Own) × (self.new.seq ≡ self.old.seq + 2) × WholeGracePeriod P.QSBR K.allows (heard_view self.old.seat.me.0 (told_view seat.old.me.0)) self.old.seq self.old.present self.new.seat.me.0.seen }
         ensures plan { self.old.seq < cookie_in ask.core → RanPlan P.is_begun P.action P.taken P.present table.now.slots self.old.seq self.old.present self.new.present self.new.seat.me.0.seen }
     {
         let told = table.tell(seat);

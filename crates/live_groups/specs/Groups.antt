@@ -9,8 +9,7 @@ use Rattle.live_rule.specs.declared.rights.SlotRight.{SlotRight}
 use Rattle.live_rule.specs.declared.rights.SlotRight.TheVariants.{Idle, Owns}
 use Rattle.live_rule.specs.declared.rights.GroupsRight.TheVariants as groups_right
 use Rattle.live_rule.specs.Steps.{Wrote, at_log}
-use Rattle.live_table.specs.Rights.{count_in, groups_in, word_in}
-use Rattle.live_readers.specs.Sections.{Closed}
+use Rattle.live_table.specs.Rights.{groups_in}
 
 -- two words of the group of slot r differ in the bit of r alone
 abbrev pub DiffersAt : ℕ → ℕ → ℕ → Type 0
@@ -35,11 +34,3 @@ module _ {S : Type 0} (qsbr : Bool) (allows : Log → LiveEvent → Type 0) wher
 
   abbrev pub released : Step S → Me S View → ℕ → Me S View → Type 0
   released st m n m' = (r w k : ℕ) → m.0.slot ≡ Owns r w k → Regrouped r st.first (Idle r w k) m m' × (bit_of (group_word m.0 r) (r % 64) ≡ true)
-
-  -- A reader left slot r, whose word was w, and the word x was stored for the slot's group. An online reader's section
-  -- was closed before, by a store that led to the seat between; the seat of another one was still as it had been.
-  pub record Left (r w x : ℕ) (m m' : Me S View) : Type 0 where
-    pub between : Me S View
-    pub online : qsbr ≡ true → w ≢ 0 → Closed qsbr allows r 0 m between
-    pub offline : (qsbr ≡ true → w ≡ 0) → between ≡ m
-    pub released : Regrouped r x (Idle r (word_in between.0.slot) (count_in between.0.slot)) between m'

@@ -77,7 +77,8 @@ barrier_of old mid log q n f a b count low run o k at =
     let inside = below (line_of mid q) k o at_mid in
     run k o (omega arith) (subst (λ (l : List ObjectId). get_elem? l k ≡ some o) (sym y.1) (at_longer (line_of mid q) y.0 k o at_mid))
 
--- what a barrier concludes, where the first load saw the log `old`, each queue's count was loaded at a later log, and each finished count at the log of the end or before
+-- what a barrier concludes, where the first load saw the log `old`, each queue's count was loaded at a later log, and
+-- each finished count at the log of the end or before
 pub barrier_clears : (queues : ℕ) (old log : Log) → ((q : ℕ) → queues ≤ q → line_of old q ≡ [])
     → ((q : ℕ) → q < queues → (mid : Log) × (n f : ℕ) × Begins old mid × Begins mid log × (n ≡ length (line_of mid q)) × (n ≤ f) × HaveRun q f log)
     → (o : ObjectId) → In (state_of old).queued o → In (state_of log).reclaimed o

@@ -5,8 +5,8 @@ pub trait ChainRule {
     ghost use Rattle.std.specs.Prelude.{List};
     ghost use Rattle.live_log.specs.declared.event.LiveEvent.{LiveEvent};
 
-    /// Whether this push, replacement, cut or note may follow this log, which has its newest event first. Of other events
-    /// the rule is not asked.
+    /// Whether this push, replacement, cut or note may follow this log, which has its newest event first. Of other
+    /// events the rule is not asked.
     ghost allows: { List LiveEvent → LiveEvent → Type 0 };
 }
 
@@ -17,8 +17,8 @@ impl ChainRule for AnyChain {
     ghost allows = { λ log event. Unit {0} };
 }
 
-/// In each chain keys differ and ranks fall, and a replacement has the key and the rank of what it replaces. A payload is
-/// a key, a value, a rank, and 0.
+/// In each chain keys differ and ranks fall, and a replacement has the key and the rank of what it replaces. A payload
+/// is a key, a value, a rank, and 0.
 pub struct Keyed;
 
 impl ChainRule for Keyed {

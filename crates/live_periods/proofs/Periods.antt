@@ -26,8 +26,8 @@ use Rattle.live_rule.specs.Rule.{KeepsRule}
 use Rattle.live_rule.specs.Steps.{Wrote, at_log}
 use Rattle.live_table.specs.Rights.{present_in, seq_in}
 use Rattle.live_rule.proofs.Lemmas.{saw_later}
-use Rattle.live_rule.proofs.Lemmas.{Apart, low_loads}
-use Rattle.live_periods.specs.Periods.{ShownAll, TellsAllEnded, looked_seq, GraceBecomes, looked_word, presented, began, ended}
+use Rattle.live_rule.proofs.Lemmas.{Apart, look_all, looks, low_loads}
+use Rattle.live_periods.specs.Periods.{ShownAll, TellsAllEnded, at_load, looked_seq, GraceBecomes, looked_word, presented, began, ended}
 use Rattle.live_periods.proofs.Stores.{stores}
 
 apart_odd : (log : Log) → Apart SeqOdd log
@@ -71,10 +71,10 @@ module _ {S : Type 0} (qsbr : Bool) (allows : Log → LiveEvent → Type 0) (key
 
   pub looks_seq : Allows Rule slots id me seq_at (λ n. n) (looked_seq qsbr allows (step slots seq_at 0 0 none) me)
   looks_seq s r deep at fine = (
-    at_log me.0 r.log,
+    at_load me.0 r.log,
     keeps,
     tt,
-    low_loads qsbr allows key s r id seq_at me.0 me.0.grace at (λ c. (r.knows grace id me.0 at c, c)),
+    looks qsbr allows key s r id seq_at me.0 (at_load me.0 r.log) at refl refl (look_all qsbr allows key s r id me.0 (at_load me.0 r.log) at (refl, refl, refl, refl, refl, refl, refl)),
     ((refl, told s r [] at r.run), sym r.agree.readers.seq, λ c. let k = known r.log s.words me.0.grace c (r.knows grace id me.0 at c) in (r.agree.readers.seq ∙ k.0, k.1)),
   )
 

@@ -9,7 +9,7 @@ use Rattle.live_rule.specs.declared.rights.GraceRight.{GraceRight}
 use Rattle.live_rule.specs.declared.rights.GraceRight.TheVariants.{Rests, Works}
 use Rattle.live_rule.specs.Readers.{Shown}
 use Rattle.live_rule.specs.Rights.{ClaimsGrace}
-use Rattle.live_rule.specs.Steps.{Wrote, at_log, Looked}
+use Rattle.live_rule.specs.Steps.{Wrote, at_log}
 use Rattle.live_table.specs.Rights.{present_in, seq_in}
 
 -- each word that was loaded tells that a section that copied this is open in the slot
@@ -21,11 +21,19 @@ ShownAll qsbr (look ∷ looks) r m = Shown qsbr look r m × ShownAll qsbr looks 
 abbrev pub TellsAllEnded : Bool → ℕ → Log → List (ℕ × ℕ) → Type 0
 TellsAllEnded qsbr slots mark looks = (r m : ℕ) → r < slots → MayCopy qsbr (present_of mark) m → ShownAll qsbr looks r m → ⊥
 
+-- the view after a load of the sequence number at which the whole log was this one, which it notes
+abbrev pub at_load : View → Log → View
+at_load v log = record (at_log v log) { loads = log ∷ v.loads }
+
 module _ {S : Type 0} (qsbr : Bool) (allows : Log → LiveEvent → Type 0) where
-  -- the sequence number was loaded, by any seat; the one with the right to the words of grace periods knew it, and the
+  -- the sequence number was loaded, which tells the log
+  abbrev pub LoadedSeq : Me S View → Me S View → Type 0
+  LoadedSeq m m' = (m' ≡ (at_load m.0 m'.0.seen, m.1)) × Wrote qsbr allows m.0 [] m'.0.seen
+
+  -- the same, by any seat; the one with the right to the words of grace periods knew it, and the
   -- phase or number
   abbrev pub looked_seq : Step S → Me S View → ℕ → Me S View → Type 0
-  looked_seq st m n m' = Looked qsbr allows m m' × (seq_of m'.0.seen ≡ n) × (ClaimsGrace m.0.grace → (n ≡ seq_in m.0.grace) × (present_of m'.0.seen ≡ present_in m.0.grace))
+  looked_seq st m n m' = LoadedSeq m m' × (seq_of m'.0.seen ≡ n) × (ClaimsGrace m.0.grace → (n ≡ seq_in m.0.grace) × (present_of m'.0.seen ≡ present_in m.0.grace))
 
   -- the seat's right to the words of grace periods is this one now, and these events were written
   abbrev pub GraceBecomes : GraceRight → Log → Me S View → Me S View → Type 0

@@ -5,10 +5,9 @@ ghost use Rattle.live_log.specs.Log.{HaveEnded, MayBePresent, before_odd, presen
 ghost use Rattle.live_rule.specs.declared.rights.GraceRight.TheVariants.{Rests, Works};
 ghost use Rattle.live_rule.specs.Places.{group_at, slot_at};
 ghost use Rattle.live_rule.specs.Rights.{ClaimsGrace};
-ghost use Rattle.live_rule.specs.Steps.{Looked};
 ghost use Rattle.live_table.specs.Steps.{Keeps};
 ghost use Rattle.live_table.specs.Rights.{IsResting, IsWorking, before_in, looks_in, present_in, seq_in};
-ghost use Rattle.live_periods.specs.Periods.{GraceBecomes, TellsAllEnded};
+ghost use Rattle.live_periods.specs.Periods.{GraceBecomes, LoadedSeq, TellsAllEnded};
 
 use crate::plays::{Begins, Ends, LooksSeq, LooksWord, StoresPresent};
 use gp_memb::GracePlan;
@@ -16,12 +15,12 @@ use live_log::ChainRule;
 use live_rule::LiveSeat;
 use live_table::LiveTable;
 
-/// Loads the sequence number, by any seat. A seat with the right to the words of grace periods knew it, and the phase
-/// or number: nobody else stores them. It never waits.
+/// Loads the sequence number, by any seat, which notes the log at the load. A seat with the right to the words of grace
+/// periods knew the number, and the phase or number: nobody else stores them. It never waits.
 pub fn load_seq<P: GracePlan, K: ChainRule>(table: &LiveTable<P, K>, seat: &mut LiveSeat) -> u64
     requires { seat.old.table_id ≡ table.now.words.shared.table_id }
     ensures seat { Keeps seat.old seat.new }
-    ensures looked { Looked P.QSBR K.allows seat.old.me seat.new.me }
+    ensures looked { LoadedSeq P.QSBR K.allows seat.old.me seat.new.me }
     ensures seq { seq_of seat.new.me.0.seen ≡ result }
     ensures known { ClaimsGrace seat.old.me.0.grace → (result ≡ seq_in seat.old.me.0.grace) × (present_of seat.new.me.0.seen ≡ present_in seat.old.me.0.grace) }
 {

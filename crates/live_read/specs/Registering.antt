@@ -12,7 +12,8 @@ use Rattle.live_read.specs.declared.site.Site.{Ghosts}
 abbrev pub is_same : Slot → Slot → Bool
 is_same s t = (s.claim == t.claim) && (s.number == t.number)
 
--- whether the slot was claimed and not given back
+-- whether the slot was claimed and not given back: a test, since what a type keeps in a field has to be a proposition,
+-- and the registry's `IsClaimed` is none
 abbrev pub is_claimed : Registry → Slot → Bool
 is_claimed registry s = list_any (is_same s) registry.claimed
 

@@ -1,8 +1,8 @@
 -- How a witness stands, beside what it has seen.
 use Rattle.std.specs.Prelude.{ℕ}
 
--- of a reader its slot, the word that it stored last, how many sections its slot has had, how many sections and locks are
--- open, and how many of these are locks
+-- of a reader its slot, the word that it stored last, how many sections its slot has had, how many sections and locks
+-- are open, and how many of these are locks
 pub record Standing : Type 0 where
   pub slot : ℕ
   pub word : ℕ

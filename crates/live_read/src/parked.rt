@@ -93,7 +93,7 @@ impl<B: Site> GroupWords<B> {
         }
     }
 
-    /// Sets the bit of a slot, and then makes its reader.
+    /// Sets the bit of a slot, and then makes its reader. It never waits.
     pub(crate) fn set<P: GracePlan, K: ChainRule>(
         &mut self,
         parked: Parked<P, K, B>,
@@ -117,7 +117,7 @@ impl<B: Site> GroupWords<B> {
     }
 
     /// Takes the slot of a reader that has no section or lock open: an online one goes offline, and then the bit is
-    /// cleared.
+    /// cleared. It never waits.
     pub(crate) fn clear<P: GracePlan, K: ChainRule>(
         &mut self,
         reader: Reader<P, K, B>,

@@ -31,14 +31,14 @@ pub struct Reader<P: GracePlan, K: ChainRule, B: Site> {
     /// The word that it stored last.
     pub word: u64,
     // Whether it is of the quiescent-state flavour.
-    pub(crate) quiet: bool,
+    pub(crate) qsbr: bool,
     /// How many locks and sections are open.
     pub depth: u64,
     /// How many of them are locks of the standard's face.
     pub locks: u64,
     pub(crate) site: PhantomData<B>,
     pub(crate) ghost seated: { (seat.table_id ≡ B.table) × ((arc_value table).words.shared.table_id ≡ B.table) × (seat.me.1 ≡ []) },
-    pub(crate) ghost flavour: { quiet ≡ B.qsbr },
+    pub(crate) ghost flavour: { qsbr ≡ B.qsbr },
     pub(crate) ghost owns: { IsOwner seat.me.0 slot × (word_in seat.me.0.slot ≡ word) × (slot < (arc_value table).slots) × ((arc_value table).slots ≡ B.slots) },
     pub(crate) ghost counted: { (B.qsbr ≡ false → count_of Wide word ≡ depth) × (B.qsbr ≡ true → word ≡ 0 → depth ≡ 0) × (locks ≤ depth) × (depth ≤ 2147483647) },
 }
@@ -66,14 +66,14 @@ impl<P: GracePlan, K: ChainRule, B: Site> Reader<P, K, B> {
             seat,
             slot,
             word,
-            quiet: P::QSBR,
+            qsbr: P::QSBR,
             depth: 0,
             locks: 0,
             site: PhantomData,
         }
     }
 
-    // Hears what the witness has seen and heard of.
+    // Hears what the witness has seen and heard of. It never waits.
     pub(crate) fn hear<W: Witness>(&mut self, witness: &mut W)
         requires { W.table_of witness.old ≡ B.table }
         ensures reader { (self.new.slot ≡ self.old.slot) × (self.new.word ≡ self.old.word) × (self.new.depth ≡ self.old.depth) × (self.new.locks ≡ self.old.locks) }
@@ -86,7 +86,7 @@ impl<P: GracePlan, K: ChainRule, B: Site> Reader<P, K, B> {
         reader.table.learn(&mut reader.seat, told);
     }
 
-    // One more section or lock, with so many locks of the standard's face.
+    // One more section or lock, with so many locks of the standard's face. It never waits.
     pub(crate) fn enter(&mut self, locks: u64) -> Result<(), Refusal>
         requires { (P.QSBR ≡ B.qsbr) × (locks ≤ self.old.depth + 1) }
         ensures ok { IfOk result (λ _. BeginsSection P.QSBR K.allows self.old self.new locks) }
@@ -121,7 +121,7 @@ impl<P: GracePlan, K: ChainRule, B: Site> Reader<P, K, B> {
         }
     }
 
-    // One section or lock less, with so many locks of the standard's face.
+    // One section or lock less, with so many locks of the standard's face. It never waits.
     pub(crate) fn leave(&mut self, locks: u64)
         requires { (P.QSBR ≡ B.qsbr) × (locks < self.old.depth) }
         ensures { EndsSection P.QSBR K.allows self.old self.new locks }

@@ -25,8 +25,8 @@ use std::alloc::{AllocError, Global};
 use std::mem::replace;
 use std::sync::Arc;
 
-/// What the registry lock guards: which slots are claimed, the seats of those that are not, and the group words. All its
-/// memory is taken when it is made. The bit of a slot is 1 exactly while the slot is claimed.
+/// What the registry lock guards: which slots are claimed, the seats of those that are not, and the group words. All
+/// its memory is taken when it is made. The bit of a slot is 1 exactly while the slot is claimed.
 #[derive(Drop)]
 pub struct Registrar<P: GracePlan, K: ChainRule, B: Site> {
     pub(crate) registry: Registry,
@@ -37,9 +37,10 @@ pub struct Registrar<P: GracePlan, K: ChainRule, B: Site> {
 }
 
 impl<P: GracePlan, K: ChainRule, B: Site> Registrar<P, K, B> {
-    /// Of the slots of a new table, none of which is claimed, by the seat that has the rights to them and to the group words.
+    /// Of the slots of a new table, none of which is claimed, by the seat that has the rights to them and to the group
+    /// words.
     ///
-    /// Refused with `Memory` where memory is.
+    /// Refused with `Memory` where memory is. It never waits.
     pub fn new(
         alloc: Global,
         table: &Arc<LiveTable<P, K>>,
@@ -65,8 +66,8 @@ impl<P: GracePlan, K: ChainRule, B: Site> Registrar<P, K, B> {
     /// Claims a slot for a reader, liburcu's `rcu_register_thread`: its bit is set before the reader is handed out. The
     /// reader is offline in the quiescent-state flavour, and hears what the witness has seen and heard of.
     ///
-    /// Refused with `NoSlot` exactly where every slot is claimed, and then the registrar is as it was. It takes no memory and
-    /// never waits.
+    /// Refused with `NoSlot` exactly where every slot is claimed, and then the registrar is as it was. It takes no
+    /// memory and never waits.
     pub fn register<W: Witness>(&mut self, witness: &mut W) -> Result<Reader<P, K, B>, Refusal>
         requires { (P.QSBR ≡ B.qsbr) × (W.table_of witness.old ≡ B.table) }
         ensures registered { IfOk result (λ r. Registers self.old.registry self.new.registry r.slot) }
@@ -89,12 +90,12 @@ impl<P: GracePlan, K: ChainRule, B: Site> Registrar<P, K, B> {
         }
     }
 
-    /// Gives the slot of a reader back, liburcu's `rcu_unregister_thread`: an online reader of the quiescent-state flavour
-    /// goes offline first, which closes its section; then its bit is cleared, and then its slot is free. A reader that is
-    /// dropped in place of this keeps its slot claimed.
+    /// Gives the slot of a reader back, liburcu's `rcu_unregister_thread`: an online reader of the quiescent-state
+    /// flavour goes offline first, which closes its section; then its bit is cleared, and then its slot is free. A
+    /// reader that is dropped in place of this keeps its slot claimed.
     ///
-    /// Refused with `Busy` exactly while a section or a lock of it is open; then the reader comes back as it was, and the
-    /// registrar is as it was. It takes no memory and never waits.
+    /// Refused with `Busy` exactly while a section or a lock of it is open; then the reader comes back as it was, and
+    /// the registrar is as it was. It takes no memory and never waits.
     pub fn unregister(&mut self, reader: Reader<P, K, B>) -> Result<(), (Refusal, Reader<P, K, B>)>
         requires { P.QSBR ≡ B.qsbr }
         ensures left { IfOk result (λ _. (reader.depth ≡ 0) × Unregisters self.old.registry self.new.registry reader.slot) }

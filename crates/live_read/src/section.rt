@@ -25,7 +25,7 @@ impl<'a, P: GracePlan, K: ChainRule, B: Site> Section<'a, P, K, B> {
     }
 
     /// An inner section, refused as `Reader::section`. Its caller knows nothing of this one afterwards:
-    /// `section.reader.section()` tells more.
+    /// `section.reader.section()` tells more. It never waits.
     pub fn nest(&mut self) -> Result<Section<'_, P, K, B>, Refusal>
         requires { P.QSBR ≡ B.qsbr }
         ensures inside { IfOk result (λ s. BeginsSection P.QSBR K.allows self.old.reader.now s.reader.now self.old.reader.now.locks) }
@@ -49,7 +49,7 @@ impl<'a, P: GracePlan, K: ChainRule, B: Site> Drop for Section<'a, P, K, B> {
         ensures { P.QSBR ≡ B.qsbr → self.entry.reader.now.locks < self.entry.reader.now.depth → EndsSection P.QSBR K.allows self.entry.reader.now self.exit.0.now self.entry.reader.now.locks }
     {
         let Section { reader } = self;
-        if P::QSBR != reader.quiet {
+        if P::QSBR != reader.qsbr {
             return;
         }
         if reader.locks >= reader.depth {

@@ -2,8 +2,8 @@
 
 use std::marker::Brand;
 
-/// A type that stands for one table: what belongs to a table is generic in it, so that it fits by its type. A program picks
-/// it where it begins to use the table.
+/// A type that stands for one table: what belongs to a table is generic in it, so that it fits by its type. A program
+/// picks it where it begins to use the table.
 pub trait Site {
     ghost use Rattle.atomic_table.specs.Seated.{TableId};
     ghost use Rattle.std.specs.Prelude.{ℕ, Bool};

@@ -13,7 +13,7 @@ use std::marker::PhantomData;
 
 /// Who makes a call, and keeps what it has seen of the log: a record, or a reader.
 pub trait Witness {
-    ghost use Rattle.std.specs.Prelude.{◌≡◌, []};
+    ghost use Rattle.std.specs.Prelude.{◌≡◌, List, [], ◌++◌};
     ghost use Rattle.atomic_table.specs.Seated.{TableId};
     ghost use Rattle.live_log.specs.Log.{Log};
     ghost use Rattle.live_read.specs.Standings.{Standing};
@@ -24,6 +24,9 @@ pub trait Witness {
     /// The log that it has heard of, which its next step sees.
     ghost heard: { Self → Log };
 
+    /// The logs at the loads of the sequence number that were made for it, the last one first.
+    ghost loads: { Self → List Log };
+
     /// The table of the log.
     ghost table_of: { Self → TableId };
 
@@ -33,17 +36,18 @@ pub trait Witness {
     /// Of a reader, that its section of the log is open in what it has seen. It says nothing of a record.
     ghost is_in: { Self → Type 0 };
 
-    /// A seat that has seen and heard as much. It never waits.
+    /// A seat that has seen and heard as much, and has loaded nothing. It never waits.
     fn tell<P: GracePlan, K: ChainRule>(&mut self, table: &LiveTable<P, K>) -> LiveSeat
         requires { table.now.words.shared.table_id ≡ table_of self.old }
-        ensures told { (result.table_id ≡ table_of self.old) × (result.me.1 ≡ []) × (result.me.0.seen ≡ seen self.old) × (result.me.0.heard ≡ heard self.old) }
-        ensures same { (seen self.new ≡ seen self.old) × (heard self.new ≡ heard self.old) × (table_of self.new ≡ table_of self.old) × (standing self.new ≡ standing self.old) }
+        ensures told { (result.table_id ≡ table_of self.old) × (result.me.1 ≡ []) × (result.me.0.seen ≡ seen self.old) × (result.me.0.heard ≡ heard self.old) × (result.me.0.loads ≡ []) }
+        ensures same { (seen self.new ≡ seen self.old) × (heard self.new ≡ heard self.old) × (loads self.new ≡ loads self.old) × (table_of self.new ≡ table_of self.old) × (standing self.new ≡ standing self.old) }
         ensures inside { is_in self.old → is_in self.new };
 
-    /// It hears what the seat has seen, which is spent. It never waits.
+    /// It hears what the seat has seen, which is spent, and takes in its loads. It never waits.
     fn learn<P: GracePlan, K: ChainRule>(&mut self, table: &LiveTable<P, K>, other: LiveSeat)
         requires table { (table.now.words.shared.table_id ≡ table_of self.old) × (other.table_id ≡ table_of self.old) × (other.me.1 ≡ []) }
         ensures heard { heard self.new ≡ other.me.0.seen }
+        ensures loads { loads self.new ≡ other.me.0.loads ++ loads self.old }
         ensures same { (seen self.new ≡ seen self.old) × (table_of self.new ≡ table_of self.old) × (standing self.new ≡ standing self.old) }
         ensures inside { is_in self.old → is_in self.new };
 }
@@ -57,7 +61,7 @@ pub struct Record<B: Site> {
 }
 
 impl<B: Site> Record<B> {
-    /// A record that has seen what the seat has.
+    /// A record that has seen what the seat has. It never waits.
     pub fn new(seat: LiveSeat) -> Record<B>
         requires { (seat.table_id ≡ B.table) × (seat.me.1 ≡ []) }
         ensures { result.seat ≡ seat }
@@ -116,8 +120,8 @@ pub fn learn_more<W: Witness, P: GracePlan, K: ChainRule>(
     witness.learn(table, own);
 }
 
-/// The one witness hears what the other has seen and heard of, beside all that it had seen and heard of itself. It never
-/// waits.
+/// The one witness hears what the other has seen and heard of, beside all that it had seen and heard of itself. It
+/// never waits.
 pub fn inform<S: Witness, T: Witness, P: GracePlan, K: ChainRule>(
     table: &LiveTable<P, K>,
     from: &mut S,
@@ -142,6 +146,8 @@ impl<B: Site> Witness for Record<B> {
 
     ghost heard = { λ r. r.seat.me.0.heard };
 
+    ghost loads = { λ r. r.seat.me.0.loads };
+
     ghost table_of = { λ r. r.seat.table_id };
 
     ghost standing = { λ r. nowhere };
@@ -163,6 +169,8 @@ impl<P: GracePlan, K: ChainRule, B: Site> Witness for Reader<P, K, B> {
     ghost seen = { λ r. r.seat.me.0.seen };
 
     ghost heard = { λ r. r.seat.me.0.heard };
+
+    ghost loads = { λ r. r.seat.me.0.loads };
 
     ghost table_of = { λ r. r.seat.table_id };
 

@@ -1,4 +1,5 @@
--- The one store that leads past, to, or into another object keeps the heap: for a push, a replacement and a cut alike, at a head or at a link.
+-- The one store that leads past, to, or into another object keeps the heap: for a push, a replacement and a cut alike,
+-- at a head or at a link.
 use Rattle.std.proofs.Common.{◌≡◌, ◌≢◌, ◌⊎◌, ℕ, ◌+◌, ◌*◌, ◌/◌, ◌<◌, ◌≤◌, List, length, get_or, set, sym, refl, ap, ◌∙◌, subst, inl, inr, ⊎_elim, arith, get_or-set_other, get_or-set_same, Option, Some, None}
 use Rattle.std.specs.Option.{option_or}
 use Rattle.rcu_model.specs.declared.event.ObjectId.{ObjectId}

@@ -10,7 +10,8 @@ pub enum SlotRight {
     Nothing,
     /// All slots from this one on, none of which was ever in use.
     Spare(u64),
-    /// The slot, its word, which is closed, and how many sections it has had. Its bit may be 0, so no section may be opened.
+    /// The slot, its word, which is closed, and how many sections it has had. Its bit may be 0, so no section may be
+    /// opened.
     Idle(u64, u64, u64),
     /// The slot, its word, and how many sections it has had. Its bit is set.
     Owns(u64, u64, u64),
@@ -30,8 +31,8 @@ pub enum GraceRight {
     Nothing,
     /// No grace period is going on: the sequence number, and the phase or number.
     Rests(u64, u64),
-    /// One is going on: the same, the log before the sequence number became odd, and what was loaded since then, each word
-    /// with its place, the last one first.
+    /// One is going on: the same, the log before the sequence number became odd, and what was loaded since then, each
+    /// word with its place, the last one first.
     Works(u64, u64, LinkedList<LiveEvent>, LinkedList<(u64, u64)>),
 }
 

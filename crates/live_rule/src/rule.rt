@@ -6,8 +6,8 @@ use gp_memb::GracePlan;
 use live_log::ChainRule;
 use std::marker::PhantomData;
 
-/// The rule of a table for grace periods by the plans `P`, whose chains keep the rule `K`: the words say what the log says,
-/// the log is a run, of each thing one seat at most has the right, and what a seat knows is so.
+/// The rule of a table for grace periods by the plans `P`, whose chains keep the rule `K`: the words say what the log
+/// says, the log is a run, of each thing one seat at most has the right, and what a seat knows is so.
 pub struct LiveRule<P, K>(PhantomData<(P, K)>);
 
 impl<P: GracePlan, K: ChainRule> TableRule<(), View, Sizes> for LiveRule<P, K> {

@@ -43,4 +43,6 @@ pub struct View {
     pub work: WorkRight,
     /// Words that it loaded, each with its place, the last one first.
     pub looks: LinkedList<(u64, u64)>,
+    /// The logs at its loads of the sequence number, and at those of seats that it learned from, the last one first.
+    pub loads: LinkedList<LinkedList<LiveEvent>>,
 }

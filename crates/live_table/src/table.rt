@@ -36,8 +36,8 @@ impl<P: GracePlan, K: ChainRule> LiveTable<P, K> {
     ghost use Rattle.live_rule.specs.Seats.{IsSpareQueue, IsSpareSlot, but_chains, but_first_queue, but_first_slot, but_grace, but_groups, but_lent, but_object, but_slot, but_work, chains_alone, first_queue, first_slot, grace_alone, groups_alone, heard_view, lent_alone, merged, object_alone, slot_alone, taken_view, told_view, work_alone};
     ghost use Rattle.live_table.specs.Steps.{Cut, Joined};
 
-    /// A table of these sizes whose words are all 0, and its first seat, which has every right that no hold word guards.
-    /// It is refused where memory is.
+    /// A table of these sizes whose words are all 0, and its first seat, which has every right that no hold word
+    /// guards. It is refused where memory is.
     pub fn new(
         alloc: Global,
         slots: usize,
@@ -68,7 +68,8 @@ impl<P: GracePlan, K: ChainRule> LiveTable<P, K> {
         ))
     }
 
-    /// Cuts off a seat that has seen as much and has no right: what the first seat has seen can be told to another by it.
+    /// Cuts off a seat that has seen as much and has no right: what the first seat has seen can be told to another by
+    /// it.
     pub fn tell(&self, seat: &mut LiveSeat) -> LiveSeat
         requires { seat.old.table_id ≡ self.now.words.shared.table_id }
         ensures { Cut (λ v. v) told_view seat.old seat.new result }

@@ -56,8 +56,8 @@ fn numbers_have_limits(rt: HostRuntime) {
     }
 }
 
-/// Registers a reader for each slot, and one more once the last was given back: how many there were, and whether the calls
-/// were refused in between and after.
+/// Registers a reader for each slot, and one more once the last was given back: how many there were, and whether the
+/// calls were refused in between and after.
 fn fills<B: Site, R: Wait>(
     rt: &R,
     alloc: Global,

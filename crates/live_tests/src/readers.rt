@@ -1,5 +1,5 @@
-//! Each call once, in both flavours. An outermost lock that copies phase 0 stores 1, and each inner one adds 1; going online
-//! at number 0 stores 1, and offline is 0.
+//! Each call once, in both flavours. An outermost lock that copies phase 0 stores 1, and each inner one adds 1; going
+//! online at number 0 stores 1, and offline is 0.
 
 ghost use Rattle.std.specs.Prelude.{◌≡◌, ◌<◌, [], true, false, IfOk};
 ghost use Rattle.std.specs.Arc.{arc_value};

@@ -1,5 +1,5 @@
-//! Each step once, at concrete types of both flavours. Expected words are those of the layout: the sequence number is word
-//! 16, the phase or number word 32, the group words are words 48 to 51, and the word of slot s is word 16 s + 64.
+//! Each step once, at concrete types of both flavours. Expected words are those of the layout: the sequence number is
+//! word 16, the phase or number word 32, the group words are words 48 to 51, and the word of slot s is word 16 s + 64.
 
 ghost use Rattle.std.specs.Prelude.{◌≡◌, ◌<◌, []};
 ghost use Rattle.live_rule.specs.Views.{first_view};
@@ -7,9 +7,9 @@ ghost use Rattle.live_rule.specs.declared.rights.GraceRight.TheVariants.{Rests};
 ghost use Rattle.live_rule.specs.declared.rights.SlotRight.TheVariants.{Owns};
 
 use live_words::{
-    AnyChain, ChainRule, LiveSeat, LiveTable, claim, leave, load_group, load_present, load_seq,
-    load_slot, lock, offline, online, quiescent, release, store_clear, store_even, store_odd,
-    store_present, store_set, unlock,
+    AnyChain, ChainRule, LiveSeat, LiveTable, claim, load_group, load_present, load_seq, load_slot,
+    lock, offline, online, quiescent, release, store_clear, store_even, store_odd, store_present,
+    store_set, unlock,
 };
 use gp_memb::{GracePlan, MembPlan};
 use gp_qsbr::QsbrPlan;
@@ -97,7 +97,9 @@ fn a_reader_leaves(rt: HostRuntime) {
     store_clear(&table, &mut root, 0, 0);
     assert_eq!(rt; claim(&table, &mut root, 0, 0), 1);
     let word = online(&table, &mut root, 0);
-    assert_eq!(rt; leave(&table, &mut root, 0, word, 1), 0);
+    assert_eq!(rt; word, 1);
+    offline(&table, &mut root, 0);
+    assert_eq!(rt; release(&table, &mut root, 0, 1), 0);
     assert_eq!(rt; table.words.shared.peek(64), 0);
     assert_eq!(rt; table.words.shared.peek(48), 0);
 }

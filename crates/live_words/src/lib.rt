@@ -2,7 +2,7 @@
 //! The words under the library over live threads: the face of the crates `live_log`, `live_rule`, `live_table`,
 //! `live_readers`, `live_periods` and `live_groups` for those above.
 
-pub use live_groups::{claim, leave, release, store_clear, store_set};
+pub use live_groups::{claim, release, store_clear, store_set};
 pub use live_log::{AnyChain, ChainRule, Keyed, LiveEvent, ObjectEvent};
 pub use live_periods::{load_group, load_seq, load_slot, store_even, store_odd, store_present};
 pub use live_readers::{

@@ -1,6 +1,6 @@
 use Rattle.std.proofs.Common.{rules, ◌≡◌, sym, subst}
 use Rattle.live_log.specs.declared.event.LiveEvent.TheVariants.{Close}
-use Rattle.live_log.specs.Log.{Log, Begins}
+use Rattle.live_log.specs.Log.{Begins}
 use Rattle.live_log.proofs.Lemmas.{begins_trans, has_later}
 use Rattle.live_log.specs.Log.{Has}
 use Rattle.live_table.specs.Rights.{count_in}
