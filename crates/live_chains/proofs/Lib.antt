@@ -1,0 +1,4 @@
+pub mod Writers
+pub mod Holding
+pub mod Reading
+pub mod Splices
