@@ -2,3 +2,4 @@ pub mod Writers
 pub mod Holding
 pub mod Reading
 pub mod Splices
+pub mod After

@@ -1,5 +1,5 @@
 -- The loads of heads, links and payload words.
-use Rattle.std.proofs.Common.{◌≡◌, ◌≢◌, ◌⊎◌, ℕ, ◌+◌, ◌-◌, ◌*◌, ◌%◌, ◌/◌, ◌<◌, ◌≤◌, List, [], ◌∷◌, Bool, true, false, length, get_or, set, sym, refl, ap, ◌∙◌, subst, inl, inr, ⊎_elim, arith, Option, Some, None}
+use Rattle.std.proofs.Common.{◌≡◌, ℕ, ◌+◌, ◌<◌, List, Bool, get_or, set, sym, refl, ap, ◌∙◌, subst, ⊎_elim, Option, Some}
 use mathlib.Core.Option as lists
 use lib.ListN.{get_elem?}
 use Rattle.atomic_table.specs.Table.{State, Me, step, keeps, Allows}
@@ -12,22 +12,22 @@ use Rattle.live_log.specs.Log.{Log, state_of, note_of, open_of, section, WasLink
 use Rattle.live_log.proofs.Lemmas.{kept_log, protected, open_inside}
 use Rattle.live_log.proofs.Lemmas.{last_opened}
 use Rattle.live_log.proofs.Lemmas.{note_stays, run_of, was_later, was_used, next_linked, linked_here}
-use Rattle.live_log.proofs.Lemmas.{first_used, next_there, some_next}
+use Rattle.live_log.proofs.Lemmas.{first_used, some_next}
 use Rattle.live_rule.specs.declared.view.Sizes.{Sizes}
 use Rattle.live_rule.specs.declared.view.View.{View}
 use Rattle.live_rule.specs.declared.rights.SlotRight.{SlotRight}
 use Rattle.live_rule.specs.declared.rights.SlotRight.TheVariants as slot_right
-use Rattle.live_rule.specs.declared.rights.ChainRight.{ChainRight}
 use Rattle.live_rule.specs.Places.{head_at, note_at, cell_at}
 use Rattle.live_rule.specs.Readers.{Fits}
 use Rattle.live_rule.specs.Objects.{ref, IsAlive}
-use Rattle.live_rule.specs.Rights.{slot, chain, KnowsSlot, ClaimsSlot}
+use Rattle.live_rule.specs.Rights.{slot, KnowsSlot, ClaimsSlot}
 use Rattle.live_rule.specs.Rule.{KeepsRule}
 use Rattle.live_rule.proofs.Lemmas.{looks, look_all}
 use Rattle.live_table.specs.Rights.{word_in, count_in, own_in, IsWriter, IsListed}
 use Rattle.live_table.specs.Steps.{Went}
-use Rattle.live_chains.specs.Chains.{IsInSection, MayRead, KnowsChains, looked_head, looked_link, looked_word, looked_note}
-use Rattle.live_chains.proofs.Writers.{all_known, knows_own, here, note_now, alive_linked}
+use Rattle.live_chains.specs.Chains.{IsInSection, MayRead, looked_head, looked_link, looked_word, looked_note}
+use Rattle.live_table.proofs.Lemmas.{knows_own, here, alive_linked, lows, goes_on}
+use Rattle.live_chains.proofs.Writers.{note_now}
 
 open_fits : (b : Bool) (w : ℕ) (o : lists.Option (ℕ × ℕ)) → Fits b w o → (Fits b w lists.none → ⊥) → (x : ℕ × ℕ) × (o ≡ lists.some x)
 open_fits b w lists.none f z = absurd (z f)
@@ -55,22 +55,13 @@ module _ {S : Type 0} (qsbr : Bool) (allows : Log → LiveEvent → Type 0) (key
     readable : (o : ObjectId) (i : ℕ) → MayRead qsbr v o i → IsAlive (objects_of r.log) o × (note_of r.log o ≡ note_of v.seen o) × ((note_of r.log o).0 ≡ i)
     readable o i may = ⊎_elim
         (λ (m : (q : ℕ) × (n : ℕ) × IsInSection qsbr v q n × WasLinked (section q n) o v.seen).
-            let b = (r.seen id v at).0 in
-            let note = note_stays qsbr allows v.seen r.log o b r.run (was_used qsbr allows v.seen (section m.0 m.1) o (run_of qsbr allows v.seen r.log b r.run) m.3) in
-            (held_alive m.0 m.1 o m.2 (was_later v.seen r.log (section m.0 m.1) o b m.3), note, ap (λ (z : ℕ × List ℕ). z.0) note ∙ may.0))
+        let b = (r.seen id v at).0 in
+        let note = note_stays qsbr allows v.seen r.log o b r.run (was_used qsbr allows v.seen (section m.0 m.1) o (run_of qsbr allows v.seen r.log b r.run) m.3) in
+        (held_alive m.0 m.1 o m.2 (was_later v.seen r.log (section m.0 m.1) o b m.3), note, ap (λ (z : ℕ × List ℕ). z.0) note ∙ may.0))
         (λ (m : IsWriter v × IsListed v × In (own_in v.chains).objects o).
-            let note = note_now qsbr allows key s r id v at m.0 m.1 o m.2 in
-            (alive_linked qsbr allows r.log (own_in v.chains).chain o r.run (here qsbr allows key s r id v at m.0 o m.2), note, ap (λ (z : ℕ × List ℕ). z.0) note ∙ may.0))
+        let note = note_now qsbr allows key s r id v at m.0 m.1 o m.2 in
+        (alive_linked qsbr allows r.log (own_in v.chains).chain o r.run (here qsbr allows key s r id v at m.0 o m.2), note, ap (λ (z : ℕ × List ℕ). z.0) note ∙ may.0))
         may.1
-
-    lows : v.sizes ≡ key → (o : ObjectId) → IsAlive (objects_of r.log) o → (note_of r.log o).0 < v.sizes.pool
-    lows sizes o alive = subst (λ (k : Sizes). (note_of r.log o).0 < k.pool) (sym sizes) (r.agree.heap.low o alive)
-
-    goes_on : v.sizes ≡ key → KnowsChains v (record v { seen = r.log })
-    goes_on sizes = (all_known qsbr key r.log s.words v.chains (λ c. r.knows (chain c) id v at),
-      λ own. let k = knows_own qsbr allows key s r id v at own in
-          ((k.3, sym k.2 ∙ (r.agree.heap.leads (head (own_in v.chains).chain) k.0 (first_of ((objects_of r.log).chain (own_in v.chains).chain)) refl ∙ ap (λ (l : List ObjectId). ref (objects_of r.log) (first_of l)) k.3)),
-            λ o h. lows sizes o (alive_linked qsbr allows r.log (own_in v.chains).chain o r.run (here qsbr allows key s r id v at own o h))))
 
     went : (m : List (ℕ × S)) → Went {S = S} qsbr allows v (v, m) (record v { seen = r.log }, m)
     went m = let b = r.seen id v at in (refl, refl, (b.0, b.1, r.run))
@@ -81,29 +72,54 @@ module _ {S : Type 0} (qsbr : Bool) (allows : Log → LiveEvent → Type 0) (key
 
   pub looks_head : (slots id : ℕ) (me : Me S View) (a : ℕ) → me.0.sizes ≡ key → Allows Rule slots id me a (λ n. n) (looked_head qsbr allows (step slots a 0 0 lists.none) me)
   looks_head slots id me a sizes s r deep at fits = (
-    record me.0 { seen = r.log }, keeps, tt, loaded s r id me.0 at a,
-    (went s r id me.0 at me.1, goes_on s r id me.0 at sizes, inside s r id me.0 at, λ c low same.
-      let same' : a ≡ head_at key c = same ∙ ap (λ (k : Sizes). head_at k c) sizes in
-      let low' : c < key.chains = subst (λ (k : Sizes). c < k.chains) sizes low in
-      (ap (λ i. get_or s.words i 0) same' ∙ r.agree.heap.leads (head c) low' (first_of ((objects_of r.log).chain c)) refl,
-        λ o f. lows s r id me.0 at sizes o (first_used qsbr allows r.log c o r.run f, linked_here qsbr allows r.log c o r.run f))),
+    record me.0 { seen = r.log },
+    keeps,
+    tt,
+    loaded s r id me.0 at a,
+    (
+      went s r id me.0 at me.1,
+      goes_on qsbr allows key s r id me.0 at sizes,
+      inside s r id me.0 at,
+      λ c low same.
+          let same' : a ≡ head_at key c = same ∙ ap (λ (k : Sizes). head_at k c) sizes in
+          let low' : c < key.chains = subst (λ (k : Sizes). c < k.chains) sizes low in (
+            ap (λ i. get_or s.words i 0) same' ∙ r.agree.heap.leads (head c) low' (first_of ((objects_of r.log).chain c)) refl,
+            λ o f. lows qsbr allows key s r id me.0 at sizes o (first_used qsbr allows r.log c o r.run f, linked_here qsbr allows r.log c o r.run f),
+          ),
+    ),
   )
 
   pub looks_note : (slots id : ℕ) (me : Me S View) (a : ℕ) → me.0.sizes ≡ key → Allows Rule slots id me a (λ n. n) (looked_note qsbr allows (step slots a 0 0 lists.none) me)
   looks_note slots id me a sizes s r deep at fits = (
-    record me.0 { seen = r.log }, keeps, tt, loaded s r id me.0 at a,
-    (went s r id me.0 at me.1, goes_on s r id me.0 at sizes, inside s r id me.0 at, λ c low same.
-      let same' : a ≡ note_at key c = same ∙ ap (λ (k : Sizes). note_at k c) sizes in
-      ap (λ i. get_or s.words i 0) same' ∙ r.agree.lines.notes c (subst (λ (k : Sizes). c < k.chains) sizes low)),
+    record me.0 { seen = r.log },
+    keeps,
+    tt,
+    loaded s r id me.0 at a,
+    (
+      went s r id me.0 at me.1,
+      goes_on qsbr allows key s r id me.0 at sizes,
+      inside s r id me.0 at,
+      λ c low same.
+          let same' : a ≡ note_at key c = same ∙ ap (λ (k : Sizes). note_at k c) sizes in
+          ap (λ i. get_or s.words i 0) same' ∙ r.agree.lines.notes c (subst (λ (k : Sizes). c < k.chains) sizes low),
+    ),
   )
 
   pub looks_word : (slots id : ℕ) (me : Me S View) (a : ℕ) → me.0.sizes ≡ key → Allows Rule slots id me a (λ n. n) (looked_word qsbr allows (step slots a 0 0 lists.none) me)
   looks_word slots id me a sizes s r deep at fits = (
-    record me.0 { seen = r.log }, keeps, tt, loaded s r id me.0 at a,
-    (went s r id me.0 at me.1, goes_on s r id me.0 at sizes, inside s r id me.0 at, λ o i j may four same.
-      let h = readable s r id me.0 at o i may in
-      let same' : a ≡ cell_at key i (j + 2) = same ∙ ap (λ (k : Sizes). cell_at k i (j + 2)) sizes in
-      ap (λ i. get_or s.words i 0) same' ∙ (subst (λ (z : ℕ). get_or s.words (cell_at key z (j + 2)) 0 ≡ get_or (note_of r.log o).1 j 0) h.2 (r.agree.heap.payload o h.0 j four) ∙ ap (λ (z : ℕ × List ℕ). get_or z.1 j 0) h.1)),
+    record me.0 { seen = r.log },
+    keeps,
+    tt,
+    loaded s r id me.0 at a,
+    (
+      went s r id me.0 at me.1,
+      goes_on qsbr allows key s r id me.0 at sizes,
+      inside s r id me.0 at,
+      λ o i j may four same.
+          let h = readable s r id me.0 at o i may in
+          let same' : a ≡ cell_at key i (j + 2) = same ∙ ap (λ (k : Sizes). cell_at k i (j + 2)) sizes in
+          ap (λ i. get_or s.words i 0) same' ∙ (subst (λ (z : ℕ). get_or s.words (cell_at key z (j + 2)) 0 ≡ get_or (note_of r.log o).1 j 0) h.2 (r.agree.heap.payload o h.0 j four) ∙ ap (λ (z : ℕ × List ℕ). get_or z.1 j 0) h.1),
+    ),
   )
 
   -- what follows an object that may be read
@@ -115,9 +131,9 @@ module _ {S : Type 0} (qsbr : Bool) (allows : Log → LiveEvent → Type 0) (key
     own_next : IsWriter v → In (own_in v.chains).objects o → found ≡ next_of (own_in v.chains).objects o
     own_next own h = ⊎_elim
         (λ (l : (c : ℕ) × In ((objects_of r.log).chain c) o × (next_of ((objects_of r.log).chain c) o ≡ found)).
-            let k = knows_own qsbr allows key s r id v at own in
-            let e : l.0 ≡ (own_in v.chains).chain = (kept_log qsbr allows r.log r.run).linking.one_chain l.0 (own_in v.chains).chain o l.1 (here qsbr allows key s r id v at own o h) in
-            sym l.2 ∙ (ap (λ (n : ℕ). next_of ((objects_of r.log).chain n) o) e ∙ ap (λ (z : List ObjectId). next_of z o) k.3))
+        let k = knows_own qsbr allows key s r id v at own in
+        let e : l.0 ≡ (own_in v.chains).chain = (kept_log qsbr allows r.log r.run).linking.one_chain l.0 (own_in v.chains).chain o l.1 (here qsbr allows key s r id v at own o h) in
+        sym l.2 ∙ (ap (λ (n : ℕ). next_of ((objects_of r.log).chain n) o) e ∙ ap (λ (z : List ObjectId). next_of z o) k.3))
         (λ l. absurd ((kept_log qsbr allows r.log r.run).linking.linked_not_cut (own_in v.chains).chain o (here qsbr allows key s r id v at own o h) l.0))
         next
 
@@ -126,17 +142,30 @@ module _ {S : Type 0} (qsbr : Bool) (allows : Log → LiveEvent → Type 0) (key
     next_alive m f = ⊎_elim
         (λ (x : (q : ℕ) × (n : ℕ) × IsInSection qsbr v q n × WasLinked (section q n) o v.seen). held_alive s r id v at x.0 x.1 m x.2 (held_next x.0 x.1 m x.2 x.3 f))
         (λ (x : IsWriter v × IsListed v × In (own_in v.chains).objects o).
-            alive_linked qsbr allows r.log (own_in v.chains).chain m r.run (here qsbr allows key s r id v at x.0 m (follows_has (own_in v.chains).objects (Some o) m (sym (own_next x.0 x.2) ∙ f))))
+        alive_linked qsbr allows r.log (own_in v.chains).chain m r.run (here qsbr allows key s r id v at x.0 m (follows_has (own_in v.chains).objects (Some o) m (sym (own_next x.0 x.2) ∙ f))))
         may.1
 
   pub looks_link : (slots id : ℕ) (me : Me S View) (a : ℕ) → me.0.sizes ≡ key → Allows Rule slots id me a (λ n. n) (looked_link qsbr allows (step slots a 0 0 lists.none) me)
   looks_link slots id me a sizes s r deep at fits = (
-    record me.0 { seen = r.log }, keeps, tt, loaded s r id me.0 at a,
-    (went s r id me.0 at me.1, goes_on s r id me.0 at sizes, inside s r id me.0 at, λ o i may same.
-      let h = readable s r id me.0 at o i may in
-      let same' : a ≡ cell_at key i 1 = same ∙ ap (λ (k : Sizes). cell_at k i 1) sizes in
-      let next = some_next qsbr allows r.log o r.run h.0.0 in
-      (next.0, (next.1, ap (λ z. get_or s.words z 0) same' ∙ subst (λ (z : ℕ). get_or s.words (cell_at key z 1) 0 ≡ ref (objects_of r.log) next.0) h.2 (r.agree.heap.leads (link o) h.0 next.0 next.1),
-        (λ m f. (lows s r id me.0 at sizes m (next_alive s r id me.0 at sizes o i may next.0 next.1 m f), λ q n stands was. held_next s r id me.0 at sizes o i may next.0 next.1 q n m stands was f)),
-        own_next s r id me.0 at sizes o i may next.0 next.1))),
+    record me.0 { seen = r.log },
+    keeps,
+    tt,
+    loaded s r id me.0 at a,
+    (
+      went s r id me.0 at me.1,
+      goes_on qsbr allows key s r id me.0 at sizes,
+      inside s r id me.0 at,
+      λ o i may same.
+          let h = readable s r id me.0 at o i may in
+          let same' : a ≡ cell_at key i 1 = same ∙ ap (λ (k : Sizes). cell_at k i 1) sizes in
+          let next = some_next qsbr allows r.log o r.run h.0.0 in (
+            next.0,
+            (
+              next.1,
+              ap (λ z. get_or s.words z 0) same' ∙ subst (λ (z : ℕ). get_or s.words (cell_at key z 1) 0 ≡ ref (objects_of r.log) next.0) h.2 (r.agree.heap.leads (link o) h.0 next.0 next.1),
+              (λ m f. (lows qsbr allows key s r id me.0 at sizes m (next_alive s r id me.0 at sizes o i may next.0 next.1 m f), λ q n stands was. held_next s r id me.0 at sizes o i may next.0 next.1 q n m stands was f)),
+              own_next s r id me.0 at sizes o i may next.0 next.1,
+            ),
+          ),
+    ),
   )

@@ -1,5 +1,5 @@
 -- What the writer of a chain knows of it at a step, and the one step of a push, a replacement and a cut.
-use Rattle.std.proofs.Common.{◌≡◌, ◌≢◌, ◌⊎◌, ℕ, ◌+◌, ◌*◌, ◌/◌, ◌<◌, ◌≤◌, List, [], ◌∷◌, Bool, length, get_or, set, sym, refl, ap, ◌∙◌, subst, inl, inr, ⊎_elim, arith, get_or-set_other, get_or-set_same, Option, Some, None}
+use Rattle.std.proofs.Common.{◌≡◌, ◌≢◌, ◌⊎◌, ℕ, ◌+◌, ◌/◌, ◌<◌, ◌≤◌, List, ◌∷◌, Bool, length, get_or, set, sym, refl, ap, ◌∙◌, subst, inl, inr, ⊎_elim, arith, get_or-set_other, get_or-set_same, Option, Some, None}
 use Rattle.std.specs.Option.{option_or}
 use Rattle.std.specs.Prelude.{IfSome}
 use mathlib.Core.Logic.{dite}
@@ -8,12 +8,11 @@ use native.Mathlib.Decide.{ℕ_discrete}
 use lib.ListN.{get_elem?}
 use Rattle.atomic_table.specs.Table.{State}
 use Rattle.rcu_model.specs.declared.event.ObjectId.{ObjectId}
-use Rattle.rcu_model.specs.Sets.{In, IsPlace, follows, first_of, next_of}
-use Rattle.rcu_model.proofs.Lemmas.{some_is, none_some, follows_has}
+use Rattle.rcu_model.specs.Sets.{In, IsPlace, first_of}
 use Rattle.live_log.specs.declared.event.LiveEvent.{LiveEvent}
 use Rattle.live_log.specs.declared.event.LiveEvent.TheVariants.{Object}
 use Rattle.live_log.specs.declared.event.ObjectEvent.{ObjectEvent}
-use Rattle.live_log.specs.Log.{Log, state_of, note_of, chain_note, closed_of, line_of, IsLiveRun, Begins, Objects, objects_of, Spot, head, link, spot_of, Leads}
+use Rattle.live_log.specs.Log.{Log, state_of, note_of, IsLiveRun, Objects, objects_of, Spot, head, link, spot_of, Leads}
 use Rattle.live_log.proofs.Lemmas.{kept_log}
 use Rattle.live_log.proofs.Lemmas.{note_stays, run_of}
 use Rattle.live_log.proofs.Lemmas.{chain_used, first_used, next_used}
@@ -24,16 +23,18 @@ use Rattle.live_rule.specs.declared.rights.ChainRight.{ChainRight}
 use Rattle.live_rule.specs.declared.rights.RecordRight.{RecordRight}
 use Rattle.live_rule.specs.declared.rights.RecordRight.TheVariants as record_right
 use Rattle.live_rule.specs.Places.{chains_from, head_at, hold_at, note_at, queued_at, closed_at, finished_at, work_at, last_at, cell_at, words_of}
-use Rattle.live_rule.specs.Objects.{ref, IsAlive, IsLive, spot_at, IsPayload, Header, ObjectWords, QueueWords}
-use Rattle.live_rule.specs.Rights.{Thing, chain, object, ClaimsChain, ClaimsObject, KnowsOwned, KnowsChain, KnowsObject}
+use Rattle.live_rule.specs.Objects.{ref, IsLive, spot_at, IsPayload, Header}
+use Rattle.live_rule.specs.Rights.{object, ClaimsChain, ClaimsObject, KnowsOwned, KnowsChain, KnowsObject}
 use Rattle.live_rule.specs.Seats.{lent_chains}
 use Rattle.live_rule.specs.Rule.{KeepsRule}
 use Rattle.live_rule.proofs.Lemmas.{Unclaimed}
-use Rattle.live_rule.proofs.Lemmas.{calm_object, SameChain, chain_part, ref_same, lines_far, guards_far}
+use Rattle.live_rule.proofs.Lemmas.{calm_object, SameChain, chain_part, lines_far, guards_far}
 use Rattle.live_rule.proofs.Lemmas.{Enters, heap_spliced, same_object_moved, free_cell, same_spot}
-use Rattle.live_rule.proofs.Lemmas.{PartStep, ChainStep, ObjectStep, object_stays, queues_kept, works_kept, knew_chain, stores}
+use Rattle.live_rule.proofs.Lemmas.{object_stays, queues_kept, works_kept, stores}
 use Rattle.live_table.specs.Rights.{own_in, IsWriter, IsListed}
-use Rattle.live_chains.specs.Chains.{AreAsKnown, IsThere, place_at, place_index, head_after}
+use Rattle.live_table.proofs.Lemmas as writer
+use Rattle.live_table.proofs.Lemmas.{alive_linked, unclaimed}
+use Rattle.live_chains.specs.Chains.{IsThere, place_at, place_index, head_after}
 
 pub spot_of_is : (c : ℕ) (p q : Option ObjectId) → spot_of c p ≡ spot_of c q → p ≡ q
 spot_of_is c None None e = refl
@@ -49,29 +50,15 @@ pub follower_used : (qsbr : Bool) (allows : Log → LiveEvent → Type 0) (log :
 follower_used qsbr allows log o found run (inl l) = (kept_log qsbr allows log run).linking.linked_used l.0 o l.1
 follower_used qsbr allows log o found run (inr k) = (kept_log qsbr allows log run).linking.cut_used o k.0
 
--- a linked object is alive
-pub alive_linked : (qsbr : Bool) (allows : Log → LiveEvent → Type 0) (log : Log) (c : ℕ) (o : ObjectId) → IsLiveRun qsbr allows log → In ((state_of log).chain c) o → IsAlive (objects_of log) o
-alive_linked qsbr allows log c o run h = let k = kept_log qsbr allows log run in (k.linking.linked_used c o h, λ b. k.linking.linked_not_cut c o h (k.linking.retired_cut o (k.run o b).0))
-
--- nothing is said of a chain that is not claimed
-pub unclaimed : (qsbr : Bool) (key : Sizes) (log : Log) (words : List ℕ) (c : ℕ) (xs : List ChainRight) → ¬ ClaimsChain xs c → KnowsChain qsbr key log words xs c
-unclaimed qsbr key log words c [] none = tt
-unclaimed qsbr key log words c (x ∷ xs) none = ((λ e. absurd (none (inl e))), unclaimed qsbr key log words c xs (λ h. none (inr h)))
-
--- each chain of a seat is in the log as the seat knows it
-pub all_known : (qsbr : Bool) (key : Sizes) (log : Log) (words : List ℕ) (xs : List ChainRight) → ((c : ℕ) → ClaimsChain xs c → KnowsChain qsbr key log words xs c) → AreAsKnown log xs
-all_known qsbr key log words [] known = tt
-all_known qsbr key log words (x ∷ xs) known = let o = ((known x.chain (inl refl)).0 refl).0 in ((o.3, o.4), all_known qsbr key log words xs (λ c h. (known c (inr h)).1))
-
 module _ {S : Type 0} (qsbr : Bool) (allows : Log → LiveEvent → Type 0) (key : Sizes) (s : State S View) (r : KeepsRule qsbr allows key s) (id : ℕ) (v : View) (at : get_elem? s.views id ≡ lists.some v) (own : IsWriter v) where
-  pub claims_own : (e : ℕ) → (own_in v.chains).chain ≡ e → ClaimsChain v.chains e
-  claims_own e is = subst (λ (l : List ChainRight). ClaimsChain l e) (sym own) (inl is)
+  claims_own : (e : ℕ) → (own_in v.chains).chain ≡ e → ClaimsChain v.chains e
+  claims_own = writer.claims_own qsbr allows key s r id v at own
 
-  pub knows_first : (e : ℕ) → ClaimsChain v.chains e → KnowsChain qsbr key r.log s.words (own_in v.chains ∷ lent_chains v.chains) e
-  knows_first e claim = subst (λ (l : List ChainRight). KnowsChain qsbr key r.log s.words l e) own (r.knows (chain e) id v at claim)
+  knows_own : KnowsOwned qsbr key r.log s.words (own_in v.chains)
+  knows_own = writer.knows_own qsbr allows key s r id v at own
 
-  pub knows_own : KnowsOwned qsbr key r.log s.words (own_in v.chains)
-  knows_own = ((knows_first (own_in v.chains).chain (claims_own (own_in v.chains).chain refl)).0 refl).0
+  here : (o : ObjectId) → In (own_in v.chains).objects o → In ((state_of r.log).chain (own_in v.chains).chain) o
+  here = writer.here qsbr allows key s r id v at own
 
   -- the seat's chains, where its own one changes and the others stay
   pub own_changes : (log' : Log) (words' : List ℕ) (x : ChainRight) → x.chain ≡ (own_in v.chains).chain → KnowsOwned qsbr key log' words' x
@@ -79,14 +66,12 @@ module _ {S : Type 0} (qsbr : Bool) (allows : Log → LiveEvent → Type 0) (key
       → (e : ℕ) → ClaimsChain (x ∷ lent_chains v.chains) e → KnowsChain qsbr key log' words' (x ∷ lent_chains v.chains) e × ClaimsChain v.chains e
   own_changes log' words' x same known far e claim =
       let claims : ClaimsChain v.chains e = subst (λ (l : List ChainRight). ClaimsChain l e) (sym own) (⊎_elim (λ (h : x.chain ≡ e). inl (sym same ∙ h)) inr claim) in
-      let k = knows_first e claims in
-      (dite (ℕ_discrete e (own_in v.chains).chain)
-          (λ is. let o = k.0 (sym is) in ((λ _. (known, o.1)), unclaimed qsbr key log' words' e (lent_chains v.chains) o.1))
-          (λ ne. ((λ h. absurd (ne (sym h ∙ same))), chain_part qsbr key r.log log' s.words words' (lent_chains v.chains) e (λ low. far e low ne) k.1)),
-        claims)
-
-  pub here : (o : ObjectId) → In (own_in v.chains).objects o → In ((state_of r.log).chain (own_in v.chains).chain) o
-  here o h = subst (λ (l : List ObjectId). In l o) (sym knows_own.3) h
+      let k = writer.knows_first qsbr allows key s r id v at own e claims in (
+        dite (ℕ_discrete e (own_in v.chains).chain)
+            (λ is. let o = k.0 (sym is) in ((λ _. (known, o.1)), unclaimed qsbr key log' words' e (lent_chains v.chains) o.1))
+            (λ ne. ((λ h. absurd (ne (sym h ∙ same))), chain_part qsbr key r.log log' s.words words' (lent_chains v.chains) e (λ low. far e low ne) k.1)),
+        claims,
+      )
 
   -- nobody has the right to a linked object
   pub linked_free : (o : ObjectId) → In (own_in v.chains).objects o → Unclaimed key s.views id (object o)
@@ -135,7 +120,8 @@ module _ {S : Type 0} (qsbr : Bool) (allows : Log → LiveEvent → Type 0) (key
     header = subst (λ (z : ℕ × List ℕ). Header now o (get_or s.words (cell_at key z.0 0) 0)) (sym note) (record {
       half = half;
       fresh = λ _. k.4;
-      retired = λ t. let u = kept_log qsbr allows r.log r.run in absurd (k.0 (u.linking.cut_used o (u.linking.retired_cut o (subst (λ (z : List ObjectId). In z o) retired t)))) });
+      retired = λ t. let u = kept_log qsbr allows r.log r.run in absurd (k.0 (u.linking.cut_used o (u.linking.retired_cut o (subst (λ (z : List ObjectId). In z o) retired t))));
+    });
     link = subst (λ (z : ℕ × List ℕ). get_or s.words (cell_at key z.0 1) 0 ≡ ref now next) (sym note) (k.5 ∙ e);
     payload = subst (λ (z : ℕ × List ℕ). IsPayload key s.words z.0 z.1) (sym note) k.7;
   }
@@ -162,23 +148,26 @@ module _ {S : Type 0} (qsbr : Bool) (allows : Log → LiveEvent → Type 0) (key
         let far : (e : ℕ) → e < key.chains → e ≢ c → SameChain key r.log log s.words (set s.words a x) e = λ e low ne. (get_or-set_other s.words a (hold_at key e) x 0 (no_hold p e low), get_or-set_other s.words a (head_at key e) x 0 (no_head p e low ne), moved.else e ne, refl) in
         let hold : get_or (set s.words a x) (hold_at key c) 0 ≡ 1 = get_or-set_other s.words a (hold_at key c) x 0 (no_hold p c knows_own.0) ∙ knows_own.1 in
         let last : get_or (set s.words a x) (last_at key) 0 ≡ get_or s.words (last_at key) 0 = get_or-set_other s.words a (last_at key) x 0 (no_last p knows_own.0) in
-        let heap = heap_spliced key (objects_of r.log) (objects_of log) s.words c p next leaves enters x moved still (λ t o f. leads_used qsbr allows r.log t o r.run f) (λ o found f. follower_used qsbr allows r.log o found r.run f) (λ m e. (entering m e).0) knows_own.0 live stored r.agree.heap inside in
-        (stores qsbr allows key s r id a x v w log at (calm_object d r.log) run (above p) same heap
-          (lines_far key r.log log s.words (set s.words a x) (λ e low. (get_or-set_other s.words a (note_at key e) x 0 (no_note p e low), refl))
-            (λ q low. (get_or-set_other s.words a (queued_at key q) x 0 (no_queue p q 0 _ low (omega arith) (omega arith)), get_or-set_other s.words a (closed_at key q) x 0 (no_queue p q 1 _ low (omega arith) (omega arith)), get_or-set_other s.words a (finished_at key q) x 0 (no_queue p q 16 _ low (omega arith) (omega arith))))
-            (λ q. (ap (λ f. f q) moved.line, refl)) (λ o b. subst (λ (z : List ObjectId). In z o) (sym moved.reclaimed) b) r.agree.lines)
-          (guards_far key s.words (set s.words a x) (λ e low. get_or-set_other s.words a (hold_at key e) x 0 (no_hold p e low)) (λ q low. get_or-set_other s.words a (work_at key q) x 0 (no_queue p q 17 _ low (omega arith) (omega arith))) r.agree.holds)
-          (record {
-            others = λ e y claim ne kn. chain_part qsbr key r.log log s.words (set s.words a x) y e (λ low. far e low (λ is. ne (claims_own e (sym is)))) kn;
-            mine = λ e claim. let m = own_changes log (set s.words a x) (record (own_in v.chains) { head = h'; objects = os' }) refl (knows_own.0, hold, head_is, list, knows_own.4) far e (subst (λ (l : List ChainRight). ClaimsChain l e) owns claim) in
-                (subst (λ (l : List ChainRight). KnowsChain qsbr key log (set s.words a x) l e) (sym owns) m.0, inl m.1) })
-          (record {
-            others = λ o y claim ne kn. object_stays qsbr allows key s r id a x v w log at (no_less last) y o claim (same_object_moved key (objects_of r.log) (objects_of log) s.words c p next leaves enters x moved still (λ t q f. leads_used qsbr allows r.log t q r.run f) (λ q found f. follower_used qsbr allows r.log q found r.run f) (λ m e. (entering m e).0) knows_own.0 live stored r.agree.heap o (λ e. ne (entering o e).1))
-              (λ i _ fresh header n l. free_cell key (objects_of r.log) (objects_of log) s.words c p next leaves enters x moved still (λ t q f. leads_used qsbr allows r.log t q r.run f) (λ q found f. follower_used qsbr allows r.log q found r.run f) (λ m e. (entering m e).0) knows_own.0 live stored r.agree.heap i o fresh header n l) kn;
-            mine = mine })
-          (queues_kept qsbr allows key s r id a x v w log at other.0 (λ q low. (get_or-set_other s.words a (queued_at key q) x 0 (no_queue p q 0 _ low (omega arith) (omega arith)), get_or-set_other s.words a (closed_at key q) x 0 (no_queue p q 1 _ low (omega arith) (omega arith)))))
-          (works_kept qsbr allows key s r id a x v w log at other.1 (λ q low. (get_or-set_other s.words a (work_at key q) x 0 (no_queue p q 17 _ low (omega arith) (omega arith)), get_or-set_other s.words a (finished_at key q) x 0 (no_queue p q 16 _ low (omega arith) (omega arith))))),
-        sym head_is ∙ (heap.leads (head c) knows_own.0 (first_of ((objects_of log).chain c)) refl ∙ ap (λ (l : List ObjectId). ref (objects_of log) (first_of l)) list))
+        let heap = heap_spliced key (objects_of r.log) (objects_of log) s.words c p next leaves enters x moved still (λ t o f. leads_used qsbr allows r.log t o r.run f) (λ o found f. follower_used qsbr allows r.log o found r.run f) (λ m e. (entering m e).0) knows_own.0 live stored r.agree.heap inside in (
+          stores qsbr allows key s r id a x v w log at (calm_object d r.log) run (above p) same heap
+              (lines_far key r.log log s.words (set s.words a x) (λ e low. (get_or-set_other s.words a (note_at key e) x 0 (no_note p e low), refl))
+              (λ q low. (get_or-set_other s.words a (queued_at key q) x 0 (no_queue p q 0 _ low (omega arith) (omega arith)), get_or-set_other s.words a (closed_at key q) x 0 (no_queue p q 1 _ low (omega arith) (omega arith)), get_or-set_other s.words a (finished_at key q) x 0 (no_queue p q 16 _ low (omega arith) (omega arith))))
+              (λ q. (ap (λ f. f q) moved.line, refl)) (λ o b. subst (λ (z : List ObjectId). In z o) (sym moved.reclaimed) b) r.agree.lines)
+              (guards_far key s.words (set s.words a x) (λ e low. get_or-set_other s.words a (hold_at key e) x 0 (no_hold p e low)) (λ q low. get_or-set_other s.words a (work_at key q) x 0 (no_queue p q 17 _ low (omega arith) (omega arith))) r.agree.holds)
+              (record {
+                others = λ e y claim ne kn. chain_part qsbr key r.log log s.words (set s.words a x) y e (λ low. far e low (λ is. ne (claims_own e (sym is)))) kn;
+                mine = λ e claim. let m = own_changes log (set s.words a x) (record (own_in v.chains) { head = h'; objects = os' }) refl (knows_own.0, hold, head_is, list, knows_own.4) far e (subst (λ (l : List ChainRight). ClaimsChain l e) owns claim) in
+                    (subst (λ (l : List ChainRight). KnowsChain qsbr key log (set s.words a x) l e) (sym owns) m.0, inl m.1);
+              })
+              (record {
+                others = λ o y claim ne kn. object_stays qsbr allows key s r id a x v w log at (no_less last) y o claim (same_object_moved key (objects_of r.log) (objects_of log) s.words c p next leaves enters x moved still (λ t q f. leads_used qsbr allows r.log t q r.run f) (λ q found f. follower_used qsbr allows r.log q found r.run f) (λ m e. (entering m e).0) knows_own.0 live stored r.agree.heap o (λ e. ne (entering o e).1))
+                    (λ i _ fresh header n l. free_cell key (objects_of r.log) (objects_of log) s.words c p next leaves enters x moved still (λ t q f. leads_used qsbr allows r.log t q r.run f) (λ q found f. follower_used qsbr allows r.log q found r.run f) (λ m e. (entering m e).0) knows_own.0 live stored r.agree.heap i o fresh header n l) kn;
+                mine = mine;
+              })
+              (queues_kept qsbr allows key s r id a x v w log at other.0 (λ q low. (get_or-set_other s.words a (queued_at key q) x 0 (no_queue p q 0 _ low (omega arith) (omega arith)), get_or-set_other s.words a (closed_at key q) x 0 (no_queue p q 1 _ low (omega arith) (omega arith)))))
+              (works_kept qsbr allows key s r id a x v w log at other.1 (λ q low. (get_or-set_other s.words a (work_at key q) x 0 (no_queue p q 17 _ low (omega arith) (omega arith)), get_or-set_other s.words a (finished_at key q) x 0 (no_queue p q 16 _ low (omega arith) (omega arith))))),
+          sym head_is ∙ (heap.leads (head c) knows_own.0 (first_of ((objects_of log).chain c)) refl ∙ ap (λ (l : List ObjectId). ref (objects_of log) (first_of l)) list),
+        )
       where
         w0 : Objects
         w0 = objects_of r.log

@@ -1,6 +1,5 @@
 -- What each step on a chain asks and tells.
-use Rattle.std.specs.Prelude.{◌≡◌, ◌≢◌, ◌⊎◌, ℕ, ◌+◌, ◌<◌, ◌≤◌, List, [], ◌∷◌, slice_index_or, Option, Some, None, Bool}
-use mathlib.Core.Option as lists
+use Rattle.std.specs.Prelude.{◌≡◌, ◌≢◌, ◌⊎◌, ℕ, ◌+◌, ◌<◌, ◌∷◌, slice_index_or, Option, Some, None, Bool}
 use Rattle.atomic_table.specs.Table.{Me, Step}
 use Rattle.rcu_model.specs.declared.event.ObjectId.{ObjectId}
 use Rattle.rcu_model.specs.Machine.{IsAllowed, IsOpen}
@@ -17,16 +16,8 @@ use Rattle.live_rule.specs.Places.{head_at, hold_at, note_at, cell_at}
 use Rattle.live_rule.specs.Objects.{ref, spot_at}
 use Rattle.live_rule.specs.Readers.{IsClosed}
 use Rattle.live_rule.specs.Seats.{lent_chains}
-use Rattle.live_table.specs.Rights.{IsOwner, word_in, count_in, own_in, IsWriter, IsListed, cell_in, object_in, payload_in}
+use Rattle.live_table.specs.Rights.{IsOwner, word_in, count_in, own_in, IsWriter, IsListed, IsAsKnown, AreAsKnown, KnowsChains, cell_in, object_in, payload_in}
 use Rattle.live_table.specs.Steps.{Went, Did, looked_view}
-
--- the chain is in the log as the seat knows it
-abbrev pub IsAsKnown : Log → ChainRight → Type 0
-IsAsKnown log x = ((objects_of log).chain x.chain ≡ x.objects) × (chain_note x.chain log ≡ x.note)
-
-abbrev pub AreAsKnown : Log → List ChainRight → Type 0
-AreAsKnown log [] = Unit {0}
-AreAsKnown log (x ∷ xs) = IsAsKnown log x × AreAsKnown log xs
 
 -- the abstract machine may go on from the log with the event
 abbrev pub IsAllowedBy : Log → LiveEvent → Type 0
@@ -93,10 +84,6 @@ IsInSection qsbr v r n = IsOwner v r × (¬ IsClosed qsbr (word_in v.slot)) × (
 abbrev pub MayRead : Bool → View → ObjectId → ℕ → Type 0
 MayRead qsbr v o i =
     ((note_of v.seen o).0 ≡ i) × (((r : ℕ) × (n : ℕ) × IsInSection qsbr v r n × WasLinked (section r n) o v.seen) ⊎ (IsWriter v × IsListed v × In (own_in v.chains).objects o))
-
--- the seat goes on knowing its chains, and each object of its own chain has a record
-abbrev pub KnowsChains : View → View → Type 0
-KnowsChains v w = AreAsKnown w.seen v.chains × (IsWriter v → IsListed w × ((o : ObjectId) → In (own_in v.chains).objects o → (note_of w.seen o).0 < v.sizes.pool))
 
 -- a reader's section is still open
 abbrev pub StaysOpen : Bool → View → View → Type 0

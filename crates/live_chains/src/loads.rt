@@ -3,7 +3,8 @@ ghost use Rattle.std.specs.Prelude.{◌≡◌, ◌<◌, Option, slice_index_or};
 ghost use Rattle.rcu_model.specs.declared.event.ObjectId.{ObjectId};
 ghost use Rattle.live_log.specs.Log.{chain_note, note_of};
 ghost use Rattle.live_table.specs.Steps.{Keeps, Went};
-ghost use Rattle.live_chains.specs.Chains.{IsFirst, IsNext, KnowsChains, MayRead, StaysOpen};
+ghost use Rattle.live_table.specs.Rights.{KnowsChains};
+ghost use Rattle.live_chains.specs.Chains.{IsFirst, IsNext, MayRead, StaysOpen};
 
 use crate::plays::{LooksHead, LooksLink, LooksNote, LooksWord};
 use gp_memb::GracePlan;

@@ -25,6 +25,7 @@ use Rattle.live_rule.proofs.Lemmas.{Calm, calm_same, same_object_all, heap_far, 
 use Rattle.live_rule.proofs.Lemmas.{ObjectStep, object_stays, chains_kept, queues_kept, works_kept, stores, look_all}
 use Rattle.live_table.specs.Rights.{cell_in, object_in, link_in, payload_in, IsDrawn, IsFresh}
 use Rattle.live_table.specs.Steps.{looked_view}
+use Rattle.live_table.proofs.Lemmas.{goes_on}
 use Rattle.live_rule.specs.Seats.{but_object}
 use Rattle.live_records.specs.Records.{drawn_view, linked_view, worded_view, looked, drew, took, linked, worded, discarded}
 
@@ -215,8 +216,8 @@ module _ {S : Type 0} (qsbr : Bool) (allows : Log → LiveEvent → Type 0) (key
     fresh_last : (k x : ℕ) → (object_in v.object).0 ≤ get_or (set s.words (cell_at key (cell_in v.object) k) x) (last_at key) 0
     fresh_last k x = let e = get_or-set_other s.words (cell_at key (cell_in v.object) k) (last_at key) x 0 (λ z. omega arith) in let f = fresh_now.2 in omega arith
 
-  pub stores_link : (slots id : ℕ) (me : Me S View) (a x : ℕ) → IsFresh me.0 → a ≡ cell_at key (cell_in me.0.object) 1 → Allows Rule slots id me a (λ _. x) (λ _. linked qsbr allows (step slots a x 0 lists.none) me x)
-  stores_link slots id me a x is a_is s r deep at fits =
+  pub stores_link : (slots id : ℕ) (me : Me S View) (a x : ℕ) → me.0.sizes ≡ key → IsFresh me.0 → a ≡ cell_at key (cell_in me.0.object) 1 → Allows Rule slots id me a (λ _. x) (λ _. linked qsbr allows (step slots a x 0 lists.none) me x)
+  stores_link slots id me a x sizes is a_is s r deep at fits =
       let v : View = me.0 in
       let b = r.seen id v at in
       let f = fresh_now s r id v at is in
@@ -231,7 +232,7 @@ module _ {S : Type 0} (qsbr : Bool) (allows : Log → LiveEvent → Type 0) (key
         subst (λ (n : ℕ). Rule record { words = set s.words n x; homes = s.homes; views = set s.views id w }) (sym a_is)
             (fresh_store s r id v at is 1 x w (omega arith) (refl, refl, refl, refl, refl) (refl, refl, refl)
             (λ o claim. ((f.0, f.1, fresh_last s r id v at is 1 x, f.3, far 0 (λ e. omega arith) ∙ f.4, get_or-set_same s.words (cell_at key i 1) x 0 (omega arith), f.6, λ k l. far (k + 2) (λ e. omega arith) ∙ f.7 k l), claim))),
-        (refl, refl, (b.0, b.1, r.run)),
+        ((refl, refl, (b.0, b.1, r.run)), goes_on qsbr allows key s r id v at sizes),
       )
 
   pub stores_word : (slots id : ℕ) (me : Me S View) (a j x : ℕ) → j < 4 → me.0.sizes ≡ key → IsFresh me.0 → a ≡ cell_at key (cell_in me.0.object) (j + 2) → Allows Rule slots id me a (λ _. x) (λ _. worded qsbr allows (step slots a x 0 lists.none) me x)
@@ -266,7 +267,7 @@ module _ {S : Type 0} (qsbr : Bool) (allows : Log → LiveEvent → Type 0) (key
               ),
               claim,
             ))),
-        (λ n l same. let e : j ≡ n = same_word n same in (refl, (λ q. record (worded_view (e q) x v) { seen = r.log }), (b.0, b.1, r.run))),
+        (λ n l same. let e : j ≡ n = same_word n same in ((refl, (λ q. record (worded_view (e q) x v) { seen = r.log }), (b.0, b.1, r.run)), goes_on qsbr allows key s r id v at sizes)),
       )
     where
       same_word : (n : ℕ) → a ≡ cell_at me.0.sizes (cell_in me.0.object) (n + 2) → j ≡ n

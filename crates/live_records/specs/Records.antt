@@ -7,7 +7,7 @@ use Rattle.live_rule.specs.declared.view.View.{View}
 use Rattle.live_rule.specs.declared.rights.RecordRight.TheVariants.{Drawn, Fresh}
 use Rattle.live_rule.specs.Places.{cell_at}
 use Rattle.live_rule.specs.Seats.{but_object}
-use Rattle.live_table.specs.Rights.{cell_in, object_in, link_in, payload_in}
+use Rattle.live_table.specs.Rights.{KnowsChains, cell_in, object_in, link_in, payload_in}
 use Rattle.live_table.specs.Steps.{Went, looked_view}
 
 -- the view, once this number was drawn
@@ -43,11 +43,11 @@ module _ {S : Type 0} (qsbr : Bool) (allows : Log → LiveEvent → Type 0) wher
 
   -- the link was stored
   abbrev pub linked : Step S → Me S View → ℕ → Me S View → Type 0
-  linked st m n m' = Went qsbr allows (linked_view st.first m.0) m m'
+  linked st m n m' = Went qsbr allows (linked_view st.first m.0) m m' × KnowsChains m.0 m'.0
 
   -- a payload word was stored
   abbrev pub worded : Step S → Me S View → ℕ → Me S View → Type 0
-  worded st m n m' = (j : ℕ) → j < 4 → st.word ≡ cell_at m.0.sizes (cell_in m.0.object) (j + 2) → Went qsbr allows (worded_view j st.first m.0) m m'
+  worded st m n m' = (j : ℕ) → j < 4 → st.word ≡ cell_at m.0.sizes (cell_in m.0.object) (j + 2) → Went qsbr allows (worded_view j st.first m.0) m m' × KnowsChains m.0 m'.0
 
   -- the record was freed
   abbrev pub discarded : Step S → Me S View → ℕ → Me S View → Type 0

@@ -3,7 +3,7 @@
 ghost use Rattle.std.specs.Prelude.{◌≡◌, ◌≢◌, ◌+◌, ◌<◌, ◌≤◌, ◌^◌, length};
 ghost use Rattle.live_rule.specs.Places.{cell_at, last_at};
 ghost use Rattle.live_rule.specs.Seats.{but_object};
-ghost use Rattle.live_table.specs.Rights.{IsDrawn, IsFresh, cell_in, link_in, object_in, payload_in};
+ghost use Rattle.live_table.specs.Rights.{IsDrawn, IsFresh, KnowsChains, cell_in, link_in, object_in, payload_in};
 ghost use Rattle.live_table.specs.Steps.{Keeps, Went, looked_view};
 ghost use Rattle.live_records.specs.Records.{drawn_view, linked_view, taken_record, worded_view};
 
@@ -81,17 +81,17 @@ pub fn take_cell<P: GracePlan, K: ChainRule>(
         .compare_exchange::<Takes<P, K>>(seat, place, 0, 2 * number)
 }
 
-/// Stores the link of a fresh record. It never waits.
+/// Stores the link of a fresh record. A writer goes on knowing its chains. It never waits.
 pub fn store_link<P: GracePlan, K: ChainRule>(
     table: &LiveTable<P, K>,
     seat: &mut LiveSeat,
     cell: usize,
     link: u64,
 )
-    requires seat { (seat.old.table_id ≡ table.now.words.shared.table_id) × (cell < table.now.pool) }
+    requires seat { (seat.old.table_id ≡ table.now.words.shared.table_id) × (seat.old.me.0.sizes ≡ table.now.words.shared.key) × (cell < table.now.pool) }
     requires right { IsFresh seat.old.me.0 × (cell_in seat.old.me.0.object ≡ cell) }
     ensures seat { Keeps seat.old seat.new }
-    ensures linked { Went P.QSBR K.allows (linked_view link seat.old.me.0) seat.old.me seat.new.me }
+    ensures linked { Went P.QSBR K.allows (linked_view link seat.old.me.0) seat.old.me seat.new.me × KnowsChains seat.old.me.0 seat.new.me.0 }
 {
     let place = table.cell_place(cell, 1);
     table
@@ -100,7 +100,8 @@ pub fn store_link<P: GracePlan, K: ChainRule>(
         .store::<StoresLink<P, K>>(seat, place, link);
 }
 
-/// Stores one of the four payload words of a fresh record, the first one at `index` 0. It never waits.
+/// Stores one of the four payload words of a fresh record, the first one at `index` 0. A writer goes on knowing its
+/// chains. It never waits.
 pub fn store_word<P: GracePlan, K: ChainRule>(
     table: &LiveTable<P, K>,
     seat: &mut LiveSeat,
@@ -111,7 +112,7 @@ pub fn store_word<P: GracePlan, K: ChainRule>(
     requires seat { (seat.old.table_id ≡ table.now.words.shared.table_id) × (seat.old.me.0.sizes ≡ table.now.words.shared.key) × (cell < table.now.pool) × (index < 4) }
     requires right { IsFresh seat.old.me.0 × (cell_in seat.old.me.0.object ≡ cell) }
     ensures seat { Keeps seat.old seat.new }
-    ensures worded { Went P.QSBR K.allows (worded_view index word seat.old.me.0) seat.old.me seat.new.me }
+    ensures worded { Went P.QSBR K.allows (worded_view index word seat.old.me.0) seat.old.me seat.new.me × KnowsChains seat.old.me.0 seat.new.me.0 }
 {
     let place = table.cell_place(cell, index + 2);
     table

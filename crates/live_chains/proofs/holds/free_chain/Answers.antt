@@ -1,4 +1,4 @@
-use Rattle.std.proofs.Common.{ℕ, ap, sym, ◌∙◌}
+use Rattle.std.proofs.Common.{ap, sym, ◌∙◌}
 use Rattle.live_rule.specs.Places.{hold_at}
 use Rattle.live_chains.proofs.Holding.{frees}
 use Rattle.live_chains.proofs.holds.free_chain.Goals as goal
