@@ -3,3 +3,5 @@ pub mod Holding
 pub mod Reading
 pub mod Splices
 pub mod After
+pub mod Keyed
+pub mod Lemmas

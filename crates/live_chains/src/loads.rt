@@ -3,7 +3,7 @@ ghost use Rattle.std.specs.Prelude.{◌≡◌, ◌<◌, Option, slice_index_or};
 ghost use Rattle.rcu_model.specs.declared.event.ObjectId.{ObjectId};
 ghost use Rattle.live_log.specs.Log.{chain_note, note_of};
 ghost use Rattle.live_table.specs.Steps.{Keeps, Went};
-ghost use Rattle.live_table.specs.Rights.{KnowsChains};
+ghost use Rattle.live_table.specs.Rights.{IsWriter, KnowsChains, own_in};
 ghost use Rattle.live_chains.specs.Chains.{IsFirst, IsNext, MayRead, StaysOpen};
 
 use crate::plays::{LooksHead, LooksLink, LooksNote, LooksWord};
@@ -25,6 +25,7 @@ pub fn load_head<P: GracePlan, K: ChainRule>(
     ensures looked { Went P.QSBR K.allows seat.old.me.0 seat.old.me seat.new.me }
     ensures known { KnowsChains seat.old.me.0 seat.new.me.0 × StaysOpen P.QSBR seat.old.me.0 seat.new.me.0 }
     ensures first { IsFirst seat.old.me.0 seat.new.me.0 chain result }
+    ensures own { IsWriter seat.old.me.0 → (own_in seat.old.me.0.chains).chain ≡ chain → result ≡ (own_in seat.old.me.0.chains).head }
 {
     let place = table.head_place(chain);
     table.words.shared.load::<LooksHead<P, K>>(seat, place)
