@@ -1,13 +1,20 @@
 #![tactic(auto)]
 //! The words under the library over live threads: the face of the crates `live_log`, `live_rule`, `live_table`,
-//! `live_readers`, `live_periods` and `live_groups` for those above.
+//! `live_readers`, `live_periods`, `live_groups`, `live_records` and `live_chains` for those above.
 
+pub use live_chains::{
+    free_chain, hold_chain, load_head, load_link, load_note, load_word, push, replace, store_cut,
+    store_note, store_push, store_replace,
+};
 pub use live_groups::{claim, release, store_clear, store_set};
 pub use live_log::{AnyChain, ChainRule, Keyed, LiveEvent, ObjectEvent};
 pub use live_periods::{load_group, load_seq, load_slot, store_even, store_odd, store_present};
 pub use live_readers::{
     load_present, lock, offline, online, quiescent, store_close, store_inner, store_open,
     store_quiescent, unlock,
+};
+pub use live_records::{
+    draw_number, load_header, load_last, store_discard, store_link, store_word, take_cell,
 };
 pub use live_rule::{
     ChainRight, GraceRight, GroupsRight, LiveRule, LiveSeat, QueueRight, RecordRight, Sizes,

@@ -1,0 +1,7 @@
+pub mod Writers
+pub mod Holding
+pub mod Reading
+pub mod Splices
+pub mod After
+pub mod Keyed
+pub mod Lemmas

@@ -1,0 +1,164 @@
+-- What each step on a chain asks and tells.
+use Rattle.std.specs.Prelude.{◌≡◌, ◌≢◌, ◌⊎◌, ℕ, ◌+◌, ◌<◌, ◌∷◌, slice_index_or, Option, Some, None, Bool}
+use Rattle.atomic_table.specs.Table.{Me, Step}
+use Rattle.rcu_model.specs.declared.event.ObjectId.{ObjectId}
+use Rattle.rcu_model.specs.Machine.{IsAllowed, IsOpen}
+use Rattle.rcu_model.specs.Sets.{In, IsPlace, follows, without_object, next_of, first_of, replaced}
+use Rattle.live_log.specs.declared.event.LiveEvent.{LiveEvent}
+use Rattle.live_log.specs.declared.event.LiveEvent.TheVariants.{ChainNote, Object}
+use Rattle.live_log.specs.declared.event.ObjectEvent.TheVariants.{Push, Replace, Cut}
+use Rattle.live_log.specs.Log.{Log, IsLiveRun, Begins, WasLinked, section, event_of, state_of, objects_of, spot_of, Follows, note_of, chain_note}
+use Rattle.live_rule.specs.declared.view.Sizes.{Sizes}
+use Rattle.live_rule.specs.declared.view.View.{View}
+use Rattle.live_rule.specs.declared.rights.ChainRight.{ChainRight}
+use Rattle.live_rule.specs.declared.rights.RecordRight.TheVariants.{Nothing, Unlinked}
+use Rattle.live_rule.specs.Places.{head_at, hold_at, note_at, cell_at}
+use Rattle.live_rule.specs.Objects.{ref, spot_at}
+use Rattle.live_rule.specs.Readers.{IsClosed}
+use Rattle.live_rule.specs.Seats.{lent_chains}
+use Rattle.live_table.specs.Rights.{IsOwner, word_in, count_in, own_in, IsWriter, IsListed, IsAsKnown, AreAsKnown, KnowsChains, cell_in, object_in, payload_in}
+use Rattle.live_table.specs.Steps.{Went, Did, looked_view}
+
+-- the abstract machine may go on from the log with the event
+abbrev pub IsAllowedBy : Log → LiveEvent → Type 0
+IsAllowedBy log (Object d) = IsAllowed (state_of log) (event_of d)
+IsAllowedBy log _ = Unit {0}
+
+-- the rule of chains allows the event after every log that goes on from what the seat has seen and heard, in which its chains are as it knows them
+abbrev pub MayWrite : Bool → (Log → LiveEvent → Type 0) → View → LiveEvent → Type 0
+MayWrite qsbr allows v e = (log : Log) → Begins v.seen log → Begins v.heard log → IsLiveRun qsbr allows log → AreAsKnown log v.chains → IsAllowedBy log e → allows log e
+
+-- the place in the writer's chain that leads to an object
+abbrev pub IsBefore : View → Option ObjectId → ObjectId → Type 0
+IsBefore v p o = IsPlace (own_in v.chains).objects p × (follows (own_in v.chains).objects p ≡ Some o)
+
+-- the word of a place in the writer's chain
+abbrev pub place_at : View → Option ObjectId → ℕ
+place_at v p = spot_at v.sizes (objects_of v.seen) (spot_of (own_in v.chains).chain p)
+
+-- the head after a store at a place
+abbrev pub head_after : Option ObjectId → ℕ → ℕ → ℕ
+head_after None x h = x
+head_after (Some q) x h = h
+
+-- the view, once the seat's object became the first of its chain, whose head is this now
+abbrev pub pushed_view : ℕ → View → View
+pushed_view x v = let own = own_in v.chains in record v { chains = record own { head = x; objects = object_in v.object ∷ own.objects } ∷ lent_chains v.chains; object = Nothing }
+
+abbrev pub push_of : View → LiveEvent
+push_of v = Object (Push (own_in v.chains).chain (object_in v.object) (cell_in v.object) (payload_in v.object))
+
+-- the view, once the seat's object stands in the place of another, which the seat now has
+abbrev pub replaced_view : Option ObjectId → ObjectId → ℕ → View → View
+replaced_view p o x v = let own = own_in v.chains in
+    record v { chains = record own { head = head_after p x own.head; objects = replaced o (object_in v.object) own.objects } ∷ lent_chains v.chains; object = Unlinked (note_of v.seen o).0 o }
+
+abbrev pub replace_of : ObjectId → View → LiveEvent
+replace_of o v = Object (Replace (own_in v.chains).chain o (object_in v.object) (cell_in v.object) (payload_in v.object))
+
+-- the view, once an object left the seat's chain
+abbrev pub cut_view : Option ObjectId → ObjectId → ℕ → View → View
+cut_view p o x v = let own = own_in v.chains in
+    record v { chains = record own { head = head_after p x own.head; objects = without_object o own.objects } ∷ lent_chains v.chains; object = Unlinked (note_of v.seen o).0 o }
+
+abbrev pub cut_of : ObjectId → View → LiveEvent
+cut_of o v = Object (Cut (own_in v.chains).chain o)
+
+-- the view, once the seat's chain has this note
+abbrev pub noted_view : ℕ → View → View
+noted_view x v = record v { chains = record (own_in v.chains) { note = x } ∷ lent_chains v.chains }
+
+-- the view, once the seat has this chain as its own, before those that it had
+abbrev pub held_view : ChainRight → View → View
+held_view x v = record v { chains = x ∷ v.chains }
+
+-- the view, once the seat's own chain was given up
+abbrev pub freed_view : View → View
+freed_view v = record v { chains = lent_chains v.chains }
+
+-- the reader's word stands for a section, which is the slot's last one
+abbrev pub IsInSection : Bool → View → ℕ → ℕ → Type 0
+IsInSection qsbr v r n = IsOwner v r × (¬ IsClosed qsbr (word_in v.slot)) × (count_in v.slot ≡ n)
+
+-- the object lies in this record, and the reader's open section may hold it, or it is in the writer's chain
+abbrev pub MayRead : Bool → View → ObjectId → ℕ → Type 0
+MayRead qsbr v o i =
+    ((note_of v.seen o).0 ≡ i) × (((r : ℕ) × (n : ℕ) × IsInSection qsbr v r n × WasLinked (section r n) o v.seen) ⊎ (IsWriter v × IsListed v × In (own_in v.chains).objects o))
+
+-- a reader's section is still open
+abbrev pub StaysOpen : Bool → View → View → Type 0
+StaysOpen qsbr v w = (r n : ℕ) → IsInSection qsbr v r n → IsOpen (state_of w.seen) (section r n)
+
+-- what follows an object: the word is its record, and each section of this seat that may hold the object may hold it
+abbrev pub IsNext : Bool → View → View → ObjectId → ℕ → Option ObjectId → Type 0
+IsNext qsbr v w o n found =
+    Follows (objects_of w.seen) o found × (n ≡ ref (objects_of w.seen) found)
+    × ((m : ObjectId) → found ≡ Some m → ((note_of w.seen m).0 < v.sizes.pool) × ((r k : ℕ) → IsInSection qsbr v r k → WasLinked (section r k) o v.seen → WasLinked (section r k) m w.seen))
+    × (IsWriter v → In (own_in v.chains).objects o → found ≡ next_of (own_in v.chains).objects o)
+
+-- the first object of a chain: the word is its record
+abbrev pub IsFirst : View → View → ℕ → ℕ → Type 0
+IsFirst v w c n =
+    (n ≡ ref (objects_of w.seen) (first_of ((objects_of w.seen).chain c)))
+    × ((o : ObjectId) → first_of ((objects_of w.seen).chain c) ≡ Some o → (note_of w.seen o).0 < v.sizes.pool)
+
+-- the seat's own chain is this one, and it knows its objects, its head and its note
+abbrev pub IsHeld : View → ℕ → Type 0
+IsHeld v c = IsWriter v × ((own_in v.chains).chain ≡ c) × IsListed v × IsAsKnown v.seen (own_in v.chains)
+
+module _ {S : Type 0} (qsbr : Bool) (allows : Log → LiveEvent → Type 0) where
+  -- the head was stored, and the object is the first one
+  abbrev pub pushed : Step S → Me S View → ℕ → Me S View → Type 0
+  pushed st m n m' = Did qsbr allows (pushed_view st.first m.0) (push_of m.0) m m' × IsListed m'.0
+
+  -- the step tells of the object that stood at the place of the word
+  abbrev pub replaces : Step S → Me S View → ℕ → Me S View → Type 0
+  replaces st m n m' = IsListed m'.0 × ((p : Option ObjectId) (o : ObjectId) → st.word ≡ place_at m.0 p → IsBefore m.0 p o → Did qsbr allows (replaced_view p o st.first m.0) (replace_of o m.0) m m')
+
+  abbrev pub cuts : Step S → Me S View → ℕ → Me S View → Type 0
+  cuts st m n m' = IsListed m'.0 × ((p : Option ObjectId) (o : ObjectId) → st.word ≡ place_at m.0 p → IsBefore m.0 p o → Did qsbr allows (cut_view p o st.first m.0) (cut_of o m.0) m m')
+
+  -- the note was stored
+  abbrev pub noted : Step S → Me S View → ℕ → Me S View → Type 0
+  noted st m n m' = Did qsbr allows (noted_view st.first m.0) (ChainNote (own_in m.0.chains).chain st.first) m m' × IsListed m'.0
+
+  -- the hold word was 0, and so the chain is the seat's; or another has it
+  abbrev pub held : Step S → Me S View → ℕ → Me S View → Type 0
+  held st m n m' =
+      (n ≡ 0 → (c : ℕ) → c < m.0.sizes.chains → st.word ≡ hold_at m.0.sizes c → Went qsbr allows (held_view (own_in m'.0.chains) (looked_view st.word n m.0)) m m' × IsHeld m'.0 c)
+      × (n ≢ 0 → Went qsbr allows (looked_view st.word n m.0) m m')
+
+  -- the hold word was stored back
+  abbrev pub freed : Step S → Me S View → ℕ → Me S View → Type 0
+  freed st m n m' = Went qsbr allows (freed_view m.0) m m'
+
+  -- a head was loaded
+  abbrev pub looked_head : Step S → Me S View → ℕ → Me S View → Type 0
+  looked_head st m n m' = Went qsbr allows m.0 m m' × KnowsChains m.0 m'.0 × StaysOpen qsbr m.0 m'.0
+      × ((c : ℕ) → c < m.0.sizes.chains → st.word ≡ head_at m.0.sizes c → IsFirst m.0 m'.0 c n)
+
+  -- a link was loaded
+  abbrev pub looked_link : Step S → Me S View → ℕ → Me S View → Type 0
+  looked_link st m n m' = Went qsbr allows m.0 m m' × KnowsChains m.0 m'.0 × StaysOpen qsbr m.0 m'.0
+      × ((o : ObjectId) (i : ℕ) → MayRead qsbr m.0 o i → st.word ≡ cell_at m.0.sizes i 1 → (found : Option ObjectId) × IsNext qsbr m.0 m'.0 o n found)
+
+  -- a payload word was loaded
+  abbrev pub looked_word : Step S → Me S View → ℕ → Me S View → Type 0
+  looked_word st m n m' = Went qsbr allows m.0 m m' × KnowsChains m.0 m'.0 × StaysOpen qsbr m.0 m'.0
+      × ((o : ObjectId) (i j : ℕ) → MayRead qsbr m.0 o i → j < 4 → st.word ≡ cell_at m.0.sizes i (j + 2) → n ≡ slice_index_or (note_of m.0.seen o).1 j 0)
+
+  -- a note was loaded
+  abbrev pub looked_note : Step S → Me S View → ℕ → Me S View → Type 0
+  looked_note st m n m' = Went qsbr allows m.0 m m' × KnowsChains m.0 m'.0 × StaysOpen qsbr m.0 m'.0
+      × ((c : ℕ) → c < m.0.sizes.chains → st.word ≡ note_at m.0.sizes c → n ≡ chain_note c m'.0.seen)
+
+-- the record that stands before the place: none before the first object
+abbrev pub IsThere : View → Option ℕ → Option ObjectId → Type 0
+IsThere v None None = Unit {0}
+IsThere v (Some j) (Some q) = (note_of v.seen q).0 ≡ j
+IsThere v _ _ = ⊥
+
+-- the word of a place, by the record before it
+abbrev pub place_index : Sizes → ℕ → Option ℕ → ℕ
+place_index sizes c None = head_at sizes c
+place_index sizes c (Some j) = cell_at sizes j 1

@@ -1,0 +1,57 @@
+//! A push and a replacement whole: the link of the record that comes is stored before the word that leads to it.
+ghost use Rattle.std.specs.Prelude.{◌≡◌, ◌+◌, ◌<◌, Option, IfSome};
+ghost use Rattle.rcu_model.specs.Sets.{next_of};
+ghost use Rattle.rcu_model.specs.declared.event.ObjectId.{ObjectId};
+ghost use Rattle.live_log.specs.Log.{objects_of};
+ghost use Rattle.live_rule.specs.Objects.{ref};
+ghost use Rattle.live_table.specs.Rights.{IsFresh, IsListed, IsWriter, cell_in, own_in};
+ghost use Rattle.live_table.specs.Steps.{Did, Keeps};
+ghost use Rattle.live_chains.specs.Chains.{IsBefore, IsThere, MayWrite, push_of, pushed_view, replace_of, replaced_view};
+
+use crate::steps::{store_push, store_replace};
+use gp_memb::GracePlan;
+use live_log::ChainRule;
+use live_records::store_link;
+use live_rule::LiveSeat;
+use live_table::LiveTable;
+
+/// Makes the seat's fresh record the first of its chain, whose head is `head`, in two stores: the record's link, and
+/// then the head, liburcu's `rcu_assign_pointer`. It never waits.
+pub fn push<P: GracePlan, K: ChainRule>(
+    table: &LiveTable<P, K>,
+    seat: &mut LiveSeat,
+    chain: usize,
+    cell: usize,
+    head: u64,
+)
+    requires seat { (seat.old.table_id ≡ table.now.words.shared.table_id) × (seat.old.me.0.sizes ≡ table.now.words.shared.key) × (chain < table.now.chains) × (cell < table.now.pool) }
+    requires right { IsWriter seat.old.me.0 × ((own_in seat.old.me.0.chains).chain ≡ chain) × ((own_in seat.old.me.0.chains).head ≡ head) × IsFresh seat.old.me.0 × (cell_in seat.old.me.0.object ≡ cell) }
+    requires rule { MayWrite P.QSBR K.allows seat.old.me.0 (push_of seat.old.me.0) }
+    ensures seat { Keeps seat.old seat.new }
+    ensures pushed { Did P.QSBR K.allows (pushed_view (cell + 1) seat.old.me.0) (push_of seat.old.me.0) seat.old.me seat.new.me × IsListed seat.new.me.0 }
+{
+    store_link(table, seat, cell, head);
+    store_push(table, seat, chain, cell);
+}
+
+/// Puts the seat's fresh record in the place of an object, which `next` follows, in two stores: the record's link, and
+/// then the word that led to the object. The record `before` is that of the object before it, or none where it is the
+/// first one. The seat has the right to what was replaced. It never waits.
+pub fn replace<P: GracePlan, K: ChainRule>(
+    table: &LiveTable<P, K>,
+    seat: &mut LiveSeat,
+    chain: usize,
+    before: Option<usize>,
+    cell: usize,
+    next: u64,
+)
+    requires seat { (seat.old.table_id ≡ table.now.words.shared.table_id) × (seat.old.me.0.sizes ≡ table.now.words.shared.key) × (chain < table.now.chains) × IfSome before (λ j. j < table.now.pool) × (cell < table.now.pool) }
+    requires right { IsWriter seat.old.me.0 × IsListed seat.old.me.0 × ((own_in seat.old.me.0.chains).chain ≡ chain) × IsFresh seat.old.me.0 × (cell_in seat.old.me.0.object ≡ cell) }
+    requires object { (p : Option ObjectId) × (o : ObjectId) × IsThere seat.old.me.0 before p × IsBefore seat.old.me.0 p o × (next ≡ ref (objects_of seat.old.me.0.seen) (next_of (own_in seat.old.me.0.chains).objects o)) × MayWrite P.QSBR K.allows seat.old.me.0 (replace_of o seat.old.me.0) }
+    ensures seat { Keeps seat.old seat.new }
+    ensures listed { IsListed seat.new.me.0 }
+    ensures replaced { (p : Option ObjectId) (o : ObjectId) → IsThere seat.old.me.0 before p → IsBefore seat.old.me.0 p o → Did P.QSBR K.allows (replaced_view p o (cell + 1) seat.old.me.0) (replace_of o seat.old.me.0) seat.old.me seat.new.me }
+{
+    store_link(table, seat, cell, next);
+    store_replace(table, seat, chain, before, cell);
+}

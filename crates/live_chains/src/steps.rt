@@ -1,0 +1,96 @@
+//! The one store by which a push, a replacement or a cut is published. None of these steps waits.
+ghost use Rattle.std.specs.Prelude.{◌≡◌, ◌+◌, ◌<◌, Option, IfSome};
+ghost use Rattle.rcu_model.specs.Sets.{next_of};
+ghost use Rattle.rcu_model.specs.declared.event.ObjectId.{ObjectId};
+ghost use Rattle.live_log.specs.Log.{objects_of};
+ghost use Rattle.live_rule.specs.Objects.{ref};
+ghost use Rattle.live_table.specs.Rights.{IsFresh, IsListed, IsWriter, cell_in, link_in, own_in};
+ghost use Rattle.live_table.specs.Steps.{Did, Keeps};
+ghost use Rattle.live_chains.specs.Chains.{IsBefore, IsThere, MayWrite, cut_of, cut_view, place_index, push_of, pushed_view, replace_of, replaced_view};
+
+use crate::plays::{Cuts, Pushes, Replaces};
+use gp_memb::GracePlan;
+use live_log::ChainRule;
+use live_rule::LiveSeat;
+use live_table::LiveTable;
+
+/// The word that leads to the first object of a chain, or to the object after a record.
+pub(crate) fn spot_place<P: GracePlan, K: ChainRule>(
+    table: &LiveTable<P, K>,
+    chain: usize,
+    before: Option<usize>,
+) -> usize
+    requires { (chain < table.now.chains) × IfSome before (λ j. j < table.now.pool) }
+    ensures { (result ≡ place_index table.now.words.shared.key chain before) × (result < table.now.words.shared.table_id.words) }
+{
+    match before {
+        None => table.head_place(chain),
+        Some(cell) => table.cell_place(cell, 1),
+    }
+}
+
+/// The store of a push: the head leads to the seat's fresh record, whose link leads to what was the first object. It
+/// never waits.
+pub fn store_push<P: GracePlan, K: ChainRule>(
+    table: &LiveTable<P, K>,
+    seat: &mut LiveSeat,
+    chain: usize,
+    cell: usize,
+)
+    requires seat { (seat.old.table_id ≡ table.now.words.shared.table_id) × (chain < table.now.chains) × (cell < table.now.pool) }
+    requires right { IsWriter seat.old.me.0 × ((own_in seat.old.me.0.chains).chain ≡ chain) × IsFresh seat.old.me.0 × (cell_in seat.old.me.0.object ≡ cell) × (link_in seat.old.me.0.object ≡ (own_in seat.old.me.0.chains).head) }
+    requires rule { MayWrite P.QSBR K.allows seat.old.me.0 (push_of seat.old.me.0) }
+    ensures seat { Keeps seat.old seat.new }
+    ensures pushed { Did P.QSBR K.allows (pushed_view (cell + 1) seat.old.me.0) (push_of seat.old.me.0) seat.old.me seat.new.me × IsListed seat.new.me.0 }
+{
+    let place = table.head_place(chain);
+    table
+        .words
+        .shared
+        .store::<Pushes<P, K>>(seat, place, cell as u64 + 1);
+}
+
+/// The store of a replacement: what led to an object leads to the seat's fresh record, whose link leads to what follows
+/// that object. The record `before` is that of the object before it, or none where it is the first one. The seat has the
+/// right to what was replaced. It never waits.
+pub fn store_replace<P: GracePlan, K: ChainRule>(
+    table: &LiveTable<P, K>,
+    seat: &mut LiveSeat,
+    chain: usize,
+    before: Option<usize>,
+    cell: usize,
+)
+    requires seat { (seat.old.table_id ≡ table.now.words.shared.table_id) × (seat.old.me.0.sizes ≡ table.now.words.shared.key) × (chain < table.now.chains) × IfSome before (λ j. j < table.now.pool) × (cell < table.now.pool) }
+    requires right { IsWriter seat.old.me.0 × IsListed seat.old.me.0 × ((own_in seat.old.me.0.chains).chain ≡ chain) × IsFresh seat.old.me.0 × (cell_in seat.old.me.0.object ≡ cell) }
+    requires object { (p : Option ObjectId) × (o : ObjectId) × IsThere seat.old.me.0 before p × IsBefore seat.old.me.0 p o × (link_in seat.old.me.0.object ≡ ref (objects_of seat.old.me.0.seen) (next_of (own_in seat.old.me.0.chains).objects o)) × MayWrite P.QSBR K.allows seat.old.me.0 (replace_of o seat.old.me.0) }
+    ensures seat { Keeps seat.old seat.new }
+    ensures listed { IsListed seat.new.me.0 }
+    ensures replaced { (p : Option ObjectId) (o : ObjectId) → IsThere seat.old.me.0 before p → IsBefore seat.old.me.0 p o → Did P.QSBR K.allows (replaced_view p o (cell + 1) seat.old.me.0) (replace_of o seat.old.me.0) seat.old.me seat.new.me }
+{
+    let place = spot_place(table, chain, before);
+    table
+        .words
+        .shared
+        .store::<Replaces<P, K>>(seat, place, cell as u64 + 1);
+}
+
+/// The store of a cut: what led to an object leads to what follows it, as the object's own link, which is `next`, still
+/// does. The record `before` is that of the object before it, or none where it is the first one. The seat has the right
+/// to what was cut. It never waits.
+pub fn store_cut<P: GracePlan, K: ChainRule>(
+    table: &LiveTable<P, K>,
+    seat: &mut LiveSeat,
+    chain: usize,
+    before: Option<usize>,
+    next: u64,
+)
+    requires seat { (seat.old.table_id ≡ table.now.words.shared.table_id) × (seat.old.me.0.sizes ≡ table.now.words.shared.key) × (chain < table.now.chains) × IfSome before (λ j. j < table.now.pool) }
+    requires right { IsWriter seat.old.me.0 × IsListed seat.old.me.0 × ((own_in seat.old.me.0.chains).chain ≡ chain) }
+    requires object { (p : Option ObjectId) × (o : ObjectId) × IsThere seat.old.me.0 before p × IsBefore seat.old.me.0 p o × (next ≡ ref (objects_of seat.old.me.0.seen) (next_of (own_in seat.old.me.0.chains).objects o)) × MayWrite P.QSBR K.allows seat.old.me.0 (cut_of o seat.old.me.0) }
+    ensures seat { Keeps seat.old seat.new }
+    ensures listed { IsListed seat.new.me.0 }
+    ensures cut { (p : Option ObjectId) (o : ObjectId) → IsThere seat.old.me.0 before p → IsBefore seat.old.me.0 p o → Did P.QSBR K.allows (cut_view p o next seat.old.me.0) (cut_of o seat.old.me.0) seat.old.me seat.new.me }
+{
+    let place = spot_place(table, chain, before);
+    table.words.shared.store::<Cuts<P, K>>(seat, place, next);
+}

@@ -1,0 +1,54 @@
+-- What each step on a record tells.
+use Rattle.std.specs.Prelude.{Bool, ◌≡◌, ◌≢◌, ℕ, ◌+◌, ◌<◌, List, length, slice_set}
+use Rattle.atomic_table.specs.Table.{Me, Step}
+use Rattle.live_log.specs.declared.event.LiveEvent.{LiveEvent}
+use Rattle.live_log.specs.Log.{Log}
+use Rattle.live_rule.specs.declared.view.View.{View}
+use Rattle.live_rule.specs.declared.rights.RecordRight.TheVariants.{Drawn, Fresh}
+use Rattle.live_rule.specs.Places.{cell_at}
+use Rattle.live_rule.specs.Seats.{but_object}
+use Rattle.live_table.specs.Rights.{KnowsChains, cell_in, object_in, link_in, payload_in}
+use Rattle.live_table.specs.Steps.{Went, looked_view}
+
+-- the view, once this number was drawn
+abbrev pub drawn_view : ℕ → View → View
+drawn_view n v = record v { object = Drawn (record { 0 = n }) }
+
+-- the view, once the object has a record, with this link and this payload
+abbrev pub taken_record : ℕ → ℕ → List ℕ → View → View
+taken_record i l p v = record v { object = Fresh i (object_in v.object) l p }
+
+-- the view, once the record has this link
+abbrev pub linked_view : ℕ → View → View
+linked_view l v = record v { object = Fresh (cell_in v.object) (object_in v.object) l (payload_in v.object) }
+
+-- the view, once this word of the payload is this one
+abbrev pub worded_view : ℕ → ℕ → View → View
+worded_view j x v = record v { object = Fresh (cell_in v.object) (object_in v.object) (link_in v.object) (slice_set (payload_in v.object) j x) }
+
+module _ {S : Type 0} (qsbr : Bool) (allows : Log → LiveEvent → Type 0) where
+  -- a word was looked at
+  abbrev pub looked : Step S → Me S View → ℕ → Me S View → Type 0
+  looked st m n m' = Went qsbr allows (looked_view st.word n m.0) m m'
+
+  -- a number was drawn, or another one was found
+  abbrev pub drew : Step S → Me S View → ℕ → Me S View → Type 0
+  drew st m n m' = (n ≡ st.first → Went qsbr allows (drawn_view st.second (looked_view st.word n m.0)) m m') × (n ≢ st.first → Went qsbr allows (looked_view st.word n m.0) m m')
+
+  -- a free record was taken, or it was found in use
+  abbrev pub took : Step S → Me S View → ℕ → Me S View → Type 0
+  took st m n m' =
+      (n ≡ 0 → (i : ℕ) → st.word ≡ cell_at m.0.sizes i 0 → Went qsbr allows (taken_record i (link_in m'.0.object) (payload_in m'.0.object) (looked_view st.word n m.0)) m m' × (length (payload_in m'.0.object) ≡ 4))
+      × (n ≢ 0 → Went qsbr allows (looked_view st.word n m.0) m m')
+
+  -- the link was stored
+  abbrev pub linked : Step S → Me S View → ℕ → Me S View → Type 0
+  linked st m n m' = Went qsbr allows (linked_view st.first m.0) m m' × KnowsChains m.0 m'.0
+
+  -- a payload word was stored
+  abbrev pub worded : Step S → Me S View → ℕ → Me S View → Type 0
+  worded st m n m' = (j : ℕ) → j < 4 → st.word ≡ cell_at m.0.sizes (cell_in m.0.object) (j + 2) → Went qsbr allows (worded_view j st.first m.0) m m' × KnowsChains m.0 m'.0
+
+  -- the record was freed
+  abbrev pub discarded : Step S → Me S View → ℕ → Me S View → Type 0
+  discarded st m n m' = Went qsbr allows (but_object m.0) m m'

@@ -1,0 +1,50 @@
+//! What each step on a record tells.
+ghost use Rattle.live_records.specs.Records.{discarded, drew, linked, looked, took, worded};
+
+use atomic_table::Play;
+use gp_memb::GracePlan;
+use live_log::ChainRule;
+use live_rule::View;
+use std::marker::PhantomData;
+
+pub(crate) struct LooksLast<P, K>(PhantomData<(P, K)>);
+
+impl<P: GracePlan, K: ChainRule> Play<(), View> for LooksLast<P, K> {
+    ghost then = { looked P.QSBR K.allows };
+}
+
+pub(crate) struct LooksHeader<P, K>(PhantomData<(P, K)>);
+
+impl<P: GracePlan, K: ChainRule> Play<(), View> for LooksHeader<P, K> {
+    ghost then = { looked P.QSBR K.allows };
+}
+
+pub(crate) struct Draws<P, K>(PhantomData<(P, K)>);
+
+impl<P: GracePlan, K: ChainRule> Play<(), View> for Draws<P, K> {
+    ghost then = { drew P.QSBR K.allows };
+}
+
+pub(crate) struct Takes<P, K>(PhantomData<(P, K)>);
+
+impl<P: GracePlan, K: ChainRule> Play<(), View> for Takes<P, K> {
+    ghost then = { took P.QSBR K.allows };
+}
+
+pub(crate) struct StoresLink<P, K>(PhantomData<(P, K)>);
+
+impl<P: GracePlan, K: ChainRule> Play<(), View> for StoresLink<P, K> {
+    ghost then = { linked P.QSBR K.allows };
+}
+
+pub(crate) struct StoresWord<P, K>(PhantomData<(P, K)>);
+
+impl<P: GracePlan, K: ChainRule> Play<(), View> for StoresWord<P, K> {
+    ghost then = { worded P.QSBR K.allows };
+}
+
+pub(crate) struct Discards<P, K>(PhantomData<(P, K)>);
+
+impl<P: GracePlan, K: ChainRule> Play<(), View> for Discards<P, K> {
+    ghost then = { discarded P.QSBR K.allows };
+}

@@ -1,0 +1,137 @@
+//! One function for each kind of step on a record. None of them waits, and none writes an event: what is not linked is
+//! no part of the log.
+ghost use Rattle.std.specs.Prelude.{◌≡◌, ◌≢◌, ◌+◌, ◌<◌, ◌≤◌, ◌^◌, length};
+ghost use Rattle.live_rule.specs.Places.{cell_at, last_at};
+ghost use Rattle.live_rule.specs.Seats.{but_object};
+ghost use Rattle.live_table.specs.Rights.{IsDrawn, IsFresh, KnowsChains, cell_in, link_in, object_in, payload_in};
+ghost use Rattle.live_table.specs.Steps.{Keeps, Went, looked_view};
+ghost use Rattle.live_records.specs.Records.{drawn_view, linked_view, taken_record, worded_view};
+
+use crate::plays::{Discards, Draws, LooksHeader, LooksLast, StoresLink, StoresWord, Takes};
+use gp_memb::GracePlan;
+use live_log::ChainRule;
+use live_rule::LiveSeat;
+use live_table::LiveTable;
+
+/// Loads the last object number that was given. What it found is kept among the looks. It never waits.
+pub fn load_last<P: GracePlan, K: ChainRule>(table: &LiveTable<P, K>, seat: &mut LiveSeat) -> u64
+    requires { seat.old.table_id ≡ table.now.words.shared.table_id }
+    ensures seat { Keeps seat.old seat.new }
+    ensures looked { Went P.QSBR K.allows (looked_view (last_at table.now.words.shared.key) result seat.old.me.0) seat.old.me seat.new.me }
+{
+    let place = table.last_place();
+    table.words.shared.load::<LooksLast<P, K>>(seat, place)
+}
+
+/// Draws the object number after `last`, if `last` is still the last one given; the caller has fewer than 2^62. Answers
+/// the last number that it found, which is kept among the looks: the number was drawn exactly where that is `last`. It
+/// never waits.
+pub fn draw_number<P: GracePlan, K: ChainRule>(
+    table: &LiveTable<P, K>,
+    seat: &mut LiveSeat,
+    last: u64,
+) -> u64
+    requires seat { seat.old.table_id ≡ table.now.words.shared.table_id }
+    requires room { last < 2 ^ 62 }
+    ensures seat { Keeps seat.old seat.new }
+    ensures drawn { result ≡ last → Went P.QSBR K.allows (drawn_view (last + 1) (looked_view (last_at table.now.words.shared.key) result seat.old.me.0)) seat.old.me seat.new.me }
+    ensures missed { result ≢ last → Went P.QSBR K.allows (looked_view (last_at table.now.words.shared.key) result seat.old.me.0) seat.old.me seat.new.me }
+{
+    let place = table.last_place();
+    table
+        .words
+        .shared
+        .compare_exchange::<Draws<P, K>>(seat, place, last, last + 1)
+}
+
+/// Loads the header of a record, which is 0 where the record is free. What it found is kept among the looks. It never
+/// waits.
+pub fn load_header<P: GracePlan, K: ChainRule>(
+    table: &LiveTable<P, K>,
+    seat: &mut LiveSeat,
+    cell: usize,
+) -> u64
+    requires { (seat.old.table_id ≡ table.now.words.shared.table_id) × (cell < table.now.pool) }
+    ensures seat { Keeps seat.old seat.new }
+    ensures looked { Went P.QSBR K.allows (looked_view (cell_at table.now.words.shared.key cell 0) result seat.old.me.0) seat.old.me seat.new.me }
+{
+    let place = table.cell_place(cell, 0);
+    table.words.shared.load::<LooksHeader<P, K>>(seat, place)
+}
+
+/// Takes a record for the object whose number was drawn, if the record is free. Answers the header that it found, which
+/// is kept among the looks: the record was taken exactly where that is 0, and its link and payload are what was left
+/// there. It never waits.
+pub fn take_cell<P: GracePlan, K: ChainRule>(
+    table: &LiveTable<P, K>,
+    seat: &mut LiveSeat,
+    cell: usize,
+    number: u64,
+) -> u64
+    requires seat { (seat.old.table_id ≡ table.now.words.shared.table_id) × (seat.old.me.0.sizes ≡ table.now.words.shared.key) × (cell < table.now.pool) }
+    requires right { IsDrawn seat.old.me.0 × ((object_in seat.old.me.0.object).0 ≡ number) × (number ≤ 2 ^ 62) }
+    ensures seat { Keeps seat.old seat.new }
+    ensures taken { result ≡ 0 → Went P.QSBR K.allows (taken_record cell (link_in seat.new.me.0.object) (payload_in seat.new.me.0.object) (looked_view (cell_at table.now.words.shared.key cell 0) result seat.old.me.0)) seat.old.me seat.new.me × (length (payload_in seat.new.me.0.object) ≡ 4) }
+    ensures missed { result ≢ 0 → Went P.QSBR K.allows (looked_view (cell_at table.now.words.shared.key cell 0) result seat.old.me.0) seat.old.me seat.new.me }
+{
+    let place = table.cell_place(cell, 0);
+    table
+        .words
+        .shared
+        .compare_exchange::<Takes<P, K>>(seat, place, 0, 2 * number)
+}
+
+/// Stores the link of a fresh record. A writer goes on knowing its chains. It never waits.
+pub fn store_link<P: GracePlan, K: ChainRule>(
+    table: &LiveTable<P, K>,
+    seat: &mut LiveSeat,
+    cell: usize,
+    link: u64,
+)
+    requires seat { (seat.old.table_id ≡ table.now.words.shared.table_id) × (seat.old.me.0.sizes ≡ table.now.words.shared.key) × (cell < table.now.pool) }
+    requires right { IsFresh seat.old.me.0 × (cell_in seat.old.me.0.object ≡ cell) }
+    ensures seat { Keeps seat.old seat.new }
+    ensures linked { Went P.QSBR K.allows (linked_view link seat.old.me.0) seat.old.me seat.new.me × KnowsChains seat.old.me.0 seat.new.me.0 }
+{
+    let place = table.cell_place(cell, 1);
+    table
+        .words
+        .shared
+        .store::<StoresLink<P, K>>(seat, place, link);
+}
+
+/// Stores one of the four payload words of a fresh record, the first one at `index` 0. A writer goes on knowing its
+/// chains. It never waits.
+pub fn store_word<P: GracePlan, K: ChainRule>(
+    table: &LiveTable<P, K>,
+    seat: &mut LiveSeat,
+    cell: usize,
+    index: usize,
+    word: u64,
+)
+    requires seat { (seat.old.table_id ≡ table.now.words.shared.table_id) × (seat.old.me.0.sizes ≡ table.now.words.shared.key) × (cell < table.now.pool) × (index < 4) }
+    requires right { IsFresh seat.old.me.0 × (cell_in seat.old.me.0.object ≡ cell) }
+    ensures seat { Keeps seat.old seat.new }
+    ensures worded { Went P.QSBR K.allows (worded_view index word seat.old.me.0) seat.old.me seat.new.me × KnowsChains seat.old.me.0 seat.new.me.0 }
+{
+    let place = table.cell_place(cell, index + 2);
+    table
+        .words
+        .shared
+        .store::<StoresWord<P, K>>(seat, place, word);
+}
+
+/// Frees a fresh record: the store of `discard`. Its object's number is given to no other. It never waits.
+pub fn store_discard<P: GracePlan, K: ChainRule>(
+    table: &LiveTable<P, K>,
+    seat: &mut LiveSeat,
+    cell: usize,
+)
+    requires seat { (seat.old.table_id ≡ table.now.words.shared.table_id) × (cell < table.now.pool) }
+    requires right { IsFresh seat.old.me.0 × (cell_in seat.old.me.0.object ≡ cell) }
+    ensures seat { Keeps seat.old seat.new }
+    ensures discarded { Went P.QSBR K.allows (but_object seat.old.me.0) seat.old.me seat.new.me }
+{
+    let place = table.cell_place(cell, 0);
+    table.words.shared.store::<Discards<P, K>>(seat, place, 0);
+}

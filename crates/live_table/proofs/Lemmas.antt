@@ -1,0 +1,2 @@
+-- The lemmas of this crate that crates above it cite.
+pub use Rattle.live_table.proofs.Chains.{alive_linked, unclaimed, all_known, claims_own, knows_first, knows_own, here, lows, goes_on}
