@@ -2,6 +2,8 @@
 //! Tests of the library over live threads by the public faces of its crates.
 
 #[cfg(test)]
+mod chains;
+#[cfg(test)]
 mod domains;
 #[cfg(test)]
 mod grace_periods;
