@@ -24,7 +24,8 @@ abbrev pub IsAllowedBy : Log → LiveEvent → Type 0
 IsAllowedBy log (Object d) = IsAllowed (state_of log) (event_of d)
 IsAllowedBy log _ = Unit {0}
 
--- the rule of chains allows the event after every log that goes on from what the seat has seen and heard, in which its chains are as it knows them
+-- the rule of chains allows the event after every log that goes on from what the seat has seen and heard, in which its
+-- chains are as it knows them
 abbrev pub MayWrite : Bool → (Log → LiveEvent → Type 0) → View → LiveEvent → Type 0
 MayWrite qsbr allows v e = (log : Log) → Begins v.seen log → Begins v.heard log → IsLiveRun qsbr allows log → AreAsKnown log v.chains → IsAllowedBy log e → allows log e
 

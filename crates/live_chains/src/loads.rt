@@ -13,8 +13,8 @@ use live_rule::LiveSeat;
 use live_table::LiveTable;
 
 /// Loads the head of a chain, liburcu's `rcu_dereference` of its first pointer: 0 where the chain is empty, else 1 more
-/// than the first object's record. A reader's open section stays open, and a writer goes on knowing its chains. It never
-/// waits.
+/// than the first object's record. A reader's open section stays open, and a writer goes on knowing its chains. It
+/// never waits.
 pub fn load_head<P: GracePlan, K: ChainRule>(
     table: &LiveTable<P, K>,
     seat: &mut LiveSeat,
@@ -31,9 +31,9 @@ pub fn load_head<P: GracePlan, K: ChainRule>(
     table.words.shared.load::<LooksHead<P, K>>(seat, place)
 }
 
-/// Loads the link of a record whose object may be read, liburcu's `rcu_dereference` of its next pointer: 0 where nothing
-/// follows, else 1 more than the record of what follows. A section that may hold the object may hold that too. It never
-/// waits.
+/// Loads the link of a record whose object may be read, liburcu's `rcu_dereference` of its next pointer: 0 where
+/// nothing follows, else 1 more than the record of what follows. A section that may hold the object may hold that too.
+/// It never waits.
 pub fn load_link<P: GracePlan, K: ChainRule>(
     table: &LiveTable<P, K>,
     seat: &mut LiveSeat,

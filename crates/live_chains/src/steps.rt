@@ -51,8 +51,8 @@ pub fn store_push<P: GracePlan, K: ChainRule>(
 }
 
 /// The store of a replacement: what led to an object leads to the seat's fresh record, whose link leads to what follows
-/// that object. The record `before` is that of the object before it, or none where it is the first one. The seat has the
-/// right to what was replaced. It never waits.
+/// that object. The record `before` is that of the object before it, or none where it is the first one. The seat has
+/// the right to what was replaced. It never waits.
 pub fn store_replace<P: GracePlan, K: ChainRule>(
     table: &LiveTable<P, K>,
     seat: &mut LiveSeat,
