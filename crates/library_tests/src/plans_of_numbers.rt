@@ -1,7 +1,7 @@
 //! Whole grace periods of the quiescent-state flavour, turn by turn.
 
-use gp_qsbr::QsbrPlan;
 use gp_memb::{Action, GracePlan, Turn};
+use gp_qsbr::QsbrPlan;
 use reader_word::qs_announced;
 
 #[test]

@@ -1,11 +1,11 @@
 //! Rows of words, locks and unlocks in both layouts.
 
+use Layout::{Narrow, Wide};
+use rcu_model::Refusal;
 use reader_word::{
     Layout, count, entered, is_open, left, phase_of, qs_announced, qs_is_online, qs_stands_in_way,
     stands_in_way,
 };
-use Layout::{Narrow, Wide};
-use rcu_model::Refusal;
 
 #[test]
 fn locks(rt: HostRuntime) {

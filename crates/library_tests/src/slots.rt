@@ -1,7 +1,7 @@
 //! What clauses can't say: that calls succeed where there is memory, and at the greatest number of slots.
 
-use registry::{Registry, Slot};
 use rcu_model::Refusal;
+use registry::{Registry, Slot};
 use std::alloc::Global;
 
 /// Claims slots until one is refused: the slots, and the refusal.

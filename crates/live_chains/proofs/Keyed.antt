@@ -41,16 +41,16 @@ module _ (qsbr : Bool) (v : View) (own : IsWriter v) (listed : IsListed v) where
       let past = note_past log run b same o x (not_has (state_of log).used o made) in
       let here : now o ≡ x = at_object_same o x (note_of log) in
       subst (Falls now) (sym (at_number_same c (o ∷ (state_of log).chain c) (state_of log).chain ∙ ap (λ (l : List ObjectId). o ∷ l) same))
-        (falls_push now (own_in v.chains).objects o
-          (λ p h. subst (λ (z : (ℕ × List ℕ) × (ℕ × List ℕ)). (key_of z.0 ≢ key_of z.1) × (rank_of z.0 < rank_of z.1)) (λ i. (sym (past p h) i, sym here i)) (above p h))
-          (falls_same (note_of v.seen) now (own_in v.chains).objects past falls))
+      (falls_push now (own_in v.chains).objects o
+      (λ p h. subst (λ (z : (ℕ × List ℕ) × (ℕ × List ℕ)). (key_of z.0 ≢ key_of z.1) × (rank_of z.0 < rank_of z.1)) (λ i. (sym (past p h) i, sym here i)) (above p h))
+      (falls_same (note_of v.seen) now (own_in v.chains).objects past falls))
 
   pub may_cut : (o : ObjectId) → Falls (note_of v.seen) (own_in v.chains).objects → MayWrite qsbr keyed v (cut_of o v)
   may_cut o falls log b heard run known made =
       let same = as_known log known in
       let c : ℕ = (own_in v.chains).chain in
       subst (Falls (note_of log)) (sym (at_number_same c (without_object o ((state_of log).chain c)) (state_of log).chain ∙ ap (without_object o) same))
-        (falls_cut (note_of log) (own_in v.chains).objects o (falls_same (note_of v.seen) (note_of log) (own_in v.chains).objects (note_in_log log b run) falls))
+      (falls_cut (note_of log) (own_in v.chains).objects o (falls_same (note_of v.seen) (note_of log) (own_in v.chains).objects (note_in_log log b run) falls))
 
   -- a replacement that keeps key and rank
   pub may_replace : (o : ObjectId) → In (own_in v.chains).objects o → Falls (note_of v.seen) (own_in v.chains).objects → (key_of (0, payload_in v.object) ≡ key_of (note_of v.seen o)) × (rank_of (0, payload_in v.object) ≡ rank_of (note_of v.seen o)) → MayWrite qsbr keyed v (replace_of o v)
@@ -62,7 +62,9 @@ module _ (qsbr : Bool) (v : View) (own : IsWriter v) (listed : IsListed v) where
       let now : ObjectId → ℕ × List ℕ = at_object m x (note_of log) in
       let past = note_past log run b same m x (not_has (state_of log).used m made.1) in
       let here : now m ≡ x = at_object_same m x (note_of log) in
-      let was = note_in_log log b run o at in
-      (subst (Falls now) (sym (at_number_same c (replaced o m ((state_of log).chain c)) (state_of log).chain ∙ ap (replaced o m) same))
-        (falls_replaced (note_of v.seen) now (own_in v.chains).objects o m past (ap key_of here ∙ kept.0, ap rank_of here ∙ kept.1) at falls),
-      kept.0 ∙ ap key_of (sym was), kept.1 ∙ ap rank_of (sym was))
+      let was = note_in_log log b run o at in (
+        subst (Falls now) (sym (at_number_same c (replaced o m ((state_of log).chain c)) (state_of log).chain ∙ ap (replaced o m) same))
+            (falls_replaced (note_of v.seen) now (own_in v.chains).objects o m past (ap key_of here ∙ kept.0, ap rank_of here ∙ kept.1) at falls),
+        kept.0 ∙ ap key_of (sym was),
+        kept.1 ∙ ap rank_of (sym was),
+      )

@@ -6,13 +6,13 @@ ghost use Rattle.std.specs.Prelude.{◌≡◌, ◌<◌, IsTrue};
 ghost use Rattle.live_table.specs.Rights.{IsFresh, cell_in};
 ghost use Rattle.live_table.specs.Steps.{Keeps};
 
+use gp_memb::{GracePlan, MembPlan};
+use gp_qsbr::QsbrPlan;
 use live_words::{
     AnyChain, LiveSeat, LiveTable, draw_number, free_chain, hold_chain, load_head, load_header,
     load_last, load_link, load_note, load_word, push, store_discard, store_link, store_note,
     store_push, store_word, take_cell,
 };
-use gp_memb::{GracePlan, MembPlan};
-use gp_qsbr::QsbrPlan;
 
 /// Takes a record for the next object, and says whether it did.
 fn fresh_record<P: GracePlan>(

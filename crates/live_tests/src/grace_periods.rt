@@ -1,9 +1,9 @@
 //! Asks, polls and answers at concrete types of both flavours. Expected words are those of the layout: the sequence
 //! number is word 16, and the phase or number word 32.
 
-use live_grace::{Answer, GraceWriter, ask, poll, start_poll};
 use gp_memb::MembPlan;
 use gp_qsbr::QsbrPlan;
+use live_grace::{Answer, GraceWriter, ask, poll, start_poll};
 use live_log::AnyChain;
 use live_table::LiveTable;
 

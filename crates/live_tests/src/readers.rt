@@ -6,9 +6,9 @@ ghost use Rattle.std.specs.Arc.{arc_value};
 ghost use Rattle.live_rule.specs.Views.{first_view};
 
 use crate::registering::opened;
-use live_read::{Reader, Record, Site, Witness, inform};
 use gp_memb::{GracePlan, MembPlan};
 use gp_qsbr::QsbrPlan;
+use live_read::{Reader, Record, Site, Witness, inform};
 use live_words::{AnyChain, ChainRule, LiveSeat, LiveTable};
 use rcu_model::Refusal;
 use std::alloc::Global;
@@ -145,7 +145,10 @@ fn announcements(rt: HostRuntime) {
         &rt, "memory",
     );
     let words = Arc::new(rt.alloc(), table).expect(&rt, "memory");
-    let (away, busy, stored) = quiescent::<Brand>(rt.alloc(), &words, root).expect(&rt, "not refused");
+    let (away, busy, stored) = quiescent::<Brand>(rt.alloc(), &words, root).expect(
+        &rt,
+        "not refused",
+    );
     assert_eq!(rt; away, [true, true, true, true, true]);
     assert_eq!(rt; busy, [true, true, true, true]);
     assert_eq!(rt; stored, [1, 1, 0]);

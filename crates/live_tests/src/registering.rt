@@ -5,9 +5,9 @@ ghost use Rattle.std.specs.Prelude.{◌≡◌, ◌<◌, ◌∷◌, [], true, fal
 ghost use Rattle.std.specs.Arc.{arc_value};
 ghost use Rattle.live_rule.specs.Views.{first_view};
 
-use live_read::{Record, Registrar, Site};
 use gp_memb::{GracePlan, MembPlan};
 use gp_qsbr::QsbrPlan;
+use live_read::{Record, Registrar, Site};
 use live_words::{AnyChain, ChainRule, LiveSeat, LiveTable};
 use rcu_model::Refusal;
 use std::alloc::Global;

@@ -6,13 +6,13 @@ ghost use Rattle.live_rule.specs.Views.{first_view};
 ghost use Rattle.live_rule.specs.declared.rights.GraceRight.TheVariants.{Rests};
 ghost use Rattle.live_rule.specs.declared.rights.SlotRight.TheVariants.{Owns};
 
+use gp_memb::{GracePlan, MembPlan};
+use gp_qsbr::QsbrPlan;
 use live_words::{
     AnyChain, ChainRule, LiveSeat, LiveTable, claim, load_group, load_present, load_seq, load_slot,
     lock, offline, online, quiescent, release, store_clear, store_even, store_odd, store_present,
     store_set, unlock,
 };
-use gp_memb::{GracePlan, MembPlan};
-use gp_qsbr::QsbrPlan;
 use rcu_model::Refusal;
 
 /// A seat for the first slot of a new table, whose bit is set.
