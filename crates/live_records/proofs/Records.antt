@@ -277,7 +277,7 @@ module _ {S : Type 0} (qsbr : Bool) (allows : Log → LiveEvent → Type 0) (key
   discards slots id me a is a_is s r deep at fits =
       let v : View = me.0 in
       let b = r.seen id v at in
-      let w : View = record (but_object v) { seen = r.log } in (
+      let w : View = record (looked_view a 0 (but_object v)) { seen = r.log } in (
         w,
         keeps,
         tt,

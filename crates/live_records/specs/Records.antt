@@ -49,6 +49,6 @@ module _ {S : Type 0} (qsbr : Bool) (allows : Log → LiveEvent → Type 0) wher
   abbrev pub worded : Step S → Me S View → ℕ → Me S View → Type 0
   worded st m n m' = (j : ℕ) → j < 4 → st.word ≡ cell_at m.0.sizes (cell_in m.0.object) (j + 2) → Went qsbr allows (worded_view j st.first m.0) m m' × KnowsChains m.0 m'.0
 
-  -- the record was freed
+  -- the record was freed, by this word
   abbrev pub discarded : Step S → Me S View → ℕ → Me S View → Type 0
-  discarded st m n m' = Went qsbr allows (but_object m.0) m m'
+  discarded st m n m' = Went qsbr allows (looked_view st.word st.first (but_object m.0)) m m'

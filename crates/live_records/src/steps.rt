@@ -121,7 +121,8 @@ pub fn store_word<P: GracePlan, K: ChainRule>(
         .store::<StoresWord<P, K>>(seat, place, word);
 }
 
-/// Frees a fresh record: the store of `discard`. Its object's number is given to no other. It never waits.
+/// Frees a fresh record: the store of `discard`, which is kept among the looks. Its object's number is given to no
+/// other. It never waits.
 pub fn store_discard<P: GracePlan, K: ChainRule>(
     table: &LiveTable<P, K>,
     seat: &mut LiveSeat,
@@ -130,7 +131,7 @@ pub fn store_discard<P: GracePlan, K: ChainRule>(
     requires seat { (seat.old.table_id ≡ table.now.words.shared.table_id) × (cell < table.now.pool) }
     requires right { IsFresh seat.old.me.0 × (cell_in seat.old.me.0.object ≡ cell) }
     ensures seat { Keeps seat.old seat.new }
-    ensures discarded { Went P.QSBR K.allows (but_object seat.old.me.0) seat.old.me seat.new.me }
+    ensures discarded { Went P.QSBR K.allows (looked_view (cell_at table.now.words.shared.key cell 0) 0 (but_object seat.old.me.0)) seat.old.me seat.new.me }
 {
     let place = table.cell_place(cell, 0);
     table.words.shared.store::<Discards<P, K>>(seat, place, 0);
