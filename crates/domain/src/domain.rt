@@ -39,11 +39,11 @@ impl<P: GracePlan + Drop, K: ChainRule, B: Site> Domain<P, K, B> {
         rt: &R,
         witness: &mut W,
     ) -> Result<Reader<P, K, B>, Refusal>
-        requires { W.table_of witness.old ≡ B.table }
+        requires { W.home witness.old ≡ (B.table, B.sizes) }
         ensures idle { IfOk result (λ r. (r.depth ≡ 0) × (r.locks ≡ 0) × (B.qsbr ≡ true → r.word ≡ 0)) }
         ensures told { IfOk result (λ r. IsAfter P.QSBR K.allows (W.seen witness.old) (W.heard witness.old) r.seat.me.0.heard) }
         ensures refused { IfErr result (λ e. e ≡ NoSlot) }
-        ensures witness { (W.seen witness.new ≡ W.seen witness.old) × (W.heard witness.new ≡ W.heard witness.old) × (W.table_of witness.new ≡ B.table) × (W.standing witness.new ≡ W.standing witness.old) }
+        ensures witness { (W.seen witness.new ≡ W.seen witness.old) × (W.heard witness.new ≡ W.heard witness.old) × (W.home witness.new ≡ (B.table, B.sizes)) × (W.standing witness.new ≡ W.standing witness.old) }
         ensures inside { W.is_in witness.old → W.is_in witness.new }
     {
         self.registrar.lock(rt).register(witness)
@@ -61,13 +61,13 @@ impl<P: GracePlan + Drop, K: ChainRule, B: Site> Domain<P, K, B> {
         witness: &mut W,
         reader: Reader<P, K, B>,
     ) -> Result<(), (Refusal, Reader<P, K, B>)>
-        requires { W.table_of witness.old ≡ B.table }
+        requires { W.home witness.old ≡ (B.table, B.sizes) }
         ensures left { IfOk result (λ _. reader.depth ≡ 0) }
         ensures kept { IfOk result (λ _. IsAfter P.QSBR K.allows (W.seen witness.old) (W.heard witness.old) (W.heard witness.new)) }
         ensures told { IfOk result (λ _. Begins reader.seat.me.0.seen (W.heard witness.new)) }
         ensures closed { IfOk result (λ _. P.QSBR ≡ true → reader.word ≢ 0 → Has (Close reader.slot (count_in reader.seat.me.0.slot)) (W.heard witness.new)) }
         ensures busy { IfErr result (λ e. (e.0 ≡ Busy) × (e.1 ≡ reader) × (0 < reader.depth) × (W.heard witness.new ≡ W.heard witness.old)) }
-        ensures witness { (W.seen witness.new ≡ W.seen witness.old) × (W.table_of witness.new ≡ B.table) × (W.standing witness.new ≡ W.standing witness.old) }
+        ensures witness { (W.seen witness.new ≡ W.seen witness.old) × (W.home witness.new ≡ (B.table, B.sizes)) × (W.standing witness.new ≡ W.standing witness.old) }
         ensures inside { W.is_in witness.old → W.is_in witness.new }
     {
         let mut registrar = self.registrar.lock(rt);
@@ -79,9 +79,9 @@ impl<P: GracePlan + Drop, K: ChainRule, B: Site> Domain<P, K, B> {
 
     /// A record that has seen and heard as much as the witness, for another thread. It never waits.
     pub fn split<W: Witness>(&self, witness: &mut W) -> Record<B>
-        requires { W.table_of witness.old ≡ B.table }
+        requires { W.home witness.old ≡ (B.table, B.sizes) }
         ensures told { (result.seat.me.0.seen ≡ W.seen witness.old) × (result.seat.me.0.heard ≡ W.heard witness.old) }
-        ensures same { (W.seen witness.new ≡ W.seen witness.old) × (W.heard witness.new ≡ W.heard witness.old) × (W.table_of witness.new ≡ B.table) × (W.standing witness.new ≡ W.standing witness.old) }
+        ensures same { (W.seen witness.new ≡ W.seen witness.old) × (W.heard witness.new ≡ W.heard witness.old) × (W.home witness.new ≡ (B.table, B.sizes)) × (W.standing witness.new ≡ W.standing witness.old) }
         ensures inside { W.is_in witness.old → W.is_in witness.new }
     {
         Record::split(&self.table, witness)
@@ -90,11 +90,11 @@ impl<P: GracePlan + Drop, K: ChainRule, B: Site> Domain<P, K, B> {
     /// The one witness hears what the other has seen and heard of, beside all that it had seen and heard of itself. It
     /// never waits.
     pub fn inform<S: Witness, T: Witness>(&self, from: &mut S, to: &mut T)
-        requires { (S.table_of from.old ≡ B.table) × (T.table_of to.old ≡ B.table) }
+        requires { (S.home from.old ≡ (B.table, B.sizes)) × (T.home to.old ≡ (B.table, B.sizes)) }
         ensures told { Begins (S.seen from.old) (T.heard to.new) × Begins (S.heard from.old) (T.heard to.new) }
         ensures kept { IsAfter P.QSBR K.allows (T.seen to.old) (T.heard to.old) (T.heard to.new) }
-        ensures from { (S.seen from.new ≡ S.seen from.old) × (S.heard from.new ≡ S.heard from.old) × (S.table_of from.new ≡ B.table) × (S.standing from.new ≡ S.standing from.old) }
-        ensures to { (T.seen to.new ≡ T.seen to.old) × (T.table_of to.new ≡ B.table) × (T.standing to.new ≡ T.standing to.old) }
+        ensures from { (S.seen from.new ≡ S.seen from.old) × (S.heard from.new ≡ S.heard from.old) × (S.home from.new ≡ (B.table, B.sizes)) × (S.standing from.new ≡ S.standing from.old) }
+        ensures to { (T.seen to.new ≡ T.seen to.old) × (T.home to.new ≡ (B.table, B.sizes)) × (T.standing to.new ≡ T.standing to.old) }
         ensures inside { (S.is_in from.old → S.is_in from.new) × (T.is_in to.old → T.is_in to.new) }
     {
         live_read::inform(&self.table, from, to);
@@ -119,10 +119,10 @@ impl<P: GracePlan + Drop, K: ChainRule, B: Site> Domain<P, K, B> {
     ///
     /// Refused with `Exhausted` exactly where the sequence number that its ask loads is at or above 2^62.
     pub fn synchronize<W: Witness, R: Wait>(&self, rt: &R, witness: &mut W) -> Result<(), Refusal>
-        requires { W.table_of witness.old ≡ B.table }
+        requires { W.home witness.old ≡ (B.table, B.sizes) }
         ensures ended { IfOk result (λ _. Synchronized P.QSBR K.allows (W.seen witness.old) (W.heard witness.old) (W.loads witness.old) (W.loads witness.new) (W.heard witness.new)) }
         ensures refused { IfErr result (λ e. (e ≡ Exhausted) × LoadedOnce P.QSBR K.allows (W.seen witness.old) (W.heard witness.old) (W.loads witness.old) (W.loads witness.new) (W.heard witness.new) × (2 ^ 62 ≤ seq_of (W.heard witness.new))) }
-        ensures witness { (W.seen witness.new ≡ W.seen witness.old) × (W.table_of witness.new ≡ B.table) × (W.standing witness.new ≡ W.standing witness.old) }
+        ensures witness { (W.seen witness.new ≡ W.seen witness.old) × (W.home witness.new ≡ (B.table, B.sizes)) × (W.standing witness.new ≡ W.standing witness.old) }
         ensures inside { W.is_in witness.old → W.is_in witness.new }
     {
         let mut seat = witness.tell(&self.table);
@@ -137,12 +137,12 @@ impl<P: GracePlan + Drop, K: ChainRule, B: Site> Domain<P, K, B> {
     /// Refused with `Exhausted` exactly where the sequence number that it loads is at or above 2^62. It never waits and
     /// takes no memory.
     pub fn start_poll<W: Witness>(&self, witness: &mut W) -> Result<LiveCookie, Refusal>
-        requires { W.table_of witness.old ≡ B.table }
+        requires { W.home witness.old ≡ (B.table, B.sizes) }
         ensures loaded { LoadedOnce P.QSBR K.allows (W.seen witness.old) (W.heard witness.old) (W.loads witness.old) (W.loads witness.new) (W.heard witness.new) }
         ensures cookie { IfOk result (λ c. (c.asked.value.me.0.seen ≡ W.heard witness.new) × (cookie_for (seq_of (W.heard witness.new)) ≡ Ok c.cookie)) }
         ensures refused { IfErr result (λ e. e ≡ Exhausted) }
         ensures taken { IsOk result ↔ (seq_of (W.heard witness.new) < 2 ^ 62) }
-        ensures witness { (W.seen witness.new ≡ W.seen witness.old) × (W.table_of witness.new ≡ B.table) × (W.standing witness.new ≡ W.standing witness.old) }
+        ensures witness { (W.seen witness.new ≡ W.seen witness.old) × (W.home witness.new ≡ (B.table, B.sizes)) × (W.standing witness.new ≡ W.standing witness.old) }
         ensures inside { W.is_in witness.old → W.is_in witness.new }
     {
         let mut seat = witness.tell(&self.table);
@@ -156,11 +156,11 @@ impl<P: GracePlan + Drop, K: ChainRule, B: Site> Domain<P, K, B> {
     /// the cookie's log has ended, where the caller had seen that log or heard of it. It never waits and takes no
     /// memory.
     pub fn poll<W: Witness>(&self, witness: &mut W, cookie: &LiveCookie) -> bool
-        requires { W.table_of witness.old ≡ B.table }
+        requires { W.home witness.old ≡ (B.table, B.sizes) }
         ensures loaded { LoadedOnce P.QSBR K.allows (W.seen witness.old) (W.heard witness.old) (W.loads witness.old) (W.loads witness.new) (W.heard witness.new) }
         ensures exact { IsTrue result ↔ (cookie.now.cookie ≤ seq_of (W.heard witness.new)) }
         ensures past { Begins cookie.now.asked.value.me.0.seen (W.heard witness.new) → IsTrue result → HaveEnded cookie.now.asked.value.me.0.seen (W.heard witness.new) }
-        ensures witness { (W.seen witness.new ≡ W.seen witness.old) × (W.table_of witness.new ≡ B.table) × (W.standing witness.new ≡ W.standing witness.old) }
+        ensures witness { (W.seen witness.new ≡ W.seen witness.old) × (W.home witness.new ≡ (B.table, B.sizes)) × (W.standing witness.new ≡ W.standing witness.old) }
         ensures inside { W.is_in witness.old → W.is_in witness.new }
     {
         let mut seat = witness.tell(&self.table);

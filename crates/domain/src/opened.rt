@@ -55,7 +55,7 @@ impl<P: GracePlan + Drop, K: ChainRule> Opened<P, K> {
     ///
     /// Refused with `Memory` where memory is. It never waits.
     pub fn named<B: Site>(self, alloc: Global) -> Result<(Domain<P, K, B>, Record<B>), Refusal>
-        requires { (P.QSBR ≡ B.qsbr) × (self.table.words.shared.table_id ≡ B.table) × (self.table.slots ≡ B.slots) }
+        requires { (P.QSBR ≡ B.qsbr) × (self.table.words.shared.table_id ≡ B.table) × (self.table.words.shared.key ≡ B.sizes) }
         ensures ok { IfOk result (λ made. (made.1.seat.me.0.seen ≡ []) × (made.1.seat.me.0.heard ≡ [])) }
         ensures err { IfErr result (λ e. e ≡ Memory) }
     {

@@ -58,7 +58,7 @@ fn repeat<P: GracePlan + Drop + Send + Sync, B: Site + Send + Sync, R: Threads +
     kind: Kind,
     count: u64,
 ) -> Result<u64, Refusal>
-    requires { (P.QSBR ≡ B.qsbr) × (opened.table.words.shared.table_id ≡ B.table) × (opened.table.slots ≡ B.slots) }
+    requires { (P.QSBR ≡ B.qsbr) × (opened.table.words.shared.table_id ≡ B.table) × (opened.table.words.shared.key ≡ B.sizes) }
 {
     let (domain, mut record) = opened.named::<B>(alloc)?;
     let mut one = domain.register(rt, &mut record)?;

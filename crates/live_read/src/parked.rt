@@ -28,8 +28,8 @@ pub(crate) struct Parked<P: GracePlan, K: ChainRule, B: Site> {
     // The word of the slot, which is closed.
     pub(crate) word: u64,
     pub(crate) site: PhantomData<B>,
-    pub(crate) ghost seated: { (seat.table_id ≡ B.table) × ((arc_value table).words.shared.table_id ≡ B.table) × (seat.me.1 ≡ []) },
-    pub(crate) ghost idle: { IsIdle seat.me.0 slot × (word_in seat.me.0.slot ≡ word) × (slot < (arc_value table).slots) × ((arc_value table).slots ≡ B.slots) },
+    pub(crate) ghost seated: { (seat.table_id ≡ B.table) × ((arc_value table).words.shared.table_id ≡ B.table) × (seat.me.0.sizes ≡ B.sizes) × (seat.me.1 ≡ []) },
+    pub(crate) ghost idle: { IsIdle seat.me.0 slot × (word_in seat.me.0.slot ≡ word) × (slot < (arc_value table).slots) × ((arc_value table).words.shared.key ≡ B.sizes) },
     pub(crate) ghost closed: { (B.qsbr ≡ false → count_of Wide word ≡ 0) × (B.qsbr ≡ true → word ≡ 0) },
 }
 
@@ -43,8 +43,8 @@ impl<P: GracePlan, K: ChainRule, B: Site> Parked<P, K, B> {
         root: &mut LiveSeat,
         slot: usize,
     ) -> Parked<P, K, B>
-        requires site { (root.old.table_id ≡ B.table) × ((arc_value table).words.shared.table_id ≡ B.table) × ((arc_value table).slots ≡ B.slots) }
-        requires spare { (root.old.me.0.slot ≡ Spare slot) × (slot < B.slots) }
+        requires site { (root.old.table_id ≡ B.table) × (root.old.me.0.sizes ≡ B.sizes) × ((arc_value table).words.shared.table_id ≡ B.table) × ((arc_value table).words.shared.key ≡ B.sizes) }
+        requires spare { (root.old.me.0.slot ≡ Spare slot) × (slot < B.sizes.slots) }
         ensures slot { result.slot ≡ slot }
         ensures root { (root.new.table_id ≡ B.table) × (root.new.me ≡ (record root.old.me.0 { slot = Spare (slot + 1) }, root.old.me.1)) }
     {
@@ -74,7 +74,7 @@ pub(crate) struct GroupWords<B: Site> {
     pub(crate) seat: LiveSeat,
     pub(crate) words: [u64; 4],
     pub(crate) site: PhantomData<B>,
-    pub(crate) ghost seated: { (seat.table_id ≡ B.table) × (seat.me.1 ≡ []) × (seat.me.0.slot ≡ Nothing) },
+    pub(crate) ghost seated: { (seat.table_id ≡ B.table) × (seat.me.0.sizes ≡ B.sizes) × (seat.me.1 ≡ []) × (seat.me.0.slot ≡ Nothing) },
     pub(crate) ghost owns: { seat.me.0.groups ≡ groups_right.Owns words },
 }
 
@@ -83,7 +83,7 @@ impl<B: Site> GroupWords<B> {
 
     /// Of a new table, by a seat with the right to them.
     pub(crate) fn of(seat: LiveSeat) -> GroupWords<B>
-        requires { (seat.table_id ≡ B.table) × (seat.me.1 ≡ []) × (seat.me.0.slot ≡ Nothing) × (seat.me.0.groups ≡ groups_right.Owns (0 ∷ 0 ∷ 0 ∷ 0 ∷ [])) }
+        requires { (seat.table_id ≡ B.table) × (seat.me.0.sizes ≡ B.sizes) × (seat.me.1 ≡ []) × (seat.me.0.slot ≡ Nothing) × (seat.me.0.groups ≡ groups_right.Owns (0 ∷ 0 ∷ 0 ∷ 0 ∷ [])) }
         ensures { result.words ≡ 0 ∷ 0 ∷ 0 ∷ 0 ∷ [] }
     {
         GroupWords {

@@ -37,9 +37,9 @@ pub struct Reader<P: GracePlan, K: ChainRule, B: Site> {
     /// How many of them are locks of the standard's face.
     pub locks: u64,
     pub(crate) site: PhantomData<B>,
-    pub(crate) ghost seated: { (seat.table_id ≡ B.table) × ((arc_value table).words.shared.table_id ≡ B.table) × (seat.me.1 ≡ []) },
+    pub(crate) ghost seated: { (seat.table_id ≡ B.table) × ((arc_value table).words.shared.table_id ≡ B.table) × (seat.me.0.sizes ≡ B.sizes) × (seat.me.1 ≡ []) },
     pub(crate) ghost flavour: { qsbr ≡ B.qsbr },
-    pub(crate) ghost owns: { IsOwner seat.me.0 slot × (word_in seat.me.0.slot ≡ word) × (slot < (arc_value table).slots) × ((arc_value table).slots ≡ B.slots) },
+    pub(crate) ghost owns: { IsOwner seat.me.0 slot × (word_in seat.me.0.slot ≡ word) × (slot < (arc_value table).slots) × ((arc_value table).words.shared.key ≡ B.sizes) },
     pub(crate) ghost counted: { (B.qsbr ≡ false → count_of Wide word ≡ depth) × (B.qsbr ≡ true → word ≡ 0 → depth ≡ 0) × (locks ≤ depth) × (depth ≤ 2147483647) },
 }
 
@@ -56,8 +56,8 @@ impl<P: GracePlan, K: ChainRule, B: Site> Reader<P, K, B> {
         slot: usize,
         word: u64,
     ) -> Reader<P, K, B>
-        requires site { (P.QSBR ≡ B.qsbr) × (seat.table_id ≡ B.table) × ((arc_value table).words.shared.table_id ≡ B.table) × (seat.me.1 ≡ []) }
-        requires owns { IsOwner seat.me.0 slot × (word_in seat.me.0.slot ≡ word) × (slot < (arc_value table).slots) × ((arc_value table).slots ≡ B.slots) }
+        requires site { (P.QSBR ≡ B.qsbr) × (seat.table_id ≡ B.table) × ((arc_value table).words.shared.table_id ≡ B.table) × (seat.me.0.sizes ≡ B.sizes) × (seat.me.1 ≡ []) }
+        requires owns { IsOwner seat.me.0 slot × (word_in seat.me.0.slot ≡ word) × (slot < (arc_value table).slots) × ((arc_value table).words.shared.key ≡ B.sizes) }
         requires closed { (B.qsbr ≡ false → count_of Wide word ≡ 0) × (B.qsbr ≡ true → word ≡ 0) }
         ensures { (result.seat ≡ seat) × (result.slot ≡ slot) × (result.word ≡ word) × (result.depth ≡ 0) × (result.locks ≡ 0) }
     {
@@ -75,10 +75,10 @@ impl<P: GracePlan, K: ChainRule, B: Site> Reader<P, K, B> {
 
     // Hears what the witness has seen and heard of. It never waits.
     pub(crate) fn hear<W: Witness>(&mut self, witness: &mut W)
-        requires { W.table_of witness.old ≡ B.table }
+        requires { W.home witness.old ≡ (B.table, B.sizes) }
         ensures reader { (self.new.slot ≡ self.old.slot) × (self.new.word ≡ self.old.word) × (self.new.depth ≡ self.old.depth) × (self.new.locks ≡ self.old.locks) }
         ensures heard { IsAfter P.QSBR K.allows (W.seen witness.old) (W.heard witness.old) self.new.seat.me.0.heard × (self.new.seat.me.0.seen ≡ self.old.seat.me.0.seen) }
-        ensures witness { (W.seen witness.new ≡ W.seen witness.old) × (W.heard witness.new ≡ W.heard witness.old) × (W.table_of witness.new ≡ B.table) × (W.standing witness.new ≡ W.standing witness.old) }
+        ensures witness { (W.seen witness.new ≡ W.seen witness.old) × (W.heard witness.new ≡ W.heard witness.old) × (W.home witness.new ≡ (B.table, B.sizes)) × (W.standing witness.new ≡ W.standing witness.old) }
         ensures inside { W.is_in witness.old → W.is_in witness.new }
     {
         let told = tell_all(&self.table, witness);

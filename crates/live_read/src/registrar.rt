@@ -33,7 +33,7 @@ pub struct Registrar<P: GracePlan, K: ChainRule, B: Site> {
     pub(crate) groups: GroupWords<B>,
     pub(crate) row: Vec<Place<P, K, B>>,
     pub(crate) ghost fits: { Fits registry groups.words row.items },
-    pub(crate) ghost sized: { registry.slots ≡ B.slots },
+    pub(crate) ghost sized: { registry.slots ≡ B.sizes.slots },
 }
 
 impl<P: GracePlan, K: ChainRule, B: Site> Registrar<P, K, B> {
@@ -46,10 +46,10 @@ impl<P: GracePlan, K: ChainRule, B: Site> Registrar<P, K, B> {
         table: &Arc<LiveTable<P, K>>,
         root: &mut LiveSeat,
     ) -> Result<Registrar<P, K, B>, Refusal>
-        requires site { (root.old.table_id ≡ B.table) × ((arc_value table.now).words.shared.table_id ≡ B.table) × ((arc_value table.now).slots ≡ B.slots) × (0 < B.slots) }
+        requires site { (root.old.table_id ≡ B.table) × (root.old.me.0.sizes ≡ B.sizes) × ((arc_value table.now).words.shared.table_id ≡ B.table) × ((arc_value table.now).words.shared.key ≡ B.sizes) × (0 < B.sizes.slots) }
         requires new { (root.old.me.0.slot ≡ Spare 0) × (root.old.me.0.groups ≡ groups_right.Owns (0 ∷ 0 ∷ 0 ∷ 0 ∷ [])) × (root.old.me.1 ≡ []) }
-        ensures registry { IfOk result (λ r. r.registry ≡ unclaimed B.slots) }
-        ensures root { IfOk result (λ _. (root.new.table_id ≡ B.table) × (root.new.me ≡ (record (but_groups root.old.me.0) { slot = Spare B.slots }, []))) }
+        ensures registry { IfOk result (λ r. r.registry ≡ unclaimed B.sizes.slots) }
+        ensures root { IfOk result (λ _. (root.new.table_id ≡ B.table) × (root.new.me ≡ (record (but_groups root.old.me.0) { slot = Spare B.sizes.slots }, []))) }
         ensures refused { IfErr result (λ e. e ≡ Memory) }
     {
         let registry = Registry::new(alloc, table.slots)?;
@@ -69,13 +69,13 @@ impl<P: GracePlan, K: ChainRule, B: Site> Registrar<P, K, B> {
     /// Refused with `NoSlot` exactly where every slot is claimed, and then the registrar is as it was. It takes no
     /// memory and never waits.
     pub fn register<W: Witness>(&mut self, witness: &mut W) -> Result<Reader<P, K, B>, Refusal>
-        requires { (P.QSBR ≡ B.qsbr) × (W.table_of witness.old ≡ B.table) }
+        requires { (P.QSBR ≡ B.qsbr) × (W.home witness.old ≡ (B.table, B.sizes)) }
         ensures registered { IfOk result (λ r. Registers self.old.registry self.new.registry r.slot) }
         ensures idle { IfOk result (λ r. (r.depth ≡ 0) × (r.locks ≡ 0) × (B.qsbr ≡ true → r.word ≡ 0)) }
         ensures told { IfOk result (λ r. IsAfter P.QSBR K.allows (W.seen witness.old) (W.heard witness.old) r.seat.me.0.heard) }
         ensures later { IfOk result (λ r. Begins self.old.groups.seat.me.0.seen r.seat.me.0.seen) }
         ensures refused { IfErr result (λ e. (e ≡ NoSlot) × AllAreClaimed self.old.registry × (self.new.registry ≡ self.old.registry) × (self.new.groups ≡ self.old.groups) × (self.new.row ≡ self.old.row)) }
-        ensures witness { (W.seen witness.new ≡ W.seen witness.old) × (W.heard witness.new ≡ W.heard witness.old) × (W.table_of witness.new ≡ B.table) × (W.standing witness.new ≡ W.standing witness.old) }
+        ensures witness { (W.seen witness.new ≡ W.seen witness.old) × (W.heard witness.new ≡ W.heard witness.old) × (W.home witness.new ≡ (B.table, B.sizes)) × (W.standing witness.new ≡ W.standing witness.old) }
         ensures inside { W.is_in witness.old → W.is_in witness.new }
     {
         let slot = self.registry.claim()?;
@@ -144,10 +144,10 @@ fn park_all<P: GracePlan, K: ChainRule, B: Site>(
     table: &Arc<LiveTable<P, K>>,
     root: &mut LiveSeat,
 ) -> Result<Vec<Place<P, K, B>>, AllocError>
-    requires site { (root.old.table_id ≡ B.table) × ((arc_value table.now).words.shared.table_id ≡ B.table) × ((arc_value table.now).slots ≡ B.slots) }
+    requires site { (root.old.table_id ≡ B.table) × (root.old.me.0.sizes ≡ B.sizes) × ((arc_value table.now).words.shared.table_id ≡ B.table) × ((arc_value table.now).words.shared.key ≡ B.sizes) }
     requires new { (root.old.me.0.slot ≡ Spare 0) × (root.old.me.1 ≡ []) }
-    ensures free { IfOk result (λ row. AreFree row.items B.slots) }
-    ensures root { IfOk result (λ _. (root.new.table_id ≡ B.table) × (root.new.me ≡ (record root.old.me.0 { slot = Spare B.slots }, []))) }
+    ensures free { IfOk result (λ row. AreFree row.items B.sizes.slots) }
+    ensures root { IfOk result (λ _. (root.new.table_id ≡ B.table) × (root.new.me ≡ (record root.old.me.0 { slot = Spare B.sizes.slots }, []))) }
 {
     let mut row = Vec::with_capacity(alloc, table.slots)?;
     for slot in 0..table.slots {

@@ -6,13 +6,14 @@ use std::marker::Brand;
 /// picks it where it begins to use the table.
 pub trait Site {
     ghost use Rattle.atomic_table.specs.Seated.{TableId};
-    ghost use Rattle.std.specs.Prelude.{ℕ, Bool};
+    ghost use Rattle.std.specs.Prelude.{Bool};
+    ghost use Rattle.live_rule.specs.declared.view.Sizes.{Sizes};
 
     /// The table.
     ghost table: { TableId };
 
-    /// How many slots for readers it has.
-    ghost slots: { ℕ };
+    /// How many slots, chains, queues and records it has.
+    ghost sizes: { Sizes };
 
     /// Whether it is of the quiescent-state flavour.
     ghost qsbr: { Bool };
@@ -23,7 +24,7 @@ impl Site for Brand {
 
     ghost table = { record { words = 0; slots = 0; views_name = 0; atom = 0; block = 0; offset = 0; slot_names = [] } };
 
-    ghost slots = { 0 };
+    ghost sizes = { record { slots = 0; chains = 0; queues = 0; pool = 0 } };
 
     ghost qsbr = { false };
 }

@@ -13,9 +13,10 @@ use std::marker::PhantomData;
 
 /// Who makes a call, and keeps what it has seen of the log: a record, or a reader.
 pub trait Witness {
-    ghost use Rattle.std.specs.Prelude.{◌≡◌, List, [], ◌++◌};
+    ghost use Rattle.std.specs.Prelude.{◌≡◌, ℕ, List, [], ◌++◌};
     ghost use Rattle.atomic_table.specs.Seated.{TableId};
     ghost use Rattle.live_log.specs.Log.{Log};
+    ghost use Rattle.live_rule.specs.declared.view.Sizes.{Sizes};
     ghost use Rattle.live_read.specs.Standings.{Standing};
 
     /// The log that it has seen.
@@ -27,8 +28,12 @@ pub trait Witness {
     /// The logs at the loads of the sequence number that were made for it, the last one first.
     ghost loads: { Self → List Log };
 
-    /// The table of the log.
-    ghost table_of: { Self → TableId };
+    /// The words that were loaded or found for it, each with its place, the last one first. Words that a reader or a
+    /// grace period loads are not kept.
+    ghost looks: { Self → List (ℕ × ℕ) };
+
+    /// The table of the log, and its sizes.
+    ghost home: { Self → TableId × Sizes };
 
     /// How it stands beside that: of a reader its slot, its word, its sections so far, and what it has open.
     ghost standing: { Self → Standing };
@@ -36,19 +41,20 @@ pub trait Witness {
     /// Of a reader, that its section of the log is open in what it has seen. It says nothing of a record.
     ghost is_in: { Self → Type 0 };
 
-    /// A seat that has seen and heard as much, and has loaded nothing. It never waits.
+    /// A seat that has seen and heard as much, and has loaded nothing and has no right. It never waits.
     fn tell<P: GracePlan, K: ChainRule>(&mut self, table: &LiveTable<P, K>) -> LiveSeat
-        requires { table.now.words.shared.table_id ≡ table_of self.old }
-        ensures told { (result.table_id ≡ table_of self.old) × (result.me.1 ≡ []) × (result.me.0.seen ≡ seen self.old) × (result.me.0.heard ≡ heard self.old) × (result.me.0.loads ≡ []) }
-        ensures same { (seen self.new ≡ seen self.old) × (heard self.new ≡ heard self.old) × (loads self.new ≡ loads self.old) × (table_of self.new ≡ table_of self.old) × (standing self.new ≡ standing self.old) }
+        requires { table.now.words.shared.table_id ≡ (home self.old).0 }
+        ensures seat { (result.table_id ≡ (home self.old).0) × (result.me.0.sizes ≡ (home self.old).1) × (result.me.1 ≡ []) }
+        ensures told { (result.me.0.seen ≡ seen self.old) × (result.me.0.heard ≡ heard self.old) × (result.me.0.loads ≡ []) × (result.me.0.looks ≡ []) }
+        ensures same { (seen self.new ≡ seen self.old) × (heard self.new ≡ heard self.old) × (loads self.new ≡ loads self.old) × (looks self.new ≡ looks self.old) × (home self.new ≡ home self.old) × (standing self.new ≡ standing self.old) }
         ensures inside { is_in self.old → is_in self.new };
 
     /// It hears what the seat has seen, which is spent, and takes in its loads. It never waits.
     fn learn<P: GracePlan, K: ChainRule>(&mut self, table: &LiveTable<P, K>, other: LiveSeat)
-        requires table { (table.now.words.shared.table_id ≡ table_of self.old) × (other.table_id ≡ table_of self.old) × (other.me.1 ≡ []) }
+        requires table { (table.now.words.shared.table_id ≡ (home self.old).0) × (other.table_id ≡ (home self.old).0) × (other.me.1 ≡ []) }
         ensures heard { heard self.new ≡ other.me.0.seen }
-        ensures loads { loads self.new ≡ other.me.0.loads ++ loads self.old }
-        ensures same { (seen self.new ≡ seen self.old) × (table_of self.new ≡ table_of self.old) × (standing self.new ≡ standing self.old) }
+        ensures loads { (loads self.new ≡ other.me.0.loads ++ loads self.old) × (looks self.new ≡ other.me.0.looks ++ looks self.old) }
+        ensures same { (seen self.new ≡ seen self.old) × (home self.new ≡ home self.old) × (standing self.new ≡ standing self.old) }
         ensures inside { is_in self.old → is_in self.new };
 }
 
@@ -57,13 +63,13 @@ pub trait Witness {
 pub struct Record<B: Site> {
     pub(crate) seat: LiveSeat,
     pub(crate) site: PhantomData<B>,
-    pub ghost seated: { (seat.table_id ≡ B.table) × (seat.me.1 ≡ []) },
+    pub ghost seated: { (seat.table_id ≡ B.table) × (seat.me.0.sizes ≡ B.sizes) × (seat.me.1 ≡ []) },
 }
 
 impl<B: Site> Record<B> {
     /// A record that has seen what the seat has. It never waits.
     pub fn new(seat: LiveSeat) -> Record<B>
-        requires { (seat.table_id ≡ B.table) × (seat.me.1 ≡ []) }
+        requires { (seat.table_id ≡ B.table) × (seat.me.0.sizes ≡ B.sizes) × (seat.me.1 ≡ []) }
         ensures { result.seat ≡ seat }
     {
         Record {
@@ -77,9 +83,9 @@ impl<B: Site> Record<B> {
         table: &LiveTable<P, K>,
         witness: &mut W,
     ) -> Record<B>
-        requires { (table.now.words.shared.table_id ≡ B.table) × (W.table_of witness.old ≡ B.table) }
+        requires { (table.now.words.shared.table_id ≡ B.table) × (W.home witness.old ≡ (B.table, B.sizes)) }
         ensures told { (result.seat.me.0.seen ≡ W.seen witness.old) × (result.seat.me.0.heard ≡ W.heard witness.old) }
-        ensures same { (W.seen witness.new ≡ W.seen witness.old) × (W.heard witness.new ≡ W.heard witness.old) × (W.table_of witness.new ≡ B.table) × (W.standing witness.new ≡ W.standing witness.old) }
+        ensures same { (W.seen witness.new ≡ W.seen witness.old) × (W.heard witness.new ≡ W.heard witness.old) × (W.home witness.new ≡ (B.table, B.sizes)) × (W.standing witness.new ≡ W.standing witness.old) }
         ensures inside { W.is_in witness.old → W.is_in witness.new }
     {
         Record::new(witness.tell(table))
@@ -91,10 +97,10 @@ pub fn tell_all<W: Witness, P: GracePlan, K: ChainRule>(
     table: &LiveTable<P, K>,
     witness: &mut W,
 ) -> LiveSeat
-    requires { table.now.words.shared.table_id ≡ W.table_of witness.old }
-    ensures seat { (result.table_id ≡ W.table_of witness.old) × (result.me.1 ≡ []) }
+    requires { table.now.words.shared.table_id ≡ (W.home witness.old).0 }
+    ensures seat { (result.table_id ≡ (W.home witness.old).0) × (result.me.0.sizes ≡ (W.home witness.old).1) × (result.me.1 ≡ []) }
     ensures told { IsAfter P.QSBR K.allows (W.seen witness.old) (W.heard witness.old) result.me.0.seen }
-    ensures same { (W.seen witness.new ≡ W.seen witness.old) × (W.heard witness.new ≡ W.heard witness.old) × (W.table_of witness.new ≡ W.table_of witness.old) × (W.standing witness.new ≡ W.standing witness.old) }
+    ensures same { (W.seen witness.new ≡ W.seen witness.old) × (W.heard witness.new ≡ W.heard witness.old) × (W.home witness.new ≡ W.home witness.old) × (W.standing witness.new ≡ W.standing witness.old) }
     ensures inside { W.is_in witness.old → W.is_in witness.new }
 {
     let mut told = witness.tell(table);
@@ -108,10 +114,10 @@ pub fn learn_more<W: Witness, P: GracePlan, K: ChainRule>(
     witness: &mut W,
     told: LiveSeat,
 )
-    requires table { (table.now.words.shared.table_id ≡ W.table_of witness.old) × (told.table_id ≡ W.table_of witness.old) × (told.me.1 ≡ []) }
+    requires table { (table.now.words.shared.table_id ≡ (W.home witness.old).0) × (told.table_id ≡ (W.home witness.old).0) × (told.me.1 ≡ []) }
     ensures kept { IsAfter P.QSBR K.allows (W.seen witness.old) (W.heard witness.old) (W.heard witness.new) }
     ensures heard { Begins told.me.0.seen (W.heard witness.new) }
-    ensures same { (W.seen witness.new ≡ W.seen witness.old) × (W.table_of witness.new ≡ W.table_of witness.old) × (W.standing witness.new ≡ W.standing witness.old) }
+    ensures same { (W.seen witness.new ≡ W.seen witness.old) × (W.home witness.new ≡ W.home witness.old) × (W.standing witness.new ≡ W.standing witness.old) }
     ensures inside { W.is_in witness.old → W.is_in witness.new }
 {
     let mut own = tell_all(table, witness);
@@ -127,11 +133,11 @@ pub fn inform<S: Witness, T: Witness, P: GracePlan, K: ChainRule>(
     from: &mut S,
     to: &mut T,
 )
-    requires { (table.now.words.shared.table_id ≡ S.table_of from.old) × (T.table_of to.old ≡ S.table_of from.old) }
+    requires { (table.now.words.shared.table_id ≡ (S.home from.old).0) × (T.home to.old ≡ S.home from.old) }
     ensures told { Begins (S.seen from.old) (T.heard to.new) × Begins (S.heard from.old) (T.heard to.new) }
     ensures kept { IsAfter P.QSBR K.allows (T.seen to.old) (T.heard to.old) (T.heard to.new) }
-    ensures from { (S.seen from.new ≡ S.seen from.old) × (S.heard from.new ≡ S.heard from.old) × (S.table_of from.new ≡ S.table_of from.old) × (S.standing from.new ≡ S.standing from.old) }
-    ensures to { (T.seen to.new ≡ T.seen to.old) × (T.table_of to.new ≡ T.table_of to.old) × (T.standing to.new ≡ T.standing to.old) }
+    ensures from { (S.seen from.new ≡ S.seen from.old) × (S.heard from.new ≡ S.heard from.old) × (S.home from.new ≡ S.home from.old) × (S.standing from.new ≡ S.standing from.old) }
+    ensures to { (T.seen to.new ≡ T.seen to.old) × (T.home to.new ≡ T.home to.old) × (T.standing to.new ≡ T.standing to.old) }
     ensures inside { (S.is_in from.old → S.is_in from.new) × (T.is_in to.old → T.is_in to.new) }
 {
     let told = tell_all(table, from);
@@ -148,7 +154,9 @@ impl<B: Site> Witness for Record<B> {
 
     ghost loads = { λ r. r.seat.me.0.loads };
 
-    ghost table_of = { λ r. r.seat.table_id };
+    ghost looks = { λ r. r.seat.me.0.looks };
+
+    ghost home = { λ r. (r.seat.table_id, r.seat.me.0.sizes) };
 
     ghost standing = { λ r. nowhere };
 
@@ -172,7 +180,9 @@ impl<P: GracePlan, K: ChainRule, B: Site> Witness for Reader<P, K, B> {
 
     ghost loads = { λ r. r.seat.me.0.loads };
 
-    ghost table_of = { λ r. r.seat.table_id };
+    ghost looks = { λ r. r.seat.me.0.looks };
+
+    ghost home = { λ r. (r.seat.table_id, r.seat.me.0.sizes) };
 
     ghost use Rattle.live_table.specs.Rights.{count_in};
 

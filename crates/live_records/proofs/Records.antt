@@ -27,7 +27,7 @@ use Rattle.live_table.specs.Rights.{cell_in, object_in, link_in, payload_in, IsD
 use Rattle.live_table.specs.Steps.{looked_view}
 use Rattle.live_table.proofs.Lemmas.{goes_on}
 use Rattle.live_rule.specs.Seats.{but_object}
-use Rattle.live_records.specs.Records.{drawn_view, linked_view, worded_view, looked, drew, took, linked, worded, discarded}
+use Rattle.live_records.specs.Records.{drawn_view, linked_view, worded_view, HasRecord, looked, numbered, drew, took, linked, worded, discarded}
 
 -- four words of a record, as they are
 abbrev pub four : Sizes → List ℕ → ℕ → List ℕ
@@ -277,7 +277,7 @@ module _ {S : Type 0} (qsbr : Bool) (allows : Log → LiveEvent → Type 0) (key
   discards slots id me a is a_is s r deep at fits =
       let v : View = me.0 in
       let b = r.seen id v at in
-      let w : View = record (but_object v) { seen = r.log } in (
+      let w : View = record (looked_view a 0 (but_object v)) { seen = r.log } in (
         w,
         keeps,
         tt,
@@ -285,6 +285,25 @@ module _ {S : Type 0} (qsbr : Bool) (allows : Log → LiveEvent → Type 0) (key
             (fresh_store s r id v at is 0 0 w (omega arith) (refl, refl, refl, refl, refl) (refl, refl, refl) (λ o claim. absurd claim)),
         (refl, refl, (b.0, b.1, r.run)),
       )
+
+  -- the header of a record whose object is not retired
+  header_is : (s : State S View) (r : Rule s) (id : ℕ) (v : View) → get_elem? s.views id ≡ lists.some v → HasRecord v → get_or s.words (cell_at key (cell_in v.object) 0) 0 ≡ 2 * (object_in v.object).0
+  header_is s r id v at (inl is) = (fresh_now s r id v at is).4
+  header_is s r id v at (inr is) =
+      let o : ObjectId = object_in v.object in
+      let k = knew s r id v (Unlinked (cell_in v.object) o) at is refl in
+      let log = kept_log qsbr allows r.log r.run in
+      let h = r.agree.heap.header o (log.linking.cut_used o k.0, λ back. k.1 (log.run o back).0) in
+      subst (λ (i : ℕ). get_or s.words (cell_at key i 0) 0 ≡ 2 * o.0) k.2 (h.fresh k.1)
+
+  pub looks_number : (slots id : ℕ) (me : Me S View) (a : ℕ) → HasRecord me.0 → a ≡ cell_at key (cell_in me.0.object) 0 → Allows Rule slots id me a (λ n. n) (numbered qsbr allows (step slots a 0 0 lists.none) me)
+  looks_number slots id me a is a_is s r deep at fits = let v : View = me.0 in let b = r.seen id v at in let n : ℕ = get_or s.words a 0 in let w : View = record (looked_view a n v) { seen = r.log } in (
+    w,
+    keeps,
+    tt,
+    looks qsbr allows key s r id a v w at refl refl (look_all qsbr allows key s r id v w at (refl, refl, refl, refl, refl, refl, refl)),
+    ((refl, refl, (b.0, b.1, r.run)), at_place s.words a (cell_at key (cell_in v.object) 0) a_is ∙ header_is s r id v at is),
+  )
 
   pub looks_word : (slots id : ℕ) (me : Me S View) (a : ℕ) → Allows Rule slots id me a (λ n. n) (looked qsbr allows (step slots a 0 0 lists.none) me)
   looks_word slots id me a s r deep at fits = let v : View = me.0 in let b = r.seen id v at in let n : ℕ = get_or s.words a 0 in let w : View = record (looked_view a n v) { seen = r.log } in

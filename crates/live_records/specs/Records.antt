@@ -1,5 +1,5 @@
 -- What each step on a record tells.
-use Rattle.std.specs.Prelude.{Bool, ◌≡◌, ◌≢◌, ℕ, ◌+◌, ◌<◌, List, length, slice_set}
+use Rattle.std.specs.Prelude.{Bool, ◌≡◌, ◌≢◌, ◌⊎◌, ℕ, ◌+◌, ◌*◌, ◌<◌, List, length, slice_set}
 use Rattle.atomic_table.specs.Table.{Me, Step}
 use Rattle.live_log.specs.declared.event.LiveEvent.{LiveEvent}
 use Rattle.live_log.specs.Log.{Log}
@@ -7,7 +7,7 @@ use Rattle.live_rule.specs.declared.view.View.{View}
 use Rattle.live_rule.specs.declared.rights.RecordRight.TheVariants.{Drawn, Fresh}
 use Rattle.live_rule.specs.Places.{cell_at}
 use Rattle.live_rule.specs.Seats.{but_object}
-use Rattle.live_table.specs.Rights.{KnowsChains, cell_in, object_in, link_in, payload_in}
+use Rattle.live_table.specs.Rights.{KnowsChains, IsFresh, IsUnlinked, cell_in, object_in, link_in, payload_in}
 use Rattle.live_table.specs.Steps.{Went, looked_view}
 
 -- the view, once this number was drawn
@@ -26,10 +26,18 @@ linked_view l v = record v { object = Fresh (cell_in v.object) (object_in v.obje
 abbrev pub worded_view : ℕ → ℕ → View → View
 worded_view j x v = record v { object = Fresh (cell_in v.object) (object_in v.object) (link_in v.object) (slice_set (payload_in v.object) j x) }
 
+-- the seat has the right to a record, whose object is not retired
+abbrev pub HasRecord : View → Type 0
+HasRecord v = IsFresh v ⊎ IsUnlinked v
+
 module _ {S : Type 0} (qsbr : Bool) (allows : Log → LiveEvent → Type 0) where
   -- a word was looked at
   abbrev pub looked : Step S → Me S View → ℕ → Me S View → Type 0
   looked st m n m' = Went qsbr allows (looked_view st.word n m.0) m m'
+
+  -- the header of the seat's own object was looked at
+  abbrev pub numbered : Step S → Me S View → ℕ → Me S View → Type 0
+  numbered st m n m' = looked st m n m' × (n ≡ 2 * (object_in m.0.object).0)
 
   -- a number was drawn, or another one was found
   abbrev pub drew : Step S → Me S View → ℕ → Me S View → Type 0
@@ -49,6 +57,6 @@ module _ {S : Type 0} (qsbr : Bool) (allows : Log → LiveEvent → Type 0) wher
   abbrev pub worded : Step S → Me S View → ℕ → Me S View → Type 0
   worded st m n m' = (j : ℕ) → j < 4 → st.word ≡ cell_at m.0.sizes (cell_in m.0.object) (j + 2) → Went qsbr allows (worded_view j st.first m.0) m m' × KnowsChains m.0 m'.0
 
-  -- the record was freed
+  -- the record was freed, by this word
   abbrev pub discarded : Step S → Me S View → ℕ → Me S View → Type 0
-  discarded st m n m' = Went qsbr allows (but_object m.0) m m'
+  discarded st m n m' = Went qsbr allows (looked_view st.word st.first (but_object m.0)) m m'

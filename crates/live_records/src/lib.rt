@@ -5,5 +5,6 @@ mod plays;
 mod steps;
 
 pub use steps::{
-    draw_number, load_header, load_last, store_discard, store_link, store_word, take_cell,
+    draw_number, load_header, load_last, load_number, store_discard, store_link, store_word,
+    take_cell,
 };

@@ -1,5 +1,5 @@
 //! What each step on a record tells.
-ghost use Rattle.live_records.specs.Records.{discarded, drew, linked, looked, took, worded};
+ghost use Rattle.live_records.specs.Records.{discarded, drew, linked, looked, numbered, took, worded};
 
 use atomic_table::Play;
 use gp_memb::GracePlan;
@@ -17,6 +17,12 @@ pub(crate) struct LooksHeader<P, K>(PhantomData<(P, K)>);
 
 impl<P: GracePlan, K: ChainRule> Play<(), View> for LooksHeader<P, K> {
     ghost then = { looked P.QSBR K.allows };
+}
+
+pub(crate) struct LooksNumber<P, K>(PhantomData<(P, K)>);
+
+impl<P: GracePlan, K: ChainRule> Play<(), View> for LooksNumber<P, K> {
+    ghost then = { numbered P.QSBR K.allows };
 }
 
 pub(crate) struct Draws<P, K>(PhantomData<(P, K)>);

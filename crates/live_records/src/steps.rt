@@ -1,13 +1,15 @@
 //! One function for each kind of step on a record. None of them waits, and none writes an event: what is not linked is
 //! no part of the log.
-ghost use Rattle.std.specs.Prelude.{◌≡◌, ◌≢◌, ◌+◌, ◌<◌, ◌≤◌, ◌^◌, length};
+ghost use Rattle.std.specs.Prelude.{◌≡◌, ◌≢◌, ◌+◌, ◌*◌, ◌<◌, ◌≤◌, ◌^◌, length};
 ghost use Rattle.live_rule.specs.Places.{cell_at, last_at};
 ghost use Rattle.live_rule.specs.Seats.{but_object};
 ghost use Rattle.live_table.specs.Rights.{IsDrawn, IsFresh, KnowsChains, cell_in, link_in, object_in, payload_in};
 ghost use Rattle.live_table.specs.Steps.{Keeps, Went, looked_view};
-ghost use Rattle.live_records.specs.Records.{drawn_view, linked_view, taken_record, worded_view};
+ghost use Rattle.live_records.specs.Records.{HasRecord, drawn_view, linked_view, taken_record, worded_view};
 
-use crate::plays::{Discards, Draws, LooksHeader, LooksLast, StoresLink, StoresWord, Takes};
+use crate::plays::{
+    Discards, Draws, LooksHeader, LooksLast, LooksNumber, StoresLink, StoresWord, Takes,
+};
 use gp_memb::GracePlan;
 use live_log::ChainRule;
 use live_rule::LiveSeat;
@@ -57,6 +59,23 @@ pub fn load_header<P: GracePlan, K: ChainRule>(
 {
     let place = table.cell_place(cell, 0);
     table.words.shared.load::<LooksHeader<P, K>>(seat, place)
+}
+
+/// The number of the seat's object, by a load of its record's header, which is twice the number. What it found is kept
+/// among the looks. It never waits.
+pub fn load_number<P: GracePlan, K: ChainRule>(
+    table: &LiveTable<P, K>,
+    seat: &mut LiveSeat,
+    cell: usize,
+) -> u64
+    requires seat { (seat.old.table_id ≡ table.now.words.shared.table_id) × (cell < table.now.pool) }
+    requires right { HasRecord seat.old.me.0 × (cell_in seat.old.me.0.object ≡ cell) }
+    ensures seat { Keeps seat.old seat.new }
+    ensures number { result ≡ (object_in seat.old.me.0.object).0 }
+    ensures looked { Went P.QSBR K.allows (looked_view (cell_at table.now.words.shared.key cell 0) (2 * result) seat.old.me.0) seat.old.me seat.new.me }
+{
+    let place = table.cell_place(cell, 0);
+    table.words.shared.load::<LooksNumber<P, K>>(seat, place) / 2
 }
 
 /// Takes a record for the object whose number was drawn, if the record is free. Answers the header that it found, which
@@ -121,7 +140,8 @@ pub fn store_word<P: GracePlan, K: ChainRule>(
         .store::<StoresWord<P, K>>(seat, place, word);
 }
 
-/// Frees a fresh record: the store of `discard`. Its object's number is given to no other. It never waits.
+/// Frees a fresh record: the store of `discard`, which is kept among the looks. Its object's number is given to no
+/// other. It never waits.
 pub fn store_discard<P: GracePlan, K: ChainRule>(
     table: &LiveTable<P, K>,
     seat: &mut LiveSeat,
@@ -130,7 +150,7 @@ pub fn store_discard<P: GracePlan, K: ChainRule>(
     requires seat { (seat.old.table_id ≡ table.now.words.shared.table_id) × (cell < table.now.pool) }
     requires right { IsFresh seat.old.me.0 × (cell_in seat.old.me.0.object ≡ cell) }
     ensures seat { Keeps seat.old seat.new }
-    ensures discarded { Went P.QSBR K.allows (but_object seat.old.me.0) seat.old.me seat.new.me }
+    ensures discarded { Went P.QSBR K.allows (looked_view (cell_at table.now.words.shared.key cell 0) 0 (but_object seat.old.me.0)) seat.old.me seat.new.me }
 {
     let place = table.cell_place(cell, 0);
     table.words.shared.store::<Discards<P, K>>(seat, place, 0);

@@ -87,7 +87,7 @@ fn fill<B: Site, R: Wait>(
     alloc: Global,
     opened: Opened<MembPlan, AnyChain>,
 ) -> Result<(usize, bool, bool), Refusal>
-    requires { (B.qsbr ≡ false) × (opened.table.words.shared.table_id ≡ B.table) × (opened.table.slots ≡ B.slots) }
+    requires { (B.qsbr ≡ false) × (opened.table.words.shared.table_id ≡ B.table) × (opened.table.words.shared.key ≡ B.sizes) }
 {
     let (domain, record) = opened.named::<B>(alloc)?;
     fills(rt, alloc, &domain, record)
@@ -106,7 +106,7 @@ fn waits<B: Site, R: Wait>(
     alloc: Global,
     opened: Opened<MembPlan, AnyChain>,
 ) -> Result<[bool; 4], Refusal>
-    requires { (B.qsbr ≡ false) × (opened.table.words.shared.table_id ≡ B.table) × (opened.table.slots ≡ B.slots) }
+    requires { (B.qsbr ≡ false) × (opened.table.words.shared.table_id ≡ B.table) × (opened.table.words.shared.key ≡ B.sizes) }
 {
     let (domain, mut record) = opened.named::<B>(alloc)?;
     let mut other = domain.split(&mut record);
@@ -161,7 +161,7 @@ fn announces<B: Site, R: Wait>(
     alloc: Global,
     opened: Opened<QsbrPlan, AnyChain>,
 ) -> Result<([bool; 6], bool), Refusal>
-    requires { (B.qsbr ≡ true) × (opened.table.words.shared.table_id ≡ B.table) × (opened.table.slots ≡ B.slots) }
+    requires { (B.qsbr ≡ true) × (opened.table.words.shared.table_id ≡ B.table) × (opened.table.words.shared.key ≡ B.sizes) }
 {
     let (domain, mut record) = opened.named::<B>(alloc)?;
     let mut reader = domain.register(rt, &mut record)?;
@@ -180,7 +180,7 @@ fn offline_and_busy_readers_are_refused(rt: HostRuntime) {
 }
 
 fn is_named<B: Site>(alloc: Global, opened: Opened<MembPlan, AnyChain>) -> bool
-    requires { (B.qsbr ≡ false) × (opened.table.words.shared.table_id ≡ B.table) × (opened.table.slots ≡ B.slots) }
+    requires { (B.qsbr ≡ false) × (opened.table.words.shared.table_id ≡ B.table) × (opened.table.words.shared.key ≡ B.sizes) }
 {
     let named = opened.named::<B>(alloc);
     named.is_ok() || matches!(named, Err(Refusal::Memory))

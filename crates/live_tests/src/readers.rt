@@ -21,7 +21,7 @@ fn first_reader<P: GracePlan, K: ChainRule, B: Site>(
     words: &Arc<LiveTable<P, K>>,
     root: LiveSeat,
 ) -> Result<Reader<P, K, B>, Refusal>
-    requires site { (P.QSBR ≡ B.qsbr) × ((arc_value words.now).words.shared.table_id ≡ B.table) × (root.table_id ≡ B.table) × (0 < (arc_value words.now).slots) × ((arc_value words.now).slots ≡ B.slots) }
+    requires site { (P.QSBR ≡ B.qsbr) × ((arc_value words.now).words.shared.table_id ≡ B.table) × (root.table_id ≡ B.table) × (0 < (arc_value words.now).slots) × ((arc_value words.now).words.shared.key ≡ B.sizes) }
     requires new { root.me ≡ (first_view (arc_value words.now).words.shared.key, []) }
     ensures { IfOk result (λ r. (r.depth ≡ 0) × (r.locks ≡ 0)) }
 {
@@ -107,7 +107,7 @@ fn general<B: Site>(
     words: &Arc<LiveTable<MembPlan, AnyChain>>,
     root: LiveSeat,
 ) -> Result<(([u64; 5], bool), [bool; 6]), Refusal>
-    requires site { (B.qsbr ≡ false) × ((arc_value words.now).words.shared.table_id ≡ B.table) × (root.table_id ≡ B.table) × (0 < (arc_value words.now).slots) × ((arc_value words.now).slots ≡ B.slots) }
+    requires site { (B.qsbr ≡ false) × ((arc_value words.now).words.shared.table_id ≡ B.table) × (root.table_id ≡ B.table) × (0 < (arc_value words.now).slots) × ((arc_value words.now).words.shared.key ≡ B.sizes) }
     requires new { root.me ≡ (first_view (arc_value words.now).words.shared.key, []) }
 {
     let mut reader = first_reader::<MembPlan, AnyChain, B>(alloc, words, root)?;
@@ -120,7 +120,7 @@ fn quiescent<B: Site>(
     words: &Arc<LiveTable<QsbrPlan, AnyChain>>,
     root: LiveSeat,
 ) -> Result<([bool; 5], [bool; 4], [u64; 3]), Refusal>
-    requires site { (B.qsbr ≡ true) × ((arc_value words.now).words.shared.table_id ≡ B.table) × (root.table_id ≡ B.table) × (0 < (arc_value words.now).slots) × ((arc_value words.now).slots ≡ B.slots) }
+    requires site { (B.qsbr ≡ true) × ((arc_value words.now).words.shared.table_id ≡ B.table) × (root.table_id ≡ B.table) × (0 < (arc_value words.now).slots) × ((arc_value words.now).words.shared.key ≡ B.sizes) }
     requires new { root.me ≡ (first_view (arc_value words.now).words.shared.key, []) }
 {
     let mut reader = first_reader::<QsbrPlan, AnyChain, B>(alloc, words, root)?;

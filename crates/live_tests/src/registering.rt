@@ -20,7 +20,7 @@ pub fn opened<P: GracePlan, K: ChainRule, B: Site>(
     words: &Arc<LiveTable<P, K>>,
     mut root: LiveSeat,
 ) -> Result<(Registrar<P, K, B>, Record<B>), Refusal>
-    requires site { ((arc_value words.now).words.shared.table_id ≡ B.table) × (root.table_id ≡ B.table) × ((arc_value words.now).slots ≡ B.slots) × (0 < B.slots) }
+    requires site { ((arc_value words.now).words.shared.table_id ≡ B.table) × (root.table_id ≡ B.table) × ((arc_value words.now).words.shared.key ≡ B.sizes) × (0 < B.sizes.slots) }
     requires new { root.me ≡ (first_view (arc_value words.now).words.shared.key, []) }
 {
     let registrar = Registrar::new(alloc, words, &mut root)?;
@@ -35,7 +35,7 @@ fn fills<B: Site>(
     words: &Arc<LiveTable<MembPlan, AnyChain>>,
     root: LiveSeat,
 ) -> Result<(usize, bool, usize, usize, bool), Refusal>
-    requires site { (B.qsbr ≡ false) × ((arc_value words.now).words.shared.table_id ≡ B.table) × (root.table_id ≡ B.table) × ((arc_value words.now).slots ≡ B.slots) × (0 < B.slots) }
+    requires site { (B.qsbr ≡ false) × ((arc_value words.now).words.shared.table_id ≡ B.table) × (root.table_id ≡ B.table) × ((arc_value words.now).words.shared.key ≡ B.sizes) × (0 < B.sizes.slots) }
     requires new { root.me ≡ (first_view (arc_value words.now).words.shared.key, []) }
 {
     let (mut registrar, mut record) = opened::<MembPlan, AnyChain, B>(alloc, words, root)?;
@@ -66,7 +66,7 @@ fn leaves<B: Site>(
     words: &Arc<LiveTable<MembPlan, AnyChain>>,
     root: LiveSeat,
 ) -> Result<[bool; 5], Refusal>
-    requires site { (B.qsbr ≡ false) × ((arc_value words.now).words.shared.table_id ≡ B.table) × (root.table_id ≡ B.table) × ((arc_value words.now).slots ≡ B.slots) × (0 < B.slots) }
+    requires site { (B.qsbr ≡ false) × ((arc_value words.now).words.shared.table_id ≡ B.table) × (root.table_id ≡ B.table) × ((arc_value words.now).words.shared.key ≡ B.sizes) × (0 < B.sizes.slots) }
     requires new { root.me ≡ (first_view (arc_value words.now).words.shared.key, []) }
 {
     let (mut registrar, mut record) = opened::<MembPlan, AnyChain, B>(alloc, words, root)?;
@@ -91,7 +91,7 @@ fn leaves_online<B: Site>(
     words: &Arc<LiveTable<QsbrPlan, AnyChain>>,
     root: LiveSeat,
 ) -> Result<[bool; 4], Refusal>
-    requires site { (B.qsbr ≡ true) × ((arc_value words.now).words.shared.table_id ≡ B.table) × (root.table_id ≡ B.table) × ((arc_value words.now).slots ≡ B.slots) × (0 < B.slots) }
+    requires site { (B.qsbr ≡ true) × ((arc_value words.now).words.shared.table_id ≡ B.table) × (root.table_id ≡ B.table) × ((arc_value words.now).words.shared.key ≡ B.sizes) × (0 < B.sizes.slots) }
     requires new { root.me ≡ (first_view (arc_value words.now).words.shared.key, []) }
 {
     let (mut registrar, mut record) = opened::<QsbrPlan, AnyChain, B>(alloc, words, root)?;

@@ -216,7 +216,7 @@ fn serves<P: GracePlan + Drop + Send + Sync, B: Site + Send + Sync, R: Threads +
     alloc: Global,
     opened: Opened<P, AnyChain>,
 ) -> Result<(bool, bool, bool), Refusal>
-    requires { (P.QSBR ≡ B.qsbr) × (opened.table.words.shared.table_id ≡ B.table) × (opened.table.slots ≡ B.slots) }
+    requires { (P.QSBR ≡ B.qsbr) × (opened.table.words.shared.table_id ≡ B.table) × (opened.table.words.shared.key ≡ B.sizes) }
 {
     let (domain, mut record) = opened.named::<B>(alloc)?;
     let other = domain.split(&mut record);
@@ -269,7 +269,7 @@ fn spawns<B: Site + Send + Sync + 'static, R: Threads + Wait + Copy + Send + 'st
     alloc: Global,
     opened: Opened<MembPlan, AnyChain>,
 ) -> Result<(bool, bool), Refusal>
-    requires { (B.qsbr ≡ false) × (opened.table.words.shared.table_id ≡ B.table) × (opened.table.slots ≡ B.slots) }
+    requires { (B.qsbr ≡ false) × (opened.table.words.shared.table_id ≡ B.table) × (opened.table.words.shared.key ≡ B.sizes) }
 {
     let (domain, mut record) = opened.named::<B>(alloc)?;
     let mut other = domain.split(&mut record);

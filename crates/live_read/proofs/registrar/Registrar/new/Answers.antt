@@ -6,6 +6,6 @@ use Rattle.live_read.proofs.registrar.Registrar.new.Goals as goal
 
 pub invariant_of-result-clause-fits : goal.invariant_of-result-clause-fits
 invariant_of-result-clause-fits g c =
-    let e : c.in_ok-registry.registry ≡ unclaimed g.B.Site.slots = search rules in
+    let e : c.in_ok-registry.registry ≡ unclaimed g.B.Site.sizes.slots = search rules in
     subst (λ (r : Registry). Fits r c.of.result.words c.in-Ok.row.items) (sym e)
-    (subst (λ (w : List ℕ). Fits (unclaimed g.B.Site.slots) w c.in-Ok.row.items) (sym c.of.ensures) (new_fits c.in-Ok.row.items g.B.Site.slots c.in-Ok.ensures.free))
+    (subst (λ (w : List ℕ). Fits (unclaimed g.B.Site.sizes.slots) w c.in-Ok.row.items) (sym c.of.ensures) (new_fits c.in-Ok.row.items g.B.Site.sizes.slots c.in-Ok.ensures.free))
