@@ -1,0 +1,114 @@
+//! How records are allocated and discarded.
+
+ghost use Rattle.std.specs.Prelude.{◌≡◌, ◌⊎◌, ℕ, ◌<◌, ◌≤◌, ◌^◌, List, ◌++◌, ◌∷◌, IfErr, IfOk, length};
+ghost use Rattle.rcu_model.specs.declared.refusal.Refusal.TheVariants.{PoolFull};
+ghost use Rattle.live_log.specs.Log.{Begins, Log};
+ghost use Rattle.live_rule.specs.declared.rights.RecordRight.{RecordRight};
+ghost use Rattle.live_rule.specs.Places.{cell_at};
+ghost use Rattle.live_table.specs.Rights.{IsFresh, cell_in, link_in, object_in, payload_in};
+ghost use Rattle.live_table.specs.Steps.{Keeps};
+ghost use Rattle.live_read.specs.Hearing.{IsAfter};
+ghost use Rattle.live_write.specs.Searching.{Allocates, AreTaken, IsUsedUp, Searched};
+
+use crate::records::Owned;
+use crate::search::{draw, take_any};
+use gp_memb::GracePlan;
+use live_read::{Site, Witness};
+use live_words::{ChainRule, LiveSeat, LiveTable, load_seq, store_discard, store_word};
+use rcu_model::Refusal;
+use std::marker::PhantomData;
+use std::sync::Wait;
+
+/// Stores the four words of a fresh record.
+fn fill<P: GracePlan, K: ChainRule>(
+    table: &LiveTable<P, K>,
+    seat: &mut LiveSeat,
+    cell: usize,
+    words: [u64; 4],
+)
+    requires seat { (seat.old.table_id ≡ table.now.words.shared.table_id) × (seat.old.me.0.sizes ≡ table.now.words.shared.key) × (cell < table.now.pool) }
+    requires right { IsFresh seat.old.me.0 × (cell_in seat.old.me.0.object ≡ cell) × (length (payload_in seat.old.me.0.object) ≡ 4) }
+    ensures seat { Keeps seat.old seat.new }
+    ensures words { Allocates P.QSBR K.allows cell (object_in seat.old.me.0.object) words seat.old.me seat.new.me }
+{
+    store_word(table, seat, cell, 0, words[0]);
+    store_word(table, seat, cell, 1, words[1]);
+    store_word(table, seat, cell, 2, words[2]);
+    store_word(table, seat, cell, 3, words[3]);
+}
+
+/// A fresh record with these words, by a seat: answers the record and its object's number.
+fn take_filled<P: GracePlan, K: ChainRule, R: Wait>(
+    rt: &R,
+    table: &LiveTable<P, K>,
+    seat: &mut LiveSeat,
+    words: [u64; 4],
+) -> Result<(usize, u64), Refusal>
+    requires { (seat.old.table_id ≡ table.now.words.shared.table_id) × (seat.old.me.0.sizes ≡ table.now.words.shared.key) }
+    ensures seat { Keeps seat.old seat.new }
+    ensures taken { IfOk result (λ taken. (taken.0 < table.now.pool) × (taken.1 ≤ 2 ^ 62) × Allocates P.QSBR K.allows taken.0 (record { 0 = taken.1 }) words seat.old.me seat.new.me) }
+    ensures refused { IfErr result (λ e. (e ≡ PoolFull) × (found : List (ℕ × ℕ)) × (x : RecordRight) × Searched P.QSBR K.allows found x seat.old.me seat.new.me × (IsUsedUp table.now.words.shared.key found ⊎ AreTaken table.now.words.shared.key found)) }
+{
+    let Some(number) = draw(rt, table, seat) else {
+        return Err(Refusal::PoolFull);
+    };
+    let Some(cell) = take_any(table, seat, number) else {
+        return Err(Refusal::PoolFull);
+    };
+    fill(table, seat, cell, words);
+    Ok((cell, number))
+}
+
+/// Takes a free record for a new object, whose payload these words become. The witness hears of what it saw.
+///
+/// Refused with `PoolFull` only where it found the header of each record other than 0, or the last object number at or
+/// above 2^62: `looks` tells the words that it found. It takes no memory. It waits for nobody, but tries again where
+/// other threads draw numbers meanwhile.
+pub fn alloc<P: GracePlan, K: ChainRule, B: Site, W: Witness, R: Wait>(
+    rt: &R,
+    table: &LiveTable<P, K>,
+    witness: &mut W,
+    words: [u64; 4],
+) -> Result<Owned<B>, Refusal>
+    requires site { (table.now.words.shared.table_id ≡ B.table) × (table.now.words.shared.key ≡ B.sizes) × (W.home witness.old ≡ (B.table, B.sizes)) }
+    ensures owned { IfOk result (λ o. (payload_in o.seat.me.0.object ≡ words) × (o.seat.me.0.seen ≡ W.heard witness.new)) }
+    ensures looks { (found : List (ℕ × ℕ)) × (W.looks witness.new ≡ found ++ W.looks witness.old) × IfErr result (λ e. (e ≡ PoolFull) × (IsUsedUp B.sizes found ⊎ AreTaken B.sizes found)) }
+    ensures heard { IsAfter P.QSBR K.allows (W.seen witness.old) (W.heard witness.old) (W.heard witness.new) }
+    ensures same { (W.seen witness.new ≡ W.seen witness.old) × (W.loads witness.new ≡ W.loads witness.old) × (W.home witness.new ≡ W.home witness.old) × (W.standing witness.new ≡ W.standing witness.old) }
+    ensures inside { W.is_in witness.old → W.is_in witness.new }
+{
+    let mut seat = witness.tell(table);
+    let taken = take_filled(rt, table, &mut seat, words);
+    let own = table.cut_object(&mut seat);
+    witness.learn(table, seat);
+    let (cell, number) = taken?;
+    Ok(Owned {
+        seat: own,
+        cell,
+        number,
+        site: PhantomData,
+    })
+}
+
+/// Frees a record that no chain has linked: stores 0 in its header. Its object's number is given to no other. The
+/// witness hears of what was seen at the allocation; the store is kept among the words that were found for it. It never
+/// waits and takes no memory.
+pub fn discard<P: GracePlan, K: ChainRule, B: Site, W: Witness>(
+    table: &LiveTable<P, K>,
+    witness: &mut W,
+    owned: Owned<B>,
+)
+    requires site { (table.now.words.shared.table_id ≡ B.table) × (table.now.words.shared.key ≡ B.sizes) × (W.home witness.old ≡ (B.table, B.sizes)) }
+    ensures freed { W.looks witness.new ≡ (cell_at B.sizes (cell_in owned.seat.me.0.object) 0, 0) ∷ W.looks witness.old }
+    ensures heard { IsAfter P.QSBR K.allows (W.seen witness.old) (W.heard witness.old) (W.heard witness.new) × Begins owned.seat.me.0.seen (W.heard witness.new) }
+    ensures loads { (log : Log) × (W.loads witness.new ≡ log ∷ W.loads witness.old) }
+    ensures same { (W.seen witness.new ≡ W.seen witness.old) × (W.home witness.new ≡ W.home witness.old) × (W.standing witness.new ≡ W.standing witness.old) }
+    ensures inside { W.is_in witness.old → W.is_in witness.new }
+{
+    let Owned { seat, cell, .. } = owned;
+    let mut told = witness.tell(table);
+    load_seq(table, &mut told);
+    table.take_object(&mut told, seat);
+    store_discard(table, &mut told, cell);
+    witness.learn(table, told);
+}

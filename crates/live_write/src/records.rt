@@ -1,0 +1,73 @@
+//! Records that no chain links.
+
+ghost use Rattle.std.specs.Prelude.{◌≡◌, ◌<◌, ◌≤◌, ◌^◌, []};
+ghost use Rattle.live_table.specs.Rights.{IsFresh, IsUnlinked, cell_in, object_in};
+
+use gp_memb::GracePlan;
+use live_read::Site;
+use live_words::{ChainRule, LiveSeat, LiveTable, load_number};
+use rcu_model::ObjectId;
+use std::marker::PhantomData;
+
+/// A record that no chain has linked yet, with its object and its four words. Where it is dropped, its record stays out
+/// of use as long as the table lives; `discard` frees it.
+#[derive(Drop)]
+pub struct Owned<B: Site> {
+    /// What was seen at the allocation, and the right to the record.
+    pub seat: LiveSeat,
+    pub(crate) cell: usize,
+    pub(crate) number: u64,
+    pub(crate) site: PhantomData<B>,
+    pub ghost seated: { (seat.table_id ≡ B.table) × (seat.me.0.sizes ≡ B.sizes) × (seat.me.1 ≡ []) },
+    pub ghost fresh: { IsFresh seat.me.0 × (cell_in seat.me.0.object ≡ cell) × (cell < B.sizes.pool) × (object_in seat.me.0.object ≡ record { 0 = number }) × (number ≤ 2 ^ 62) },
+}
+
+impl<B: Site> Owned<B> {
+    /// Its object, which it keeps once a chain links it. It never waits.
+    pub fn object(&self) -> ObjectId
+        ensures { result ≡ object_in self.now.seat.me.0.object }
+    {
+        ObjectId(self.number)
+    }
+}
+
+/// A record that a chain linked and that was cut: sections that are open may still hold its object. Where it is dropped,
+/// its record stays out of use as long as the table lives.
+#[derive(Drop)]
+pub struct Unlinked<B: Site> {
+    /// What was seen at the cut, and the right to the record.
+    pub seat: LiveSeat,
+    pub(crate) cell: usize,
+    pub(crate) site: PhantomData<B>,
+    pub ghost seated: { (seat.table_id ≡ B.table) × (seat.me.0.sizes ≡ B.sizes) × (seat.me.1 ≡ []) },
+    pub ghost unlinked: { IsUnlinked seat.me.0 × (cell_in seat.me.0.object ≡ cell) × (cell < B.sizes.pool) },
+}
+
+impl<B: Site> Unlinked<B> {
+    ghost use Rattle.std.specs.Prelude.{◌*◌};
+    ghost use Rattle.live_rule.specs.Places.{cell_at};
+    ghost use Rattle.live_table.specs.Steps.{Keeps, Went, looked_view};
+
+    /// Of a seat with the right to it.
+    pub(crate) fn of(seat: LiveSeat, cell: usize) -> Unlinked<B>
+        requires site { (seat.table_id ≡ B.table) × (seat.me.0.sizes ≡ B.sizes) × (seat.me.1 ≡ []) }
+        requires right { IsUnlinked seat.me.0 × (cell_in seat.me.0.object ≡ cell) × (cell < B.sizes.pool) }
+        ensures { result.seat ≡ seat }
+    {
+        Unlinked {
+            seat,
+            cell,
+            site: PhantomData,
+        }
+    }
+
+    /// Its object, by a load of its record's header, which is kept among the looks of its seat. It never waits.
+    pub fn object<P: GracePlan, K: ChainRule>(&mut self, table: &LiveTable<P, K>) -> ObjectId
+        requires { (table.now.words.shared.table_id ≡ B.table) × (table.now.words.shared.key ≡ B.sizes) }
+        ensures object { result ≡ object_in self.old.seat.me.0.object }
+        ensures seat { Keeps self.old.seat self.new.seat }
+        ensures looked { Went P.QSBR K.allows (looked_view (cell_at B.sizes (cell_in self.old.seat.me.0.object) 0) (2 * result.0) self.old.seat.me.0) self.old.seat.me self.new.seat.me }
+    {
+        ObjectId(load_number(table, &mut self.seat, self.cell))
+    }
+}
