@@ -1,1 +1,3 @@
+pub mod Publishing
 pub mod Searching
+pub mod Walking
