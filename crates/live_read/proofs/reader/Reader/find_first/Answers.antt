@@ -19,4 +19,4 @@ returns-clause-some g c = let q = g.P.GracePlan.QSBR in let a = g.K.ChainRule.al
     let same : count_in word.new.seat.me.0.slot ≡ count_in r.seat.me.0.slot = ap (λ (v : View). count_in v.slot) word.ensures.looked.1 in
     first_some q a _ c.args.chain word.result r.seat.me.0.sizes.pool (λ i. (r.seated.2 i).pool)
     (subst (λ (n : ℕ). IsOpen (state_of word.new.seat.me.0.seen) (section r.slot n)) (sym same) (word.ensures.known.1 _ _ (stands q a r c.requires.0 c.requires.1)))
-    word.ensures.first.0 c.if-word-eq0.false word.ensures.first.1
+    word.ensures.first.0 c.if-word-eq0.false (λ o f. (word.ensures.first.1 o f).0)
