@@ -93,3 +93,34 @@ module _ (v w x z u : View) (p : Option ObjectId) (o : ObjectId) (next : ℕ) (c
 
   pub cut_writer : IsWriter z
   cut_writer = subst (λ (l : List ChainRight). l ≡ own_in l ∷ lent_chains l) (sym cut_chains) refl
+
+pub replace_same : (v u w : View) (o q : ObjectId) → w.chains ≡ v.chains → w.object ≡ u.object → q ≡ o → replace_by q v u ≡ replace_of o w
+replace_same v u w o q chains object is =
+    ap (λ (l : List ChainRight). Object (Replace (own_in l).chain q (object_in u.object) (cell_in u.object) (payload_in u.object))) (sym chains)
+    ∙ (ap (λ (x : RecordRight). Object (Replace (own_in w.chains).chain q (object_in x) (cell_in x) (payload_in x))) (sym object)
+    ∙ ap (λ (p : ObjectId). Object (Replace (own_in w.chains).chain p (object_in w.object) (cell_in w.object) (payload_in w.object))) is)
+
+-- the seats after a replacement: the one with the right to what was replaced, and the writer's
+module _ (v m w x z u : View) (p : Option ObjectId) (o : ObjectId) (h : ℕ) (chains : w.chains ≡ v.chains) (object : w.object ≡ m.object) (did : IsNow (replaced_view p o h w) x) (job : u ≡ object_alone x) (rest : z ≡ but_object x) where
+  pub replaced_unlinked : u.object ≡ Unlinked (note_of w.seen o).0 o
+  replaced_unlinked = ap (λ (y : View). y.object) job ∙ ap (λ (y : View). y.object) did
+
+  pub is_replaced : object_in u.object ≡ o
+  is_replaced = ap object_in replaced_unlinked
+
+  pub unlinked_old : IsUnlinked u
+  unlinked_old = subst (λ (r : RecordRight). r ≡ Unlinked (cell_in r) (object_in r)) (sym replaced_unlinked) refl
+
+  pub replaced_chains : z.chains ≡ record (own_in v.chains) { head = head_after p h (own_in v.chains).head; objects = replaced o (object_in m.object) (list_in v) } ∷ lent_chains v.chains
+  replaced_chains = ap (λ (y : View). y.chains) rest ∙ (ap (λ (y : View). y.chains) did
+      ∙ (ap (λ (l : List ChainRight). record (own_in l) { head = head_after p h (own_in l).head; objects = replaced o (object_in w.object) (own_in l).objects } ∷ lent_chains l) chains
+      ∙ ap (λ (r : RecordRight). record (own_in v.chains) { head = head_after p h (own_in v.chains).head; objects = replaced o (object_in r) (list_in v) } ∷ lent_chains v.chains) object))
+
+  pub replaced_list : own_in z.chains ≡ record (own_in v.chains) { head = (own_in z.chains).head; objects = replaced (object_in u.object) (object_in m.object) (list_in v) }
+  replaced_list = with_objects (own_in v.chains) (own_in z.chains) _ _ _ (ap own_in replaced_chains) (ap (λ (q : ObjectId). replaced q (object_in m.object) (list_in v)) (sym is_replaced))
+
+  pub replaced_lent : lent_chains z.chains ≡ lent_chains v.chains
+  replaced_lent = ap lent_chains replaced_chains
+
+  pub replaced_writer : IsWriter z
+  replaced_writer = subst (λ (l : List ChainRight). l ≡ own_in l ∷ lent_chains l) (sym replaced_chains) refl
