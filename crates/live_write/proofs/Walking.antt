@@ -3,7 +3,7 @@ use Rattle.std.proofs.Common.{Bool, ◌≡◌, ◌≢◌, ℕ, ◌+◌, ◌-◌,
 use Rattle.atomic_table.specs.Table.{Me}
 use Rattle.rcu_model.specs.declared.event.ObjectId.{ObjectId}
 use Rattle.rcu_model.specs.Sets.{In, IsPlace, follows, first_of, next_of, same_object}
-use Rattle.rcu_model.proofs.Lemmas.{Once, Tells, object_tells, some_is}
+use Rattle.rcu_model.proofs.Lemmas.{Once, Tells, object_tells, follows_has}
 use Rattle.live_log.specs.declared.event.LiveEvent.{LiveEvent}
 use Rattle.live_log.specs.Log.{Log, Begins, IsLiveRun, note_of, objects_of}
 use Rattle.live_log.proofs.Lemmas.{begins_trans, kept_log}
@@ -166,3 +166,37 @@ module _ {S : Type 0} (qsbr : Bool) (allows : Log → LiveEvent → Type 0) (m0 
         by None p at there = tt
         by (Some j) None at there = absurd there
         by (Some j) (Some q) at there = subst (λ (z : ℕ). z < m0.0.sizes.pool) there (s.low q at)
+
+-- the writer reads an object of its chain
+pub record Reads {S : Type 0} (qsbr : Bool) (allows : Log → LiveEvent → Type 0) (m0 m : Me S View) (o : ObjectId) (cell : ℕ) : Type 0 where
+  pub went : Went qsbr allows m0.0 m0 m
+  pub listed : IsListed m.0
+  pub own : IsWriter m.0
+  pub has : In (own_in m.0.chains).objects o
+  pub lies : (note_of m.0.seen o).0 ≡ cell
+
+module _ {S : Type 0} (qsbr : Bool) (allows : Log → LiveEvent → Type 0) (m0 : Me S View) (o : ObjectId) (cell : ℕ) where
+  pub reads_found : (m : Me S View) (p : Option ObjectId) → IsWriter m0.0 → Went qsbr allows m0.0 m0 m → IsListed m.0 → IsBefore m.0 p o → (note_of m.0.seen o).0 ≡ cell → Reads qsbr allows m0 m o cell
+  reads_found m p own went listed at lies = record {
+    went = went;
+    listed = listed;
+    own = subst (λ (l : List ChainRight). l ≡ own_in l ∷ lent_chains l) (ap (λ (u : View). u.chains) (sym went.1)) own;
+    has = follows_has (own_in m.0.chains).objects p o at.1;
+    lies = lies;
+  }
+
+  module _ (m : Me S View) (r : Reads qsbr allows m0 m o cell) where
+    pub reads_it : MayRead qsbr m.0 o cell
+    reads_it = (r.lies, inr (r.own, r.listed, r.has))
+
+    pub note_on : (n : Me S View) → Went qsbr allows m.0 m n → note_of n.0.seen o ≡ note_of m.0.seen o
+    note_on n went = note_same qsbr allows m.0 m n went r.listed o r.has
+
+    pub reads_on : (n : Me S View) → Went qsbr allows m.0 m n → KnowsChains m.0 n.0 → Reads qsbr allows m0 n o cell
+    reads_on n went knows = record {
+      went = went_both qsbr allows m0 m n r.went went;
+      listed = (knows.1 r.own).0;
+      own = subst (λ (l : List ChainRight). l ≡ own_in l ∷ lent_chains l) (ap (λ (u : View). u.chains) (sym went.1)) r.own;
+      has = subst (λ (l : List ChainRight). In (own_in l).objects o) (ap (λ (u : View). u.chains) (sym went.1)) r.has;
+      lies = ap (λ (z : ℕ × List ℕ). z.0) (note_on n went) ∙ r.lies;
+    }
