@@ -10,6 +10,8 @@ mod grace_periods;
 #[cfg(test)]
 mod readers;
 #[cfg(test)]
+mod records;
+#[cfg(test)]
 mod registering;
 #[cfg(test)]
 mod threads;

@@ -1,3 +1,4 @@
+pub mod Filling
 pub mod Publishing
 pub mod Searching
 pub mod Walking

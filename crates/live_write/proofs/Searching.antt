@@ -1,18 +1,20 @@
 -- Searches one after the other, and what they found.
-use Rattle.std.proofs.Common.{Bool, ◌≡◌, ◌≢◌, ℕ, ◌+◌, ◌<◌, ◌≤◌, List, [], ◌∷◌, ◌++◌, sym, refl, ap, ◌∙◌, subst, inl, inr, arith, append_assoc}
+use Rattle.std.proofs.Common.{Bool, Option, None, Some, IfNone, MatchBool, ◌==◌, eq-eqb, ne_eqb, ◌≡◌, ◌≢◌, ℕ, ◌+◌, ◌<◌, ◌≤◌, List, [], ◌∷◌, ◌++◌, sym, refl, ap, ◌∙◌, subst, inr, arith, lt_of_not-le, append_assoc}
 use mathlib.Core.Logic.{dite}
-use native.Mathlib.Decide.{ℕ_discrete}
+use native.Mathlib.Decide.{ℕ_discrete, dec_le}
 use Rattle.atomic_table.specs.Table.{Me}
-use Rattle.rcu_model.specs.Sets.{In}
-use Rattle.rcu_model.proofs.Lemmas.{in_left, in_more}
+use Rattle.rcu_model.proofs.Lemmas.{in_left}
 use Rattle.live_log.specs.declared.event.LiveEvent.{LiveEvent}
-use Rattle.live_log.specs.Log.{Log}
+use Rattle.live_log.specs.Log.{Begins, Log}
 use Rattle.live_rule.specs.declared.view.Sizes.{Sizes}
 use Rattle.live_rule.specs.declared.view.View.{View}
 use Rattle.live_rule.specs.declared.rights.RecordRight.{RecordRight}
+use Rattle.live_rule.specs.declared.rights.RecordRight.TheVariants.{Fresh}
 use Rattle.live_rule.specs.Places.{cell_at}
+use Rattle.live_table.specs.Rights.{link_in, object_in, payload_in}
+use Rattle.live_table.specs.Steps.{IsLater}
 use Rattle.live_words.proofs.Lemmas.{begins_trans}
-use Rattle.live_write.specs.Searching.{FoundIn, IsTaken, Searched}
+use Rattle.live_write.specs.Searching.{AreTaken, FoundIn, IsTaken, Searched, Takes}
 
 -- what was found earlier, or later, was found
 pub found_left : (found more : List (ℕ × ℕ)) (place : ℕ) (so : ℕ → Type 0) → FoundIn found place so → FoundIn (found ++ more) place so
@@ -23,9 +25,46 @@ found_right [] found place so f = f
 found_right (x ∷ more) found place so f = let g = found_right more found place so f in (g.0, inr g.1, g.2)
 
 module _ {S : Type 0} (qsbr : Bool) (allows : Log → LiveEvent → Type 0) where
-  pub searched_then : (found more : List (ℕ × ℕ)) (x y : RecordRight) (m n p : Me S View) → Searched qsbr allows found x m n → Searched qsbr allows more y n p → Searched qsbr allows (more ++ found) y m p
-  searched_then found more x y m n p s t = (
+  -- what the right to an object is after a search
+  pub right_is : (found : List (ℕ × ℕ)) (x : RecordRight) (m n : Me S View) → Searched qsbr allows found x m n → n.0.object ≡ x
+  right_is found x m n s = ap (λ (v : View). v.object) s.1
+
+  -- one search after another, which makes something of the right that the first one left
+  pub searched_then : (found more : List (ℕ × ℕ)) (x : RecordRight) (f : RecordRight → RecordRight) (m n p : Me S View) → Searched qsbr allows found x m n → Searched qsbr allows more (f n.0.object) n p → Searched qsbr allows (more ++ found) (f x) m p
+  searched_then found more x f m n p s t = (
     t.0 ∙ s.0,
-    t.1 ∙ (ap (λ (z : View). record z { seen = p.0.seen; looks = more ++ z.looks; object = y }) s.1 ∙ ap (λ (l : List (ℕ × ℕ)). record m.0 { seen = p.0.seen; looks = l; object = y }) (sym (append_assoc more found m.0.looks))),
+    t.1 ∙ (ap (λ (z : View). record z { seen = p.0.seen; looks = more ++ z.looks; object = f z.object }) s.1 ∙ ap (λ (l : List (ℕ × ℕ)). record m.0 { seen = p.0.seen; looks = l; object = f x }) (sym (append_assoc more found m.0.looks))),
     (begins_trans m.0.seen n.0.seen p.0.seen s.2.0 t.2.0, begins_trans m.0.heard n.0.seen p.0.seen s.2.1 t.2.0, t.2.2),
   )
+
+  -- after it, what was heard of was seen
+  pub is_later : (found : List (ℕ × ℕ)) (x : RecordRight) (m n : Me S View) → Searched qsbr allows found x m n → IsLater qsbr allows n.0 n.0
+  is_later found x m n s = (([], refl), subst (λ (l : Log). Begins l n.0.seen) (sym (ap (λ (v : View). v.heard) s.1)) s.2.1, s.2.2)
+
+  -- a record taken after a search that left the right as it was, or that drew a number
+  pub takes_then : (found : List (ℕ × ℕ)) (x : RecordRight) (i : ℕ) (m n p : Me S View) → Searched qsbr allows found x m n → Takes qsbr allows i n p
+      → (all : List (ℕ × ℕ)) × Searched qsbr allows all (Fresh i (object_in x) (link_in p.0.object) (payload_in p.0.object)) m p
+  takes_then found x i m n p s t = (t.0 ++ found, searched_then found t.0 x (λ y. Fresh i (object_in y) (link_in p.0.object) (payload_in p.0.object)) m n p s t.1)
+
+-- by whether two numbers are the same
+pub match_eq : {A B : Type 0} (n m : ℕ) → (n ≡ m → A) → (n ≢ m → B) → MatchBool (n == m) A B
+match_eq {A} {B} n m same other = dite (ℕ_discrete n m)
+    (λ e. subst (λ (b : Bool). MatchBool b A B) (sym (eq-eqb n m e)) (same e))
+    (λ ne. subst (λ (b : Bool). MatchBool b A B) (sym (ne_eqb n m ne)) (other ne))
+
+-- one more record was found in use
+pub taken_more : (key : Sizes) (found more : List (ℕ × ℕ)) (from to : ℕ) → ((i : ℕ) → from ≤ i → i < to → IsTaken key found i) → IsTaken key more to → (i : ℕ) → from ≤ i → i < to + 1 → IsTaken key (more ++ found) i
+taken_more key found more from to all one i low high = dite (ℕ_discrete i to)
+    (λ e. subst (λ (j : ℕ). IsTaken key (more ++ found) j) (sym e) (found_left more found (cell_at key to 0) (λ n. n ≢ 0) one))
+    (λ ne. found_right more found (cell_at key i 0) (λ n. n ≢ 0) (all i low (omega arith)))
+
+-- all records were, first those from the middle on
+pub taken_all : (key : Sizes) (found more : List (ℕ × ℕ)) (middle : ℕ) → ((i : ℕ) → middle ≤ i → i < key.pool → IsTaken key found i) → ((i : ℕ) → 0 ≤ i → i < middle → IsTaken key more i) → AreTaken key (more ++ found)
+taken_all key found more middle high low i within = dite (dec_le middle i)
+    (λ up. found_right more found (cell_at key i 0) (λ n. n ≢ 0) (high i up within))
+    (λ not. let under = lt_of_not-le not in found_left more found (cell_at key i 0) (λ n. n ≢ 0) (low i (omega arith) under))
+
+-- what follows from what a clause says where there is no value
+pub if_none : {A : Type 0} {P Q : Type 0} (r : Option A) → IfNone r P → (P → Q) → IfNone r Q
+if_none None p f = f p
+if_none (Some x) p f = tt

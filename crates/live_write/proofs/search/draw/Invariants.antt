@@ -1,0 +1,9 @@
+use Rattle.std.proofs.Common.{ℕ, List}
+use Rattle.rcu_model.specs.Sets.{In}
+use Rattle.live_rule.specs.Places.{last_at}
+use Rattle.live_table.specs.Steps.{Keeps}
+use Rattle.live_write.specs.Searching.{Searched}
+use Rattle.live_write.proofs.search.draw.Given as goal
+
+abbrev pub invariant-loop : goal.invariant-loop
+invariant-loop g l = Keeps l.fn.seat l.seat × ((found : List (ℕ × ℕ)) × Searched g.P.GracePlan.QSBR g.K.ChainRule.allows found l.fn.seat.me.0.object l.fn.seat.me l.seat.me × In found (last_at l.table.words.shared.key, l.last))
