@@ -6,6 +6,7 @@ ghost use Rattle.std.specs.Prelude.{◌≡◌};
 
 mod reading;
 mod waiting;
+mod walking;
 
 use domain::{LiveConfig, Opened, Site};
 use gp_memb::{GracePlan, MembPlan};
@@ -20,6 +21,7 @@ use std::sync::Wait;
 use std::thread::Threads;
 use std::{env, io};
 use waiting::{polls, synchronizations};
+use walking::{allocations, cuts, further_reads, pushes, reads, reads_by_two, walks};
 
 /// What is repeated.
 #[derive(Clone, Copy, Drop)]
@@ -36,6 +38,20 @@ enum Kind {
     Synchronize,
     /// A look whether an ask is answered.
     Poll,
+    /// A section that reads the first object of a chain.
+    Read,
+    /// The same by two readers, each in a thread of its own.
+    ReadByTwo,
+    /// A further read in a section.
+    FurtherRead,
+    /// A step along a chain of 1,000 objects.
+    Walk,
+    /// A record allocated and pushed.
+    Push,
+    /// The same, cut at once.
+    Cut,
+    /// A record allocated and discarded, while so many of 100 are in use.
+    Alloc(u64),
 }
 
 fn kind_of(word: &str) -> Option<Kind> {
@@ -46,8 +62,27 @@ fn kind_of(word: &str) -> Option<Kind> {
         "announcement" => Kind::Announcement,
         "synchronize" => Kind::Synchronize,
         "poll" => Kind::Poll,
+        "read" => Kind::Read,
+        "read-by-two" => Kind::ReadByTwo,
+        "further-read" => Kind::FurtherRead,
+        "walk" => Kind::Walk,
+        "push" => Kind::Push,
+        "cut" => Kind::Cut,
+        "alloc-10" => Kind::Alloc(10),
+        "alloc-90" => Kind::Alloc(90),
+        "alloc-99" => Kind::Alloc(99),
         _ => return None,
     })
+}
+
+impl Kind {
+    /// Whether it reads a chain.
+    fn reads(self) -> bool {
+        matches!(
+            self,
+            Kind::Read | Kind::ReadByTwo | Kind::FurtherRead | Kind::Walk
+        )
+    }
 }
 
 /// Repeats it, in a domain of 256 slots.
@@ -63,6 +98,9 @@ fn repeat<P: GracePlan + Drop + Send + Sync, B: Site + Send + Sync, R: Threads +
     let (domain, mut record) = opened.named::<B>(alloc)?;
     let mut one = domain.register(rt, &mut record)?;
     let mut two = domain.register(rt, &mut record)?;
+    if kind.reads() {
+        pushes(rt, &domain, &mut record, 1_000)?;
+    }
     match kind {
         Kind::Section => sections(&mut one, count),
         Kind::SectionByTwo => reading::sections_by_two(rt, one, two, count),
@@ -70,14 +108,24 @@ fn repeat<P: GracePlan + Drop + Send + Sync, B: Site + Send + Sync, R: Threads +
         Kind::Announcement => announcements(&mut one, count),
         Kind::Synchronize => synchronizations(rt, &domain, &mut record, count),
         Kind::Poll => polls(&domain, &mut record, count),
+        Kind::Read => reads(&mut one, count),
+        Kind::ReadByTwo => reads_by_two(rt, one, two, count),
+        Kind::FurtherRead => further_reads(&mut one, count),
+        Kind::Walk => walks(&mut one, count),
+        Kind::Push => pushes(rt, &domain, &mut record, count),
+        Kind::Cut => cuts(rt, &domain, &mut record, count),
+        Kind::Alloc(share) => allocations(rt, &domain, &mut record, RECORDS / 100 * share, count),
     }
 }
+
+/// How many records the domain has.
+const RECORDS: u64 = 65_536;
 
 const SIZE: LiveConfig = LiveConfig {
     slots: 256,
     queues: 1,
     chains: 1,
-    pool: 1,
+    pool: RECORDS as usize,
 };
 
 fn in_flavour<R: Threads + Wait + Sync>(
