@@ -17,3 +17,5 @@ mod registering;
 mod threads;
 #[cfg(test)]
 mod words;
+#[cfg(test)]
+mod writers;
