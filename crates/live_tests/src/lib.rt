@@ -19,3 +19,5 @@ mod registering;
 mod threads;
 #[cfg(test)]
 mod words;
+#[cfg(test)]
+mod writers;
