@@ -78,6 +78,7 @@ module _ {S : Type 0} (qsbr : Bool) (allows : Log → LiveEvent → Type 0) (key
       let found : ℕ = get_or s.words a 0 in
       let b = r.seen id v at in
       let wide = r.wide in
+      let small : found ≤ 1 = subst (λ (i : ℕ). get_or s.words i 0 ≤ 1) (sym a_is) (r.agree.holds.hold c low) in
       exchanged found 0 1 (λ x. (w : View) × (act : Act S) × Valid s.homes me.1 act × Rule (stepped s a x id me.1 w act) × held qsbr allows (step slots a 0 1 lists.none) me found (w, carried_after me.1 act))
       (λ zero.
       let h : ℕ = get_or s.words (head_at key c) 0 in
@@ -104,10 +105,10 @@ module _ {S : Type 0} (qsbr : Bool) (allows : Log → LiveEvent → Type 0) (key
               ((λ is. absurd (other (sym is))), chain_part qsbr key r.log r.log s.words (set s.words (hold_at key c) 1) v.chains e (λ l. (far (hold_at key e) (λ z. other (omega arith)), far (head_at key e) (λ z. omega arith), refl, refl)) (r.knows (chain e) id v at there)),
               inl there,
             )))),
-        ((λ _ d l is. ((refl, refl, (b.0, b.1, r.run)), (refl, same_chain d is, (refl, r.agree.heap.leads (head c) low (first_of os) refl), (refl, refl)))), λ ne. absurd (ne zero)),
+        ((λ _ d l is. ((refl, refl, (b.0, b.1, r.run)), (refl, same_chain d is, (refl, r.agree.heap.leads (head c) low (first_of os) refl), (refl, refl)))), (λ ne. absurd (ne zero)), small),
       ))
       (λ ne. let w : View = record (looked_view a found v) { seen = r.log } in
-      (w, keeps, tt, looks qsbr allows key s r id a v w at refl refl (look_all qsbr allows key s r id v w at (refl, refl, refl, refl, refl, refl, refl)), ((λ zero. absurd (ne zero)), λ _. (refl, refl, (b.0, b.1, r.run)))))
+      (w, keeps, tt, looks qsbr allows key s r id a v w at refl refl (look_all qsbr allows key s r id v w at (refl, refl, refl, refl, refl, refl, refl)), ((λ zero. absurd (ne zero)), (λ _. (refl, refl, (b.0, b.1, r.run))), small)))
     where
       same_chain : (d : ℕ) → a ≡ hold_at me.0.sizes d → c ≡ d
       same_chain d is = let z : a ≡ hold_at key d = is ∙ ap (λ (k : Sizes). hold_at k d) sizes in omega arith
@@ -129,7 +130,7 @@ module _ {S : Type 0} (qsbr : Bool) (allows : Log → LiveEvent → Type 0) (key
       let c : ℕ = (own_in v.chains).chain in
       let kc = knows_own qsbr allows key s r id v at own in
       let b = r.seen id v at in
-      let w : View = record (freed_view v) { seen = r.log } in (
+      let w : View = record (looked_view a 0 (freed_view v)) { seen = r.log } in (
         w,
         keeps,
         tt,

@@ -1,3 +1,4 @@
+pub mod Counting
 pub mod Writers
 pub mod Holding
 pub mod Reading

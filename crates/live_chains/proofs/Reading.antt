@@ -11,7 +11,7 @@ use Rattle.live_log.specs.declared.event.LiveEvent.{LiveEvent}
 use Rattle.live_log.specs.Log.{Log, state_of, note_of, open_of, section, WasLinked, objects_of, head, link, Follows}
 use Rattle.live_log.proofs.Lemmas.{kept_log, protected, open_inside}
 use Rattle.live_log.proofs.Lemmas.{last_opened}
-use Rattle.live_log.proofs.Lemmas.{note_stays, run_of, was_later, was_used, next_linked, linked_here}
+use Rattle.live_log.proofs.Lemmas.{note_stays, run_of, was_later, was_used, next_linked, linked_here, first_linked}
 use Rattle.live_log.proofs.Lemmas.{first_used, some_next}
 use Rattle.live_rule.specs.declared.view.Sizes.{Sizes}
 use Rattle.live_rule.specs.declared.view.View.{View}
@@ -28,6 +28,7 @@ use Rattle.live_table.specs.Steps.{Went}
 use Rattle.live_chains.specs.Chains.{IsInSection, MayRead, looked_head, looked_link, looked_word, looked_note}
 use Rattle.live_table.proofs.Lemmas.{knows_own, here, alive_linked, lows, goes_on}
 use Rattle.live_chains.proofs.Writers.{note_now}
+use Rattle.live_chains.proofs.Counting.{fits_pool}
 
 open_fits : (b : Bool) (w : ℕ) (o : lists.Option (ℕ × ℕ)) → Fits b w o → (Fits b w lists.none → ⊥) → (x : ℕ × ℕ) × (o ≡ lists.some x)
 open_fits b w lists.none f z = absurd (z f)
@@ -80,12 +81,13 @@ module _ {S : Type 0} (qsbr : Bool) (allows : Log → LiveEvent → Type 0) (key
       went s r id me.0 at me.1,
       goes_on qsbr allows key s r id me.0 at sizes,
       inside s r id me.0 at,
-      λ c low same.
+      (λ c low same.
           let same' : a ≡ head_at key c = same ∙ ap (λ (k : Sizes). head_at k c) sizes in
           let low' : c < key.chains = subst (λ (k : Sizes). c < k.chains) sizes low in (
             ap (λ i. get_or s.words i 0) same' ∙ r.agree.heap.leads (head c) low' (first_of ((objects_of r.log).chain c)) refl,
-            λ o f. lows qsbr allows key s r id me.0 at sizes o (first_used qsbr allows r.log c o r.run f, linked_here qsbr allows r.log c o r.run f),
-          ),
+            λ o f. (lows qsbr allows key s r id me.0 at sizes o (first_used qsbr allows r.log c o r.run f, linked_here qsbr allows r.log c o r.run f), λ q n stands. first_linked r.log (section q n) c o (inside s r id me.0 at q n stands) f),
+          )),
+      fits_pool qsbr allows key s r id me.0 at sizes,
     ),
   )
 

@@ -1,5 +1,5 @@
 -- What each step on a chain asks and tells.
-use Rattle.std.specs.Prelude.{◌≡◌, ◌≢◌, ◌⊎◌, ℕ, ◌+◌, ◌<◌, ◌∷◌, slice_index_or, Option, Some, None, Bool}
+use Rattle.std.specs.Prelude.{◌≡◌, ◌≢◌, ◌⊎◌, ℕ, ◌+◌, ◌<◌, ◌≤◌, ◌∷◌, length, slice_index_or, Option, Some, None, Bool}
 use Rattle.atomic_table.specs.Table.{Me, Step}
 use Rattle.rcu_model.specs.declared.event.ObjectId.{ObjectId}
 use Rattle.rcu_model.specs.Machine.{IsAllowed, IsOpen}
@@ -97,11 +97,15 @@ IsNext qsbr v w o n found =
     × ((m : ObjectId) → found ≡ Some m → ((note_of w.seen m).0 < v.sizes.pool) × ((r k : ℕ) → IsInSection qsbr v r k → WasLinked (section r k) o v.seen → WasLinked (section r k) m w.seen))
     × (IsWriter v → In (own_in v.chains).objects o → found ≡ next_of (own_in v.chains).objects o)
 
--- the first object of a chain: the word is its record
-abbrev pub IsFirst : View → View → ℕ → ℕ → Type 0
-IsFirst v w c n =
+-- the first object of a chain: the word is its record, and each section of this seat may hold it
+abbrev pub IsFirst : Bool → View → View → ℕ → ℕ → Type 0
+IsFirst qsbr v w c n =
     (n ≡ ref (objects_of w.seen) (first_of ((objects_of w.seen).chain c)))
-    × ((o : ObjectId) → first_of ((objects_of w.seen).chain c) ≡ Some o → (note_of w.seen o).0 < v.sizes.pool)
+    × ((o : ObjectId) → first_of ((objects_of w.seen).chain c) ≡ Some o → ((note_of w.seen o).0 < v.sizes.pool) × ((r k : ℕ) → IsInSection qsbr v r k → WasLinked (section r k) o w.seen))
+
+-- the writer's chain has no more objects than the table has records
+abbrev pub FitsPool : View → Type 0
+FitsPool v = IsWriter v → length (own_in v.chains).objects ≤ v.sizes.pool
 
 -- the seat's own chain is this one, and it knows its objects, its head and its note
 abbrev pub IsHeld : View → ℕ → Type 0
@@ -123,20 +127,20 @@ module _ {S : Type 0} (qsbr : Bool) (allows : Log → LiveEvent → Type 0) wher
   abbrev pub noted : Step S → Me S View → ℕ → Me S View → Type 0
   noted st m n m' = Did qsbr allows (noted_view st.first m.0) (ChainNote (own_in m.0.chains).chain st.first) m m' × IsListed m'.0
 
-  -- the hold word was 0, and so the chain is the seat's; or another has it
+  -- the hold word was 0, and so the chain is the seat's; or it was 1, and another has it
   abbrev pub held : Step S → Me S View → ℕ → Me S View → Type 0
   held st m n m' =
       (n ≡ 0 → (c : ℕ) → c < m.0.sizes.chains → st.word ≡ hold_at m.0.sizes c → Went qsbr allows (held_view (own_in m'.0.chains) (looked_view st.word n m.0)) m m' × IsHeld m'.0 c)
-      × (n ≢ 0 → Went qsbr allows (looked_view st.word n m.0) m m')
+      × (n ≢ 0 → Went qsbr allows (looked_view st.word n m.0) m m') × (n ≤ 1)
 
   -- the hold word was stored back
   abbrev pub freed : Step S → Me S View → ℕ → Me S View → Type 0
-  freed st m n m' = Went qsbr allows (freed_view m.0) m m'
+  freed st m n m' = Went qsbr allows (looked_view st.word st.first (freed_view m.0)) m m'
 
   -- a head was loaded
   abbrev pub looked_head : Step S → Me S View → ℕ → Me S View → Type 0
   looked_head st m n m' = Went qsbr allows m.0 m m' × KnowsChains m.0 m'.0 × StaysOpen qsbr m.0 m'.0
-      × ((c : ℕ) → c < m.0.sizes.chains → st.word ≡ head_at m.0.sizes c → IsFirst m.0 m'.0 c n)
+      × ((c : ℕ) → c < m.0.sizes.chains → st.word ≡ head_at m.0.sizes c → IsFirst qsbr m.0 m'.0 c n) × FitsPool m.0
 
   -- a link was loaded
   abbrev pub looked_link : Step S → Me S View → ℕ → Me S View → Type 0

@@ -1,5 +1,5 @@
 //! Who writes a chain, and the chain's note. None of these steps waits.
-ghost use Rattle.std.specs.Prelude.{◌≡◌, ◌≢◌, ◌<◌};
+ghost use Rattle.std.specs.Prelude.{◌≡◌, ◌≢◌, ◌<◌, ◌≤◌};
 ghost use Rattle.live_log.specs.declared.event.LiveEvent.TheVariants.{ChainNote};
 ghost use Rattle.live_rule.specs.Places.{hold_at};
 ghost use Rattle.live_table.specs.Rights.{IsListed, IsWriter, own_in};
@@ -13,8 +13,8 @@ use live_rule::LiveSeat;
 use live_table::LiveTable;
 
 /// Takes the right to write a chain, if nobody has it: its hold word goes from 0 to 1. Answers the hold word that it
-/// found, which is kept among the looks: the chain is the seat's own exactly where that is 0, before the chains that it
-/// had. It never waits.
+/// found, 0 or 1, which is kept among the looks: the chain is the seat's own exactly where that is 0, before the chains
+/// that it had. It never waits.
 pub fn hold_chain<P: GracePlan, K: ChainRule>(
     table: &LiveTable<P, K>,
     seat: &mut LiveSeat,
@@ -22,6 +22,7 @@ pub fn hold_chain<P: GracePlan, K: ChainRule>(
 ) -> u64
     requires { (seat.old.table_id ≡ table.now.words.shared.table_id) × (seat.old.me.0.sizes ≡ table.now.words.shared.key) × (chain < table.now.chains) }
     ensures seat { Keeps seat.old seat.new }
+    ensures found { result ≤ 1 }
     ensures held { result ≡ 0 → Went P.QSBR K.allows (held_view (own_in seat.new.me.0.chains) (looked_view (hold_at table.now.words.shared.key chain) result seat.old.me.0)) seat.old.me seat.new.me × IsHeld seat.new.me.0 chain }
     ensures missed { result ≢ 0 → Went P.QSBR K.allows (looked_view (hold_at table.now.words.shared.key chain) result seat.old.me.0) seat.old.me seat.new.me }
 {
@@ -32,7 +33,8 @@ pub fn hold_chain<P: GracePlan, K: ChainRule>(
         .compare_exchange::<Holds<P, K>>(seat, place, 0, 1)
 }
 
-/// Gives the right to write the seat's own chain back: its hold word becomes 0. It never waits.
+/// Gives the right to write the seat's own chain back: its hold word becomes 0, which is kept among the looks. It never
+/// waits.
 pub fn free_chain<P: GracePlan, K: ChainRule>(
     table: &LiveTable<P, K>,
     seat: &mut LiveSeat,
@@ -41,7 +43,7 @@ pub fn free_chain<P: GracePlan, K: ChainRule>(
     requires seat { (seat.old.table_id ≡ table.now.words.shared.table_id) × (chain < table.now.chains) }
     requires right { IsWriter seat.old.me.0 × ((own_in seat.old.me.0.chains).chain ≡ chain) }
     ensures seat { Keeps seat.old seat.new }
-    ensures freed { Went P.QSBR K.allows (freed_view seat.old.me.0) seat.old.me seat.new.me }
+    ensures freed { Went P.QSBR K.allows (looked_view (hold_at table.now.words.shared.key chain) 0 (freed_view seat.old.me.0)) seat.old.me seat.new.me }
 {
     let place = table.hold_place(chain);
     table.words.shared.store::<Frees<P, K>>(seat, place, 0);

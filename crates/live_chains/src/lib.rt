@@ -9,5 +9,5 @@ mod steps;
 
 pub use holds::{free_chain, hold_chain, store_note};
 pub use loads::{load_head, load_link, load_note, load_word};
-pub use publishing::{push, replace};
+pub use publishing::{cut, push, replace};
 pub use steps::{store_cut, store_push, store_replace};

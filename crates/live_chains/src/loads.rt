@@ -1,5 +1,5 @@
 //! The loads of a reader in a section, or of a chain's writer. None of them waits, and none writes an event.
-ghost use Rattle.std.specs.Prelude.{◌≡◌, ◌<◌, Option, slice_index_or};
+ghost use Rattle.std.specs.Prelude.{◌≡◌, ◌<◌, ◌≤◌, Option, length, slice_index_or};
 ghost use Rattle.rcu_model.specs.declared.event.ObjectId.{ObjectId};
 ghost use Rattle.live_log.specs.Log.{chain_note, note_of};
 ghost use Rattle.live_table.specs.Steps.{Keeps, Went};
@@ -13,8 +13,8 @@ use live_rule::LiveSeat;
 use live_table::LiveTable;
 
 /// Loads the head of a chain, liburcu's `rcu_dereference` of its first pointer: 0 where the chain is empty, else 1 more
-/// than the first object's record. A reader's open section stays open, and a writer goes on knowing its chains. It
-/// never waits.
+/// than the first object's record. A reader's open section stays open, and may hold the first object; a writer goes on
+/// knowing its chains, and its own one has no more objects than there are records. It never waits.
 pub fn load_head<P: GracePlan, K: ChainRule>(
     table: &LiveTable<P, K>,
     seat: &mut LiveSeat,
@@ -24,8 +24,9 @@ pub fn load_head<P: GracePlan, K: ChainRule>(
     ensures seat { Keeps seat.old seat.new }
     ensures looked { Went P.QSBR K.allows seat.old.me.0 seat.old.me seat.new.me }
     ensures known { KnowsChains seat.old.me.0 seat.new.me.0 × StaysOpen P.QSBR seat.old.me.0 seat.new.me.0 }
-    ensures first { IsFirst seat.old.me.0 seat.new.me.0 chain result }
+    ensures first { IsFirst P.QSBR seat.old.me.0 seat.new.me.0 chain result }
     ensures own { IsWriter seat.old.me.0 → (own_in seat.old.me.0.chains).chain ≡ chain → result ≡ (own_in seat.old.me.0.chains).head }
+    ensures few { IsWriter seat.old.me.0 → length (own_in seat.old.me.0.chains).objects ≤ table.now.pool }
 {
     let place = table.head_place(chain);
     table.words.shared.load::<LooksHead<P, K>>(seat, place)

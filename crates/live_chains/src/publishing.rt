@@ -1,14 +1,16 @@
-//! A push and a replacement whole: the link of the record that comes is stored before the word that leads to it.
+//! A push, a replacement and a cut whole: the link of a record that comes is stored before the word that leads to it,
+//! and the link of what is cut is loaded.
 ghost use Rattle.std.specs.Prelude.{◌≡◌, ◌+◌, ◌<◌, Option, IfSome};
 ghost use Rattle.rcu_model.specs.Sets.{next_of};
 ghost use Rattle.rcu_model.specs.declared.event.ObjectId.{ObjectId};
-ghost use Rattle.live_log.specs.Log.{objects_of};
+ghost use Rattle.live_log.specs.Log.{note_of, objects_of};
 ghost use Rattle.live_rule.specs.Objects.{ref};
 ghost use Rattle.live_table.specs.Rights.{IsFresh, IsListed, IsWriter, cell_in, own_in};
 ghost use Rattle.live_table.specs.Steps.{Did, Keeps};
-ghost use Rattle.live_chains.specs.Chains.{IsBefore, IsThere, MayWrite, push_of, pushed_view, replace_of, replaced_view};
+ghost use Rattle.live_chains.specs.Chains.{IsBefore, IsThere, MayWrite, cut_of, cut_view, push_of, pushed_view, replace_of, replaced_view};
 
-use crate::steps::{store_push, store_replace};
+use crate::loads::load_link;
+use crate::steps::{store_cut, store_push, store_replace};
 use gp_memb::GracePlan;
 use live_log::ChainRule;
 use live_records::store_link;
@@ -54,4 +56,26 @@ pub fn replace<P: GracePlan, K: ChainRule>(
 {
     store_link(table, seat, cell, next);
     store_replace(table, seat, chain, before, cell);
+}
+
+/// Takes the object in the record `cell` out of the seat's chain, by a load and a store: the object's link, and then the
+/// word that led to the object. The object's own link stays as it is, so a reader that stands on it goes on. The record
+/// `before` is that of the object before it, or none where it is the first one. The seat has the right to what was cut.
+/// It never waits.
+pub fn cut<P: GracePlan, K: ChainRule>(
+    table: &LiveTable<P, K>,
+    seat: &mut LiveSeat,
+    chain: usize,
+    before: Option<usize>,
+    cell: usize,
+)
+    requires seat { (seat.old.table_id ≡ table.now.words.shared.table_id) × (seat.old.me.0.sizes ≡ table.now.words.shared.key) × (chain < table.now.chains) × IfSome before (λ j. j < table.now.pool) × (cell < table.now.pool) }
+    requires right { IsWriter seat.old.me.0 × IsListed seat.old.me.0 × ((own_in seat.old.me.0.chains).chain ≡ chain) }
+    requires object { (p : Option ObjectId) × (o : ObjectId) × IsThere seat.old.me.0 before p × IsBefore seat.old.me.0 p o × ((note_of seat.old.me.0.seen o).0 ≡ cell) × MayWrite P.QSBR K.allows seat.old.me.0 (cut_of o seat.old.me.0) }
+    ensures seat { Keeps seat.old seat.new }
+    ensures listed { IsListed seat.new.me.0 }
+    ensures cut { (p : Option ObjectId) (o : ObjectId) → IsThere seat.old.me.0 before p → IsBefore seat.old.me.0 p o → (note_of seat.old.me.0.seen o).0 ≡ cell → Did P.QSBR K.allows (cut_view p o (ref (objects_of seat.old.me.0.seen) (next_of (own_in seat.old.me.0.chains).objects o)) seat.old.me.0) (cut_of o seat.old.me.0) seat.old.me seat.new.me }
+{
+    let next = load_link(table, seat, cell);
+    store_cut(table, seat, chain, before, next);
 }

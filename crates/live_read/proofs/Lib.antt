@@ -1,4 +1,5 @@
 mod Entering
+mod Finding
 mod Leaving
 mod Rows
 mod Staying

@@ -1,13 +1,16 @@
 #![tactic(auto)]
 //! Readers of the library over live threads, and their sections.
 
+mod held;
 mod parked;
 mod reader;
+mod reading;
 mod registrar;
 mod section;
 mod site;
 mod witness;
 
+pub use held::Held;
 pub use reader::Reader;
 pub use registrar::Registrar;
 pub use section::Section;

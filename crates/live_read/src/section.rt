@@ -1,8 +1,12 @@
 //! Read-side sections.
 
-ghost use Rattle.std.specs.Prelude.{◌≡◌, ◌-◌, ◌<◌, IfOk, IfErr};
-ghost use Rattle.live_read.specs.Sections.{BeginsSection, EndsSection, MayNotBegin};
+ghost use Rattle.std.specs.Prelude.{◌≡◌, ◌-◌, ◌<◌, ◌≤◌, Option, Some, None, IfOk, IfErr, IfSome, IfNone};
+ghost use Rattle.rcu_model.specs.declared.event.ObjectId.{ObjectId};
+ghost use Rattle.rcu_model.specs.declared.refusal.Refusal.TheVariants.{NoPlace};
+ghost use Rattle.live_read.specs.Reads.{FindsFirst, FindsNext, HasHeld, Holds, Looks, payload_of};
+ghost use Rattle.live_read.specs.Sections.{BeginsSection, EndsSection, MayNotBegin, log_of};
 
+use crate::held::Held;
 use crate::reader::Reader;
 use crate::site::Site;
 use gp_memb::GracePlan;
@@ -33,6 +37,52 @@ impl<'a, P: GracePlan, K: ChainRule, B: Site> Section<'a, P, K, B> {
     {
         let reader = &mut *self.reader;
         reader.section()
+    }
+
+    /// The first object of a chain, which the section holds from then on: liburcu's `rcu_dereference` of a list's head.
+    /// It is the first one in the log that the reader has seen at the return, after all that it had seen and heard of.
+    ///
+    /// Refused with `NoPlace` exactly where there is no such chain, and then the reader is as it was. It never waits
+    /// and takes no memory.
+    pub fn first(&mut self, chain: usize) -> Result<Option<Held>, Refusal>
+        requires { (P.QSBR ≡ B.qsbr) × (0 < self.old.reader.now.depth) }
+        ensures reader { self.new.reader.ghost_name ≡ self.old.reader.ghost_name }
+        ensures refused { IfErr result (λ e. (e ≡ NoPlace) × (B.sizes.chains ≤ chain) × (self.new.reader.now ≡ self.old.reader.now)) }
+        ensures looked { IfOk result (λ _. (chain < B.sizes.chains) × Looks P.QSBR K.allows self.old.reader.now self.new.reader.now) }
+        ensures none { IfOk result (λ found. IfNone found (FindsFirst self.new.reader.now chain None)) }
+        ensures some { IfOk result (λ found. IfSome found (λ h. (o : ObjectId) × FindsFirst self.new.reader.now chain (Some o) × Holds self.new.reader.now o h.cell)) }
+        ensures held { IfOk result (λ found. IfSome found (λ h. HasHeld self.new.reader.now h.cell)) }
+    {
+        self.reader.find_first(chain)
+    }
+
+    /// What follows an object that the section holds, and is held from then on too: liburcu's `rcu_dereference` of its
+    /// next pointer. It follows the object in the log that the reader has seen at the return: in its chain, or, once it
+    /// is cut, behind what it was before. It never waits and takes no memory.
+    pub fn next(&mut self, held: Held) -> Option<Held>
+        requires open_section { (P.QSBR ≡ B.qsbr) × (0 < self.old.reader.now.depth) }
+        requires held { HasHeld self.old.reader.now held.cell }
+        ensures reader { self.new.reader.ghost_name ≡ self.old.reader.ghost_name }
+        ensures looked { Looks P.QSBR K.allows self.old.reader.now self.new.reader.now }
+        ensures still { HasHeld self.new.reader.now held.cell }
+        ensures none { IfNone result ((o : ObjectId) → Holds self.old.reader.now o held.cell → FindsNext self.new.reader.now o None) }
+        ensures held { IfSome result (λ h. HasHeld self.new.reader.now h.cell) }
+        ensures some { IfSome result (λ h. (o : ObjectId) → Holds self.old.reader.now o held.cell → (next : ObjectId) × FindsNext self.new.reader.now o (Some next) × Holds self.new.reader.now next h.cell) }
+    {
+        self.reader.find_next(held)
+    }
+
+    /// The four words of an object that the section holds: those that were published with it. It never waits and takes
+    /// no memory.
+    pub fn read(&mut self, held: Held) -> [u64; 4]
+        requires open_section { (P.QSBR ≡ B.qsbr) × (0 < self.old.reader.now.depth) }
+        requires held { HasHeld self.old.reader.now held.cell }
+        ensures reader { self.new.reader.ghost_name ≡ self.old.reader.ghost_name }
+        ensures looked { Looks P.QSBR K.allows self.old.reader.now self.new.reader.now }
+        ensures still { HasHeld self.new.reader.now held.cell }
+        ensures payload { (o : ObjectId) → Holds self.old.reader.now o held.cell → result ≡ payload_of (log_of self.old.reader.now) o }
+    {
+        self.reader.read_words(held)
     }
 
     /// Ends the section, as dropping it does. It never waits.

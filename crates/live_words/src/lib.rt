@@ -3,8 +3,8 @@
 //! `live_readers`, `live_periods`, `live_groups`, `live_records` and `live_chains` for those above.
 
 pub use live_chains::{
-    free_chain, hold_chain, load_head, load_link, load_note, load_word, push, replace, store_cut,
-    store_note, store_push, store_replace,
+    cut, free_chain, hold_chain, load_head, load_link, load_note, load_word, push, replace,
+    store_cut, store_note, store_push, store_replace,
 };
 pub use live_groups::{claim, release, store_clear, store_set};
 pub use live_log::{AnyChain, ChainRule, Keyed, LiveEvent, ObjectEvent};

@@ -1,2 +1,4 @@
-pub mod Searching
 pub mod Filling
+pub mod Publishing
+pub mod Searching
+pub mod Walking

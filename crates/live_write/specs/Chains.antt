@@ -1,0 +1,33 @@
+-- What a call of a chain's writer tells.
+use Rattle.std.specs.Prelude.{◌≡◌, ℕ, [], ◌∷◌, Bool, List, slice_index_or}
+use Rattle.rcu_model.specs.declared.event.ObjectId.{ObjectId}
+use Rattle.live_log.specs.declared.event.LiveEvent.{LiveEvent}
+use Rattle.live_log.specs.declared.event.LiveEvent.TheVariants.{Object}
+use Rattle.live_log.specs.declared.event.ObjectEvent.TheVariants.{Push, Replace}
+use Rattle.live_log.specs.Log.{Log, Begins, IsLiveRun}
+use Rattle.live_rule.specs.declared.view.View.{View}
+use Rattle.live_table.specs.Rights.{own_in, object_in, cell_in, payload_in}
+
+-- the objects that a writer's chain links, the first one first
+abbrev pub list_in : View → List ObjectId
+list_in v = (own_in v.chains).objects
+
+-- the push by one seat of another's fresh record
+abbrev pub push_by : View → View → LiveEvent
+push_by v u = Object (Push (own_in v.chains).chain (object_in u.object) (cell_in u.object) (payload_in u.object))
+
+-- the replacement of an object by another seat's fresh record
+abbrev pub replace_by : ObjectId → View → View → LiveEvent
+replace_by o v u = Object (Replace (own_in v.chains).chain o (object_in u.object) (cell_in u.object) (payload_in u.object))
+
+-- the four words of a payload
+abbrev pub words_in : List ℕ → List ℕ
+words_in payload = slice_index_or payload 0 0 ∷ slice_index_or payload 1 0 ∷ slice_index_or payload 2 0 ∷ slice_index_or payload 3 0 ∷ []
+
+-- the event is the last one of a log that goes on from all that a chain's writer and its caller had seen and heard of
+pub record Publishes (qsbr : Bool) (allows : Log → LiveEvent → Type 0) (writer : View) (seen heard : Log) (e : LiveEvent) (log : Log) : Type 0 where
+  pub before : Log
+  pub wrote : log ≡ e ∷ before
+  pub after_writer : Begins writer.seen before × Begins writer.heard before
+  pub after_caller : Begins seen before × Begins heard before
+  pub run : IsLiveRun qsbr allows log
