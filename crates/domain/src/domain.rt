@@ -26,7 +26,7 @@ pub struct Domain<P: GracePlan, K: ChainRule, B: Site> {
     pub(crate) table: Arc<LiveTable<P, K>>,
     pub(crate) registrar: Mutex<Registrar<P, K, B>>,
     pub(crate) grace: Mutex<GraceLock<P, B>>,
-    pub(crate) ghost named: { ((arc_value table).words.shared.table_id ≡ B.table) × (P.QSBR ≡ B.qsbr) },
+    pub(crate) ghost named: { ((arc_value table).words.shared.table_id ≡ B.table) × ((arc_value table).words.shared.key ≡ B.sizes) × (P.QSBR ≡ B.qsbr) },
 }
 
 impl<P: GracePlan + Drop, K: ChainRule, B: Site> Domain<P, K, B> {

@@ -6,9 +6,11 @@ mod config;
 mod domain;
 mod grace_lock;
 mod opened;
+mod writing;
 
 pub use config::LiveConfig;
 pub use domain::Domain;
 pub use live_grace::LiveCookie;
-pub use live_read::{Reader, Record, Section, Site, Witness};
+pub use live_read::{Held, Reader, Record, Section, Site, Witness};
+pub use live_write::{Chain, Owned, Unlinked};
 pub use opened::Opened;

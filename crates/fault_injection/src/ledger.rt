@@ -30,6 +30,10 @@ pub enum Call {
     NewRegistry,
     /// `Registry::claim`.
     Claim,
+    /// `domain::Opened::new`.
+    OpenDomain,
+    /// `domain::Opened::named`.
+    NameDomain,
     /// `rcu_model::check_log`.
     CheckLog,
     /// `schedule::read_line`.
@@ -62,6 +66,8 @@ impl fmt::Display for Call {
             Call::PopReady => "pop_ready",
             Call::NewRegistry => "new_registry",
             Call::Claim => "claim",
+            Call::OpenDomain => "open_domain",
+            Call::NameDomain => "name_domain",
             Call::CheckLog => "check_log",
             Call::ReadLine => "read_line",
             Call::ReadSchedule => "read_schedule",

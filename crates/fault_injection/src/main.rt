@@ -2,6 +2,7 @@
 //! `fault_injection`: calls of the library that may each be refused memory once, from outside, and what that left.
 
 mod answers;
+mod domains;
 mod ledger;
 mod logs;
 mod operations;

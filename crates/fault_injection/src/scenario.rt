@@ -1,5 +1,6 @@
 //! The scenarios by name.
 
+use crate::domains::make_domains;
 use crate::ledger::{Finding, Ledger};
 use crate::logs::{check_logs, read_logs, read_schedules};
 use crate::queues::push_items;
@@ -22,6 +23,8 @@ pub enum Scenario {
     Queue,
     /// A registry is made, and its slots are claimed.
     Registry,
+    /// A domain of live threads is made in each flavour.
+    Domain,
     /// The logs of the worked schedules are judged, and broken ones.
     CheckLog,
     /// The texts of the worked schedules are read.
@@ -35,7 +38,7 @@ pub enum Scenario {
 }
 
 /// All scenarios, in the order in which they run.
-pub const SCENARIOS: [Scenario; 14] = [
+pub const SCENARIOS: [Scenario; 15] = [
     Scenario::New,
     Scenario::Step(Flavour::Memb),
     Scenario::Step(Flavour::Qsbr),
@@ -43,6 +46,7 @@ pub const SCENARIOS: [Scenario; 14] = [
     Scenario::Drain(Flavour::Qsbr),
     Scenario::Queue,
     Scenario::Registry,
+    Scenario::Domain,
     Scenario::CheckLog,
     Scenario::ReadSchedule,
     Scenario::ReadAnswers,
@@ -63,6 +67,7 @@ impl Scenario {
             Scenario::Drain(Flavour::Qsbr) => "drain-qsbr",
             Scenario::Queue => "queue",
             Scenario::Registry => "registry",
+            Scenario::Domain => "domain",
             Scenario::CheckLog => "check-log",
             Scenario::ReadSchedule => "read-schedule",
             Scenario::ReadAnswers => "read-answers",
@@ -81,6 +86,7 @@ impl Scenario {
             Scenario::Drain(flavour) => drain_worked(alloc, ledger, flavour),
             Scenario::Queue => push_items(alloc, ledger),
             Scenario::Registry => claim_slots(alloc, ledger),
+            Scenario::Domain => make_domains(alloc, ledger),
             Scenario::CheckLog => check_logs(alloc, ledger),
             Scenario::ReadSchedule => read_schedules(alloc, ledger),
             Scenario::ReadAnswers => read_logs(alloc, ledger),

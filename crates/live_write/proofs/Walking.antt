@@ -2,7 +2,7 @@
 use Rattle.std.proofs.Common.{Bool, ◌≡◌, ◌≢◌, ℕ, ◌+◌, ◌-◌, ◌<◌, ◌≤◌, zero, suc, List, [], ◌∷◌, ◌++◌, length, Option, Some, None, IfSome, slice_get, sym, refl, ap, ◌∙◌, subst, inl, inr, ⊎_elim, arith, length-append, append_assoc, append-nil}
 use Rattle.atomic_table.specs.Table.{Me}
 use Rattle.rcu_model.specs.declared.event.ObjectId.{ObjectId}
-use Rattle.rcu_model.specs.Sets.{In, IsPlace, follows, first_of, next_of, same_object}
+use Rattle.rcu_model.specs.Sets.{In, IsPlace, follows, first_of, next_of, same_object, without_object, replaced}
 use Rattle.rcu_model.proofs.Lemmas.{Once, Tells, object_tells, follows_has}
 use Rattle.live_log.specs.declared.event.LiveEvent.{LiveEvent}
 use Rattle.live_log.specs.Log.{Log, Begins, IsLiveRun, note_of, objects_of}
@@ -36,6 +36,38 @@ next_at (p ∷ ps) o rest once = by (object_tells p o) (next_at ps o rest once.1
 get_middle : (front : List ObjectId) (o : ObjectId) (rest : List ObjectId) → slice_get (front ++ o ∷ rest) (length front) ≡ Some o
 get_middle [] o rest = refl
 get_middle (p ∷ ps) o rest = get_middle ps o rest
+
+-- a list without one of its objects is one shorter
+without_here : (x : ObjectId) (xs : List ObjectId) (o : ObjectId) → x ≡ o → without_object o (x ∷ xs) ≡ without_object o xs
+without_here x xs o e = by (object_tells x o)
+  where
+    by : Tells (same_object x o) x o → without_object o (x ∷ xs) ≡ without_object o xs
+    by (inl y) = rw y.0 refl
+    by (inr n) = absurd (n.1 e)
+
+without_past : (x : ObjectId) (xs : List ObjectId) (o : ObjectId) → x ≢ o → without_object o (x ∷ xs) ≡ x ∷ without_object o xs
+without_past x xs o apart = by (object_tells x o)
+  where
+    by : Tells (same_object x o) x o → without_object o (x ∷ xs) ≡ x ∷ without_object o xs
+    by (inl y) = absurd (apart y.1)
+    by (inr n) = rw n.0 refl
+
+without_absent : (xs : List ObjectId) (o : ObjectId) → ¬ In xs o → without_object o xs ≡ xs
+without_absent [] o none = refl
+without_absent (x ∷ xs) o none = without_past x xs o (λ e. none (inl e)) ∙ ap (λ (l : List ObjectId). x ∷ l) (without_absent xs o (λ h. none (inr h)))
+
+pub one_fewer : (xs : List ObjectId) (o : ObjectId) → Once xs → In xs o → length (without_object o xs) + 1 ≡ length xs
+one_fewer [] o once h = absurd h
+one_fewer (x ∷ xs) o once (inl e) = let same : length (without_object o (x ∷ xs)) ≡ length xs = ap length (without_here x xs o e ∙ without_absent xs o (λ h. once.0 (subst (In xs) (sym e) h))) in omega arith
+one_fewer (x ∷ xs) o once (inr h) = let same : length (without_object o (x ∷ xs)) ≡ suc (length (without_object o xs)) = ap length (without_past x xs o (λ e. once.0 (subst (In xs) (sym e) h))) in let rest = one_fewer xs o once.1 h in omega arith
+
+pub as_many : (old new : ObjectId) (xs : List ObjectId) → length (replaced old new xs) ≡ length xs
+as_many old new [] = refl
+as_many old new (x ∷ xs) = ap suc (as_many old new xs)
+
+-- each object of a writer's chain stands there once
+pub once_in : {S : Type 0} (qsbr : Bool) (allows : Log → LiveEvent → Type 0) (m n : Me S View) → Went qsbr allows m.0 m n → IsListed n.0 → Once (own_in m.0.chains).objects
+once_in qsbr allows m n went listed = subst (λ (l : List ChainRight). Once (own_in l).objects) (ap (λ (u : View). u.chains) went.1) (subst Once listed.0 ((kept_log qsbr allows n.0.seen went.2.2).linking.once (own_in n.0.chains).chain))
 
 -- one step after another
 pub went_both : {S : Type 0} (qsbr : Bool) (allows : Log → LiveEvent → Type 0) (m n p : Me S View) → Went qsbr allows m.0 m n → Went qsbr allows n.0 n p → Went qsbr allows m.0 m p

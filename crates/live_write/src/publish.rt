@@ -15,8 +15,8 @@ use crate::walk::find;
 use gp_memb::GracePlan;
 use live_read::{Witness, tell_all};
 use live_words::{
-    ChainRule, LiveSeat, LiveTable, cut, load_head, load_link, load_note, load_seq, push,
-    replace, store_note,
+    ChainRule, LiveSeat, LiveTable, cut, load_head, load_link, load_note, load_seq, push, replace,
+    store_note,
 };
 
 /// The object of a fresh record, by the seat with the right to it, becomes the first of the seat's own chain.
@@ -67,6 +67,7 @@ pub(crate) fn cut_record<P: GracePlan, K: ChainRule, W: Witness>(
     ensures unlinked { (result.0.table_id ≡ seat.old.table_id) × (result.0.me.1 ≡ []) × (result.0.me.0.sizes ≡ seat.old.me.0.sizes) × (result.0.me.0.seen ≡ seat.new.me.0.seen) × IsUnlinked result.0.me.0 × (cell_in result.0.me.0.object ≡ result.1) × (result.1 < table.now.pool) }
     ensures object { slice_get (list_in seat.old.me.0) index ≡ Some (object_in result.0.me.0.object) }
     ensures list { (own_in seat.new.me.0.chains ≡ record (own_in seat.old.me.0.chains) { head = (own_in seat.new.me.0.chains).head; objects = without_object (object_in result.0.me.0.object) (list_in seat.old.me.0) }) × (lent_chains seat.new.me.0.chains ≡ lent_chains seat.old.me.0.chains) × IsWriter seat.new.me.0 }
+    ensures fewer { length (list_in seat.new.me.0) + 1 ≡ length (list_in seat.old.me.0) }
     ensures cut { Publishes P.QSBR K.allows seat.old.me.0 (W.seen witness.old) (W.heard witness.old) (cut_of (object_in result.0.me.0.object) seat.old.me.0) seat.new.me.0.seen }
     ensures heard { W.heard witness.new ≡ seat.new.me.0.seen }
     ensures same { (W.seen witness.new ≡ W.seen witness.old) × (W.home witness.new ≡ W.home witness.old) × (W.standing witness.new ≡ W.standing witness.old) }
@@ -102,6 +103,7 @@ pub(crate) fn replace_record<P: GracePlan, K: ChainRule, W: Witness>(
     ensures unlinked { (result.0.table_id ≡ seat.old.table_id) × (result.0.me.1 ≡ []) × (result.0.me.0.sizes ≡ seat.old.me.0.sizes) × (result.0.me.0.seen ≡ seat.new.me.0.seen) × IsUnlinked result.0.me.0 × (cell_in result.0.me.0.object ≡ result.1) × (result.1 < table.now.pool) }
     ensures object { slice_get (list_in seat.old.me.0) index ≡ Some (object_in result.0.me.0.object) }
     ensures list { (own_in seat.new.me.0.chains ≡ record (own_in seat.old.me.0.chains) { head = (own_in seat.new.me.0.chains).head; objects = replaced (object_in result.0.me.0.object) (object_in owned.me.0.object) (list_in seat.old.me.0) }) × (lent_chains seat.new.me.0.chains ≡ lent_chains seat.old.me.0.chains) × IsWriter seat.new.me.0 }
+    ensures many { length (list_in seat.new.me.0) ≡ length (list_in seat.old.me.0) }
     ensures replaced { Publishes P.QSBR K.allows seat.old.me.0 (W.seen witness.old) (W.heard witness.old) (replace_by (object_in result.0.me.0.object) seat.old.me.0 owned.me.0) seat.new.me.0.seen }
     ensures after { Begins owned.me.0.seen seat.new.me.0.seen }
     ensures heard { W.heard witness.new ≡ seat.new.me.0.seen }

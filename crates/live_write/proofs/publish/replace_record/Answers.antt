@@ -1,4 +1,4 @@
-use Rattle.std.proofs.Common.{◌≡◌, ℕ, ◌+◌, [], ◌∷◌, List, ◌∙◌, Some, ap, sym, refl, subst, inr}
+use Rattle.std.proofs.Common.{◌≡◌, ℕ, ◌+◌, [], ◌∷◌, List, length, ◌∙◌, Some, ap, sym, refl, subst, inr}
 use Rattle.rcu_model.specs.Sets.{next_of}
 use Rattle.rcu_model.proofs.Lemmas.{follows_has}
 use Rattle.live_log.specs.Log.{Log, Begins, note_of, objects_of}
@@ -10,7 +10,8 @@ use Rattle.live_rule.specs.Seats.{lent_chains}
 use Rattle.live_table.specs.Rights.{IsListed, cell_in, object_in, own_in}
 use Rattle.live_chains.specs.Chains.{MayWrite, replace_of}
 use Rattle.live_chains.proofs.Lemmas.{there_after, note_same}
-use Rattle.live_write.specs.Chains.{Publishes, replace_by}
+use Rattle.live_write.specs.Chains.{Publishes, list_in, replace_by}
+use Rattle.live_write.proofs.Walking.{as_many}
 use Rattle.live_write.proofs.Publishing.{may_later, published, wrote_after, saw, saw_heard, there_still, before_still, replace_same, replaced_unlinked, is_replaced, unlinked_old, replaced_list, replaced_lent, replaced_writer}
 use Rattle.live_write.proofs.publish.replace_record.Goals as goal
 
@@ -123,6 +124,25 @@ returns-clause-list g c =
     let rest = ap (λ q. q.0) c.tell-heard.ensures.2 ∙ ap (λ q. q.0) c.cut_object-unlinked.ensures.2 in
     let h : ℕ = c.args.cell + 1 in
     (replaced_list v m w x z u p o h chains object did.1 job rest, replaced_lent v m w x z u p o h chains object did.1 job rest, replaced_writer v m w x z u p o h chains object did.1 job rest)
+
+pub returns-clause-many : goal.returns-clause-many
+returns-clause-many g c =
+    let qsbr = g.P.GracePlan.QSBR in let allows = g.K.ChainRule.allows in let v = c.args.seat.now.me.0 in let m = c.args.owned.me.0 in let f = c.find-before.new.seat.me in let n = c.load_link-next.new.seat.me in let w = c.take_object-2.new.seat.me.0 in
+    let found = c.find-before.ensures.found in let walked = c.find-before.ensures.walked in let went = c.load_link-next.ensures.looked in let took = c.take_object-2.ensures.2 in let p = found.0 in let o = found.1 in
+    let listed = walked.1 in
+    let chains = ap (λ z. z.0.chains) took ∙ (ap (λ (z : View). z.chains) went.1 ∙ ap (λ (z : View). z.chains) walked.0.1) in
+    let object = ap (λ z. z.0.object) took ∙ (ap (λ z. z.0.object) c.load_seq.ensures.looked.0 ∙ ap (λ z. z.0.object) c.take_object.ensures.2) in
+    let passed = there_after qsbr allows f.0 f n went listed refl c.find-before.result.0 p o found.3 found.4 in
+    let there = there_still n.0 w (ap (λ z. z.0.seen) took) c.find-before.result.0 p passed.0 in
+    let at = before_still n.0 w (ap (λ z. z.0.chains) took) p o passed.1 in
+    let has = follows_has (own_in f.0.chains).objects p o found.4.1 in
+    let cell = ap (λ z. (note_of z.0.seen o).0) took ∙ (ap (λ q. q.0) (note_same qsbr allows f.0 f n went listed o has) ∙ found.5) in
+    let x = c.replace.new.seat.me.0 in let u = c.cut_object-unlinked.result.me.0 in let z = c.tell-heard.new.seat.me.0 in
+    let did = c.replace.ensures.replaced p o there at in
+    let job = ap (λ q. q.0) c.cut_object-unlinked.ensures.4 in
+    let rest = ap (λ q. q.0) c.tell-heard.ensures.2 ∙ ap (λ q. q.0) c.cut_object-unlinked.ensures.2 in
+    let h : ℕ = c.args.cell + 1 in
+    ap (λ (r : ChainRight). length r.objects) (replaced_list v m w x z u p o h chains object did.1 job rest) ∙ as_many (object_in u.object) (object_in m.object) (list_in v)
 
 pub returns-clause-replaced : goal.returns-clause-replaced
 returns-clause-replaced g c =

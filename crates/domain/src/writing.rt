@@ -1,0 +1,73 @@
+//! What a program calls to make records and to write chains.
+
+ghost use Rattle.std.specs.Prelude.{◌≡◌, ◌⊎◌, ℕ, ◌≤◌, ◌<◌, ◌∷◌, ◌++◌, List, IfErr, IfOk};
+ghost use Rattle.rcu_model.specs.declared.refusal.Refusal.TheVariants.{Busy, NoPlace, PoolFull};
+ghost use Rattle.live_log.specs.Log.{Begins, Log};
+ghost use Rattle.live_rule.specs.Places.{cell_at, hold_at};
+ghost use Rattle.live_table.specs.Rights.{cell_in, payload_in};
+ghost use Rattle.live_read.specs.Hearing.{IsAfter};
+ghost use Rattle.live_write.specs.Searching.{AreTaken, IsUsedUp};
+
+use crate::domain::Domain;
+use gp_memb::GracePlan;
+use live_read::{Site, Witness};
+use live_words::ChainRule;
+use live_write::{Chain, Owned};
+use rcu_model::Refusal;
+use std::sync::Wait;
+
+impl<P: GracePlan + Drop, K: ChainRule, B: Site> Domain<P, K, B> {
+    /// A record with these four words, which no chain links yet. The caller hears of what was seen at that.
+    ///
+    /// Refused with `PoolFull` only where it found the header of each record other than 0, or the last object number at
+    /// or above 2^62: `looks` tells the words that it found. It takes no memory, and waits for nobody, but tries again
+    /// where other threads draw object numbers meanwhile.
+    pub fn alloc<W: Witness, R: Wait>(
+        &self,
+        rt: &R,
+        witness: &mut W,
+        words: [u64; 4],
+    ) -> Result<Owned<B>, Refusal>
+        requires { W.home witness.old ≡ (B.table, B.sizes) }
+        ensures owned { IfOk result (λ o. (payload_in o.seat.me.0.object ≡ words) × (o.seat.me.0.seen ≡ W.heard witness.new)) }
+        ensures looks { (found : List (ℕ × ℕ)) × (W.looks witness.new ≡ found ++ W.looks witness.old) × IfErr result (λ e. (e ≡ PoolFull) × (IsUsedUp B.sizes found ⊎ AreTaken B.sizes found)) }
+        ensures heard { IsAfter P.QSBR K.allows (W.seen witness.old) (W.heard witness.old) (W.heard witness.new) }
+        ensures same { (W.seen witness.new ≡ W.seen witness.old) × (W.loads witness.new ≡ W.loads witness.old) × (W.home witness.new ≡ W.home witness.old) × (W.standing witness.new ≡ W.standing witness.old) }
+        ensures inside { W.is_in witness.old → W.is_in witness.new }
+    {
+        live_write::alloc(rt, &self.table, witness, words)
+    }
+
+    /// Frees a record that no chain has linked. Its object's number is given to no other. The caller hears of what was
+    /// seen at the allocation; `looks` tells the store. It never waits and takes no memory.
+    pub fn discard<W: Witness>(&self, witness: &mut W, owned: Owned<B>)
+        requires { W.home witness.old ≡ (B.table, B.sizes) }
+        ensures freed { W.looks witness.new ≡ (cell_at B.sizes (cell_in owned.seat.me.0.object) 0, 0) ∷ W.looks witness.old }
+        ensures heard { IsAfter P.QSBR K.allows (W.seen witness.old) (W.heard witness.old) (W.heard witness.new) × Begins owned.seat.me.0.seen (W.heard witness.new) }
+        ensures loads { (log : Log) × (W.loads witness.new ≡ log ∷ W.loads witness.old) }
+        ensures same { (W.seen witness.new ≡ W.seen witness.old) × (W.home witness.new ≡ W.home witness.old) × (W.standing witness.new ≡ W.standing witness.old) }
+        ensures inside { W.is_in witness.old → W.is_in witness.new }
+    {
+        live_write::discard(&self.table, witness, owned);
+    }
+
+    /// The one writer of a chain, which has the right to it until it is dropped. The caller hears of what was seen at
+    /// that.
+    ///
+    /// Refused with `NoPlace` exactly where there is no such chain, else with `Busy` exactly where its hold word was
+    /// found to be 1, which `looks` tells. It takes no memory and never waits.
+    pub fn chain<'d, W: Witness>(
+        &'d self,
+        witness: &mut W,
+        chain: usize,
+    ) -> Result<Chain<'d, P, K, B>, Refusal>
+        requires { W.home witness.old ≡ (B.table, B.sizes) }
+        ensures held { IfOk result (λ c. (c.number ≡ chain) × (chain < B.sizes.chains) × (W.looks witness.new ≡ (hold_at B.sizes chain, 0) ∷ W.looks witness.old) × Begins (W.heard witness.new) c.seat.me.0.seen) }
+        ensures refused { IfErr result (λ e. ((e ≡ NoPlace) × (B.sizes.chains ≤ chain) × (witness.new ≡ witness.old)) ⊎ ((e ≡ Busy) × (chain < B.sizes.chains) × (W.looks witness.new ≡ (hold_at B.sizes chain, 1) ∷ W.looks witness.old))) }
+        ensures heard { chain < B.sizes.chains → IsAfter P.QSBR K.allows (W.seen witness.old) (W.heard witness.old) (W.heard witness.new) }
+        ensures same { (W.seen witness.new ≡ W.seen witness.old) × (W.home witness.new ≡ W.home witness.old) × (W.standing witness.new ≡ W.standing witness.old) }
+        ensures inside { W.is_in witness.old → W.is_in witness.new }
+    {
+        Chain::hold(&self.table, witness, chain)
+    }
+}
