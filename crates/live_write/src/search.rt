@@ -13,7 +13,7 @@ use std::sync::Wait;
 /// No object has a number above this.
 const LAST_NUMBER: u64 = 4_611_686_018_427_387_904;
 
-/// What spreads numbers over the places where searches begin: 2^64 by the golden ratio.
+/// What spreads numbers over the places where searches begin: 2^64 divided by the golden ratio.
 const SPREAD: u64 = 11_400_714_819_323_198_485;
 
 /// Draws the next object number, unless the last one was given. Where another thread draws one meanwhile, it tries
