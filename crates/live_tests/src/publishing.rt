@@ -31,6 +31,7 @@ fn walks<P: GracePlan, B: Site>(
 ) -> Result<(bool, u64), Refusal>
     requires { (P.QSBR ≡ B.qsbr) × (0 < section.old.reader.now.depth) }
     ensures reader { section.new.reader.ghost_name ≡ section.old.reader.ghost_name }
+    ensures counts { (section.new.reader.now.depth ≡ section.old.reader.now.depth) × (section.new.reader.now.locks ≡ section.old.reader.now.locks) }
 {
     let mut at = section.first(chain)?;
     let mut met = 0;
