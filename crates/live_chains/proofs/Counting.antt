@@ -1,5 +1,5 @@
 -- A chain has no more objects than there are records.
-use Rattle.std.proofs.Common.{◌≡◌, ◌≢◌, ℕ, ◌<◌, ◌≤◌, ◌/◌, ◌||◌, List, [], ◌∷◌, Bool, true, false, map, eqb, length, get_or, sym, refl, ap, ◌∙◌, subst, inl, inr, ne_eqb, arith}
+use Rattle.std.proofs.Common.{◌≡◌, ◌≢◌, ℕ, ◌<◌, ◌≤◌, ◌/◌, ◌||◌, List, [], ◌∷◌, Bool, true, false, map, eqb, length, get_or, sym, refl, ap, ◌∙◌, subst, inl, inr, ne_eqb}
 use mathlib.Core.Logic.{dite}
 use mathlib.Core.Option as lists
 use native.Mathlib.Decide.{ℕ_discrete}
@@ -19,7 +19,7 @@ use Rattle.live_rule.specs.declared.view.View.{View}
 use Rattle.live_rule.specs.Places.{cell_at}
 use Rattle.live_rule.specs.Objects.{IsAlive}
 use Rattle.live_rule.specs.Rule.{KeepsRule}
-use Rattle.live_table.specs.Rights.{own_in, IsWriter}
+use Rattle.live_table.specs.Rights.{own_in}
 use Rattle.live_table.proofs.Lemmas.{knows_own, here, alive_linked, lows}
 use Rattle.live_chains.specs.Chains.{FitsPool}
 

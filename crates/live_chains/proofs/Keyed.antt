@@ -1,9 +1,8 @@
 -- A writer of a keyed chain shows what the rule asks by the list that it knows.
-use Rattle.std.proofs.Common.{Bool, ◌≡◌, ◌≢◌, ℕ, ◌+◌, ◌<◌, List, [], ◌∷◌, sym, refl, ap, ◌∙◌, subst, inl, inr}
+use Rattle.std.proofs.Common.{Bool, ◌≡◌, ◌≢◌, ℕ, ◌<◌, List, ◌∷◌, sym, ap, ◌∙◌, subst}
 use Rattle.rcu_model.specs.declared.event.ObjectId.{ObjectId}
 use Rattle.rcu_model.specs.Sets.{In, at_object, without_object, replaced}
 use Rattle.rcu_model.proofs.Lemmas.{at_object_same, at_object_other, at_number_same}
-use Rattle.live_log.specs.declared.event.LiveEvent.{LiveEvent}
 use Rattle.live_log.specs.Log.{Log, IsLiveRun, Begins, state_of, note_of}
 use Rattle.live_log.specs.Keys.{key_of, rank_of, Falls, keyed}
 use Rattle.live_log.proofs.Lemmas.{not_has}

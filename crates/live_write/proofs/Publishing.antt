@@ -5,7 +5,7 @@ use Rattle.rcu_model.specs.Sets.{IsPlace, follows, without_object, replaced}
 use Rattle.live_log.specs.declared.event.LiveEvent.{LiveEvent}
 use Rattle.live_log.specs.declared.event.LiveEvent.TheVariants.{Object}
 use Rattle.live_log.specs.declared.event.ObjectEvent.TheVariants.{Push, Replace, Cut}
-use Rattle.live_log.specs.Log.{Log, Begins, IsLiveRun, note_of}
+use Rattle.live_log.specs.Log.{Log, Begins, note_of}
 use Rattle.live_log.proofs.Lemmas.{begins_trans}
 use Rattle.live_rule.specs.declared.view.View.{View}
 use Rattle.live_rule.specs.declared.rights.ChainRight.{ChainRight}
@@ -13,7 +13,7 @@ use Rattle.live_rule.specs.declared.rights.RecordRight.{RecordRight}
 use Rattle.live_rule.specs.declared.rights.RecordRight.TheVariants.{Unlinked}
 use Rattle.live_rule.specs.Seats.{but_object, object_alone, lent_chains}
 use Rattle.live_rule.specs.Steps.{Wrote}
-use Rattle.live_table.specs.Rights.{AreAsKnown, IsListed, IsUnlinked, IsWriter, own_in, object_in, cell_in, payload_in}
+use Rattle.live_table.specs.Rights.{AreAsKnown, IsUnlinked, IsWriter, own_in, object_in, cell_in, payload_in}
 use Rattle.live_table.specs.Steps.{IsNow}
 use Rattle.live_chains.specs.Chains.{MayWrite, IsBefore, IsThere, push_of, cut_of, cut_view, replace_of, replaced_view, head_after}
 use Rattle.live_write.specs.Chains.{Publishes, list_in, push_by, replace_by}

@@ -1,11 +1,11 @@
 -- Where a writer stands in a walk over its chain.
-use Rattle.std.proofs.Common.{Bool, ◌≡◌, ◌≢◌, ℕ, ◌+◌, ◌-◌, ◌<◌, ◌≤◌, zero, suc, List, [], ◌∷◌, ◌++◌, length, Option, Some, None, IfSome, slice_get, sym, refl, ap, ◌∙◌, subst, inl, inr, ⊎_elim, arith, length-append, append_assoc, append-nil}
+use Rattle.std.proofs.Common.{Bool, ◌≡◌, ◌≢◌, ℕ, ◌+◌, ◌-◌, ◌<◌, ◌≤◌, suc, List, [], ◌∷◌, ◌++◌, length, Option, Some, None, IfSome, slice_get, sym, refl, ap, ◌∙◌, subst, inl, inr, arith, length-append, append_assoc, append-nil}
 use Rattle.atomic_table.specs.Table.{Me}
 use Rattle.rcu_model.specs.declared.event.ObjectId.{ObjectId}
 use Rattle.rcu_model.specs.Sets.{In, IsPlace, follows, first_of, next_of, same_object, without_object, replaced}
 use Rattle.rcu_model.proofs.Lemmas.{Once, Tells, object_tells, follows_has}
 use Rattle.live_log.specs.declared.event.LiveEvent.{LiveEvent}
-use Rattle.live_log.specs.Log.{Log, Begins, IsLiveRun, note_of, objects_of}
+use Rattle.live_log.specs.Log.{Log, note_of, objects_of}
 use Rattle.live_log.proofs.Lemmas.{begins_trans, kept_log}
 use Rattle.live_rule.specs.declared.view.View.{View}
 use Rattle.live_rule.specs.declared.rights.ChainRight.{ChainRight}
@@ -13,7 +13,7 @@ use Rattle.live_rule.specs.Objects.{ref}
 use Rattle.live_rule.specs.Seats.{lent_chains}
 use Rattle.live_table.specs.Rights.{own_in, IsWriter, IsListed, KnowsChains}
 use Rattle.live_table.specs.Steps.{Went}
-use Rattle.live_chains.specs.Chains.{IsBefore, IsThere, IsNext, IsFirst, MayRead}
+use Rattle.live_chains.specs.Chains.{IsBefore, IsThere, IsNext, MayRead}
 use Rattle.live_chains.proofs.Lemmas.{note_same}
 
 in_middle : (front : List ObjectId) (o : ObjectId) (rest : List ObjectId) → In (front ++ o ∷ rest) o

@@ -1,4 +1,4 @@
-use Rattle.std.proofs.Common.{◌≡◌, ℕ, ◌+◌, List, length, ◌∙◌, Some, ap, sym, refl, subst}
+use Rattle.std.proofs.Common.{ℕ, ◌+◌, List, length, ◌∙◌, Some, ap, sym, refl, subst}
 use Rattle.rcu_model.specs.declared.event.ObjectId.{ObjectId}
 use Rattle.rcu_model.specs.Sets.{In, next_of, without_object}
 use Rattle.rcu_model.proofs.Lemmas.{follows_has}

@@ -1,7 +1,7 @@
 use Rattle.std.proofs.Common.{◌∙◌, ◌-◌, Some, arith, ap}
 use Rattle.live_rule.specs.declared.view.Sizes.{Sizes}
 use Rattle.live_rule.specs.declared.view.View.{View}
-use Rattle.live_write.proofs.Walking.{Stands, here_word, may_read, goes_on, at_end, at_bound, stands_first}
+use Rattle.live_write.proofs.Walking.{here_word, may_read, goes_on}
 use Rattle.live_write.proofs.walk.count.Goals as goal
 
 pub load_link-link-requires : goal.load_link-link-requires

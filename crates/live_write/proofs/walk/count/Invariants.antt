@@ -1,4 +1,4 @@
-use Rattle.std.proofs.Common.{ℕ, ◌<◌, Option}
+use Rattle.std.proofs.Common.{ℕ, Option}
 use Rattle.live_table.specs.Steps.{Keeps}
 use Rattle.live_write.proofs.Walking.{Stands}
 use Rattle.live_write.proofs.walk.count.Given as goal
