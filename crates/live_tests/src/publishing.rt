@@ -299,7 +299,10 @@ fn refuses<B: Site, R: Wait>(
 {
     let (domain, mut record) = opened.named::<B>(alloc)?;
     let owned = domain.alloc(rt, &mut record, [1, 2, 3, 4])?;
-    let second = matches!(domain.alloc(rt, &mut record, [5; 4]), Err(Refusal::PoolFull));
+    let second = matches!(
+        domain.alloc(rt, &mut record, [5; 4]),
+        Err(Refusal::PoolFull)
+    );
     domain.discard(&mut record, owned);
     let again = domain.alloc(rt, &mut record, [6; 4]).is_ok();
     let mut writer = domain.chain(&mut record, 0)?;

@@ -64,7 +64,8 @@ fn a_pool_of_one_is_used_again(rt: HostRuntime) {
         &rt, "memory",
     );
     let (numbers, records, full) = allocates_twice::<_, Brand, _>(&rt, &table, root).expect(
-        &rt, "a free record",
+        &rt,
+        "a free record",
     );
     assert!(rt; full);
     assert_eq!(rt; numbers, [1, 3]);
@@ -129,10 +130,10 @@ fn two_allocate<P: GracePlan + Send + Sync, B: Site + Send + Sync, R: Threads + 
     let (first, second) = join(
         rt,
         move ||
-            requires { IsSync R.row × (table.entry.now.words.shared.table_id ≡ B.table) × (table.entry.now.words.shared.key ≡ B.sizes) }
+            requires { IsSync R.row × (table.now.words.shared.table_id ≡ B.table) × (table.now.words.shared.key ≡ B.sizes) }
         { allocates_many(rt, alloc_in, table, one) },
         move ||
-            requires { IsSync R.row × (table.entry.now.words.shared.table_id ≡ B.table) × (table.entry.now.words.shared.key ≡ B.sizes) }
+            requires { IsSync R.row × (table.now.words.shared.table_id ≡ B.table) × (table.now.words.shared.key ≡ B.sizes) }
         { allocates_many(rt, alloc_in, table, two) },
     );
     let mut all = first?;
@@ -148,7 +149,8 @@ fn two_threads_allocate_all_records(rt: HostRuntime) {
         &rt, "memory",
     );
     let numbers = two_allocate::<_, Brand, _>(&rt, rt.alloc(), &table, root).expect(
-        &rt, "a record for each",
+        &rt,
+        "a record for each",
     );
     assert_eq!(rt; numbers.len(), 2 * EACH);
     for (index, number) in numbers.iter().enumerate() {
