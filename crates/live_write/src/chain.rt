@@ -34,7 +34,8 @@ pub struct Chain<'d, P: GracePlan, K: ChainRule, B: Site> {
     pub(crate) linked: usize,
     pub(crate) site: PhantomData<B>,
     pub(crate) ghost seated: { (seat.table_id ≡ B.table) × (table.now.words.shared.table_id ≡ B.table) × (seat.me.0.sizes ≡ B.sizes) × (table.now.words.shared.key ≡ B.sizes) × (seat.me.1 ≡ []) },
-    pub(crate) ghost owns: { IsWriter seat.me.0 × IsListed seat.me.0 × ((own_in seat.me.0.chains).chain ≡ number) × (number < table.now.chains) },
+    pub ghost owns: { IsWriter seat.me.0 × IsListed seat.me.0 × ((own_in seat.me.0.chains).chain ≡ number) },
+    pub(crate) ghost low: { number < table.now.chains },
     pub(crate) ghost counted: { linked ≡ length (list_in seat.me.0) },
 }
 
