@@ -47,6 +47,59 @@ static void bare_nested(void)
 	}
 }
 
+/* A record of four words, and a chain of records, each in a line of its own. */
+struct record {
+	_Alignas(64) _Atomic(struct record *) next;
+	atomic_ulong words[4];
+};
+static struct record records[1000];
+static _Atomic(struct record *) first;
+static volatile unsigned long sink;
+
+static void link_records(void)
+{
+	for (int i = 0; i < 1000; i++) {
+		struct record *record = &records[i];
+		for (int k = 0; k < 4; k++)
+			atomic_store(&record->words[k], i);
+		atomic_store(&record->next, atomic_load(&first));
+		atomic_store(&first, record);
+	}
+}
+
+static unsigned long words_of(struct record *record)
+{
+	unsigned long sum = 0;
+	for (int k = 0; k < 4; k++)
+		sum ^= atomic_load_explicit(&record->words[k], memory_order_relaxed);
+	return sum;
+}
+
+static void bare_read(void)
+{
+	atomic_ulong *word = &slots[atomic_fetch_add(&claimed, 1)].word;
+	for (unsigned long i = 0; i < count; i++) {
+		atomic_exchange(word, 1 + (atomic_load(&present) << 16));
+		sink = words_of(atomic_load(&first));
+		atomic_exchange(word, 0);
+	}
+}
+
+static void bare_further_read(void)
+{
+	struct record *record = atomic_load(&first);
+	for (unsigned long i = 0; i < count; i++)
+		sink = words_of(record);
+}
+
+static void bare_walk(void)
+{
+	struct record *at = atomic_load(&first);
+	for (unsigned long i = 0; i < count; i++)
+		at = at ? atomic_load(&at->next) : atomic_load(&first);
+	sink = (unsigned long) at;
+}
+
 static pthread_rwlock_t lock = PTHREAD_RWLOCK_INITIALIZER;
 
 static void rwlock_section(void)
@@ -77,6 +130,16 @@ static void rwlock_section(void)
 			urcu_##name##_read_unlock();                                                                   \
 		}                                                                                                      \
 		urcu_##name##_read_unlock();                                                                           \
+		urcu_##name##_unregister_thread();                                                                     \
+	}                                                                                                              \
+	static void name##_read(void)                                                                                  \
+	{                                                                                                              \
+		urcu_##name##_register_thread();                                                                       \
+		for (unsigned long i = 0; i < count; i++) {                                                            \
+			urcu_##name##_read_lock();                                                                     \
+			sink = words_of(atomic_load_explicit(&first, memory_order_consume));                           \
+			urcu_##name##_read_unlock();                                                                   \
+		}                                                                                                      \
 		urcu_##name##_unregister_thread();                                                                     \
 	}                                                                                                              \
 	static void *name##_idle(void *ready)                                                                          \
@@ -152,15 +215,21 @@ static const struct {
 } works[] = {
 	{ "bare", "section", bare_section },
 	{ "bare", "nested", bare_nested },
+	{ "bare", "read", bare_read },
+	{ "bare", "further-read", bare_further_read },
+	{ "bare", "walk", bare_walk },
 	{ "rwlock", "section", rwlock_section },
 #ifdef HAS_URCU
 	{ "mb", "section", mb_section },
+	{ "mb", "read", mb_read },
 	{ "mb", "nested", mb_nested },
 	{ "mb", "synchronize", mb_synchronize },
 	{ "memb", "section", memb_section },
+	{ "memb", "read", memb_read },
 	{ "memb", "nested", memb_nested },
 	{ "memb", "synchronize", memb_synchronize },
 	{ "qsbr", "section", qsbr_section },
+	{ "qsbr", "read", qsbr_read },
 	{ "qsbr", "announcement", qsbr_announcement },
 	{ "qsbr", "synchronize", qsbr_synchronize },
 #endif
@@ -185,6 +254,7 @@ int main(int argc, char **argv)
 		return 0;
 	}
 	count = strtoul(argv[3], NULL, 10);
+	link_records();
 	for (size_t i = 0; i < sizeof works / sizeof *works; i++) {
 		if (strcmp(argv[1], works[i].peer) || strcmp(argv[2], works[i].kind))
 			continue;

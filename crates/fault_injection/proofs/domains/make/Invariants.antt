@@ -2,6 +2,3 @@ use Rattle.fault_injection.proofs.domains.make.Given as goal
 
 abbrev pub ghosts-name : goal.ghosts-name
 ghosts-name g a = record { table = a.opened.table.words.shared.table_id; sizes = a.opened.table.words.shared.key; qsbr = g.P.GracePlan.QSBR }
-
-abbrev pub ghosts-name-2 : goal.ghosts-name-2
-ghosts-name-2 g a = record { table = a.opened.table.words.shared.table_id; sizes = a.opened.table.words.shared.key; qsbr = g.P.GracePlan.QSBR }
