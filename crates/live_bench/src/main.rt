@@ -114,7 +114,13 @@ fn repeat<P: GracePlan + Drop + Send + Sync, B: Site + Send + Sync, R: Threads +
         Kind::Walk => walks(&mut one, count),
         Kind::Push => pushes(rt, &domain, &mut record, count),
         Kind::Cut => cuts(rt, &domain, &mut record, count),
-        Kind::Alloc(share) => allocations(rt, &domain, &mut record, (RECORDS / 100).saturating_mul(share), count),
+        Kind::Alloc(share) => allocations(
+            rt,
+            &domain,
+            &mut record,
+            (RECORDS / 100).saturating_mul(share),
+            count,
+        ),
     }
 }
 

@@ -20,7 +20,9 @@ fn section<P: GracePlan, B: Site>(reader: &mut Reader<P, AnyChain, B>) -> bool
 }
 
 /// A reader of the quiescent-state flavour goes online.
-pub(crate) fn begin<P: GracePlan, B: Site>(reader: &mut Reader<P, AnyChain, B>) -> Result<(), Refusal>
+pub(crate) fn begin<P: GracePlan, B: Site>(
+    reader: &mut Reader<P, AnyChain, B>,
+) -> Result<(), Refusal>
     requires { P.QSBR ≡ B.qsbr }
 {
     if P::QSBR { reader.online() } else { Ok(()) }
