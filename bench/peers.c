@@ -54,7 +54,7 @@ struct record {
 };
 static struct record records[1000];
 static _Atomic(struct record *) first;
-static volatile unsigned long sink;
+static _Thread_local volatile unsigned long sink;
 
 static void link_records(void)
 {
