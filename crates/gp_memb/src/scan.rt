@@ -1,7 +1,6 @@
 //! One scan of the slots: of all of them, or of those whose bit in a group word was set.
 
-ghost use Rattle.std.specs.Prelude.{◌≡◌, ◌+◌, ◌-◌, ◌*◌, ◌/◌, ◌^◌, ◌<◌, ◌≤◌};
-ghost use Rattle.gp_memb.specs.Plan.{bit_of};
+ghost use Rattle.std.specs.Prelude.{◌≡◌, ℕ, ◌+◌, ◌-◌, ◌*◌, ◌/◌, ◌^◌, ◌<◌, ◌≤◌};
 ghost use Rattle.gp_memb.specs.Groups.{first_claimed, group_end};
 
 use crate::plan::Action;
@@ -88,6 +87,7 @@ impl Scan {
 
     /// The first slot of the group, from this one on, whose bit is set; or else the next group.
     fn in_group(self, group: usize, bits: u64, from: usize) -> Option<Look>
+        requires { (64 * group ≤ from) × (from ≤ 64 * group + 64) }
         ensures { result ≡ in_group self.slots group bits from }
     {
         let end = group.saturating_mul(64).saturating_add(64);
@@ -102,22 +102,19 @@ impl Scan {
     }
 }
 
-/// The first slot of a range whose bit is set.
+/// The first slot of a range, which lies in one group, whose bit is set.
 fn claimed_in(bits: u64, from: usize, end: usize) -> Option<usize>
+    requires { (group : ℕ) × (64 * group ≤ from) × (end ≤ 64 * group + 64) }
     ensures { result ≡ first_claimed bits from (end - from) }
 {
-    for slot in from..end {
-        if has_bit(bits, slot % 64) {
-            return Some(slot);
-        }
+    if from >= end {
+        return None;
     }
-    None
-}
-
-/// Whether a bit of a word is set.
-fn has_bit(word: u64, bit: usize) -> bool
-    requires { bit < 64 }
-    ensures { result ≡ bit_of word bit }
-{
-    (word >> bit) % 2 == 1
+    // No bit is set in any place below this, counted from the first slot of the range; 64 of them where none is.
+    let unset = (bits >> (from % 64)).trailing_zeros() as usize;
+    if unset < end - from {
+        Some(from + unset)
+    } else {
+        None
+    }
 }

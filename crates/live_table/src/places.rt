@@ -57,7 +57,7 @@ impl<P: GracePlan, K: ChainRule> LiveTable<P, K> {
         requires { chain < self.now.chains }
         ensures { (result ≡ head_at self.now.words.shared.key chain) × (result < self.now.words.shared.table_id.words) }
     {
-        16 * self.slots + 72 + 8 * chain
+        self.chains_from + 8 * chain
     }
 
     /// The hold word of a chain.
@@ -120,6 +120,6 @@ impl<P: GracePlan, K: ChainRule> LiveTable<P, K> {
         requires { (cell < self.now.pool) × (word < 6) }
         ensures { (result ≡ cell_at self.now.words.shared.key cell word) × (result < self.now.words.shared.table_id.words) }
     {
-        16 * self.slots + 8 * self.chains + 32 * self.queues + 6 * cell + word + 104
+        self.records_from + 6 * cell + word
     }
 }

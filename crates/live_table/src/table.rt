@@ -1,6 +1,6 @@
 //! The table.
 ghost use Rattle.std.specs.Prelude.{◌≡◌, ◌<◌, ◌≤◌};
-ghost use Rattle.live_rule.specs.Places.{words_of};
+ghost use Rattle.live_rule.specs.Places.{cell_at, head_at, words_of};
 
 use crate::plays::{
     CutChains, CutGrace, CutGroups, CutLentChains, CutObject, CutSlot, CutSpareQueue, CutSpareSlot,
@@ -25,8 +25,12 @@ pub struct LiveTable<P: GracePlan, K: ChainRule> {
     pub queues: usize,
     /// How many records, at most 65536.
     pub pool: usize,
+    // Where the chains and the records begin, kept since each step of a walk goes by it.
+    pub(crate) chains_from: usize,
+    pub(crate) records_from: usize,
     pub ghost laid: { words.shared.table_id.words ≡ words_of words.shared.key },
     pub ghost sized: { (slots ≡ words.shared.key.slots) × (slots ≤ 256) × (chains ≡ words.shared.key.chains) × (chains ≤ 4096) × (queues ≡ words.shared.key.queues) × (queues ≤ 8) × (pool ≡ words.shared.key.pool) × (pool ≤ 65536) },
+    pub ghost placed: { (chains_from ≡ head_at words.shared.key 0) × (records_from ≡ cell_at words.shared.key 0 0) },
 }
 
 /// How seats are made, cut and joined. A cut and a join are one load of word 0 each.
@@ -63,6 +67,8 @@ impl<P: GracePlan, K: ChainRule> LiveTable<P, K> {
                 chains,
                 queues,
                 pool,
+                chains_from: 16 * slots + 72,
+                records_from: 16 * slots + 8 * chains + 32 * queues + 104,
             },
             seat,
         ))
