@@ -43,7 +43,7 @@ of_four key words i (suc (suc zero)) b = at_place words _ _ (omega arith)
 of_four key words i (suc (suc (suc zero))) b = at_place words _ _ (omega arith)
 of_four key words i (suc (suc (suc (suc k)))) b = absurd (omega arith)
 
-number_is : (o p : ObjectId) → o.0 ≡ p.0 → o ≡ p
+pub number_is : (o p : ObjectId) → o.0 ≡ p.0 → o ≡ p
 number_is o p e i = record { 0 = e i }
 
 module _ {S : Type 0} (qsbr : Bool) (allows : Log → LiveEvent → Type 0) (key : Sizes) where
@@ -51,7 +51,7 @@ module _ {S : Type 0} (qsbr : Bool) (allows : Log → LiveEvent → Type 0) (key
   Rule = KeepsRule qsbr allows key
 
   -- a store of the last number, or of a word of a record, with no event but of retiring or running
-  own_record : (s : State S View) (r : Rule s) (id a x : ℕ) (v w : View) (log : Log) (at : get_elem? s.views id ≡ lists.some v) → Calm r.log log → IsLiveRun qsbr allows log → last_at key ≤ a → (w.seen ≡ log) × (w.heard ≡ v.heard) × (w.slot ≡ v.slot) × (w.groups ≡ v.groups) × (w.grace ≡ v.grace) → (w.chains ≡ v.chains) × (w.queue ≡ v.queue) × (w.work ≡ v.work)
+  pub own_record : (s : State S View) (r : Rule s) (id a x : ℕ) (v w : View) (log : Log) (at : get_elem? s.views id ≡ lists.some v) → Calm r.log log → IsLiveRun qsbr allows log → last_at key ≤ a → (w.seen ≡ log) × (w.heard ≡ v.heard) × (w.slot ≡ v.slot) × (w.groups ≡ v.groups) × (w.grace ≡ v.grace) → (w.chains ≡ v.chains) × (w.queue ≡ v.queue) × (w.work ≡ v.work)
       → ((c : ℕ) → ((objects_of log).chain c ≡ (objects_of r.log).chain c) × (chain_note c log ≡ chain_note c r.log)) → ((q : ℕ) → (line_of log q ≡ line_of r.log q) × (closed_of q log ≡ closed_of q r.log)) → ((o : ObjectId) → In (state_of r.log).reclaimed o → In (state_of log).reclaimed o)
       → ObjectWords key (objects_of log) (set s.words a x) → ObjectStep qsbr allows key s r id a x v w log at → Rule record { words = set s.words a x; homes = s.homes; views = set s.views id w }
   own_record s r id a x v w log at calm run above same other chains lines back heap objects =
@@ -64,7 +64,7 @@ module _ {S : Type 0} (qsbr : Bool) (allows : Log → LiveEvent → Type 0) (key
       (queues_kept qsbr allows key s r id a x v w log at other.1 (λ q l. (far (queued_at key q) (omega arith), far (closed_at key q) (omega arith))))
       (works_kept qsbr allows key s r id a x v w log at other.2 (λ q l. (far (work_at key q) (omega arith), far (finished_at key q) (omega arith))))
 
-  knew : (s : State S View) (r : Rule s) (id : ℕ) (v : View) (y : RecordRight) → get_elem? s.views id ≡ lists.some v → v.object ≡ y → ClaimsObject y (object_in y) → KnowsObject qsbr key r.log s.words (objects_of r.log) y
+  pub knew : (s : State S View) (r : Rule s) (id : ℕ) (v : View) (y : RecordRight) → get_elem? s.views id ≡ lists.some v → v.object ≡ y → ClaimsObject y (object_in y) → KnowsObject qsbr key r.log s.words (objects_of r.log) y
   knew s r id v y at is claim = subst (KnowsObject qsbr key r.log s.words (objects_of r.log)) is (r.knows (object (object_in y)) id v at (subst (λ (z : RecordRight). ClaimsObject z (object_in y)) (sym is) claim))
 
   -- a number above the last one is nobody's
@@ -112,23 +112,23 @@ module _ {S : Type 0} (qsbr : Bool) (allows : Log → LiveEvent → Type 0) (key
 
   -- the record i, in which an object with the number m stands, or none and m is 0
   module _ (s : State S View) (r : Rule s) (i k x m : ℕ) (small : k < 6) (half : get_or s.words (cell_at key i 0) 0 / 2 ≡ m) where
-    cell_far : (j n : ℕ) → j ≢ i → n < 6 → get_or (set s.words (cell_at key i k) x) (cell_at key j n) 0 ≡ get_or s.words (cell_at key j n) 0
+    pub cell_far : (j n : ℕ) → j ≢ i → n < 6 → get_or (set s.words (cell_at key i k) x) (cell_at key j n) 0 ≡ get_or s.words (cell_at key j n) 0
     cell_far j n ne l = get_or-set_other s.words (cell_at key i k) (cell_at key j n) x 0 (λ z. ne (omega arith))
 
     -- the records of other objects
-    alive_far : (q : ObjectId) → IsAlive (objects_of r.log) q → q.0 ≢ m → (note_of r.log q).0 ≢ i
+    pub alive_far : (q : ObjectId) → IsAlive (objects_of r.log) q → q.0 ≢ m → (note_of r.log q).0 ≢ i
     alive_far q alive ne = apart key (objects_of r.log) s.words r.agree.heap q i m alive half ne
 
-    fresh_far : (j : ℕ) (q : ObjectId) → get_or s.words (cell_at key j 0) 0 ≡ 2 * q.0 → q.0 ≢ m → j ≢ i
+    pub fresh_far : (j : ℕ) (q : ObjectId) → get_or s.words (cell_at key j 0) 0 ≡ 2 * q.0 → q.0 ≢ m → j ≢ i
     fresh_far j q header ne e = let z : get_or s.words (cell_at key j 0) 0 / 2 ≡ m = ap (λ (n : ℕ). get_or s.words (cell_at key n 0) 0 / 2) e ∙ half in ne (omega arith)
 
     last_same : get_or (set s.words (cell_at key i k) x) (last_at key) 0 ≡ get_or s.words (last_at key) 0
     last_same = get_or-set_other s.words (cell_at key i k) (last_at key) x 0 (λ z. omega arith)
 
-    last_less : get_or s.words (last_at key) 0 ≤ get_or (set s.words (cell_at key i k) x) (last_at key) 0
+    pub last_less : get_or s.words (last_at key) 0 ≤ get_or (set s.words (cell_at key i k) x) (last_at key) 0
     last_less = let e = last_same in omega arith
 
-    head_same : (c : ℕ) → c < key.chains → get_or (set s.words (cell_at key i k) x) (head_at key c) 0 ≡ get_or s.words (head_at key c) 0
+    pub head_same : (c : ℕ) → c < key.chains → get_or (set s.words (cell_at key i k) x) (head_at key c) 0 ≡ get_or s.words (head_at key c) 0
     head_same c l = get_or-set_other s.words (cell_at key i k) (head_at key c) x 0 (λ z. omega arith)
 
     -- a store that writes no event, in a record of which no object is alive

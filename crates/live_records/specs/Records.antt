@@ -1,14 +1,18 @@
 -- What each step on a record tells.
-use Rattle.std.specs.Prelude.{Bool, ◌≡◌, ◌≢◌, ◌⊎◌, ℕ, ◌+◌, ◌*◌, ◌<◌, List, length, slice_set}
+use Rattle.std.specs.Prelude.{Bool, ◌≡◌, ◌≢◌, ◌⊎◌, ℕ, ◌+◌, ◌*◌, ◌<◌, List, [], length, slice_set}
 use Rattle.atomic_table.specs.Table.{Me, Step}
+use Rattle.rcu_model.specs.declared.event.ObjectId.{ObjectId}
+use Rattle.rcu_model.specs.Sets.{In}
 use Rattle.live_log.specs.declared.event.LiveEvent.{LiveEvent}
-use Rattle.live_log.specs.Log.{Log}
+use Rattle.live_log.specs.declared.event.LiveEvent.TheVariants.{Object}
+use Rattle.live_log.specs.declared.event.ObjectEvent.TheVariants.{Retire, Run}
+use Rattle.live_log.specs.Log.{Log, state_of}
 use Rattle.live_rule.specs.declared.view.View.{View}
-use Rattle.live_rule.specs.declared.rights.RecordRight.TheVariants.{Drawn, Fresh}
+use Rattle.live_rule.specs.declared.rights.RecordRight.TheVariants.{Drawn, Fresh, Retired}
 use Rattle.live_rule.specs.Places.{cell_at}
 use Rattle.live_rule.specs.Seats.{but_object}
 use Rattle.live_table.specs.Rights.{KnowsChains, IsFresh, IsUnlinked, cell_in, object_in, link_in, payload_in}
-use Rattle.live_table.specs.Steps.{Went, looked_view}
+use Rattle.live_table.specs.Steps.{Did, Went, looked_view}
 
 -- the view, once this number was drawn
 abbrev pub drawn_view : ℕ → View → View
@@ -25,6 +29,14 @@ linked_view l v = record v { object = Fresh (cell_in v.object) (object_in v.obje
 -- the view, once this word of the payload is this one
 abbrev pub worded_view : ℕ → ℕ → View → View
 worded_view j x v = record v { object = Fresh (cell_in v.object) (object_in v.object) (link_in v.object) (slice_set (payload_in v.object) j x) }
+
+-- the view, once its object is retired
+abbrev pub retired_view : View → View
+retired_view v = record v { object = Retired (cell_in v.object) (object_in v.object) }
+
+-- the object is retired in this log, and each section that was open at its retirement has ended there
+abbrev pub IsRipe : Log → ObjectId → Type 0
+IsRipe log o = In (state_of log).retired o × ((state_of log).awaited o ≡ [])
 
 -- the seat has the right to a record, whose object is not retired
 abbrev pub HasRecord : View → Type 0
@@ -60,3 +72,11 @@ module _ {S : Type 0} (qsbr : Bool) (allows : Log → LiveEvent → Type 0) wher
   -- the record was freed, by this word
   abbrev pub discarded : Step S → Me S View → ℕ → Me S View → Type 0
   discarded st m n m' = Went qsbr allows (looked_view st.word st.first (but_object m.0)) m m'
+
+  -- the object was retired
+  abbrev pub retired : Step S → Me S View → ℕ → Me S View → Type 0
+  retired st m n m' = Did qsbr allows (retired_view m.0) (Object (Retire (object_in m.0.object))) m m'
+
+  -- the object's callback may run, and its record was freed by this word
+  abbrev pub ran : Step S → Me S View → ℕ → Me S View → Type 0
+  ran st m n m' = Did qsbr allows (looked_view st.word st.first (but_object m.0)) (Object (Run (object_in m.0.object))) m m'

@@ -1,9 +1,11 @@
 #![tactic(auto)]
-//! The steps on records that no chain has linked yet: object numbers, headers, links and payload words.
+//! The steps on records: object numbers, headers, and the links and payload words of those that no chain has linked yet.
 
+mod fates;
 mod plays;
 mod steps;
 
+pub use fates::{store_retire, store_run};
 pub use steps::{
     draw_number, load_header, load_last, load_number, store_discard, store_link, store_word,
     take_cell,

@@ -1,5 +1,5 @@
 //! What each step on a record tells.
-ghost use Rattle.live_records.specs.Records.{discarded, drew, linked, looked, numbered, took, worded};
+ghost use Rattle.live_records.specs.Records.{discarded, drew, linked, looked, numbered, ran, retired, took, worded};
 
 use atomic_table::Play;
 use gp_memb::GracePlan;
@@ -53,4 +53,16 @@ pub(crate) struct Discards<P, K>(PhantomData<(P, K)>);
 
 impl<P: GracePlan, K: ChainRule> Play<(), View> for Discards<P, K> {
     ghost then = { discarded P.QSBR K.allows };
+}
+
+pub(crate) struct Retires<P, K>(PhantomData<(P, K)>);
+
+impl<P: GracePlan, K: ChainRule> Play<(), View> for Retires<P, K> {
+    ghost then = { retired P.QSBR K.allows };
+}
+
+pub(crate) struct Runs<P, K>(PhantomData<(P, K)>);
+
+impl<P: GracePlan, K: ChainRule> Play<(), View> for Runs<P, K> {
+    ghost then = { ran P.QSBR K.allows };
 }

@@ -1,0 +1,52 @@
+//! The two stores of a header that end an object's life: it is retired, and once it was queued its callback may run.
+ghost use Rattle.std.specs.Prelude.{◌≡◌, ◌<◌, ◌≤◌, ◌^◌};
+ghost use Rattle.live_log.specs.declared.event.LiveEvent.TheVariants.{Object};
+ghost use Rattle.live_log.specs.declared.event.ObjectEvent.TheVariants.{Retire, Run};
+ghost use Rattle.live_rule.specs.Places.{cell_at};
+ghost use Rattle.live_rule.specs.Seats.{but_object};
+ghost use Rattle.live_table.specs.Rights.{IsQueued, IsUnlinked, cell_in, object_in};
+ghost use Rattle.live_table.specs.Steps.{Did, IsKnown, Keeps, looked_view};
+ghost use Rattle.live_records.specs.Records.{IsRipe, retired_view};
+
+use crate::plays::{Retires, Runs};
+use gp_memb::GracePlan;
+use live_log::ChainRule;
+use live_rule::LiveSeat;
+use live_table::LiveTable;
+
+/// Retires the seat's object, which is cut: stores 1 more than twice its number in its record's header. It never waits.
+pub fn store_retire<P: GracePlan, K: ChainRule>(
+    table: &LiveTable<P, K>,
+    seat: &mut LiveSeat,
+    cell: usize,
+    number: u64,
+)
+    requires seat { (seat.old.table_id ≡ table.now.words.shared.table_id) × (cell < table.now.pool) }
+    requires right { IsUnlinked seat.old.me.0 × (cell_in seat.old.me.0.object ≡ cell) × ((object_in seat.old.me.0.object).0 ≡ number) × (number ≤ 2 ^ 62) }
+    ensures seat { Keeps seat.old seat.new }
+    ensures retired { Did P.QSBR K.allows (retired_view seat.old.me.0) (Object (Retire (object_in seat.old.me.0.object))) seat.old.me seat.new.me }
+{
+    let place = table.cell_place(cell, 0);
+    table
+        .words
+        .shared
+        .store::<Retires<P, K>>(seat, place, 2 * number + 1);
+}
+
+/// Frees the record of the seat's object, which is queued: stores 0 in its header, after which its callback may be
+/// called. The store is kept among the looks. The seat has seen, or heard of, a log in which the object was retired and each section that was open at its
+/// retirement had ended. It never waits.
+pub fn store_run<P: GracePlan, K: ChainRule>(
+    table: &LiveTable<P, K>,
+    seat: &mut LiveSeat,
+    cell: usize,
+)
+    requires seat { (seat.old.table_id ≡ table.now.words.shared.table_id) × (cell < table.now.pool) }
+    requires right { IsQueued seat.old.me.0 × (cell_in seat.old.me.0.object ≡ cell) }
+    requires ripe { IsKnown (λ log. IsRipe log (object_in seat.old.me.0.object)) seat.old.me.0 }
+    ensures seat { Keeps seat.old seat.new }
+    ensures ran { Did P.QSBR K.allows (looked_view (cell_at table.now.words.shared.key cell 0) 0 (but_object seat.old.me.0)) (Object (Run (object_in seat.old.me.0.object))) seat.old.me seat.new.me }
+{
+    let place = table.cell_place(cell, 0);
+    table.words.shared.store::<Runs<P, K>>(seat, place, 0);
+}
