@@ -50,7 +50,7 @@ pub fn load_finished<P: GracePlan, K: ChainRule>(
     requires { (seat.old.table_id ≡ table.now.words.shared.table_id) × (seat.old.me.0.sizes ≡ table.now.words.shared.key) × (queue < table.now.queues) }
     ensures seat { Keeps seat.old seat.new }
     ensures looked { Went P.QSBR K.allows (looked_view (finished_at table.now.words.shared.key queue) result seat.old.me.0) seat.old.me seat.new.me }
-    ensures count { HaveRun queue result seat.new.me.0.seen × (result ≤ length (line_of seat.new.me.0.seen queue)) }
+    ensures count { HaveRun queue result seat.new.me.0.seen × (result ≤ length (line_of seat.new.me.0.seen queue)) × HasNoOther table.now.words.shared.key seat.new.me.0.seen }
 {
     let place = table.finished_place(queue);
     table.words.shared.load::<Looks<P, K>>(seat, place)

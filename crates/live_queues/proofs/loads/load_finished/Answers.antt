@@ -11,5 +11,9 @@ pub returns-clause-looked : goal.returns-clause-looked
 returns-clause-looked g c = rw (sym c.finished_place-place.ensures.0) c.load.ensures.2.0
 
 pub returns-clause-count : goal.returns-clause-count
-returns-clause-count g c = let queues = c.args.table.now.sized.4 in let low = c.requires.2 in let sizes = ap (λ (k : Sizes). k.queues) c.requires.1 in
-    (c.load.ensures.2.2 c.args.queue (omega arith)).finished (c.finished_place-place.ensures.0 ∙ ap (λ (k : Sizes). finished_at k c.args.queue) (sym c.requires.1))
+returns-clause-count g c =
+    let queues = c.args.table.now.sized.4 in
+    let low = c.requires.2 in
+    let sizes = ap (λ (k : Sizes). k.queues) c.requires.1 in
+    let told = (c.load.ensures.2.2 c.args.queue (omega arith)).finished (c.finished_place-place.ensures.0 ∙ ap (λ (k : Sizes). finished_at k c.args.queue) (sym c.requires.1)) in
+    (told.0, told.1, λ q high. c.load.ensures.2.1 q (omega arith))

@@ -1,0 +1,86 @@
+-- What a barrier's loads tell, one after another.
+use Rattle.std.proofs.Common.{Bool, ◌≡◌, ◌≢◌, ℕ, zero, suc, lt_of_not-le, ◌+◌, ◌<◌, ◌≤◌, List, [], ◌∷◌, ◌++◌, length, get_or, set, get_or-set_same, get_or-set_other, sym, refl, ap, ◌∙◌, subst, ⊎_elim, arith}
+use mathlib.Core.Option.{some, some-ne-none}
+use mathlib.Core.Logic.{dite}
+use native.Mathlib.Decide.{dec_le, ℕ_discrete}
+use lib.ListN.{get_elem?, length-append}
+use Rattle.atomic_table.specs.Table.{Me}
+use Rattle.rcu_model.specs.declared.event.ObjectId.{ObjectId}
+use Rattle.rcu_model.specs.Sets.{In}
+use Rattle.live_log.specs.declared.event.LiveEvent.{LiveEvent}
+use Rattle.live_log.specs.Log.{Log, Begins, state_of, line_of, HaveRun}
+use Rattle.live_log.proofs.Lemmas.{begins_trans, grows_log, line_grows, line_has, barrier_of}
+use Rattle.live_rule.specs.declared.view.Sizes.{Sizes}
+use Rattle.live_rule.specs.declared.view.View.{View}
+use Rattle.live_rule.specs.Places.{finished_at}
+use Rattle.live_table.specs.Steps.{IsKnown, Went, looked_view}
+use Rattle.live_barrier.specs.Barrier.{AreReached, Found, HaveAllRun}
+
+-- a queue is never shorter than it was
+pub longer : (old log : Log) (q : ℕ) → Begins old log → length (line_of old q) ≤ length (line_of log q)
+longer old log q b = let more = line_grows old log q b in let sum = ap length more.1 ∙ length-append (line_of old q) more.0 in omega arith
+
+-- one more load
+pub found_more : {S : Type 0} (qsbr : Bool) (allows : Log → LiveEvent → Type 0) (found : List (ℕ × ℕ)) (m u w : Me S View) (a n : ℕ)
+    → Found qsbr allows found m u → Went qsbr allows (looked_view a n u.0) u w → Found qsbr allows ((a, n) ∷ found) m w
+found_more qsbr allows found m u w a n x y = (
+  y.0 ∙ x.0,
+  y.1 ∙ ap (λ (z : View). record (looked_view a n z) { seen = w.0.seen }) x.1,
+  (begins_trans m.0.seen u.0.seen w.0.seen x.2.0 y.2.0, begins_trans m.0.heard u.0.seen w.0.seen x.2.1 y.2.0, y.2.2),
+)
+
+-- the load of one more queue's finished count, after those of the queues before it
+pub next_found : {S : Type 0} (qsbr : Bool) (allows : Log → LiveEvent → Type 0) (key : Sizes) (counts : List ℕ) (queue n : ℕ) (m u w : Me S View)
+    → (0 < queue → (since : List (ℕ × ℕ)) × Found qsbr allows since m u × AreReached key counts queue since) → (queue ≡ 0 → u ≡ m) → Went qsbr allows (looked_view (finished_at key queue) n u.0) u w
+    → (rest : List (ℕ × ℕ)) × Found qsbr allows ((finished_at key queue, n) ∷ rest) m w × AreReached key counts queue rest
+next_found {S} qsbr allows key counts zero n m u w found first y = ([], subst (λ (t : Me S View). Went qsbr allows (looked_view (finished_at key zero) n t.0) t w) (first refl) y, refl)
+next_found qsbr allows key counts (suc q) n m u w found first y = let f = found (omega arith) in (f.0, found_more qsbr allows f.0 m u w (finished_at key (suc q)) n f.1 y, f.2)
+
+pub reached_more : (key : Sizes) (counts : List ℕ) (queue n : ℕ) (rest : List (ℕ × ℕ)) → get_or counts queue 0 ≤ n → AreReached key counts queue rest → AreReached key counts (queue + 1) ((finished_at key queue, n) ∷ rest)
+reached_more key counts queue n rest low reached =
+    let next : AreReached key counts (suc queue) ((finished_at key queue, n) ∷ rest) = (n, rest, refl, low, reached) in
+    let one : suc queue ≡ queue + 1 = omega arith in
+    subst (λ (q : ℕ). AreReached key counts q ((finished_at key queue, n) ∷ rest)) one next
+
+-- a count that was loaded now is between what the queue had been given then and what it has been given now
+module _ (first log new : Log) (queue n : ℕ) (counts : List ℕ) (inside : queue < length counts) (after : Begins first log) (later : Begins log new) (is : n ≡ length (line_of new queue)) where
+  here : (q : ℕ) → q ≡ queue → get_or (set counts queue n) q 0 ≡ length (line_of new q)
+  here q same = subst (λ (z : ℕ). get_or (set counts queue n) z 0 ≡ length (line_of new z)) (sym same) (get_or-set_same counts queue n 0 inside ∙ is)
+
+  other : (q : ℕ) → q ≢ queue → get_or (set counts queue n) q 0 ≡ get_or counts q 0
+  other q ne = get_or-set_other counts queue q n 0 ne
+
+  pub covers_more : ((q : ℕ) → q < queue → length (line_of first q) ≤ get_or counts q 0) → (q : ℕ) → q < queue + 1 → length (line_of first q) ≤ get_or (set counts queue n) q 0
+  covers_more covers q low = dite (ℕ_discrete q queue)
+      (λ same. let e = here q same in let l = longer first new q (begins_trans first log new after later) in omega arith)
+      (λ ne. let e = other q ne in let c = covers q (omega arith) in omega arith)
+
+  pub given_more : ((q : ℕ) → q < queue → get_or counts q 0 ≤ length (line_of log q)) → (q : ℕ) → q < queue + 1 → get_or (set counts queue n) q 0 ≤ length (line_of new q)
+  given_more given q low = dite (ℕ_discrete q queue)
+      (λ same. let e = here q same in omega arith)
+      (λ ne. let e = other q ne in let g = given q (omega arith) in let l = longer log new q later in omega arith)
+
+-- all that was in the queue in the old log has its Run
+abbrev pub IsPassed : Log → Log → ℕ → Type 0
+IsPassed old log q = (o : ObjectId) (k : ℕ) → get_elem? (line_of old q) k ≡ some o → In (state_of log).reclaimed o
+
+pub passes_more : (old log new : Log) (queue count f : ℕ) → Begins old new → Begins log new → length (line_of old queue) ≤ count → count ≤ f → HaveRun queue f new
+    → ((q : ℕ) → q < queue → IsPassed old log q) → (q : ℕ) → q < queue + 1 → IsPassed old new q
+passes_more old log new queue count f after later covered reached run passed q low o k at = dite (ℕ_discrete q queue)
+    (λ same. barrier_of old old new queue (length (line_of old queue)) f ([], refl) after refl (omega arith) run o k (subst (λ (z : ℕ). get_elem? (line_of old z) k ≡ some o) same at))
+    (λ ne. (grows_log log new later).reclaimed o (passed q (omega arith) o k at))
+
+nothing_before : {A : Type 0} (xs ys : List A) → [] ≡ xs ++ ys → xs ≡ []
+nothing_before [] ys e = refl
+nothing_before (x ∷ xs) ys e = cc
+
+-- all queues together
+pub all_passed : (queues : ℕ) (old log : Log) → Begins old log → ((q : ℕ) → queues ≤ q → line_of log q ≡ []) → ((q : ℕ) → q < queues → IsPassed old log q) → HaveAllRun old log
+all_passed queues old log after beyond passed o h = let w = line_has old o h in dite (dec_le queues w.0)
+    (λ high. let g = line_grows old log w.0 after in
+    absurd (some-ne-none o (sym w.2 ∙ ap (λ (l : List ObjectId). get_elem? l w.1) (nothing_before (line_of old w.0) g.0 (sym (beyond w.0 high) ∙ g.1)))))
+    (λ low. passed w.0 (lt_of_not-le low) o w.1 w.2)
+
+-- the log was known, so the later one begins with it
+pub known_before : (v : View) (old log : Log) → IsKnown (Begins old) v → Begins v.seen log → Begins v.heard log → Begins old log
+known_before v old log known seen heard = ⊎_elim (λ (b : Begins old v.seen). begins_trans old v.seen log b seen) (λ (b : Begins old v.heard). begins_trans old v.heard log b heard) known

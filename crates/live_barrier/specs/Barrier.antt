@@ -1,0 +1,42 @@
+-- What a barrier notes, and when it is passed.
+use Rattle.std.specs.Prelude.{Bool, ◌≡◌, ℕ, zero, suc, ◌<◌, ◌≤◌, List, [], ◌∷◌, ◌++◌, length, slice_index}
+use Rattle.atomic_table.specs.Table.{Me}
+use Rattle.rcu_model.specs.declared.event.ObjectId.{ObjectId}
+use Rattle.rcu_model.specs.Sets.{In}
+use Rattle.live_log.specs.declared.event.LiveEvent.{LiveEvent}
+use Rattle.live_log.specs.Log.{Log, line_of, state_of}
+use Rattle.live_rule.specs.declared.view.Sizes.{Sizes}
+use Rattle.live_rule.specs.declared.view.View.{View}
+use Rattle.live_rule.specs.Places.{finished_at}
+use Rattle.live_table.specs.Steps.{Went}
+
+-- each queue of the table had been given no more than its count
+abbrev pub CoverAll : Sizes → List ℕ → Log → Type 0
+CoverAll key counts log = (q : ℕ) → q < key.queues → length (line_of log q) ≤ slice_index counts q
+
+-- each queue of the table had been given at least its count
+abbrev pub WereGiven : Sizes → List ℕ → Log → Type 0
+WereGiven key counts log = (q : ℕ) → q < key.queues → slice_index counts q ≤ length (line_of log q)
+
+-- all that was queued in the old log has its Run in the new one
+abbrev pub HaveAllRun : Log → Log → Type 0
+HaveAllRun old new = (o : ObjectId) → In (state_of old).queued o → In (state_of new).reclaimed o
+
+-- the finished counts of so many queues were loaded, each once and that of queue 0 first, and none was below the noted one
+abbrev pub AreReached : Sizes → List ℕ → ℕ → List (ℕ × ℕ) → Type 0
+AreReached key counts zero looks = looks ≡ []
+AreReached key counts (suc q) looks = (n : ℕ) × (rest : List (ℕ × ℕ)) × (looks ≡ (finished_at key q, n) ∷ rest) × (slice_index counts q ≤ n) × AreReached key counts q rest
+
+-- and the next one was
+pub record WasLess (key : Sizes) (counts : List ℕ) (looks : List (ℕ × ℕ)) : Type 0 where
+  pub queue : ℕ
+  pub low : queue < key.queues
+  pub count : ℕ
+  pub rest : List (ℕ × ℕ)
+  pub last : looks ≡ (finished_at key queue, count) ∷ rest
+  pub less : count < slice_index counts queue
+  pub others : AreReached key counts queue rest
+
+-- these words were found, the last one first, and no event was written
+abbrev pub Found : {S : Type 0} → Bool → (Log → LiveEvent → Type 0) → List (ℕ × ℕ) → Me S View → Me S View → Type 0
+Found qsbr allows found m m' = Went qsbr allows (record m.0 { looks = found ++ m.0.looks }) m m'
