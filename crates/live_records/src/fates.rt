@@ -1,5 +1,5 @@
 //! The two stores of a header that end an object's life: it is retired, and once it was queued its callback may run.
-ghost use Rattle.std.specs.Prelude.{◌≡◌, ◌<◌, ◌≤◌, ◌^◌};
+ghost use Rattle.std.specs.Prelude.{◌≡◌, ◌<◌, ◌^◌};
 ghost use Rattle.live_log.specs.declared.event.LiveEvent.TheVariants.{Object};
 ghost use Rattle.live_log.specs.declared.event.ObjectEvent.TheVariants.{Retire, Run};
 ghost use Rattle.live_rule.specs.Places.{cell_at};
@@ -22,7 +22,7 @@ pub fn store_retire<P: GracePlan, K: ChainRule>(
     number: u64,
 )
     requires seat { (seat.old.table_id ≡ table.now.words.shared.table_id) × (cell < table.now.pool) }
-    requires right { IsUnlinked seat.old.me.0 × (cell_in seat.old.me.0.object ≡ cell) × ((object_in seat.old.me.0.object).0 ≡ number) × (number ≤ 2 ^ 62) }
+    requires right { IsUnlinked seat.old.me.0 × (cell_in seat.old.me.0.object ≡ cell) × ((object_in seat.old.me.0.object).0 ≡ number) × (number < 2 ^ 63) }
     ensures seat { Keeps seat.old seat.new }
     ensures retired { Did P.QSBR K.allows (retired_view seat.old.me.0) (Object (Retire (object_in seat.old.me.0.object))) seat.old.me seat.new.me }
 {

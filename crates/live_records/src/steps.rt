@@ -71,7 +71,7 @@ pub fn load_number<P: GracePlan, K: ChainRule>(
     requires seat { (seat.old.table_id ≡ table.now.words.shared.table_id) × (cell < table.now.pool) }
     requires right { HasRecord seat.old.me.0 × (cell_in seat.old.me.0.object ≡ cell) }
     ensures seat { Keeps seat.old seat.new }
-    ensures number { result ≡ (object_in seat.old.me.0.object).0 }
+    ensures number { (result ≡ (object_in seat.old.me.0.object).0) × (result < 2 ^ 63) }
     ensures looked { Went P.QSBR K.allows (looked_view (cell_at table.now.words.shared.key cell 0) (2 * result) seat.old.me.0) seat.old.me seat.new.me }
 {
     let place = table.cell_place(cell, 0);

@@ -1,0 +1,35 @@
+//! How an object is retired and its callback queued, made of its steps.
+ghost use Rattle.std.specs.Prelude.{◌≡◌, ◌+◌, ◌<◌, ◌^◌, []};
+ghost use Rattle.live_rule.specs.declared.rights.QueueRight.TheVariants.{Owns};
+ghost use Rattle.live_rule.specs.declared.rights.RecordRight.TheVariants.{Nothing, Queued};
+ghost use Rattle.live_table.specs.Rights.{IsInQueue, IsUnlinked, cell_in, closed_in, object_in, queue_in, queued_in};
+ghost use Rattle.live_table.specs.Steps.{Keeps};
+ghost use Rattle.live_items.specs.Retiring.{Queues};
+
+use gp_memb::GracePlan;
+use live_words::{ChainRule, LiveSeat, LiveTable, load_number, store_queued, store_retire};
+
+/// Retires the object of a seat and queues it, under the queue's lock: the header's store, and then that of the queued
+/// count, which is `given` before. Answers the seat with the right to run it, and its number. It never waits.
+pub fn queue_object<P: GracePlan, K: ChainRule>(
+    table: &LiveTable<P, K>,
+    lock: &mut LiveSeat,
+    mut unlinked: LiveSeat,
+    queue: usize,
+    given: u64,
+    cell: usize,
+) -> (LiveSeat, u64)
+    requires seats { (lock.old.table_id ≡ table.now.words.shared.table_id) × (unlinked.table_id ≡ table.now.words.shared.table_id) × (unlinked.me.1 ≡ []) × (queue < table.now.queues) × (cell < table.now.pool) }
+    requires lock { IsInQueue lock.old.me.0 × (queue_in lock.old.me.0.queue ≡ queue) × (closed_in lock.old.me.0.queue ≡ 0) × (queued_in lock.old.me.0.queue ≡ given) × (given + 1 < 2 ^ 64) }
+    requires right { IsUnlinked unlinked.me.0 × (cell_in unlinked.me.0.object ≡ cell) }
+    ensures lock { Keeps lock.old lock.new × (lock.new.me.1 ≡ lock.old.me.1) × (lock.new.me.0.sizes ≡ lock.old.me.0.sizes) × (lock.new.me.0.queue ≡ Owns queue (given + 1) 0) × (lock.new.me.0.object ≡ Nothing) }
+    ensures job { (result.0.table_id ≡ table.now.words.shared.table_id) × (result.0.me.1 ≡ []) × (result.0.me.0.sizes ≡ lock.old.me.0.sizes) × (result.0.me.0.object ≡ Queued cell (object_in unlinked.me.0.object)) }
+    ensures number { result.1 ≡ (object_in unlinked.me.0.object).0 }
+    ensures queued { Queues P.QSBR K.allows lock.old.me.0 unlinked.me.0 queue given lock.new.me.0.seen × (result.0.me.0.seen ≡ lock.new.me.0.seen) }
+{
+    let number = load_number(table, &mut unlinked, cell);
+    store_retire(table, &mut unlinked, cell, number);
+    table.take_object(lock, unlinked);
+    store_queued(table, lock, queue, given + 1);
+    (table.cut_object(lock), number)
+}
