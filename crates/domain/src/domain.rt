@@ -8,7 +8,7 @@ ghost use Rattle.live_log.specs.declared.event.LiveEvent.TheVariants.{Close};
 ghost use Rattle.live_log.specs.Log.{Begins, Has, HaveEnded, seq_of};
 ghost use Rattle.live_table.specs.Rights.{count_in};
 ghost use Rattle.live_table.specs.Steps.{Keeps};
-ghost use Rattle.live_read.specs.Hearing.{IsAfter};
+ghost use Rattle.live_read.specs.Hearing.{FindsNothing, IsAfter, IsAsBefore};
 ghost use Rattle.domain.specs.Waiting.{LoadedOnce, Synchronized};
 
 use crate::grace_lock::GraceLock;
@@ -19,8 +19,8 @@ use live_words::{ChainRule, LiveSeat, LiveTable};
 use rcu_model::Refusal;
 use std::sync::{Arc, Mutex, Wait};
 
-/// A domain: readers register in it, and grace periods of it are waited for and polled. Threads share it by reference
-/// or by `Arc`.
+/// A domain: readers register in it, records are taken from its pool and chains of it are written, and its grace periods
+/// are waited for and polled. Threads share it by reference or by `Arc`.
 #[derive(Drop)]
 pub struct Domain<P: GracePlan, K: ChainRule, B: Site> {
     pub(crate) table: Arc<LiveTable<P, K>>,
@@ -43,8 +43,7 @@ impl<P: GracePlan + Drop, K: ChainRule, B: Site> Domain<P, K, B> {
         ensures idle { IfOk result (λ r. (r.depth ≡ 0) × (r.locks ≡ 0) × (B.qsbr ≡ true → r.word ≡ 0)) }
         ensures told { IfOk result (λ r. IsAfter P.QSBR K.allows (W.seen witness.old) (W.heard witness.old) r.seat.me.0.heard) }
         ensures refused { IfErr result (λ e. e ≡ NoSlot) }
-        ensures witness { (W.seen witness.new ≡ W.seen witness.old) × (W.heard witness.new ≡ W.heard witness.old) × (W.home witness.new ≡ (B.table, B.sizes)) × (W.standing witness.new ≡ W.standing witness.old) }
-        ensures inside { W.is_in witness.old → W.is_in witness.new }
+        ensures witness { IsAsBefore W.Witness witness.old witness.new }
     {
         self.registrar.lock(rt).register(witness)
     }
@@ -66,9 +65,8 @@ impl<P: GracePlan + Drop, K: ChainRule, B: Site> Domain<P, K, B> {
         ensures kept { IfOk result (λ _. IsAfter P.QSBR K.allows (W.seen witness.old) (W.heard witness.old) (W.heard witness.new)) }
         ensures told { IfOk result (λ _. Begins reader.seat.me.0.seen (W.heard witness.new)) }
         ensures closed { IfOk result (λ _. P.QSBR ≡ true → reader.word ≢ 0 → Has (Close reader.slot (count_in reader.seat.me.0.slot)) (W.heard witness.new)) }
-        ensures busy { IfErr result (λ e. (e.0 ≡ Busy) × (e.1 ≡ reader) × (0 < reader.depth) × (W.heard witness.new ≡ W.heard witness.old)) }
-        ensures witness { (W.seen witness.new ≡ W.seen witness.old) × (W.home witness.new ≡ (B.table, B.sizes)) × (W.standing witness.new ≡ W.standing witness.old) }
-        ensures inside { W.is_in witness.old → W.is_in witness.new }
+        ensures busy { IfErr result (λ e. (e.0 ≡ Busy) × (e.1 ≡ reader) × (0 < reader.depth) × IsAsBefore W.Witness witness.old witness.new) }
+        ensures witness { FindsNothing W.Witness witness.old witness.new }
     {
         let mut registrar = self.registrar.lock(rt);
         registrar.unregister(reader)?;
@@ -81,8 +79,7 @@ impl<P: GracePlan + Drop, K: ChainRule, B: Site> Domain<P, K, B> {
     pub fn split<W: Witness>(&self, witness: &mut W) -> Record<B>
         requires { W.home witness.old ≡ (B.table, B.sizes) }
         ensures told { (result.seat.me.0.seen ≡ W.seen witness.old) × (result.seat.me.0.heard ≡ W.heard witness.old) }
-        ensures same { (W.seen witness.new ≡ W.seen witness.old) × (W.heard witness.new ≡ W.heard witness.old) × (W.home witness.new ≡ (B.table, B.sizes)) × (W.standing witness.new ≡ W.standing witness.old) }
-        ensures inside { W.is_in witness.old → W.is_in witness.new }
+        ensures same { IsAsBefore W.Witness witness.old witness.new }
     {
         Record::split(&self.table, witness)
     }
@@ -93,9 +90,8 @@ impl<P: GracePlan + Drop, K: ChainRule, B: Site> Domain<P, K, B> {
         requires { (S.home from.old ≡ (B.table, B.sizes)) × (T.home to.old ≡ (B.table, B.sizes)) }
         ensures told { Begins (S.seen from.old) (T.heard to.new) × Begins (S.heard from.old) (T.heard to.new) }
         ensures kept { IsAfter P.QSBR K.allows (T.seen to.old) (T.heard to.old) (T.heard to.new) }
-        ensures from { (S.seen from.new ≡ S.seen from.old) × (S.heard from.new ≡ S.heard from.old) × (S.home from.new ≡ (B.table, B.sizes)) × (S.standing from.new ≡ S.standing from.old) }
-        ensures to { (T.seen to.new ≡ T.seen to.old) × (T.home to.new ≡ (B.table, B.sizes)) × (T.standing to.new ≡ T.standing to.old) }
-        ensures inside { (S.is_in from.old → S.is_in from.new) × (T.is_in to.old → T.is_in to.new) }
+        ensures from { IsAsBefore S.Witness from.old from.new }
+        ensures to { FindsNothing T.Witness to.old to.new }
     {
         live_read::inform(&self.table, from, to);
     }
@@ -103,7 +99,7 @@ impl<P: GracePlan + Drop, K: ChainRule, B: Site> Domain<P, K, B> {
     /// Asks, and waits for the answer.
     fn wait<R: Wait>(&self, rt: &R, seat: &mut LiveSeat) -> Result<(), Refusal>
         requires { seat.old.table_id ≡ B.table }
-        ensures seat { Keeps seat.old seat.new × (seat.new.me.1 ≡ seat.old.me.1) }
+        ensures seat { Keeps seat.old seat.new × (seat.new.me.1 ≡ seat.old.me.1) × (seat.new.me.0.looks ≡ seat.old.me.0.looks) }
         ensures ended { IfOk result (λ _. Synchronized P.QSBR K.allows seat.old.me.0.seen seat.old.me.0.heard seat.old.me.0.loads seat.new.me.0.loads seat.new.me.0.seen) }
         ensures refused { IfErr result (λ e. (e ≡ Exhausted) × LoadedOnce P.QSBR K.allows seat.old.me.0.seen seat.old.me.0.heard seat.old.me.0.loads seat.new.me.0.loads seat.new.me.0.seen × (2 ^ 62 ≤ seq_of seat.new.me.0.seen)) }
     {
@@ -122,8 +118,7 @@ impl<P: GracePlan + Drop, K: ChainRule, B: Site> Domain<P, K, B> {
         requires { W.home witness.old ≡ (B.table, B.sizes) }
         ensures ended { IfOk result (λ _. Synchronized P.QSBR K.allows (W.seen witness.old) (W.heard witness.old) (W.loads witness.old) (W.loads witness.new) (W.heard witness.new)) }
         ensures refused { IfErr result (λ e. (e ≡ Exhausted) × LoadedOnce P.QSBR K.allows (W.seen witness.old) (W.heard witness.old) (W.loads witness.old) (W.loads witness.new) (W.heard witness.new) × (2 ^ 62 ≤ seq_of (W.heard witness.new))) }
-        ensures witness { (W.seen witness.new ≡ W.seen witness.old) × (W.home witness.new ≡ (B.table, B.sizes)) × (W.standing witness.new ≡ W.standing witness.old) }
-        ensures inside { W.is_in witness.old → W.is_in witness.new }
+        ensures witness { FindsNothing W.Witness witness.old witness.new }
     {
         let mut seat = witness.tell(&self.table);
         let answered = self.wait(rt, &mut seat);
@@ -142,8 +137,7 @@ impl<P: GracePlan + Drop, K: ChainRule, B: Site> Domain<P, K, B> {
         ensures cookie { IfOk result (λ c. (c.asked.value.me.0.seen ≡ W.heard witness.new) × (cookie_for (seq_of (W.heard witness.new)) ≡ Ok c.cookie)) }
         ensures refused { IfErr result (λ e. e ≡ Exhausted) }
         ensures taken { IsOk result ↔ (seq_of (W.heard witness.new) < 2 ^ 62) }
-        ensures witness { (W.seen witness.new ≡ W.seen witness.old) × (W.home witness.new ≡ (B.table, B.sizes)) × (W.standing witness.new ≡ W.standing witness.old) }
-        ensures inside { W.is_in witness.old → W.is_in witness.new }
+        ensures witness { FindsNothing W.Witness witness.old witness.new }
     {
         let mut seat = witness.tell(&self.table);
         let cookie = live_grace::start_poll(&self.table, &mut seat);
@@ -160,8 +154,7 @@ impl<P: GracePlan + Drop, K: ChainRule, B: Site> Domain<P, K, B> {
         ensures loaded { LoadedOnce P.QSBR K.allows (W.seen witness.old) (W.heard witness.old) (W.loads witness.old) (W.loads witness.new) (W.heard witness.new) }
         ensures exact { IsTrue result ↔ (cookie.now.cookie ≤ seq_of (W.heard witness.new)) }
         ensures past { Begins cookie.now.asked.value.me.0.seen (W.heard witness.new) → IsTrue result → HaveEnded cookie.now.asked.value.me.0.seen (W.heard witness.new) }
-        ensures witness { (W.seen witness.new ≡ W.seen witness.old) × (W.home witness.new ≡ (B.table, B.sizes)) × (W.standing witness.new ≡ W.standing witness.old) }
-        ensures inside { W.is_in witness.old → W.is_in witness.new }
+        ensures witness { FindsNothing W.Witness witness.old witness.new }
     {
         let mut seat = witness.tell(&self.table);
         let past = live_grace::poll(&self.table, &mut seat, cookie);

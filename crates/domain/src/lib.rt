@@ -1,6 +1,6 @@
 #![tactic(auto)]
-//! A domain of the library over live threads: readers are registered, and grace periods are waited for and polled. Its
-//! locks are here alone.
+//! A domain of the library over live threads: readers are registered, records and chains are written, and grace periods
+//! are waited for and polled. Its locks are here alone.
 
 mod config;
 mod domain;

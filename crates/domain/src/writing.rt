@@ -1,19 +1,21 @@
 //! What a program calls to make records and to write chains.
 
-ghost use Rattle.std.specs.Prelude.{◌≡◌, ◌⊎◌, ℕ, ◌≤◌, ◌<◌, ◌∷◌, ◌++◌, List, IfErr, IfOk};
+ghost use Rattle.std.specs.Prelude.{◌≡◌, ◌⊎◌, ℕ, ◌≤◌, ◌<◌, ◌∷◌, ◌++◌, ◌*◌, [], List, IfErr, IfOk};
 ghost use Rattle.rcu_model.specs.declared.refusal.Refusal.TheVariants.{Busy, NoPlace, PoolFull};
-ghost use Rattle.live_log.specs.Log.{Begins, Log};
+ghost use Rattle.live_log.specs.Log.{Begins, IsLiveRun, Log};
 ghost use Rattle.live_rule.specs.Places.{cell_at, hold_at};
-ghost use Rattle.live_table.specs.Rights.{cell_in, payload_in};
-ghost use Rattle.live_read.specs.Hearing.{IsAfter};
+ghost use Rattle.live_rule.specs.Seats.{lent_chains};
+ghost use Rattle.live_table.specs.Rights.{cell_in, object_in, payload_in};
+ghost use Rattle.live_table.specs.Steps.{Keeps, Went, looked_view};
+ghost use Rattle.live_read.specs.Hearing.{IsAfter, Stays};
 ghost use Rattle.live_write.specs.Searching.{AreTaken, IsUsedUp};
 
 use crate::domain::Domain;
 use gp_memb::GracePlan;
 use live_read::{Site, Witness};
 use live_words::ChainRule;
-use live_write::{Chain, Owned};
-use rcu_model::Refusal;
+use live_write::{Chain, Owned, Unlinked};
+use rcu_model::{ObjectId, Refusal};
 use std::sync::Wait;
 
 impl<P: GracePlan + Drop, K: ChainRule, B: Site> Domain<P, K, B> {
@@ -32,8 +34,7 @@ impl<P: GracePlan + Drop, K: ChainRule, B: Site> Domain<P, K, B> {
         ensures owned { IfOk result (λ o. (payload_in o.seat.me.0.object ≡ words) × (o.seat.me.0.seen ≡ W.heard witness.new)) }
         ensures looks { (found : List (ℕ × ℕ)) × (W.looks witness.new ≡ found ++ W.looks witness.old) × IfErr result (λ e. (e ≡ PoolFull) × (IsUsedUp B.sizes found ⊎ AreTaken B.sizes found)) }
         ensures heard { IsAfter P.QSBR K.allows (W.seen witness.old) (W.heard witness.old) (W.heard witness.new) }
-        ensures same { (W.seen witness.new ≡ W.seen witness.old) × (W.loads witness.new ≡ W.loads witness.old) × (W.home witness.new ≡ W.home witness.old) × (W.standing witness.new ≡ W.standing witness.old) }
-        ensures inside { W.is_in witness.old → W.is_in witness.new }
+        ensures same { Stays W.Witness witness.old witness.new × (W.loads witness.new ≡ W.loads witness.old) }
     {
         live_write::alloc(rt, &self.table, witness, words)
     }
@@ -44,9 +45,8 @@ impl<P: GracePlan + Drop, K: ChainRule, B: Site> Domain<P, K, B> {
         requires { W.home witness.old ≡ (B.table, B.sizes) }
         ensures freed { W.looks witness.new ≡ (cell_at B.sizes (cell_in owned.seat.me.0.object) 0, 0) ∷ W.looks witness.old }
         ensures heard { IsAfter P.QSBR K.allows (W.seen witness.old) (W.heard witness.old) (W.heard witness.new) × Begins owned.seat.me.0.seen (W.heard witness.new) }
-        ensures loads { (log : Log) × (W.loads witness.new ≡ log ∷ W.loads witness.old) }
-        ensures same { (W.seen witness.new ≡ W.seen witness.old) × (W.home witness.new ≡ W.home witness.old) × (W.standing witness.new ≡ W.standing witness.old) }
-        ensures inside { W.is_in witness.old → W.is_in witness.new }
+        ensures loads { (log : Log) × (W.loads witness.new ≡ log ∷ W.loads witness.old) × IsAfter P.QSBR K.allows (W.seen witness.old) (W.heard witness.old) log × Begins log (W.heard witness.new) }
+        ensures same { Stays W.Witness witness.old witness.new }
     {
         live_write::discard(&self.table, witness, owned);
     }
@@ -63,11 +63,21 @@ impl<P: GracePlan + Drop, K: ChainRule, B: Site> Domain<P, K, B> {
     ) -> Result<Chain<'d, P, K, B>, Refusal>
         requires { W.home witness.old ≡ (B.table, B.sizes) }
         ensures held { IfOk result (λ c. (c.number ≡ chain) × (chain < B.sizes.chains) × (W.looks witness.new ≡ (hold_at B.sizes chain, 0) ∷ W.looks witness.old) × Begins (W.heard witness.new) c.seat.me.0.seen) }
+        ensures run { IfOk result (λ c. IsLiveRun P.QSBR K.allows c.seat.me.0.seen × (lent_chains c.seat.me.0.chains ≡ [])) }
         ensures refused { IfErr result (λ e. ((e ≡ NoPlace) × (B.sizes.chains ≤ chain) × (witness.new ≡ witness.old)) ⊎ ((e ≡ Busy) × (chain < B.sizes.chains) × (W.looks witness.new ≡ (hold_at B.sizes chain, 1) ∷ W.looks witness.old))) }
         ensures heard { chain < B.sizes.chains → IsAfter P.QSBR K.allows (W.seen witness.old) (W.heard witness.old) (W.heard witness.new) }
-        ensures same { (W.seen witness.new ≡ W.seen witness.old) × (W.home witness.new ≡ W.home witness.old) × (W.standing witness.new ≡ W.standing witness.old) }
-        ensures inside { W.is_in witness.old → W.is_in witness.new }
+        ensures same { Stays W.Witness witness.old witness.new × (W.loads witness.new ≡ W.loads witness.old) }
     {
         Chain::hold(&self.table, witness, chain)
+    }
+
+    /// The object of a record that was cut, by a load of the record's header, which is kept among the looks of the
+    /// record's seat. It never waits.
+    pub fn object(&self, unlinked: &mut Unlinked<B>) -> ObjectId
+        ensures object { result ≡ object_in unlinked.old.seat.me.0.object }
+        ensures seat { Keeps unlinked.old.seat unlinked.new.seat }
+        ensures looked { Went P.QSBR K.allows (looked_view (cell_at B.sizes (cell_in unlinked.old.seat.me.0.object) 0) (2 * result.0) unlinked.old.seat.me.0) unlinked.old.seat.me unlinked.new.seat.me }
+    {
+        unlinked.object(&self.table)
     }
 }

@@ -105,7 +105,7 @@ module _ {S : Type 0} (qsbr : Bool) (allows : Log → LiveEvent → Type 0) (key
               ((λ is. absurd (other (sym is))), chain_part qsbr key r.log r.log s.words (set s.words (hold_at key c) 1) v.chains e (λ l. (far (hold_at key e) (λ z. other (omega arith)), far (head_at key e) (λ z. omega arith), refl, refl)) (r.knows (chain e) id v at there)),
               inl there,
             )))),
-        ((λ _ d l is. ((refl, refl, (b.0, b.1, r.run)), (refl, same_chain d is, (refl, r.agree.heap.leads (head c) low (first_of os) refl), (refl, refl)))), (λ ne. absurd (ne zero)), small),
+        ((λ _ d l is. ((refl, refl, (b.0, b.1, r.run)), (refl, same_chain d is, (refl, r.agree.heap.leads (head c) low (first_of os) refl, refl)))), (λ ne. absurd (ne zero)), small),
       ))
       (λ ne. let w : View = record (looked_view a found v) { seen = r.log } in
       (w, keeps, tt, looks qsbr allows key s r id a v w at refl refl (look_all qsbr allows key s r id v w at (refl, refl, refl, refl, refl, refl, refl)), ((λ zero. absurd (ne zero)), (λ _. (refl, refl, (b.0, b.1, r.run))), small)))
@@ -175,5 +175,5 @@ module _ {S : Type 0} (qsbr : Bool) (allows : Log → LiveEvent → Type 0) (key
             (λ e claim. let m = own_changes qsbr allows key s r id v at own log (set s.words (note_at key c) x) (record (own_in v.chains) { note = x }) refl
             (kc.0, far (hold_at key c) (λ z. omega arith) ∙ kc.1, far (head_at key c) (λ z. omega arith) ∙ kc.2, kc.3, now)
             (λ d l ne. (far (hold_at key d) (λ z. omega arith), far (head_at key d) (λ z. omega arith), refl, else d ne)) e claim in (m.0, inl m.1))),
-        ((refl, refl, (r.log, refl, b.0, b.1, run)), (kc.3, sym kc.2 ∙ (r.agree.heap.leads (head c) kc.0 (first_of ((objects_of r.log).chain c)) refl ∙ ap (λ (l : List ObjectId). ref (objects_of r.log) (first_of l)) kc.3))),
+        ((refl, refl, (r.log, refl, b.0, b.1, run)), (kc.3, sym kc.2 ∙ (r.agree.heap.leads (head c) kc.0 (first_of ((objects_of r.log).chain c)) refl ∙ ap (λ (l : List ObjectId). ref (objects_of r.log) (first_of l)) kc.3), now)),
       )

@@ -72,7 +72,7 @@ module _ {S : Type 0} (qsbr : Bool) (allows : Log → LiveEvent → Type 0) (key
         keeps,
         tt,
         subst (λ (n : ℕ). Rule record { words = set s.words n x; homes = s.homes; views = set s.views id w }) (sym a_is) done.0,
-        ((refl, refl, (r.log, refl, b.0, b.1, run)), (list, done.1)),
+        ((refl, refl, (r.log, refl, b.0, b.1, run)), (list, done.1, kc.4)),
       )
 
   -- what follows an object in the writer's chain has the note that the writer has seen
@@ -130,7 +130,7 @@ module _ {S : Type 0} (qsbr : Bool) (allows : Log → LiveEvent → Type 0) (key
         tt,
         subst (λ (n : ℕ). Rule record { words = set s.words n x; homes = s.homes; views = set s.views id w }) (sym (a_is ∙ place)) done.0,
         (
-          (list, done.1),
+          (list, done.1, kc.4),
           λ q u b_is then. let e : p ≡ q = one_place qsbr allows key s r id v at own listed sizes p q before.0 then.0 (sym a_is ∙ b_is) in
               let f : o ≡ u = some_is o u (sym before.1 ∙ (ap (follows os) e ∙ then.1)) in
               subst (λ (z : Option ObjectId × ObjectId). Did qsbr allows (replaced_view z.0 z.1 x v) (replace_of z.1 v) me (w, me.1)) (λ j. (e j, f j)) (refl, refl, (r.log, refl, b.0, b.1, run)),
@@ -171,7 +171,7 @@ module _ {S : Type 0} (qsbr : Bool) (allows : Log → LiveEvent → Type 0) (key
         tt,
         subst (λ (n : ℕ). Rule record { words = set s.words n x; homes = s.homes; views = set s.views id w }) (sym (a_is ∙ place)) done.0,
         (
-          (list, done.1),
+          (list, done.1, kc.4),
           λ q u b_is then. let e : p ≡ q = one_place qsbr allows key s r id v at own listed sizes p q before.0 then.0 (sym a_is ∙ b_is) in
               let f : o ≡ u = some_is o u (sym before.1 ∙ (ap (follows os) e ∙ then.1)) in
               subst (λ (z : Option ObjectId × ObjectId). Did qsbr allows (cut_view z.0 z.1 x v) (cut_of z.1 v) me (w, me.1)) (λ j. (e j, f j)) (refl, refl, (r.log, refl, b.0, b.1, run)),

@@ -16,7 +16,7 @@ use Rattle.live_rule.specs.Places.{head_at, hold_at, note_at, cell_at}
 use Rattle.live_rule.specs.Objects.{ref, spot_at}
 use Rattle.live_rule.specs.Readers.{IsClosed}
 use Rattle.live_rule.specs.Seats.{lent_chains}
-use Rattle.live_table.specs.Rights.{IsOwner, word_in, count_in, own_in, IsWriter, IsListed, IsAsKnown, AreAsKnown, KnowsChains, cell_in, object_in, payload_in}
+use Rattle.live_table.specs.Rights.{IsOwner, word_in, count_in, own_in, IsWriter, IsListed, AreAsKnown, KnowsChains, cell_in, object_in, payload_in}
 use Rattle.live_table.specs.Steps.{Went, Did, looked_view}
 
 -- the abstract machine may go on from the log with the event
@@ -109,7 +109,7 @@ FitsPool v = IsWriter v → length (own_in v.chains).objects ≤ v.sizes.pool
 
 -- the seat's own chain is this one, and it knows its objects, its head and its note
 abbrev pub IsHeld : View → ℕ → Type 0
-IsHeld v c = IsWriter v × ((own_in v.chains).chain ≡ c) × IsListed v × IsAsKnown v.seen (own_in v.chains)
+IsHeld v c = IsWriter v × ((own_in v.chains).chain ≡ c) × IsListed v
 
 module _ {S : Type 0} (qsbr : Bool) (allows : Log → LiveEvent → Type 0) where
   -- the head was stored, and the object is the first one

@@ -11,3 +11,4 @@ pub use Rattle.live_log.proofs.Lines.{line_grows, below, line_has, barrier_of, b
 pub use Rattle.live_log.proofs.Closed.{closed_stays, closed_low}
 pub use Rattle.live_log.proofs.Splices.{link_is, head_is, head_no_link, push_moves, cut_moves, replace_moves, Still, leads_still, Moved}
 pub use Rattle.live_log.proofs.Keying.{falls_same, falls_push, falls_cut, falls_replaced}
+pub use Rattle.live_log.proofs.Falling.{each_falls}

@@ -8,6 +8,7 @@ mod reading;
 mod registrar;
 mod section;
 mod site;
+mod telling;
 mod witness;
 
 pub use held::Held;
@@ -15,4 +16,5 @@ pub use reader::Reader;
 pub use registrar::Registrar;
 pub use section::Section;
 pub use site::Site;
-pub use witness::{Record, Witness, inform, learn_more, tell_all};
+pub use telling::{inform, learn_more, tell_all};
+pub use witness::{Record, Witness};

@@ -10,7 +10,8 @@ ghost use Rattle.live_table.specs.Rights.{IsOwner, word_in};
 
 use crate::section::Section;
 use crate::site::Site;
-use crate::witness::{Witness, tell_all};
+use crate::telling::tell_all;
+use crate::witness::Witness;
 use gp_memb::GracePlan;
 use live_words::{ChainRule, LiveSeat, LiveTable, lock, unlock};
 use rcu_model::Refusal;
@@ -45,7 +46,7 @@ pub struct Reader<P: GracePlan, K: ChainRule, B: Site> {
 
 impl<P: GracePlan, K: ChainRule, B: Site> Reader<P, K, B> {
     ghost use Rattle.std.specs.Borrow.{sem, RestsIfErr};
-    ghost use Rattle.live_read.specs.Hearing.{IsAfter};
+    ghost use Rattle.live_read.specs.Hearing.{IsAfter, IsAsBefore};
     ghost use Rattle.live_read.specs.contracts.reader.Reader.{the_row};
     ghost use Rattle.live_read.specs.Sections.{Announces, BeginsSection, EndsSection, Enters, GoesOffline, GoesOnline, Leaves, Local, MayNotAnnounce, MayNotBegin, MayNotGoOnline, greatest_depth};
 
@@ -78,8 +79,7 @@ impl<P: GracePlan, K: ChainRule, B: Site> Reader<P, K, B> {
         requires { W.home witness.old ≡ (B.table, B.sizes) }
         ensures reader { (self.new.slot ≡ self.old.slot) × (self.new.word ≡ self.old.word) × (self.new.depth ≡ self.old.depth) × (self.new.locks ≡ self.old.locks) }
         ensures heard { IsAfter P.QSBR K.allows (W.seen witness.old) (W.heard witness.old) self.new.seat.me.0.heard × (self.new.seat.me.0.seen ≡ self.old.seat.me.0.seen) }
-        ensures witness { (W.seen witness.new ≡ W.seen witness.old) × (W.heard witness.new ≡ W.heard witness.old) × (W.home witness.new ≡ (B.table, B.sizes)) × (W.standing witness.new ≡ W.standing witness.old) }
-        ensures inside { W.is_in witness.old → W.is_in witness.new }
+        ensures witness { IsAsBefore W.Witness witness.old witness.new }
     {
         let told = tell_all(&self.table, witness);
         let reader = &mut *self;

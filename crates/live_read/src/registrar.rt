@@ -10,7 +10,7 @@ ghost use Rattle.live_rule.specs.declared.rights.GroupsRight.TheVariants as grou
 ghost use Rattle.live_rule.specs.declared.rights.SlotRight.TheVariants.{Spare};
 ghost use Rattle.live_rule.specs.Seats.{but_groups};
 ghost use Rattle.live_table.specs.Rights.{count_in};
-ghost use Rattle.live_read.specs.Hearing.{IsAfter};
+ghost use Rattle.live_read.specs.Hearing.{IsAfter, IsAsBefore};
 ghost use Rattle.live_read.specs.Registering.{AreFree, Fits, Registers, Unregisters};
 
 use crate::parked::{GroupWords, Parked, Place};
@@ -75,8 +75,7 @@ impl<P: GracePlan, K: ChainRule, B: Site> Registrar<P, K, B> {
         ensures told { IfOk result (λ r. IsAfter P.QSBR K.allows (W.seen witness.old) (W.heard witness.old) r.seat.me.0.heard) }
         ensures later { IfOk result (λ r. Begins self.old.groups.seat.me.0.seen r.seat.me.0.seen) }
         ensures refused { IfErr result (λ e. (e ≡ NoSlot) × AllAreClaimed self.old.registry × (self.new.registry ≡ self.old.registry) × (self.new.groups ≡ self.old.groups) × (self.new.row ≡ self.old.row)) }
-        ensures witness { (W.seen witness.new ≡ W.seen witness.old) × (W.heard witness.new ≡ W.heard witness.old) × (W.home witness.new ≡ (B.table, B.sizes)) × (W.standing witness.new ≡ W.standing witness.old) }
-        ensures inside { W.is_in witness.old → W.is_in witness.new }
+        ensures witness { IsAsBefore W.Witness witness.old witness.new }
     {
         let slot = self.registry.claim()?;
         let number = slot.number();
@@ -118,7 +117,7 @@ impl<P: GracePlan, K: ChainRule, B: Site> Registrar<P, K, B> {
     /// A seat that has seen what the last one saw who registered or left. It never waits.
     pub fn tell(&mut self, table: &LiveTable<P, K>) -> LiveSeat
         requires { table.now.words.shared.table_id ≡ B.table }
-        ensures seat { (result.table_id ≡ B.table) × (result.me.1 ≡ []) × (result.me.0.seen ≡ self.old.groups.seat.me.0.seen) }
+        ensures seat { (result.table_id ≡ B.table) × (result.me.1 ≡ []) × (result.me.0.seen ≡ self.old.groups.seat.me.0.seen) × (result.me.0.looks ≡ []) }
         ensures same { (self.new.registry ≡ self.old.registry) × (self.new.groups.words ≡ self.old.groups.words) × (self.new.row ≡ self.old.row) × (self.new.groups.seat.me.0.seen ≡ self.old.groups.seat.me.0.seen) }
     {
         table.tell(&mut self.groups.seat)

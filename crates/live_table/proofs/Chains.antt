@@ -54,7 +54,7 @@ module _ {S : Type 0} (qsbr : Bool) (allows : Log → LiveEvent → Type 0) (key
   goes_on sizes = (
     all_known qsbr key r.log s.words v.chains (λ c. r.knows (chain c) id v at),
     λ own. let k = knows_own own in (
-      (k.3, sym k.2 ∙ (r.agree.heap.leads (head (own_in v.chains).chain) k.0 (first_of ((objects_of r.log).chain (own_in v.chains).chain)) refl ∙ ap (λ (l : List ObjectId). ref (objects_of r.log) (first_of l)) k.3)),
+      (k.3, sym k.2 ∙ (r.agree.heap.leads (head (own_in v.chains).chain) k.0 (first_of ((objects_of r.log).chain (own_in v.chains).chain)) refl ∙ ap (λ (l : List ObjectId). ref (objects_of r.log) (first_of l)) k.3), k.4),
       λ o h. lows sizes o (alive_linked qsbr allows r.log (own_in v.chains).chain o r.run (here own o h)),
     ),
   )

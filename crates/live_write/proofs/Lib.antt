@@ -2,3 +2,5 @@ pub mod Filling
 pub mod Publishing
 pub mod Searching
 pub mod Walking
+pub mod Keyed
+pub mod Lemmas

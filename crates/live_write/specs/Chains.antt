@@ -6,7 +6,8 @@ use Rattle.live_log.specs.declared.event.LiveEvent.TheVariants.{Object}
 use Rattle.live_log.specs.declared.event.ObjectEvent.TheVariants.{Push, Replace}
 use Rattle.live_log.specs.Log.{Log, Begins, IsLiveRun}
 use Rattle.live_rule.specs.declared.view.View.{View}
-use Rattle.live_table.specs.Rights.{own_in, object_in, cell_in, payload_in}
+use Rattle.live_table.specs.Rights.{AreAsKnown, own_in, object_in, cell_in, payload_in}
+use Rattle.live_chains.specs.Chains.{IsAllowedBy}
 
 -- the objects that a writer's chain links, the first one first
 abbrev pub list_in : View → List ObjectId
@@ -24,10 +25,21 @@ replace_by o v u = Object (Replace (own_in v.chains).chain o (object_in u.object
 abbrev pub words_in : List ℕ → List ℕ
 words_in payload = slice_index_or payload 0 0 ∷ slice_index_or payload 1 0 ∷ slice_index_or payload 2 0 ∷ slice_index_or payload 3 0 ∷ []
 
--- the event is the last one of a log that goes on from all that a chain's writer and its caller had seen and heard of
-pub record Publishes (qsbr : Bool) (allows : Log → LiveEvent → Type 0) (writer : View) (seen heard : Log) (e : LiveEvent) (log : Log) : Type 0 where
-  pub before : Log
-  pub wrote : log ≡ e ∷ before
-  pub after_writer : Begins writer.seen before × Begins writer.heard before
-  pub after_caller : Begins seen before × Begins heard before
-  pub run : IsLiveRun qsbr allows log
+-- the log goes on from all that a chain's writer and its caller had seen and heard of, and from all that who allocated
+-- the record had seen
+pub record GoesOn (writer : View) (seen heard owner log : Log) : Type 0 where
+  pub after_writer : Begins writer.seen log × Begins writer.heard log
+  pub after_caller : Begins seen log × Begins heard log
+  pub after_owner : Begins owner log
+
+module _ (qsbr : Bool) (allows : Log → LiveEvent → Type 0) (writer : View) (seen heard owner : Log) (e : LiveEvent) where
+  -- the rule of chains allows the event after every such log in which the writer's chains are as it knows them
+  abbrev pub MayPublish : Type 0
+  MayPublish = (log : Log) → GoesOn writer seen heard owner log → IsLiveRun qsbr allows log → AreAsKnown log writer.chains → IsAllowedBy log e → allows log e
+
+  -- the event is the last one of the log, and came after such a log
+  pub record Publishes (log : Log) : Type 0 where
+    pub before : Log
+    pub wrote : log ≡ e ∷ before
+    pub after : GoesOn writer seen heard owner before
+    pub run : IsLiveRun qsbr allows log

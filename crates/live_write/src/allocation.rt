@@ -5,9 +5,9 @@ ghost use Rattle.rcu_model.specs.declared.refusal.Refusal.TheVariants.{PoolFull}
 ghost use Rattle.live_log.specs.Log.{Begins, Log};
 ghost use Rattle.live_rule.specs.declared.rights.RecordRight.{RecordRight};
 ghost use Rattle.live_rule.specs.Places.{cell_at};
-ghost use Rattle.live_table.specs.Rights.{IsFresh, cell_in, link_in, object_in, payload_in};
+ghost use Rattle.live_table.specs.Rights.{IsFresh, cell_in, object_in, payload_in};
 ghost use Rattle.live_table.specs.Steps.{Keeps};
-ghost use Rattle.live_read.specs.Hearing.{IsAfter};
+ghost use Rattle.live_read.specs.Hearing.{IsAfter, Stays};
 ghost use Rattle.live_write.specs.Searching.{Allocates, AreTaken, IsUsedUp, Searched};
 
 use crate::records::Owned;
@@ -74,8 +74,7 @@ pub fn alloc<P: GracePlan, K: ChainRule, B: Site, W: Witness, R: Wait>(
     ensures owned { IfOk result (λ o. (payload_in o.seat.me.0.object ≡ words) × (o.seat.me.0.seen ≡ W.heard witness.new)) }
     ensures looks { (found : List (ℕ × ℕ)) × (W.looks witness.new ≡ found ++ W.looks witness.old) × IfErr result (λ e. (e ≡ PoolFull) × (IsUsedUp B.sizes found ⊎ AreTaken B.sizes found)) }
     ensures heard { IsAfter P.QSBR K.allows (W.seen witness.old) (W.heard witness.old) (W.heard witness.new) }
-    ensures same { (W.seen witness.new ≡ W.seen witness.old) × (W.loads witness.new ≡ W.loads witness.old) × (W.home witness.new ≡ W.home witness.old) × (W.standing witness.new ≡ W.standing witness.old) }
-    ensures inside { W.is_in witness.old → W.is_in witness.new }
+    ensures same { Stays W.Witness witness.old witness.new × (W.loads witness.new ≡ W.loads witness.old) }
 {
     let mut seat = witness.tell(table);
     let taken = take_filled(rt, table, &mut seat, words);
@@ -101,9 +100,8 @@ pub fn discard<P: GracePlan, K: ChainRule, B: Site, W: Witness>(
     requires site { (table.now.words.shared.table_id ≡ B.table) × (table.now.words.shared.key ≡ B.sizes) × (W.home witness.old ≡ (B.table, B.sizes)) }
     ensures freed { W.looks witness.new ≡ (cell_at B.sizes (cell_in owned.seat.me.0.object) 0, 0) ∷ W.looks witness.old }
     ensures heard { IsAfter P.QSBR K.allows (W.seen witness.old) (W.heard witness.old) (W.heard witness.new) × Begins owned.seat.me.0.seen (W.heard witness.new) }
-    ensures loads { (log : Log) × (W.loads witness.new ≡ log ∷ W.loads witness.old) }
-    ensures same { (W.seen witness.new ≡ W.seen witness.old) × (W.home witness.new ≡ W.home witness.old) × (W.standing witness.new ≡ W.standing witness.old) }
-    ensures inside { W.is_in witness.old → W.is_in witness.new }
+    ensures loads { (log : Log) × (W.loads witness.new ≡ log ∷ W.loads witness.old) × IsAfter P.QSBR K.allows (W.seen witness.old) (W.heard witness.old) log × Begins log (W.heard witness.new) }
+    ensures same { Stays W.Witness witness.old witness.new }
 {
     let Owned { seat, cell, .. } = owned;
     let mut told = witness.tell(table);

@@ -1,18 +1,18 @@
 //! The one writer of a chain.
 
-ghost use Rattle.std.specs.Prelude.{◌≡◌, ◌⊎◌, ◌+◌, ◌<◌, ◌≤◌, ◌∷◌, [], Some, length, slice_get, IfErr, IfNone, IfOk, IfSome};
+ghost use Rattle.std.specs.Prelude.{◌≡◌, ◌⊎◌, ◌<◌, ◌≤◌, ◌∷◌, [], Some, length, slice_get, IfErr, IfNone, IfOk, IfSome};
 ghost use Rattle.rcu_model.specs.declared.refusal.Refusal.TheVariants.{Busy, NoPlace};
 ghost use Rattle.rcu_model.specs.Sets.{replaced, without_object};
 ghost use Rattle.rcu_model.specs.declared.event.ObjectId.{ObjectId};
 ghost use Rattle.live_log.specs.declared.event.LiveEvent.TheVariants.{ChainNote};
-ghost use Rattle.live_log.specs.Log.{Begins, note_of};
+ghost use Rattle.live_log.specs.Log.{Begins, IsLiveRun, chain_note, note_of};
 ghost use Rattle.live_rule.specs.Places.{hold_at};
 ghost use Rattle.live_rule.specs.Seats.{lent_chains};
 ghost use Rattle.live_table.specs.Rights.{IsListed, IsWriter, object_in, own_in};
 ghost use Rattle.live_table.specs.Steps.{Keeps, Went};
-ghost use Rattle.live_chains.specs.Chains.{MayWrite, cut_of};
-ghost use Rattle.live_read.specs.Hearing.{IsAfter};
-ghost use Rattle.live_write.specs.Chains.{Publishes, list_in, push_by, replace_by, words_in};
+ghost use Rattle.live_chains.specs.Chains.{cut_of};
+ghost use Rattle.live_read.specs.Hearing.{IsAfter, OnlyHears, Stays};
+ghost use Rattle.live_write.specs.Chains.{MayPublish, Publishes, list_in, push_by, replace_by, words_in};
 
 use crate::publish::{cut_record, push_record, replace_record, write_note};
 use crate::records::{Owned, Unlinked};
@@ -40,7 +40,8 @@ pub struct Chain<'d, P: GracePlan, K: ChainRule, B: Site> {
 }
 
 impl<'d, P: GracePlan, K: ChainRule, B: Site> Chain<'d, P, K, B> {
-    /// Takes the right to write a chain, if nobody has it. The witness hears of what was seen at that.
+    /// Takes the right to write a chain, if nobody has it, and counts its objects by a walk. The witness hears of what
+    /// was seen at the taking; the writer knows the list and the note of the log that it has seen, and no other chain.
     ///
     /// Refused with `NoPlace` exactly where there is no such chain, else with `Busy` exactly where its hold word was
     /// found to be 1, which `looks` tells. It takes no memory and never waits.
@@ -51,10 +52,10 @@ impl<'d, P: GracePlan, K: ChainRule, B: Site> Chain<'d, P, K, B> {
     ) -> Result<Chain<'d, P, K, B>, Refusal>
         requires site { (table.now.words.shared.table_id ≡ B.table) × (table.now.words.shared.key ≡ B.sizes) × (W.home witness.old ≡ (B.table, B.sizes)) }
         ensures held { IfOk result (λ c. (c.number ≡ chain) × (chain < B.sizes.chains) × (W.looks witness.new ≡ (hold_at B.sizes chain, 0) ∷ W.looks witness.old) × Begins (W.heard witness.new) c.seat.me.0.seen) }
+        ensures run { IfOk result (λ c. IsLiveRun P.QSBR K.allows c.seat.me.0.seen × (lent_chains c.seat.me.0.chains ≡ [])) }
         ensures refused { IfErr result (λ e. ((e ≡ NoPlace) × (B.sizes.chains ≤ chain) × (witness.new ≡ witness.old)) ⊎ ((e ≡ Busy) × (chain < B.sizes.chains) × (W.looks witness.new ≡ (hold_at B.sizes chain, 1) ∷ W.looks witness.old))) }
         ensures heard { chain < B.sizes.chains → IsAfter P.QSBR K.allows (W.seen witness.old) (W.heard witness.old) (W.heard witness.new) }
-        ensures same { (W.seen witness.new ≡ W.seen witness.old) × (W.home witness.new ≡ W.home witness.old) × (W.standing witness.new ≡ W.standing witness.old) }
-        ensures inside { W.is_in witness.old → W.is_in witness.new }
+        ensures same { Stays W.Witness witness.old witness.new × (W.loads witness.new ≡ W.loads witness.old) }
     {
         if chain >= table.chains {
             return Err(Refusal::NoPlace);
@@ -92,18 +93,16 @@ impl<'d, P: GracePlan, K: ChainRule, B: Site> Chain<'d, P, K, B> {
     }
 
     /// The object of a record becomes the first of the chain, liburcu's `cds_list_add_rcu`: its link is stored, and
-    /// then the head. The chain's rule has to allow it. The event comes after all that the witness and who allocated the
-    /// record had seen, and the witness hears of it. It takes no memory and never waits.
+    /// then the head. The event comes after all that the witness and who allocated the record had seen, and the witness
+    /// hears of it. The chain's rule has to allow it in each log that does. It takes no memory and never waits.
     pub fn push<W: Witness>(&mut self, witness: &mut W, owned: Owned<B>) -> ObjectId
         requires home { W.home witness.old ≡ (B.table, B.sizes) }
-        requires rule { MayWrite P.QSBR K.allows self.old.seat.me.0 (push_by self.old.seat.me.0 owned.seat.me.0) }
+        requires rule { MayPublish P.QSBR K.allows self.old.seat.me.0 (W.seen witness.old) (W.heard witness.old) owned.seat.me.0.seen (push_by self.old.seat.me.0 owned.seat.me.0) }
         ensures object { result ≡ object_in owned.seat.me.0.object }
         ensures list { (list_in self.new.seat.me.0 ≡ result ∷ list_in self.old.seat.me.0) × ((own_in self.new.seat.me.0.chains).note ≡ (own_in self.old.seat.me.0.chains).note) × (lent_chains self.new.seat.me.0.chains ≡ lent_chains self.old.seat.me.0.chains) × (self.new.number ≡ self.old.number) }
-        ensures pushed { Publishes P.QSBR K.allows self.old.seat.me.0 (W.seen witness.old) (W.heard witness.old) (push_by self.old.seat.me.0 owned.seat.me.0) self.new.seat.me.0.seen }
-        ensures after { Begins owned.seat.me.0.seen self.new.seat.me.0.seen }
+        ensures pushed { Publishes P.QSBR K.allows self.old.seat.me.0 (W.seen witness.old) (W.heard witness.old) owned.seat.me.0.seen (push_by self.old.seat.me.0 owned.seat.me.0) self.new.seat.me.0.seen }
         ensures heard { W.heard witness.new ≡ self.new.seat.me.0.seen }
-        ensures same { (W.seen witness.new ≡ W.seen witness.old) × (W.home witness.new ≡ W.home witness.old) × (W.standing witness.new ≡ W.standing witness.old) }
-        ensures inside { W.is_in witness.old → W.is_in witness.new }
+        ensures same { OnlyHears W.Witness witness.old witness.new }
     {
         let object = owned.object();
         let Owned { seat, cell, .. } = owned;
@@ -125,22 +124,21 @@ impl<'d, P: GracePlan, K: ChainRule, B: Site> Chain<'d, P, K, B> {
         Some(read(self.table, &mut self.seat, self.number, index))
     }
 
-    /// The object at an index leaves the chain, liburcu's `cds_list_del_rcu`: what led to it leads to what follows it,
-    /// and its own link stays. The chain's rule has to allow it. The event comes after all that the witness had seen,
-    /// and the witness hears of it.
+    /// The object at an index leaves the chain, liburcu's `cds_list_del_rcu`, after a walk to it: what led to it leads
+    /// to what follows it, and its own link stays. The event comes after all that the witness had seen, and the witness
+    /// hears of it. The chain's rule has to allow it in each log that does.
     ///
     /// Refused with `NoPlace` exactly where the index is not below the length, and then nothing changes. It takes no
     /// memory and never waits.
     pub fn cut<W: Witness>(&mut self, witness: &mut W, index: usize) -> Result<Unlinked<B>, Refusal>
         requires home { W.home witness.old ≡ (B.table, B.sizes) }
-        requires rule { (o : ObjectId) → slice_get (list_in self.old.seat.me.0) index ≡ Some o → MayWrite P.QSBR K.allows self.old.seat.me.0 (cut_of o self.old.seat.me.0) }
+        requires rule { (o : ObjectId) → slice_get (list_in self.old.seat.me.0) index ≡ Some o → MayPublish P.QSBR K.allows self.old.seat.me.0 (W.seen witness.old) (W.heard witness.old) [] (cut_of o self.old.seat.me.0) }
         ensures object { IfOk result (λ u. (slice_get (list_in self.old.seat.me.0) index ≡ Some (object_in u.seat.me.0.object)) × (u.seat.me.0.seen ≡ self.new.seat.me.0.seen)) }
         ensures list { IfOk result (λ u. (list_in self.new.seat.me.0 ≡ without_object (object_in u.seat.me.0.object) (list_in self.old.seat.me.0)) × ((own_in self.new.seat.me.0.chains).note ≡ (own_in self.old.seat.me.0.chains).note) × (lent_chains self.new.seat.me.0.chains ≡ lent_chains self.old.seat.me.0.chains) × (self.new.number ≡ self.old.number)) }
-        ensures cut { IfOk result (λ u. Publishes P.QSBR K.allows self.old.seat.me.0 (W.seen witness.old) (W.heard witness.old) (cut_of (object_in u.seat.me.0.object) self.old.seat.me.0) self.new.seat.me.0.seen) }
+        ensures cut { IfOk result (λ u. Publishes P.QSBR K.allows self.old.seat.me.0 (W.seen witness.old) (W.heard witness.old) [] (cut_of (object_in u.seat.me.0.object) self.old.seat.me.0) self.new.seat.me.0.seen) }
         ensures heard { IfOk result (λ _. W.heard witness.new ≡ self.new.seat.me.0.seen) }
         ensures refused { IfErr result (λ e. (e ≡ NoPlace) × (length (list_in self.old.seat.me.0) ≤ index) × (self.new ≡ self.old) × (witness.new ≡ witness.old)) }
-        ensures same { (W.seen witness.new ≡ W.seen witness.old) × (W.home witness.new ≡ W.home witness.old) × (W.standing witness.new ≡ W.standing witness.old) }
-        ensures inside { W.is_in witness.old → W.is_in witness.new }
+        ensures same { OnlyHears W.Witness witness.old witness.new }
     {
         if index >= self.linked {
             return Err(Refusal::NoPlace);
@@ -150,9 +148,10 @@ impl<'d, P: GracePlan, K: ChainRule, B: Site> Chain<'d, P, K, B> {
         Ok(Unlinked::of(seat, cell))
     }
 
-    /// The object of a record takes the place of the one at an index, liburcu's `cds_list_replace_rcu`: its link is
-    /// stored, and then what led to the old one leads to it. The chain's rule has to allow it. The event comes after all
-    /// that the witness and who allocated the record had seen, and the witness hears of it.
+    /// The object of a record takes the place of the one at an index, liburcu's `cds_list_replace_rcu`, after a walk to
+    /// it: the new one's link is stored, and then what led to the old one leads to the new one. The event comes after all
+    /// that the witness and who allocated the record had seen, and the witness hears of it. The chain's rule has to allow
+    /// it in each log that does.
     ///
     /// Refused with `NoPlace` exactly where the index is not below the length; then nothing changes, and the record
     /// comes back. It takes no memory and never waits.
@@ -163,14 +162,13 @@ impl<'d, P: GracePlan, K: ChainRule, B: Site> Chain<'d, P, K, B> {
         owned: Owned<B>,
     ) -> Result<Unlinked<B>, (Refusal, Owned<B>)>
         requires home { W.home witness.old ≡ (B.table, B.sizes) }
-        requires rule { (o : ObjectId) → slice_get (list_in self.old.seat.me.0) index ≡ Some o → MayWrite P.QSBR K.allows self.old.seat.me.0 (replace_by o self.old.seat.me.0 owned.seat.me.0) }
+        requires rule { (o : ObjectId) → slice_get (list_in self.old.seat.me.0) index ≡ Some o → MayPublish P.QSBR K.allows self.old.seat.me.0 (W.seen witness.old) (W.heard witness.old) owned.seat.me.0.seen (replace_by o self.old.seat.me.0 owned.seat.me.0) }
         ensures object { IfOk result (λ u. (slice_get (list_in self.old.seat.me.0) index ≡ Some (object_in u.seat.me.0.object)) × (u.seat.me.0.seen ≡ self.new.seat.me.0.seen)) }
         ensures list { IfOk result (λ u. (list_in self.new.seat.me.0 ≡ replaced (object_in u.seat.me.0.object) (object_in owned.seat.me.0.object) (list_in self.old.seat.me.0)) × ((own_in self.new.seat.me.0.chains).note ≡ (own_in self.old.seat.me.0.chains).note) × (lent_chains self.new.seat.me.0.chains ≡ lent_chains self.old.seat.me.0.chains) × (self.new.number ≡ self.old.number)) }
-        ensures replaced { IfOk result (λ u. Publishes P.QSBR K.allows self.old.seat.me.0 (W.seen witness.old) (W.heard witness.old) (replace_by (object_in u.seat.me.0.object) self.old.seat.me.0 owned.seat.me.0) self.new.seat.me.0.seen) }
-        ensures after { IfOk result (λ _. Begins owned.seat.me.0.seen self.new.seat.me.0.seen × (W.heard witness.new ≡ self.new.seat.me.0.seen)) }
+        ensures replaced { IfOk result (λ u. Publishes P.QSBR K.allows self.old.seat.me.0 (W.seen witness.old) (W.heard witness.old) owned.seat.me.0.seen (replace_by (object_in u.seat.me.0.object) self.old.seat.me.0 owned.seat.me.0) self.new.seat.me.0.seen) }
+        ensures heard { IfOk result (λ _. W.heard witness.new ≡ self.new.seat.me.0.seen) }
         ensures refused { IfErr result (λ e. (e.0 ≡ NoPlace) × (e.1 ≡ owned) × (length (list_in self.old.seat.me.0) ≤ index) × (self.new ≡ self.old) × (witness.new ≡ witness.old)) }
-        ensures same { (W.seen witness.new ≡ W.seen witness.old) × (W.home witness.new ≡ W.home witness.old) × (W.standing witness.new ≡ W.standing witness.old) }
-        ensures inside { W.is_in witness.old → W.is_in witness.new }
+        ensures same { OnlyHears W.Witness witness.old witness.new }
     {
         if index >= self.linked {
             return Err((Refusal::NoPlace, owned));
@@ -188,24 +186,24 @@ impl<'d, P: GracePlan, K: ChainRule, B: Site> Chain<'d, P, K, B> {
         Ok(Unlinked::of(left, was))
     }
 
-    /// The chain's note, which this writer alone may change. It never waits.
+    /// The chain's note, which this writer alone may change: that of the log that it has seen at the return. It never
+    /// waits.
     pub fn note(&mut self) -> u64
-        ensures note { result ≡ (own_in self.old.seat.me.0.chains).note }
+        ensures note { (result ≡ (own_in self.old.seat.me.0.chains).note) × (result ≡ chain_note self.old.number self.new.seat.me.0.seen) }
         ensures looked { Keeps self.old.seat self.new.seat × Went P.QSBR K.allows self.old.seat.me.0 self.old.seat.me self.new.seat.me × (self.new.number ≡ self.old.number) }
     {
         load_note(self.table, &mut self.seat, self.number)
     }
 
-    /// The chain's note becomes this one, which the chain's rule has to allow. The note comes after all that the witness
-    /// had seen, and the witness hears of it. It takes no memory and never waits.
+    /// The chain's note becomes this one. The note comes after all that the witness had seen, and the witness hears of
+    /// it. The chain's rule has to allow it in each log that does. It takes no memory and never waits.
     pub fn set_note<W: Witness>(&mut self, witness: &mut W, note: u64)
         requires home { W.home witness.old ≡ (B.table, B.sizes) }
-        requires rule { MayWrite P.QSBR K.allows self.old.seat.me.0 (ChainNote self.old.number note) }
+        requires rule { MayPublish P.QSBR K.allows self.old.seat.me.0 (W.seen witness.old) (W.heard witness.old) [] (ChainNote self.old.number note) }
         ensures note { ((own_in self.new.seat.me.0.chains).note ≡ note) × (list_in self.new.seat.me.0 ≡ list_in self.old.seat.me.0) × (lent_chains self.new.seat.me.0.chains ≡ lent_chains self.old.seat.me.0.chains) × (self.new.number ≡ self.old.number) }
-        ensures noted { Publishes P.QSBR K.allows self.old.seat.me.0 (W.seen witness.old) (W.heard witness.old) (ChainNote self.old.number note) self.new.seat.me.0.seen }
+        ensures noted { Publishes P.QSBR K.allows self.old.seat.me.0 (W.seen witness.old) (W.heard witness.old) [] (ChainNote self.old.number note) self.new.seat.me.0.seen }
         ensures heard { W.heard witness.new ≡ self.new.seat.me.0.seen }
-        ensures same { (W.seen witness.new ≡ W.seen witness.old) × (W.home witness.new ≡ W.home witness.old) × (W.standing witness.new ≡ W.standing witness.old) }
-        ensures inside { W.is_in witness.old → W.is_in witness.new }
+        ensures same { OnlyHears W.Witness witness.old witness.new }
     {
         write_note(self.table, &mut self.seat, self.number, witness, note);
     }

@@ -1,15 +1,15 @@
 //! What a chain's writer publishes, by seats: what the caller has seen comes before the event, of which it hears.
 
-ghost use Rattle.std.specs.Prelude.{◌≡◌, ℕ, ◌+◌, ◌<◌, ◌≤◌, ◌∷◌, [], Some, length, slice_get};
+ghost use Rattle.std.specs.Prelude.{◌≡◌, ◌+◌, ◌<◌, ◌≤◌, ◌∷◌, [], Some, length, slice_get};
 ghost use Rattle.rcu_model.specs.Sets.{replaced, without_object};
 ghost use Rattle.rcu_model.specs.declared.event.ObjectId.{ObjectId};
 ghost use Rattle.live_log.specs.declared.event.LiveEvent.TheVariants.{ChainNote};
-ghost use Rattle.live_log.specs.Log.{Begins};
 ghost use Rattle.live_rule.specs.Seats.{lent_chains};
 ghost use Rattle.live_table.specs.Rights.{IsFresh, IsListed, IsUnlinked, IsWriter, cell_in, object_in, own_in};
 ghost use Rattle.live_table.specs.Steps.{Keeps};
-ghost use Rattle.live_chains.specs.Chains.{MayWrite, cut_of};
-ghost use Rattle.live_write.specs.Chains.{Publishes, list_in, push_by, replace_by};
+ghost use Rattle.live_chains.specs.Chains.{cut_of};
+ghost use Rattle.live_read.specs.Hearing.{OnlyHears};
+ghost use Rattle.live_write.specs.Chains.{MayPublish, Publishes, list_in, push_by, replace_by};
 
 use crate::walk::find;
 use gp_memb::GracePlan;
@@ -32,14 +32,12 @@ pub(crate) fn push_record<P: GracePlan, K: ChainRule, W: Witness>(
     requires owned { (owned.table_id ≡ table.now.words.shared.table_id) × (owned.me.1 ≡ []) × IsFresh owned.me.0 × (cell_in owned.me.0.object ≡ cell) }
     requires witness { W.home witness.old ≡ (table.now.words.shared.table_id, table.now.words.shared.key) }
     requires right { IsWriter seat.old.me.0 × ((own_in seat.old.me.0.chains).chain ≡ chain) }
-    requires rule { MayWrite P.QSBR K.allows seat.old.me.0 (push_by seat.old.me.0 owned.me.0) }
+    requires rule { MayPublish P.QSBR K.allows seat.old.me.0 (W.seen witness.old) (W.heard witness.old) owned.me.0.seen (push_by seat.old.me.0 owned.me.0) }
     ensures seat { Keeps seat.old seat.new × (seat.new.me.1 ≡ seat.old.me.1) × (seat.new.me.0.sizes ≡ seat.old.me.0.sizes) × IsListed seat.new.me.0 }
     ensures list { (seat.new.me.0.chains ≡ record (own_in seat.old.me.0.chains) { head = cell + 1; objects = object_in owned.me.0.object ∷ list_in seat.old.me.0 } ∷ lent_chains seat.old.me.0.chains) × (length (list_in seat.old.me.0) ≤ table.now.pool) }
-    ensures pushed { Publishes P.QSBR K.allows seat.old.me.0 (W.seen witness.old) (W.heard witness.old) (push_by seat.old.me.0 owned.me.0) seat.new.me.0.seen }
-    ensures after { Begins owned.me.0.seen seat.new.me.0.seen }
+    ensures pushed { Publishes P.QSBR K.allows seat.old.me.0 (W.seen witness.old) (W.heard witness.old) owned.me.0.seen (push_by seat.old.me.0 owned.me.0) seat.new.me.0.seen }
     ensures heard { W.heard witness.new ≡ seat.new.me.0.seen }
-    ensures same { (W.seen witness.new ≡ W.seen witness.old) × (W.home witness.new ≡ W.home witness.old) × (W.standing witness.new ≡ W.standing witness.old) }
-    ensures inside { W.is_in witness.old → W.is_in witness.new }
+    ensures same { OnlyHears W.Witness witness.old witness.new }
 {
     let mut told = tell_all(table, witness);
     table.take_object(&mut told, owned);
@@ -62,16 +60,15 @@ pub(crate) fn cut_record<P: GracePlan, K: ChainRule, W: Witness>(
     requires seat { (seat.old.table_id ≡ table.now.words.shared.table_id) × (seat.old.me.0.sizes ≡ table.now.words.shared.key) × (chain < table.now.chains) × (index < length (list_in seat.old.me.0)) }
     requires witness { W.home witness.old ≡ (table.now.words.shared.table_id, table.now.words.shared.key) }
     requires right { IsWriter seat.old.me.0 × ((own_in seat.old.me.0.chains).chain ≡ chain) }
-    requires rule { (o : ObjectId) → slice_get (list_in seat.old.me.0) index ≡ Some o → MayWrite P.QSBR K.allows seat.old.me.0 (cut_of o seat.old.me.0) }
+    requires rule { (o : ObjectId) → slice_get (list_in seat.old.me.0) index ≡ Some o → MayPublish P.QSBR K.allows seat.old.me.0 (W.seen witness.old) (W.heard witness.old) [] (cut_of o seat.old.me.0) }
     ensures seat { Keeps seat.old seat.new × (seat.new.me.1 ≡ seat.old.me.1) × (seat.new.me.0.sizes ≡ seat.old.me.0.sizes) × IsListed seat.new.me.0 }
     ensures unlinked { (result.0.table_id ≡ seat.old.table_id) × (result.0.me.1 ≡ []) × (result.0.me.0.sizes ≡ seat.old.me.0.sizes) × (result.0.me.0.seen ≡ seat.new.me.0.seen) × IsUnlinked result.0.me.0 × (cell_in result.0.me.0.object ≡ result.1) × (result.1 < table.now.pool) }
     ensures object { slice_get (list_in seat.old.me.0) index ≡ Some (object_in result.0.me.0.object) }
     ensures list { (own_in seat.new.me.0.chains ≡ record (own_in seat.old.me.0.chains) { head = (own_in seat.new.me.0.chains).head; objects = without_object (object_in result.0.me.0.object) (list_in seat.old.me.0) }) × (lent_chains seat.new.me.0.chains ≡ lent_chains seat.old.me.0.chains) × IsWriter seat.new.me.0 }
     ensures fewer { length (list_in seat.new.me.0) + 1 ≡ length (list_in seat.old.me.0) }
-    ensures cut { Publishes P.QSBR K.allows seat.old.me.0 (W.seen witness.old) (W.heard witness.old) (cut_of (object_in result.0.me.0.object) seat.old.me.0) seat.new.me.0.seen }
+    ensures cut { Publishes P.QSBR K.allows seat.old.me.0 (W.seen witness.old) (W.heard witness.old) [] (cut_of (object_in result.0.me.0.object) seat.old.me.0) seat.new.me.0.seen }
     ensures heard { W.heard witness.new ≡ seat.new.me.0.seen }
-    ensures same { (W.seen witness.new ≡ W.seen witness.old) × (W.home witness.new ≡ W.home witness.old) × (W.standing witness.new ≡ W.standing witness.old) }
-    ensures inside { W.is_in witness.old → W.is_in witness.new }
+    ensures same { OnlyHears W.Witness witness.old witness.new }
 {
     let (before, cell) = find(table, seat, chain, index);
     let told = tell_all(table, witness);
@@ -98,17 +95,15 @@ pub(crate) fn replace_record<P: GracePlan, K: ChainRule, W: Witness>(
     requires owned { (owned.table_id ≡ table.now.words.shared.table_id) × (owned.me.1 ≡ []) × IsFresh owned.me.0 × (cell_in owned.me.0.object ≡ cell) }
     requires witness { W.home witness.old ≡ (table.now.words.shared.table_id, table.now.words.shared.key) }
     requires right { IsWriter seat.old.me.0 × ((own_in seat.old.me.0.chains).chain ≡ chain) }
-    requires rule { (o : ObjectId) → slice_get (list_in seat.old.me.0) index ≡ Some o → MayWrite P.QSBR K.allows seat.old.me.0 (replace_by o seat.old.me.0 owned.me.0) }
+    requires rule { (o : ObjectId) → slice_get (list_in seat.old.me.0) index ≡ Some o → MayPublish P.QSBR K.allows seat.old.me.0 (W.seen witness.old) (W.heard witness.old) owned.me.0.seen (replace_by o seat.old.me.0 owned.me.0) }
     ensures seat { Keeps seat.old seat.new × (seat.new.me.1 ≡ seat.old.me.1) × (seat.new.me.0.sizes ≡ seat.old.me.0.sizes) × IsListed seat.new.me.0 }
     ensures unlinked { (result.0.table_id ≡ seat.old.table_id) × (result.0.me.1 ≡ []) × (result.0.me.0.sizes ≡ seat.old.me.0.sizes) × (result.0.me.0.seen ≡ seat.new.me.0.seen) × IsUnlinked result.0.me.0 × (cell_in result.0.me.0.object ≡ result.1) × (result.1 < table.now.pool) }
     ensures object { slice_get (list_in seat.old.me.0) index ≡ Some (object_in result.0.me.0.object) }
     ensures list { (own_in seat.new.me.0.chains ≡ record (own_in seat.old.me.0.chains) { head = (own_in seat.new.me.0.chains).head; objects = replaced (object_in result.0.me.0.object) (object_in owned.me.0.object) (list_in seat.old.me.0) }) × (lent_chains seat.new.me.0.chains ≡ lent_chains seat.old.me.0.chains) × IsWriter seat.new.me.0 }
     ensures many { length (list_in seat.new.me.0) ≡ length (list_in seat.old.me.0) }
-    ensures replaced { Publishes P.QSBR K.allows seat.old.me.0 (W.seen witness.old) (W.heard witness.old) (replace_by (object_in result.0.me.0.object) seat.old.me.0 owned.me.0) seat.new.me.0.seen }
-    ensures after { Begins owned.me.0.seen seat.new.me.0.seen }
+    ensures replaced { Publishes P.QSBR K.allows seat.old.me.0 (W.seen witness.old) (W.heard witness.old) owned.me.0.seen (replace_by (object_in result.0.me.0.object) seat.old.me.0 owned.me.0) seat.new.me.0.seen }
     ensures heard { W.heard witness.new ≡ seat.new.me.0.seen }
-    ensures same { (W.seen witness.new ≡ W.seen witness.old) × (W.home witness.new ≡ W.home witness.old) × (W.standing witness.new ≡ W.standing witness.old) }
-    ensures inside { W.is_in witness.old → W.is_in witness.new }
+    ensures same { OnlyHears W.Witness witness.old witness.new }
 {
     let (before, was) = find(table, seat, chain, index);
     let next = load_link(table, seat, was);
@@ -134,13 +129,12 @@ pub(crate) fn write_note<P: GracePlan, K: ChainRule, W: Witness>(
     requires seat { (seat.old.table_id ≡ table.now.words.shared.table_id) × (seat.old.me.0.sizes ≡ table.now.words.shared.key) × (chain < table.now.chains) }
     requires witness { W.home witness.old ≡ (table.now.words.shared.table_id, table.now.words.shared.key) }
     requires right { IsWriter seat.old.me.0 × ((own_in seat.old.me.0.chains).chain ≡ chain) }
-    requires rule { MayWrite P.QSBR K.allows seat.old.me.0 (ChainNote chain note) }
+    requires rule { MayPublish P.QSBR K.allows seat.old.me.0 (W.seen witness.old) (W.heard witness.old) [] (ChainNote chain note) }
     ensures seat { Keeps seat.old seat.new × (seat.new.me.1 ≡ seat.old.me.1) × (seat.new.me.0.sizes ≡ seat.old.me.0.sizes) × IsListed seat.new.me.0 }
     ensures note { seat.new.me.0.chains ≡ record (own_in seat.old.me.0.chains) { note = note } ∷ lent_chains seat.old.me.0.chains }
-    ensures noted { Publishes P.QSBR K.allows seat.old.me.0 (W.seen witness.old) (W.heard witness.old) (ChainNote chain note) seat.new.me.0.seen }
+    ensures noted { Publishes P.QSBR K.allows seat.old.me.0 (W.seen witness.old) (W.heard witness.old) [] (ChainNote chain note) seat.new.me.0.seen }
     ensures heard { W.heard witness.new ≡ seat.new.me.0.seen }
-    ensures same { (W.seen witness.new ≡ W.seen witness.old) × (W.home witness.new ≡ W.home witness.old) × (W.standing witness.new ≡ W.standing witness.old) }
-    ensures inside { W.is_in witness.old → W.is_in witness.new }
+    ensures same { OnlyHears W.Witness witness.old witness.new }
 {
     load_note(table, seat, chain);
     let told = tell_all(table, witness);

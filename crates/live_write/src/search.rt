@@ -98,6 +98,7 @@ pub(crate) fn take_any<P: GracePlan, K: ChainRule>(
     ensures taken { IfSome result (λ i. (i < table.now.pool) × Takes P.QSBR K.allows i seat.old.me seat.new.me) }
     ensures none { IfNone result ((found : List (ℕ × ℕ)) × Searched P.QSBR K.allows found seat.old.me.0.object seat.old.me seat.new.me × AreTaken table.now.words.shared.key found) }
 {
+    // A pool may be empty, and what divides is not 0; where `start` is the whole pool, the second search goes over it.
     let start = (number.wrapping_mul(SPREAD) >> 48) as usize % (table.pool + 1);
     match take_from(table, seat, number, start, table.pool) {
         Some(cell) => Some(cell),

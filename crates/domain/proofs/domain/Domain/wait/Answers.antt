@@ -10,7 +10,7 @@ returns-clause-ended g c =
     record {
       asked = asked;
       loads_since = c.answer.new.seat.me.0.seen ∷ [];
-      first_load = c.answer.ensures.load ∙ ap (λ (ls : List Log). c.answer.new.seat.me.0.seen ∷ ls) (ap (λ m. m.0.loads) c.ask.ensures.looked.0);
+      first_load = c.answer.ensures.load.0 ∙ ap (λ (ls : List Log). c.answer.new.seat.me.0.seen ∷ ls) (ap (λ m. m.0.loads) c.ask.ensures.looked.0);
       after = record { after_seen = subst (Begins seat.seen) (sym looked.1) looked.2; after_heard = subst (Begins seat.heard) (sym looked.1) looked.3; run = looked.4 };
       low = c.in_ok-asked.ensures.taken.0 refl;
       later = c.answer.ensures.later.0;

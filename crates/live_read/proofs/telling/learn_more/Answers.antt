@@ -2,7 +2,7 @@ use Rattle.std.proofs.Common.{sym, ap, subst}
 use Rattle.live_log.specs.Log.{IsLiveRun}
 use Rattle.live_log.proofs.Lemmas.{begins_trans}
 use Rattle.live_read.proofs.Leaving.{both_later}
-use Rattle.live_read.proofs.witness.learn_more.Goals as goal
+use Rattle.live_read.proofs.telling.learn_more.Goals as goal
 
 pub returns-clause-kept : goal.returns-clause-kept
 returns-clause-kept g c =

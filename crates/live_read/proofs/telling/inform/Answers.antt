@@ -1,5 +1,5 @@
 use Rattle.live_log.proofs.Lemmas.{begins_trans}
-use Rattle.live_read.proofs.witness.inform.Goals as goal
+use Rattle.live_read.proofs.telling.inform.Goals as goal
 
 pub returns-clause-told : goal.returns-clause-told
 returns-clause-told g c =
