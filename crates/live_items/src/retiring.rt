@@ -2,6 +2,8 @@
 ghost use Rattle.std.specs.Prelude.{◌≡◌, ◌+◌, ◌<◌, ◌^◌, []};
 ghost use Rattle.live_rule.specs.declared.rights.QueueRight.TheVariants.{Owns};
 ghost use Rattle.live_rule.specs.declared.rights.RecordRight.TheVariants.{Nothing, Queued};
+ghost use Rattle.live_log.specs.Log.{Begins};
+ghost use Rattle.live_rule.specs.Steps.{Precedes};
 ghost use Rattle.live_table.specs.Rights.{IsInQueue, IsUnlinked, cell_in, closed_in, object_in, queue_in, queued_in};
 ghost use Rattle.live_table.specs.Steps.{Keeps};
 ghost use Rattle.live_items.specs.Retiring.{Queues};
@@ -25,7 +27,8 @@ pub fn queue_object<P: GracePlan, K: ChainRule>(
     ensures lock { Keeps lock.old lock.new × (lock.new.me.1 ≡ lock.old.me.1) × (lock.new.me.0.sizes ≡ lock.old.me.0.sizes) × (lock.new.me.0.queue ≡ Owns queue (given + 1) 0) × (lock.new.me.0.object ≡ Nothing) }
     ensures job { (result.0.table_id ≡ table.now.words.shared.table_id) × (result.0.me.1 ≡ []) × (result.0.me.0.sizes ≡ lock.old.me.0.sizes) × (result.0.me.0.object ≡ Queued cell (object_in unlinked.me.0.object)) }
     ensures number { result.1 ≡ (object_in unlinked.me.0.object).0 }
-    ensures queued { Queues P.QSBR K.allows lock.old.me.0 unlinked.me.0 queue given lock.new.me.0.seen × (result.0.me.0.seen ≡ lock.new.me.0.seen) }
+    ensures queued { Queues P.QSBR K.allows (Precedes unlinked.me.0) (object_in unlinked.me.0.object) queue given lock.new.me.0.seen × (result.0.me.0.seen ≡ lock.new.me.0.seen) }
+    ensures later { Begins lock.old.me.0.seen lock.new.me.0.seen }
 {
     let number = load_number(table, &mut unlinked, cell);
     store_retire(table, &mut unlinked, cell, number);

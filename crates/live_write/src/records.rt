@@ -61,6 +61,14 @@ impl<B: Site> Unlinked<B> {
         }
     }
 
+    /// The seat with the right to it, and its record. It never waits.
+    pub fn into_parts(self) -> (LiveSeat, usize)
+        ensures seat { (result.0 ≡ self.seat) × (result.0.table_id ≡ B.table) × (result.0.me.0.sizes ≡ B.sizes) × (result.0.me.1 ≡ []) }
+        ensures right { IsUnlinked result.0.me.0 × (cell_in result.0.me.0.object ≡ result.1) × (result.1 < B.sizes.pool) }
+    {
+        (self.seat, self.cell)
+    }
+
     /// Its object, by a load of its record's header, which is kept among the looks of its seat. It never waits.
     pub fn object<P: GracePlan, K: ChainRule>(&mut self, table: &LiveTable<P, K>) -> ObjectId
         requires { (table.now.words.shared.table_id ≡ B.table) × (table.now.words.shared.key ≡ B.sizes) }

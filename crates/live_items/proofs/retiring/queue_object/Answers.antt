@@ -1,10 +1,11 @@
-use Rattle.std.proofs.Common.{◌≡◌, ℕ, ◌∷◌, sym, ap, ◌∙◌, subst}
+use Rattle.std.proofs.Common.{◌≡◌, ℕ, [], ◌∷◌, refl, sym, ap, ◌∙◌, subst}
 use Rattle.rcu_model.specs.declared.event.ObjectId.{ObjectId}
 use Rattle.live_log.specs.declared.event.LiveEvent.TheVariants.{Object}
 use Rattle.live_log.specs.declared.event.ObjectEvent.TheVariants.{Queue, Retire}
 use Rattle.live_log.specs.Log.{Log, Begins}
 use Rattle.live_log.proofs.Lemmas.{begins_trans}
 use Rattle.live_rule.specs.declared.view.View.{View}
+use Rattle.live_rule.specs.Steps.{Precedes}
 use Rattle.live_table.specs.Rights.{object_in, queue_in, queued_in}
 use Rattle.live_words.specs.Queues.{IsLast}
 use Rattle.live_items.specs.Retiring.{Queues}
@@ -14,7 +15,6 @@ pub returns-clause-queued : goal.returns-clause-queued
 returns-clause-queued g c =
     let qsbr = g.P.GracePlan.QSBR in
     let allows = g.K.ChainRule.allows in
-    let lock : View = c.args.lock.now.me.0 in
     let first : View = c.args.unlinked.me.0 in
     let second : View = c.load_number-number.new.seat.me.0 in
     let third : View = c.store_retire.new.seat.me.0 in
@@ -34,14 +34,21 @@ returns-clause-queued g c =
     let heard : Begins third.seen within = subst (λ (l : Log). Begins l within) (ap (λ (z : View). z.heard) taken) queued.2.3 in
     let at_retire : Begins (Object (Retire (object_in second.object)) ∷ before) within = subst (λ (l : Log). Begins l within) retired.2.1 heard in
     let cut = ap (λ z. z.0.seen) c.cut_object.ensures.2 in
-    let told : Queues qsbr allows lock first c.args.queue c.args.given log = record {
+    let told : Queues qsbr allows (Precedes first) o c.args.queue c.args.given log = record {
       before = before;
-      after_unlinked = (begins_trans first.seen second.seen before looked.2.0 retired.2.2, begins_trans first.heard second.seen before looked.2.1 retired.2.2);
+      at = (begins_trans first.seen second.seen before looked.2.0 retired.2.2, begins_trans first.heard second.seen before looked.2.1 retired.2.2);
       within = within;
       retired = subst (λ (p : ObjectId). Begins (Object (Retire p) ∷ before) within) kept at_retire;
-      after_lock = subst (λ (l : Log). Begins l within) (ap (λ (z : View). z.seen) taken) queued.2.2;
       wrote = queued.2.1 ∙ (λ i. Object (Queue (same i) (queue i)) ∷ within);
       last = subst (λ (n : ℕ). IsLast c.args.queue n o log) given (subst (λ (p : ObjectId). IsLast c.args.queue (queued_in joined.queue) p log) same c.store_queued.ensures.last);
       run = queued.2.4;
     } in
-    (subst (Queues qsbr allows lock first c.args.queue c.args.given) (sym cut) told, ap (λ z. z.0.seen) c.cut_object.ensures.4 ∙ sym cut)
+    (subst (Queues qsbr allows (Precedes first) o c.args.queue c.args.given) (sym cut) told, ap (λ z. z.0.seen) c.cut_object.ensures.4 ∙ sym cut)
+
+pub returns-clause-later : goal.returns-clause-later
+returns-clause-later g c =
+    let taken = ap (λ z. z.0.seen) c.take_object.ensures.2 in
+    let queued = c.store_queued.ensures.queued in
+    let event = Object (Queue (object_in c.take_object.new.seat.me.0.object) (queue_in c.take_object.new.seat.me.0.queue)) in
+    let within : Begins c.args.lock.now.me.0.seen queued.2.0 = subst (λ (l : Log). Begins l queued.2.0) taken queued.2.2 in
+    subst (Begins c.args.lock.now.me.0.seen) (sym queued.2.1 ∙ sym (ap (λ z. z.0.seen) c.cut_object.ensures.2)) (begins_trans c.args.lock.now.me.0.seen queued.2.0 (event ∷ queued.2.0) within (event ∷ [], refl))

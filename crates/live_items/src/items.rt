@@ -1,0 +1,124 @@
+//! What lies under a queue's lock.
+ghost use Rattle.std.specs.Prelude.{◌≡◌, ◌⊎◌, ◌+◌, ◌<◌, ◌∷◌, [], true, false, IfErr, IfOk};
+ghost use Rattle.rcu_model.specs.declared.refusal.Refusal.TheVariants.{Closed, Memory};
+ghost use Rattle.callback_queue.specs.Queue.{closed_queue, empty_queue, given_of};
+ghost use Rattle.live_log.specs.declared.event.LiveEvent.TheVariants.{CloseQueue};
+ghost use Rattle.live_log.specs.Log.{Begins};
+ghost use Rattle.live_rule.specs.declared.rights.QueueRight.TheVariants.{Owns};
+ghost use Rattle.live_rule.specs.declared.rights.RecordRight.TheVariants.{Nothing};
+ghost use Rattle.live_table.specs.Rights.{object_in};
+ghost use Rattle.live_read.specs.Hearing.{OnlyHears};
+ghost use Rattle.live_items.specs.Items.{Closes};
+ghost use Rattle.live_items.specs.Retiring.{IsAfterAll, Queues};
+
+use crate::job::Job;
+use crate::retiring::queue_object;
+use callback_queue::{CallbackQueue, Item, Ticket};
+use gp_memb::GracePlan;
+use live_read::{Site, Witness, tell_all};
+use live_words::{ChainRule, LiveSeat, LiveTable, store_closed};
+use live_write::Unlinked;
+use rcu_model::{ObjectId, Refusal};
+use std::alloc::Global;
+use std::marker::{Model, PhantomData};
+
+/// What lies under a queue's lock: the callbacks that were queued and have not left, and the seat with the right to
+/// queue.
+#[derive(Drop)]
+pub struct Items<B: Site, C: Drop> {
+    pub(crate) queue: CallbackQueue<Job<B, C>>,
+    pub(crate) seat: LiveSeat,
+    pub(crate) number: usize,
+}
+
+impl<B: Site, C: Drop> Model for Items<B, C> {
+    ghost use Rattle.std.specs.Prelude.{◌≡◌, ℕ, []};
+    ghost use Rattle.live_rule.specs.declared.view.View.{View};
+    ghost use Rattle.live_items.specs.Items.{IsUnderLock, Jobs};
+
+    // The items, what the queue's seat knows, and which queue it is.
+    ghost Value = { Jobs × View × ℕ };
+
+    ghost view = { λ i. (i.queue, i.seat.me.0, i.number) };
+
+    ghost invariant = { λ i. (i.seat.table_id ≡ B.table) × (i.seat.me.1 ≡ []) × IsUnderLock B.sizes i.queue i.seat.me.0 i.number };
+}
+
+impl<B: Site, C: Drop> Items<B, C> {
+    /// An open queue with no items, by the seat with the right to it.
+    pub fn new(alloc: Global, seat: LiveSeat, number: usize) -> Items<B, C>
+        requires site { (seat.table_id ≡ B.table) × (seat.me.0.sizes ≡ B.sizes) × (seat.me.1 ≡ []) }
+        requires right { (seat.me.0.queue ≡ Owns number 0 0) × (seat.me.0.object ≡ Nothing) × (number < B.sizes.queues) }
+        ensures { result ≡ (empty_queue, seat.me.0, number) }
+    {
+        Items {
+            queue: CallbackQueue::new(alloc),
+            seat,
+            number,
+        }
+    }
+
+    /// Retires a cut object and queues its callback, liburcu's `call_rcu`. The retirement comes after the cut, and after
+    /// all that the witness had seen and heard of; the witness hears of it.
+    ///
+    /// Refused with `Closed` exactly where the queue was closed, else with `Memory`; then nothing was stored, and both
+    /// parts come back. It waits for nobody.
+    pub fn retire<P: GracePlan, K: ChainRule, W: Witness>(
+        &mut self,
+        table: &LiveTable<P, K>,
+        witness: &mut W,
+        unlinked: Unlinked<B>,
+        callback: C,
+    ) -> Result<Ticket, (Refusal, Unlinked<B>, C)>
+        requires site { (table.now.words.shared.table_id ≡ B.table) × (table.now.words.shared.key ≡ B.sizes) × (W.home witness.old ≡ (B.table, B.sizes)) }
+        ensures queue { self.new.2 ≡ self.old.2 }
+        ensures ticket { IfOk result (λ t. (self.old.0.closed ≡ false) × (t.0 ≡ given_of self.old.0 + 1) × (given_of self.new.0 ≡ t.0)) }
+        ensures retired { IfOk result (λ t. Queues P.QSBR K.allows (IsAfterAll unlinked.seat.me.0.seen (W.seen witness.old) (W.heard witness.old)) (object_in unlinked.seat.me.0.object) self.old.2 (given_of self.old.0) (W.heard witness.new)) }
+        ensures refused { IfErr result (λ e. ((e.0 ≡ Closed) × (self.old.0.closed ≡ true)) ⊎ ((e.0 ≡ Memory) × (self.old.0.closed ≡ false))) }
+        ensures back { IfErr result (λ e. (e.1 ≡ unlinked) × (e.2 ≡ callback) × (self.new ≡ self.old) × (witness.new ≡ witness.old)) }
+        ensures same { OnlyHears W.Witness witness.old witness.new }
+    {
+        if self.queue.is_closed() {
+            return Err((Refusal::Closed, unlinked, callback));
+        }
+        let given = self.queue.given();
+        if given >= (1 << 63) {
+            return Err((Refusal::Memory, unlinked, callback));
+        }
+        let Ok(()) = self.queue.reserve() else {
+            return Err((Refusal::Memory, unlinked, callback));
+        };
+        let (mut seat, cell) = unlinked.into_parts();
+        let told = tell_all(table, witness);
+        table.learn(&mut seat, told);
+        let (seat, number) = queue_object(table, &mut self.seat, seat, self.number, given, cell);
+        witness.learn(table, table.tell(&mut self.seat));
+        let item = Item {
+            object: ObjectId(number),
+            job: Job::of(seat, cell, callback),
+        };
+        match self.queue.push(item) {
+            Ok(ticket) => Ok(ticket),
+            Err(_) => unreachable!(),
+        }
+    }
+
+    /// Closes the queue: every later `retire` is refused, and what is queued stays. The witness hears of it. It waits for
+    /// nobody and takes no memory.
+    pub fn close<P: GracePlan, K: ChainRule, W: Witness>(
+        &mut self,
+        table: &LiveTable<P, K>,
+        witness: &mut W,
+    )
+        requires site { (table.now.words.shared.table_id ≡ B.table) × (table.now.words.shared.key ≡ B.sizes) × (W.home witness.old ≡ (B.table, B.sizes)) }
+        ensures queue { (self.new.0 ≡ closed_queue self.old.0) × (self.new.2 ≡ self.old.2) }
+        ensures closed { Closes P.QSBR K.allows (W.seen witness.old) (W.heard witness.old) self.old.2 (W.heard witness.new) }
+        ensures same { OnlyHears W.Witness witness.old witness.new }
+    {
+        let told = tell_all(table, witness);
+        table.learn(&mut self.seat, told);
+        store_closed(table, &mut self.seat, self.number);
+        self.queue.close();
+        witness.learn(table, table.tell(&mut self.seat));
+    }
+}

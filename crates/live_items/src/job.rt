@@ -1,0 +1,46 @@
+//! What is queued with an object.
+
+use live_read::Site;
+use live_words::LiveSeat;
+use std::marker::{Model, PhantomData};
+
+/// The right to run a queued object, and what is called then. Where it is dropped, the object is never run.
+#[derive(Drop)]
+pub struct Job<B: Site, C: Drop> {
+    pub(crate) seat: LiveSeat,
+    pub(crate) cell: usize,
+    pub(crate) callback: C,
+    pub(crate) site: PhantomData<B>,
+}
+
+impl<B: Site, C: Drop> Model for Job<B, C> {
+    ghost use Rattle.std.specs.Prelude.{◌≡◌, ◌<◌, []};
+    ghost use Rattle.live_table.specs.Rights.{IsQueued, cell_in};
+    ghost use Rattle.live_items.specs.Items.{JobValue};
+
+    // What its seat knows, and its record.
+    ghost Value = { JobValue };
+
+    ghost view = { λ j. (j.seat.me.0, j.cell) };
+
+    ghost invariant = { λ j. (j.seat.table_id ≡ B.table) × (j.seat.me.1 ≡ []) × (j.seat.me.0.sizes ≡ B.sizes) × IsQueued j.seat.me.0 × (cell_in j.seat.me.0.object ≡ j.cell) × (j.cell < B.sizes.pool) };
+}
+
+impl<B: Site, C: Drop> Job<B, C> {
+    ghost use Rattle.std.specs.Prelude.{◌≡◌, ◌<◌, []};
+    ghost use Rattle.live_table.specs.Rights.{IsQueued, cell_in};
+
+    /// Of a seat with the right to run its object.
+    pub(crate) fn of(seat: LiveSeat, cell: usize, callback: C) -> Job<B, C>
+        requires site { (seat.table_id ≡ B.table) × (seat.me.0.sizes ≡ B.sizes) × (seat.me.1 ≡ []) }
+        requires right { IsQueued seat.me.0 × (cell_in seat.me.0.object ≡ cell) × (cell < B.sizes.pool) }
+        ensures { result ≡ (seat.me.0, cell) }
+    {
+        Job {
+            seat,
+            cell,
+            callback,
+            site: PhantomData,
+        }
+    }
+}
