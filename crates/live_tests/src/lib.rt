@@ -10,6 +10,8 @@ mod grace_periods;
 #[cfg(test)]
 mod publishing;
 #[cfg(test)]
+mod queues;
+#[cfg(test)]
 mod readers;
 #[cfg(test)]
 mod records;

@@ -1,0 +1,124 @@
+//! Queues: what is retired, what is refused once a queue is closed, who works for a queue, and barriers. The tables have
+//! one slot, one chain, one queue and four records: the queued count is word 104, the closed word 105, and the hold word
+//! of the queue's worker word 121. The first object lies in the last record, whose header is word 178.
+
+ghost use Rattle.std.specs.Prelude.{◌≡◌, []};
+ghost use Rattle.live_rule.specs.Views.{first_view};
+
+use gp_memb::{GracePlan, MembPlan};
+use gp_qsbr::QsbrPlan;
+use live_barrier::{barrier_done, barrier_start};
+use live_items::Items;
+use live_read::{Record, Site, Witness};
+use live_words::{
+    AnyChain, LiveSeat, LiveTable, end_work, free_work, hold_work, load_closed, load_finished,
+    load_queued,
+};
+use live_write::{Chain, Owned, Unlinked, alloc};
+use rcu_model::{ObjectId, Refusal};
+use std::alloc::Global;
+use std::marker::Brand;
+use std::sync::Wait;
+
+/// A new object, pushed on the chain and cut from it.
+fn cut_one<P: GracePlan, B: Site, R: Wait>(
+    rt: &R,
+    table: &LiveTable<P, AnyChain>,
+    record: &mut Record<B>,
+    words: [u64; 4],
+) -> Result<Unlinked<B>, Refusal>
+    requires { (table.now.words.shared.table_id ≡ B.table) × (table.now.words.shared.key ≡ B.sizes) }
+{
+    let mut chain: Chain<P, AnyChain, B> = Chain::hold(table, record, 0)?;
+    let owned: Owned<B> = alloc(rt, table, record, words)?;
+    chain.push(record, owned);
+    chain.cut(record, 0)
+}
+
+/// Whether a barrier that begins now is passed at once.
+fn is_passed<P: GracePlan, B: Site>(table: &LiveTable<P, AnyChain>, record: &mut Record<B>) -> bool
+    requires { (table.now.words.shared.table_id ≡ B.table) × (table.now.words.shared.key ≡ B.sizes) × (table.now.queues ≡ 1) }
+{
+    let mut seat = record.tell(table);
+    let mark = barrier_start(table, &mut seat);
+    barrier_done(table, &mut seat, &mark)
+}
+
+/// The ticket of a retirement; whether a barrier was passed before it and after it; and whether another retirement, once
+/// the queue was closed, was refused with both parts.
+fn retires<P: GracePlan, B: Site, R: Wait>(
+    rt: &R,
+    memory: Global,
+    table: &LiveTable<P, AnyChain>,
+    mut root: LiveSeat,
+) -> Result<(u64, [bool; 2], bool), Refusal>
+    requires site { (table.now.words.shared.table_id ≡ B.table) × (table.now.words.shared.key ≡ B.sizes) × (root.table_id ≡ B.table) × (root.me ≡ (first_view B.sizes, [])) }
+    requires sizes { (table.now.chains ≡ 1) × (table.now.queues ≡ 1) × (table.now.pool ≡ 4) }
+{
+    let queue = table.cut_spare_queue(&mut root);
+    let mut items: Items<B, ObjectId> = Items::new(memory, queue, 0);
+    let mut record: Record<B> = Record::new(root);
+    let first: Unlinked<B> = cut_one(rt, table, &mut record, [5, 0, 0, 0])?;
+    let before = is_passed(table, &mut record);
+    let Ok(ticket) = items.retire(table, &mut record, first, ObjectId(7)) else {
+        return Err(Refusal::Memory);
+    };
+    let after = is_passed(table, &mut record);
+    let second: Unlinked<B> = cut_one(rt, table, &mut record, [6, 0, 0, 0])?;
+    items.close(table, &mut record);
+    let Err((why, _second, callback)) = items.retire(table, &mut record, second, ObjectId(9)) else {
+        return Err(Refusal::Memory);
+    };
+    let back = matches!(why, Refusal::Closed) && callback.0 == 9;
+    Ok((ticket.0, [before, after], back))
+}
+
+#[test]
+fn a_closed_queue_takes_nothing(rt: HostRuntime) {
+    let (table, root) = LiveTable::<MembPlan, AnyChain>::new(rt.alloc(), 1, 1, 1, 4).expect(
+        &rt, "memory",
+    );
+    let (ticket, passed, back) = retires::<_, Brand, _>(&rt, rt.alloc(), &table, root).expect(
+        &rt, "memory",
+    );
+    assert_eq!(rt; ticket, 1);
+    assert_eq!(rt; passed, [true, false]);
+    assert!(rt; back);
+    assert_eq!(rt; table.words.shared.peek(104), 1);
+    assert_eq!(rt; table.words.shared.peek(105), 1);
+    assert_eq!(rt; table.words.shared.peek(178), 3);
+}
+
+#[test]
+fn retirements_of_the_quiescent_state_flavour(rt: HostRuntime) {
+    let (table, root) = LiveTable::<QsbrPlan, AnyChain>::new(rt.alloc(), 1, 1, 1, 4).expect(
+        &rt, "memory",
+    );
+    let (ticket, passed, back) = retires::<_, Brand, _>(&rt, rt.alloc(), &table, root).expect(
+        &rt, "memory",
+    );
+    assert_eq!(rt; ticket, 1);
+    assert_eq!(rt; passed, [true, false]);
+    assert!(rt; back);
+}
+
+#[test]
+fn one_works_for_a_queue(rt: HostRuntime) {
+    let (table, mut root) = LiveTable::<MembPlan, AnyChain>::new(rt.alloc(), 1, 1, 1, 4).expect(
+        &rt, "memory",
+    );
+    let mut other = table.tell(&mut root);
+    assert_eq!(rt; load_queued(&table, &mut other, 0), 0);
+    assert_eq!(rt; load_finished(&table, &mut other, 0), 0);
+    assert_eq!(rt; load_closed(&table, &mut other, 0), 0);
+    assert_eq!(rt; hold_work(&table, &mut other, 0), 0);
+    let mut worker = table.cut_work(&mut other);
+    assert_eq!(rt; hold_work(&table, &mut other, 0), 1);
+    assert_eq!(rt; table.words.shared.peek(121), 1);
+    free_work(&table, &mut worker, 0);
+    assert_eq!(rt; table.words.shared.peek(121), 0);
+    assert_eq!(rt; hold_work(&table, &mut worker, 0), 0);
+    end_work(&table, &mut worker, 0);
+    assert_eq!(rt; hold_work(&table, &mut other, 0), 2);
+    assert_eq!(rt; table.words.shared.peek(121), 2);
+}
