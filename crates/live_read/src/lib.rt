@@ -2,6 +2,7 @@
 //! Readers of the library over live threads, and their sections.
 
 mod held;
+mod laws;
 mod parked;
 mod reader;
 mod reading;
@@ -11,6 +12,7 @@ mod site;
 mod witness;
 
 pub use held::Held;
+pub use laws::readings_fit;
 pub use reader::Reader;
 pub use registrar::Registrar;
 pub use section::Section;

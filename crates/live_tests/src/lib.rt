@@ -12,6 +12,8 @@ mod publishing;
 #[cfg(test)]
 mod readers;
 #[cfg(test)]
+mod readings;
+#[cfg(test)]
 mod records;
 #[cfg(test)]
 mod registering;
