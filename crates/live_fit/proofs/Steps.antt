@@ -200,7 +200,7 @@ bare (Stored e ∷ xs) = subst (λ (z : State). Beside (after_all (state xs) (sh
     log_step (CloseQueue q) es = refl
 bare (Read s l ∷ xs) = subst (λ (z : State). Beside z (state_of (log_in xs))) (sym (read_is (state xs) s l)) (got_beside (state xs) (state_of (log_in xs)) s (found_by l) (bare xs))
 
-log_more : (since : Log) (m : Readings) → log_in (later since m) ≡ since ++ log_in m
+pub log_more : (since : Log) (m : Readings) → log_in (later since m) ≡ since ++ log_in m
 log_more [] m = refl
 log_more (e ∷ es) m = ap (λ (l : Log). e ∷ l) (log_more es m)
 

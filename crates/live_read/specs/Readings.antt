@@ -18,6 +18,12 @@ module _ {P K B : Type 0} {g : Ghosts B} where
     pub inside : IsIn r
     pub fit : FitIn m (log_of r)
 
+  -- it has seen more, and read nothing after them: the section holds what it held
+  pub record HasReadNoMore (s : SectionId) (m : Readings) (r : Reader P K B g) : Type 0 where
+    pub since : Log
+    pub read : HasRead s (later since m) r
+    pub keeps : (o : ObjectId) → HoldsIn m s o → HoldsIn (later since m) s o
+
   -- it has read this after them: the section holds what it held, and what it found
   pub record HasReadMore (s : SectionId) (m : Readings) (x : Reading) (r : Reader P K B g) : Type 0 where
     pub since : Log
