@@ -147,7 +147,8 @@ impl<P: GracePlan, K: ChainRule, B: Site> Reader<P, K, B> {
     }
 
     /// A read-side section, which is an inner one where the reader is in one, as by liburcu's `rcu_read_lock`. In the
-    /// quiescent-state flavour it is a count, and no step of the table.
+    /// quiescent-state flavour it is a count, and no step of the table. What the outer one may hold it may hold in the
+    /// inner one, and after its end.
     ///
     /// Refused with `NestFull` exactly at the greatest depth, 2,147,483,647, and with `NotOpen` where the reader is of
     /// the quiescent-state flavour and offline; then the reader is as it was. It never waits.
