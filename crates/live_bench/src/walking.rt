@@ -1,7 +1,7 @@
 //! What sections read of a chain, and what its writer repeats.
 
 ghost use Rattle.std.specs.Prelude.{◌≡◌, ◌<◌};
-ghost use Rattle.live_read.specs.Reads.{HasHeld};
+ghost use Rattle.live_read.specs.Holding.{MayHoldIn};
 
 use crate::reading::begin;
 use domain::{Domain, Held, Reader, Record, Section, Site};
@@ -67,7 +67,7 @@ fn read_again<P: GracePlan, B: Site>(
     count: u64,
 ) -> u64
     requires open_section { (P.QSBR ≡ B.qsbr) × (0 < section.old.reader.now.depth) }
-    requires held { HasHeld section.old.reader.now held.cell }
+    requires held { MayHoldIn section.old.reader.now held.cell }
 {
     let mut sum = 0;
     for _ in 0..count {

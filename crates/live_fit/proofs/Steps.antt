@@ -6,18 +6,18 @@ use Rattle.rcu_model.specs.declared.event.Event as machine
 use Rattle.rcu_model.specs.declared.event.Event.TheVariants as seen
 use Rattle.rcu_model.specs.Machine as model
 use Rattle.rcu_model.specs.Machine.{State, start, after, after_all, IsAllowed, AreAllowed, got, IsSuccessor}
-use Rattle.rcu_model.specs.Sets.{In, HasObject, same_section, at_section, first_of, next_of}
+use Rattle.rcu_model.specs.Sets.{In, HasObject, same_section, at_section, first_of}
 use Rattle.rcu_model.proofs.Lemmas.{in_sections, has_section_in, in_objects, has_object_in, section_tells, at_section_same, at_section_other, without_section_has}
 use Rattle.live_log.specs.declared.event.LiveEvent.{LiveEvent}
 use Rattle.live_log.specs.declared.event.LiveEvent.TheVariants.{Open, Close, SeqOdd, SeqEven, Present, ChainNote, CloseQueue, Object}
 use Rattle.live_log.specs.declared.event.ObjectEvent.{ObjectEvent}
 use Rattle.live_log.specs.declared.event.ObjectEvent.TheVariants.{Push, Replace, Cut, Retire, Queue, Run}
 use Rattle.live_log.specs.Log.{Log, section, event_of, state_of, IsLiveRun, Follows, objects_of}
-use Rattle.live_log.proofs.Lemmas.{fresh_section, open_inside, inside_between, inside_seen, same_sections, kept_log}
+use Rattle.live_log.proofs.Lemmas.{fresh_section, open_inside, inside_between, inside_seen, same_sections, kept_log, follows_is, run_of}
 use Rattle.live_fit.specs.declared.Reading.{Reading}
 use Rattle.live_fit.specs.declared.Reading.TheVariants.{First, Next, Touch}
 use Rattle.live_fit.specs.declared.Mark.TheVariants.{Stored, Read}
-use Rattle.live_fit.specs.Fit.{Readings, shown, read_event, marked, events_in, log_in, kept_readings, read_by, later, AreFitted, found_by, HoldsIn}
+use Rattle.live_fit.specs.Fit.{Readings, shown, read_event, marked, events_in, log_in, kept_readings, read_by, later, AreFitted, FitIn, found_by, HoldsIn, IsSoIn, ReadsOn, StartsHeld, StaysOpen}
 
 -- the section is open after the log
 abbrev Inside : SectionId → Log → Type 0
@@ -200,7 +200,7 @@ bare (Stored e ∷ xs) = subst (λ (z : State). Beside (after_all (state xs) (sh
     log_step (CloseQueue q) es = refl
 bare (Read s l ∷ xs) = subst (λ (z : State). Beside z (state_of (log_in xs))) (sym (read_is (state xs) s l)) (got_beside (state xs) (state_of (log_in xs)) s (found_by l) (bare xs))
 
-log_more : (since : Log) (m : Readings) → log_in (later since m) ≡ since ++ log_in m
+pub log_more : (since : Log) (m : Readings) → log_in (later since m) ≡ since ++ log_in m
 log_more [] m = refl
 log_more (e ∷ es) m = ap (λ (l : Log). e ∷ l) (log_more es m)
 
@@ -217,10 +217,6 @@ seen_grows (CloseQueue _ ∷ es) old s h = seen_grows es old s h
 seen_grows (Object d ∷ es) old s h = subst (λ l. In l s) (sym (same_sections (state_of (es ++ old)) d).1) (seen_grows es old s h)
 
 module _ (qsbr : Bool) (allows : Log → LiveEvent → Type 0) where
-  run_part : (since old : Log) → IsLiveRun qsbr allows (since ++ old) → IsLiveRun qsbr allows old
-  run_part [] old run = run
-  run_part (e ∷ es) old run = run_part es old run.1
-
   shown_allowed : (e : LiveEvent) (es : Log) → IsLiveRun qsbr allows (e ∷ es) → AreAllowed (state_of es) (shown e)
   shown_allowed (Open r n m) es run = ((λ h. fresh_section qsbr allows es r n m run (in_sections (state_of es).seen (section r n) h)), tt)
   shown_allowed (Close r n) es run = (has_section_in (state_of es).sections (section r n) (open_inside es r n run.0.0 run.0.1), tt)
@@ -258,7 +254,7 @@ module _ (qsbr : Bool) (allows : Log → LiveEvent → Type 0) where
       one e (later es m) inside (holds_on es m s o run.1 was before has)
     where
       seen_there : (since : Log) → IsLiveRun qsbr allows (log_in (later since m)) → In (state_of (log_in (later since m))).seen s
-      seen_there since run = subst (λ (l : Log). In (state_of l).seen s) (sym (log_more since m)) (seen_grows since (log_in m) s (inside_seen qsbr allows (log_in m) s (run_part since (log_in m) (subst (IsLiveRun qsbr allows) (log_more since m) run)) was))
+      seen_there since run = subst (λ (l : Log). In (state_of l).seen s) (sym (log_more since m)) (seen_grows since (log_in m) s (inside_seen qsbr allows (log_in m) s (run_of qsbr allows (log_in m) (log_in (later since m)) (since, log_more since m) run) was))
 
       one : (e : LiveEvent) (m : Readings) → Inside s (log_in (Stored e ∷ m)) → HasObject ((state m).held s) o → HasObject ((state (Stored e ∷ m)).held s) o
       one (Open r n x) m i has = has
@@ -281,13 +277,43 @@ held_there m s o h = subst (λ (z : State). HasObject (z.held s) o) (sym (state_
 pub there_held : (m : Readings) (s : SectionId) (o : ObjectId) → HoldsIn m s o → HasObject ((state m).held s) o
 there_held m s o h = subst (λ (z : State). HasObject (z.held s) o) (state_is m) h
 
--- what follows an object is its successor
-pub successor : (qsbr : Bool) (allows : Log → LiveEvent → Type 0) (log : Log) (o : ObjectId) (found : Option ObjectId) → IsLiveRun qsbr allows log → Follows (objects_of log) o found → IsSuccessor (state_of log) o found
-successor qsbr allows log o found run (inl x) = let k = (kept_log qsbr allows log run).linking in record {
-  while_linked = λ c h. subst (λ (d : ℕ). next_of ((state_of log).chain d) o ≡ found) (k.one_chain x.0 c o x.1 (in_objects ((state_of log).chain c) o h)) x.2;
-  once_cut = λ h. absurd (k.linked_not_cut x.0 o x.1 (in_objects (state_of log).cut o h));
-}
-successor qsbr allows log o found run (inr x) = let k = (kept_log qsbr allows log run).linking in record {
-  while_linked = λ c h. absurd (k.linked_not_cut c o (in_objects ((state_of log).chain c) o h) x.0);
-  once_cut = λ h. x.1;
-}
+-- a section that reads goes on holding what it held
+held_on : (m : Readings) (s : SectionId) (x : Reading) (o : ObjectId) → HasObject ((state m).held s) o → HasObject ((state (Read s x ∷ m)).held s) o
+held_on m s x o h = subst (λ (z : State). HasObject (z.held s) o) (sym (read_is (state m) s x)) (got_more (state m) (found_by x) h)
+  where
+    got_more : (a : State) (found : Option ObjectId) → HasObject (a.held s) o → HasObject ((got a s found).held s) o
+    got_more a None has = has
+    got_more a (Some p) has = subst (λ (os : List ObjectId). HasObject os o) (sym (at_section_same s (p ∷ a.held s) a.held)) (has_object_in (p ∷ a.held s) o (inr (in_objects (a.held s) o has)))
+
+-- in a later log in which its section is open still
+module _ (qsbr : Bool) (allows : Log → LiveEvent → Type 0) (old new : Log) (m : Readings) (s : SectionId) (stays : StaysOpen qsbr allows s old new) (fit : FitIn m old) where
+  abbrev since : Log
+  since = stays.later.0
+
+  reaches : log_in (later since m) ≡ new
+  reaches = log_more since m ∙ (ap (λ (l : Log). since ++ l) fit.0 ∙ sym stays.later.1)
+
+  at_end : IsLiveRun qsbr allows (log_in (later since m))
+  at_end = subst (IsLiveRun qsbr allows) (sym reaches) stays.run
+
+  was : Inside s (log_in m)
+  was = subst (Inside s) (sym fit.0) (in_sections (state_of old).sections s stays.was_open)
+
+  is : Inside s (log_in (later since m))
+  is = subst (Inside s) (sym reaches) (in_sections (state_of new).sections s stays.is_open)
+
+  still_held : (o : ObjectId) → HoldsIn m s o → HasObject ((state (later since m)).held s) o
+  still_held o has = holds_on qsbr allows since m s o at_end was is (there_held m s o has)
+
+  one_more : (x : Reading) → StartsHeld m s x → IsSoIn new x → Runs (Read s x ∷ later since m)
+  one_more (First c found) held so = first_fits qsbr allows since m s c found at_end (runs m fit.1) is (subst (λ (l : Log). first_of ((state_of l).chain c) ≡ found) (sym reaches) so)
+  one_more (Next o found) held so = next_fits qsbr allows since m s o found at_end (runs m fit.1) is (still_held o held) (follows_is (log_in (later since m)) o found (kept_log qsbr allows (log_in (later since m)) at_end) (subst (λ (l : Log). Follows (objects_of l) o found) (sym reaches) so))
+  one_more (Touch o) held so = touch_fits qsbr allows since m s o at_end (runs m fit.1) is (still_held o held)
+
+  pub reads_on : (x : Reading) → StartsHeld m s x → IsSoIn new x → ReadsOn m s x new
+  reads_on x held so = record {
+    since = since;
+    fit = (reaches, fitted (Read s x ∷ later since m) (one_more x held so));
+    keeps = λ o has. held_there (Read s x ∷ later since m) s o (held_on (later since m) s x o (still_held o has));
+    finds = λ o e. held_there (Read s x ∷ later since m) s o (finds (later since m) s x o e);
+  }

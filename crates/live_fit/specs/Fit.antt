@@ -1,14 +1,14 @@
 -- What sections read, put among the events of the log, the newest first: the log that stores write has no readings.
-use Rattle.std.specs.Prelude.{Bool, cond, List, [], ◌∷◌, ◌++◌, Option, None}
+use Rattle.std.specs.Prelude.{◌≡◌, Bool, cond, List, [], ◌∷◌, ◌++◌, Option, Some, None}
 use Rattle.rcu_model.specs.declared.event.SectionId.{SectionId}
 use Rattle.rcu_model.specs.declared.event.ObjectId.{ObjectId}
 use Rattle.rcu_model.specs.declared.event.Event as machine
 use Rattle.rcu_model.specs.declared.event.Event.TheVariants as seen
 use Rattle.rcu_model.specs.Machine as model
-use Rattle.rcu_model.specs.Sets.{same_section}
+use Rattle.rcu_model.specs.Sets.{same_section, first_of}
 use Rattle.live_log.specs.declared.event.LiveEvent.{LiveEvent}
 use Rattle.live_log.specs.declared.event.LiveEvent.TheVariants.{Open, Close, Object}
-use Rattle.live_log.specs.Log.{Log, section, event_of}
+use Rattle.live_log.specs.Log.{Log, Begins, Follows, IsLiveRun, section, event_of, objects_of, state_of}
 use Rattle.live_fit.specs.declared.Reading.{Reading}
 use Rattle.live_fit.specs.declared.Reading.TheVariants.{First, Next, Touch}
 use Rattle.live_fit.specs.declared.Mark.{Mark}
@@ -74,3 +74,34 @@ abbrev pub found_by : Reading → Option ObjectId
 found_by (First c found) = found
 found_by (Next o found) = found
 found_by (Touch o) = None
+
+-- put into this log they are fitted
+abbrev pub FitIn : Readings → Log → Type 0
+FitIn m log = (log_in m ≡ log) × AreFitted m
+
+-- what a reading starts from is held
+abbrev pub StartsHeld : Readings → SectionId → Reading → Type 0
+StartsHeld m s (First c found) = Unit {0}
+StartsHeld m s (Next o found) = HoldsIn m s o
+StartsHeld m s (Touch o) = HoldsIn m s o
+
+-- what it found is so in the log
+abbrev pub IsSoIn : Log → Reading → Type 0
+IsSoIn log (First c found) = first_of ((objects_of log).chain c) ≡ found
+IsSoIn log (Next o found) = Follows (objects_of log) o found
+IsSoIn log (Touch o) = Unit {0}
+
+-- the section is open in the one log, and still in the later one
+pub record StaysOpen (qsbr : Bool) (allows : Log → LiveEvent → Type 0) (s : SectionId) (old new : Log) : Type 0 where
+  pub was_open : model.IsOpen (state_of old) s
+  pub is_open : model.IsOpen (state_of new) s
+  pub later : Begins old new
+  pub run : IsLiveRun qsbr allows new
+
+-- one more reading of the section is put into the later log and is fitted to it; the section holds what it held, and
+-- what it found
+pub record ReadsOn (m : Readings) (s : SectionId) (x : Reading) (new : Log) : Type 0 where
+  pub since : Log
+  pub fit : FitIn (Read s x ∷ later since m) new
+  pub keeps : (o : ObjectId) → HoldsIn m s o → HoldsIn (Read s x ∷ later since m) s o
+  pub finds : (o : ObjectId) → found_by x ≡ Some o → HoldsIn (Read s x ∷ later since m) s o

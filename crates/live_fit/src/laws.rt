@@ -9,7 +9,7 @@ ghost use Rattle.live_log.specs.Log.{Follows, IsLiveRun, Log, objects_of, state_
 ghost use Rattle.live_fit.specs.declared.Reading.{Reading};
 ghost use Rattle.live_fit.specs.declared.Reading.TheVariants.{First, Next, Touch};
 ghost use Rattle.live_fit.specs.declared.Mark.TheVariants.{Read};
-ghost use Rattle.live_fit.specs.Fit.{HoldsIn, AreFitted, Readings, found_by, later, log_in, read_by};
+ghost use Rattle.live_fit.specs.Fit.{AreFitted, FitIn, HoldsIn, IsSoIn, Readings, ReadsOn, StartsHeld, StaysOpen, found_by, later, log_in, read_by};
 
 use live_log::ChainRule;
 
@@ -42,4 +42,10 @@ pub fn touch_fits<K: ChainRule>()
 /// A section holds what it found.
 pub fn found_is_held()
     ensures { (m : Readings) (s : SectionId) (r : Reading) (o : ObjectId) → found_by r ≡ Some o → HoldsIn (Read s r ∷ m) s o }
+{}
+
+/// A section reads on: what it finds in a later log in which it is open still fits that log beside what it had read,
+/// and it holds what it held and what it found.
+pub fn section_reads_on<K: ChainRule>()
+    ensures { (qsbr : Bool) (old new : Log) (m : Readings) (s : SectionId) (x : Reading) → StaysOpen qsbr K.allows s old new → FitIn m old → StartsHeld m s x → IsSoIn new x → ReadsOn m s x new }
 {}

@@ -4,7 +4,8 @@
 mod laws;
 
 pub use laws::{
-    first_fits, fitted_goes_on, found_is_held, next_fits, readings_go_together, touch_fits,
+    first_fits, fitted_goes_on, found_is_held, next_fits, readings_go_together, section_reads_on,
+    touch_fits,
 };
 use live_log::LiveEvent;
 use rcu_model::{ObjectId, SectionId};

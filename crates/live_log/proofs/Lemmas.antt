@@ -3,9 +3,9 @@ pub use Rattle.live_log.proofs.Machine.{begins_trans, by_object, not_has, more_e
 pub use Rattle.live_log.proofs.Runs.{by_slot, still, last_opened}
 pub use Rattle.live_log.proofs.Numbers.{copy_later, rises, present_begins, copied_bounded, bounded, IsSeq, seq_bounded, seq_low, seq_begins}
 pub use Rattle.live_log.proofs.Periods.{begins_before_odd, has_later, ended_before, Period, periods, is_past}
-pub use Rattle.live_log.proofs.Linked.{linked_now, first_linked, was_later, forward, protected, next_linked, was_used, linked_here}
+pub use Rattle.live_log.proofs.Linked.{linked_now, first_linked, was_later, forward, protected, next_linked, was_used, linked_here, follows_is}
 pub use Rattle.live_log.proofs.Places.{chain_used, next_there, next_used, first_used, some_next}
-pub use Rattle.live_log.proofs.Notes.{note_stays}
+pub use Rattle.live_log.proofs.Notes.{note_stays, pushed_note, replaced_note}
 pub use Rattle.live_log.proofs.Ripe.{ripe, ready_stays}
 pub use Rattle.live_log.proofs.Lines.{line_grows, below, line_has, barrier_of, barrier_clears}
 pub use Rattle.live_log.proofs.Closed.{closed_stays, closed_low}

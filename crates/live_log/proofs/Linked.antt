@@ -13,7 +13,7 @@ use Rattle.live_log.proofs.Machine as logs
 use Rattle.live_log.proofs.Machine.{events_since, is_machine_run}
 
 -- what follows an object is its successor
-follows_is : (log : Log) (o : ObjectId) (found : Option ObjectId) → Kept (state_of log) → Follows (objects_of log) o found → IsSuccessor (state_of log) o found
+pub follows_is : (log : Log) (o : ObjectId) (found : Option ObjectId) → Kept (state_of log) → Follows (objects_of log) o found → IsSuccessor (state_of log) o found
 follows_is log o found k (inl l) = record {
   while_linked = λ c at. subst (λ (n : ℕ). next_of ((state_of log).chain n) o ≡ found) (k.linking.one_chain l.0 c o l.1 (in_objects ((state_of log).chain c) o at)) l.2;
   once_cut = λ cut. absurd (k.linking.linked_not_cut l.0 o l.1 (in_objects (state_of log).cut o cut));

@@ -1,13 +1,19 @@
 -- The record and the payload of an object that was put into a chain stay.
-use Rattle.std.proofs.Common.{Bool, ◌≡◌, [], ◌∷◌, ◌++◌, refl, ap, ◌∙◌, subst}
+use Rattle.std.proofs.Common.{Bool, ◌≡◌, ℕ, List, [], ◌∷◌, ◌++◌, refl, ap, ◌∙◌, subst, inl, inr}
 use Rattle.rcu_model.specs.declared.event.ObjectId.{ObjectId}
 use Rattle.rcu_model.specs.Sets.{In}
-use Rattle.rcu_model.proofs.Lemmas.{at_object_other}
+use Rattle.rcu_model.proofs.Lemmas.{at_object_other, at_object_same}
 use Rattle.live_log.specs.declared.event.ObjectEvent.TheVariants.{Push, Replace, Cut, Retire, Queue, Run}
 use Rattle.live_log.specs.declared.event.LiveEvent.{LiveEvent}
 use Rattle.live_log.specs.declared.event.LiveEvent.TheVariants.{Open, Close, SeqOdd, SeqEven, Present, ChainNote, CloseQueue, Object}
-use Rattle.live_log.specs.Log.{Log, Begins, state_of, note_of, IsLiveRun}
+use Rattle.live_log.specs.Log.{Log, Begins, Has, state_of, note_of, IsLiveRun}
 use Rattle.live_log.proofs.Machine.{not_has, grows_log}
+
+-- an event of the log was written at some log
+written_at : (e : LiveEvent) (log : Log) → Has e log → (before : Log) × Begins (e ∷ before) log
+written_at e [] h = absurd h
+written_at e (x ∷ xs) (inl same) = (xs, ([], ap (λ (z : LiveEvent). z ∷ xs) same))
+written_at e (x ∷ xs) (inr h) = let w = written_at e xs h in (w.0, (x ∷ w.1.0, ap (λ (l : Log). x ∷ l) w.1.1))
 
 module _ (qsbr : Bool) (allows : Log → LiveEvent → Type 0) where
   -- the note of an object that was put into a chain stays
@@ -32,3 +38,15 @@ module _ (qsbr : Bool) (allows : Log → LiveEvent → Type 0) where
 
   pub note_stays : (old log : Log) (o : ObjectId) → Begins old log → IsLiveRun qsbr allows log → In (state_of old).used o → note_of log o ≡ note_of old o
   note_stays old log o b run h = ap (λ (l : Log). note_of l o) b.1 ∙ note_all b.0 old o (subst (IsLiveRun qsbr allows) b.1 run) h
+
+  pub pushed_note : (log : Log) (c : ℕ) (o : ObjectId) (cell : ℕ) (payload : List ℕ) → IsLiveRun qsbr allows log → Has (Object (Push c o cell payload)) log → note_of log o ≡ (cell, payload)
+  pushed_note log c o cell payload run h =
+      let e : LiveEvent = Object (Push c o cell payload) in
+      let w = written_at e log h in
+      note_stays (e ∷ w.0) log o w.1 run (inl refl) ∙ at_object_same o (cell, payload) (note_of w.0)
+
+  pub replaced_note : (log : Log) (c : ℕ) (p o : ObjectId) (cell : ℕ) (payload : List ℕ) → IsLiveRun qsbr allows log → Has (Object (Replace c p o cell payload)) log → note_of log o ≡ (cell, payload)
+  replaced_note log c p o cell payload run h =
+      let e : LiveEvent = Object (Replace c p o cell payload) in
+      let w = written_at e log h in
+      note_stays (e ∷ w.0) log o w.1 run (inl refl) ∙ at_object_same o (cell, payload) (note_of w.0)

@@ -1,20 +1,25 @@
 -- What the steps on a reader's word tell of its section.
 use Rattle.std.proofs.Common.{◌≡◌, ◌≢◌, ℕ, zero, suc, ◌+◌, ◌-◌, Bool, true, false, [], Ok, sym, refl, ap, ◌∙◌, subst, arith, true≢false}
 use mathlib.Core.Option.{Option, none, some}
+use native.Mathlib.Numerals.{unary_clauses}
 use Rattle.atomic_table.specs.Table.{Me}
 use Rattle.reader_word.specs.declared.layout.Layout.TheVariants.{Wide}
 use Rattle.reader_word.specs.Word.{count_of, entered_of, left_of}
 use Rattle.reader_word.proofs.Lemmas.{entered_of-nests, entered_of-opens, left_of-nests}
 use Rattle.live_log.specs.declared.event.LiveEvent.{LiveEvent}
-use Rattle.live_log.specs.Log.{Log, IsOpenSection, open_of, sections_of}
-use Rattle.live_log.proofs.Lemmas.{is_open}
+use Rattle.rcu_model.proofs.Lemmas.{has_section_in}
+use Rattle.live_log.specs.Log.{Log, IsOpenSection, open_of, sections_of, state_of}
+use Rattle.live_log.proofs.Lemmas.{is_open, open_inside}
 use Rattle.live_rule.specs.declared.view.View.{View}
 use Rattle.live_rule.specs.Readers.{Fits, IsClosed}
 use Rattle.live_table.specs.Rights.{count_in}
 use Rattle.live_readers.specs.Sections.{Announced, Closed, CopiedBefore, Nested, Opened, Stored, announces, opens}
 use Rattle.live_read.specs.declared.reader.Reader.{Reader}
 use Rattle.live_read.specs.declared.site.Site.{Ghosts}
-use Rattle.live_read.specs.Sections.{log_of, ordinal, IsIn, Enters, Leaves, GoesOnline, Announces}
+use Rattle.live_read.specs.Holding.{KeepsHeld, log_of, ordinal, section_of}
+use Rattle.live_read.specs.Sections.{IsIn, Enters, Leaves, GoesOnline, Announces}
+use Rattle.live_read.proofs.Leaving.{wrote_later}
+use Rattle.live_read.proofs.Staying.{held_later}
 
 -- a word that is not closed fits an open section
 fits_some : (b : Bool) (w : ℕ) (o : Option (ℕ × ℕ)) → Fits b w o → (IsClosed b w → ⊥) → (x : ℕ × ℕ) × (o ≡ some x)
@@ -41,7 +46,19 @@ module _ {P K B : Type 0} {g : Ghosts B} (qsbr : Bool) (allows : Log → LiveEve
       let o = fits_some qsbr x (open_of s.slot (log_of s)) at stands in
       let inside : IsOpenSection s.slot o.0.0 (log_of s) = is_open qsbr allows (log_of s) s.slot o.0.0 o.0.1 st.1.4 o.1 in
       let counted : o.0.0 ≡ ordinal s = sym inside.2 ∙ (ap (λ (z : ℕ). sections_of z (log_of s)) slot ∙ (st.2.1 ∙ sym (ap (λ (me : Me Unit View). count_in me.0.slot) st.0))) in
-      record { note = o.0.1; stands = o.1 ∙ ap (λ (n : ℕ). some (n, o.0.1)) counted; inside = subst (λ (n : ℕ). IsOpenSection s.slot n (log_of s)) counted inside }
+      let at_last : open_of s.slot (log_of s) ≡ some (ordinal s, o.0.1) = o.1 ∙ ap (λ (n : ℕ). some (n, o.0.1)) counted in
+      record {
+        note = o.0.1;
+        stands = at_last;
+        inside = subst (λ (n : ℕ). IsOpenSection s.slot n (log_of s)) counted inside;
+        is_open = has_section_in (state_of (log_of s)).sections (section_of s) (open_inside (log_of s) s.slot (ordinal s) o.0.1 at_last);
+      }
+
+  -- an inner lock leaves what is held
+  nested_keeps : (r s : Reader P K B g) → s.slot ≡ r.slot → Nested qsbr allows r.slot s.word r.seat.me s.seat.me → KeepsHeld r s
+  nested_keeps r s slot st =
+      let count : ordinal s ≡ ordinal r = simp unary_clauses at (ap (λ (me : Me Unit View). count_in me.0.slot) st.0) in
+      held_later qsbr allows r s slot count (wrote_later qsbr allows r.seat.me.0 [] (log_of s) st.1) st.1.4
 
   pub enters : (r s : Reader P K B g) → qsbr ≡ false → s.slot ≡ r.slot → s.depth ≡ r.depth + 1 → count_of Wide r.word ≡ r.depth → (phase : Bool) → entered_of Wide r.word phase ≡ Ok s.word
       → (count_of Wide r.word ≡ 0 → Opened qsbr allows r.slot s.word r.seat.me s.seat.me)
@@ -52,6 +69,7 @@ module _ {P K B : Type 0} {g : Ghosts B} (qsbr : Bool) (allows : Log → LiveEve
     depth = depth;
     outermost = λ e. (outermost (counted ∙ e), copied (counted ∙ e));
     inner = λ n. inner (λ e. n (sym counted ∙ e));
+    keeps = λ l. nested_keeps r s slot (inner (λ z. absurd (omega arith)));
     inside = by_depth r.depth refl;
   }
     where
@@ -71,6 +89,7 @@ module _ {P K B : Type 0} {g : Ghosts B} (qsbr : Bool) (allows : Log → LiveEve
         slot = slot;
         depth = depth;
         outermost = λ e. outermost (omega arith);
+        keeps = λ l. nested_keeps r s slot (inner (λ z. absurd (omega arith)));
         inner = λ l. let n : count_of Wide s.word ≢ 0 = λ z. absurd (omega arith) in (inner n, stored_in s r.slot s.word (ordinal r + 0) [] r.seat.me slot (inner n) (locked qsbr flavour s.word n));
       }
 

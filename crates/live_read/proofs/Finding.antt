@@ -1,5 +1,5 @@
 -- What a load tells a reader in a section.
-use Rattle.std.proofs.Common.{◌≡◌, ℕ, ◌-◌, ◌<◌, Bool, true, false, List, Option, Some, None, sym, refl, ap, ◌∙◌, subst, inl, arith}
+use Rattle.std.proofs.Common.{◌≡◌, ℕ, ◌-◌, ◌<◌, Bool, true, false, Option, Some, None, sym, refl, ap, ◌∙◌, subst, inl, arith}
 use mathlib.Core.Option.{some}
 use Rattle.rcu_model.specs.declared.event.ObjectId.{ObjectId}
 use Rattle.rcu_model.specs.declared.event.SectionId.{SectionId}
@@ -10,7 +10,7 @@ use Rattle.reader_word.specs.declared.layout.Layout.TheVariants.{Wide}
 use Rattle.reader_word.specs.Word.{count_of}
 use Rattle.live_log.specs.declared.event.LiveEvent.{LiveEvent}
 use Rattle.live_log.specs.Log.{Log, Begins, WasLinked, Objects, Follows, open_of, section, state_of, note_of, objects_of}
-use Rattle.live_log.proofs.Lemmas.{begins_trans, first_linked, inside_open, is_open, note_stays, run_of, was_later, was_used}
+use Rattle.live_log.proofs.Lemmas.{begins_trans, first_linked, inside_open, is_open}
 use Rattle.live_rule.specs.declared.view.View.{View}
 use Rattle.live_rule.specs.Objects.{ref}
 use Rattle.live_rule.specs.Readers.{IsClosed}
@@ -19,8 +19,9 @@ use Rattle.live_table.specs.Steps.{IsNow, IsLater}
 use Rattle.live_words.specs.Chains.{IsInSection, IsNext, MayRead}
 use Rattle.live_read.specs.declared.reader.Reader.{Reader}
 use Rattle.live_read.specs.declared.site.Site.{Ghosts}
-use Rattle.live_read.specs.Sections.{log_of, ordinal}
-use Rattle.live_read.specs.Reads.{FindsFirst, FindsNext, HasHeld, Holds, Looks, section_of}
+use Rattle.live_read.specs.Holding.{MayHold, MayHoldIn, log_of, ordinal, section_of}
+use Rattle.live_read.specs.Reads.{FindsFirst, FindsNext, Looks}
+use Rattle.live_read.proofs.Staying.{held_in, held_later}
 
 ref_none : (w : Objects) (found : Option ObjectId) (n : ℕ) → n ≡ ref w found → n ≡ 0 → found ≡ None
 ref_none w None n e z = refl
@@ -40,7 +41,7 @@ module _ {P K B : Type 0} {g : Ghosts B} (qsbr : Bool) (allows : Log → LiveEve
   pub stands : (r : Reader P K B g) → qsbr ≡ g.qsbr → 0 < r.depth → IsInSection qsbr r.seat.me.0 r.slot (ordinal r)
   stands r e above = (r.owns.0, subst (λ (w : ℕ). IsClosed qsbr w → ⊥) (sym r.owns.1) (stands_open qsbr g.qsbr r.word r.depth e r.counted.0 r.counted.1 above), refl)
 
-  pub may_read : (r : Reader P K B g) (o : ObjectId) (cell : ℕ) → qsbr ≡ g.qsbr → 0 < r.depth → Holds r o cell → MayRead qsbr r.seat.me.0 o cell
+  pub may_read : (r : Reader P K B g) (o : ObjectId) (cell : ℕ) → qsbr ≡ g.qsbr → 0 < r.depth → MayHold r o cell → MayRead qsbr r.seat.me.0 o cell
   may_read r o cell e above x = (x.lies, inl (r.slot, ordinal r, stands r e above, x.was_linked))
 
   pub looks : (r s : Reader P K B g) → s.slot ≡ r.slot → s.word ≡ r.word → s.depth ≡ r.depth → s.locks ≡ r.locks → IsNow r.seat.me.0 s.seat.me.0 → IsLater qsbr allows r.seat.me.0 s.seat.me.0 → IsOpen (state_of (log_of s)) (section_of r) → Looks qsbr allows r s
@@ -53,17 +54,14 @@ module _ {P K B : Type 0} {g : Ghosts B} (qsbr : Bool) (allows : Log → LiveEve
         same = (slot, word, depth, locks, number);
         later = record { after_seen = later.0; after_heard = later.1; run = later.2 };
         heard = ap (λ (v : View). v.heard) now;
-        inside = record { note = here.0; stands = at; inside = is_open qsbr allows (log_of s) s.slot (ordinal s) here.0 later.2 at };
-        notes = λ o cell x. stays o x.was_linked;
-        keeps = λ o cell x. record {
-          was_linked = subst (λ (t : SectionId). WasLinked t o (log_of s)) (sym one) (was_later (log_of r) (log_of s) (section_of r) o later.0 x.was_linked);
-          lies = ap (λ (z : ℕ × List ℕ). z.0) (stays o x.was_linked) ∙ x.lies;
-          low = x.low;
+        inside = record {
+          note = here.0;
+          stands = at;
+          inside = is_open qsbr allows (log_of s) s.slot (ordinal s) here.0 later.2 at;
+          is_open = subst (λ (t : SectionId). IsOpen (state_of (log_of s)) t) (sym one) is;
         };
+        keeps = held_later qsbr allows r s slot number later.0 later.2;
       }
-    where
-      stays : (o : ObjectId) → WasLinked (section_of r) o (log_of r) → note_of (log_of s) o ≡ note_of (log_of r) o
-      stays o was = note_stays qsbr allows (log_of r) (log_of s) o later.0 later.2 (was_used qsbr allows (log_of r) (section_of r) o (run_of qsbr allows (log_of r) (log_of s) later.0 later.2) was)
 
   -- one load after another
   pub looks_twice : (r s t : Reader P K B g) → Looks qsbr allows r s → Looks qsbr allows s t → Looks qsbr allows r t
@@ -76,28 +74,30 @@ module _ {P K B : Type 0} {g : Ghosts B} (qsbr : Bool) (allows : Log → LiveEve
     };
     heard = b.heard ∙ a.heard;
     inside = b.inside;
-    keeps = λ o cell x. b.keeps o cell (a.keeps o cell x);
-    notes = λ o cell x. b.notes o cell (a.keeps o cell x) ∙ a.notes o cell x;
+    keeps = record {
+      held = λ o cell x. b.keeps.held o cell (a.keeps.held o cell x);
+      notes = λ o cell x. b.keeps.notes o cell (a.keeps.held o cell x) ∙ a.keeps.notes o cell x;
+    };
   }
 
-  pub held_on : (r s : Reader P K B g) (cell : ℕ) → Looks qsbr allows r s → HasHeld r cell → HasHeld s cell
-  held_on r s cell l x = record { object = x.object; holds = l.keeps x.object cell x.holds }
+  pub held_on : (r s : Reader P K B g) (cell : ℕ) → Looks qsbr allows r s → MayHoldIn r cell → MayHoldIn s cell
+  held_on r s cell l = held_in r s cell l.keeps
 
   pub first_none : (s : Reader P K B g) (c n : ℕ) → n ≡ ref (objects_of (log_of s)) (first_of ((objects_of (log_of s)).chain c)) → n ≡ 0 → FindsFirst s c None
   first_none s c n e z = ref_none (objects_of (log_of s)) (first_of ((objects_of (log_of s)).chain c)) n e z
 
   pub first_some : (s : Reader P K B g) (c n pool : ℕ) → pool ≡ g.sizes.pool → IsOpen (state_of (log_of s)) (section_of s) → n ≡ ref (objects_of (log_of s)) (first_of ((objects_of (log_of s)).chain c)) → (n ≡ 0 → ⊥)
-      → ((o : ObjectId) → first_of ((objects_of (log_of s)).chain c) ≡ Some o → (note_of (log_of s) o).0 < pool) → (o : ObjectId) × FindsFirst s c (Some o) × Holds s o (n - 1)
+      → ((o : ObjectId) → first_of ((objects_of (log_of s)).chain c) ≡ Some o → (note_of (log_of s) o).0 < pool) → (o : ObjectId) × FindsFirst s c (Some o) × MayHold s o (n - 1)
   first_some s c n pool size is e z low =
       let x = ref_some (objects_of (log_of s)) (first_of ((objects_of (log_of s)).chain c)) n e z in
       (x.0, x.1, record { was_linked = first_linked (log_of s) (section_of s) c x.0 is x.1; lies = x.2; low = subst (λ (k : ℕ). n - 1 < k) size (subst (λ (k : ℕ). k < pool) x.2 (low x.0 x.1)) })
 
   module _ (r : Reader P K B g) (w : View) (n cell : ℕ) (e : qsbr ≡ g.qsbr) (above : 0 < r.depth)
       (tells : (o : ObjectId) → MayRead qsbr r.seat.me.0 o cell → (found : Option ObjectId) × IsNext qsbr r.seat.me.0 w o n found) where
-    pub next_none : n ≡ 0 → (o : ObjectId) → Holds r o cell → Follows (objects_of w.seen) o None
+    pub next_none : n ≡ 0 → (o : ObjectId) → MayHold r o cell → Follows (objects_of w.seen) o None
     next_none z o x = let y = tells o (may_read r o cell e above x) in subst (λ (found : Option ObjectId). Follows (objects_of w.seen) o found) (ref_none (objects_of w.seen) y.0 n y.1.1 z) y.1.0
 
-    pub next_some : (s : Reader P K B g) → s.seat.me.0 ≡ w → Looks qsbr allows r s → (n ≡ 0 → ⊥) → (o : ObjectId) → Holds r o cell → (m : ObjectId) × FindsNext s o (Some m) × Holds s m (n - 1)
+    pub next_some : (s : Reader P K B g) → s.seat.me.0 ≡ w → Looks qsbr allows r s → (n ≡ 0 → ⊥) → (o : ObjectId) → MayHold r o cell → (m : ObjectId) × FindsNext s o (Some m) × MayHold s m (n - 1)
     next_some s same l z o x =
         let y = tells o (may_read r o cell e above x) in
         let m = ref_some (objects_of w.seen) y.0 n y.1.1 z in

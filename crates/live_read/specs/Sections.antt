@@ -4,30 +4,25 @@ use mathlib.Core.Option.{some}
 use Rattle.rcu_model.specs.declared.refusal.Refusal.{Refusal}
 use Rattle.rcu_model.specs.declared.refusal.Refusal.TheVariants.{Busy, NestFull, NotOpen, WrongFlavour}
 use Rattle.live_log.specs.declared.event.LiveEvent.{LiveEvent}
-use Rattle.live_log.specs.Log.{Log, IsOpenSection, open_of}
-use Rattle.live_table.specs.Rights.{count_in}
+use Rattle.rcu_model.specs.Machine.{IsOpen}
+use Rattle.live_log.specs.Log.{Log, IsOpenSection, open_of, state_of}
 use Rattle.live_readers.specs.Sections.{Announced, Closed, CopiedBefore, Nested, Opened, announces, opens}
 use Rattle.live_read.specs.declared.reader.Reader.{Reader}
 use Rattle.live_read.specs.declared.site.Site.{Ghosts}
+use Rattle.live_read.specs.Holding.{KeepsHeld, log_of, ordinal, section_of}
 
 -- the greatest depth of nesting, in both flavours
 abbrev pub greatest_depth : ℕ
 greatest_depth = 2147483647
 
 module _ {P K B : Type 0} {g : Ghosts B} where
-  -- the log that the reader has seen
-  abbrev pub log_of : Reader P K B g → Log
-  log_of r = r.seat.me.0.seen
-
-  -- how many sections of the log its slot has had: the ordinal of the one that is open, where one is
-  abbrev pub ordinal : Reader P K B g → ℕ
-  ordinal r = count_in r.seat.me.0.slot
-
-  -- its section of the log is open in what it has seen: its Open is there, and its Close is not
+  -- its section of the log is open in what it has seen: its Open is there, and its Close is not, and it is open for
+  -- the abstract machine
   pub record IsIn (r : Reader P K B g) : Type 0 where
     pub note : ℕ
     pub stands : open_of r.slot (log_of r) ≡ some (ordinal r, note)
     pub inside : IsOpenSection r.slot (ordinal r) (log_of r)
+    pub is_open : IsOpen (state_of (log_of r)) (section_of r)
 
   -- a section or a lock of the quiescent-state flavour was begun or ended: a count, and no step of the table
   pub record Local (r s : Reader P K B g) (n : ℕ) : Type 0 where
@@ -42,36 +37,40 @@ module _ {P K B : Type 0} {g : Ghosts B} where
     OpensOutermost = Opened qsbr allows r.slot s.word r.seat.me s.seat.me × CopiedBefore qsbr allows r.slot s.word r.seat.me s.seat.me (opens qsbr r.slot (ordinal r) s.word)
 
     -- one more lock or section of the general-purpose flavour: the outermost opens a section of the log, and an inner
-    -- one stays in it
+    -- one stays in it, which holds what it held
     pub record Enters : Type 0 where
       pub slot : s.slot ≡ r.slot
       pub depth : s.depth ≡ r.depth + 1
       pub outermost : r.depth ≡ 0 → OpensOutermost
       pub inner : r.depth ≢ 0 → Nested qsbr allows r.slot s.word r.seat.me s.seat.me
+      pub keeps : 0 < r.depth → KeepsHeld r s
       pub inside : IsIn s
 
-    -- one less: the outermost closes the section of the log, and an inner one stays in it
+    -- one less: the outermost closes the section of the log, and an inner one stays in it, which holds what it held
     pub record Leaves : Type 0 where
       pub slot : s.slot ≡ r.slot
       pub depth : s.depth ≡ r.depth - 1
       pub outermost : r.depth ≡ 1 → Closed qsbr allows r.slot s.word r.seat.me s.seat.me
       pub inner : 1 < r.depth → Nested qsbr allows r.slot s.word r.seat.me s.seat.me × IsIn s
+      pub keeps : 1 < r.depth → KeepsHeld r s
 
     -- The same of either flavour. The reader is in a section of the log, in the quiescent-state flavour where it was
-    -- before.
+    -- before. An inner one leaves it what it holds.
     pub record BeginsSection (n : ℕ) : Type 0 where
       pub locks : s.locks ≡ n
       pub general : qsbr ≡ false → Enters
       pub quiescent : qsbr ≡ true → Local r s (r.depth + 1) × (r.word ≢ 0)
       pub deeper : s.depth ≡ r.depth + 1
+      pub keeps : 0 < r.depth → KeepsHeld r s
       pub inside : (qsbr ≡ true → IsIn r) → IsIn s
 
-    -- where an inner one ends, the reader stays in the section of the log in which it was
+    -- where an inner one ends, the reader stays in the section of the log in which it was, and holds what it held
     pub record EndsSection (n : ℕ) : Type 0 where
       pub locks : s.locks ≡ n
       pub general : qsbr ≡ false → Leaves
       pub quiescent : qsbr ≡ true → Local r s (r.depth - 1)
       pub shallower : s.depth ≡ r.depth - 1
+      pub keeps : 1 < r.depth → KeepsHeld r s
       pub inside : 1 < r.depth → IsIn r → IsIn s
 
     -- an offline reader goes online, which opens a section of the log

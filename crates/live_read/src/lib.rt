@@ -2,6 +2,7 @@
 //! Readers of the library over live threads, and their sections.
 
 mod held;
+mod laws;
 mod parked;
 mod reader;
 mod reading;
@@ -12,6 +13,7 @@ mod telling;
 mod witness;
 
 pub use held::Held;
+pub use laws::readings_fit;
 pub use reader::Reader;
 pub use registrar::Registrar;
 pub use section::Section;

@@ -1,11 +1,10 @@
 //! Readers.
 
-ghost use Rattle.std.specs.Prelude.{◌≡◌, ◌≢◌, ◌⊎◌, ℕ, ◌≤◌, ◌+◌, ◌-◌, ◌<◌, [], true, false, IfOk, IfErr, MatchBool};
+ghost use Rattle.std.specs.Prelude.{◌≡◌, ◌⊎◌, ◌≤◌, ◌+◌, ◌-◌, ◌<◌, [], true, false, IfOk, IfErr, MatchBool};
 ghost use Rattle.std.specs.Arc.{arc_value};
 ghost use Rattle.rcu_model.specs.declared.refusal.Refusal.TheVariants.{NotOpen};
 ghost use Rattle.reader_word.specs.declared.layout.Layout.TheVariants.{Wide};
 ghost use Rattle.reader_word.specs.Word.{count_of};
-ghost use Rattle.live_rule.specs.Readers.{IsClosed};
 ghost use Rattle.live_table.specs.Rights.{IsOwner, word_in};
 
 use crate::section::Section;
@@ -38,17 +37,17 @@ pub struct Reader<P: GracePlan, K: ChainRule, B: Site> {
     /// How many of them are locks of the standard's face.
     pub locks: u64,
     pub(crate) site: PhantomData<B>,
-    pub(crate) ghost seated: { (seat.table_id ≡ B.table) × ((arc_value table).words.shared.table_id ≡ B.table) × (seat.me.0.sizes ≡ B.sizes) × (seat.me.1 ≡ []) },
+    pub ghost seated: { (seat.table_id ≡ B.table) × ((arc_value table).words.shared.table_id ≡ B.table) × (seat.me.0.sizes ≡ B.sizes) × (seat.me.1 ≡ []) },
     pub(crate) ghost flavour: { qsbr ≡ B.qsbr },
     pub(crate) ghost owns: { IsOwner seat.me.0 slot × (word_in seat.me.0.slot ≡ word) × (slot < (arc_value table).slots) × ((arc_value table).words.shared.key ≡ B.sizes) },
-    pub(crate) ghost counted: { (B.qsbr ≡ false → count_of Wide word ≡ depth) × (B.qsbr ≡ true → word ≡ 0 → depth ≡ 0) × (locks ≤ depth) × (depth ≤ 2147483647) },
+    pub ghost counted: { (B.qsbr ≡ false → count_of Wide word ≡ depth) × (B.qsbr ≡ true → word ≡ 0 → depth ≡ 0) × (locks ≤ depth) × (depth ≤ 2147483647) },
 }
 
 impl<P: GracePlan, K: ChainRule, B: Site> Reader<P, K, B> {
     ghost use Rattle.std.specs.Borrow.{sem, RestsIfErr};
     ghost use Rattle.live_read.specs.Hearing.{IsAfter, IsAsBefore};
     ghost use Rattle.live_read.specs.contracts.reader.Reader.{the_row};
-    ghost use Rattle.live_read.specs.Sections.{Announces, BeginsSection, EndsSection, Enters, GoesOffline, GoesOnline, Leaves, Local, MayNotAnnounce, MayNotBegin, MayNotGoOnline, greatest_depth};
+    ghost use Rattle.live_read.specs.Sections.{Announces, BeginsSection, EndsSection, Enters, GoesOffline, GoesOnline, Leaves, MayNotAnnounce, MayNotBegin, MayNotGoOnline, greatest_depth};
 
     /// A reader by a seat that owns a slot whose word is closed.
     pub(crate) fn new(
@@ -148,7 +147,8 @@ impl<P: GracePlan, K: ChainRule, B: Site> Reader<P, K, B> {
     }
 
     /// A read-side section, which is an inner one where the reader is in one, as by liburcu's `rcu_read_lock`. In the
-    /// quiescent-state flavour it is a count, and no step of the table.
+    /// quiescent-state flavour it is a count, and no step of the table. What the outer one may hold it may hold in the
+    /// inner one, and after its end.
     ///
     /// Refused with `NestFull` exactly at the greatest depth, 2,147,483,647, and with `NotOpen` where the reader is of
     /// the quiescent-state flavour and offline; then the reader is as it was. It never waits.

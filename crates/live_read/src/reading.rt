@@ -1,6 +1,6 @@
 //! The loads of a reader in a section.
 
-ghost use Rattle.std.specs.Prelude.{◌≡◌, ◌<◌, ◌≤◌, ◌↔◌, Option, Some, None, IfOk, IfErr, IfSome, IfNone, IsTrue};
+ghost use Rattle.std.specs.Prelude.{◌≡◌, ◌<◌, ◌≤◌, ◌↔◌, Some, None, IfOk, IfErr, IfSome, IfNone, IsTrue};
 ghost use Rattle.rcu_model.specs.declared.event.ObjectId.{ObjectId};
 ghost use Rattle.rcu_model.specs.declared.refusal.Refusal.TheVariants.{NoPlace};
 
@@ -13,9 +13,9 @@ use rcu_model::Refusal;
 
 impl<P: GracePlan, K: ChainRule, B: Site> Reader<P, K, B> {
     ghost use Rattle.std.specs.Prelude.{slice_index_or};
-    ghost use Rattle.live_log.specs.Log.{note_of};
-    ghost use Rattle.live_read.specs.Reads.{FindsFirst, FindsNext, HasHeld, Holds, Looks, payload_of};
-    ghost use Rattle.live_read.specs.Sections.{log_of};
+    ghost use Rattle.live_log.specs.Log.{note_of, payload_of};
+    ghost use Rattle.live_read.specs.Holding.{MayHold, MayHoldIn, log_of};
+    ghost use Rattle.live_read.specs.Reads.{FindsFirst, FindsNext, Looks};
 
     // Whether there is such a chain.
     fn has_chain(&self, chain: usize) -> bool
@@ -30,7 +30,7 @@ impl<P: GracePlan, K: ChainRule, B: Site> Reader<P, K, B> {
         ensures refused { IfErr result (λ e. (e ≡ NoPlace) × (B.sizes.chains ≤ chain) × (self.new ≡ self.old)) }
         ensures looked { IfOk result (λ _. (chain < B.sizes.chains) × Looks P.QSBR K.allows self.old self.new) }
         ensures none { IfOk result (λ found. IfNone found (FindsFirst self.new chain None)) }
-        ensures some { IfOk result (λ found. IfSome found (λ h. (o : ObjectId) × FindsFirst self.new chain (Some o) × Holds self.new o h.cell)) }
+        ensures some { IfOk result (λ found. IfSome found (λ h. (o : ObjectId) × FindsFirst self.new chain (Some o) × MayHold self.new o h.cell)) }
     {
         if !self.has_chain(chain) {
             return Err(Refusal::NoPlace);
@@ -47,12 +47,12 @@ impl<P: GracePlan, K: ChainRule, B: Site> Reader<P, K, B> {
     // What follows an object.
     pub(crate) fn find_next(&mut self, held: Held) -> Option<Held>
         requires open_section { (P.QSBR ≡ B.qsbr) × (0 < self.old.depth) }
-        requires held { HasHeld self.old held.cell }
+        requires held { MayHoldIn self.old held.cell }
         ensures looked { Looks P.QSBR K.allows self.old self.new }
-        ensures still { HasHeld self.new held.cell }
-        ensures none { IfNone result ((o : ObjectId) → Holds self.old o held.cell → FindsNext self.new o None) }
-        ensures held { IfSome result (λ h. HasHeld self.new h.cell) }
-        ensures some { IfSome result (λ h. (o : ObjectId) → Holds self.old o held.cell → (next : ObjectId) × FindsNext self.new o (Some next) × Holds self.new next h.cell) }
+        ensures still { MayHoldIn self.new held.cell }
+        ensures none { IfNone result ((o : ObjectId) → MayHold self.old o held.cell → FindsNext self.new o None) }
+        ensures held { IfSome result (λ h. MayHoldIn self.new h.cell) }
+        ensures some { IfSome result (λ h. (o : ObjectId) → MayHold self.old o held.cell → (next : ObjectId) × FindsNext self.new o (Some next) × MayHold self.new next h.cell) }
     {
         let word = load_link(&self.table, &mut self.seat, held.cell);
         if word == 0 {
@@ -66,10 +66,10 @@ impl<P: GracePlan, K: ChainRule, B: Site> Reader<P, K, B> {
     // One word of an object.
     fn read_word(&mut self, held: Held, index: usize) -> u64
         requires open_section { (P.QSBR ≡ B.qsbr) × (0 < self.old.depth) × (index < 4) }
-        requires held { HasHeld self.old held.cell }
+        requires held { MayHoldIn self.old held.cell }
         ensures looked { Looks P.QSBR K.allows self.old self.new }
-        ensures still { HasHeld self.new held.cell }
-        ensures word { (o : ObjectId) → Holds self.old o held.cell → result ≡ slice_index_or (note_of (log_of self.old) o).1 index 0 }
+        ensures still { MayHoldIn self.new held.cell }
+        ensures word { (o : ObjectId) → MayHold self.old o held.cell → result ≡ slice_index_or (note_of (log_of self.old) o).1 index 0 }
     {
         load_word(&self.table, &mut self.seat, held.cell, index)
     }
@@ -77,10 +77,10 @@ impl<P: GracePlan, K: ChainRule, B: Site> Reader<P, K, B> {
     // The four words of an object.
     pub(crate) fn read_words(&mut self, held: Held) -> [u64; 4]
         requires open_section { (P.QSBR ≡ B.qsbr) × (0 < self.old.depth) }
-        requires held { HasHeld self.old held.cell }
+        requires held { MayHoldIn self.old held.cell }
         ensures looked { Looks P.QSBR K.allows self.old self.new }
-        ensures still { HasHeld self.new held.cell }
-        ensures payload { (o : ObjectId) → Holds self.old o held.cell → result ≡ payload_of (log_of self.old) o }
+        ensures still { MayHoldIn self.new held.cell }
+        ensures payload { (o : ObjectId) → MayHold self.old o held.cell → result ≡ payload_of (log_of self.old) o }
     {
         let one = self.read_word(held, 0);
         let two = self.read_word(held, 1);

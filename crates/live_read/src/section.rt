@@ -1,10 +1,12 @@
 //! Read-side sections.
 
-ghost use Rattle.std.specs.Prelude.{◌≡◌, ◌-◌, ◌<◌, ◌≤◌, Option, Some, None, IfOk, IfErr, IfSome, IfNone};
+ghost use Rattle.std.specs.Prelude.{◌≡◌, ◌<◌, ◌≤◌, Some, None, IfOk, IfErr, IfSome, IfNone};
 ghost use Rattle.rcu_model.specs.declared.event.ObjectId.{ObjectId};
 ghost use Rattle.rcu_model.specs.declared.refusal.Refusal.TheVariants.{NoPlace};
-ghost use Rattle.live_read.specs.Reads.{FindsFirst, FindsNext, HasHeld, Holds, Looks, payload_of};
-ghost use Rattle.live_read.specs.Sections.{BeginsSection, EndsSection, MayNotBegin, log_of};
+ghost use Rattle.live_log.specs.Log.{payload_of};
+ghost use Rattle.live_read.specs.Holding.{MayHold, MayHoldIn, log_of};
+ghost use Rattle.live_read.specs.Reads.{FindsFirst, FindsNext, Looks};
+ghost use Rattle.live_read.specs.Sections.{BeginsSection, EndsSection, MayNotBegin};
 
 use crate::held::Held;
 use crate::reader::Reader;
@@ -50,8 +52,8 @@ impl<'a, P: GracePlan, K: ChainRule, B: Site> Section<'a, P, K, B> {
         ensures refused { IfErr result (λ e. (e ≡ NoPlace) × (B.sizes.chains ≤ chain) × (self.new.reader.now ≡ self.old.reader.now)) }
         ensures looked { IfOk result (λ _. (chain < B.sizes.chains) × Looks P.QSBR K.allows self.old.reader.now self.new.reader.now) }
         ensures none { IfOk result (λ found. IfNone found (FindsFirst self.new.reader.now chain None)) }
-        ensures some { IfOk result (λ found. IfSome found (λ h. (o : ObjectId) × FindsFirst self.new.reader.now chain (Some o) × Holds self.new.reader.now o h.cell)) }
-        ensures held { IfOk result (λ found. IfSome found (λ h. HasHeld self.new.reader.now h.cell)) }
+        ensures some { IfOk result (λ found. IfSome found (λ h. (o : ObjectId) × FindsFirst self.new.reader.now chain (Some o) × MayHold self.new.reader.now o h.cell)) }
+        ensures held { IfOk result (λ found. IfSome found (λ h. MayHoldIn self.new.reader.now h.cell)) }
     {
         self.reader.find_first(chain)
     }
@@ -61,13 +63,13 @@ impl<'a, P: GracePlan, K: ChainRule, B: Site> Section<'a, P, K, B> {
     /// is cut, behind what it was before. It never waits and takes no memory.
     pub fn next(&mut self, held: Held) -> Option<Held>
         requires open_section { (P.QSBR ≡ B.qsbr) × (0 < self.old.reader.now.depth) }
-        requires held { HasHeld self.old.reader.now held.cell }
+        requires held { MayHoldIn self.old.reader.now held.cell }
         ensures reader { self.new.reader.ghost_name ≡ self.old.reader.ghost_name }
         ensures looked { Looks P.QSBR K.allows self.old.reader.now self.new.reader.now }
-        ensures still { HasHeld self.new.reader.now held.cell }
-        ensures none { IfNone result ((o : ObjectId) → Holds self.old.reader.now o held.cell → FindsNext self.new.reader.now o None) }
-        ensures held { IfSome result (λ h. HasHeld self.new.reader.now h.cell) }
-        ensures some { IfSome result (λ h. (o : ObjectId) → Holds self.old.reader.now o held.cell → (next : ObjectId) × FindsNext self.new.reader.now o (Some next) × Holds self.new.reader.now next h.cell) }
+        ensures still { MayHoldIn self.new.reader.now held.cell }
+        ensures none { IfNone result ((o : ObjectId) → MayHold self.old.reader.now o held.cell → FindsNext self.new.reader.now o None) }
+        ensures held { IfSome result (λ h. MayHoldIn self.new.reader.now h.cell) }
+        ensures some { IfSome result (λ h. (o : ObjectId) → MayHold self.old.reader.now o held.cell → (next : ObjectId) × FindsNext self.new.reader.now o (Some next) × MayHold self.new.reader.now next h.cell) }
     {
         self.reader.find_next(held)
     }
@@ -76,11 +78,11 @@ impl<'a, P: GracePlan, K: ChainRule, B: Site> Section<'a, P, K, B> {
     /// no memory.
     pub fn read(&mut self, held: Held) -> [u64; 4]
         requires open_section { (P.QSBR ≡ B.qsbr) × (0 < self.old.reader.now.depth) }
-        requires held { HasHeld self.old.reader.now held.cell }
+        requires held { MayHoldIn self.old.reader.now held.cell }
         ensures reader { self.new.reader.ghost_name ≡ self.old.reader.ghost_name }
         ensures looked { Looks P.QSBR K.allows self.old.reader.now self.new.reader.now }
-        ensures still { HasHeld self.new.reader.now held.cell }
-        ensures payload { (o : ObjectId) → Holds self.old.reader.now o held.cell → result ≡ payload_of (log_of self.old.reader.now) o }
+        ensures still { MayHoldIn self.new.reader.now held.cell }
+        ensures payload { (o : ObjectId) → MayHold self.old.reader.now o held.cell → result ≡ payload_of (log_of self.old.reader.now) o }
     {
         self.reader.read_words(held)
     }

@@ -41,8 +41,8 @@ pub struct View {
     pub queue: QueueRight,
     /// Its right to a queue's work.
     pub work: WorkRight,
-    /// Words that it loaded, and of which the log says nothing, each with its place, and those of seats that it learned
-    /// from, the last one first.
+    /// Words that it loaded or stored, and of which the log says nothing, each with its place, and those of seats that
+    /// it learned from, the last one first.
     pub looks: LinkedList<(u64, u64)>,
     /// The logs at its loads of the sequence number, and at those of seats that it learned from, the last one first.
     pub loads: LinkedList<LinkedList<LiveEvent>>,

@@ -14,6 +14,8 @@ mod queues;
 #[cfg(test)]
 mod readers;
 #[cfg(test)]
+mod readings;
+#[cfg(test)]
 mod records;
 #[cfg(test)]
 mod registering;

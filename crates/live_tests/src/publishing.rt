@@ -23,32 +23,48 @@ const WALKS: u64 = 200;
 /// How many records a long chain has.
 const LONG: u64 = 10_000;
 
-/// Whether each record that a section meets on a chain has four equal words, which fall from record to record; and how
-/// many it met.
+/// What a section met on a chain.
+#[derive(Clone, Copy)]
+struct Walk {
+    /// Whether each record had four equal words, which fell from record to record.
+    whole: bool,
+    /// How many it met.
+    met: u64,
+    /// How many of even words it met.
+    even: u64,
+}
+
+/// A walk over a chain, to its end where each record is whole.
 fn walks<P: GracePlan, B: Site>(
     section: &mut Section<P, AnyChain, B>,
     chain: usize,
-) -> Result<(bool, u64), Refusal>
+) -> Result<Walk, Refusal>
     requires { (P.QSBR ≡ B.qsbr) × (0 < section.old.reader.now.depth) }
     ensures reader { section.new.reader.ghost_name ≡ section.old.reader.ghost_name }
     ensures counts { (section.new.reader.now.depth ≡ section.old.reader.now.depth) × (section.new.reader.now.locks ≡ section.old.reader.now.locks) }
 {
     let mut at = section.first(chain)?;
-    let mut met = 0;
+    let mut walk = Walk {
+        whole: false,
+        met: 0,
+        even: 0,
+    };
     let mut before = u64::MAX;
     for _ in 0..=LONG {
         let Some(held) = at else {
-            return Ok((true, met));
+            walk.whole = true;
+            return Ok(walk);
         };
         let [key, value, rank, last] = section.read(held);
         if value != key || rank != key || last != key || key >= before {
-            return Ok((false, met));
+            return Ok(walk);
         }
         before = key;
-        met += 1;
+        walk.met += 1;
+        walk.even += 1 - key % 2;
         at = section.next(held);
     }
-    Ok((false, met))
+    Ok(walk)
 }
 
 /// Pushes so many records to a chain, with rising words. Whether each was taken and pushed.
@@ -71,7 +87,7 @@ fn pushes<P: GracePlan + Drop, B: Site, R: Wait>(
     true
 }
 
-/// Cuts every second record of a chain. Whether each was there.
+/// Cuts every second record of a chain, from the first one on. Whether each was there.
 fn cuts<P: GracePlan + Drop, B: Site>(
     domain: &Domain<P, AnyChain, B>,
     record: &mut Record<B>,
@@ -145,11 +161,11 @@ fn registered<P: GracePlan + Drop, B: Site, R: Wait>(
     Ok(Idle { reader })
 }
 
-/// One walk in a section of its own: how many records it met, where each was whole.
+/// One walk in a section of its own.
 fn one_walk<P: GracePlan, B: Site>(
     reader: &mut Reader<P, AnyChain, B>,
     chain: usize,
-) -> Result<(bool, u64), Refusal>
+) -> Result<Walk, Refusal>
     requires { (P.QSBR ≡ B.qsbr) × (reader.old.depth ≡ 0) × (reader.old.locks ≡ 0) }
     ensures { (reader.new.depth ≡ 0) × (reader.new.locks ≡ 0) }
 {
@@ -160,8 +176,8 @@ fn one_walk<P: GracePlan, B: Site>(
 }
 
 /// So many walks, each in a section of its own, with an announcement after each in the quiescent-state flavour. Whether
-/// each met so many whole records at least.
-fn reads<P: GracePlan, B: Site>(idle: Idle<P, B>, chain: usize, times: u64, least: u64) -> bool
+/// each met whole records alone, and so many of even words at least.
+fn reads<P: GracePlan, B: Site>(idle: Idle<P, B>, chain: usize, times: u64, even: u64) -> bool
     requires { P.QSBR ≡ B.qsbr }
 {
     let Idle { mut reader } = idle;
@@ -169,10 +185,10 @@ fn reads<P: GracePlan, B: Site>(idle: Idle<P, B>, chain: usize, times: u64, leas
         return false;
     }
     for _ in 0..times {
-        let Ok((whole, met)) = one_walk(&mut reader, chain) else {
+        let Ok(walk) = one_walk(&mut reader, chain) else {
             return false;
         };
-        if !whole || met < least {
+        if !walk.whole || walk.even < even {
             return false;
         }
         if P::QSBR && reader.quiescent().is_err() {
@@ -264,7 +280,8 @@ fn serves<P: GracePlan + Drop + Send + Sync, B: Site + Send + Sync, R: Threads +
     Ok((first, second, written))
 }
 
-/// A reader walks a long chain while its writer cuts every second record. Whether each walk met all that stay.
+/// A reader walks a long chain while its writer cuts the records of odd words. Whether each walk met all that stay:
+/// words fall along a walk, so none is met twice.
 fn thins<B: Site + Send + Sync, R: Threads + Wait + Sync>(
     rt: &R,
     alloc: Global,
@@ -339,7 +356,7 @@ fn tells<B: Site, R: Wait>(
     let note = writer.note();
     reader.online()?;
     let walked = one_walk(&mut reader, 1)?;
-    Ok((length, last, first, note, walked))
+    Ok((length, last, first, note, (walked.whole, walked.met)))
 }
 
 fn of_one_record() -> LiveConfig {

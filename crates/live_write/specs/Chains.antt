@@ -1,5 +1,5 @@
 -- What a call of a chain's writer tells.
-use Rattle.std.specs.Prelude.{◌≡◌, ℕ, [], ◌∷◌, Bool, List, slice_index_or}
+use Rattle.std.specs.Prelude.{◌≡◌, ◌∷◌, Bool, List}
 use Rattle.rcu_model.specs.declared.event.ObjectId.{ObjectId}
 use Rattle.live_log.specs.declared.event.LiveEvent.{LiveEvent}
 use Rattle.live_log.specs.declared.event.LiveEvent.TheVariants.{Object}
@@ -20,10 +20,6 @@ push_by v u = Object (Push (own_in v.chains).chain (object_in u.object) (cell_in
 -- the replacement of an object by another seat's fresh record
 abbrev pub replace_by : ObjectId → View → View → LiveEvent
 replace_by o v u = Object (Replace (own_in v.chains).chain o (object_in u.object) (cell_in u.object) (payload_in u.object))
-
--- the four words of a payload
-abbrev pub words_in : List ℕ → List ℕ
-words_in payload = slice_index_or payload 0 0 ∷ slice_index_or payload 1 0 ∷ slice_index_or payload 2 0 ∷ slice_index_or payload 3 0 ∷ []
 
 -- the log goes on from all that a chain's writer and its caller had seen and heard of, and from all that who allocated
 -- the record had seen

@@ -5,14 +5,14 @@ ghost use Rattle.rcu_model.specs.declared.refusal.Refusal.TheVariants.{Busy, NoP
 ghost use Rattle.rcu_model.specs.Sets.{replaced, without_object};
 ghost use Rattle.rcu_model.specs.declared.event.ObjectId.{ObjectId};
 ghost use Rattle.live_log.specs.declared.event.LiveEvent.TheVariants.{ChainNote};
-ghost use Rattle.live_log.specs.Log.{Begins, IsLiveRun, chain_note, note_of};
+ghost use Rattle.live_log.specs.Log.{Begins, IsLiveRun, chain_note, payload_of};
 ghost use Rattle.live_rule.specs.Places.{hold_at};
 ghost use Rattle.live_rule.specs.Seats.{lent_chains};
 ghost use Rattle.live_table.specs.Rights.{IsListed, IsWriter, object_in, own_in};
 ghost use Rattle.live_table.specs.Steps.{Keeps, Went};
 ghost use Rattle.live_chains.specs.Chains.{cut_of};
 ghost use Rattle.live_read.specs.Hearing.{IsAfter, OnlyHears, Stays};
-ghost use Rattle.live_write.specs.Chains.{MayPublish, Publishes, list_in, push_by, replace_by, words_in};
+ghost use Rattle.live_write.specs.Chains.{MayPublish, Publishes, list_in, push_by, replace_by};
 
 use crate::publish::{cut_record, push_record, replace_record, write_note};
 use crate::records::{Owned, Unlinked};
@@ -114,7 +114,7 @@ impl<'d, P: GracePlan, K: ChainRule, B: Site> Chain<'d, P, K, B> {
     /// The payload of the object at an index, by the list that the writer knows: the four words that `alloc` was given.
     /// None exactly where the index is not below the length. It walks from the head, and never waits.
     pub fn get(&mut self, index: usize) -> Option<[u64; 4]>
-        ensures some { IfSome result (λ words. (o : ObjectId) × (slice_get (list_in self.old.seat.me.0) index ≡ Some o) × (words ≡ words_in (note_of self.new.seat.me.0.seen o).1)) }
+        ensures some { IfSome result (λ words. (o : ObjectId) × (slice_get (list_in self.old.seat.me.0) index ≡ Some o) × (words ≡ payload_of self.new.seat.me.0.seen o)) }
         ensures walked { IfSome result (λ _. Keeps self.old.seat self.new.seat × Went P.QSBR K.allows self.old.seat.me.0 self.old.seat.me self.new.seat.me × (self.new.number ≡ self.old.number)) }
         ensures none { IfNone result ((length (list_in self.old.seat.me.0) ≤ index) × (self.new ≡ self.old)) }
     {

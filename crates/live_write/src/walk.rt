@@ -3,11 +3,10 @@
 
 ghost use Rattle.std.specs.Prelude.{◌≡◌, ◌<◌, ◌≤◌, Option, Some, length, IfSome, slice_get};
 ghost use Rattle.rcu_model.specs.declared.event.ObjectId.{ObjectId};
-ghost use Rattle.live_log.specs.Log.{note_of};
+ghost use Rattle.live_log.specs.Log.{note_of, payload_of};
 ghost use Rattle.live_table.specs.Rights.{IsListed, IsWriter, own_in};
 ghost use Rattle.live_table.specs.Steps.{Keeps, Went};
 ghost use Rattle.live_chains.specs.Chains.{IsBefore, IsThere};
-ghost use Rattle.live_write.specs.Chains.{words_in};
 
 use gp_memb::GracePlan;
 use live_words::{ChainRule, LiveSeat, LiveTable, load_head, load_link, load_word};
@@ -72,7 +71,7 @@ pub(crate) fn read<P: GracePlan, K: ChainRule>(
     requires index { index < length (own_in seat.old.me.0.chains).objects }
     ensures seat { Keeps seat.old seat.new }
     ensures walked { Went P.QSBR K.allows seat.old.me.0 seat.old.me seat.new.me × IsListed seat.new.me.0 }
-    ensures words { (o : ObjectId) × (slice_get (own_in seat.old.me.0.chains).objects index ≡ Some o) × (result ≡ words_in (note_of seat.new.me.0.seen o).1) }
+    ensures words { (o : ObjectId) × (slice_get (own_in seat.old.me.0.chains).objects index ≡ Some o) × (result ≡ payload_of seat.new.me.0.seen o) }
 {
     let (_, cell) = find(table, seat, chain, index);
     let first = load_word(table, seat, cell, 0);

@@ -1,0 +1,37 @@
+-- What a reader has seen, its section, and what the section may hold.
+use Rattle.std.specs.Prelude.{◌≡◌, ℕ, ◌<◌}
+use Rattle.rcu_model.specs.declared.event.ObjectId.{ObjectId}
+use Rattle.rcu_model.specs.declared.event.SectionId.{SectionId}
+use Rattle.live_log.specs.Log.{Log, WasLinked, section, note_of}
+use Rattle.live_table.specs.Rights.{count_in}
+use Rattle.live_read.specs.declared.reader.Reader.{Reader}
+use Rattle.live_read.specs.declared.site.Site.{Ghosts}
+
+module _ {P K B : Type 0} {g : Ghosts B} where
+  -- the log that the reader has seen
+  abbrev pub log_of : Reader P K B g → Log
+  log_of r = r.seat.me.0.seen
+
+  -- how many sections of the log its slot has had: the ordinal of the one that is open, where one is
+  abbrev pub ordinal : Reader P K B g → ℕ
+  ordinal r = count_in r.seat.me.0.slot
+
+  -- the section of the log in which the reader is, where it is in one
+  abbrev pub section_of : Reader P K B g → SectionId
+  section_of r = section r.slot (ordinal r)
+
+  -- the section may hold the object, which was linked since the section was opened, and lies in this record
+  pub record MayHold (r : Reader P K B g) (o : ObjectId) (cell : ℕ) : Type 0 where
+    pub was_linked : WasLinked (section_of r) o (log_of r)
+    pub lies : (note_of (log_of r) o).0 ≡ cell
+    pub low : cell < g.sizes.pool
+
+  -- it may hold some object in this record
+  pub record MayHoldIn (r : Reader P K B g) (cell : ℕ) : Type 0 where
+    pub object : ObjectId
+    pub holds : MayHold r object cell
+
+  -- what it may have held before it may hold still, with the same words
+  pub record KeepsHeld (r s : Reader P K B g) : Type 0 where
+    pub held : (o : ObjectId) (cell : ℕ) → MayHold r o cell → MayHold s o cell
+    pub notes : (o : ObjectId) (cell : ℕ) → MayHold r o cell → note_of (log_of s) o ≡ note_of (log_of r) o
