@@ -1,14 +1,15 @@
 //! What lies under a queue's lock.
-ghost use Rattle.std.specs.Prelude.{◌≡◌, ◌⊎◌, ◌+◌, ◌<◌, ◌∷◌, [], true, false, IfErr, IfOk};
+ghost use Rattle.std.specs.Prelude.{◌≡◌, ◌⊎◌, ◌+◌, ◌<◌, ◌∷◌, [], Some, true, false, IfErr, IfNone, IfOk, IfSome};
 ghost use Rattle.rcu_model.specs.declared.refusal.Refusal.TheVariants.{Closed, Memory};
-ghost use Rattle.callback_queue.specs.Queue.{closed_queue, empty_queue, given_of};
+ghost use Rattle.callback_queue.specs.Queue.{closed_queue, empty_queue, first_of, given_of, popped};
 ghost use Rattle.live_log.specs.declared.event.LiveEvent.TheVariants.{CloseQueue};
 ghost use Rattle.live_log.specs.Log.{Begins};
 ghost use Rattle.live_rule.specs.declared.rights.QueueRight.TheVariants.{Owns};
 ghost use Rattle.live_rule.specs.declared.rights.RecordRight.TheVariants.{Nothing};
 ghost use Rattle.live_table.specs.Rights.{object_in};
+ghost use Rattle.live_table.specs.Steps.{Keeps};
 ghost use Rattle.live_read.specs.Hearing.{OnlyHears};
-ghost use Rattle.live_items.specs.Items.{Closes};
+ghost use Rattle.live_items.specs.Items.{Closes, IsPlaced};
 ghost use Rattle.live_items.specs.Retiring.{IsAfterAll, Queues};
 
 use crate::job::Job;
@@ -101,6 +102,32 @@ impl<B: Site, C: Drop> Items<B, C> {
             Ok(ticket) => Ok(ticket),
             Err(_) => unreachable!(),
         }
+    }
+
+    /// Hands out the first ready item, where its ticket comes next after so many that are finished. The worker's seat
+    /// hears what was seen under the lock. It waits for nobody and takes no memory.
+    pub fn pop<P: GracePlan, K: ChainRule>(
+        &mut self,
+        table: &LiveTable<P, K>,
+        worker: &mut LiveSeat,
+        queue: usize,
+        finished: u64,
+    ) -> Option<(Ticket, Item<Job<B, C>>)>
+        requires { (table.now.words.shared.table_id ≡ B.table) × (worker.old.table_id ≡ B.table) }
+        ensures worker { Keeps worker.old worker.new × (worker.new.me ≡ (record worker.old.me.0 { heard = worker.new.me.0.heard }, worker.old.me.1)) }
+        ensures item { IfSome result (λ r. (r.0.0 ≡ finished + 1) × (self.old.2 ≡ queue) × IsPlaced queue worker.new.me.0.heard finished r.1 × (first_of self.old.0 ≡ Some r) × (self.new.0 ≡ popped self.old.0)) }
+        ensures none { IfNone result (self.new.0 ≡ self.old.0) }
+        ensures queue { self.new.2 ≡ self.old.2 }
+    {
+        table.learn(worker, table.tell(&mut self.seat));
+        if self.number != queue {
+            return None;
+        }
+        let (ticket, _) = self.queue.first_ready()?;
+        if ticket.0 - 1 != finished {
+            return None;
+        }
+        self.queue.pop_ready()
     }
 
     /// Closes the queue: every later `retire` is refused, and what is queued stays. The witness hears of it. It waits for
