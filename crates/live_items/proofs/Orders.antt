@@ -1,9 +1,10 @@
 -- What stays of the order of a queue's items.
-use Rattle.std.proofs.Common.{◌≡◌, ℕ, ◌+◌, ◌≤◌, List, [], ◌∷◌, ◌++◌, length, sym, refl, ap, ◌∙◌, subst, arith, append_assoc, false}
+use Rattle.std.proofs.Common.{◌≡◌, ℕ, ◌+◌, ◌≤◌, List, [], ◌∷◌, ◌++◌, length, sym, refl, ap, ◌∙◌, subst, arith, append_assoc, false, Some}
 use lib.ListN.{length-append}
 use Rattle.rcu_model.specs.declared.event.ObjectId.{ObjectId}
 use Rattle.callback_queue.specs.declared.item.Item.{Item}
-use Rattle.callback_queue.specs.Queue.{items_of, given_of, pushed, closed_queue, with_place}
+use Rattle.callback_queue.specs.declared.item.Ticket.{Ticket}
+use Rattle.callback_queue.specs.Queue.{items_of, given_of, pushed, closed_queue, with_place, popped, first_of, first_with, object_of_first, object_with}
 use Rattle.live_log.specs.Log.{Log, Begins, line_of}
 use Rattle.live_log.proofs.Lemmas.{begins_trans, line_grows}
 use Rattle.live_rule.specs.declared.view.Sizes.{Sizes}
@@ -58,3 +59,37 @@ module _ (key : Sizes) (jobs : Jobs) (v w : View) (q : ℕ) (under : IsUnderLock
 -- a place is reserved
 pub under_place : (key : Sizes) (jobs : Jobs) (v : View) (q : ℕ) → IsUnderLock key jobs v q → IsUnderLock key (with_place jobs) v q
 under_place key jobs v q under = record { sizes = under.sizes; right = under.right; empty = under.empty; low = under.low; long = under.long; placed = under.placed }
+
+some_same : {A : Type 0} {a b : A} → Some a ≡ Some b → a ≡ b
+some_same e = cc
+
+-- the first item leaves
+module _ (key : Sizes) (v : View) (q : ℕ) where
+  pub under_popped : (jobs : Jobs) → IsUnderLock key jobs v q → IsUnderLock key (popped jobs) v q
+  under_popped jobs under = by jobs.ready under
+    where
+      by : (ready : List (Item JobValue)) → IsUnderLock key (record jobs { ready = ready }) v q → IsUnderLock key (popped (record jobs { ready = ready })) v q
+      by [] u = u
+      by (x ∷ xs) u = let e : given_of (record jobs { ready = x ∷ xs }) ≡ given_of (popped (record jobs { ready = x ∷ xs })) = omega arith in record {
+        sizes = u.sizes;
+        right = u.right ∙ ap (λ k. Owns q k (word_of jobs.closed)) e;
+        empty = u.empty;
+        low = u.low;
+        long = let l = u.long in omega (arith, e);
+        placed = u.placed.1;
+      }
+
+  pub first_placed : (jobs : Jobs) (t : Ticket) (item : Item JobValue) → IsUnderLock key jobs v q → first_of jobs ≡ Some (t, item) → (t.0 ≡ jobs.gone + 1) × IsPlaced q v.seen jobs.gone item
+  first_placed jobs t item under = by jobs.ready under
+    where
+      by : (ready : List (Item JobValue)) → IsUnderLock key (record jobs { ready = ready }) v q → first_with (jobs.gone + 1) ready ≡ Some (t, item) → (t.0 ≡ jobs.gone + 1) × IsPlaced q v.seen jobs.gone item
+      by [] u e = cc
+      by (x ∷ xs) u e = let z = some_same e in (ap (λ (p : Ticket × Item JobValue). p.0.0) (sym z), subst (IsPlaced q v.seen jobs.gone) (ap (λ (p : Ticket × Item JobValue). p.1) z) u.placed.0)
+
+-- the ticket of the first ready item is the next one
+pub first_ticket : (jobs : Jobs) (t : Ticket) (o : ObjectId) → object_of_first jobs ≡ Some (t, o) → t.0 ≡ jobs.gone + 1
+first_ticket jobs t o = by jobs.ready
+  where
+    by : (ready : List (Item JobValue)) → object_with (jobs.gone + 1) ready ≡ Some (t, o) → t.0 ≡ jobs.gone + 1
+    by [] e = cc
+    by (x ∷ xs) e = ap (λ (p : Ticket × ObjectId). p.0.0) (sym (some_same e))

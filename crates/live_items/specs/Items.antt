@@ -1,7 +1,7 @@
 -- What lies under a queue's lock: its items in the order of their tickets, and the queue's seat.
-use Rattle.std.specs.Prelude.{Bool, true, false, ◌≡◌, ℕ, ◌+◌, ◌<◌, ◌≤◌, List, [], ◌∷◌, length}
+use Rattle.std.specs.Prelude.{Bool, true, false, ◌≡◌, ℕ, ◌+◌, ◌<◌, ◌≤◌, List, [], ◌∷◌, length, nat_lt, if◌then◌else◌}
 use Rattle.callback_queue.specs.declared.item.Item.{Item}
-use Rattle.callback_queue.specs.Queue.{Queue, items_of, given_of}
+use Rattle.callback_queue.specs.Queue.{Queue, items_of, given_of, noted, after_advance}
 use Rattle.live_log.specs.declared.event.LiveEvent.{LiveEvent}
 use Rattle.live_log.specs.declared.event.LiveEvent.TheVariants.{CloseQueue}
 use Rattle.live_log.specs.Log.{Log, Begins, IsLiveRun, line_of}
@@ -50,3 +50,7 @@ pub record Closes (qsbr : Bool) (allows : Log → LiveEvent → Type 0) (seen he
   pub after_caller : Begins seen before × Begins heard before
   pub wrote : log ≡ CloseQueue q ∷ before
   pub run : IsLiveRun qsbr allows log
+
+-- what waited, once this number was told of the grace period with this cookie
+abbrev pub ripened : Jobs → ℕ → ℕ → Jobs
+ripened jobs cookie seq = if nat_lt 0 (length jobs.waiting) then after_advance (noted jobs cookie) seq else jobs

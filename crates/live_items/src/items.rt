@@ -1,14 +1,15 @@
 //! What lies under a queue's lock.
-ghost use Rattle.std.specs.Prelude.{◌≡◌, ◌⊎◌, ◌+◌, ◌<◌, ◌∷◌, [], true, false, IfErr, IfOk};
+ghost use Rattle.std.specs.Prelude.{◌≡◌, ◌⊎◌, ◌+◌, ◌-◌, ◌<◌, ◌≤◌, ◌∷◌, [], Some, length, vec_capacity, vec_len, true, false, IfErr, IfNone, IfOk, IfSome};
 ghost use Rattle.rcu_model.specs.declared.refusal.Refusal.TheVariants.{Closed, Memory};
-ghost use Rattle.callback_queue.specs.Queue.{closed_queue, empty_queue, given_of};
+ghost use Rattle.callback_queue.specs.Queue.{closed_queue, empty_queue, first_of, given_of, popped, sealed};
 ghost use Rattle.live_log.specs.declared.event.LiveEvent.TheVariants.{CloseQueue};
-ghost use Rattle.live_log.specs.Log.{Begins};
+ghost use Rattle.live_log.specs.Log.{Begins, line_of};
 ghost use Rattle.live_rule.specs.declared.rights.QueueRight.TheVariants.{Owns};
 ghost use Rattle.live_rule.specs.declared.rights.RecordRight.TheVariants.{Nothing};
 ghost use Rattle.live_table.specs.Rights.{object_in};
+ghost use Rattle.live_table.specs.Steps.{Keeps};
 ghost use Rattle.live_read.specs.Hearing.{OnlyHears};
-ghost use Rattle.live_items.specs.Items.{Closes};
+ghost use Rattle.live_items.specs.Items.{Closes, IsPlaced, ripened};
 ghost use Rattle.live_items.specs.Retiring.{IsAfterAll, Queues};
 
 use crate::job::Job;
@@ -18,9 +19,10 @@ use gp_memb::GracePlan;
 use live_read::{Site, Witness, tell_all};
 use live_words::{ChainRule, LiveSeat, LiveTable, store_closed};
 use live_write::Unlinked;
+use poll_cookie::Cookie;
 use rcu_model::{ObjectId, Refusal};
 use std::alloc::Global;
-use std::marker::{Model, PhantomData};
+use std::marker::Model;
 
 /// What lies under a queue's lock: the callbacks that were queued and have not left, and the seat with the right to
 /// queue.
@@ -100,6 +102,80 @@ impl<B: Site, C: Drop> Items<B, C> {
         match self.queue.push(item) {
             Ok(ticket) => Ok(ticket),
             Err(_) => unreachable!(),
+        }
+    }
+
+    /// Hands out the first ready item, where its ticket comes next after so many that are finished. The worker's seat
+    /// hears what was seen under the lock. It waits for nobody and takes no memory.
+    pub fn pop<P: GracePlan, K: ChainRule>(
+        &mut self,
+        table: &LiveTable<P, K>,
+        worker: &mut LiveSeat,
+        queue: usize,
+        finished: u64,
+    ) -> Option<(Ticket, Item<Job<B, C>>)>
+        requires { (table.now.words.shared.table_id ≡ B.table) × (worker.old.table_id ≡ B.table) }
+        ensures worker { Keeps worker.old worker.new × (worker.new.me ≡ (record worker.old.me.0 { heard = worker.new.me.0.heard }, worker.old.me.1)) }
+        ensures item { IfSome result (λ r. (r.0.0 ≡ finished + 1) × (self.old.2 ≡ queue) × IsPlaced queue worker.new.me.0.heard finished r.1 × (first_of self.old.0 ≡ Some r) × (self.new.0 ≡ popped self.old.0)) }
+        ensures none { IfNone result (self.new.0 ≡ self.old.0) }
+        ensures queue { self.new.2 ≡ self.old.2 }
+    {
+        table.learn(worker, table.tell(&mut self.seat));
+        if self.number != queue {
+            return None;
+        }
+        let (ticket, _) = self.queue.first_ready()?;
+        if ticket.0 - 1 != finished {
+            return None;
+        }
+        self.queue.pop_ready()
+    }
+
+    /// Lets the fresh items wait, where none are ready or wait already, once the list has room for all that are not
+    /// finished. The worker's seat hears what was seen under the lock. Answers how many tickets were given.
+    ///
+    /// Refused with `Memory`, and then the items are as they were. It waits for nobody.
+    pub fn seal<P: GracePlan, K: ChainRule, T: Drop>(
+        &mut self,
+        table: &LiveTable<P, K>,
+        worker: &mut LiveSeat,
+        queue: usize,
+        finished: u64,
+        list: &mut Vec<T>,
+    ) -> Result<u64, Refusal>
+        requires { (table.now.words.shared.table_id ≡ B.table) × (worker.old.table_id ≡ B.table) }
+        ensures worker { Keeps worker.old worker.new × (worker.new.me ≡ (record worker.old.me.0 { heard = worker.new.me.0.heard }, worker.old.me.1)) }
+        ensures list { list.new.items ≡ list.old.items }
+        ensures given { IfOk result (λ n. (n ≡ given_of self.old.0) × (self.old.2 ≡ queue) × (finished ≤ n) × (n ≤ length (line_of worker.new.me.0.heard queue)) × (vec_len list.new + (n - finished) ≤ vec_capacity list.new)) }
+        ensures refused { IfErr result (λ e. (e ≡ Memory) × (self.new.0 ≡ self.old.0)) }
+        ensures sealed { (self.new.0 ≡ self.old.0) ⊎ ((self.old.0.ready ≡ []) × (self.old.0.waiting ≡ []) × (self.new.0 ≡ sealed self.old.0)) }
+        ensures queue { self.new.2 ≡ self.old.2 }
+    {
+        table.learn(worker, table.tell(&mut self.seat));
+        let given = self.queue.given();
+        if self.number != queue || given < finished {
+            return Err(Refusal::Memory);
+        }
+        if list.reserve((given - finished) as usize).is_err() {
+            return Err(Refusal::Memory);
+        }
+        let (ready, waiting, _) = self.queue.segments();
+        if ready == 0 && waiting == 0 {
+            self.queue.seal();
+        }
+        Ok(given)
+    }
+
+    /// What waits becomes ready, where the grace period that was asked for at this cookie has ended by this number. It
+    /// waits for nobody and takes no memory.
+    pub fn ripen(&mut self, cookie: Cookie, seq: u64)
+        ensures same { (self.new.1 ≡ self.old.1) × (self.new.2 ≡ self.old.2) }
+        ensures items { self.new.0 ≡ ripened self.old.0 cookie seq }
+    {
+        let (_, waiting, _) = self.queue.segments();
+        if waiting > 0 {
+            self.queue.note(cookie);
+            self.queue.advance(seq);
         }
     }
 

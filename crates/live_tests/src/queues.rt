@@ -15,6 +15,7 @@ use live_words::{
     load_queued,
 };
 use live_write::{Chain, Owned, Unlinked, alloc};
+use poll_cookie::cookie_of;
 use rcu_model::{ObjectId, Refusal};
 use std::alloc::Global;
 use std::marker::Brand;
@@ -71,6 +72,49 @@ fn retires<P: GracePlan, B: Site, R: Wait>(
     };
     let back = matches!(why, Refusal::Closed) && callback.0 == 9;
     Ok((ticket.0, [before, after], back))
+}
+
+/// How many tickets were given as a batch was sealed, and the ticket and the object of the item that was handed out once
+/// its grace period had ended; whether none was handed out before, and none after it.
+fn batches<P: GracePlan, B: Site, R: Wait>(
+    rt: &R,
+    memory: Global,
+    table: &LiveTable<P, AnyChain>,
+    mut root: LiveSeat,
+) -> Result<([u64; 3], [bool; 2]), Refusal>
+    requires site { (table.now.words.shared.table_id ≡ B.table) × (table.now.words.shared.key ≡ B.sizes) × (root.table_id ≡ B.table) × (root.me ≡ (first_view B.sizes, [])) }
+    requires sizes { (table.now.chains ≡ 1) × (table.now.queues ≡ 1) × (table.now.pool ≡ 4) }
+{
+    let queue = table.cut_spare_queue(&mut root);
+    let mut items: Items<B, ObjectId> = Items::new(memory, queue, 0);
+    let mut record: Record<B> = Record::new(root);
+    let first: Unlinked<B> = cut_one(rt, table, &mut record, [5, 0, 0, 0])?;
+    let Ok(_ticket) = items.retire(table, &mut record, first, ObjectId(7)) else {
+        return Err(Refusal::Memory);
+    };
+    let mut worker = record.tell(table);
+    let mut list: Vec<u64> = Vec::new(memory);
+    let given = items.seal(table, &mut worker, 0, 0, &mut list)?;
+    items.ripen(cookie_of(0)?, 1);
+    let early = items.pop(table, &mut worker, 0, 0).is_none();
+    items.ripen(cookie_of(0)?, 2);
+    let Some((ticket, item)) = items.pop(table, &mut worker, 0, 0) else {
+        return Err(Refusal::NoPlace);
+    };
+    let late = items.pop(table, &mut worker, 0, 1).is_none();
+    Ok(([given, ticket.0, item.object.0], [early, late]))
+}
+
+#[test]
+fn a_batch_leaves_once_its_grace_period_has_ended(rt: HostRuntime) {
+    let (table, root) = LiveTable::<MembPlan, AnyChain>::new(rt.alloc(), 1, 1, 1, 4).expect(
+        &rt, "memory",
+    );
+    let (numbers, none) = batches::<_, Brand, _>(&rt, rt.alloc(), &table, root).expect(
+        &rt, "memory",
+    );
+    assert_eq!(rt; numbers, [1, 1, 1]);
+    assert_eq!(rt; none, [true; 2]);
 }
 
 #[test]
