@@ -12,4 +12,4 @@ read-requires-clause-held g c =
     let inner = held_in r s cell (begins.keeps (let d = looked.same.2 in let n = c.requires.1 in omega arith)) first in
     let outer = held_in s t cell (c.close.ensures.keeps (let d = looked.same.2 in let e = begins.deeper in let n = c.requires.1 in omega arith)) inner in
     let asked = held_in t u cell (held_across t u (search rules) (search rules)) outer in
-    held_in u v cell (held_across u v c.poll.ensures.witness.0 c.poll.ensures.witness.2) asked
+    held_in u v cell (held_across u v (search rules) (search rules)) asked
