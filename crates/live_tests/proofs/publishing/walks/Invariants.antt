@@ -1,4 +1,4 @@
-use Rattle.std.proofs.Common.{◌≡◌, ◌≤◌, ◌<◌, IfSome}
+use Rattle.std.proofs.Common.{◌≡◌, ℕ, ◌≤◌, ◌<◌, IfSome}
 use Rattle.live_read.specs.Reads.{HasHeld}
 use Rattle.live_tests.proofs.publishing.walks.Given as goal
 
