@@ -3,13 +3,14 @@
 ghost use Rattle.std.specs.Prelude.{◌≡◌};
 
 use crate::ledger::{Call, Finding, Ledger};
-use domain::{Domain, LiveConfig, Opened, Record, Site};
+use domain::{Domain, LiveConfig, Opened, Reader, Record, Site};
 use gp_memb::{GracePlan, MembPlan};
 use gp_qsbr::QsbrPlan;
 use live_words::AnyChain;
 use rcu_model::Refusal;
 use std::alloc::Global;
 use std::marker::Brand;
+use std::sync::Wait;
 
 /// A small domain.
 const SMALL: LiveConfig = LiveConfig {
@@ -49,34 +50,75 @@ fn answers<P: GracePlan + Drop, B: Site>(
     !past && matches!(domain.chain(record, 0), Err(Refusal::Busy))
 }
 
-/// Names a domain. Whether it answers.
-fn name<P: GracePlan + Drop, B: Site>(
+/// The payload of the first object of the chain, as a section reads it.
+fn read_first<P: GracePlan, B: Site>(
+    reader: &mut Reader<P, AnyChain, B>,
+) -> Result<Option<[u64; 4]>, Refusal>
+    requires { P.QSBR ≡ B.qsbr }
+{
+    let mut section = reader.section()?;
+    match section.first(0)? {
+        Some(held) => Ok(Some(section.read(held))),
+        None => Ok(None),
+    }
+}
+
+/// Whether a record is taken, given back, taken again, pushed and read: calls that take no memory.
+fn serves<P: GracePlan + Drop, B: Site, R: Wait>(
+    rt: &R,
+    domain: &Domain<P, AnyChain, B>,
+    record: &mut Record<B>,
+) -> Result<bool, Refusal>
+    requires { P.QSBR ≡ B.qsbr }
+{
+    let early = domain.alloc(rt, record, [2, 3, 5, 7])?;
+    domain.discard(record, early);
+    let owned = domain.alloc(rt, record, [11, 13, 17, 19])?;
+    let mut writer = domain.chain(record, 0)?;
+    writer.push(record, owned);
+    let mut reader = domain.register(rt, record)?;
+    if P::QSBR {
+        reader.online()?;
+    }
+    let words = read_first(&mut reader)?;
+    Ok(words == Some([11, 13, 17, 19]))
+}
+
+/// Names a domain. Whether it answers, and its records serve.
+fn name<P: GracePlan + Drop, B: Site, R: Wait>(
+    rt: &R,
     alloc: Global,
     opened: Opened<P, AnyChain>,
 ) -> Result<bool, Refusal>
     requires { (P.QSBR ≡ B.qsbr) × (opened.table.words.shared.table_id ≡ B.table) × (opened.table.words.shared.key ≡ B.sizes) }
 {
     let (domain, mut record) = opened.named::<B>(alloc)?;
-    Ok(answers(&domain, &mut record))
+    Ok(answers(&domain, &mut record) && serves(rt, &domain, &mut record)?)
 }
 
 /// Makes a domain, again where memory was refused. Whether it answers.
-fn make<P: GracePlan + Drop>(alloc: Global, ledger: &mut Ledger) -> Result<bool, Finding> {
+fn make<P: GracePlan + Drop, R: Wait>(
+    rt: &R,
+    alloc: Global,
+    ledger: &mut Ledger,
+) -> Result<bool, Finding> {
     let first = open::<P>(alloc, ledger)?;
-    match name::<P, Brand>(alloc, first) {
+    match name::<P, Brand, R>(rt, alloc, first) {
         Ok(good) => Ok(good),
         Err(Refusal::Memory) => {
             ledger.note(Call::NameDomain);
             let second = open::<P>(alloc, ledger)?;
-            name::<P, Brand>(alloc, second).map_err(|_| Finding::RefusedAgain(Call::NameDomain))
+            name::<P, Brand, R>(rt, alloc, second).map_err(|_| Finding::RefusedAgain(
+                Call::NameDomain,
+            ))
         }
         Err(_) => Err(Finding::Wrong(Call::NameDomain)),
     }
 }
 
-/// Makes a domain of each flavour.
-pub fn make_domains(alloc: Global, ledger: &mut Ledger) -> Result<u64, Finding> {
-    if make::<MembPlan>(alloc, ledger)? && make::<QsbrPlan>(alloc, ledger)? {
+/// Makes a domain of each flavour, and takes, publishes and reads its record.
+pub fn make_domains<R: Wait>(rt: &R, alloc: Global, ledger: &mut Ledger) -> Result<u64, Finding> {
+    if make::<MembPlan, R>(rt, alloc, ledger)? && make::<QsbrPlan, R>(rt, alloc, ledger)? {
         Ok(2)
     } else {
         Err(Finding::Wrong(Call::NameDomain))

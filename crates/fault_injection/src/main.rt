@@ -17,6 +17,7 @@ mod worlds;
 use ledger::{Call, Finding, Ledger};
 use scenario::{SCENARIOS, Scenario};
 use std::process::ExitCode;
+use std::sync::Wait;
 use std::{env, io};
 
 /// The words of the command line.
@@ -25,9 +26,9 @@ fn own_words(rt: &HostRuntime) -> io::Result<Vec<String>> {
 }
 
 /// Runs a scenario, and prints what it found. Answers whether all is as it has to be.
-fn tell(rt: &HostRuntime, scenario: Scenario, ledger: &mut Ledger) -> bool {
+fn tell<R: Wait>(rt: &HostRuntime, waits: &R, scenario: Scenario, ledger: &mut Ledger) -> bool {
     let name = scenario.name();
-    match scenario.run(rt.alloc(), ledger) {
+    match scenario.run(waits, rt.alloc(), ledger) {
         Ok(count) => println!(rt; "{name}: {count} hold").is_ok(),
         Err(finding) => {
             let _ = println!(rt; "{name}: {finding}");
@@ -37,7 +38,7 @@ fn tell(rt: &HostRuntime, scenario: Scenario, ledger: &mut Ledger) -> bool {
 }
 
 /// Runs the scenario of this name, or all of them where none is named.
-fn run(rt: &HostRuntime, ledger: &mut Ledger) -> Result<bool, Finding> {
+fn run<R: Wait>(rt: &HostRuntime, waits: &R, ledger: &mut Ledger) -> Result<bool, Finding> {
     let words = ledger.again(Call::Own, || own_words(rt))?;
     let mut good = true;
     for scenario in SCENARIOS {
@@ -45,7 +46,7 @@ fn run(rt: &HostRuntime, ledger: &mut Ledger) -> Result<bool, Finding> {
             Some(word) => word.as_str() == scenario.name(),
             None => true,
         };
-        if is_named && !tell(rt, scenario, ledger) {
+        if is_named && !tell(rt, waits, scenario, ledger) {
             good = false;
         }
     }
@@ -54,7 +55,7 @@ fn run(rt: &HostRuntime, ledger: &mut Ledger) -> Result<bool, Finding> {
 
 fn main(rt: HostRuntime) -> ExitCode {
     let mut ledger = Ledger::new();
-    let status = match run(&rt, &mut ledger) {
+    let status = match run(&rt, &rt, &mut ledger) {
         Ok(true) => 0,
         Ok(false) => 1,
         Err(finding) => {

@@ -8,6 +8,7 @@ use crate::registries::claim_slots;
 use crate::replays::{Way, replay_worked};
 use crate::worlds::{drain_worked, make_worlds, step_worked};
 use std::alloc::Global;
+use std::sync::Wait;
 use world::Flavour;
 
 /// Calls that are made one after the other.
@@ -23,7 +24,7 @@ pub enum Scenario {
     Queue,
     /// A registry is made, and its slots are claimed.
     Registry,
-    /// A domain of live threads is made in each flavour.
+    /// A domain of live threads is made in each flavour, and its record is taken, published and read.
     Domain,
     /// The logs of the worked schedules are judged, and broken ones.
     CheckLog,
@@ -79,14 +80,14 @@ impl Scenario {
     }
 
     /// Makes the calls, and answers how many answers were found to be as they have to be.
-    pub fn run(self, alloc: Global, ledger: &mut Ledger) -> Result<u64, Finding> {
+    pub fn run<R: Wait>(self, rt: &R, alloc: Global, ledger: &mut Ledger) -> Result<u64, Finding> {
         match self {
             Scenario::New => make_worlds(alloc, ledger),
             Scenario::Step(flavour) => step_worked(alloc, ledger, flavour),
             Scenario::Drain(flavour) => drain_worked(alloc, ledger, flavour),
             Scenario::Queue => push_items(alloc, ledger),
             Scenario::Registry => claim_slots(alloc, ledger),
-            Scenario::Domain => make_domains(alloc, ledger),
+            Scenario::Domain => make_domains(rt, alloc, ledger),
             Scenario::CheckLog => check_logs(alloc, ledger),
             Scenario::ReadSchedule => read_schedules(alloc, ledger),
             Scenario::ReadAnswers => read_logs(alloc, ledger),

@@ -8,6 +8,8 @@ mod domains;
 #[cfg(test)]
 mod grace_periods;
 #[cfg(test)]
+mod keyed;
+#[cfg(test)]
 mod publishing;
 #[cfg(test)]
 mod queues;

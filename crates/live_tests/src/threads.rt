@@ -5,7 +5,7 @@
 ghost use Rattle.std.specs.Prelude.{◌≡◌, false};
 ghost use Rattle.std.specs.Thread.{IsSync};
 
-use domain::{Domain, LiveConfig, Opened, Reader, Record, Site};
+use domain::{Chain, Domain, LiveConfig, Opened, Owned, Reader, Record, Site};
 use gp_memb::{GracePlan, MembPlan};
 use gp_qsbr::QsbrPlan;
 use live_words::AnyChain;
@@ -294,6 +294,34 @@ fn spawns<B: Site + Send + Sync + 'static, R: Threads + Wait + Copy + Send + 'st
     }
 }
 
+/// Pushes a record, and reads what is first then.
+fn pushes<P: GracePlan, B: Site>(
+    mut chain: Chain<'_, P, AnyChain, B>,
+    mut record: Record<B>,
+    owned: Owned<B>,
+) -> Option<[u64; 4]> {
+    chain.push(&mut record, owned);
+    chain.get(0)
+}
+
+/// A chain's writer and a record that it has not published yet are moved into another thread, which pushes the one by
+/// the other: what is first there, and how many objects the next writer finds here.
+fn moves_a_writer<
+    P: GracePlan + Drop + Send + Sync,
+    B: Site + Send + Sync,
+    R: Threads + Wait + Sync,
+>(rt: &R, alloc: Global, opened: Opened<P, AnyChain>) -> Result<(Option<[u64; 4]>, usize), Refusal>
+    requires { (P.QSBR ≡ B.qsbr) × (opened.table.words.shared.table_id ≡ B.table) × (opened.table.words.shared.key ≡ B.sizes) }
+{
+    let (domain, mut record) = opened.named::<B>(alloc)?;
+    let other = domain.split(&mut record);
+    let owned = domain.alloc(rt, &mut record, [3, 5, 7, 11])?;
+    let chain = domain.chain(&mut record, 0)?;
+    let (first, ()) = join(rt, move || pushes(chain, other, owned), || ());
+    let next = domain.chain(&mut record, 0)?;
+    Ok((first, next.len()))
+}
+
 fn of_four_slots() -> LiveConfig
     ensures { result.slots ≡ 4 }
 {
@@ -330,4 +358,16 @@ fn threads_own_readers_and_share_domains(rt: HostRuntime) {
     );
     let spawned = spawns::<Brand, _>(rt, rt.alloc(), opened).expect(&rt, "not refused");
     assert_eq!(rt; spawned, (true, true));
+}
+
+#[test]
+fn a_writer_is_moved_into_a_thread(rt: HostRuntime) {
+    let opened = Opened::<QsbrPlan, AnyChain>::new(rt.alloc(), of_four_slots()).expect(
+        &rt, "memory",
+    );
+    let moved = moves_a_writer::<QsbrPlan, Brand, _>(&rt, rt.alloc(), opened).expect(
+        &rt,
+        "not refused",
+    );
+    assert_eq!(rt; moved, (Some([3, 5, 7, 11]), 1));
 }
