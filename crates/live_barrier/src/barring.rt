@@ -18,8 +18,8 @@ pub struct BarrierMark {
     pub ghost noted: { CoverAll asked.value.me.0.sizes counts asked.value.me.0.seen },
 }
 
-/// Begins a barrier, as liburcu's `rcu_barrier` does before it waits: loads how many callbacks each queue was given. The
-/// first load comes after all that the seat had seen and heard. It never waits and takes no memory.
+/// Begins a barrier, as liburcu's `rcu_barrier` does before it waits: loads how many callbacks each queue was given.
+/// The first load comes after all that the seat had seen and heard. It never waits and takes no memory.
 pub fn barrier_start<P: GracePlan, K: ChainRule>(
     table: &LiveTable<P, K>,
     seat: &mut LiveSeat,
@@ -42,8 +42,8 @@ pub fn barrier_start<P: GracePlan, K: ChainRule>(
 
 /// Whether the barrier is passed: loads how many callbacks of each queue have finished, queue by queue, up to the first
 /// of which fewer have than the barrier noted. It is true exactly where there is none. Then all that was queued in the
-/// log at the barrier's first load has its Run, where the seat had seen or heard of that log. It never waits and takes no
-/// memory.
+/// log at the barrier's first load has its Run, where the seat had seen or heard of that log. It never waits and takes
+/// no memory.
 pub fn barrier_done<P: GracePlan, K: ChainRule>(
     table: &LiveTable<P, K>,
     seat: &mut LiveSeat,

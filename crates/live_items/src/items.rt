@@ -60,8 +60,8 @@ impl<B: Site, C: Drop> Items<B, C> {
         }
     }
 
-    /// Retires a cut object and queues its callback, liburcu's `call_rcu`. The retirement comes after the cut, and after
-    /// all that the witness had seen and heard of; the witness hears of it.
+    /// Retires a cut object and queues its callback, liburcu's `call_rcu`. The retirement comes after the cut, and
+    /// after all that the witness had seen and heard of; the witness hears of it.
     ///
     /// Refused with `Closed` exactly where the queue was closed, else with `Memory`; then nothing was stored, and both
     /// parts come back. It waits for nobody.
@@ -179,8 +179,8 @@ impl<B: Site, C: Drop> Items<B, C> {
         }
     }
 
-    /// Closes the queue: every later `retire` is refused, and what is queued stays. The witness hears of it. It waits for
-    /// nobody and takes no memory.
+    /// Closes the queue: every later `retire` is refused, and what is queued stays. The witness hears of it. It waits
+    /// for nobody and takes no memory.
     pub fn close<P: GracePlan, K: ChainRule, W: Witness>(
         &mut self,
         table: &LiveTable<P, K>,

@@ -1,6 +1,6 @@
 #![tactic(auto)]
-//! The steps on the words of queues: how many callbacks were queued and finished, whether a queue is closed, and who works
-//! for it.
+//! The steps on the words of queues: how many callbacks were queued and finished, whether a queue is closed, and who
+//! works for it.
 
 mod loads;
 mod plays;

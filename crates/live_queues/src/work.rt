@@ -14,8 +14,8 @@ use live_rule::LiveSeat;
 use live_table::LiveTable;
 
 /// Takes the right to work for a queue, if nobody has it: its hold word goes from 0 to 1. Answers the hold word that it
-/// found, which is kept among the looks: 0, and the right is the seat's; 1, and another has it; or 2, and nobody can have
-/// it any more. It never waits.
+/// found, which is kept among the looks: 0, and the right is the seat's; 1, and another has it; or 2, and nobody can
+/// have it any more. It never waits.
 pub fn hold_work<P: GracePlan, K: ChainRule>(
     table: &LiveTable<P, K>,
     seat: &mut LiveSeat,

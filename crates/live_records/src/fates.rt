@@ -34,8 +34,8 @@ pub fn store_retire<P: GracePlan, K: ChainRule>(
 }
 
 /// Frees the record of the seat's object, which is queued: stores 0 in its header, after which its callback may be
-/// called. The store is kept among the looks. The seat has seen, or heard of, a log in which the object was retired and each section that was open at its
-/// retirement had ended. It never waits.
+/// called. The store is kept among the looks. The seat has seen, or heard of, a log in which the object was retired and
+/// each section that was open at its retirement had ended. It never waits.
 pub fn store_run<P: GracePlan, K: ChainRule>(
     table: &LiveTable<P, K>,
     seat: &mut LiveSeat,
