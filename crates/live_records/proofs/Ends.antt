@@ -166,7 +166,7 @@ module _ {S : Type 0} (qsbr : Bool) (allows : Log → LiveEvent → Type 0) (key
           (refl, refl, (b.0, b.1, r.run)),
           alive.0.0,
           λ j low same.
-            let here : a ≡ cell_at key (cell_in v.object) (j + 2) = same ∙ ap (λ (k : Sizes). cell_at k (cell_in v.object) (j + 2)) sizes in
-            ap (λ (i : ℕ). get_or s.words i 0) here ∙ subst (λ (i : ℕ). get_or s.words (cell_at key i (j + 2)) 0 ≡ get_or (note_of r.log o).1 j 0) alive.1 (r.agree.heap.payload o alive.0 j low),
+              let here : a ≡ cell_at key (cell_in v.object) (j + 2) = same ∙ ap (λ (k : Sizes). cell_at k (cell_in v.object) (j + 2)) sizes in
+              ap (λ (i : ℕ). get_or s.words i 0) here ∙ subst (λ (i : ℕ). get_or s.words (cell_at key i (j + 2)) 0 ≡ get_or (note_of r.log o).1 j 0) alive.1 (r.agree.heap.payload o alive.0 j low),
         ),
       )
