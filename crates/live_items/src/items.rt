@@ -1,7 +1,7 @@
 //! What lies under a queue's lock.
-ghost use Rattle.std.specs.Prelude.{◌≡◌, ◌⊎◌, ◌+◌, ◌-◌, ◌<◌, ◌≤◌, ◌∷◌, [], Some, length, vec_capacity, vec_len, true, false, IfErr, IfNone, IfOk, IfSome};
+ghost use Rattle.std.specs.Prelude.{◌≡◌, ◌⊎◌, ◌+◌, ◌-◌, ◌<◌, ◌≤◌, ◌^◌, ◌∷◌, [], Some, length, vec_capacity, vec_len, true, false, IfErr, IfNone, IfOk, IfSome, IsOk};
 ghost use Rattle.rcu_model.specs.declared.refusal.Refusal.TheVariants.{Closed, Memory};
-ghost use Rattle.callback_queue.specs.Queue.{closed_queue, empty_queue, first_of, given_of, popped, sealed};
+ghost use Rattle.callback_queue.specs.Queue.{closed_queue, empty_queue, first_of, given_of, popped, sealed, with_place};
 ghost use Rattle.live_log.specs.declared.event.LiveEvent.TheVariants.{CloseQueue};
 ghost use Rattle.live_log.specs.Log.{Begins, line_of};
 ghost use Rattle.live_rule.specs.declared.rights.QueueRight.TheVariants.{Owns};
@@ -60,6 +60,25 @@ impl<B: Site, C: Drop> Items<B, C> {
         }
     }
 
+    /// Makes room for one callback, so that `retire` is not refused next: for calls that cut and retire.
+    ///
+    /// Refused with `Closed` exactly where the queue was closed, else with `Memory`; then the items are as they were. It
+    /// waits for nobody.
+    pub fn prepare(&mut self) -> Result<(), Refusal>
+        ensures ok { IfOk result (λ _. (self.old.0.closed ≡ false) × (given_of self.old.0 < 2 ^ 63) × (self.new.0 ≡ with_place self.old.0)) }
+        ensures refused { IfErr result (λ e. ((e ≡ Closed) × (self.old.0.closed ≡ true)) ⊎ ((e ≡ Memory) × (self.old.0.closed ≡ false) × ((self.old.0.reserved ≡ false) ⊎ (2 ^ 63 ≤ given_of self.old.0)))) }
+        ensures back { IfErr result (λ _. self.new ≡ self.old) }
+        ensures same { (self.new.1 ≡ self.old.1) × (self.new.2 ≡ self.old.2) }
+    {
+        if self.queue.is_closed() {
+            return Err(Refusal::Closed);
+        }
+        if self.queue.given() >= (1 << 63) {
+            return Err(Refusal::Memory);
+        }
+        self.queue.reserve()
+    }
+
     /// Retires a cut object and queues its callback, liburcu's `call_rcu`. The retirement comes after the cut, and
     /// after all that the witness had seen and heard of; the witness hears of it.
     ///
@@ -77,6 +96,7 @@ impl<B: Site, C: Drop> Items<B, C> {
         ensures ticket { IfOk result (λ t. (self.old.0.closed ≡ false) × (t.0 ≡ given_of self.old.0 + 1) × (given_of self.new.0 ≡ t.0)) }
         ensures retired { IfOk result (λ t. Queues P.QSBR K.allows (IsAfterAll unlinked.seat.me.0.seen (W.seen witness.old) (W.heard witness.old)) (object_in unlinked.seat.me.0.object) self.old.2 (given_of self.old.0) (W.heard witness.new)) }
         ensures refused { IfErr result (λ e. ((e.0 ≡ Closed) × (self.old.0.closed ≡ true)) ⊎ ((e.0 ≡ Memory) × (self.old.0.closed ≡ false))) }
+        ensures prepared { self.old.0.closed ≡ false → self.old.0.reserved ≡ true → given_of self.old.0 < 2 ^ 63 → IsOk result }
         ensures back { IfErr result (λ e. (e.1 ≡ unlinked) × (e.2 ≡ callback) × (self.new ≡ self.old) × (witness.new ≡ witness.old)) }
         ensures same { OnlyHears W.Witness witness.old witness.new }
     {

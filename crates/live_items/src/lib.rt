@@ -4,6 +4,7 @@
 mod items;
 mod job;
 mod retiring;
+mod running;
 
 pub use items::Items;
 pub use job::Job;

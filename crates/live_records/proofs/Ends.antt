@@ -1,6 +1,7 @@
 -- The two stores of a header that end an object's life keep the rule.
-use Rattle.std.proofs.Common.{◌≡◌, ◌≢◌, ℕ, ◌+◌, ◌*◌, ◌/◌, ◌<◌, List, ◌∷◌, Bool, get_or, set, sym, refl, ap, ◌∙◌, subst, inl, inr, ⊎_elim, arith, get_or-set_other, get_or-set_same, Option}
+use Rattle.std.proofs.Common.{◌≡◌, ◌≢◌, ℕ, ◌+◌, ◌*◌, ◌/◌, ◌<◌, List, [], ◌∷◌, Bool, get_or, set, sym, refl, ap, ◌∙◌, subst, inl, inr, ⊎_elim, arith, get_or-set_other, get_or-set_same, Option}
 use mathlib.Core.Option as lists
+use lib.ListN.{get_elem?}
 use Rattle.atomic_table.specs.Table.{State, Me, step, keeps, Allows}
 use Rattle.rcu_model.specs.declared.event.ObjectId.{ObjectId}
 use Rattle.rcu_model.specs.Sets.{In}
@@ -8,21 +9,21 @@ use Rattle.rcu_model.proofs.Lemmas.{in_objects, has_object_in}
 use Rattle.live_log.specs.declared.event.LiveEvent.{LiveEvent}
 use Rattle.live_log.specs.declared.event.LiveEvent.TheVariants.{Object}
 use Rattle.live_log.specs.declared.event.ObjectEvent.TheVariants.{Retire, Run}
-use Rattle.live_log.specs.Log.{Log, IsLiveRun, Objects, objects_of, Spot, head, link, Leads}
+use Rattle.live_log.specs.Log.{Log, note_of, IsLiveRun, Objects, objects_of, Spot, head, link, Leads}
 use Rattle.live_log.proofs.Lemmas.{by_object, kept_log, ready_stays}
 use Rattle.live_rule.specs.declared.view.Sizes.{Sizes}
 use Rattle.live_rule.specs.declared.view.View.{View}
 use Rattle.live_rule.specs.declared.rights.RecordRight.{RecordRight}
-use Rattle.live_rule.specs.declared.rights.RecordRight.TheVariants.{Unlinked, Queued}
+use Rattle.live_rule.specs.declared.rights.RecordRight.TheVariants.{Unlinked, Retired, Queued}
 use Rattle.live_rule.specs.Places.{cell_at}
 use Rattle.live_rule.specs.Objects.{IsAlive, Header}
 use Rattle.live_rule.specs.Rights.{ClaimsObject}
 use Rattle.live_rule.specs.Rule.{KeepsRule}
 use Rattle.live_rule.specs.Seats.{but_object}
-use Rattle.live_rule.proofs.Lemmas.{calm_object, heap_beside, header_same, object_stays}
-use Rattle.live_table.specs.Rights.{IsQueued, IsUnlinked, cell_in, object_in}
+use Rattle.live_rule.proofs.Lemmas.{calm_object, heap_beside, header_same, object_stays, looks, look_all}
+use Rattle.live_table.specs.Rights.{IsQueued, IsRetired, IsUnlinked, cell_in, object_in}
 use Rattle.live_table.specs.Steps.{IsKnown, looked_view}
-use Rattle.live_records.specs.Records.{IsRipe, retired_view, retired, ran}
+use Rattle.live_records.specs.Records.{HasCut, IsRipe, retired_view, retired, ran, looked_payload}
 use Rattle.live_records.proofs.Records.{number_is, own_record, knew, cell_far, alive_far, fresh_far, last_less, head_same}
 
 leads_retired : (log : Log) (o : ObjectId) (t : Spot) (found : Option ObjectId) → Leads (objects_of (Object (Retire o) ∷ log)) t found → Leads (objects_of log) t found
@@ -130,4 +131,42 @@ module _ {S : Type 0} (qsbr : Bool) (allows : Log → LiveEvent → Type 0) (key
               mine = λ q claim. absurd claim;
             })),
         (refl, refl, (r.log, refl, b.0, b.1, run)),
+      )
+
+  -- an object that was cut and has not been run is alive, and lies in the seat's record
+  cut_alive : (s : State S View) (r : Rule s) (id : ℕ) (v : View) → get_elem? s.views id ≡ lists.some v → HasCut v → IsAlive (objects_of r.log) (object_in v.object) × ((note_of r.log (object_in v.object)).0 ≡ cell_in v.object)
+  cut_alive s r id v at (inl is) =
+      let o : ObjectId = object_in v.object in
+      let k = knew qsbr allows key s r id v (Unlinked (cell_in v.object) o) at is refl in
+      let kept = kept_log qsbr allows r.log r.run in
+      ((kept.linking.cut_used o k.0, λ h. k.1 (kept.run o h).0), k.2)
+  cut_alive s r id v at (inr (inl is)) =
+      let o : ObjectId = object_in v.object in
+      let k = knew qsbr allows key s r id v (Retired (cell_in v.object) o) at is refl in
+      let kept = kept_log qsbr allows r.log r.run in
+      ((kept.linking.cut_used o (kept.linking.retired_cut o k.0), k.2), k.3)
+  cut_alive s r id v at (inr (inr is)) =
+      let o : ObjectId = object_in v.object in
+      let k = knew qsbr allows key s r id v (Queued (cell_in v.object) o) at is refl in
+      let kept = kept_log qsbr allows r.log r.run in
+      ((kept.linking.cut_used o (kept.linking.retired_cut o k.0), k.2), k.3)
+
+  pub looks_payload : (slots id : ℕ) (me : Me S View) (a : ℕ) → me.0.sizes ≡ key → HasCut me.0 → Allows Rule slots id me a (λ n. n) (looked_payload qsbr allows (step slots a 0 0 lists.none) me)
+  looks_payload slots id me a sizes is s r deep at fits =
+      let v : View = me.0 in
+      let b = r.seen id v at in
+      let w : View = record v { seen = r.log } in
+      let o : ObjectId = object_in v.object in
+      let alive = cut_alive s r id v at is in (
+        w,
+        keeps,
+        tt,
+        looks qsbr allows key s r id a v w at refl refl (look_all qsbr allows key s r id v w at (refl, refl, refl, refl, refl, refl, refl)),
+        (
+          (refl, refl, (b.0, b.1, r.run)),
+          alive.0.0,
+          λ j low same.
+              let here : a ≡ cell_at key (cell_in v.object) (j + 2) = same ∙ ap (λ (k : Sizes). cell_at k (cell_in v.object) (j + 2)) sizes in
+              ap (λ (i : ℕ). get_or s.words i 0) here ∙ subst (λ (i : ℕ). get_or s.words (cell_at key i (j + 2)) 0 ≡ get_or (note_of r.log o).1 j 0) alive.1 (r.agree.heap.payload o alive.0 j low),
+        ),
       )

@@ -1,17 +1,17 @@
 -- What each step on a record tells.
-use Rattle.std.specs.Prelude.{Bool, ◌≡◌, ◌≢◌, ◌⊎◌, ℕ, ◌+◌, ◌*◌, ◌<◌, List, [], length, slice_set}
+use Rattle.std.specs.Prelude.{Bool, ◌≡◌, ◌≢◌, ◌⊎◌, ℕ, ◌+◌, ◌*◌, ◌<◌, List, [], length, slice_index_or, slice_set}
 use Rattle.atomic_table.specs.Table.{Me, Step}
 use Rattle.rcu_model.specs.declared.event.ObjectId.{ObjectId}
 use Rattle.rcu_model.specs.Sets.{In}
 use Rattle.live_log.specs.declared.event.LiveEvent.{LiveEvent}
 use Rattle.live_log.specs.declared.event.LiveEvent.TheVariants.{Object}
 use Rattle.live_log.specs.declared.event.ObjectEvent.TheVariants.{Retire, Run}
-use Rattle.live_log.specs.Log.{Log, state_of}
+use Rattle.live_log.specs.Log.{Log, note_of, state_of}
 use Rattle.live_rule.specs.declared.view.View.{View}
 use Rattle.live_rule.specs.declared.rights.RecordRight.TheVariants.{Drawn, Fresh, Retired}
 use Rattle.live_rule.specs.Places.{cell_at}
 use Rattle.live_rule.specs.Seats.{but_object}
-use Rattle.live_table.specs.Rights.{KnowsChains, IsFresh, IsUnlinked, cell_in, object_in, link_in, payload_in}
+use Rattle.live_table.specs.Rights.{KnowsChains, IsFresh, IsUnlinked, IsRetired, IsQueued, cell_in, object_in, link_in, payload_in}
 use Rattle.live_table.specs.Steps.{Did, Went, looked_view}
 
 -- the view, once this number was drawn
@@ -41,6 +41,10 @@ IsRipe log o = In (state_of log).retired o × ((state_of log).awaited o ≡ [])
 -- the seat has the right to a record, whose object is not retired
 abbrev pub HasRecord : View → Type 0
 HasRecord v = IsFresh v ⊎ IsUnlinked v
+
+-- the seat has the right to an object that was cut and has not been run, and to its record
+abbrev pub HasCut : View → Type 0
+HasCut v = IsUnlinked v ⊎ (IsRetired v ⊎ IsQueued v)
 
 module _ {S : Type 0} (qsbr : Bool) (allows : Log → LiveEvent → Type 0) where
   -- a word was looked at
@@ -80,3 +84,7 @@ module _ {S : Type 0} (qsbr : Bool) (allows : Log → LiveEvent → Type 0) wher
   -- the object's callback may run, and its record was freed by this word
   abbrev pub ran : Step S → Me S View → ℕ → Me S View → Type 0
   ran st m n m' = Did qsbr allows (looked_view st.word st.first (but_object m.0)) (Object (Run (object_in m.0.object))) m m'
+
+  -- a payload word of the seat's own object was looked at, which was cut and has not been run
+  abbrev pub looked_payload : Step S → Me S View → ℕ → Me S View → Type 0
+  looked_payload st m n m' = Went qsbr allows m.0 m m' × In (state_of m'.0.seen).used (object_in m.0.object) × ((j : ℕ) → j < 4 → st.word ≡ cell_at m.0.sizes (cell_in m.0.object) (j + 2) → n ≡ slice_index_or (note_of m'.0.seen (object_in m.0.object)).1 j 0)

@@ -1,18 +1,39 @@
 //! The two stores of a header that end an object's life: it is retired, and once it was queued its callback may run.
-ghost use Rattle.std.specs.Prelude.{◌≡◌, ◌<◌, ◌^◌};
+ghost use Rattle.std.specs.Prelude.{◌≡◌, ◌<◌, ◌^◌, slice_index_or};
 ghost use Rattle.live_log.specs.declared.event.LiveEvent.TheVariants.{Object};
 ghost use Rattle.live_log.specs.declared.event.ObjectEvent.TheVariants.{Retire, Run};
+ghost use Rattle.rcu_model.specs.Sets.{In};
+ghost use Rattle.live_log.specs.Log.{note_of, state_of};
 ghost use Rattle.live_rule.specs.Places.{cell_at};
 ghost use Rattle.live_rule.specs.Seats.{but_object};
 ghost use Rattle.live_table.specs.Rights.{IsQueued, IsUnlinked, cell_in, object_in};
-ghost use Rattle.live_table.specs.Steps.{Did, IsKnown, Keeps, looked_view};
-ghost use Rattle.live_records.specs.Records.{IsRipe, retired_view};
+ghost use Rattle.live_table.specs.Steps.{Did, IsKnown, Keeps, Went, looked_view};
+ghost use Rattle.live_records.specs.Records.{HasCut, IsRipe, retired_view};
 
-use crate::plays::{Retires, Runs};
+use crate::plays::{LooksPayload, Retires, Runs};
 use gp_memb::GracePlan;
 use live_log::ChainRule;
 use live_rule::LiveSeat;
 use live_table::LiveTable;
+
+/// Loads a payload word of the seat's object, which was cut and has not been run, the first one at `index` 0: the word
+/// that was noted with the object when it was published. It never waits.
+pub fn load_payload<P: GracePlan, K: ChainRule>(
+    table: &LiveTable<P, K>,
+    seat: &mut LiveSeat,
+    cell: usize,
+    index: usize,
+) -> u64
+    requires seat { (seat.old.table_id ≡ table.now.words.shared.table_id) × (seat.old.me.0.sizes ≡ table.now.words.shared.key) × (cell < table.now.pool) × (index < 4) }
+    requires right { HasCut seat.old.me.0 × (cell_in seat.old.me.0.object ≡ cell) }
+    ensures seat { Keeps seat.old seat.new }
+    ensures looked { Went P.QSBR K.allows seat.old.me.0 seat.old.me seat.new.me }
+    ensures published { In (state_of seat.new.me.0.seen).used (object_in seat.old.me.0.object) }
+    ensures word { result ≡ slice_index_or (note_of seat.new.me.0.seen (object_in seat.old.me.0.object)).1 index 0 }
+{
+    let place = table.cell_place(cell, index + 2);
+    table.words.shared.load::<LooksPayload<P, K>>(seat, place)
+}
 
 /// Retires the seat's object, which is cut: stores 1 more than twice its number in its record's header. It never waits.
 pub fn store_retire<P: GracePlan, K: ChainRule>(

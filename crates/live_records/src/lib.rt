@@ -5,7 +5,7 @@ mod fates;
 mod plays;
 mod steps;
 
-pub use fates::{store_retire, store_run};
+pub use fates::{load_payload, store_retire, store_run};
 pub use steps::{
     draw_number, load_header, load_last, load_number, store_discard, store_link, store_word,
     take_cell,

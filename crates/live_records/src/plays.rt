@@ -1,5 +1,5 @@
 //! What each step on a record tells.
-ghost use Rattle.live_records.specs.Records.{discarded, drew, linked, looked, numbered, ran, retired, took, worded};
+ghost use Rattle.live_records.specs.Records.{discarded, drew, linked, looked, looked_payload, numbered, ran, retired, took, worded};
 
 use atomic_table::Play;
 use gp_memb::GracePlan;
@@ -65,4 +65,10 @@ pub(crate) struct Runs<P, K>(PhantomData<(P, K)>);
 
 impl<P: GracePlan, K: ChainRule> Play<(), View> for Runs<P, K> {
     ghost then = { ran P.QSBR K.allows };
+}
+
+pub(crate) struct LooksPayload<P, K>(PhantomData<(P, K)>);
+
+impl<P: GracePlan, K: ChainRule> Play<(), View> for LooksPayload<P, K> {
+    ghost then = { looked_payload P.QSBR K.allows };
 }

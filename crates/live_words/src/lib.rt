@@ -18,8 +18,8 @@ pub use live_readers::{
     store_quiescent, unlock,
 };
 pub use live_records::{
-    draw_number, load_header, load_last, load_number, store_discard, store_link, store_retire,
-    store_run, store_word, take_cell,
+    draw_number, load_header, load_last, load_number, load_payload, store_discard, store_link,
+    store_retire, store_run, store_word, take_cell,
 };
 pub use live_rule::{
     ChainRight, GraceRight, GroupsRight, LiveRule, LiveSeat, QueueRight, RecordRight, Sizes,

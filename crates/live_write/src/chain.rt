@@ -133,7 +133,7 @@ impl<'d, P: GracePlan, K: ChainRule, B: Site> Chain<'d, P, K, B> {
     pub fn cut<W: Witness>(&mut self, witness: &mut W, index: usize) -> Result<Unlinked<B>, Refusal>
         requires home { W.home witness.old ≡ (B.table, B.sizes) }
         requires rule { (o : ObjectId) → slice_get (list_in self.old.seat.me.0) index ≡ Some o → MayPublish P.QSBR K.allows self.old.seat.me.0 (W.seen witness.old) (W.heard witness.old) [] (cut_of o self.old.seat.me.0) }
-        ensures object { IfOk result (λ u. (slice_get (list_in self.old.seat.me.0) index ≡ Some (object_in u.seat.me.0.object)) × (u.seat.me.0.seen ≡ self.new.seat.me.0.seen)) }
+        ensures object { IfOk result (λ u. (slice_get (list_in self.old.seat.me.0) index ≡ Some (object_in u.seat.me.0.object)) × (u.seat.me.0.seen ≡ self.new.seat.me.0.seen) × (u.chain ≡ self.old.number)) }
         ensures list { IfOk result (λ u. (list_in self.new.seat.me.0 ≡ without_object (object_in u.seat.me.0.object) (list_in self.old.seat.me.0)) × ((own_in self.new.seat.me.0.chains).note ≡ (own_in self.old.seat.me.0.chains).note) × (lent_chains self.new.seat.me.0.chains ≡ lent_chains self.old.seat.me.0.chains) × (self.new.number ≡ self.old.number)) }
         ensures cut { IfOk result (λ u. Publishes P.QSBR K.allows self.old.seat.me.0 (W.seen witness.old) (W.heard witness.old) [] (cut_of (object_in u.seat.me.0.object) self.old.seat.me.0) self.new.seat.me.0.seen) }
         ensures heard { IfOk result (λ _. W.heard witness.new ≡ self.new.seat.me.0.seen) }
@@ -145,7 +145,7 @@ impl<'d, P: GracePlan, K: ChainRule, B: Site> Chain<'d, P, K, B> {
         }
         let (seat, cell) = cut_record(self.table, &mut self.seat, self.number, witness, index);
         self.linked -= 1;
-        Ok(Unlinked::of(seat, cell))
+        Ok(Unlinked::of(seat, cell, self.number))
     }
 
     /// The object of a record takes the place of the one at an index, liburcu's `cds_list_replace_rcu`, after a walk to
@@ -163,7 +163,7 @@ impl<'d, P: GracePlan, K: ChainRule, B: Site> Chain<'d, P, K, B> {
     ) -> Result<Unlinked<B>, (Refusal, Owned<B>)>
         requires home { W.home witness.old ≡ (B.table, B.sizes) }
         requires rule { (o : ObjectId) → slice_get (list_in self.old.seat.me.0) index ≡ Some o → MayPublish P.QSBR K.allows self.old.seat.me.0 (W.seen witness.old) (W.heard witness.old) owned.seat.me.0.seen (replace_by o self.old.seat.me.0 owned.seat.me.0) }
-        ensures object { IfOk result (λ u. (slice_get (list_in self.old.seat.me.0) index ≡ Some (object_in u.seat.me.0.object)) × (u.seat.me.0.seen ≡ self.new.seat.me.0.seen)) }
+        ensures object { IfOk result (λ u. (slice_get (list_in self.old.seat.me.0) index ≡ Some (object_in u.seat.me.0.object)) × (u.seat.me.0.seen ≡ self.new.seat.me.0.seen) × (u.chain ≡ self.old.number)) }
         ensures list { IfOk result (λ u. (list_in self.new.seat.me.0 ≡ replaced (object_in u.seat.me.0.object) (object_in owned.seat.me.0.object) (list_in self.old.seat.me.0)) × ((own_in self.new.seat.me.0.chains).note ≡ (own_in self.old.seat.me.0.chains).note) × (lent_chains self.new.seat.me.0.chains ≡ lent_chains self.old.seat.me.0.chains) × (self.new.number ≡ self.old.number)) }
         ensures replaced { IfOk result (λ u. Publishes P.QSBR K.allows self.old.seat.me.0 (W.seen witness.old) (W.heard witness.old) owned.seat.me.0.seen (replace_by (object_in u.seat.me.0.object) self.old.seat.me.0 owned.seat.me.0) self.new.seat.me.0.seen) }
         ensures heard { IfOk result (λ _. W.heard witness.new ≡ self.new.seat.me.0.seen) }
@@ -183,7 +183,7 @@ impl<'d, P: GracePlan, K: ChainRule, B: Site> Chain<'d, P, K, B> {
             seat,
             cell,
         );
-        Ok(Unlinked::of(left, was))
+        Ok(Unlinked::of(left, was, self.number))
     }
 
     /// The chain's note, which this writer alone may change: that of the log that it has seen at the return. It never

@@ -38,6 +38,8 @@ pub struct Unlinked<B: Site> {
     /// What was seen at the cut, and the right to the record.
     pub seat: LiveSeat,
     pub(crate) cell: usize,
+    // The chain that linked it.
+    pub(crate) chain: usize,
     pub(crate) site: PhantomData<B>,
     pub ghost seated: { (seat.table_id ≡ B.table) × (seat.me.0.sizes ≡ B.sizes) × (seat.me.1 ≡ []) },
     pub ghost unlinked: { IsUnlinked seat.me.0 × (cell_in seat.me.0.object ≡ cell) × (cell < B.sizes.pool) },
@@ -49,16 +51,24 @@ impl<B: Site> Unlinked<B> {
     ghost use Rattle.live_table.specs.Steps.{Keeps, Went, looked_view};
 
     /// Of a seat with the right to it.
-    pub(crate) fn of(seat: LiveSeat, cell: usize) -> Unlinked<B>
+    pub(crate) fn of(seat: LiveSeat, cell: usize, chain: usize) -> Unlinked<B>
         requires site { (seat.table_id ≡ B.table) × (seat.me.0.sizes ≡ B.sizes) × (seat.me.1 ≡ []) }
         requires right { IsUnlinked seat.me.0 × (cell_in seat.me.0.object ≡ cell) × (cell < B.sizes.pool) }
-        ensures { result.seat ≡ seat }
+        ensures { (result.seat ≡ seat) × (result.chain ≡ chain) }
     {
         Unlinked {
             seat,
             cell,
+            chain,
             site: PhantomData,
         }
+    }
+
+    /// The chain that linked it. It never waits.
+    pub fn chain(&self) -> usize
+        ensures { result ≡ self.now.chain }
+    {
+        self.chain
     }
 
     /// The seat with the right to it, and its record. It never waits.

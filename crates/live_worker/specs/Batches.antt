@@ -1,0 +1,27 @@
+-- What a worker knows of its batch, and of what it has run.
+use Rattle.std.specs.Prelude.{◌≡◌, ℕ, ◌+◌, ◌≤◌, List, [], ◌∷◌, length}
+use Rattle.rcu_model.specs.Sets.{In}
+use Rattle.call_rcu_worker.specs.declared.finished.Finished.{Finished}
+use Rattle.live_log.specs.Log.{Log, Begins, HaveEnded, line_of, state_of}
+use Rattle.live_rule.specs.declared.view.View.{View}
+use Rattle.live_rule.specs.declared.rights.WorkRight.TheVariants.{Works}
+use Rattle.live_words.specs.Queues.{IsAt}
+
+-- the seat works for the queue, of which so many are finished
+abbrev pub WorksFor : ℕ → ℕ → View → Type 0
+WorksFor q n v = v.work ≡ Works q n
+
+-- a grace period has ended that began after as many were queued
+abbrev pub IsDue : ℕ → ℕ → Log → Type 0
+IsDue q given log = (mark : Log) × Begins mark log × HaveEnded mark log × (given ≤ length (line_of mark q))
+
+-- the object before which so many were queued has its Run, and the entry tells of it
+pub record IsRunAs (q : ℕ) (log : Log) (n : ℕ) (entry : Finished) : Type 0 where
+  pub ticket : entry.ticket.0 ≡ n + 1
+  pub turn : IsAt q n entry.object log
+  pub run : In (state_of log).reclaimed entry.object
+
+-- consecutive tickets, from one above this number on, each with its Run
+abbrev pub AreRunAs : ℕ → Log → ℕ → List Finished → Type 0
+AreRunAs q log n [] = Unit {0}
+AreRunAs q log n (entry ∷ entries) = IsRunAs q log n entry × AreRunAs q log (n + 1) entries
