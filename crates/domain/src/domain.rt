@@ -1,6 +1,6 @@
 //! What a program calls.
 
-ghost use Rattle.std.specs.Prelude.{◌≡◌, ◌≢◌, ◌<◌, ◌≤◌, ◌^◌, ◌↔◌, true, IfErr, IfOk, IsOk, IsTrue};
+ghost use Rattle.std.specs.Prelude.{◌≡◌, ◌≢◌, ◌<◌, ◌≤◌, ◌^◌, ◌↔◌, true, IfErr, IfOk, IsOk, IsTrue, vec_len};
 ghost use Rattle.std.specs.Arc.{arc_value};
 ghost use Rattle.rcu_model.specs.declared.refusal.Refusal.TheVariants.{Busy, Exhausted, NoSlot};
 ghost use Rattle.poll_cookie.specs.Cookie.{cookie_for};
@@ -12,24 +12,30 @@ ghost use Rattle.live_read.specs.Hearing.{FindsNothing, IsAfter, IsAsBefore};
 ghost use Rattle.domain.specs.Waiting.{LoadedOnce, Synchronized};
 
 use crate::grace_lock::GraceLock;
+use crate::queue::Queue;
+use callback_queue::Callback;
 use gp_memb::GracePlan;
 use live_grace::{LiveCookie, ask};
 use live_read::{Reader, Record, Registrar, Site, Witness, learn_more};
+use live_reclaim::Deleter;
 use live_words::{ChainRule, LiveSeat, LiveTable};
 use rcu_model::Refusal;
 use std::sync::{Arc, Mutex, Wait};
 
-/// A domain: readers register in it, records are taken from its pool and chains of it are written, and its grace periods
-/// are waited for and polled. Threads share it by reference or by `Arc`.
+/// A domain: readers register in it, records are taken from its pool and chains of it are written, what was cut is
+/// retired with a callback `D`, and its grace periods are waited for and polled. Threads share it by reference or by
+/// `Arc`.
 #[derive(Drop)]
-pub struct Domain<P: GracePlan, K: ChainRule, B: Site> {
+pub struct Domain<P: GracePlan, K: ChainRule, B: Site, D: Deleter = Callback> {
     pub(crate) table: Arc<LiveTable<P, K>>,
     pub(crate) registrar: Mutex<Registrar<P, K, B>>,
     pub(crate) grace: Mutex<GraceLock<P, B>>,
+    pub(crate) queues: Vec<Queue<B, D>>,
+    pub(crate) ghost queued: { (vec_len queues ≡ B.sizes.queues) × (1 ≤ B.sizes.queues) },
     pub(crate) ghost named: { ((arc_value table).words.shared.table_id ≡ B.table) × ((arc_value table).words.shared.key ≡ B.sizes) × (P.QSBR ≡ B.qsbr) },
 }
 
-impl<P: GracePlan + Drop, K: ChainRule, B: Site> Domain<P, K, B> {
+impl<P: GracePlan + Drop, K: ChainRule, B: Site, D: Deleter> Domain<P, K, B, D> {
     /// Registers a reader, liburcu's `rcu_register_thread`. It is offline in the quiescent-state flavour, hears what
     /// the caller has seen and heard of, and may be moved into any thread.
     ///

@@ -6,11 +6,16 @@ mod config;
 mod domain;
 mod grace_lock;
 mod opened;
+mod queue;
+mod retiring;
 mod writing;
 
+pub use callback_queue::{Callback, Ripe, Ticket};
+pub use call_rcu_worker::Finished;
 pub use config::LiveConfig;
 pub use domain::Domain;
 pub use live_grace::LiveCookie;
 pub use live_read::{Held, Reader, Record, Section, Site, Witness};
+pub use live_reclaim::Deleter;
 pub use live_write::{Chain, Owned, Unlinked};
 pub use opened::Opened;

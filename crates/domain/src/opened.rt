@@ -1,6 +1,6 @@
 //! How a domain is made.
 
-ghost use Rattle.std.specs.Prelude.{◌≡◌, ◌<◌, [], true, IfErr, IfOk};
+ghost use Rattle.std.specs.Prelude.{◌≡◌, ◌<◌, ◌≤◌, [], true, IfErr, IfOk};
 ghost use Rattle.rcu_model.specs.declared.refusal.Refusal.TheVariants.{Memory};
 ghost use Rattle.live_rule.specs.Views.{first_view};
 ghost use Rattle.domain.specs.Config.{is_supported, new_refusal};
@@ -8,8 +8,10 @@ ghost use Rattle.domain.specs.Config.{is_supported, new_refusal};
 use crate::config::LiveConfig;
 use crate::domain::Domain;
 use crate::grace_lock::GraceLock;
+use crate::queue::queues_of;
 use gp_memb::GracePlan;
 use live_read::{Record, Registrar, Site};
+use live_reclaim::Deleter;
 use live_words::{ChainRule, LiveSeat, LiveTable};
 use rcu_model::Refusal;
 use std::alloc::Global;
@@ -22,7 +24,7 @@ pub struct Opened<P: GracePlan, K: ChainRule> {
     /// The words.
     pub table: LiveTable<P, K>,
     seat: LiveSeat,
-    pub ghost fresh: { (seat.table_id ≡ table.words.shared.table_id) × (seat.me ≡ (first_view table.words.shared.key, [])) × (0 < table.slots) },
+    pub ghost fresh: { (seat.table_id ≡ table.words.shared.table_id) × (seat.me ≡ (first_view table.words.shared.key, [])) × (0 < table.slots) × (1 ≤ table.queues) },
 }
 
 impl<P: GracePlan + Drop, K: ChainRule> Opened<P, K> {
@@ -51,10 +53,14 @@ impl<P: GracePlan + Drop, K: ChainRule> Opened<P, K> {
     }
 
     /// The domain under this name, none of whose slots is claimed, and the first record, which has seen nothing yet.
-    /// All the memory that registering takes is taken here.
+    /// All the memory that registering takes is taken here. `D` is what is called with each object that is reclaimed: the
+    /// boxed `Callback`, or a type of the program's own.
     ///
     /// Refused with `Memory` where memory is. It never waits.
-    pub fn named<B: Site>(self, alloc: Global) -> Result<(Domain<P, K, B>, Record<B>), Refusal>
+    pub fn named<B: Site, D: Deleter>(
+        self,
+        alloc: Global,
+    ) -> Result<(Domain<P, K, B, D>, Record<B>), Refusal>
         requires { (P.QSBR ≡ B.qsbr) × (self.table.words.shared.table_id ≡ B.table) × (self.table.words.shared.key ≡ B.sizes) }
         ensures ok { IfOk result (λ made. (made.1.seat.me.0.seen ≡ []) × (made.1.seat.me.0.heard ≡ [])) }
         ensures err { IfErr result (λ e. e ≡ Memory) }
@@ -65,12 +71,16 @@ impl<P: GracePlan + Drop, K: ChainRule> Opened<P, K> {
         };
         let registrar = Registrar::new(alloc, &table, &mut seat)?;
         let grace = GraceLock::new(table.cut_grace(&mut seat));
+        let Ok(queues) = queues_of(alloc, &table, &mut seat) else {
+            return Err(Refusal::Memory);
+        };
         let record = Record::new(table.tell(&mut seat));
         Ok((
             Domain {
                 table,
                 registrar: Mutex::new(registrar),
                 grace: Mutex::new(grace),
+                queues,
             },
             record,
         ))

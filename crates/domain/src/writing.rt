@@ -13,12 +13,13 @@ ghost use Rattle.live_write.specs.Searching.{AreTaken, IsUsedUp};
 use crate::domain::Domain;
 use gp_memb::GracePlan;
 use live_read::{Site, Witness};
+use live_reclaim::Deleter;
 use live_words::ChainRule;
 use live_write::{Chain, Owned, Unlinked};
 use rcu_model::{ObjectId, Refusal};
 use std::sync::Wait;
 
-impl<P: GracePlan + Drop, K: ChainRule, B: Site> Domain<P, K, B> {
+impl<P: GracePlan + Drop, K: ChainRule, B: Site, D: Deleter> Domain<P, K, B, D> {
     /// A record with these four words, which no chain links yet. The caller hears of what was seen at that.
     ///
     /// Refused with `PoolFull` only where it found the header of each record other than 0, or the last object number at

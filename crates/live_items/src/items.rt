@@ -60,6 +60,13 @@ impl<B: Site, C: Drop> Items<B, C> {
         }
     }
 
+    /// Which queue it is. It never waits.
+    pub fn number(&self) -> usize
+        ensures { result ≡ self.now.2 }
+    {
+        self.number
+    }
+
     /// Makes room for one callback, so that `retire` is not refused next: for calls that cut and retire.
     ///
     /// Refused with `Closed` exactly where the queue was closed, else with `Memory`; then the items are as they were. It

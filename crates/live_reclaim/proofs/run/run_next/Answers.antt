@@ -8,8 +8,8 @@ use Rattle.live_rule.specs.declared.view.View.{View}
 use Rattle.live_rule.specs.declared.rights.WorkRight.{WorkRight}
 use Rattle.live_table.specs.Rights.{finished_in, work_in}
 use Rattle.live_words.specs.Queues.{HasRunAt, IsAt}
-use Rattle.live_worker.proofs.Ripening.{ended_later, has_run, ripe_next, stands_later}
-use Rattle.live_worker.proofs.run.run_next.Goals as goal
+use Rattle.live_reclaim.proofs.Ripening.{ended_later, has_run, ripe_next, stands_later}
+use Rattle.live_reclaim.proofs.run.run_next.Goals as goal
 
 pub run-deleter-requires-clause-ripe : goal.run-deleter-requires-clause-ripe
 run-deleter-requires-clause-ripe g c =

@@ -2,7 +2,9 @@
 //! The worker of a queue: it takes what was queued, waits for a grace period, and runs it.
 
 mod deleter;
+mod refusing;
 mod run;
 
 pub use deleter::Deleter;
+pub use refusing::refusal_of;
 pub use run::run_next;

@@ -3,7 +3,7 @@ ghost use Rattle.std.specs.Prelude.{◌≡◌, ◌+◌, ◌<◌, ◌≤◌, ◌^
 ghost use Rattle.live_log.specs.Log.{Begins, IsLiveRun};
 ghost use Rattle.live_table.specs.Steps.{Keeps};
 ghost use Rattle.live_items.specs.Items.{IsPlaced};
-ghost use Rattle.live_worker.specs.Batches.{IsDue, IsRunAs, WorksFor};
+ghost use Rattle.live_reclaim.specs.Batches.{IsDue, IsRunAs, WorksFor};
 
 use crate::deleter::Deleter;
 use call_rcu_worker::Finished;

@@ -1,0 +1,83 @@
+//! What a program calls to retire what was cut.
+
+ghost use Rattle.std.specs.Prelude.{◌≡◌, ◌⊎◌, ◌+◌, ◌%◌, ◌<◌, ◌≤◌, [], length, slice_get, Some, IfErr, IfOk, ℕ};
+ghost use Rattle.rcu_model.specs.Sets.{replaced, without_object};
+ghost use Rattle.rcu_model.specs.declared.event.ObjectId.{ObjectId};
+ghost use Rattle.rcu_model.specs.declared.refusal.Refusal.TheVariants.{NoPlace};
+ghost use Rattle.live_log.specs.Log.{closed_of};
+ghost use Rattle.live_rule.specs.Seats.{lent_chains};
+ghost use Rattle.live_table.specs.Rights.{object_in, own_in};
+ghost use Rattle.live_chains.specs.Chains.{cut_of};
+ghost use Rattle.live_items.specs.Retiring.{IsAfterAll, Queues};
+ghost use Rattle.live_read.specs.Hearing.{IsAfter, OnlyHears};
+ghost use Rattle.live_reclaim.specs.Refusing.{RefusesRetirement};
+ghost use Rattle.live_write.specs.Chains.{MayPublish, Publishes, list_in, replace_by};
+
+use crate::domain::Domain;
+use callback_queue::Ticket;
+use gp_memb::GracePlan;
+use live_read::{Site, Witness};
+use live_reclaim::{Deleter, refusal_of};
+use live_words::ChainRule;
+use live_write::{Chain, Owned, Unlinked};
+use rcu_model::Refusal;
+use std::sync::Wait;
+
+impl<P: GracePlan + Drop, K: ChainRule, B: Site, D: Deleter> Domain<P, K, B, D> {
+    /// The queue of a chain's objects.
+    fn queue_of(&self, chain: usize) -> usize
+        ensures { (result ≡ chain % B.sizes.queues) × (result < B.sizes.queues) }
+    {
+        chain % self.queues.len()
+    }
+
+    /// Retires a cut object, liburcu's `call_rcu`: the callback is called with it once each section that was open then
+    /// has ended. It is queued in the queue of its chain's number modulo the number of queues, whose worker is woken;
+    /// its ticket is its turn there. The retirement comes after the cut, and after all that the caller had seen and
+    /// heard of, and the caller hears of it.
+    ///
+    /// Refused with `Closed` exactly where the queue's closed word is 1, which `looks` tells, else with `Memory` where
+    /// memory is; then both parts come back. It waits for the queue's lock alone.
+    pub fn retire<W: Witness, R: Wait>(
+        &self,
+        rt: &R,
+        witness: &mut W,
+        unlinked: Unlinked<B>,
+        callback: D,
+    ) -> Result<Ticket, (Refusal, Unlinked<B>, D)>
+        requires { W.home witness.old ≡ (B.table, B.sizes) }
+        ensures queued { IfOk result (λ t. (given : ℕ) × (t.0 ≡ given + 1) × Queues P.QSBR K.allows (IsAfterAll unlinked.seat.me.0.seen (W.seen witness.old) (W.heard witness.old)) (object_in unlinked.seat.me.0.object) (unlinked.chain % B.sizes.queues) given (W.heard witness.new)) }
+        ensures same { IfOk result (λ _. OnlyHears W.Witness witness.old witness.new) }
+        ensures refused { IfErr result (λ e. RefusesRetirement W.Witness P.QSBR K.allows B.sizes (unlinked.chain % B.sizes.queues) witness.old witness.new e.0) }
+        ensures back { IfErr result (λ e. (e.1 ≡ unlinked) × (e.2 ≡ callback)) }
+    {
+        let number = self.queue_of(unlinked.chain());
+        let queue = &self.queues[number];
+        let mut items = queue.lock(rt, number);
+        match items.retire(&self.table, witness, unlinked, callback) {
+            Ok(ticket) => {
+                queue.unparker.unpark();
+                Ok(ticket)
+            }
+            Err((_, unlinked, callback)) => {
+                let refusal = refusal_of(&self.table, witness, number);
+                Err((refusal, unlinked, callback))
+            }
+        }
+    }
+
+    /// Closes all queues: every later retirement is refused, and what is queued still runs. The caller hears of that. It
+    /// takes no memory, and waits for the queues' locks alone.
+    pub fn close<W: Witness, R: Wait>(&self, rt: &R, witness: &mut W)
+        requires { W.home witness.old ≡ (B.table, B.sizes) }
+        ensures closed { (q : ℕ) → q < B.sizes.queues → closed_of q (W.heard witness.new) ≡ 1 }
+        ensures after { IsAfter P.QSBR K.allows (W.seen witness.old) (W.heard witness.old) (W.heard witness.new) }
+        ensures same { OnlyHears W.Witness witness.old witness.new }
+    {
+        for number in 0..self.queues.len() {
+            let queue = &self.queues[number];
+            queue.lock(rt, number).close(&self.table, witness);
+            queue.unparker.unpark();
+        }
+    }
+}
