@@ -3,7 +3,7 @@
 ghost use Rattle.std.specs.Prelude.{◌≡◌};
 
 use crate::ledger::{Call, Finding, Ledger};
-use domain::{Domain, LiveConfig, Opened, Reader, Record, Site};
+use domain::{Callback, Domain, LiveConfig, Opened, Reader, Record, Site};
 use gp_memb::{GracePlan, MembPlan};
 use gp_qsbr::QsbrPlan;
 use live_words::AnyChain;
@@ -92,7 +92,7 @@ fn name<P: GracePlan + Drop, B: Site, R: Wait>(
 ) -> Result<bool, Refusal>
     requires { (P.QSBR ≡ B.qsbr) × (opened.table.words.shared.table_id ≡ B.table) × (opened.table.words.shared.key ≡ B.sizes) }
 {
-    let (domain, mut record) = opened.named::<B>(alloc)?;
+    let (domain, mut record) = opened.named::<B, Callback>(alloc)?;
     Ok(answers(&domain, &mut record) && serves(rt, &domain, &mut record)?)
 }
 
