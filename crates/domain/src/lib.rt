@@ -5,6 +5,7 @@
 mod barring;
 mod config;
 mod domain;
+mod face;
 mod grace_lock;
 mod opened;
 mod queue;

@@ -66,7 +66,7 @@ fn three<B: Site, R: Wait>(
         return Err(Refusal::Memory);
     };
     let unlinked = writer.cut(record, 0)?;
-    let Ok(alone) = domain.retire(rt, record, unlinked, Adds(3)) else {
+    let Ok(alone) = domain.rcu_retire(rt, record, unlinked, Adds(3)) else {
         return Err(Refusal::Memory);
     };
     Ok([replaced.0, cut.0, alone.0])
@@ -169,6 +169,8 @@ fn bars<B: Site, R: Wait>(
 {
     let (domain, mut record) = opened.named::<B, Adds>(alloc)?;
     domain.barrier(rt, &mut record);
+    domain.rcu_barrier(rt, &mut record);
+    domain.rcu_synchronize(rt, &mut record)?;
     let before = domain.barrier_start(&mut record);
     let first = domain.barrier_done(&mut record, &before);
     let unlinked = cut_one(rt, &domain, &mut record, 1, 7)?;
