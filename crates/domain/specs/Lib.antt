@@ -1,2 +1,4 @@
 pub mod Config
 pub mod Waiting
+pub mod Retiring
+pub mod Barriers

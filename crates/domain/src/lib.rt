@@ -2,8 +2,10 @@
 //! A domain of the library over live threads: readers are registered, records and chains are written, and grace periods
 //! are waited for and polled. Its locks are here alone.
 
+mod barring;
 mod config;
 mod domain;
+mod face;
 mod grace_lock;
 mod opened;
 mod queue;
@@ -14,6 +16,7 @@ pub use callback_queue::{Callback, Ripe, Ticket};
 pub use call_rcu_worker::Finished;
 pub use config::LiveConfig;
 pub use domain::Domain;
+pub use live_barrier::BarrierMark;
 pub use live_grace::LiveCookie;
 pub use live_read::{Held, Reader, Record, Section, Site, Witness};
 pub use live_reclaim::Deleter;

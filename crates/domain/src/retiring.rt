@@ -5,13 +5,13 @@ ghost use Rattle.rcu_model.specs.Sets.{replaced, without_object};
 ghost use Rattle.rcu_model.specs.declared.event.ObjectId.{ObjectId};
 ghost use Rattle.rcu_model.specs.declared.refusal.Refusal.TheVariants.{NoPlace};
 ghost use Rattle.live_log.specs.Log.{closed_of};
-ghost use Rattle.live_rule.specs.Seats.{lent_chains};
-ghost use Rattle.live_table.specs.Rights.{object_in, own_in};
+ghost use Rattle.live_table.specs.Rights.{object_in};
 ghost use Rattle.live_chains.specs.Chains.{cut_of};
 ghost use Rattle.live_items.specs.Retiring.{IsAfterAll, Queues};
 ghost use Rattle.live_read.specs.Hearing.{IsAfter, OnlyHears};
 ghost use Rattle.live_reclaim.specs.Refusing.{RefusesRetirement};
-ghost use Rattle.live_write.specs.Chains.{MayPublish, Publishes, list_in, replace_by};
+ghost use Rattle.live_write.specs.Chains.{MayPublish, list_in, replace_by};
+ghost use Rattle.domain.specs.Retiring.{Retires};
 
 use crate::domain::Domain;
 use callback_queue::Ticket;
@@ -63,6 +63,91 @@ impl<P: GracePlan + Drop, K: ChainRule, B: Site, D: Deleter> Domain<P, K, B, D> 
                 let refusal = refusal_of(&self.table, witness, number);
                 Err((refusal, unlinked, callback))
             }
+        }
+    }
+
+    /// Cuts the object at an index of a chain and retires it, both under the lock of its queue, which has room before
+    /// anything is cut. The chain's rule has to allow the cut in each log that comes after all that its writer and the
+    /// caller had seen. The caller hears of both.
+    ///
+    /// Refused with `NoPlace` exactly where the index is not below the chain's length, else as `retire`; then the chain
+    /// is as it was, and the callback comes back. It waits for the queue's lock alone.
+    pub fn cut_retire<W: Witness, R: Wait>(
+        &self,
+        rt: &R,
+        witness: &mut W,
+        chain: &mut Chain<'_, P, K, B>,
+        index: usize,
+        callback: D,
+    ) -> Result<Ticket, (Refusal, D)>
+        requires home { W.home witness.old ≡ (B.table, B.sizes) }
+        requires rule { (o : ObjectId) → slice_get (list_in chain.old.seat.me.0) index ≡ Some o → MayPublish P.QSBR K.allows chain.old.seat.me.0 (W.seen witness.old) (W.heard witness.old) [] (cut_of o chain.old.seat.me.0) }
+        ensures retired { IfOk result (λ t. Retires P.QSBR K.allows chain.old.seat.me.0 chain.new.seat.me.0 (W.seen witness.old) (W.heard witness.old) [] index (λ o. cut_of o chain.old.seat.me.0) (λ o. without_object o (list_in chain.old.seat.me.0)) (chain.old.number % B.sizes.queues) t.0 (W.heard witness.new)) }
+        ensures same { IfOk result (λ _. OnlyHears W.Witness witness.old witness.new × (chain.new.number ≡ chain.old.number)) }
+        ensures refused { IfErr result (λ e. ((e.0 ≡ NoPlace) × (length (list_in chain.old.seat.me.0) ≤ index) × (witness.new ≡ witness.old)) ⊎ ((index < length (list_in chain.old.seat.me.0)) × RefusesRetirement W.Witness P.QSBR K.allows B.sizes (chain.old.number % B.sizes.queues) witness.old witness.new e.0)) }
+        ensures back { IfErr result (λ e. (e.1 ≡ callback) × (chain.new ≡ chain.old)) }
+    {
+        if index >= chain.len() {
+            return Err((Refusal::NoPlace, callback));
+        }
+        let number = self.queue_of(chain.number());
+        let queue = &self.queues[number];
+        let mut items = queue.lock(rt, number);
+        if items.prepare().is_err() {
+            return Err((refusal_of(&self.table, witness, number), callback));
+        }
+        let Ok(unlinked) = chain.cut(witness, index) else {
+            unreachable!()
+        };
+        match items.retire(&self.table, witness, unlinked, callback) {
+            Ok(ticket) => {
+                queue.unparker.unpark();
+                Ok(ticket)
+            }
+            Err(_) => unreachable!(),
+        }
+    }
+
+    /// Puts a record in the place of the object at an index of a chain and retires that object, both under the lock of
+    /// its queue, which has room before anything is replaced. The chain's rule has to allow the replacement in each log
+    /// that comes after all that its writer, the caller and who allocated the record had seen. The caller hears of both.
+    ///
+    /// Refused with `NoPlace` exactly where the index is not below the chain's length, else as `retire`; then the chain
+    /// is as it was, and the record and the callback come back. It waits for the queue's lock alone.
+    pub fn replace_retire<W: Witness, R: Wait>(
+        &self,
+        rt: &R,
+        witness: &mut W,
+        chain: &mut Chain<'_, P, K, B>,
+        index: usize,
+        owned: Owned<B>,
+        callback: D,
+    ) -> Result<Ticket, (Refusal, Owned<B>, D)>
+        requires home { W.home witness.old ≡ (B.table, B.sizes) }
+        requires rule { (o : ObjectId) → slice_get (list_in chain.old.seat.me.0) index ≡ Some o → MayPublish P.QSBR K.allows chain.old.seat.me.0 (W.seen witness.old) (W.heard witness.old) owned.seat.me.0.seen (replace_by o chain.old.seat.me.0 owned.seat.me.0) }
+        ensures retired { IfOk result (λ t. Retires P.QSBR K.allows chain.old.seat.me.0 chain.new.seat.me.0 (W.seen witness.old) (W.heard witness.old) owned.seat.me.0.seen index (λ o. replace_by o chain.old.seat.me.0 owned.seat.me.0) (λ o. replaced o (object_in owned.seat.me.0.object) (list_in chain.old.seat.me.0)) (chain.old.number % B.sizes.queues) t.0 (W.heard witness.new)) }
+        ensures same { IfOk result (λ _. OnlyHears W.Witness witness.old witness.new × (chain.new.number ≡ chain.old.number)) }
+        ensures refused { IfErr result (λ e. ((e.0 ≡ NoPlace) × (length (list_in chain.old.seat.me.0) ≤ index) × (witness.new ≡ witness.old)) ⊎ ((index < length (list_in chain.old.seat.me.0)) × RefusesRetirement W.Witness P.QSBR K.allows B.sizes (chain.old.number % B.sizes.queues) witness.old witness.new e.0)) }
+        ensures back { IfErr result (λ e. (e.1 ≡ owned) × (e.2 ≡ callback) × (chain.new ≡ chain.old)) }
+    {
+        if index >= chain.len() {
+            return Err((Refusal::NoPlace, owned, callback));
+        }
+        let number = self.queue_of(chain.number());
+        let queue = &self.queues[number];
+        let mut items = queue.lock(rt, number);
+        if items.prepare().is_err() {
+            return Err((refusal_of(&self.table, witness, number), owned, callback));
+        }
+        let Ok(unlinked) = chain.replace(witness, index, owned) else {
+            unreachable!()
+        };
+        match items.retire(&self.table, witness, unlinked, callback) {
+            Ok(ticket) => {
+                queue.unparker.unpark();
+                Ok(ticket)
+            }
+            Err(_) => unreachable!(),
         }
     }
 

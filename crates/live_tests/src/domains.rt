@@ -2,6 +2,7 @@
 
 ghost use Rattle.std.specs.Prelude.{◌≡◌, true, false};
 
+use crate::deleter::Adds;
 use domain::{Domain, LiveConfig, Opened, Reader, Record, Site};
 use gp_memb::MembPlan;
 use gp_qsbr::QsbrPlan;
@@ -61,7 +62,7 @@ fn numbers_have_limits(rt: HostRuntime) {
 fn fills<B: Site, R: Wait>(
     rt: &R,
     alloc: Global,
-    domain: &Domain<MembPlan, AnyChain, B>,
+    domain: &Domain<MembPlan, AnyChain, B, Adds>,
     mut record: Record<B>,
 ) -> Result<(usize, bool, bool), Refusal> {
     let mut readers = Vec::new(alloc);
@@ -89,7 +90,7 @@ fn fill<B: Site, R: Wait>(
 ) -> Result<(usize, bool, bool), Refusal>
     requires { (B.qsbr ≡ false) × (opened.table.words.shared.table_id ≡ B.table) × (opened.table.words.shared.key ≡ B.sizes) }
 {
-    let (domain, record) = opened.named::<B>(alloc)?;
+    let (domain, record) = opened.named::<B, Adds>(alloc)?;
     fills(rt, alloc, &domain, record)
 }
 
@@ -108,7 +109,7 @@ fn waits<B: Site, R: Wait>(
 ) -> Result<[bool; 4], Refusal>
     requires { (B.qsbr ≡ false) × (opened.table.words.shared.table_id ≡ B.table) × (opened.table.words.shared.key ≡ B.sizes) }
 {
-    let (domain, mut record) = opened.named::<B>(alloc)?;
+    let (domain, mut record) = opened.named::<B, Adds>(alloc)?;
     let mut other = domain.split(&mut record);
     let cookie = domain.start_poll(&mut record)?;
     let early = domain.poll(&mut record, &cookie);
@@ -163,7 +164,7 @@ fn announces<B: Site, R: Wait>(
 ) -> Result<([bool; 6], bool), Refusal>
     requires { (B.qsbr ≡ true) × (opened.table.words.shared.table_id ≡ B.table) × (opened.table.words.shared.key ≡ B.sizes) }
 {
-    let (domain, mut record) = opened.named::<B>(alloc)?;
+    let (domain, mut record) = opened.named::<B, Adds>(alloc)?;
     let mut reader = domain.register(rt, &mut record)?;
     let row = refused(&mut reader)?;
     let left = domain.unregister(rt, &mut record, reader).is_ok();
@@ -182,7 +183,7 @@ fn offline_and_busy_readers_are_refused(rt: HostRuntime) {
 fn is_named<B: Site>(alloc: Global, opened: Opened<MembPlan, AnyChain>) -> bool
     requires { (B.qsbr ≡ false) × (opened.table.words.shared.table_id ≡ B.table) × (opened.table.words.shared.key ≡ B.sizes) }
 {
-    let named = opened.named::<B>(alloc);
+    let named = opened.named::<B, Adds>(alloc);
     named.is_ok() || matches!(named, Err(Refusal::Memory))
 }
 

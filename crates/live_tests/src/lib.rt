@@ -4,6 +4,8 @@
 #[cfg(test)]
 mod chains;
 #[cfg(test)]
+mod deleter;
+#[cfg(test)]
 mod domains;
 #[cfg(test)]
 mod grace_periods;
@@ -17,6 +19,8 @@ mod queues;
 mod readers;
 #[cfg(test)]
 mod readings;
+#[cfg(test)]
+mod reclaiming;
 #[cfg(test)]
 mod records;
 #[cfg(test)]

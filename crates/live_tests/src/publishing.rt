@@ -4,6 +4,7 @@
 ghost use Rattle.std.specs.Prelude.{◌≡◌, ◌<◌, false, true};
 ghost use Rattle.std.specs.Thread.{IsSync};
 
+use crate::deleter::Adds;
 use domain::{Chain, Domain, LiveConfig, Opened, Reader, Record, Section, Site};
 use gp_memb::{GracePlan, MembPlan};
 use gp_qsbr::QsbrPlan;
@@ -70,7 +71,7 @@ fn walks<P: GracePlan, B: Site>(
 /// Pushes so many records to a chain, with rising words. Whether each was taken and pushed.
 fn pushes<P: GracePlan + Drop, B: Site, R: Wait>(
     rt: &R,
-    domain: &Domain<P, AnyChain, B>,
+    domain: &Domain<P, AnyChain, B, Adds>,
     record: &mut Record<B>,
     chain: usize,
     count: u64,
@@ -89,7 +90,7 @@ fn pushes<P: GracePlan + Drop, B: Site, R: Wait>(
 
 /// Cuts every second record of a chain, from the first one on. Whether each was there.
 fn cuts<P: GracePlan + Drop, B: Site>(
-    domain: &Domain<P, AnyChain, B>,
+    domain: &Domain<P, AnyChain, B, Adds>,
     record: &mut Record<B>,
     chain: usize,
     count: usize,
@@ -108,7 +109,7 @@ fn cuts<P: GracePlan + Drop, B: Site>(
 /// Puts a record of other words into the place of the first one.
 fn replaces<P: GracePlan + Drop, B: Site, R: Wait>(
     rt: &R,
-    domain: &Domain<P, AnyChain, B>,
+    domain: &Domain<P, AnyChain, B, Adds>,
     record: &mut Record<B>,
     writer: &mut Chain<P, AnyChain, B>,
     word: u64,
@@ -123,7 +124,7 @@ fn replaces<P: GracePlan + Drop, B: Site, R: Wait>(
 /// refused.
 fn writes<P: GracePlan + Drop, B: Site, R: Wait>(
     rt: &R,
-    domain: &Domain<P, AnyChain, B>,
+    domain: &Domain<P, AnyChain, B, Adds>,
     record: &mut Record<B>,
     chain: usize,
 ) -> bool {
@@ -154,7 +155,7 @@ struct Idle<P: GracePlan, B: Site> {
 
 fn registered<P: GracePlan + Drop, B: Site, R: Wait>(
     rt: &R,
-    domain: &Domain<P, AnyChain, B>,
+    domain: &Domain<P, AnyChain, B, Adds>,
     record: &mut Record<B>,
 ) -> Result<Idle<P, B>, Refusal> {
     let reader = domain.register(rt, record)?;
@@ -221,7 +222,7 @@ fn two_read<P: GracePlan + Send + Sync, B: Site + Send + Sync, R: Threads + Sync
 /// Two writers, of a chain each, in a thread each.
 fn two_write<P: GracePlan + Drop + Send + Sync, B: Site + Send + Sync, R: Threads + Wait + Sync>(
     rt: &R,
-    domain: &Domain<P, AnyChain, B>,
+    domain: &Domain<P, AnyChain, B, Adds>,
     one: Record<B>,
     two: Record<B>,
 ) -> bool {
@@ -251,7 +252,7 @@ fn serves<P: GracePlan + Drop + Send + Sync, B: Site + Send + Sync, R: Threads +
 ) -> Result<(bool, bool, bool), Refusal>
     requires { (P.QSBR ≡ B.qsbr) × (opened.table.words.shared.table_id ≡ B.table) × (opened.table.words.shared.key ≡ B.sizes) }
 {
-    let (domain, mut record) = opened.named::<B>(alloc)?;
+    let (domain, mut record) = opened.named::<B, Adds>(alloc)?;
     let other = domain.split(&mut record);
     let one = registered(rt, &domain, &mut record)?;
     let two = registered(rt, &domain, &mut record)?;
@@ -289,7 +290,7 @@ fn thins<B: Site + Send + Sync, R: Threads + Wait + Sync>(
 ) -> Result<(bool, bool, bool), Refusal>
     requires { (B.qsbr ≡ false) × (opened.table.words.shared.table_id ≡ B.table) × (opened.table.words.shared.key ≡ B.sizes) }
 {
-    let (domain, mut record) = opened.named::<B>(alloc)?;
+    let (domain, mut record) = opened.named::<B, Adds>(alloc)?;
     let pushed = pushes(rt, &domain, &mut record, 0, LONG);
     let reader = registered(rt, &domain, &mut record)?;
     let home = &domain;
@@ -314,7 +315,7 @@ fn refuses<B: Site, R: Wait>(
 ) -> Result<[bool; 6], Refusal>
     requires { (B.qsbr ≡ false) × (opened.table.words.shared.table_id ≡ B.table) × (opened.table.words.shared.key ≡ B.sizes) }
 {
-    let (domain, mut record) = opened.named::<B>(alloc)?;
+    let (domain, mut record) = opened.named::<B, Adds>(alloc)?;
     let owned = domain.alloc(rt, &mut record, [1, 2, 3, 4])?;
     let second = matches!(
         domain.alloc(rt, &mut record, [5; 4]),
@@ -339,7 +340,7 @@ fn tells<B: Site, R: Wait>(
 ) -> Result<(usize, Option<[u64; 4]>, Option<[u64; 4]>, u64, (bool, u64)), Refusal>
     requires { (B.qsbr ≡ true) × (opened.table.words.shared.table_id ≡ B.table) × (opened.table.words.shared.key ≡ B.sizes) }
 {
-    let (domain, mut record) = opened.named::<B>(alloc)?;
+    let (domain, mut record) = opened.named::<B, Adds>(alloc)?;
     let mut reader = domain.register(rt, &mut record)?;
     let one = domain.alloc(rt, &mut record, [1, 2, 3, 4])?;
     let two = domain.alloc(rt, &mut record, [5, 6, 7, 8])?;

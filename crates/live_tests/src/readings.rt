@@ -13,6 +13,7 @@ ghost use Rattle.live_fit.specs.declared.Mark.TheVariants.{Read};
 ghost use Rattle.live_fit.specs.Fit.{Readings, later};
 ghost use Rattle.live_read.specs.Readings.{HasRead};
 
+use crate::deleter::Adds;
 use domain::{Domain, LiveConfig, Opened, Reader, Section, Site};
 use gp_memb::{GracePlan, MembPlan};
 use gp_qsbr::QsbrPlan;
@@ -28,7 +29,7 @@ use std::sync::Wait;
 /// reads of the chain's first object: where that is the one that was pushed, what `alloc` was given.
 fn publishes<P: GracePlan + Drop, B: Site, R: Wait>(
     rt: &R,
-    domain: &Domain<P, AnyChain, B>,
+    domain: &Domain<P, AnyChain, B, Adds>,
     section: &mut Section<P, AnyChain, B>,
     chain: usize,
     words: [u64; 4],
@@ -53,7 +54,7 @@ fn publishes<P: GracePlan + Drop, B: Site, R: Wait>(
 
 /// Finds the first object of a chain, begins and ends an inner section, asks and polls, and reads what it found.
 fn reads_across<P: GracePlan + Drop, B: Site>(
-    domain: &Domain<P, AnyChain, B>,
+    domain: &Domain<P, AnyChain, B, Adds>,
     section: &mut Section<P, AnyChain, B>,
     chain: usize,
 ) -> Result<Option<[u64; 4]>, Refusal>
@@ -101,7 +102,7 @@ type Told = (
 /// What one section publishes and reads, on a chain that nobody else writes.
 fn reads_all<P: GracePlan + Drop, B: Site, R: Wait>(
     rt: &R,
-    domain: &Domain<P, AnyChain, B>,
+    domain: &Domain<P, AnyChain, B, Adds>,
     reader: &mut Reader<P, AnyChain, B>,
 ) -> Result<Told, Refusal>
     requires { (P.QSBR ≡ B.qsbr) × (reader.old.depth ≡ 0) × (reader.old.locks ≡ 0) }
@@ -123,7 +124,7 @@ fn reads_alone<P: GracePlan + Drop, B: Site, R: Wait>(
 ) -> Result<Told, Refusal>
     requires { (P.QSBR ≡ B.qsbr) × (opened.table.words.shared.table_id ≡ B.table) × (opened.table.words.shared.key ≡ B.sizes) }
 {
-    let (domain, mut record) = opened.named::<B>(alloc)?;
+    let (domain, mut record) = opened.named::<B, Adds>(alloc)?;
     let mut reader = domain.register(rt, &mut record)?;
     if P::QSBR {
         reader.online()?;

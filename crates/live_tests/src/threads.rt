@@ -5,6 +5,7 @@
 ghost use Rattle.std.specs.Prelude.{◌≡◌, false};
 ghost use Rattle.std.specs.Thread.{IsSync};
 
+use crate::deleter::Adds;
 use domain::{Chain, Domain, LiveConfig, Opened, Owned, Reader, Record, Site};
 use gp_memb::{GracePlan, MembPlan};
 use gp_qsbr::QsbrPlan;
@@ -63,7 +64,7 @@ struct Idle<P: GracePlan, B: Site> {
 
 fn registered<P: GracePlan + Drop, B: Site, R: Wait>(
     rt: &R,
-    domain: &Domain<P, AnyChain, B>,
+    domain: &Domain<P, AnyChain, B, Adds>,
     record: &mut Record<B>,
 ) -> Result<Idle<P, B>, Refusal> {
     let reader = domain.register(rt, record)?;
@@ -143,7 +144,7 @@ fn have_ended(all: &[Numbers], found: &[u64; 4]) -> bool {
 /// Whether a grace period that was waited for saw the sections end.
 fn waits_once<P: GracePlan + Drop, B: Site, R: Wait>(
     rt: &R,
-    domain: &Domain<P, AnyChain, B>,
+    domain: &Domain<P, AnyChain, B, Adds>,
     record: &mut Record<B>,
     all: &[Numbers],
 ) -> Result<bool, Refusal> {
@@ -156,7 +157,7 @@ fn waits_once<P: GracePlan + Drop, B: Site, R: Wait>(
 /// Whether a grace period that was polled for saw the sections end. Where none ends soon, it waits for one.
 fn polls_once<P: GracePlan + Drop, B: Site, R: Wait>(
     rt: &R,
-    domain: &Domain<P, AnyChain, B>,
+    domain: &Domain<P, AnyChain, B, Adds>,
     record: &mut Record<B>,
     all: &[Numbers],
 ) -> Result<bool, Refusal> {
@@ -175,7 +176,7 @@ fn polls_once<P: GracePlan + Drop, B: Site, R: Wait>(
 /// Waits and polls in turn. Whether each saw the sections end.
 fn waits<P: GracePlan + Drop, B: Site, R: Wait>(
     rt: &R,
-    domain: &Domain<P, AnyChain, B>,
+    domain: &Domain<P, AnyChain, B, Adds>,
     mut record: Record<B>,
     all: &[Numbers],
 ) -> bool {
@@ -193,7 +194,7 @@ fn waits<P: GracePlan + Drop, B: Site, R: Wait>(
 /// Two who wait, in a thread each.
 fn two_wait<P: GracePlan + Drop + Send + Sync, B: Site + Send + Sync, R: Threads + Wait + Sync>(
     rt: &R,
-    domain: &Domain<P, AnyChain, B>,
+    domain: &Domain<P, AnyChain, B, Adds>,
     one: Record<B>,
     two: Record<B>,
     all: &[Numbers],
@@ -218,7 +219,7 @@ fn serves<P: GracePlan + Drop + Send + Sync, B: Site + Send + Sync, R: Threads +
 ) -> Result<(bool, bool, bool), Refusal>
     requires { (P.QSBR ≡ B.qsbr) × (opened.table.words.shared.table_id ≡ B.table) × (opened.table.words.shared.key ≡ B.sizes) }
 {
-    let (domain, mut record) = opened.named::<B>(alloc)?;
+    let (domain, mut record) = opened.named::<B, Adds>(alloc)?;
     let other = domain.split(&mut record);
     let one = registered(rt, &domain, &mut record)?;
     let two = registered(rt, &domain, &mut record)?;
@@ -271,7 +272,7 @@ fn spawns<B: Site + Send + Sync + 'static, R: Threads + Wait + Copy + Send + 'st
 ) -> Result<(bool, bool), Refusal>
     requires { (B.qsbr ≡ false) × (opened.table.words.shared.table_id ≡ B.table) × (opened.table.words.shared.key ≡ B.sizes) }
 {
-    let (domain, mut record) = opened.named::<B>(alloc)?;
+    let (domain, mut record) = opened.named::<B, Adds>(alloc)?;
     let mut other = domain.split(&mut record);
     let one = registered(&rt, &domain, &mut record)?;
     let Ok(home) = Arc::new(alloc, domain) else {
@@ -313,7 +314,7 @@ fn moves_a_writer<
 >(rt: &R, alloc: Global, opened: Opened<P, AnyChain>) -> Result<(Option<[u64; 4]>, usize), Refusal>
     requires { (P.QSBR ≡ B.qsbr) × (opened.table.words.shared.table_id ≡ B.table) × (opened.table.words.shared.key ≡ B.sizes) }
 {
-    let (domain, mut record) = opened.named::<B>(alloc)?;
+    let (domain, mut record) = opened.named::<B, Adds>(alloc)?;
     let other = domain.split(&mut record);
     let owned = domain.alloc(rt, &mut record, [3, 5, 7, 11])?;
     let chain = domain.chain(&mut record, 0)?;
