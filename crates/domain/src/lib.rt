@@ -12,8 +12,8 @@ mod queue;
 mod retiring;
 mod writing;
 
-pub use callback_queue::{Callback, Ripe, Ticket};
 pub use call_rcu_worker::Finished;
+pub use callback_queue::{Callback, Ripe, Ticket};
 pub use config::LiveConfig;
 pub use domain::Domain;
 pub use live_barrier::BarrierMark;

@@ -25,7 +25,11 @@ pub(crate) struct Queue<B: Site, D: Deleter> {
 
 impl<B: Site, D: Deleter> Queue<B, D> {
     /// An open queue with no items, by the seat with the right to it.
-    pub(crate) fn new(alloc: Global, seat: LiveSeat, number: usize) -> Result<Queue<B, D>, AllocError>
+    pub(crate) fn new(
+        alloc: Global,
+        seat: LiveSeat,
+        number: usize,
+    ) -> Result<Queue<B, D>, AllocError>
         requires site { (seat.table_id ≡ B.table) × (seat.me.0.sizes ≡ B.sizes) × (seat.me.1 ≡ []) }
         requires right { (seat.me.0.queue ≡ Owns number 0 0) × (seat.me.0.object ≡ record_right.Nothing) × (number < B.sizes.queues) }
     {
@@ -40,11 +44,7 @@ impl<B: Site, D: Deleter> Queue<B, D> {
 
     /// The queue's items, under their lock. Which queue an unlocked one was is not known before it is looked at, so that
     /// is looked at; it never is another.
-    pub(crate) fn lock<'q, R: Wait>(
-        &'q self,
-        rt: &R,
-        number: usize,
-    ) -> MutexGuard<'q, Items<B, D>>
+    pub(crate) fn lock<'q, R: Wait>(&'q self, rt: &R, number: usize) -> MutexGuard<'q, Items<B, D>>
         ensures { (mutex_guard_value result).2 ≡ number }
     {
         for _ in rt.forever() {
