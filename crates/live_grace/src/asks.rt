@@ -16,6 +16,7 @@ use live_log::ChainRule;
 use live_rule::LiveSeat;
 use live_table::LiveTable;
 use live_words::load_seq;
+use poll_cookie::Cookie;
 use rcu_model::Refusal;
 use std::snapshot::Snapshot;
 
@@ -27,6 +28,18 @@ pub struct LiveAsk<P: GracePlan> {
     pub(crate) asked: Snapshot<LiveSeat>,
     pub(crate) ghost waits: { core ≡ Waits (cookie_in core) },
     pub(crate) ghost fits: { IsCookieOf asked.value.me.0.seen (cookie_in core) × (cookie_in core ≤ 2 ^ 62 + 2) },
+}
+
+impl<P: GracePlan> LiveAsk<P> {
+    /// The ask's cookie: the sequence number that answers it. It never waits.
+    pub fn cookie(&self) -> Cookie
+        ensures { result ≡ cookie_in self.now.core }
+    {
+        match &self.core {
+            SyncCore::Waits { cookie } => *cookie,
+            _ => unreachable!(),
+        }
+    }
 }
 
 /// Asks for a grace period, as the first step of liburcu's `synchronize_rcu`, before the grace lock is taken: loads the

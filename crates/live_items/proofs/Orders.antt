@@ -4,7 +4,7 @@ use lib.ListN.{length-append}
 use Rattle.rcu_model.specs.declared.event.ObjectId.{ObjectId}
 use Rattle.callback_queue.specs.declared.item.Item.{Item}
 use Rattle.callback_queue.specs.declared.item.Ticket.{Ticket}
-use Rattle.callback_queue.specs.Queue.{items_of, given_of, pushed, closed_queue, with_place, popped, first_of, first_with, object_of_first, object_with}
+use Rattle.callback_queue.specs.Queue.{items_of, given_of, pushed, closed_queue, with_place, popped, first_of, first_with, object_of_first, object_with, taken_out}
 use Rattle.live_log.specs.Log.{Log, Begins, line_of}
 use Rattle.live_log.proofs.Lemmas.{begins_trans, line_grows}
 use Rattle.live_rule.specs.declared.view.Sizes.{Sizes}
@@ -63,6 +63,10 @@ under_place key jobs v q under = record { sizes = under.sizes; right = under.rig
 some_same : {A : Type 0} {a b : A} → Some a ≡ Some b → a ≡ b
 some_same e = cc
 
+pub none_of : {A : Type 0} → (l : List A) → length l ≡ 0 → l ≡ []
+none_of [] e = refl
+none_of (x ∷ xs) e = absurd (omega (arith, e))
+
 -- the first item leaves
 module _ (key : Sizes) (v : View) (q : ℕ) where
   pub under_popped : (jobs : Jobs) → IsUnderLock key jobs v q → IsUnderLock key (popped jobs) v q
@@ -77,6 +81,24 @@ module _ (key : Sizes) (v : View) (q : ℕ) where
         low = u.low;
         long = let l = u.long in omega (arith, e);
         placed = u.placed.1;
+      }
+
+  -- the items that wait leave, where none is ready
+  order_without : (seen : Log) (n : ℕ) (first rest : List (Item JobValue)) → InOrder q seen n (first ++ rest) → InOrder q seen (n + length first) rest
+  order_without seen n [] rest x = subst (λ (k : ℕ). InOrder q seen k rest) (omega arith) x
+  order_without seen n (i ∷ is) rest x = subst (λ (k : ℕ). InOrder q seen k rest) (omega arith) (order_without seen (n + 1) is rest x.1)
+
+  pub under_taken : (jobs : Jobs) → jobs.ready ≡ [] → IsUnderLock key jobs v q → IsUnderLock key (taken_out jobs) v q
+  under_taken jobs none under =
+      let same : given_of (taken_out jobs) ≡ given_of jobs = ap (λ (r : List (Item JobValue)). jobs.gone + length jobs.waiting + length (r ++ [] ++ jobs.fresh)) none ∙ (omega (arith, length-append jobs.waiting jobs.fresh) ∙ ap (λ (r : List (Item JobValue)). jobs.gone + length (r ++ jobs.waiting ++ jobs.fresh)) (sym none)) in
+      record {
+        sizes = under.sizes;
+        right = under.right ∙ ap (λ (k : ℕ). Owns q k (word_of jobs.closed)) (sym same);
+        empty = under.empty;
+        low = under.low;
+        long = let l = under.long in omega (arith, same);
+        placed = subst (λ (r : List (Item JobValue)). InOrder q v.seen (jobs.gone + length jobs.waiting) (r ++ [] ++ jobs.fresh)) (sym none)
+            (order_without v.seen jobs.gone jobs.waiting jobs.fresh (subst (λ (r : List (Item JobValue)). InOrder q v.seen jobs.gone (r ++ jobs.waiting ++ jobs.fresh)) none under.placed));
       }
 
   pub first_placed : (jobs : Jobs) (t : Ticket) (item : Item JobValue) → IsUnderLock key jobs v q → first_of jobs ≡ Some (t, item) → (t.0 ≡ jobs.gone + 1) × IsPlaced q v.seen jobs.gone item

@@ -1,7 +1,7 @@
 //! What lies under a queue's lock.
-ghost use Rattle.std.specs.Prelude.{◌≡◌, ◌⊎◌, ◌+◌, ◌-◌, ◌<◌, ◌≤◌, ◌^◌, ◌∷◌, [], Some, length, vec_capacity, vec_len, true, false, IfErr, IfNone, IfOk, IfSome, IsOk};
+ghost use Rattle.std.specs.Prelude.{◌≡◌, ◌⊎◌, ◌+◌, ◌-◌, ◌<◌, ◌≤◌, ◌^◌, ◌∷◌, ◌++◌, [], Some, length, vec_capacity, vec_len, true, false, IfErr, IfNone, IfOk, IfSome, IsOk};
 ghost use Rattle.rcu_model.specs.declared.refusal.Refusal.TheVariants.{Closed, Memory};
-ghost use Rattle.callback_queue.specs.Queue.{closed_queue, empty_queue, first_of, given_of, popped, sealed, with_place};
+ghost use Rattle.callback_queue.specs.Queue.{closed_queue, empty_queue, first_of, given_of, popped, sealed, taken_out, with_place};
 ghost use Rattle.live_log.specs.declared.event.LiveEvent.TheVariants.{CloseQueue};
 ghost use Rattle.live_log.specs.Log.{Begins, line_of};
 ghost use Rattle.live_rule.specs.declared.rights.QueueRight.TheVariants.{Owns};
@@ -158,8 +158,9 @@ impl<B: Site, C: Drop> Items<B, C> {
         self.queue.pop_ready()
     }
 
-    /// Lets the fresh items wait, where none are ready or wait already, once the list has room for all that are not
-    /// finished. The worker's seat hears what was seen under the lock. Answers how many tickets were given.
+    /// Lets the fresh items wait, where none are ready or wait already, once both lists have room for all that are not
+    /// finished: one for what is told of each that runs, and one for those that are taken back. The worker's seat hears
+    /// what was seen under the lock. Answers how many tickets were given.
     ///
     /// Refused with `Memory`, and then the items are as they were. It waits for nobody.
     pub fn seal<P: GracePlan, K: ChainRule, T: Drop>(
@@ -169,11 +170,13 @@ impl<B: Site, C: Drop> Items<B, C> {
         queue: usize,
         finished: u64,
         list: &mut Vec<T>,
+        left: &mut Vec<Item<Job<B, C>>>,
     ) -> Result<u64, Refusal>
         requires { (table.now.words.shared.table_id ≡ B.table) × (worker.old.table_id ≡ B.table) }
         ensures worker { Keeps worker.old worker.new × (worker.new.me ≡ (record worker.old.me.0 { heard = worker.new.me.0.heard }, worker.old.me.1)) }
         ensures list { list.new.items ≡ list.old.items }
-        ensures given { IfOk result (λ n. (n ≡ given_of self.old.0) × (self.old.2 ≡ queue) × (finished ≤ n) × (n ≤ length (line_of worker.new.me.0.heard queue)) × (vec_len list.new + (n - finished) ≤ vec_capacity list.new)) }
+        ensures left { left.new.items ≡ left.old.items }
+        ensures given { IfOk result (λ n. (n ≡ given_of self.old.0) × (self.old.2 ≡ queue) × (finished ≤ n) × (n ≤ length (line_of worker.new.me.0.heard queue)) × (vec_len list.new + (n - finished) ≤ vec_capacity list.new) × (vec_len left.new + (n - finished) ≤ vec_capacity left.new)) }
         ensures refused { IfErr result (λ e. (e ≡ Memory) × (self.new.0 ≡ self.old.0)) }
         ensures sealed { (self.new.0 ≡ self.old.0) ⊎ ((self.old.0.ready ≡ []) × (self.old.0.waiting ≡ []) × (self.new.0 ≡ sealed self.old.0)) }
         ensures queue { self.new.2 ≡ self.old.2 }
@@ -183,7 +186,8 @@ impl<B: Site, C: Drop> Items<B, C> {
         if self.number != queue || given < finished {
             return Err(Refusal::Memory);
         }
-        if list.reserve((given - finished) as usize).is_err() {
+        let room = (given - finished) as usize;
+        if list.reserve(room).is_err() || left.reserve(room).is_err() {
             return Err(Refusal::Memory);
         }
         let (ready, waiting, _) = self.queue.segments();
@@ -203,6 +207,20 @@ impl<B: Site, C: Drop> Items<B, C> {
         if waiting > 0 {
             self.queue.note(cookie);
             self.queue.advance(seq);
+        }
+    }
+
+    /// Moves what waits to the end of a list, where it is of this queue, nothing is ready and the list has room: for a
+    /// worker whose grace period was refused. It waits for nobody and takes no memory.
+    pub fn take_back(&mut self, queue: usize, left: &mut Vec<Item<Job<B, C>>>)
+        ensures same { (self.new.1 ≡ self.old.1) × (self.new.2 ≡ self.old.2) }
+        ensures taken { ((self.new.0 ≡ taken_out self.old.0) × (left.new.items ≡ left.old.items ++ self.old.0.waiting)) ⊎ ((self.new.0 ≡ self.old.0) × (left.new ≡ left.old)) }
+        ensures fits { self.old.2 ≡ queue → self.old.0.ready ≡ [] → vec_len left.old + length self.old.0.waiting ≤ vec_capacity left.old → self.new.0 ≡ taken_out self.old.0 }
+    {
+        let (ready, waiting, _) = self.queue.segments();
+        let room = left.capacity() - left.len();
+        if self.number == queue && ready == 0 && waiting <= room as u64 {
+            self.queue.take_waiting(left);
         }
     }
 

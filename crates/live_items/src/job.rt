@@ -43,4 +43,10 @@ impl<B: Site, C: Drop> Job<B, C> {
             site: PhantomData,
         }
     }
+
+    /// What was to be called. Its object is never run.
+    pub fn into_callback(self) -> C {
+        let Job { callback, .. } = self;
+        callback
+    }
 }

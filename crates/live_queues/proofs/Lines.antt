@@ -11,6 +11,9 @@ use Rattle.live_rule.specs.declared.view.Sizes.{Sizes}
 use Rattle.live_rule.specs.declared.view.View.{View}
 use Rattle.live_rule.specs.Places.{head_at, hold_at, note_at, queued_at, closed_at, finished_at, work_at}
 use Rattle.live_rule.specs.Objects.{QueueWords, HoldWords}
+use Rattle.live_rule.specs.declared.rights.WorkRight.{WorkRight}
+use Rattle.live_rule.specs.declared.rights.WorkRight.TheVariants as work_right
+use Rattle.live_rule.specs.Rights.{work, ClaimsWork, KnowsWork}
 use Rattle.live_rule.specs.Rule.{KeepsRule}
 use Rattle.live_rule.proofs.Lemmas.{looks, Calm, lines_far, guards_far, QueueStep, WorkStep, chains_kept, stores_beside, look_all}
 use Rattle.live_table.specs.Steps.{looked_view}
@@ -65,5 +68,7 @@ module _ {S : Type 0} (qsbr : Bool) (allows : Log → LiveEvent → Type 0) (key
         closed = λ e. word (λ k. closed_at k q) e ∙ r.agree.lines.closed q low';
         finished = λ e. subst (λ (n : ℕ). HaveRun q n r.log × (n ≤ length (line_of r.log q))) (sym (word (λ k. finished_at k q) e)) (r.agree.lines.done q low', r.agree.lines.few q low');
       },
+      λ q k e works. let own : KnowsWork qsbr key r.log s.words (work_right.Works q k) = subst (KnowsWork qsbr key r.log s.words) works (r.knows (work q) id v at (subst (λ (y : WorkRight). ClaimsWork y q) (sym works) refl)) in
+          ap (λ i. get_or s.words i 0) (e ∙ ap (λ (z : Sizes). finished_at z q) sizes) ∙ own.2,
     ),
   )

@@ -57,10 +57,14 @@ pub record TellsQueue (key : Sizes) (place q n : ℕ) (log : Log) : Type 0 where
   pub closed : place ≡ closed_at key q → n ≡ closed_of q log
   pub finished : place ≡ finished_at key q → HaveRun q n log × (n ≤ length (line_of log q))
 
+-- what the finished count of its own queue tells a worker
+abbrev pub TellsWorker : View → ℕ → ℕ → Type 0
+TellsWorker v place n = (q k : ℕ) → place ≡ finished_at v.sizes q → v.work ≡ work_right.Works q k → n ≡ k
+
 module _ {S : Type 0} (qsbr : Bool) (allows : Log → LiveEvent → Type 0) where
   -- a word of a queue was loaded
   abbrev pub looked : Step S → Me S View → ℕ → Me S View → Type 0
-  looked st m n m' = Went qsbr allows (looked_view st.word n m.0) m m' × HasNoOther m.0.sizes m'.0.seen × ((q : ℕ) → q < m.0.sizes.queues → TellsQueue m.0.sizes st.word q n m'.0.seen)
+  looked st m n m' = Went qsbr allows (looked_view st.word n m.0) m m' × HasNoOther m.0.sizes m'.0.seen × ((q : ℕ) → q < m.0.sizes.queues → TellsQueue m.0.sizes st.word q n m'.0.seen) × TellsWorker m.0 st.word n
 
   -- the object was queued
   abbrev pub queued : Step S → Me S View → ℕ → Me S View → Type 0

@@ -1,6 +1,7 @@
 //! The loads of a queue's words, by any seat. What they find is kept among its looks. None of these steps waits.
-ghost use Rattle.std.specs.Prelude.{◌≡◌, ◌<◌, ◌≤◌, length};
+ghost use Rattle.std.specs.Prelude.{◌≡◌, ℕ, ◌<◌, ◌≤◌, length};
 ghost use Rattle.live_log.specs.Log.{HaveRun, closed_of, line_of};
+ghost use Rattle.live_rule.specs.declared.rights.WorkRight.TheVariants.{Works};
 ghost use Rattle.live_rule.specs.Places.{closed_at, finished_at, queued_at};
 ghost use Rattle.live_table.specs.Steps.{Keeps, Went, looked_view};
 ghost use Rattle.live_queues.specs.Queues.{HasNoOther};
@@ -41,7 +42,8 @@ pub fn load_closed<P: GracePlan, K: ChainRule>(
     table.words.shared.load::<Looks<P, K>>(seat, place)
 }
 
-/// How many callbacks of the queue, from the first, have begun to run and were counted. It never waits.
+/// How many callbacks of the queue, from the first, have begun to run and were counted. A seat that works for the queue
+/// loads its own count. It never waits.
 pub fn load_finished<P: GracePlan, K: ChainRule>(
     table: &LiveTable<P, K>,
     seat: &mut LiveSeat,
@@ -51,6 +53,7 @@ pub fn load_finished<P: GracePlan, K: ChainRule>(
     ensures seat { Keeps seat.old seat.new }
     ensures looked { Went P.QSBR K.allows (looked_view (finished_at table.now.words.shared.key queue) result seat.old.me.0) seat.old.me seat.new.me }
     ensures count { HaveRun queue result seat.new.me.0.seen × (result ≤ length (line_of seat.new.me.0.seen queue)) × HasNoOther table.now.words.shared.key seat.new.me.0.seen }
+    ensures own { (n : ℕ) → seat.old.me.0.work ≡ Works queue n → result ≡ n }
 {
     let place = table.finished_place(queue);
     table.words.shared.load::<Looks<P, K>>(seat, place)

@@ -1,1 +1,3 @@
+pub mod Looking
 pub mod Ripening
+pub mod Running

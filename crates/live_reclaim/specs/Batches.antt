@@ -25,3 +25,7 @@ pub record IsRunAs (q : ℕ) (log : Log) (n : ℕ) (entry : Finished) : Type 0 w
 abbrev pub AreRunAs : ℕ → Log → ℕ → List Finished → Type 0
 AreRunAs q log n [] = Unit {0}
 AreRunAs q log n (entry ∷ entries) = IsRunAs q log n entry × AreRunAs q log (n + 1) entries
+
+-- the list has the tickets from above the first number up to the last
+abbrev pub Lists : ℕ → Log → ℕ → ℕ → List Finished → Type 0
+Lists q log first last entries = AreRunAs q log first entries × (first + length entries ≡ last)

@@ -1,2 +1,3 @@
 pub mod Batches
 pub mod Refusing
+pub mod Working

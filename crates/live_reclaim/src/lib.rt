@@ -4,7 +4,9 @@
 mod deleter;
 mod refusing;
 mod run;
+mod work;
 
 pub use deleter::Deleter;
 pub use refusing::refusal_of;
 pub use run::run_next;
+pub use work::{begin_work, is_emptied};

@@ -17,3 +17,6 @@ returns-clause-count g c =
     let sizes = ap (λ (k : Sizes). k.queues) c.requires.1 in
     let told = (c.load.ensures.2.2 c.args.queue (omega arith)).finished (c.finished_place-place.ensures.0 ∙ ap (λ (k : Sizes). finished_at k c.args.queue) (sym c.requires.1)) in
     (told.0, told.1, λ q high. c.load.ensures.2.1 q (omega arith))
+
+pub returns-clause-own : goal.returns-clause-own
+returns-clause-own g c n works = c.load.ensures.2.3 c.args.queue n (c.finished_place-place.ensures.0 ∙ ap (λ (k : Sizes). finished_at k c.args.queue) (sym c.requires.1)) works

@@ -1,0 +1,22 @@
+-- What two loads tell, one after the other.
+use Rattle.std.proofs.Common.{Bool, ◌≡◌, ℕ, ◌∷◌, sym, ap, ◌∙◌}
+use Rattle.atomic_table.specs.Table.{Me}
+use Rattle.live_log.specs.declared.event.LiveEvent.{LiveEvent}
+use Rattle.live_log.specs.Log.{Log}
+use Rattle.live_log.proofs.Lemmas.{begins_trans}
+use Rattle.live_rule.specs.declared.view.View.{View}
+use Rattle.live_table.specs.Steps.{IsLater, Went, looked_view}
+use Rattle.live_reclaim.specs.Working.{HasLooked, Looks}
+
+looks_as : (v w : View) (l : Looks) → w ≡ record v { seen = w.seen; looks = l } → w ≡ record v { seen = w.seen; looks = w.looks }
+looks_as v w l e = e ∙ ap (λ (k : Looks). record v { seen = w.seen; looks = k }) (sym (ap (λ (z : View). z.looks) e))
+
+module _ {S : Type 0} (qsbr : Bool) (allows : Log → LiveEvent → Type 0) (m u w : Me S View) (a n b k : ℕ) (x : Went qsbr allows (looked_view a n m.0) m u) (y : Went qsbr allows (looked_view b k u.0) u w) where
+  pub later_twice : IsLater qsbr allows m.0 w.0
+  later_twice = (begins_trans m.0.seen u.0.seen w.0.seen x.2.0 y.2.0, begins_trans m.0.heard u.0.seen w.0.seen x.2.1 y.2.0, y.2.2)
+
+  pub looked_twice : HasLooked m.0 w.0
+  looked_twice = (
+    looks_as m.0 w.0 ((b, k) ∷ (a, n) ∷ m.0.looks) (y.1 ∙ ap (λ (z : View). record (looked_view b k z) { seen = w.0.seen }) x.1),
+    begins_trans m.0.seen u.0.seen w.0.seen x.2.0 y.2.0,
+  )

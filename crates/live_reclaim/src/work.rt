@@ -1,0 +1,62 @@
+//! How a queue's worker begins, and when it has no more to do.
+ghost use Rattle.std.specs.Prelude.{◌≡◌, ◌↔◌, ℕ, ◌<◌, ◌≤◌, ◌∷◌, IfErr, IfOk, IsTrue, length};
+ghost use Rattle.live_log.specs.Log.{Begins, HaveRun, IsLiveRun, line_of};
+ghost use Rattle.live_rule.specs.Places.{closed_at, finished_at, queued_at, work_at};
+ghost use Rattle.live_rule.specs.Steps.{Precedes};
+ghost use Rattle.live_table.specs.Steps.{IsLater, Keeps};
+ghost use Rattle.live_reclaim.specs.Batches.{WorksFor};
+ghost use Rattle.live_reclaim.specs.Working.{HasLooked, IsEmptied, RefusesWork};
+
+use gp_memb::GracePlan;
+use live_words::{
+    ChainRule, LiveSeat, LiveTable, hold_work, load_closed, load_finished, load_queued,
+};
+use rcu_model::Refusal;
+
+/// Takes the right to work for a queue, liburcu's start of a `call_rcu` thread. Answers how many of its callbacks are
+/// finished.
+///
+/// Refused with `NoActor` exactly where there is no such queue, with `Busy` where another works for it, and with
+/// `Exhausted` where its last worker found the sequence numbers used up. It never waits and takes no memory.
+pub fn begin_work<P: GracePlan, K: ChainRule>(
+    table: &LiveTable<P, K>,
+    seat: &mut LiveSeat,
+    queue: usize,
+) -> Result<u64, Refusal>
+    requires { (seat.old.table_id ≡ table.now.words.shared.table_id) × (seat.old.me.0.sizes ≡ table.now.words.shared.key) }
+    ensures seat { Keeps seat.old seat.new × (seat.new.me.1 ≡ seat.old.me.1) × (seat.new.me.0.sizes ≡ seat.old.me.0.sizes) × (seat.new.me.0.loads ≡ seat.old.me.0.loads) }
+    ensures begun { IfOk result (λ first. (queue < table.now.queues) × WorksFor queue first seat.new.me.0 × HaveRun queue first seat.new.me.0.seen × (first ≤ length (line_of seat.new.me.0.seen queue)) × Precedes seat.old.me.0 seat.new.me.0.seen × IsLiveRun P.QSBR K.allows seat.new.me.0.seen × (seat.new.me.0.looks ≡ (finished_at table.now.words.shared.key queue, first) ∷ (work_at table.now.words.shared.key queue, 0) ∷ seat.old.me.0.looks)) }
+    ensures refused { IfErr result (λ e. RefusesWork table.now.words.shared.key queue seat.old.me.0.looks seat.new.me.0.looks e) }
+    ensures same { IfErr result (λ e. HasLooked seat.old.me.0 seat.new.me.0) }
+{
+    if queue >= table.queues {
+        return Err(Refusal::NoActor);
+    }
+    let found = hold_work(table, seat, queue);
+    if found == 1 {
+        return Err(Refusal::Busy);
+    }
+    if found != 0 {
+        return Err(Refusal::Exhausted);
+    }
+    Ok(load_finished(table, seat, queue))
+}
+
+/// Whether a worker that has finished so many has no more to do: loads the queue's closed word and then how many were
+/// queued. It is true exactly where the queue is closed and no more were queued. It never waits and takes no memory.
+pub fn is_emptied<P: GracePlan, K: ChainRule>(
+    table: &LiveTable<P, K>,
+    seat: &mut LiveSeat,
+    queue: usize,
+    finished: u64,
+) -> bool
+    requires { (seat.old.table_id ≡ table.now.words.shared.table_id) × (seat.old.me.0.sizes ≡ table.now.words.shared.key) × (queue < table.now.queues) }
+    ensures seat { Keeps seat.old seat.new × (seat.new.me.1 ≡ seat.old.me.1) × HasLooked seat.old.me.0 seat.new.me.0 }
+    ensures later { IsLater P.QSBR K.allows seat.old.me.0 seat.new.me.0 }
+    ensures exact { (closed queued : ℕ) × (seat.new.me.0.looks ≡ (queued_at table.now.words.shared.key queue, queued) ∷ (closed_at table.now.words.shared.key queue, closed) ∷ seat.old.me.0.looks) × (IsTrue result ↔ ((closed ≡ 1) × (queued ≡ finished))) }
+    ensures emptied { IsTrue result → IsEmptied queue finished seat.new.me.0.seen }
+{
+    let closed = load_closed(table, seat, queue);
+    let queued = load_queued(table, seat, queue);
+    closed == 1 && queued == finished
+}
