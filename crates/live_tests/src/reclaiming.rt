@@ -1,15 +1,21 @@
-//! What is cut is retired: tickets, refusals with their parts back, closed queues, and barriers.
+//! What is cut is retired and reclaimed: tickets, refusals with their parts back, closed queues, barriers and workers.
 
-ghost use Rattle.std.specs.Prelude.{◌≡◌, false};
+ghost use Rattle.std.specs.Prelude.{◌≡◌, false, true};
 
 use crate::deleter::Adds;
-use domain::{Domain, LiveConfig, Opened, Record, Site, Unlinked};
-use gp_memb::MembPlan;
+use crossbeam_utils::Backoff;
+use domain::{
+    Callback, Deleter, Domain, Finished, LiveConfig, Opened, Owned, Record, Ripe, Site, Stop, Ticket,
+    Unlinked, WorkerEnd,
+};
+use gp_memb::{GracePlan, MembPlan};
+use gp_qsbr::QsbrPlan;
 use live_words::AnyChain;
-use rcu_model::Refusal;
+use rcu_model::{ObjectId, Refusal};
 use std::alloc::Global;
 use std::marker::Brand;
 use std::sync::Wait;
+use std::thread::{Threads, join};
 
 /// A small domain of this many queues, and a chain for each.
 fn of_queues(queues: usize) -> LiveConfig {
@@ -187,4 +193,189 @@ fn a_barrier_waits_for_every_queue(rt: HostRuntime) {
     let opened = Opened::<MembPlan, AnyChain>::new(rt.alloc(), of_queues(2)).expect(&rt, "memory");
     let barred = bars::<Brand, _>(&rt, rt.alloc(), opened).expect(&rt, "not refused");
     assert_eq!(rt; barred, [true, false, true]);
+}
+
+/// What is left to look at of a worker's end: its entries, how many items were not run, and why it stopped.
+fn told<B: Site, D: Deleter>(end: &WorkerEnd<B, D>) -> (usize, Option<Finished>, usize, Stop) {
+    (
+        end.finished.len(),
+        end.finished.get(0).copied(),
+        end.left.len(),
+        end.stop,
+    )
+}
+
+/// The ticket of an object of these words that is cut and retired with a callback, and the end of a worker that finds it
+/// in a closed queue.
+fn reclaims<B: Site, R: Wait>(
+    rt: &R,
+    alloc: Global,
+    domain: &Domain<MembPlan, AnyChain, B, Callback>,
+    record: &mut Record<B>,
+    callback: Callback,
+) -> Result<(u64, (usize, Option<Finished>, usize, Stop)), Refusal> {
+    let owned = domain.alloc(rt, record, [5, 0, 0, 0])?;
+    let mut writer = domain.chain(record, 0)?;
+    writer.push(record, owned);
+    let Ok(ticket) = domain.cut_retire(rt, record, &mut writer, 0, callback) else {
+        return Err(Refusal::Memory);
+    };
+    domain.close(rt, record);
+    let end = domain.run_worker(rt, alloc, record, 0)?;
+    Ok((ticket.0, told(&end)))
+}
+
+fn reclaims_one<B: Site, R: Wait>(
+    rt: &R,
+    alloc: Global,
+    opened: Opened<MembPlan, AnyChain>,
+    callback: Callback,
+) -> Result<(u64, (usize, Option<Finished>, usize, Stop)), Refusal>
+    requires { (B.qsbr ≡ false) × (opened.table.words.shared.table_id ≡ B.table) × (opened.table.words.shared.key ≡ B.sizes) }
+{
+    let (domain, mut record) = opened.named::<B, Callback>(alloc)?;
+    reclaims(rt, alloc, &domain, &mut record, callback)
+}
+
+#[test]
+fn a_worker_runs_what_a_closed_queue_has(rt: HostRuntime) {
+    let opened = Opened::<MembPlan, AnyChain>::new(rt.alloc(), of_queues(1)).expect(&rt, "memory");
+    let call = Box::new(rt.alloc(), |ripe: Ripe| ripe.payload[0]).expect(&rt, "memory");
+    let (ticket, end) = reclaims_one::<Brand, _>(&rt, rt.alloc(), opened, Callback { call }).expect(
+        &rt, "not refused",
+    );
+    let entry = Finished {
+        ticket: Ticket(1),
+        object: ObjectId(1),
+        code: 5,
+    };
+    assert_eq!(rt; ticket, 1);
+    assert_eq!(rt; end, (1, Some(entry), 0, Stop::Closed));
+}
+
+/// Whether a worker of a queue that is not there is refused, and one of an empty closed queue ends at once, twice.
+fn ends<B: Site, R: Wait>(
+    rt: &R,
+    alloc: Global,
+    opened: Opened<MembPlan, AnyChain>,
+) -> Result<[bool; 3], Refusal>
+    requires { (B.qsbr ≡ false) × (opened.table.words.shared.table_id ≡ B.table) × (opened.table.words.shared.key ≡ B.sizes) }
+{
+    let (domain, mut record) = opened.named::<B, Adds>(alloc)?;
+    let absent = domain.run_worker(rt, alloc, &mut record, 2);
+    domain.close(rt, &mut record);
+    let once = domain.run_worker(rt, alloc, &mut record, 1)?;
+    let twice = domain.run_worker(rt, alloc, &mut record, 1)?;
+    Ok([
+        matches!(absent, Err(Refusal::NoActor)),
+        once.stop == Stop::Closed,
+        twice.stop == Stop::Closed,
+    ])
+}
+
+#[test]
+fn workers_end_at_closed_queues(rt: HostRuntime) {
+    let opened = Opened::<MembPlan, AnyChain>::new(rt.alloc(), of_queues(2)).expect(&rt, "memory");
+    let ended = ends::<Brand, _>(&rt, rt.alloc(), opened).expect(&rt, "not refused");
+    assert_eq!(rt; ended, [true; 3]);
+}
+
+/// A record of these words, waited for while all are in use.
+fn when_free<P: GracePlan + Drop, B: Site, R: Wait>(
+    rt: &R,
+    domain: &Domain<P, AnyChain, B, Adds>,
+    record: &mut Record<B>,
+    word: u64,
+) -> Option<Owned<B>> {
+    let backoff = Backoff::new();
+    for _ in 0..1_000_000_000u64 {
+        match domain.alloc(rt, record, [word, 0, 0, 0]) {
+            Ok(owned) => return Some(owned),
+            Err(Refusal::PoolFull) => backoff.snooze(),
+            Err(_) => return None,
+        }
+    }
+    None
+}
+
+/// How many records, of words that count from 1, are pushed, cut and retired; then a barrier is waited for, and the
+/// queues are closed.
+fn updates<P: GracePlan + Drop, B: Site, R: Wait>(
+    rt: &R,
+    domain: &Domain<P, AnyChain, B, Adds>,
+    record: &mut Record<B>,
+    count: u64,
+) -> u64 {
+    let Ok(mut writer) = domain.chain(record, 0) else {
+        return 0;
+    };
+    let mut retired = 0u64;
+    for number in 0..count {
+        let word = number + 1;
+        if let Some(owned) = when_free(rt, domain, record, word) {
+            writer.push(record, owned);
+            if domain.cut_retire(rt, record, &mut writer, 0, Adds(0)).is_ok() {
+                retired = word;
+            }
+        }
+    }
+    domain.barrier(rt, record);
+    domain.close(rt, record);
+    retired
+}
+
+/// How many entries have their ticket's number as their code, from the first one on, and why the worker stopped.
+fn works<P: GracePlan + Drop, B: Site, R: Wait>(
+    rt: &R,
+    alloc: Global,
+    domain: &Domain<P, AnyChain, B, Adds>,
+    record: &mut Record<B>,
+) -> Result<(u64, Stop), Refusal> {
+    let end = domain.run_worker(rt, alloc, record, 0)?;
+    let mut good = 0u64;
+    for entry in end.finished.iter() {
+        if entry.ticket.0 == entry.code && entry.code == good.wrapping_add(1) {
+            good = entry.code;
+        }
+    }
+    Ok((good, end.stop))
+}
+
+/// An updater retires many more records than there are, beside a worker that gives them back.
+fn both<P: GracePlan + Drop + Send + Sync, B: Site + Send + Sync, R: Threads + Wait + Sync>(
+    rt: &R,
+    alloc: Global,
+    opened: Opened<P, AnyChain>,
+) -> Result<(u64, (u64, Stop)), Refusal>
+    requires { (P.QSBR ≡ B.qsbr) × (opened.table.words.shared.table_id ≡ B.table) × (opened.table.words.shared.key ≡ B.sizes) }
+{
+    let (domain, mut record) = opened.named::<B, Adds>(alloc)?;
+    let other = domain.split(&mut record);
+    let home = &domain;
+    let (retired, worked) = join(
+        rt,
+        move || {
+            let mut record = record;
+            updates(rt, home, &mut record, 1000)
+        },
+        move || {
+            let mut other = other;
+            works(rt, alloc, home, &mut other)
+        },
+    );
+    Ok((retired, worked?))
+}
+
+#[test]
+fn a_worker_runs_beside_an_updater(rt: HostRuntime) {
+    let opened = Opened::<MembPlan, AnyChain>::new(rt.alloc(), of_queues(1)).expect(&rt, "memory");
+    let done = both::<MembPlan, Brand, _>(&rt, rt.alloc(), opened).expect(&rt, "not refused");
+    assert_eq!(rt; done, (1000, (1000, Stop::Closed)));
+}
+
+#[test]
+fn a_worker_of_the_quiescent_state_flavour(rt: HostRuntime) {
+    let opened = Opened::<QsbrPlan, AnyChain>::new(rt.alloc(), of_queues(1)).expect(&rt, "memory");
+    let done = both::<QsbrPlan, Brand, _>(&rt, rt.alloc(), opened).expect(&rt, "not refused");
+    assert_eq!(rt; done, (1000, (1000, Stop::Closed)));
 }
