@@ -131,3 +131,14 @@ module _ {S : Type 0} (qsbr : Bool) (allows : Log → LiveEvent → Type 0) wher
         run = e.1.4;
         finds = (([], ap (λ (v : View). v.looks) view), (t.me.0.seen ∷ [], ap (λ (v : View). v.loads) view));
       }
+
+  -- it loads two words
+  pub goes_looked : (s t : Seat S View) → Keeps s t → t.me.1 ≡ s.me.1 → t.me.0 ≡ record s.me.0 { seen = t.me.0.seen; looks = t.me.0.looks } → Begins s.me.0.seen t.me.0.seen → IsLiveRun qsbr allows t.me.0.seen → (a b : ℕ × ℕ) → t.me.0.looks ≡ a ∷ b ∷ s.me.0.looks → GoesOn qsbr allows s t
+  goes_looked s t keeps own view later run a b looks = record {
+    keeps = keeps;
+    own = own;
+    sizes = ap (λ (v : View). v.sizes) view;
+    later = later;
+    run = run;
+    finds = ((a ∷ b ∷ [], looks), ([], ap (λ (v : View). v.loads) view));
+  }

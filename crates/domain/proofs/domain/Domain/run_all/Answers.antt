@@ -7,8 +7,8 @@ use Rattle.domain.specs.Working.{GoesOn}
 use Rattle.domain.proofs.Running.{all_and, all_later, due_later, goes_heard, goes_same, goes_trans}
 use Rattle.domain.proofs.domain.Domain.run_all.Goals as goal
 
-pub loop-count-entered : goal.loop-count-entered
-loop-count-entered g c =
+pub loop-count-init : goal.loop-count-init
+loop-count-init g c =
     let r = c.requires in
     (goes_same g.P.GracePlan.QSBR g.K.ChainRule.allows c.args.seat.now r.due.2, r.queue.1, r.due.1, r.list.0, r.list.1, r.due.0)
 
