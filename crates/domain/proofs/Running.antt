@@ -11,16 +11,19 @@ use Rattle.rcu_model.specs.Sets.{In}
 use Rattle.call_rcu_worker.specs.declared.finished.Finished.{Finished}
 use Rattle.live_log.specs.declared.event.LiveEvent.{LiveEvent}
 use Rattle.live_log.specs.declared.event.LiveEvent.TheVariants.{Close}
-use Rattle.live_log.specs.Log.{Log, Begins, Has, HaveEnded, HaveRun, IsLiveRun, line_of, open_of, state_of}
+use Rattle.live_log.specs.Log.{Log, Begins, Has, HaveEnded, HaveRun, IsLiveRun, line_of, state_of}
 use Rattle.live_log.proofs.Lemmas.{begins_trans, grows_log, has_later, line_grows}
 use Rattle.live_rule.specs.declared.view.View.{View}
+use Rattle.live_rule.specs.Places.{finished_at, work_at}
 use Rattle.live_rule.specs.Steps.{Wrote}
+use Rattle.live_rule.specs.Views.{bare}
 use Rattle.live_rule.specs.declared.view.Sizes.{Sizes}
 use Rattle.live_table.specs.Steps.{Keeps}
 use Rattle.live_words.specs.Queues.{IsAt}
 use Rattle.live_items.specs.Running.{KeepsFinds}
 use Rattle.live_reclaim.specs.Batches.{AreRunAs, IsDue, IsRunAs, Lists}
-use Rattle.domain.specs.Working.{FoundUsedUp, GoesOn, Looks}
+use Rattle.domain.specs.declared.worker_end.Stop.{Stop}
+use Rattle.domain.specs.Working.{FoundUsedUp, GoesOn, HasWorked, Looks, left_by}
 
 stands_later : (old new : Log) (q n : ℕ) (o : ObjectId) → Begins old new → IsAt q n o old → IsAt q n o new
 stands_later old new q n o b at = let g = line_grows old new q b in ap (λ (l : List ObjectId). get_elem? l n) g.1 ∙ at_longer (line_of old q) g.0 n o at
@@ -92,6 +95,41 @@ used_up_since first start log old between new b since e x = record {
   before = x.before;
   used_up = x.used_up;
 }
+
+-- a seat worked that had seen as much as the witness and found nothing; the witness takes in what the seat found
+pub worked_for : (qsbr : Bool) (allows : Log → LiveEvent → Type 0) (key sizes : Sizes) (q : ℕ) (seen heard : Log) (v : View) (looks found before : Looks) (loads loaded earlier : List Log) (entries : List Finished) (stop : Stop) (log : Log)
+    → v ≡ bare sizes seen heard → looks ≡ found ++ before → loads ≡ loaded ++ earlier
+    → HasWorked qsbr allows key q v.seen v.heard v.looks found v.loads loaded entries stop log
+    → HasWorked qsbr allows key q seen heard before looks earlier loads entries stop log
+worked_for qsbr allows key sizes q seen heard v looks found before loads loaded earlier entries stop log is looks_are loads_are h =
+    let x : ℕ × ℕ = (work_at key q, left_by stop) in
+    let y : ℕ × ℕ = (finished_at key q, h.first) in
+    let z : ℕ × ℕ = (work_at key q, 0) in
+    let since : Looks = h.looks_since in record {
+      start = h.start;
+      first = h.first;
+      last = h.last;
+      looks_since = since;
+      low = h.low;
+      after_seen = subst (λ (l : Log). Begins l h.start) (ap (λ (w : View). w.seen) is) h.after_seen;
+      after_heard = subst (λ (l : Log). Begins l h.start) (ap (λ (w : View). w.heard) is) h.after_heard;
+      counted = h.counted;
+      queued = h.queued;
+      later = h.later;
+      run = h.run;
+      lists = h.lists;
+      through = h.through;
+      closed = h.closed;
+      exhausted = λ e. let u = h.exhausted e in record {
+        at = u.at;
+        earlier = u.earlier;
+        last_load = loads_are ∙ (ap (λ (l : List Log). l ++ earlier) (u.last_load ∙ ap (λ (w : View). u.at ∷ (u.earlier ++ w.loads)) is) ∙ ap (λ (l : List Log). u.at ∷ l) (append_assoc u.earlier [] earlier));
+        after = u.after;
+        before = u.before;
+        used_up = u.used_up;
+      };
+      looks = looks_are ∙ (ap (λ (l : Looks). l ++ before) (h.looks ∙ ap (λ (w : View). x ∷ (since ++ (y ∷ z ∷ w.looks))) is) ∙ ap (λ (l : Looks). x ∷ l) (append_assoc since (y ∷ z ∷ []) before));
+    }
 
 module _ {S : Type 0} (qsbr : Bool) (allows : Log → LiveEvent → Type 0) where
   pub goes_trans : (s t u : Seat S View) → GoesOn qsbr allows s t → GoesOn qsbr allows t u → GoesOn qsbr allows s u

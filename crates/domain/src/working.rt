@@ -1,14 +1,17 @@
 //! How a program works for a queue.
 
-ghost use Rattle.std.specs.Prelude.{◌≡◌, ◌+◌, ◌-◌, ◌<◌, ◌≤◌, ◌^◌, [], IfErr, IfOk, length, vec_capacity, vec_len};
-ghost use Rattle.rcu_model.specs.declared.refusal.Refusal.TheVariants as refusal;
-ghost use Rattle.live_log.specs.Log.{Begins, IsLiveRun, line_of};
-ghost use Rattle.live_read.specs.Hearing.{IsAfter, Stays};
+ghost use Rattle.std.specs.Prelude.{◌≡◌, ◌+◌, ◌-◌, ◌<◌, ◌≤◌, [], IfErr, IfOk, length, vec_capacity, vec_len};
+ghost use Rattle.live_log.specs.Log.{IsLiveRun, line_of};
+ghost use Rattle.live_rule.specs.Places.{work_at};
+ghost use Rattle.live_rule.specs.Seats.{but_work};
+ghost use Rattle.live_table.specs.Rights.{IsWorker, work_in};
+ghost use Rattle.live_table.specs.Steps.{Keeps, Went, looked_view};
+ghost use Rattle.live_read.specs.Hearing.{Stays};
 ghost use Rattle.live_reclaim.specs.Batches.{IsDue, Lists, WorksFor};
 ghost use Rattle.live_reclaim.specs.Working.{IsEmptied, RefusesWork};
 ghost use Rattle.domain.specs.declared.worker_end.Stop.TheVariants as stopped;
 ghost use Rattle.domain.specs.declared.working.Outcome.TheVariants as outcome;
-ghost use Rattle.domain.specs.Working.{FoundUsedUp, GoesOn, HasWorked};
+ghost use Rattle.domain.specs.Working.{FoundUsedUp, GoesOn, HasWorked, left_by};
 
 use crate::domain::Domain;
 use crate::worker_end::{Stop, WorkerEnd};
@@ -171,6 +174,20 @@ impl<P: GracePlan + Drop, K: ChainRule, B: Site, D: Deleter> Domain<P, K, B, D> 
         unreachable!()
     }
 
+    /// Gives the right to work for the queue back, or up for good where the sequence numbers are used up.
+    fn leave(&self, seat: &mut LiveSeat, queue: usize, stop: Stop)
+        requires seat { (seat.old.table_id ≡ B.table) × (queue < B.sizes.queues) }
+        requires right { IsWorker seat.old.me.0 × (work_in seat.old.me.0.work ≡ queue) }
+        ensures seat { Keeps seat.old seat.new }
+        ensures left { Went P.QSBR K.allows (looked_view (work_at B.sizes queue) (left_by stop) (but_work seat.old.me.0)) seat.old.me seat.new.me }
+    {
+        match stop {
+            Stop::Exhausted => end_work(&self.table, seat, queue),
+            Stop::Closed => free_work(&self.table, seat, queue),
+            Stop::Memory => free_work(&self.table, seat, queue),
+        }
+    }
+
     /// Begins to work for the queue, works, and ends.
     fn employ<R: Wait>(
         &self,
@@ -188,10 +205,7 @@ impl<P: GracePlan + Drop, K: ChainRule, B: Site, D: Deleter> Domain<P, K, B, D> 
         let mut finished = Vec::new(alloc);
         let mut left = Vec::new(alloc);
         let (_, stop) = self.work(rt, seat, queue, first, &mut finished, &mut left);
-        match stop {
-            Stop::Exhausted => end_work(&self.table, seat, queue),
-            _ => free_work(&self.table, seat, queue),
-        }
+        self.leave(seat, queue, stop);
         Ok(WorkerEnd {
             finished,
             left,

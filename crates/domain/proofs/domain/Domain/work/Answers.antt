@@ -1,8 +1,7 @@
-use Rattle.std.proofs.Common.{◌≡◌, ℕ, ◌+◌, [], length, refl, sym, ap, ◌∙◌, subst, arith}
-use Rattle.call_rcu_worker.specs.declared.finished.Finished.{Finished}
+use Rattle.std.proofs.Common.{rules, ◌≡◌, ℕ, ◌+◌, [], length, refl, sym, ap, ◌∙◌, subst, arith}
 use Rattle.live_rule.specs.declared.view.View.{View}
 use Rattle.live_reclaim.specs.Batches.{Lists}
-use Rattle.domain.specs.Working.{GoesOn}
+use Rattle.domain.specs.declared.working.Outcome.TheVariants as outcome
 use Rattle.domain.proofs.Running.{goes_looked, goes_same, goes_trans, list_later, used_up_since}
 use Rattle.domain.proofs.domain.Domain.work.Goals as goal
 
@@ -50,3 +49,12 @@ returns-in-Exhausted-clause-seat g c = goes_trans g.P.GracePlan.QSBR g.K.ChainRu
 
 pub returns-in-Memory-clause-seat : goal.returns-in-Memory-clause-seat
 returns-in-Memory-clause-seat g c = goes_trans g.P.GracePlan.QSBR g.K.ChainRule.allows c.args.seat.now c.loop.seat c.run_batch-now.new.seat c.loop.invariant.0 c.run_batch-now.ensures.seat
+
+pub returns-in-Exhausted-clause-exhausted : goal.returns-in-Exhausted-clause-exhausted
+returns-in-Exhausted-clause-exhausted g c _ =
+    let old : View = c.args.seat.now.me.0 in
+    let now : View = c.loop.seat.me.0 in
+    let new : View = c.run_batch-now.new.seat.me.0 in
+    let i = c.loop.invariant.0 in
+    let is : c.run_batch-now.result.1 ≡ outcome.Exhausted = search rules in
+    used_up_since old.seen now.seen new.seen old.loads now.loads new.loads i.later i.finds.1.0 i.finds.1.1 (c.run_batch-now.ensures.exhausted is)
