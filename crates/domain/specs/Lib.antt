@@ -2,3 +2,4 @@ pub mod Config
 pub mod Waiting
 pub mod Retiring
 pub mod Barriers
+pub mod Working

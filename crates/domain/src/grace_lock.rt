@@ -43,6 +43,7 @@ impl<P: GracePlan + Drop, B: Site> GraceLock<P, B> {
         requires tables { (table.now.words.shared.table_id ≡ B.table) × (seat.old.table_id ≡ B.table) }
         requires seen { Begins ask.asked.value.me.0.seen seat.old.me.0.seen }
         ensures seat { Keeps seat.old seat.new × (seat.new.me.1 ≡ seat.old.me.1) }
+        ensures rights { (seat.new.me.0.sizes ≡ seat.old.me.0.sizes) × (seat.new.me.0.work ≡ seat.old.me.0.work) }
         ensures load { (seat.new.me.0.loads ≡ seat.new.me.0.seen ∷ seat.old.me.0.loads) × (seat.new.me.0.looks ≡ seat.old.me.0.looks) }
         ensures later { Begins seat.old.me.0.seen seat.new.me.0.seen × IsLiveRun P.QSBR K.allows seat.new.me.0.seen }
         ensures ended { HaveEnded ask.asked.value.me.0.seen seat.new.me.0.seen }

@@ -1,6 +1,6 @@
 #![tactic(auto)]
-//! A domain of the library over live threads: readers are registered, records and chains are written, and grace periods
-//! are waited for and polled. Its locks are here alone.
+//! A domain of the library over live threads: readers are registered, records and chains are written, what was cut is
+//! retired and reclaimed by workers, and grace periods are waited for and polled. Its locks are here alone.
 
 mod barring;
 mod config;
@@ -10,15 +10,19 @@ mod grace_lock;
 mod opened;
 mod queue;
 mod retiring;
+mod worker_end;
+mod working;
 mod writing;
 
 pub use call_rcu_worker::Finished;
-pub use callback_queue::{Callback, Ripe, Ticket};
+pub use callback_queue::{Callback, Item, Ripe, Ticket};
 pub use config::LiveConfig;
 pub use domain::Domain;
 pub use live_barrier::BarrierMark;
 pub use live_grace::LiveCookie;
+pub use live_items::Job;
 pub use live_read::{Held, Reader, Record, Section, Site, Witness};
 pub use live_reclaim::Deleter;
 pub use live_write::{Chain, Owned, Unlinked};
 pub use opened::Opened;
+pub use worker_end::{Stop, WorkerEnd};

@@ -5,7 +5,7 @@ ghost use Rattle.live_log.specs.Log.{payload_of, state_of};
 ghost use Rattle.live_table.specs.Rights.{cell_in, object_in};
 ghost use Rattle.live_table.specs.Steps.{Keeps, Went};
 ghost use Rattle.live_words.specs.Records.{HasCut, IsRipe};
-ghost use Rattle.live_items.specs.Running.{Runs};
+ghost use Rattle.live_items.specs.Running.{KeepsFinds, Runs};
 
 use crate::job::Job;
 use callback_queue::Ripe;
@@ -46,6 +46,7 @@ impl<B: Site, C: Drop> Job<B, C> {
         requires object { object ≡ object_in self.0.object }
         requires ripe { IsRipe worker.old.me.0.seen object }
         ensures worker { Keeps worker.old worker.new × (worker.new.me ≡ (record worker.old.me.0 { heard = worker.new.me.0.heard; looks = worker.new.me.0.looks; loads = worker.new.me.0.loads }, worker.old.me.1)) }
+        ensures finds { KeepsFinds worker.old.me.0 worker.new.me.0 }
         ensures run { Runs P.QSBR K.allows self.0.seen worker.old.me.0.seen object worker.new.me.0.heard }
         ensures ripe { (result.0.object ≡ object) × (result.0.payload ≡ payload_of worker.new.me.0.heard object) }
     {

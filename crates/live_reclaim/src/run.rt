@@ -3,6 +3,7 @@ ghost use Rattle.std.specs.Prelude.{◌≡◌, ◌+◌, ◌<◌, ◌≤◌, ◌^
 ghost use Rattle.live_log.specs.Log.{Begins, IsLiveRun};
 ghost use Rattle.live_table.specs.Steps.{Keeps};
 ghost use Rattle.live_items.specs.Items.{IsPlaced};
+ghost use Rattle.live_items.specs.Running.{KeepsFinds};
 ghost use Rattle.live_reclaim.specs.Batches.{IsDue, IsRunAs, WorksFor};
 
 use crate::deleter::Deleter;
@@ -29,6 +30,7 @@ pub fn run_next<P: GracePlan, K: ChainRule, B: Site, D: Deleter>(
     requires item { (ticket.0 ≡ finished + 1) × IsPlaced queue seat.old.me.0.heard finished item }
     requires due { (finished < given) × (given < 2 ^ 64) × IsDue queue given seat.old.me.0.seen }
     ensures seat { Keeps seat.old seat.new × (seat.new.me.1 ≡ seat.old.me.1) × (seat.new.me.0.sizes ≡ seat.old.me.0.sizes) × WorksFor queue (finished + 1) seat.new.me.0 }
+    ensures finds { KeepsFinds seat.old.me.0 seat.new.me.0 }
     ensures seen { Begins seat.old.me.0.seen seat.new.me.0.seen × IsLiveRun P.QSBR K.allows seat.new.me.0.seen }
     ensures run { IsRunAs queue seat.new.me.0.seen finished result }
 {

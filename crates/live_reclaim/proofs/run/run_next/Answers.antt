@@ -1,10 +1,11 @@
-use Rattle.std.proofs.Common.{[], ◌∷◌, refl, sym, ap, ◌∙◌, subst, inr, arith}
+use Rattle.std.proofs.Common.{ℕ, [], ◌∷◌, ◌++◌, append_assoc, refl, sym, ap, ◌∙◌, subst, inr, arith}
 use Rattle.rcu_model.specs.declared.event.ObjectId.{ObjectId}
 use Rattle.rcu_model.specs.Sets.{In}
 use Rattle.callback_queue.specs.declared.item.Ticket.{Ticket}
 use Rattle.live_log.specs.Log.{Log, Begins, state_of}
 use Rattle.live_log.proofs.Lemmas.{begins_trans}
 use Rattle.live_rule.specs.declared.view.View.{View}
+use Rattle.live_rule.specs.Places.{closed_at}
 use Rattle.live_rule.specs.declared.rights.WorkRight.{WorkRight}
 use Rattle.live_table.specs.Rights.{finished_in, work_in}
 use Rattle.live_words.specs.Queues.{HasRunAt, IsAt}
@@ -37,6 +38,17 @@ store_finished-requires-clause-has_run g c =
     let known : HasRunAt c.args.queue c.args.finished log = (c.args.item.object, stands_later was log c.args.queue c.args.finished c.args.item.object on placed.turn, has_run ran.before log log c.args.item.object ran.wrote ([], refl)) in
     let work = ap (λ z. z.0.work) c.run-deleter.ensures.worker.1 ∙ (ap (λ (v : View). v.work) c.load_closed.ensures.looked.1 ∙ c.requires.queue.1) in
     inr (subst (λ (r : WorkRight). HasRunAt (work_in r) (finished_in r) log) (sym work) known)
+
+pub returns-clause-finds : goal.returns-clause-finds
+returns-clause-finds g c =
+    let old : View = c.args.seat.now.me.0 in
+    let looked = c.load_closed.ensures.looked.1 in
+    let done = c.store_finished.ensures.finished.1 in
+    let looks = c.run-deleter.ensures.finds.0 in
+    let loads = c.run-deleter.ensures.finds.1 in
+    let look : ℕ × ℕ = (closed_at c.args.table.now.words.shared.key c.args.queue, c.load_closed.result) in
+    ((looks.0 ++ look ∷ [], ap (λ (v : View). v.looks) done ∙ (looks.1 ∙ (ap (λ (v : View). looks.0 ++ v.looks) looked ∙ sym (append_assoc looks.0 (look ∷ []) old.looks)))),
+      (loads.0, ap (λ (v : View). v.loads) done ∙ (loads.1 ∙ ap (λ (v : View). loads.0 ++ v.loads) looked)))
 
 pub returns-clause-seen : goal.returns-clause-seen
 returns-clause-seen g c =

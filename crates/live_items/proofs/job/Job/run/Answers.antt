@@ -1,4 +1,4 @@
-use Rattle.std.proofs.Common.{◌≡◌, ℕ, [], ◌∷◌, refl, sym, ap, ◌∙◌, subst, List}
+use Rattle.std.proofs.Common.{◌≡◌, ℕ, [], ◌∷◌, ◌++◌, refl, sym, ap, ◌∙◌, subst, List}
 use Rattle.rcu_model.specs.declared.event.ObjectId.{ObjectId}
 use Rattle.live_log.specs.declared.event.LiveEvent.TheVariants.{Object}
 use Rattle.live_log.specs.declared.event.ObjectEvent.TheVariants.{Run}
@@ -22,6 +22,13 @@ returns-clause-worker g c =
     let rights = ap (λ z. z.1) learned.2 ∙ ap (λ z. z.1) told.2 in
     let is : new ≡ record old { heard = new.heard; looks = new.looks; loads = new.loads } = view ∙ (λ i. record (same i) { heard = (sym view i).heard; looks = (sym view i).looks; loads = (sym view i).loads }) in
     ((learned.0 ∙ told.0, learned.1 ∙ told.1), λ i. (is i, rights i))
+
+pub returns-clause-finds : goal.returns-clause-finds
+returns-clause-finds g c =
+    let same = ap (λ z. z.0) c.tell.ensures.2 in
+    let view = ap (λ z. z.0) c.learn-2.ensures.2 in
+    let job : View = c.store_run.new.seat.me.0 in
+    ((job.looks, ap (λ (v : View). v.looks) view ∙ ap (λ (v : View). job.looks ++ v.looks) same), (job.loads, ap (λ (v : View). v.loads) view ∙ ap (λ (v : View). job.loads ++ v.loads) same))
 
 pub returns-clause-run : goal.returns-clause-run
 returns-clause-run g c =

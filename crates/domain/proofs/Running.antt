@@ -1,0 +1,182 @@
+-- What a worker keeps, and what it has run.
+use Rattle.std.proofs.Common.{Bool, true, false, ◌≡◌, ◌≢◌, ℕ, zero, suc, ◌+◌, ◌<◌, ◌≤◌, List, [], ◌∷◌, ◌++◌, length, append_assoc, sym, refl, ap, ◌∙◌, subst, arith, inl, inr, ⊎_elim, ◌==◌}
+use mathlib.Core.Option.{some, some-injective}
+use Rattle.std.proofs.lemmas.Bool.Decides.{eqb_tells}
+use lib.ListN.{get_elem?, length-append}
+use Rattle.atomic_table.proofs.Lists.{at_longer}
+use Rattle.atomic_table.specs.Table.{Me}
+use Rattle.atomic_table.specs.declared.shared.Seat.{Seat}
+use Rattle.rcu_model.specs.declared.event.ObjectId.{ObjectId}
+use Rattle.rcu_model.specs.Sets.{In}
+use Rattle.call_rcu_worker.specs.declared.finished.Finished.{Finished}
+use Rattle.live_log.specs.declared.event.LiveEvent.{LiveEvent}
+use Rattle.live_log.specs.declared.event.LiveEvent.TheVariants.{Close}
+use Rattle.live_log.specs.Log.{Log, Begins, Has, HaveEnded, HaveRun, IsLiveRun, line_of, state_of}
+use Rattle.live_log.proofs.Lemmas.{begins_trans, grows_log, has_later, line_grows}
+use Rattle.live_rule.specs.declared.view.View.{View}
+use Rattle.live_rule.specs.Places.{finished_at, work_at}
+use Rattle.live_rule.specs.Steps.{Wrote}
+use Rattle.live_rule.specs.Views.{bare}
+use Rattle.live_rule.specs.declared.view.Sizes.{Sizes}
+use Rattle.live_table.specs.Steps.{Keeps}
+use Rattle.live_words.specs.Queues.{IsAt}
+use Rattle.live_items.specs.Running.{KeepsFinds}
+use Rattle.live_reclaim.specs.Batches.{AreRunAs, IsDue, IsRunAs, Lists}
+use Rattle.domain.specs.declared.worker_end.Stop.{Stop}
+use Rattle.domain.specs.Working.{FoundUsedUp, GoesOn, HasWorked, Looks, left_by}
+
+stands_later : (old new : Log) (q n : ℕ) (o : ObjectId) → Begins old new → IsAt q n o old → IsAt q n o new
+stands_later old new q n o b at = let g = line_grows old new q b in ap (λ (l : List ObjectId). get_elem? l n) g.1 ∙ at_longer (line_of old q) g.0 n o at
+
+pub ended_later : (mark old new : Log) → Begins old new → HaveEnded mark old → HaveEnded mark new
+ended_later mark old new b ended r n m at = subst (λ (l : Log). Has (Close r n) l) (sym b.1) (has_later (Close r n) b.0 old (ended r n m at))
+
+pub line_longer : (old new : Log) (q : ℕ) → Begins old new → length (line_of old q) ≤ length (line_of new q)
+line_longer old new q b = let g = line_grows old new q b in let e = ap (λ (l : List ObjectId). length l) g.1 ∙ length-append (line_of old q) g.0 in omega (arith, e)
+
+run_later : (q : ℕ) (old new : Log) (n : ℕ) (entry : Finished) → Begins old new → IsRunAs q old n entry → IsRunAs q new n entry
+run_later q old new n entry b x = record { ticket = x.ticket; turn = stands_later old new q n entry.object b x.turn; run = (grows_log old new b).reclaimed entry.object x.run }
+
+pub all_later : (q : ℕ) (old new : Log) (n : ℕ) (entries : List Finished) → Begins old new → AreRunAs q old n entries → AreRunAs q new n entries
+all_later q old new n [] b x = x
+all_later q old new n (e ∷ es) b x = (run_later q old new n e b x.0, all_later q old new (n + 1) es b x.1)
+
+pub all_and : (q : ℕ) (log : Log) (n m : ℕ) (entries : List Finished) (entry : Finished) → m ≡ n + length entries → AreRunAs q log n entries → IsRunAs q log m entry → AreRunAs q log n (entries ++ entry ∷ [])
+all_and q log n m [] entry e x r = (subst (λ (k : ℕ). IsRunAs q log k entry) (omega (arith, e)) r, x)
+all_and q log n m (z ∷ zs) entry e x r = (x.0, all_and q log (n + 1) m zs entry (omega (arith, e)) x.1 r)
+
+pub due_later : (q given : ℕ) (old new : Log) → Begins old new → IsDue q given old → IsDue q given new
+due_later q given old new b x = (x.0, begins_trans x.0 old new x.1 b, ended_later x.0 old new b x.2, x.3)
+
+-- of the list, in a later log
+pub list_later : (q : ℕ) (old new : Log) (first last : ℕ) (a b : List Finished) → Begins old new → b ≡ a → Lists q old first last a → Lists q new first last b
+list_later q old new first last a b x e l = subst (λ (z : List Finished). Lists q new first last z) (sym e) (all_later q old new first a x l.0, l.1)
+
+-- what has run stays so
+some_at : (l : List ObjectId) (n : ℕ) → n < length l → (o : ObjectId) × (get_elem? l n ≡ some o)
+some_at [] n low = absurd (omega arith)
+some_at (x ∷ xs) zero low = (x, refl)
+some_at (x ∷ xs) (suc n) low = some_at xs n (omega arith)
+
+have_later : (q n : ℕ) (old new : Log) → Begins old new → n ≤ length (line_of old q) → HaveRun q n old → HaveRun q n new
+have_later q n old new b low ran k o less at =
+    let there = some_at (line_of old q) k (omega (arith, low, less)) in
+    let same : there.0 ≡ o = some-injective there.0 o (sym (stands_later old new q k there.0 b there.1) ∙ at) in
+    (grows_log old new b).reclaimed o (ran k o less (there.1 ∙ ap some same))
+
+one_more : (q : ℕ) (log : Log) (n : ℕ) (entry : Finished) → HaveRun q n log → IsRunAs q log n entry → HaveRun q (n + 1) log
+one_more q log n entry ran x k o less at = ⊎_elim
+    (λ (y : ((k == n) ≡ true) × (k ≡ n)). let same : entry.object ≡ o = some-injective entry.object o (sym x.turn ∙ (ap (λ (i : ℕ). get_elem? (line_of log q) i) (sym y.1) ∙ at)) in subst (λ (p : ObjectId). In (state_of log).reclaimed p) same x.run)
+    (λ (y : ((k == n) ≡ false) × (k ≢ n)). let no = y.1 in ran k o (omega (arith, less, no)) at)
+    (eqb_tells k n)
+
+all_through : (q : ℕ) (log : Log) (n m : ℕ) (entries : List Finished) → n + length entries ≡ m → HaveRun q n log → AreRunAs q log n entries → HaveRun q m log
+all_through q log n m [] e ran x = subst (λ (k : ℕ). HaveRun q k log) (omega (arith, e)) ran
+all_through q log n m (z ∷ zs) e ran x = all_through q log (n + 1) m zs (omega (arith, e)) (one_more q log n z ran x.0) x.1
+
+-- those that had run at the start have, and so have those of the list
+pub ran_through : (q : ℕ) (start log : Log) (first last : ℕ) (entries : List Finished) → Begins start log → first ≤ length (line_of start q) → HaveRun q first start → Lists q log first last entries → HaveRun q last log
+ran_through q start log first last entries b low ran l = all_through q log first last entries l.1 (have_later q first start log b low ran) l.0
+
+finds_trans : (u v w : View) → KeepsFinds u v → KeepsFinds v w → KeepsFinds u w
+finds_trans u v w a b =
+    let f : Looks = b.0.0 in
+    let l : List Log = b.1.0 in
+    ((f ++ a.0.0, b.0.1 ∙ (ap (λ (x : Looks). f ++ x) a.0.1 ∙ sym (append_assoc f a.0.0 u.looks))),
+      (l ++ a.1.0, b.1.1 ∙ (ap (λ (x : List Log). l ++ x) a.1.1 ∙ sym (append_assoc l a.1.0 u.loads))))
+
+-- the sequence number was used up, as one knows who loaded it before too
+pub used_up_since : (first start log : Log) (old between new : List Log) → Begins first start → (since : List Log) → between ≡ since ++ old → FoundUsedUp start log between new → FoundUsedUp first log old new
+used_up_since first start log old between new b since e x = record {
+  at = x.at;
+  earlier = x.earlier ++ since;
+  last_load = x.last_load ∙ ap (λ (l : List Log). x.at ∷ l) (ap (λ (l : List Log). x.earlier ++ l) e ∙ sym (append_assoc x.earlier since old));
+  after = begins_trans first start x.at b x.after;
+  before = x.before;
+  used_up = x.used_up;
+}
+
+-- a seat worked that had seen as much as the witness and found nothing; the witness takes in what the seat found
+pub worked_for : (qsbr : Bool) (allows : Log → LiveEvent → Type 0) (key sizes : Sizes) (q : ℕ) (seen heard : Log) (v : View) (looks found before : Looks) (loads loaded earlier : List Log) (entries : List Finished) (stop : Stop) (log : Log)
+    → v ≡ bare sizes seen heard → looks ≡ found ++ before → loads ≡ loaded ++ earlier
+    → HasWorked qsbr allows key q v.seen v.heard v.looks found v.loads loaded entries stop log
+    → HasWorked qsbr allows key q seen heard before looks earlier loads entries stop log
+worked_for qsbr allows key sizes q seen heard v looks found before loads loaded earlier entries stop log is looks_are loads_are h =
+    let x : ℕ × ℕ = (work_at key q, left_by stop) in
+    let y : ℕ × ℕ = (finished_at key q, h.first) in
+    let z : ℕ × ℕ = (work_at key q, 0) in
+    let since : Looks = h.looks_since in record {
+      start = h.start;
+      first = h.first;
+      last = h.last;
+      looks_since = since;
+      low = h.low;
+      after_seen = subst (λ (l : Log). Begins l h.start) (ap (λ (w : View). w.seen) is) h.after_seen;
+      after_heard = subst (λ (l : Log). Begins l h.start) (ap (λ (w : View). w.heard) is) h.after_heard;
+      counted = h.counted;
+      queued = h.queued;
+      later = h.later;
+      run = h.run;
+      lists = h.lists;
+      through = h.through;
+      closed = h.closed;
+      exhausted = λ e. let u = h.exhausted e in record {
+        at = u.at;
+        earlier = u.earlier;
+        last_load = loads_are ∙ (ap (λ (l : List Log). l ++ earlier) (u.last_load ∙ ap (λ (w : View). u.at ∷ (u.earlier ++ w.loads)) is) ∙ ap (λ (l : List Log). u.at ∷ l) (append_assoc u.earlier [] earlier));
+        after = u.after;
+        before = u.before;
+        used_up = u.used_up;
+      };
+      looks = looks_are ∙ (ap (λ (l : Looks). l ++ before) (h.looks ∙ ap (λ (w : View). x ∷ (since ++ (y ∷ z ∷ w.looks))) is) ∙ ap (λ (l : Looks). x ∷ l) (append_assoc since (y ∷ z ∷ []) before));
+    }
+
+module _ {S : Type 0} (qsbr : Bool) (allows : Log → LiveEvent → Type 0) where
+  pub goes_trans : (s t u : Seat S View) → GoesOn qsbr allows s t → GoesOn qsbr allows t u → GoesOn qsbr allows s u
+  goes_trans s t u a b = record {
+    keeps = (b.keeps.0 ∙ a.keeps.0, b.keeps.1 ∙ a.keeps.1);
+    own = b.own ∙ a.own;
+    sizes = b.sizes ∙ a.sizes;
+    later = begins_trans s.me.0.seen t.me.0.seen u.me.0.seen a.later b.later;
+    run = b.run;
+    finds = finds_trans s.me.0 t.me.0 u.me.0 a.finds b.finds;
+  }
+
+  pub goes_same : (s : Seat S View) → IsLiveRun qsbr allows s.me.0.seen → GoesOn qsbr allows s s
+  goes_same s run = record { keeps = (refl, refl); own = refl; sizes = refl; later = ([], refl); run = run; finds = (([], refl), ([], refl)) }
+
+  -- it hears of more
+  pub goes_heard : (s t : Seat S View) → Keeps s t → t.me ≡ (record s.me.0 { heard = t.me.0.heard }, s.me.1) → IsLiveRun qsbr allows s.me.0.seen → GoesOn qsbr allows s t
+  goes_heard s t keeps e run =
+      let view = ap (λ (m : Me S View). m.0) e in
+      let seen = ap (λ (v : View). v.seen) view in record {
+        keeps = keeps;
+        own = ap (λ (m : Me S View). m.1) e;
+        sizes = ap (λ (v : View). v.sizes) view;
+        later = ([], seen);
+        run = subst (IsLiveRun qsbr allows) (sym seen) run;
+        finds = (([], ap (λ (v : View). v.looks) view), ([], ap (λ (v : View). v.loads) view));
+      }
+
+  -- it loads the sequence number
+  pub goes_loaded : (s t : Seat S View) → Keeps s t → (t.me ≡ (record s.me.0 { seen = t.me.0.seen; loads = t.me.0.seen ∷ s.me.0.loads }, s.me.1)) × Wrote qsbr allows s.me.0 [] t.me.0.seen → GoesOn qsbr allows s t
+  goes_loaded s t keeps e =
+      let view = ap (λ (m : Me S View). m.0) e.0 in record {
+        keeps = keeps;
+        own = ap (λ (m : Me S View). m.1) e.0;
+        sizes = ap (λ (v : View). v.sizes) view;
+        later = subst (Begins s.me.0.seen) (sym e.1.1) e.1.2;
+        run = e.1.4;
+        finds = (([], ap (λ (v : View). v.looks) view), (t.me.0.seen ∷ [], ap (λ (v : View). v.loads) view));
+      }
+
+  -- it loads two words
+  pub goes_looked : (s t : Seat S View) → Keeps s t → t.me.1 ≡ s.me.1 → t.me.0 ≡ record s.me.0 { seen = t.me.0.seen; looks = t.me.0.looks } → Begins s.me.0.seen t.me.0.seen → IsLiveRun qsbr allows t.me.0.seen → (a b : ℕ × ℕ) → t.me.0.looks ≡ a ∷ b ∷ s.me.0.looks → GoesOn qsbr allows s t
+  goes_looked s t keeps own view later run a b looks = record {
+    keeps = keeps;
+    own = own;
+    sizes = ap (λ (v : View). v.sizes) view;
+    later = later;
+    run = run;
+    finds = ((a ∷ b ∷ [], looks), ([], ap (λ (v : View). v.loads) view));
+  }

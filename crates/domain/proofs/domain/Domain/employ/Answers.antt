@@ -1,0 +1,56 @@
+use Rattle.std.proofs.Common.{rules, ◌≡◌, ℕ, List, ◌∷◌, ◌++◌, length, refl, sym, ap, ◌∙◌, subst}
+use Rattle.rcu_model.specs.declared.event.ObjectId.{ObjectId}
+use Rattle.live_log.specs.Log.{Log, Begins}
+use Rattle.live_log.proofs.Lemmas.{begins_trans, closed_stays}
+use Rattle.live_rule.specs.declared.view.Sizes.{Sizes}
+use Rattle.live_rule.specs.declared.view.View.{View}
+use Rattle.live_rule.specs.Places.{finished_at, work_at}
+use Rattle.domain.specs.Working.{Looks, left_by}
+use Rattle.domain.proofs.Running.{list_later, ran_through}
+use Rattle.domain.proofs.domain.Domain.employ.Goals as goal
+
+pub returns-clause-worked : goal.returns-clause-worked
+returns-clause-worked g c =
+    let q = c.args.queue in
+    let old : View = c.args.seat.now.me.0 in
+    let start : Log = c.begin_work.new.seat.me.0.seen in
+    let between : Log = c.work-stop.new.seat.me.0.seen in
+    let last : Log = c.leave.new.seat.me.0.seen in
+    let first : ℕ = c.in_ok-first.first in
+    let n : ℕ = c.work-stop.result.0 in
+    let items = c.work-stop.new.list.items in
+    let begun = c.in_ok-first.ensures.begun in
+    let w = c.work-stop.ensures in
+    let left = c.leave.ensures.left in
+    let finds = w.seat.finds.0 in
+    let key : c.deref.result.now.words.shared.key ≡ g.B.Site.sizes = search rules in
+    let look : ℕ × ℕ = (work_at g.B.Site.sizes q, left_by c.work-stop.result.1) in
+    let more : Begins between last = left.2.0 in
+    let later : Begins start last = begins_trans start between last w.seat.later more in
+    let lists = list_later q between last first n items items more refl w.list in
+    record {
+      start = start;
+      first = first;
+      last = n;
+      looks_since = finds.0;
+      low = search rules;
+      after_seen = begun.4.0;
+      after_heard = begun.4.1;
+      counted = begun.2;
+      queued = begun.3;
+      later = later;
+      run = left.2.2;
+      lists = lists;
+      through = ran_through q start last first n items later begun.3 begun.2 lists;
+      closed = λ x. let e = w.closed x in let k = closed_stays g.P.GracePlan.QSBR g.K.ChainRule.allows between last q more left.2.2 e.0 in (k.0, ap (λ (l : List ObjectId). length l) k.1 ∙ e.1);
+      exhausted = λ x. let u = w.exhausted x in record {
+        at = u.at;
+        earlier = u.earlier;
+        last_load = ap (λ (v : View). v.loads) left.1 ∙ (u.last_load ∙ ap (λ (l : List Log). u.at ∷ (u.earlier ++ l)) c.begin_work.ensures.seat.3);
+        after = u.after;
+        before = begins_trans u.at between last u.before more;
+        used_up = u.used_up;
+      };
+      looks = ap (λ (v : View). v.looks) left.1
+          ∙ ap (λ (l : Looks). look ∷ l) (finds.1 ∙ ap (λ (l : Looks). finds.0 ++ l) (begun.6 ∙ ap (λ (k : Sizes). (finished_at k q, first) ∷ (work_at k q, 0) ∷ old.looks) key));
+    }

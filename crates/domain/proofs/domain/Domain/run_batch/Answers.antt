@@ -1,0 +1,36 @@
+use Rattle.std.proofs.Common.{◌≡◌}
+use Rattle.domain.specs.Working.{GoesOn}
+use Rattle.domain.proofs.Running.{goes_heard, goes_trans, list_later}
+use Rattle.domain.proofs.domain.Domain.run_batch.Goals as goal
+
+pub returns-then-is_err-clause-list : goal.returns-then-is_err-clause-list
+returns-then-is_err-clause-list g c =
+    let qsbr = g.P.GracePlan.QSBR in
+    let allows = g.K.ChainRule.allows in
+    let sealed = c.seal-sealed.ensures in
+    let waited = goes_trans qsbr allows c.args.seat.now c.seal-sealed.new.worker c.ripen.new.seat (goes_heard qsbr allows c.args.seat.now c.seal-sealed.new.worker sealed.worker.0 sealed.worker.1 c.requires.seat.2) c.ripen.ensures.seat.0 in
+    list_later c.args.queue c.args.seat.now.me.0.seen c.ripen.new.seat.me.0.seen c.args.first c.args.finished c.args.list.now.items c.seal-sealed.new.list.items waited.later sealed.list c.requires.list
+
+pub run_all-count-requires-clause-list : goal.run_all-count-requires-clause-list
+run_all-count-requires-clause-list g c =
+    let qsbr = g.P.GracePlan.QSBR in
+    let allows = g.K.ChainRule.allows in
+    let sealed = c.seal-sealed.ensures in
+    let waited = goes_trans qsbr allows c.args.seat.now c.seal-sealed.new.worker c.ripen.new.seat (goes_heard qsbr allows c.args.seat.now c.seal-sealed.new.worker sealed.worker.0 sealed.worker.1 c.requires.seat.2) c.ripen.ensures.seat.0 in
+    (list_later c.args.queue c.args.seat.now.me.0.seen c.ripen.new.seat.me.0.seen c.args.first c.args.finished c.args.list.now.items c.seal-sealed.new.list.items waited.later sealed.list c.requires.list, c.in-Ok.ensures.given.4)
+
+pub returns-then-count-given-clause-seat : goal.returns-then-count-given-clause-seat
+returns-then-count-given-clause-seat g c =
+    let qsbr = g.P.GracePlan.QSBR in
+    let allows = g.K.ChainRule.allows in
+    let sealed = c.seal-sealed.ensures in
+    goes_trans qsbr allows c.args.seat.now c.seal-sealed.new.worker c.run_all-count.new.seat (goes_heard qsbr allows c.args.seat.now c.seal-sealed.new.worker sealed.worker.0 sealed.worker.1 c.requires.seat.2)
+    (goes_trans qsbr allows c.seal-sealed.new.worker c.ripen.new.seat c.run_all-count.new.seat c.ripen.ensures.seat.0 c.run_all-count.ensures.seat)
+
+pub returns-clause-seat : goal.returns-clause-seat
+returns-clause-seat g c =
+    let qsbr = g.P.GracePlan.QSBR in
+    let allows = g.K.ChainRule.allows in
+    let sealed = c.seal-sealed.ensures in
+    goes_trans qsbr allows c.args.seat.now c.seal-sealed.new.worker c.run_all-count.new.seat (goes_heard qsbr allows c.args.seat.now c.seal-sealed.new.worker sealed.worker.0 sealed.worker.1 c.requires.seat.2)
+    (goes_trans qsbr allows c.seal-sealed.new.worker c.ripen.new.seat c.run_all-count.new.seat c.ripen.ensures.seat.0 c.run_all-count.ensures.seat)

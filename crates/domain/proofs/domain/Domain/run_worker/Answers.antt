@@ -1,0 +1,27 @@
+use Rattle.std.proofs.Common.{◌≡◌, List, ◌++◌, sym, ap, ◌∙◌, subst}
+use Rattle.std.proofs.lemmas.Result.{IfOk-weaker}
+use Rattle.live_log.specs.Log.{Log}
+use Rattle.live_rule.specs.declared.view.View.{View}
+use Rattle.domain.specs.Working.{HasWorked, Looks}
+use Rattle.domain.proofs.Running.{worked_for}
+use Rattle.domain.proofs.domain.Domain.run_worker.Goals as goal
+
+pub returns-clause-worked : goal.returns-clause-worked
+returns-clause-worked g c =
+    let qsbr = g.P.GracePlan.QSBR in
+    let allows = g.K.ChainRule.allows in
+    let key = g.B.Site.sizes in
+    let q = c.args.queue in
+    let w = g.W.Witness in
+    let old = c.args.witness.now in
+    let new = c.learn.new.self in
+    let told : View = c.tell-seat.result.me.0 in
+    let seat : View = c.employ-end.new.seat.me.0 in
+    let same = c.tell-seat.ensures.same in
+    let learned = c.learn.ensures in
+    IfOk-weaker c.employ-end.result _ _ (λ e h. subst (λ (l : Log). HasWorked qsbr allows key q (w.seen old) (w.heard old) (w.looks old) (w.looks new) (w.loads old) (w.loads new) e.finished.items e.stop l) (sym learned.heard)
+      (worked_for qsbr allows key (w.home old).1 q (w.seen old) (w.heard old) told (w.looks new) seat.looks (w.looks old) (w.loads new) seat.loads (w.loads old) e.finished.items e.stop seat.seen
+        (ap (λ m. m.0) c.tell-seat.ensures.seat.1)
+        (learned.loads.1 ∙ ap (λ (l : Looks). seat.looks ++ l) same.3)
+        (learned.loads.0 ∙ ap (λ (l : List Log). seat.loads ++ l) same.2)
+        h)) c.employ-end.ensures.worked

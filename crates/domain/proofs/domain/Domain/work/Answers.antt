@@ -1,0 +1,60 @@
+use Rattle.std.proofs.Common.{rules, ◌≡◌, ℕ, ◌+◌, [], length, refl, sym, ap, ◌∙◌, subst, arith}
+use Rattle.live_rule.specs.declared.view.View.{View}
+use Rattle.live_reclaim.specs.Batches.{Lists}
+use Rattle.domain.specs.declared.working.Outcome.TheVariants as outcome
+use Rattle.domain.proofs.Running.{goes_looked, goes_same, goes_trans, list_later, used_up_since}
+use Rattle.domain.proofs.domain.Domain.work.Goals as goal
+
+pub loop-init : goal.loop-init
+loop-init g c =
+    let q = c.args.queue in
+    let first : ℕ = c.args.first in
+    let none : Lists q c.args.seat.now.me.0.seen first first [] = (tt, omega arith) in
+    (goes_same g.P.GracePlan.QSBR g.K.ChainRule.allows c.args.seat.now c.requires.seat.2, c.requires.queue.1, subst (Lists q c.args.seat.now.me.0.seen first first) (sym c.requires.list) none)
+
+pub loop-preserved-in-Ran : goal.loop-preserved-in-Ran
+loop-preserved-in-Ran g c =
+    let i = c.loop.invariant in
+    let b = c.run_batch-now.ensures in
+    (goes_trans g.P.GracePlan.QSBR g.K.ChainRule.allows c.args.seat.now c.loop.seat c.run_batch-now.new.seat i.0 b.seat, b.work, b.list)
+
+pub returns-then-is_emptied-clause-seat : goal.returns-then-is_emptied-clause-seat
+returns-then-is_emptied-clause-seat g c =
+    let qsbr = g.P.GracePlan.QSBR in
+    let allows = g.K.ChainRule.allows in
+    let e = c.is_emptied.ensures in
+    let looked = goes_looked qsbr allows c.run_batch-now.new.seat c.is_emptied.new.seat e.seat.0 e.seat.1 e.seat.2.0 e.later.0 e.later.2 _ _ e.exact.2 in
+    goes_trans qsbr allows c.args.seat.now c.loop.seat c.is_emptied.new.seat c.loop.invariant.0
+    (goes_trans qsbr allows c.loop.seat c.run_batch-now.new.seat c.is_emptied.new.seat c.run_batch-now.ensures.seat looked)
+
+pub returns-then-is_emptied-clause-list : goal.returns-then-is_emptied-clause-list
+returns-then-is_emptied-clause-list g c =
+    let items = c.run_batch-now.new.list.items in
+    list_later c.args.queue c.run_batch-now.new.seat.me.0.seen c.is_emptied.new.seat.me.0.seen c.args.first c.run_batch-now.result.0 items items c.is_emptied.ensures.later.0 refl c.run_batch-now.ensures.list
+
+pub loop-preserved : goal.loop-preserved
+loop-preserved g c =
+    let qsbr = g.P.GracePlan.QSBR in
+    let allows = g.K.ChainRule.allows in
+    let e = c.is_emptied.ensures in
+    let b = c.run_batch-now.ensures in
+    let items = c.run_batch-now.new.list.items in
+    let looked = goes_looked qsbr allows c.run_batch-now.new.seat c.is_emptied.new.seat e.seat.0 e.seat.1 e.seat.2.0 e.later.0 e.later.2 _ _ e.exact.2 in
+    (goes_trans qsbr allows c.args.seat.now c.loop.seat c.is_emptied.new.seat c.loop.invariant.0 (goes_trans qsbr allows c.loop.seat c.run_batch-now.new.seat c.is_emptied.new.seat b.seat looked),
+      ap (λ (v : View). v.work) e.seat.2.0 ∙ b.work,
+      list_later c.args.queue c.run_batch-now.new.seat.me.0.seen c.is_emptied.new.seat.me.0.seen c.args.first c.run_batch-now.result.0 items items e.later.0 refl b.list)
+
+pub returns-in-Exhausted-clause-seat : goal.returns-in-Exhausted-clause-seat
+returns-in-Exhausted-clause-seat g c = goes_trans g.P.GracePlan.QSBR g.K.ChainRule.allows c.args.seat.now c.loop.seat c.run_batch-now.new.seat c.loop.invariant.0 c.run_batch-now.ensures.seat
+
+pub returns-in-Memory-clause-seat : goal.returns-in-Memory-clause-seat
+returns-in-Memory-clause-seat g c = goes_trans g.P.GracePlan.QSBR g.K.ChainRule.allows c.args.seat.now c.loop.seat c.run_batch-now.new.seat c.loop.invariant.0 c.run_batch-now.ensures.seat
+
+pub returns-in-Exhausted-clause-exhausted : goal.returns-in-Exhausted-clause-exhausted
+returns-in-Exhausted-clause-exhausted g c _ =
+    let old : View = c.args.seat.now.me.0 in
+    let now : View = c.loop.seat.me.0 in
+    let new : View = c.run_batch-now.new.seat.me.0 in
+    let i = c.loop.invariant.0 in
+    let is : c.run_batch-now.result.1 ≡ outcome.Exhausted = search rules in
+    used_up_since old.seen now.seen new.seen old.loads now.loads new.loads i.later i.finds.1.0 i.finds.1.1 (c.run_batch-now.ensures.exhausted is)

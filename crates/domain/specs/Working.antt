@@ -1,0 +1,64 @@
+-- What a queue's worker did.
+use Rattle.std.specs.Prelude.{Bool, ◌≡◌, ℕ, ◌+◌, ◌^◌, ◌<◌, ◌≤◌, List, [], ◌∷◌, ◌++◌, length}
+use Rattle.atomic_table.specs.declared.shared.Seat.{Seat}
+use Rattle.call_rcu_worker.specs.declared.finished.Finished.{Finished}
+use Rattle.live_log.specs.declared.event.LiveEvent.{LiveEvent}
+use Rattle.live_log.specs.Log.{Log, Begins, HaveRun, IsLiveRun, line_of, seq_of}
+use Rattle.live_rule.specs.declared.view.Sizes.{Sizes}
+use Rattle.live_rule.specs.declared.view.View.{View}
+use Rattle.live_rule.specs.Places.{finished_at, work_at}
+use Rattle.live_table.specs.Steps.{Keeps}
+use Rattle.live_items.specs.Running.{KeepsFinds}
+use Rattle.live_reclaim.specs.Batches.{Lists}
+use Rattle.live_reclaim.specs.Working.{IsEmptied}
+use Rattle.domain.specs.declared.worker_end.Stop.{Stop}
+use Rattle.domain.specs.declared.worker_end.Stop.TheVariants.{Closed, Exhausted, Memory}
+
+-- what was loaded or stored, by its place, the last one first
+abbrev pub Looks : Type 0
+Looks = List (ℕ × ℕ)
+
+-- the hold word that a worker leaves: nobody works for the queue after one that found the numbers used up
+abbrev pub left_by : Stop → ℕ
+left_by Closed = 0
+left_by Exhausted = 2
+left_by Memory = 0
+
+-- it is the same seat, which has seen no less, and no look and no load is forgotten
+pub record GoesOn {S : Type 0} (qsbr : Bool) (allows : Log → LiveEvent → Type 0) (s t : Seat S View) : Type 0 where
+  pub keeps : Keeps s t
+  pub own : t.me.1 ≡ s.me.1
+  pub sizes : t.me.0.sizes ≡ s.me.0.sizes
+  pub later : Begins s.me.0.seen t.me.0.seen
+  pub run : IsLiveRun qsbr allows t.me.0.seen
+  pub finds : KeepsFinds s.me.0 t.me.0
+
+-- the sequence number was at or above 2^62 at the last load, which came after this log
+pub record FoundUsedUp (start log : Log) (old new : List Log) : Type 0 where
+  pub at : Log
+  pub earlier : List Log
+  pub last_load : new ≡ at ∷ (earlier ++ old)
+  pub after : Begins start at
+  pub before : Begins at log
+  pub used_up : 2 ^ 62 ≤ seq_of at
+
+module _ (qsbr : Bool) (allows : Log → LiveEvent → Type 0) (key : Sizes) (q : ℕ) where
+  -- A worker began after all that had been seen and heard of, when the first so many were finished, and ran those that
+  -- came next, each in its turn. Where it was closed, no more were queued.
+  pub record HasWorked (seen heard : Log) (old new : Looks) (old_loads new_loads : List Log) (entries : List Finished) (stop : Stop) (log : Log) : Type 0 where
+    pub start : Log
+    pub first : ℕ
+    pub last : ℕ
+    pub looks_since : Looks
+    pub low : q < key.queues
+    pub after_seen : Begins seen start
+    pub after_heard : Begins heard start
+    pub counted : HaveRun q first start
+    pub queued : first ≤ length (line_of start q)
+    pub later : Begins start log
+    pub run : IsLiveRun qsbr allows log
+    pub lists : Lists q log first last entries
+    pub through : HaveRun q last log
+    pub closed : stop ≡ Closed → IsEmptied q last log
+    pub exhausted : stop ≡ Exhausted → FoundUsedUp start log old_loads new_loads
+    pub looks : new ≡ (work_at key q, left_by stop) ∷ (looks_since ++ ((finished_at key q, first) ∷ (work_at key q, 0) ∷ old))

@@ -1,0 +1,244 @@
+//! How a program works for a queue.
+
+ghost use Rattle.std.specs.Prelude.{◌≡◌, ◌+◌, ◌-◌, ◌<◌, ◌≤◌, [], IfErr, IfOk, length, vec_capacity, vec_len};
+ghost use Rattle.live_log.specs.Log.{IsLiveRun, line_of};
+ghost use Rattle.live_rule.specs.Places.{work_at};
+ghost use Rattle.live_rule.specs.Seats.{but_work};
+ghost use Rattle.live_table.specs.Rights.{IsWorker, work_in};
+ghost use Rattle.live_table.specs.Steps.{Keeps, Went, looked_view};
+ghost use Rattle.live_read.specs.Hearing.{Stays};
+ghost use Rattle.live_reclaim.specs.Batches.{IsDue, Lists, WorksFor};
+ghost use Rattle.live_reclaim.specs.Working.{IsEmptied, RefusesWork};
+ghost use Rattle.domain.specs.declared.worker_end.Stop.TheVariants as stopped;
+ghost use Rattle.domain.specs.declared.working.Outcome.TheVariants as outcome;
+ghost use Rattle.domain.specs.Working.{FoundUsedUp, GoesOn, HasWorked, left_by};
+
+use crate::domain::Domain;
+use crate::worker_end::{Stop, WorkerEnd};
+use call_rcu_worker::Finished;
+use callback_queue::Item;
+use gp_memb::GracePlan;
+use live_grace::ask;
+use live_items::Job;
+use live_read::{Site, Witness};
+use live_reclaim::{Deleter, begin_work, is_emptied, run_next};
+use live_words::{ChainRule, LiveSeat, end_work, free_work, load_seq};
+use rcu_model::Refusal;
+use std::alloc::Global;
+use std::sync::Wait;
+
+/// What came of a batch.
+#[derive(Clone, Copy, Debug, PartialEq, Eq, Drop)]
+enum Outcome {
+    /// All its items ran.
+    Ran,
+    /// There was none.
+    Nothing,
+    /// The sequence numbers are used up.
+    Exhausted,
+    /// Memory was refused.
+    Memory,
+}
+
+impl<P: GracePlan + Drop, K: ChainRule, B: Site, D: Deleter> Domain<P, K, B, D> {
+    /// Runs all items with tickets up to the last one given: each is popped under the queue's lock and run with no lock
+    /// held. Answers how many are finished.
+    fn run_all<R: Wait>(
+        &self,
+        rt: &R,
+        seat: &mut LiveSeat,
+        queue: usize,
+        first: u64,
+        finished: u64,
+        given: u64,
+        list: &mut Vec<Finished>,
+    ) -> u64
+        requires seat { (seat.old.table_id ≡ B.table) × (seat.old.me.0.sizes ≡ B.sizes) }
+        requires queue { (queue < B.sizes.queues) × WorksFor queue finished seat.old.me.0 }
+        requires due { (finished ≤ given) × IsDue queue given seat.old.me.0.seen × IsLiveRun P.QSBR K.allows seat.old.me.0.seen }
+        requires list { Lists queue seat.old.me.0.seen first finished list.old.items × (vec_len list.old + (given - finished) ≤ vec_capacity list.old) }
+        ensures seat { GoesOn P.QSBR K.allows seat.old seat.new }
+        ensures work { WorksFor queue result seat.new.me.0 }
+        ensures list { Lists queue seat.new.me.0.seen first result list.new.items }
+    {
+        for count in finished..given {
+            let popped = self.queues[queue]
+                .lock(rt, queue)
+                .pop(&self.table, seat, queue, count);
+            let Some((ticket, item)) = popped else {
+                return count;
+            };
+            let done = run_next(
+                &self.table, seat, queue, count, given, ticket, item,
+            );
+            list.push_reserved(done);
+        }
+        given
+    }
+
+    /// Waits for a grace period, after which what waited in the queue is ready.
+    ///
+    /// Refused with `Exhausted` where the sequence numbers are used up.
+    fn ripen<R: Wait>(&self, rt: &R, seat: &mut LiveSeat, queue: usize) -> Result<(), Refusal>
+        requires seat { (seat.old.table_id ≡ B.table) × (queue < B.sizes.queues) }
+        ensures seat { GoesOn P.QSBR K.allows seat.old seat.new × (seat.new.me.0.work ≡ seat.old.me.0.work) }
+        ensures due { IfOk result (λ _. IsDue queue (length (line_of seat.old.me.0.heard queue)) seat.new.me.0.seen) }
+        ensures refused { IfErr result (λ _. FoundUsedUp seat.old.me.0.seen seat.new.me.0.seen seat.old.me.0.loads seat.new.me.0.loads) }
+    {
+        let asked = ask::<P, K>(&self.table, seat)?;
+        let cookie = asked.cookie();
+        self.grace.lock(rt).answer(rt, &self.table, seat, asked);
+        let seq = load_seq(&self.table, seat);
+        self.queues[queue].lock(rt, queue).ripen(cookie, seq);
+        Ok(())
+    }
+
+    /// Takes a batch, waits for a grace period, and runs the batch. Answers how many are finished.
+    fn run_batch<R: Wait>(
+        &self,
+        rt: &R,
+        seat: &mut LiveSeat,
+        queue: usize,
+        first: u64,
+        finished: u64,
+        list: &mut Vec<Finished>,
+        left: &mut Vec<Item<Job<B, D>>>,
+    ) -> (u64, Outcome)
+        requires seat { (seat.old.table_id ≡ B.table) × (seat.old.me.0.sizes ≡ B.sizes) × IsLiveRun P.QSBR K.allows seat.old.me.0.seen }
+        requires queue { (queue < B.sizes.queues) × WorksFor queue finished seat.old.me.0 }
+        requires list { Lists queue seat.old.me.0.seen first finished list.old.items }
+        ensures seat { GoesOn P.QSBR K.allows seat.old seat.new }
+        ensures work { WorksFor queue result.0 seat.new.me.0 }
+        ensures list { Lists queue seat.new.me.0.seen first result.0 list.new.items }
+        ensures exhausted { result.1 ≡ outcome.Exhausted → FoundUsedUp seat.old.me.0.seen seat.new.me.0.seen seat.old.me.0.loads seat.new.me.0.loads }
+    {
+        let sealed = self.queues[queue]
+            .lock(rt, queue)
+            .seal(&self.table, seat, queue, finished, list, left);
+        let Ok(given) = sealed else {
+            return (finished, Outcome::Memory);
+        };
+        if given == finished {
+            return (finished, Outcome::Nothing);
+        }
+        if self.ripen(rt, seat, queue).is_err() {
+            self.queues[queue].lock(rt, queue).take_back(queue, left);
+            return (finished, Outcome::Exhausted);
+        }
+        let count = self.run_all(rt, seat, queue, first, finished, given, list);
+        if count < given {
+            return (count, Outcome::Memory);
+        }
+        (count, Outcome::Ran)
+    }
+
+    /// Runs batch after batch, until the queue is closed and all that was queued is finished. Answers how many are.
+    fn work<R: Wait>(
+        &self,
+        rt: &R,
+        seat: &mut LiveSeat,
+        queue: usize,
+        first: u64,
+        list: &mut Vec<Finished>,
+        left: &mut Vec<Item<Job<B, D>>>,
+    ) -> (u64, Stop)
+        requires seat { (seat.old.table_id ≡ B.table) × (seat.old.me.0.sizes ≡ B.sizes) × IsLiveRun P.QSBR K.allows seat.old.me.0.seen }
+        requires queue { (queue < B.sizes.queues) × WorksFor queue first seat.old.me.0 }
+        requires list { list.old.items ≡ [] }
+        ensures seat { GoesOn P.QSBR K.allows seat.old seat.new }
+        ensures work { WorksFor queue result.0 seat.new.me.0 }
+        ensures list { Lists queue seat.new.me.0.seen first result.0 list.new.items }
+        ensures closed { result.1 ≡ stopped.Closed → IsEmptied queue result.0 seat.new.me.0.seen }
+        ensures exhausted { result.1 ≡ stopped.Exhausted → FoundUsedUp seat.old.me.0.seen seat.new.me.0.seen seat.old.me.0.loads seat.new.me.0.loads }
+    {
+        let mut count = first;
+        for _ in rt.forever() {
+            let (now, outcome) = self.run_batch(rt, seat, queue, first, count, list, left);
+            count = now;
+            match outcome {
+                Outcome::Ran => {}
+                Outcome::Nothing => {
+                    if is_emptied(&self.table, seat, queue, count) {
+                        return (count, Stop::Closed);
+                    }
+                    self.queues[queue].parker.lock(rt).park(rt);
+                }
+                Outcome::Exhausted => {
+                    return (count, Stop::Exhausted);
+                }
+                Outcome::Memory => {
+                    return (count, Stop::Memory);
+                }
+            }
+        }
+        unreachable!()
+    }
+
+    /// Gives the right to work for the queue back, or up for good where the sequence numbers are used up.
+    fn leave(&self, seat: &mut LiveSeat, queue: usize, stop: Stop)
+        requires seat { (seat.old.table_id ≡ B.table) × (queue < B.sizes.queues) }
+        requires right { IsWorker seat.old.me.0 × (work_in seat.old.me.0.work ≡ queue) }
+        ensures seat { Keeps seat.old seat.new }
+        ensures left { Went P.QSBR K.allows (looked_view (work_at B.sizes queue) (left_by stop) (but_work seat.old.me.0)) seat.old.me seat.new.me }
+    {
+        match stop {
+            Stop::Exhausted => end_work(&self.table, seat, queue),
+            Stop::Closed => free_work(&self.table, seat, queue),
+            Stop::Memory => free_work(&self.table, seat, queue),
+        }
+    }
+
+    /// Begins to work for the queue, works, and ends.
+    fn employ<R: Wait>(
+        &self,
+        rt: &R,
+        alloc: Global,
+        seat: &mut LiveSeat,
+        queue: usize,
+    ) -> Result<WorkerEnd<B, D>, Refusal>
+        requires { (seat.old.table_id ≡ B.table) × (seat.old.me.0.sizes ≡ B.sizes) × (seat.old.me.1 ≡ []) }
+        ensures seat { (seat.new.table_id ≡ B.table) × (seat.new.me.1 ≡ []) }
+        ensures worked { IfOk result (λ e. HasWorked P.QSBR K.allows B.sizes queue seat.old.me.0.seen seat.old.me.0.heard seat.old.me.0.looks seat.new.me.0.looks seat.old.me.0.loads seat.new.me.0.loads e.finished.items e.stop seat.new.me.0.seen) }
+        ensures refused { IfErr result (λ e. RefusesWork B.sizes queue seat.old.me.0.looks seat.new.me.0.looks e) }
+    {
+        let first = begin_work(&self.table, seat, queue)?;
+        let mut finished = Vec::new(alloc);
+        let mut left = Vec::new(alloc);
+        let (_, stop) = self.work(rt, seat, queue, first, &mut finished, &mut left);
+        self.leave(seat, queue, stop);
+        Ok(WorkerEnd {
+            finished,
+            left,
+            stop,
+        })
+    }
+
+    /// Works for a queue, liburcu's thread of `call_rcu`, until it is closed and all that was queued is finished: takes
+    /// what is queued, waits for a grace period, and runs it, each object in the turn of its ticket and with no lock
+    /// held. It rests while nothing is queued. The caller, who has no section or lock open and is offline where its
+    /// reader is of the quiescent-state flavour, hears of all that.
+    ///
+    /// It stops early where the sequence numbers are used up, and then nobody works for the queue any more; or where
+    /// memory is refused. Refused with `NoActor` exactly where there is no such queue, else with `Busy` where its hold
+    /// word was found to be 1, as while another works for it, and with `Exhausted` where that was 2.
+    pub fn run_worker<W: Witness, R: Wait>(
+        &self,
+        rt: &R,
+        alloc: Global,
+        witness: &mut W,
+        queue: usize,
+    ) -> Result<WorkerEnd<B, D>, Refusal>
+        requires { W.home witness.old ≡ (B.table, B.sizes) }
+        ensures worked { IfOk result (λ e. HasWorked P.QSBR K.allows B.sizes queue (W.seen witness.old) (W.heard witness.old) (W.looks witness.old) (W.looks witness.new) (W.loads witness.old) (W.loads witness.new) e.finished.items e.stop (W.heard witness.new)) }
+        ensures refused { IfErr result (λ e. RefusesWork B.sizes queue (W.looks witness.old) (W.looks witness.new) e) }
+        ensures same { Stays W.Witness witness.old witness.new }
+    {
+        if queue >= self.queues.len() {
+            return Err(Refusal::NoActor);
+        }
+        let mut seat = witness.tell(&self.table);
+        let end = self.employ(rt, alloc, &mut seat, queue);
+        witness.learn(&self.table, seat);
+        end
+    }
+}
