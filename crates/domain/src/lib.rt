@@ -12,8 +12,8 @@ mod worker_end;
 mod working;
 mod writing;
 
-pub use callback_queue::{Callback, Item, Ripe, Ticket};
 pub use call_rcu_worker::Finished;
+pub use callback_queue::{Callback, Item, Ripe, Ticket};
 pub use config::LiveConfig;
 pub use domain::Domain;
 pub use live_grace::LiveCookie;
