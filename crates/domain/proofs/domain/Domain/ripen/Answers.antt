@@ -1,10 +1,9 @@
-use Rattle.std.proofs.Common.{rules, ◌≡◌, [], ◌∷◌, IfErr, sym, refl, ap, ◌∙◌, subst}
+use Rattle.std.proofs.Common.{rules, [], ◌∷◌, IfErr, sym, refl, ap, ◌∙◌, subst}
 use Rattle.std.specs.Prelude.{Result, Ok, Err}
-use Rattle.atomic_table.specs.declared.shared.Seat.{Seat}
 use Rattle.live_log.specs.Log.{Log, Begins, HaveEnded}
 use Rattle.live_log.proofs.Lemmas.{begins_trans}
 use Rattle.live_rule.specs.declared.view.View.{View}
-use Rattle.domain.specs.Working.{FoundUsedUp, GoesOn}
+use Rattle.domain.specs.Working.{GoesOn}
 use Rattle.domain.proofs.Running.{ended_later, goes_loaded, goes_trans, line_longer}
 use Rattle.domain.proofs.domain.Domain.ripen.Goals as goal
 

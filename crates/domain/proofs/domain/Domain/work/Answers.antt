@@ -1,4 +1,4 @@
-use Rattle.std.proofs.Common.{rules, ◌≡◌, ℕ, ◌+◌, [], length, refl, sym, ap, ◌∙◌, subst, arith}
+use Rattle.std.proofs.Common.{rules, ◌≡◌, ℕ, [], refl, sym, ap, ◌∙◌, subst, arith}
 use Rattle.live_rule.specs.declared.view.View.{View}
 use Rattle.live_reclaim.specs.Batches.{Lists}
 use Rattle.domain.specs.declared.working.Outcome.TheVariants as outcome
