@@ -5,10 +5,11 @@
 ghost use Rattle.std.specs.Prelude.{◌≡◌, []};
 ghost use Rattle.live_rule.specs.Views.{first_view};
 
+use callback_queue::Item;
 use gp_memb::{GracePlan, MembPlan};
 use gp_qsbr::QsbrPlan;
 use live_barrier::{barrier_done, barrier_start};
-use live_items::Items;
+use live_items::{Items, Job};
 use live_read::{Record, Site, Witness};
 use live_words::{
     AnyChain, LiveSeat, LiveTable, end_work, free_work, hold_work, load_closed, load_finished,
@@ -94,7 +95,8 @@ fn batches<P: GracePlan, B: Site, R: Wait>(
     };
     let mut worker = record.tell(table);
     let mut list: Vec<u64> = Vec::new(memory);
-    let given = items.seal(table, &mut worker, 0, 0, &mut list)?;
+    let mut left: Vec<Item<Job<B, ObjectId>>> = Vec::new(memory);
+    let given = items.seal(table, &mut worker, 0, 0, &mut list, &mut left)?;
     items.ripen(cookie_of(0)?, 1);
     let early = items.pop(table, &mut worker, 0, 0).is_none();
     items.ripen(cookie_of(0)?, 2);
@@ -103,6 +105,44 @@ fn batches<P: GracePlan, B: Site, R: Wait>(
     };
     let late = items.pop(table, &mut worker, 0, 1).is_none();
     Ok(([given, ticket.0, item.object.0], [early, late]))
+}
+
+/// How many of two items were taken back: for another queue, before they were sealed, and then; and what was to be called
+/// for the last of them.
+fn takes_back<P: GracePlan, B: Site, R: Wait>(
+    rt: &R,
+    memory: Global,
+    table: &LiveTable<P, AnyChain>,
+    mut root: LiveSeat,
+) -> Result<([usize; 3], u64), Refusal>
+    requires site { (table.now.words.shared.table_id ≡ B.table) × (table.now.words.shared.key ≡ B.sizes) × (root.table_id ≡ B.table) × (root.me ≡ (first_view B.sizes, [])) }
+    requires sizes { (table.now.chains ≡ 1) × (table.now.queues ≡ 1) × (table.now.pool ≡ 4) }
+{
+    let queue = table.cut_spare_queue(&mut root);
+    let mut items: Items<B, ObjectId> = Items::new(memory, queue, 0);
+    let mut record: Record<B> = Record::new(root);
+    let first: Unlinked<B> = cut_one(rt, table, &mut record, [5, 0, 0, 0])?;
+    let Ok(_ticket) = items.retire(table, &mut record, first, ObjectId(7)) else {
+        return Err(Refusal::Memory);
+    };
+    let second: Unlinked<B> = cut_one(rt, table, &mut record, [6, 0, 0, 0])?;
+    let Ok(_ticket) = items.retire(table, &mut record, second, ObjectId(9)) else {
+        return Err(Refusal::Memory);
+    };
+    let mut worker = record.tell(table);
+    let mut list: Vec<u64> = Vec::new(memory);
+    let mut left: Vec<Item<Job<B, ObjectId>>> = Vec::new(memory);
+    items.take_back(0, &mut left);
+    let fresh = left.len();
+    items.seal(table, &mut worker, 0, 0, &mut list, &mut left)?;
+    items.take_back(1, &mut left);
+    let other = left.len();
+    items.take_back(0, &mut left);
+    let taken = left.len();
+    let Some(item) = left.pop() else {
+        return Err(Refusal::NoPlace);
+    };
+    Ok(([other, fresh, taken], item.job.into_callback().0))
 }
 
 #[test]
@@ -115,6 +155,18 @@ fn a_batch_leaves_once_its_grace_period_has_ended(rt: HostRuntime) {
     );
     assert_eq!(rt; numbers, [1, 1, 1]);
     assert_eq!(rt; none, [true; 2]);
+}
+
+#[test]
+fn what_waits_is_taken_back(rt: HostRuntime) {
+    let (table, root) = LiveTable::<MembPlan, AnyChain>::new(rt.alloc(), 1, 1, 1, 4).expect(
+        &rt, "memory",
+    );
+    let (numbers, last) = takes_back::<_, Brand, _>(&rt, rt.alloc(), &table, root).expect(
+        &rt, "memory",
+    );
+    assert_eq!(rt; numbers, [0, 0, 2]);
+    assert_eq!(rt; last, 9);
 }
 
 #[test]
