@@ -81,9 +81,10 @@ ran_through q start log first last entries b low ran l = all_through q log first
 finds_trans : (u v w : View) → KeepsFinds u v → KeepsFinds v w → KeepsFinds u w
 finds_trans u v w a b =
     let f : Looks = b.0.0 in
-    let l : List Log = b.1.0 in
-    ((f ++ a.0.0, b.0.1 ∙ (ap (λ (x : Looks). f ++ x) a.0.1 ∙ sym (append_assoc f a.0.0 u.looks))),
-      (l ++ a.1.0, b.1.1 ∙ (ap (λ (x : List Log). l ++ x) a.1.1 ∙ sym (append_assoc l a.1.0 u.loads))))
+    let l : List Log = b.1.0 in (
+      (f ++ a.0.0, b.0.1 ∙ (ap (λ (x : Looks). f ++ x) a.0.1 ∙ sym (append_assoc f a.0.0 u.looks))),
+      (l ++ a.1.0, b.1.1 ∙ (ap (λ (x : List Log). l ++ x) a.1.1 ∙ sym (append_assoc l a.1.0 u.loads))),
+    )
 
 -- the sequence number was used up, as one knows who loaded it before too
 pub used_up_since : (first start log : Log) (old between new : List Log) → Begins first start → (since : List Log) → between ≡ since ++ old → FoundUsedUp start log between new → FoundUsedUp first log old new

@@ -5,8 +5,8 @@ ghost use Rattle.live_log.specs.Log.{IsLiveRun, line_of};
 ghost use Rattle.live_rule.specs.Places.{work_at};
 ghost use Rattle.live_rule.specs.Seats.{but_work};
 ghost use Rattle.live_table.specs.Rights.{IsWorker, work_in};
-ghost use Rattle.live_table.specs.Steps.{Keeps, Went, looked_view};
-ghost use Rattle.live_read.specs.Hearing.{Stays};
+ghost use Rattle.live_table.specs.Steps.{IsLater, Keeps, Went, looked_view};
+ghost use Rattle.live_read.specs.Hearing.{IsAfter, Stays};
 ghost use Rattle.live_reclaim.specs.Batches.{IsDue, Lists, WorksFor};
 ghost use Rattle.live_reclaim.specs.Working.{IsEmptied, RefusesWork};
 ghost use Rattle.domain.specs.declared.worker_end.Stop.TheVariants as stopped;
@@ -68,9 +68,7 @@ impl<P: GracePlan + Drop, K: ChainRule, B: Site, D: Deleter> Domain<P, K, B, D> 
             let Some((ticket, item)) = popped else {
                 return count;
             };
-            let done = run_next(
-                &self.table, seat, queue, count, given, ticket, item,
-            );
+            let done = run_next(&self.table, seat, queue, count, given, ticket, item);
             list.push_reserved(done);
         }
         given
@@ -200,6 +198,7 @@ impl<P: GracePlan + Drop, K: ChainRule, B: Site, D: Deleter> Domain<P, K, B, D> 
         ensures seat { (seat.new.table_id ≡ B.table) × (seat.new.me.1 ≡ []) }
         ensures worked { IfOk result (λ e. HasWorked P.QSBR K.allows B.sizes queue seat.old.me.0.seen seat.old.me.0.heard seat.old.me.0.looks seat.new.me.0.looks seat.old.me.0.loads seat.new.me.0.loads e.finished.items e.stop seat.new.me.0.seen) }
         ensures refused { IfErr result (λ e. RefusesWork B.sizes queue seat.old.me.0.looks seat.new.me.0.looks e) }
+        ensures later { IfErr result (λ _. queue < B.sizes.queues → IsLater P.QSBR K.allows seat.old.me.0 seat.new.me.0) }
     {
         let first = begin_work(&self.table, seat, queue)?;
         let mut finished = Vec::new(alloc);
@@ -231,6 +230,8 @@ impl<P: GracePlan + Drop, K: ChainRule, B: Site, D: Deleter> Domain<P, K, B, D> 
         requires { W.home witness.old ≡ (B.table, B.sizes) }
         ensures worked { IfOk result (λ e. HasWorked P.QSBR K.allows B.sizes queue (W.seen witness.old) (W.heard witness.old) (W.looks witness.old) (W.looks witness.new) (W.loads witness.old) (W.loads witness.new) e.finished.items e.stop (W.heard witness.new)) }
         ensures refused { IfErr result (λ e. RefusesWork B.sizes queue (W.looks witness.old) (W.looks witness.new) e) }
+        ensures heard { IfErr result (λ _. queue < B.sizes.queues → IsAfter P.QSBR K.allows (W.seen witness.old) (W.heard witness.old) (W.heard witness.new)) }
+        ensures nobody { B.sizes.queues ≤ queue → witness.new ≡ witness.old }
         ensures same { Stays W.Witness witness.old witness.new }
     {
         if queue >= self.queues.len() {

@@ -28,6 +28,7 @@ pub fn begin_work<P: GracePlan, K: ChainRule>(
     ensures begun { IfOk result (λ first. (queue < table.now.queues) × WorksFor queue first seat.new.me.0 × HaveRun queue first seat.new.me.0.seen × (first ≤ length (line_of seat.new.me.0.seen queue)) × Precedes seat.old.me.0 seat.new.me.0.seen × IsLiveRun P.QSBR K.allows seat.new.me.0.seen × (seat.new.me.0.looks ≡ (finished_at table.now.words.shared.key queue, first) ∷ (work_at table.now.words.shared.key queue, 0) ∷ seat.old.me.0.looks)) }
     ensures refused { IfErr result (λ e. RefusesWork table.now.words.shared.key queue seat.old.me.0.looks seat.new.me.0.looks e) }
     ensures same { IfErr result (λ e. HasLooked seat.old.me.0 seat.new.me.0) }
+    ensures later { IfErr result (λ _. queue < table.now.queues → IsLater P.QSBR K.allows seat.old.me.0 seat.new.me.0) }
 {
     if queue >= table.queues {
         return Err(Refusal::NoActor);

@@ -1,10 +1,9 @@
-use Rattle.std.proofs.Common.{rules, ◌≡◌, [], ◌∷◌, IfErr, sym, refl, ap, ◌∙◌, subst}
+use Rattle.std.proofs.Common.{rules, [], ◌∷◌, IfErr, sym, refl, ap, ◌∙◌, subst}
 use Rattle.std.specs.Prelude.{Result, Ok, Err}
-use Rattle.atomic_table.specs.declared.shared.Seat.{Seat}
 use Rattle.live_log.specs.Log.{Log, Begins, HaveEnded}
 use Rattle.live_log.proofs.Lemmas.{begins_trans}
 use Rattle.live_rule.specs.declared.view.View.{View}
-use Rattle.domain.specs.Working.{FoundUsedUp, GoesOn}
+use Rattle.domain.specs.Working.{GoesOn}
 use Rattle.domain.proofs.Running.{ended_later, goes_loaded, goes_trans, line_longer}
 use Rattle.domain.proofs.domain.Domain.ripen.Goals as goal
 
@@ -45,10 +44,11 @@ returns-clause-seat g c =
       later = e.later.0;
       run = e.later.1;
       finds = (([], e.load.1), (c.answer.new.seat.me.0.seen ∷ [], e.load.0));
-    } in
-    (goes_trans qsbr allows c.args.seat.now c.ask.new.seat c.load_seq-seq.new.seat (goes_loaded qsbr allows c.args.seat.now c.ask.new.seat asked.seat asked.looked)
-      (goes_trans qsbr allows c.ask.new.seat c.answer.new.seat c.load_seq-seq.new.seat answered (goes_loaded qsbr allows c.answer.new.seat c.load_seq-seq.new.seat loaded.seat loaded.looked)),
-      ap (λ m. m.0.work) loaded.looked.0 ∙ (e.rights.1 ∙ ap (λ m. m.0.work) asked.looked.0))
+    } in (
+      goes_trans qsbr allows c.args.seat.now c.ask.new.seat c.load_seq-seq.new.seat (goes_loaded qsbr allows c.args.seat.now c.ask.new.seat asked.seat asked.looked)
+          (goes_trans qsbr allows c.ask.new.seat c.answer.new.seat c.load_seq-seq.new.seat answered (goes_loaded qsbr allows c.answer.new.seat c.load_seq-seq.new.seat loaded.seat loaded.looked)),
+      ap (λ m. m.0.work) loaded.looked.0 ∙ (e.rights.1 ∙ ap (λ m. m.0.work) asked.looked.0),
+    )
 
 pub returns-clause-due : goal.returns-clause-due
 returns-clause-due g c =
@@ -58,7 +58,9 @@ returns-clause-due g c =
     let between : Log = c.answer.new.seat.me.0.seen in
     let last : Log = c.load_seq-seq.new.seat.me.0.seen in
     let more = c.load_seq-seq.ensures.looked.1 in
-    let later : Begins between last = subst (Begins between) (sym more.1) more.2 in
-    (mark, begins_trans mark between last c.answer.ensures.later.0 later,
+    let later : Begins between last = subst (Begins between) (sym more.1) more.2 in (
+      mark,
+      begins_trans mark between last c.answer.ensures.later.0 later,
       ended_later mark between last later (subst (λ (log : Log). HaveEnded log between) c.in_ok-asked.ensures.ask.0 c.answer.ensures.ended),
-      line_longer heard mark c.args.queue (subst (Begins heard) (sym looked.1) looked.3))
+      line_longer heard mark c.args.queue (subst (Begins heard) (sym looked.1) looked.3),
+    )

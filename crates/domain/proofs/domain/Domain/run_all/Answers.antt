@@ -1,7 +1,7 @@
-use Rattle.std.proofs.Common.{rules, ◌≡◌, ℕ, ◌+◌, ◌-◌, ◌<◌, ◌≤◌, List, [], ◌∷◌, ◌++◌, length, subst, sym, ap, ◌∙◌, arith}
+use Rattle.std.proofs.Common.{rules, List, [], ◌∷◌, length, subst, sym, ap, ◌∙◌, arith}
 use Rattle.std.proofs.lemmas.List.{length-append}
 use Rattle.call_rcu_worker.specs.declared.finished.Finished.{Finished}
-use Rattle.live_log.specs.Log.{Log, Begins}
+use Rattle.live_log.specs.Log.{Log}
 use Rattle.live_reclaim.specs.Batches.{AreRunAs, IsDue}
 use Rattle.domain.specs.Working.{GoesOn}
 use Rattle.domain.proofs.Running.{all_and, all_later, due_later, goes_heard, goes_same, goes_trans}

@@ -1,5 +1,3 @@
-use Rattle.std.proofs.Common.{◌≡◌}
-use Rattle.domain.specs.Working.{GoesOn}
 use Rattle.domain.proofs.Running.{goes_heard, goes_trans, list_later}
 use Rattle.domain.proofs.domain.Domain.run_batch.Goals as goal
 

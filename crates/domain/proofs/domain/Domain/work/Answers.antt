@@ -1,4 +1,4 @@
-use Rattle.std.proofs.Common.{rules, ◌≡◌, ℕ, ◌+◌, [], length, refl, sym, ap, ◌∙◌, subst, arith}
+use Rattle.std.proofs.Common.{rules, ◌≡◌, ℕ, [], refl, sym, ap, ◌∙◌, subst, arith}
 use Rattle.live_rule.specs.declared.view.View.{View}
 use Rattle.live_reclaim.specs.Batches.{Lists}
 use Rattle.domain.specs.declared.working.Outcome.TheVariants as outcome
@@ -39,10 +39,11 @@ loop-preserved g c =
     let e = c.is_emptied.ensures in
     let b = c.run_batch-now.ensures in
     let items = c.run_batch-now.new.list.items in
-    let looked = goes_looked qsbr allows c.run_batch-now.new.seat c.is_emptied.new.seat e.seat.0 e.seat.1 e.seat.2.0 e.later.0 e.later.2 _ _ e.exact.2 in
-    (goes_trans qsbr allows c.args.seat.now c.loop.seat c.is_emptied.new.seat c.loop.invariant.0 (goes_trans qsbr allows c.loop.seat c.run_batch-now.new.seat c.is_emptied.new.seat b.seat looked),
+    let looked = goes_looked qsbr allows c.run_batch-now.new.seat c.is_emptied.new.seat e.seat.0 e.seat.1 e.seat.2.0 e.later.0 e.later.2 _ _ e.exact.2 in (
+      goes_trans qsbr allows c.args.seat.now c.loop.seat c.is_emptied.new.seat c.loop.invariant.0 (goes_trans qsbr allows c.loop.seat c.run_batch-now.new.seat c.is_emptied.new.seat b.seat looked),
       ap (λ (v : View). v.work) e.seat.2.0 ∙ b.work,
-      list_later c.args.queue c.run_batch-now.new.seat.me.0.seen c.is_emptied.new.seat.me.0.seen c.args.first c.run_batch-now.result.0 items items e.later.0 refl b.list)
+      list_later c.args.queue c.run_batch-now.new.seat.me.0.seen c.is_emptied.new.seat.me.0.seen c.args.first c.run_batch-now.result.0 items items e.later.0 refl b.list,
+    )
 
 pub returns-in-Exhausted-clause-seat : goal.returns-in-Exhausted-clause-seat
 returns-in-Exhausted-clause-seat g c = goes_trans g.P.GracePlan.QSBR g.K.ChainRule.allows c.args.seat.now c.loop.seat c.run_batch-now.new.seat c.loop.invariant.0 c.run_batch-now.ensures.seat
