@@ -9,7 +9,6 @@ mod operations;
 mod queues;
 mod registries;
 mod replays;
-mod retiring;
 mod rows;
 mod scenario;
 mod stepping;

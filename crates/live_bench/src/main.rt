@@ -4,11 +4,13 @@
 
 ghost use Rattle.std.specs.Prelude.{◌≡◌};
 
+mod forgets;
 mod reading;
 mod waiting;
 mod walking;
 
-use domain::{Callback, LiveConfig, Opened, Site};
+use crate::forgets::Forgets;
+use domain::{LiveConfig, Opened, Site};
 use gp_memb::{GracePlan, MembPlan};
 use gp_qsbr::QsbrPlan;
 use live_words::AnyChain;
@@ -95,7 +97,7 @@ fn repeat<P: GracePlan + Drop + Send + Sync, B: Site + Send + Sync, R: Threads +
 ) -> Result<u64, Refusal>
     requires { (P.QSBR ≡ B.qsbr) × (opened.table.words.shared.table_id ≡ B.table) × (opened.table.words.shared.key ≡ B.sizes) }
 {
-    let (domain, mut record) = opened.named::<B, Callback>(alloc)?;
+    let (domain, mut record) = opened.named::<B, Forgets>(alloc)?;
     let mut one = domain.register(rt, &mut record)?;
     let mut two = domain.register(rt, &mut record)?;
     if kind.reads() {

@@ -2,6 +2,7 @@
 
 ghost use Rattle.std.specs.Prelude.{◌≡◌};
 
+use crate::forgets::Forgets;
 use domain::{Domain, Record, Site};
 use gp_memb::GracePlan;
 use live_words::AnyChain;
@@ -11,7 +12,7 @@ use std::sync::Wait;
 /// Grace periods, each waited for. Answers how many.
 pub(crate) fn synchronizations<P: GracePlan + Drop, B: Site, R: Wait>(
     rt: &R,
-    domain: &Domain<P, AnyChain, B>,
+    domain: &Domain<P, AnyChain, B, Forgets>,
     record: &mut Record<B>,
     count: u64,
 ) -> Result<u64, Refusal> {
@@ -25,7 +26,7 @@ pub(crate) fn synchronizations<P: GracePlan + Drop, B: Site, R: Wait>(
 
 /// Looks whether one ask is answered. Answers how many said no.
 pub(crate) fn polls<P: GracePlan + Drop, B: Site>(
-    domain: &Domain<P, AnyChain, B>,
+    domain: &Domain<P, AnyChain, B, Forgets>,
     record: &mut Record<B>,
     count: u64,
 ) -> Result<u64, Refusal> {

@@ -3,6 +3,7 @@
 ghost use Rattle.std.specs.Prelude.{◌≡◌, ◌<◌};
 ghost use Rattle.live_read.specs.Holding.{MayHoldIn};
 
+use crate::forgets::Forgets;
 use crate::reading::begin;
 use domain::{Domain, Held, Reader, Record, Section, Site};
 use gp_memb::GracePlan;
@@ -128,7 +129,7 @@ pub(crate) fn walks<P: GracePlan, B: Site>(
 /// Pushes so many records to the chain.
 pub(crate) fn pushes<P: GracePlan + Drop, B: Site, R: Wait>(
     rt: &R,
-    domain: &Domain<P, AnyChain, B>,
+    domain: &Domain<P, AnyChain, B, Forgets>,
     record: &mut Record<B>,
     count: u64,
 ) -> Result<u64, Refusal> {
@@ -143,7 +144,7 @@ pub(crate) fn pushes<P: GracePlan + Drop, B: Site, R: Wait>(
 /// Records that are pushed and cut at once: at most as many as the domain has.
 pub(crate) fn cuts<P: GracePlan + Drop, B: Site, R: Wait>(
     rt: &R,
-    domain: &Domain<P, AnyChain, B>,
+    domain: &Domain<P, AnyChain, B, Forgets>,
     record: &mut Record<B>,
     count: u64,
 ) -> Result<u64, Refusal> {
@@ -159,7 +160,7 @@ pub(crate) fn cuts<P: GracePlan + Drop, B: Site, R: Wait>(
 /// Records that are allocated and discarded at once, while so many others are in use.
 pub(crate) fn allocations<P: GracePlan + Drop, B: Site, R: Wait>(
     rt: &R,
-    domain: &Domain<P, AnyChain, B>,
+    domain: &Domain<P, AnyChain, B, Forgets>,
     record: &mut Record<B>,
     used: u64,
     count: u64,

@@ -5,8 +5,8 @@ ghost use Rattle.std.specs.Prelude.{◌≡◌, false, true};
 use crate::deleter::Adds;
 use crossbeam_utils::Backoff;
 use domain::{
-    Callback, Deleter, Domain, Finished, LiveConfig, Opened, Owned, Record, Ripe, Site, Stop, Ticket,
-    Unlinked, WorkerEnd,
+    Callback, Deleter, Domain, Finished, LiveConfig, Opened, Owned, Record, Ripe, Site, Stop,
+    Ticket, Unlinked, WorkerEnd,
 };
 use gp_memb::{GracePlan, MembPlan};
 use gp_qsbr::QsbrPlan;
@@ -242,7 +242,8 @@ fn a_worker_runs_what_a_closed_queue_has(rt: HostRuntime) {
     let opened = Opened::<MembPlan, AnyChain>::new(rt.alloc(), of_queues(1)).expect(&rt, "memory");
     let call = Box::new(rt.alloc(), |ripe: Ripe| ripe.payload[0]).expect(&rt, "memory");
     let (ticket, end) = reclaims_one::<Brand, _>(&rt, rt.alloc(), opened, Callback { call }).expect(
-        &rt, "not refused",
+        &rt,
+        "not refused",
     );
     let entry = Finished {
         ticket: Ticket(1),
@@ -314,7 +315,10 @@ fn updates<P: GracePlan + Drop, B: Site, R: Wait>(
         let word = number + 1;
         if let Some(owned) = when_free(rt, domain, record, word) {
             writer.push(record, owned);
-            if domain.cut_retire(rt, record, &mut writer, 0, Adds(0)).is_ok() {
+            if domain
+                .cut_retire(rt, record, &mut writer, 0, Adds(0))
+                .is_ok()
+            {
                 retired = word;
             }
         }

@@ -46,9 +46,10 @@ returns-clause-finds g c =
     let done = c.store_finished.ensures.finished.1 in
     let looks = c.run-deleter.ensures.finds.0 in
     let loads = c.run-deleter.ensures.finds.1 in
-    let look : ℕ × ℕ = (closed_at c.args.table.now.words.shared.key c.args.queue, c.load_closed.result) in
-    ((looks.0 ++ look ∷ [], ap (λ (v : View). v.looks) done ∙ (looks.1 ∙ (ap (λ (v : View). looks.0 ++ v.looks) looked ∙ sym (append_assoc looks.0 (look ∷ []) old.looks)))),
-      (loads.0, ap (λ (v : View). v.loads) done ∙ (loads.1 ∙ ap (λ (v : View). loads.0 ++ v.loads) looked)))
+    let look : ℕ × ℕ = (closed_at c.args.table.now.words.shared.key c.args.queue, c.load_closed.result) in (
+      (looks.0 ++ look ∷ [], ap (λ (v : View). v.looks) done ∙ (looks.1 ∙ (ap (λ (v : View). looks.0 ++ v.looks) looked ∙ sym (append_assoc looks.0 (look ∷ []) old.looks)))),
+      (loads.0, ap (λ (v : View). v.loads) done ∙ (loads.1 ∙ ap (λ (v : View). loads.0 ++ v.loads) looked)),
+    )
 
 pub returns-clause-seen : goal.returns-clause-seen
 returns-clause-seen g c =
