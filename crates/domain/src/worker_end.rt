@@ -1,0 +1,29 @@
+//! What a queue's worker leaves.
+
+use call_rcu_worker::Finished;
+use callback_queue::Item;
+use live_items::Job;
+use live_read::Site;
+use live_reclaim::Deleter;
+
+/// Why a worker stopped.
+#[derive(Clone, Copy, Debug, PartialEq, Eq, Drop)]
+pub enum Stop {
+    /// Its queue was closed, and all that was queued is finished.
+    Closed,
+    /// The sequence numbers are used up: nobody works for the queue any more.
+    Exhausted,
+    /// Memory was refused. Another may work for the queue.
+    Memory,
+}
+
+/// What a worker did, and why it stopped.
+#[derive(Drop)]
+pub struct WorkerEnd<B: Site, D: Deleter> {
+    /// What it ran, in the order of the tickets.
+    pub finished: Vec<Finished>,
+    /// Where the sequence numbers are used up, what waited for a grace period then, and is not run.
+    pub left: Vec<Item<Job<B, D>>>,
+    /// Why it stopped.
+    pub stop: Stop,
+}
