@@ -7,7 +7,8 @@ mod load;
 mod reading;
 mod round;
 mod running;
-
+#[cfg(test)]
+mod tests;
 mod updating;
 
 pub use counts::Counts;

@@ -1,5 +1,5 @@
 #![tactic(auto)]
-//! `torture`: replays schedules of atomic steps, checks their answers, and draws schedules.
+//! `torture`: replays schedules of atomic steps, checks their answers, draws schedules, and runs live threads.
 
 ghost use Rattle.std.specs.Prelude.{◌≡◌, map, string_bytes, IfOk, IfErr};
 ghost use Rattle.std.specs.IoError.{error_kind};
@@ -13,7 +13,7 @@ mod words;
 use std::io::{Read, Write};
 use std::process::ExitCode;
 use std::{env, io};
-use torture_commands::execute;
+use torture_run::execute;
 use words::{WordsFault, read_words};
 
 /// Tells why the words give no command: help and the version on standard output, all else on standard error, where a
@@ -68,7 +68,7 @@ fn run<R: Read, W: Write, F: Write>(
         Err(fault) => return tell_unreadable(rt, &fault),
     };
     match read_words(rt.alloc(), &words) {
-        Ok(command) => execute(rt.alloc(), command, reader, writer, faults),
+        Ok(asked) => execute(rt, rt.alloc(), asked, reader, writer, faults),
         Err(fault) => tell(rt, &fault),
     }
 }
