@@ -4,7 +4,7 @@ ghost use Rattle.std.specs.Prelude.{◌≡◌, codes, map, IfOk, IfErr};
 ghost use Rattle.clap.specs.Words.{first_of, found_of, kind_of, rows_of, subcommand_rows_of};
 ghost use Rattle.clap.specs.declared.error.kind.ErrorKind.TheVariants.{ValueValidation};
 ghost use Rattle.torture_run.specs.Limits.{IsAskedWithin};
-ghost use Rattle.torture.specs.Said.{number_of, number_or, flag_of, layout_said, flavour_said, config_said, walk_said, load_said, run_said, asked_said};
+ghost use Rattle.torture.specs.Said.{number_of, number_or, flag_of, layout_said, flavour_said, config_said, walk_said, rounds_beside, load_said, run_said, asked_said};
 ghost use Rattle.torture.specs.Words.{status_of_kind, text_of_kind, IsTaken, IsRefused, SayAsked};
 
 use crate::program::program;
@@ -125,17 +125,26 @@ fn walk_of(matches: &ArgMatches) -> Walk
     }
 }
 
-/// The load that the options of `run` say. Where a time ends the run and no number of rounds is said, it is the greatest.
+/// How many rounds a run makes where no word says it: where a time ends it, the most.
+fn rounds_beside(seconds: Option<u32>) -> u32
+    ensures { result ≡ rounds_beside seconds }
+{
+    match seconds {
+        Some(_) => MOST_ROUNDS,
+        None => 1000,
+    }
+}
+
+/// The load that the options of `run` say.
 fn load_of(matches: &ArgMatches) -> Load
     ensures { result ≡ load_said (rows_of (found_of matches.now)) }
 {
     let seconds = number_of(matches, "seconds");
-    let rounds = if seconds.is_some() { MOST_ROUNDS } else { 1000 };
     Load {
         readers: number_or(matches, "readers", 2),
         updaters: number_or(matches, "updaters", 1),
         workers: number_or(matches, "workers", 1),
-        rounds: number_or(matches, "rounds", rounds),
+        rounds: number_or(matches, "rounds", rounds_beside(seconds)),
         seconds,
     }
 }
