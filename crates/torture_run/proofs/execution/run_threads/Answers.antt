@@ -1,7 +1,7 @@
 use Rattle.std.proofs.Common.{subst, sym, Err}
 use Rattle.torture_run.specs.declared.fault.RunFault.{RunFault}
 use Rattle.torture_run.specs.Running.{HasRun}
-use Rattle.torture_run.proofs.Refused.{told, untouched}
+use Rattle.torture_run.proofs.Refused.{untouched}
 use Rattle.torture_run.proofs.execution.run_threads.Goals as goal
 
 pub returns-in-Err : goal.returns-in-Err
