@@ -3,7 +3,8 @@
 ghost use Rattle.std.specs.Prelude.{◌≡◌};
 
 use crate::ledger::{Call, Finding, Ledger};
-use domain::{Deleter, Domain, Finished, LiveConfig, Opened, Reader, Record, Ripe, Site, Ticket};
+use crate::retiring::{Says, retire_each};
+use domain::{Domain, LiveConfig, Opened, Reader, Record, Site};
 use gp_memb::{GracePlan, MembPlan};
 use gp_qsbr::QsbrPlan;
 use live_words::AnyChain;
@@ -15,24 +16,10 @@ use std::sync::Wait;
 /// A small domain.
 const SMALL: LiveConfig = LiveConfig {
     slots: 2,
-    queues: 1,
-    chains: 1,
-    pool: 1,
+    queues: 3,
+    chains: 3,
+    pool: 5,
 };
-
-/// What is called with an object of these domains: it looks at nothing.
-#[derive(Drop)]
-struct Forgets;
-
-impl Deleter for Forgets {
-    fn run(self, ticket: Ticket, ripe: Ripe) -> Finished {
-        Finished {
-            ticket,
-            object: ripe.object,
-            code: 0,
-        }
-    }
-}
 
 /// The words of a domain, made again where memory was refused.
 fn open<P: GracePlan + Drop>(
@@ -51,7 +38,7 @@ fn open<P: GracePlan + Drop>(
 
 /// Whether a domain answers an ask, and gives its chain to one writer: calls that take no memory.
 fn answers<P: GracePlan + Drop, B: Site>(
-    domain: &Domain<P, AnyChain, B, Forgets>,
+    domain: &Domain<P, AnyChain, B, Says>,
     record: &mut Record<B>,
 ) -> bool {
     let Ok(cookie) = domain.start_poll(record) else {
@@ -80,7 +67,7 @@ fn read_first<P: GracePlan, B: Site>(
 /// Whether a record is taken, given back, taken again, pushed and read: calls that take no memory.
 fn serves<P: GracePlan + Drop, B: Site, R: Wait>(
     rt: &R,
-    domain: &Domain<P, AnyChain, B, Forgets>,
+    domain: &Domain<P, AnyChain, B, Says>,
     record: &mut Record<B>,
 ) -> Result<bool, Refusal>
     requires { P.QSBR ≡ B.qsbr }
@@ -98,16 +85,24 @@ fn serves<P: GracePlan + Drop, B: Site, R: Wait>(
     Ok(words == Some([11, 13, 17, 19]))
 }
 
-/// Names a domain. Whether it answers, and its records serve.
+/// Names a domain. Whether it answers, its records serve, and what is cut is retired with the first ticket of its queue;
+/// `None` where naming was refused memory.
 fn name<P: GracePlan + Drop, B: Site, R: Wait>(
     rt: &R,
     alloc: Global,
     opened: Opened<P, AnyChain>,
-) -> Result<bool, Refusal>
+    ledger: &mut Ledger,
+) -> Result<Option<bool>, Finding>
     requires { (P.QSBR ≡ B.qsbr) × (opened.table.words.shared.table_id ≡ B.table) × (opened.table.words.shared.key ≡ B.sizes) }
 {
-    let (domain, mut record) = opened.named::<B, Forgets>(alloc)?;
-    Ok(answers(&domain, &mut record) && serves(rt, &domain, &mut record)?)
+    let (domain, mut record) = match opened.named::<B, Says>(alloc) {
+        Ok(named) => named,
+        Err(Refusal::Memory) => return Ok(None),
+        Err(_) => return Err(Finding::Wrong(Call::NameDomain)),
+    };
+    let tickets = retire_each(rt, &domain, &mut record, ledger)?;
+    let served = matches!(serves(rt, &domain, &mut record), Ok(true));
+    Ok(Some(answers(&domain, &mut record) && served && tickets == [1; 3]))
 }
 
 /// Makes a domain, again where memory was refused. Whether it answers.
@@ -117,17 +112,13 @@ fn make<P: GracePlan + Drop, R: Wait>(
     ledger: &mut Ledger,
 ) -> Result<bool, Finding> {
     let first = open::<P>(alloc, ledger)?;
-    match name::<P, Brand, R>(rt, alloc, first) {
-        Ok(good) => Ok(good),
-        Err(Refusal::Memory) => {
-            ledger.note(Call::NameDomain);
-            let second = open::<P>(alloc, ledger)?;
-            name::<P, Brand, R>(rt, alloc, second).map_err(|_| Finding::RefusedAgain(
-                Call::NameDomain,
-            ))
-        }
-        Err(_) => Err(Finding::Wrong(Call::NameDomain)),
+    if let Some(good) = name::<P, Brand, R>(rt, alloc, first, ledger)? {
+        return Ok(good);
     }
+    ledger.note(Call::NameDomain);
+    let second = open::<P>(alloc, ledger)?;
+    let again = name::<P, Brand, R>(rt, alloc, second, ledger)?;
+    again.ok_or(Finding::RefusedAgain(Call::NameDomain))
 }
 
 /// Makes a domain of each flavour, and takes, publishes and reads its record.

@@ -34,6 +34,12 @@ pub enum Call {
     OpenDomain,
     /// `domain::Opened::named`.
     NameDomain,
+    /// `domain::Domain::retire`.
+    Retire,
+    /// `domain::Domain::cut_retire`.
+    CutRetire,
+    /// `domain::Domain::replace_retire`.
+    ReplaceRetire,
     /// `rcu_model::check_log`.
     CheckLog,
     /// `schedule::read_line`.
@@ -68,6 +74,9 @@ impl fmt::Display for Call {
             Call::Claim => "claim",
             Call::OpenDomain => "open_domain",
             Call::NameDomain => "name_domain",
+            Call::Retire => "retire",
+            Call::CutRetire => "cut_retire",
+            Call::ReplaceRetire => "replace_retire",
             Call::CheckLog => "check_log",
             Call::ReadLine => "read_line",
             Call::ReadSchedule => "read_schedule",

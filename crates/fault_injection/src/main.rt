@@ -9,6 +9,7 @@ mod operations;
 mod queues;
 mod registries;
 mod replays;
+mod retiring;
 mod rows;
 mod scenario;
 mod stepping;

@@ -10,9 +10,12 @@ use Rattle.reader_word.specs.declared.layout.Layout.TheVariants.{Narrow, Wide}
 use Rattle.world_state.specs.declared.config.Config.{Config}
 use Rattle.world_state.specs.declared.config.Flavour.{Flavour}
 use Rattle.world_state.specs.declared.config.Flavour.TheVariants.{Memb, Qsbr}
-use Rattle.torture_commands.specs.declared.command.Command.{Command}
 use Rattle.torture_commands.specs.declared.command.Command.TheVariants as command
 use Rattle.torture_commands.specs.declared.command.Walk.{Walk}
+use Rattle.live_stress.specs.declared.load.Load.{Load}
+use Rattle.torture_run.specs.declared.asked.Asked.{Asked}
+use Rattle.torture_run.specs.declared.asked.Asked.TheVariants as asked
+use Rattle.torture_run.specs.declared.asked.Run.{Run}
 
 -- the number that the text writes, where it is one of so many bits
 abbrev pub number_in : ℕ → Text → Option ℕ
@@ -55,13 +58,31 @@ walk_said rows = record {
   stop = option_map (λ actor. record { actor = actor; from = number_or 32 rows (codes "from") 1 }) (number_of 32 rows (codes "stop"));
 }
 
--- the command of that name, with its options
-abbrev pub command_named : Text → List Row → Command
-command_named name rows =
-    if bytes_eq name (codes "check") then command.Check
-    else if bytes_eq name (codes "walk") then command.Walk (walk_said rows)
-    else command.Replay
+-- where a time ends the run, all rounds are made that it leaves room for
+abbrev pub rounds_beside : Option ℕ → ℕ
+rounds_beside None = 1000
+rounds_beside (Some seconds) = 1000000
 
--- the command that the words name; `replay` where they name none of the others
-abbrev pub command_said : Option (Text × List Row) → Command
-command_said named = option_map_or (λ found. command_named found.0 found.1) named command.Replay
+abbrev pub load_said : List Row → Load
+load_said rows = record {
+  readers = number_or 32 rows (codes "readers") 2;
+  updaters = number_or 32 rows (codes "updaters") 1;
+  workers = number_or 32 rows (codes "workers") 1;
+  rounds = number_or 32 rows (codes "rounds") (rounds_beside (number_of 32 rows (codes "seconds")));
+  seconds = number_of 32 rows (codes "seconds");
+}
+
+abbrev pub run_said : List Row → Run
+run_said rows = record { flavour = flavour_said (first_of (codes "flavour") rows); load = load_said rows }
+
+-- the command of that name, with its options
+abbrev pub asked_by_name : Text → List Row → Asked
+asked_by_name name rows =
+    if bytes_eq name (codes "check") then asked.Command command.Check
+    else if bytes_eq name (codes "walk") then asked.Command (command.Walk (walk_said rows))
+    else if bytes_eq name (codes "run") then asked.Run (run_said rows)
+    else asked.Command command.Replay
+
+-- what the words ask for; `replay` where they name none of the others
+abbrev pub asked_said : Option (Text × List Row) → Asked
+asked_said named = option_map_or (λ found. asked_by_name found.0 found.1) named (asked.Command command.Replay)

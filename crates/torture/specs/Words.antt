@@ -9,9 +9,9 @@ use Rattle.clap.specs.declared.error.kind.ErrorKind.{ErrorKind}
 use Rattle.clap.specs.declared.error.kind.ErrorKind.TheVariants.{DisplayHelp, DisplayVersion, OutOfMemory, ValueValidation}
 use Rattle.clap.specs.declared.builder.command.Command.TheViews.{out-Command as fields_of}
 use Rattle.std.specs.Borrow.{Bor}
-use Rattle.torture_commands.specs.declared.command.Command.{Command as Asked}
-use Rattle.torture_commands.specs.Limits.{is_within}
-use Rattle.torture.specs.Said.{command_said}
+use Rattle.torture_run.specs.declared.asked.Asked.{Asked}
+use Rattle.torture_run.specs.Limits.{is_asked_within}
+use Rattle.torture.specs.Said.{asked_said}
 
 -- an option of a number between limits
 abbrev pub number_rule : Text → ℕ → ℕ → Rule
@@ -54,6 +54,17 @@ with_course app =
     (number_rule (codes "stop") 0 87))
     (or_else (codes "1") (number_rule (codes "from") 1 1000000))
 
+-- the options of `run`: the threads, and when they end
+abbrev pub with_load : Bor (List (Bor (List ℕ))) → App → App
+with_load flavours app =
+    with_rule (with_rule (with_rule (with_rule (with_rule (with_rule app
+    (or_else (codes "memb") (flavour_rule flavours)))
+    (or_else (codes "2") (number_rule (codes "readers") 1 64)))
+    (or_else (codes "1") (number_rule (codes "updaters") 1 16)))
+    (or_else (codes "1") (number_rule (codes "workers") 1 8)))
+    (number_rule (codes "rounds") 1 1000000))
+    (number_rule (codes "seconds") 1 86400)
+
 -- a command of this name with no options
 abbrev pub IsPlain : Text → Command → Type 0
 IsPlain name c = (app_of c ≡ new_app name) × ((fields_of c).has_globals ≡ false)
@@ -64,20 +75,29 @@ walk_app flavours = with_course (with_world flavours (new_app (codes "walk")))
 abbrev pub IsWalk : Command → Type 0
 IsWalk c = (flavours : Bor (List (Bor (List ℕ)))) × AreFlavours flavours × (app_of c ≡ walk_app flavours) × ((fields_of c).has_globals ≡ false)
 
+abbrev pub run_app : Bor (List (Bor (List ℕ))) → App
+run_app flavours = with_load flavours (new_app (codes "run"))
+
+abbrev pub IsRun : Command → Type 0
+IsRun c = (flavours : Bor (List (Bor (List ℕ)))) × AreFlavours flavours × (app_of c ≡ run_app flavours) × ((fields_of c).has_globals ≡ false)
+
 -- `torture`, which wants a subcommand and has a version, and its subcommands
 abbrev pub bare_app : App
 bare_app = let app = new_app (codes "torture") in record app { top = record (app.top) { has_version = true; subcommand_required = true; arg_required_else_help = true } }
 
-abbrev pub torture_app : Bor (List (Bor (List ℕ))) → App
-torture_app flavours = with_subcommand (with_subcommand (with_subcommand bare_app ((new_app (codes "replay")).top)) ((new_app (codes "check")).top)) ((walk_app flavours).top)
+abbrev pub torture_app : Bor (List (Bor (List ℕ))) → Bor (List (Bor (List ℕ))) → App
+torture_app of_walk of_run = with_subcommand (with_subcommand (with_subcommand (with_subcommand bare_app ((new_app (codes "replay")).top)) ((new_app (codes "check")).top)) ((walk_app of_walk).top)) ((run_app of_run).top)
 
 -- what the program is to `clap`
 abbrev pub IsTorture : App → Type 0
-IsTorture app = (flavours : Bor (List (Bor (List ℕ)))) × AreFlavours flavours × (app ≡ torture_app flavours)
+IsTorture app = (of_walk of_run : Bor (List (Bor (List ℕ)))) × AreFlavours of_walk × AreFlavours of_run × (app ≡ torture_app of_walk of_run)
 
 -- what adds options to a command that has no global ones
 abbrev pub AddsWorld : Command → Command → Type 0
 AddsWorld old new = (flavours : Bor (List (Bor (List ℕ)))) × AreFlavours flavours × (app_of new ≡ with_world flavours (app_of old)) × ((fields_of new).has_globals ≡ (fields_of old).has_globals)
+
+abbrev pub AddsLoad : Command → Command → Type 0
+AddsLoad old new = (flavours : Bor (List (Bor (List ℕ)))) × AreFlavours flavours × (app_of new ≡ with_load flavours (app_of old)) × ((fields_of new).has_globals ≡ (fields_of old).has_globals)
 
 abbrev pub AddsCourse : Command → Command → Type 0
 AddsCourse old new = (app_of new ≡ with_course (app_of old)) × ((fields_of new).has_globals ≡ (fields_of old).has_globals)
@@ -86,15 +106,15 @@ AddsCourse old new = (app_of new ≡ with_course (app_of old)) × ((fields_of ne
 abbrev pub IsTaken : List Text → Option (Text × List Row) → Type 0
 IsTaken words found = (app : App) × IsTorture app × (fault_of app words ≡ []) × (found ≡ subcommand_of app words)
 
--- `clap` takes the words, and they say this command
-abbrev pub SayCommand : List Text → Asked → Type 0
-SayCommand words command = (found : Option (Text × List Row)) × IsTaken words found × (command ≡ command_said found)
+-- `clap` takes the words, and they ask for this
+abbrev pub SayAsked : List Text → Asked → Type 0
+SayAsked words asked = (found : Option (Text × List Row)) × IsTaken words found × (asked ≡ asked_said found)
 
 -- `clap` refuses the words; or it takes them, and who stops is not there; or memory was refused
 abbrev pub IsRefused : List Text → Error → Type 0
 IsRefused words error =
     ((app : App) × IsTorture app × HasKind (fault_of app words) error)
-    ⊎ (((command : Asked) × SayCommand words command × (is_within command ≡ false) × (kind_of error ≡ ValueValidation))
+    ⊎ (((asked : Asked) × SayAsked words asked × (is_asked_within asked ≡ false) × (kind_of error ≡ ValueValidation))
     ⊎ (kind_of error ≡ OutOfMemory))
 
 -- what the program ends with

@@ -1,5 +1,5 @@
 #![tactic(auto)]
-//! `torture`: replays schedules of atomic steps, checks their answers, and draws schedules.
+//! `torture`: replays schedules of atomic steps, checks their answers, draws schedules, and runs live threads.
 
 ghost use Rattle.std.specs.Prelude.{◌≡◌, map, string_bytes, IfOk, IfErr};
 ghost use Rattle.std.specs.IoError.{error_kind};
@@ -12,8 +12,11 @@ mod words;
 
 use std::io::{Read, Write};
 use std::process::ExitCode;
+use std::sync::Wait;
+use std::thread::Threads;
+use std::time::Clock;
 use std::{env, io};
-use torture_commands::execute;
+use torture_run::execute;
 use words::{WordsFault, read_words};
 
 /// Tells why the words give no command: help and the version on standard output, all else on standard error, where a
@@ -52,8 +55,9 @@ fn own_words(rt: &HostRuntime) -> io::Result<Vec<String>> {
 
 /// Executes the command of these words, from the reader to the writer, or tells why they give none, or why they cannot
 /// be had. Answers what the program ends with.
-fn run<R: Read, W: Write, F: Write>(
+fn run<H: Threads + Wait + Clock + Sync, R: Read, W: Write, F: Write>(
     rt: &HostRuntime,
+    threads: &H,
     words: io::Result<Vec<String>>,
     reader: &mut R,
     writer: &mut W,
@@ -68,7 +72,7 @@ fn run<R: Read, W: Write, F: Write>(
         Err(fault) => return tell_unreadable(rt, &fault),
     };
     match read_words(rt.alloc(), &words) {
-        Ok(command) => execute(rt.alloc(), command, reader, writer, faults),
+        Ok(asked) => execute(threads, rt.alloc(), asked, reader, writer, faults),
         Err(fault) => tell(rt, &fault),
     }
 }
@@ -76,6 +80,7 @@ fn run<R: Read, W: Write, F: Write>(
 fn main(rt: HostRuntime) -> ExitCode {
     let words = own_words(&rt);
     ExitCode::from(run(
+        &rt,
         &rt,
         words,
         &mut rt.reader(),

@@ -2,14 +2,14 @@
 
 ghost use Rattle.std.specs.Prelude.{◌≡◌, Some, IfOk, codes, false};
 ghost use Rattle.clap.specs.Words.{app_of, rule_of};
-ghost use Rattle.torture.specs.Words.{IsPlain, IsWalk, IsTorture, bare_app, number_rule, IsFlavourRule, AddsWorld, AddsCourse};
+ghost use Rattle.torture.specs.Words.{IsPlain, IsWalk, IsRun, IsTorture, bare_app, number_rule, IsFlavourRule, AddsWorld, AddsCourse, AddsLoad};
 
 use clap::builder::ValueParser;
 use clap::{Arg, ArgAction, Command as Program};
 use std::alloc::{AllocError, Global};
 
 const ABOUT: &str =
-    "Replays, checks and draws schedules of read-copy-update, one atomic step a line";
+    "Replays, checks and draws schedules of read-copy-update, one atomic step a line, and runs live threads";
 
 /// What `--version` prints after the program's name.
 const VERSION: &str = "0.1.0";
@@ -18,6 +18,7 @@ const EXAMPLES: &str = "Examples:
   torture replay < examples/replaced-while-read
   torture replay < examples/replaced-while-read | torture check
   torture walk --lines 5000 --seed 7
+  torture run --updaters 3 --workers 2 --rounds 5000
 
 `torture help COMMAND` says more; docs/FORMATS.md has the texts.";
 
@@ -90,6 +91,24 @@ It writes `walk lines=N events=E open=A waiting=B run=C verdict=yes`: the lines 
 Example: torture walk --lines 5000 --seed 7 --stop 0 --from 100
 
 Exit status: 0 good, 1 the log is no run, 2 bad words, 3 a fault of writing or memory.";
+
+const RUN_ABOUT: &str = "Runs readers, updaters and workers in threads of their own";
+
+const RUN_HELP: &str =
+    "Runs readers, updaters and workers in threads of their own, on a domain of 1,024 records with a chain for each updater and a queue for each worker.
+
+Updater u pushes a record of four zeros on chain u. In its round i it puts a record of four times i in that one's place and retires the old one; where no record is free it tries again, and ends after 1,000,000 tries in a row. Each reader opens as many sections as there are rounds and reads the first record of one chain after the other; it counts a record whose four words differ. Each worker waits for grace periods and runs the callbacks of its queue.
+
+It writes `run retired=A finished=B mixed=M`: the records retired, the callbacks run, and the records found mixed. The counts are right where A is B, M is 0, and without `--seconds` A is the number of updaters times the rounds.
+
+Example: torture run --flavour qsbr --readers 8 --updaters 3 --workers 2 --rounds 5000
+
+Exit status: 0 the counts are right, 1 they are wrong, 2 bad words, 3 a fault of writing or memory.";
+
+const ROUNDS_HELP: &str =
+    "How many rounds, 1 to 1,000,000; 1000 where it is left out, or 1,000,000 with --seconds";
+
+const SECONDS_HELP: &str = "End after so many seconds at the latest, 1 to 86,400";
 
 const FORMAT_HELP: &str = "The version of the schedule: 1 has narrow reader words, 2 wide ones";
 
@@ -169,6 +188,19 @@ fn with_course<'a>(alloc: Global, program: Program<'a>) -> Result<Program<'a>, A
         .arg(number(alloc, "from", 1, 1_000_000, FROM_HELP).default_value("1"))
 }
 
+/// The options that say how many threads there are, in which flavour, and when they end.
+fn with_load<'a>(alloc: Global, program: Program<'a>) -> Result<Program<'a>, AllocError>
+    ensures { IfOk result (λ c. AddsLoad program.entry c) }
+{
+    program
+        .arg(flavour(alloc))?
+        .arg(number(alloc, "readers", 1, 64, "How many readers, 1 to 64").default_value("2"))?
+        .arg(number(alloc, "updaters", 1, 16, "How many updaters, 1 to 16").default_value("1"))?
+        .arg(number(alloc, "workers", 1, 8, "How many workers, 1 to 8").default_value("1"))?
+        .arg(number(alloc, "rounds", 1, 1_000_000, ROUNDS_HELP))?
+        .arg(number(alloc, "seconds", 1, 86_400, SECONDS_HELP))
+}
+
 /// The command `replay`.
 fn replay_command<'a>(alloc: Global) -> Program<'a>
     ensures { IsPlain (codes "replay") result }
@@ -199,6 +231,16 @@ fn walk_command<'a>(alloc: Global) -> Result<Program<'a>, AllocError>
     with_course(alloc, with_world(alloc, walk)?)
 }
 
+/// The command `run`, with its options.
+fn run_command<'a>(alloc: Global) -> Result<Program<'a>, AllocError>
+    ensures { IfOk result IsRun }
+{
+    let run = Program::new(alloc, "run")
+        .about(RUN_ABOUT)
+        .long_about(RUN_HELP);
+    with_load(alloc, run)
+}
+
 /// The program, which wants a command and has none yet.
 fn without_commands<'a>(alloc: Global) -> Program<'a>
     ensures { app_of result ≡ bare_app }
@@ -216,8 +258,10 @@ pub fn program<'a>(alloc: Global) -> Result<Program<'a>, AllocError>
     ensures { IfOk result (λ c. IsTorture (app_of c)) }
 {
     let walk = walk_command(alloc)?;
+    let run = run_command(alloc)?;
     without_commands(alloc)
         .subcommand(replay_command(alloc))?
         .subcommand(check_command(alloc))?
-        .subcommand(walk)
+        .subcommand(walk)?
+        .subcommand(run)
 }

@@ -1,10 +1,12 @@
 //! Words, and what they ask for.
 
 use crate::words::read_words;
+use live_stress::Load;
 use std::alloc::Global;
 use std::process::Abort;
 use std::test::Fail;
 use torture_commands::{Command, Stop, Walk};
+use torture_run::{Asked, Run};
 use world::{Config, Flavour, Layout};
 
 /// What the words say where they say nothing.
@@ -23,10 +25,10 @@ const DEFAULT: Walk = Walk {
     stop: None,
 };
 
-/// Takes the words as this command.
-fn check_words(rt: &impl Abort, alloc: Global, words: &[&str], wanted: Command) {
+/// Takes the words as what asks for this.
+fn check_words(rt: &impl Abort, alloc: Global, words: &[&str], wanted: Asked) {
     match read_words(alloc, words) {
-        Ok(command) => assert_eq!(rt; command, wanted),
+        Ok(asked) => assert_eq!(rt; asked, wanted),
         Err(_) => assert!(rt; false),
     }
 }
@@ -50,10 +52,62 @@ const GREATEST: Walk = Walk {
     }),
 };
 
-const COMMANDS: [(&[&str], Command); 5] = [
-    (&["torture", "replay"], Command::Replay),
-    (&["torture", "check"], Command::Check),
-    (&["torture", "walk"], Command::Walk(DEFAULT)),
+/// What the words of `run` say where they say nothing.
+const QUIET: Load = Load {
+    readers: 2,
+    updaters: 1,
+    workers: 1,
+    rounds: 1000,
+    seconds: None,
+};
+
+/// Each option of `run` with its greatest value.
+const LOUD: Load = Load {
+    readers: 64,
+    updaters: 16,
+    workers: 8,
+    rounds: 999_999,
+    seconds: Some(86_400),
+};
+
+/// A run of the flavour `memb`.
+const fn memb_run(load: Load) -> Asked {
+    Asked::Run(Run {
+        flavour: Flavour::Memb,
+        load,
+    })
+}
+
+const COMMANDS: [(&[&str], Asked); 8] = [
+    (&["torture", "replay"], Asked::Command(Command::Replay)),
+    (&["torture", "check"], Asked::Command(Command::Check)),
+    (&["torture", "walk"], Asked::Command(Command::Walk(DEFAULT))),
+    (&["torture", "run"], memb_run(QUIET)),
+    (
+        &[
+            "torture",
+            "run",
+            "--flavour=qsbr",
+            "--readers=64",
+            "--updaters=16",
+            "--workers=8",
+            "--rounds=999999",
+            "--seconds=86400",
+        ],
+        Asked::Run(Run {
+            flavour: Flavour::Qsbr,
+            load: LOUD,
+        }),
+    ),
+    // A time leaves room for all rounds.
+    (
+        &["torture", "run", "--seconds", "5"],
+        memb_run(Load {
+            rounds: 1_000_000,
+            seconds: Some(5),
+            ..QUIET
+        }),
+    ),
     (
         &[
             "torture",
@@ -70,7 +124,7 @@ const COMMANDS: [(&[&str], Command); 5] = [
             "--from=999999",
             "--format=2",
         ],
-        Command::Walk(GREATEST),
+        Asked::Command(Command::Walk(GREATEST)),
     ),
     // A value may be a word of its own.
     (
@@ -86,18 +140,18 @@ const COMMANDS: [(&[&str], Command); 5] = [
             "--flavour",
             "memb",
         ],
-        Command::Walk(Walk {
+        Asked::Command(Command::Walk(Walk {
             lines: 0,
             seed: 0,
             ..DEFAULT
-        }),
+        })),
     ),
 ];
 
 #[test]
 fn words_name_a_command(rt: HostRuntime) {
-    for (words, command) in COMMANDS {
-        check_words(&rt, rt.alloc(), words, command);
+    for (words, asked) in COMMANDS {
+        check_words(&rt, rt.alloc(), words, asked);
     }
 }
 
@@ -122,20 +176,20 @@ fn an_actor_may_stop(rt: HostRuntime) {
             &rt,
             rt.alloc(),
             words,
-            Command::Walk(Walk { stop, ..DEFAULT }),
+            Asked::Command(Command::Walk(Walk { stop, ..DEFAULT })),
         );
     }
 }
 
-fn check_taken(rt: &impl Abort, alloc: Global, option: &str, values: &[&str]) {
+fn check_taken(rt: &impl Abort, alloc: Global, command: &str, option: &str, values: &[&str]) {
     for value in values {
-        assert!(rt; read_words(alloc, &["torture", "walk", option, *value]).is_ok());
+        assert!(rt; read_words(alloc, &["torture", command, option, *value]).is_ok());
     }
 }
 
-fn check_refused(rt: &impl Abort, alloc: Global, option: &str, values: &[&str]) {
+fn check_refused(rt: &impl Abort, alloc: Global, command: &str, option: &str, values: &[&str]) {
     for value in values {
-        match read_words(alloc, &["torture", "walk", option, *value]) {
+        match read_words(alloc, &["torture", command, option, *value]) {
             Ok(_) => assert!(rt; false),
             Err(fault) => assert_eq!(rt; fault.status(), 2),
         }
@@ -160,13 +214,28 @@ fn each_limit_is_kept(rt: HostRuntime) {
         ("--format", &["1", "2"], &["0", "3"]),
     ];
     for (option, good, bad) in rows {
-        check_taken(&rt, rt.alloc(), option, good);
-        check_refused(&rt, rt.alloc(), option, bad);
+        check_taken(&rt, rt.alloc(), "walk", option, good);
+        check_refused(&rt, rt.alloc(), "walk", option, bad);
+    }
+}
+
+#[test]
+fn each_limit_of_a_run_is_kept(rt: HostRuntime) {
+    let rows: [(&str, &[&str], &[&str]); 5] = [
+        ("--readers", &["1", "64"], &["0", "65"]),
+        ("--updaters", &["1", "16"], &["0", "17"]),
+        ("--workers", &["1", "8"], &["0", "9"]),
+        ("--rounds", &["1", "1000000"], &["0", "1000001"]),
+        ("--seconds", &["1", "86400"], &["0", "86401"]),
+    ];
+    for (option, good, bad) in rows {
+        check_taken(&rt, rt.alloc(), "run", option, good);
+        check_refused(&rt, rt.alloc(), "run", option, bad);
     }
 }
 
 /// Mistakes and calls for help or the version, with the status and how the text begins.
-const OTHER_WORDS: [(&[&str], u8, &str); 15] = [
+const OTHER_WORDS: [(&[&str], u8, &str); 17] = [
     (
         &["torture", "repla"],
         2,
@@ -207,6 +276,11 @@ const OTHER_WORDS: [(&[&str], u8, &str); 15] = [
         2,
         "error: the argument '--seed <N>' cannot be used multiple times\n",
     ),
+    (
+        &["torture", "run", "--chains", "1"],
+        2,
+        "error: unexpected argument '--chains' found\n",
+    ),
     (&["torture"], 2, "Replays, checks and draws schedules"),
     (
         &["torture", "--help"],
@@ -229,6 +303,11 @@ const OTHER_WORDS: [(&[&str], u8, &str); 15] = [
         &["torture", "walk", "--help"],
         0,
         "Draws a schedule by the seed",
+    ),
+    (
+        &["torture", "run", "--help"],
+        0,
+        "Runs readers, updaters and workers",
     ),
 ];
 

@@ -3,17 +3,19 @@
 ghost use Rattle.std.specs.Prelude.{◌≡◌, codes, map, IfOk, IfErr};
 ghost use Rattle.clap.specs.Words.{first_of, found_of, kind_of, rows_of, subcommand_rows_of};
 ghost use Rattle.clap.specs.declared.error.kind.ErrorKind.TheVariants.{ValueValidation};
-ghost use Rattle.torture_commands.specs.Limits.{IsWithin};
-ghost use Rattle.torture.specs.Said.{number_of, number_or, flag_of, layout_said, flavour_said, config_said, walk_said, command_said};
-ghost use Rattle.torture.specs.Words.{status_of_kind, text_of_kind, IsTaken, IsRefused, SayCommand};
+ghost use Rattle.torture_run.specs.Limits.{IsAskedWithin};
+ghost use Rattle.torture.specs.Said.{number_of, number_or, flag_of, layout_said, flavour_said, config_said, walk_said, rounds_beside, load_said, run_said, asked_said};
+ghost use Rattle.torture.specs.Words.{status_of_kind, text_of_kind, IsTaken, IsRefused, SayAsked};
 
 use crate::program::program;
 use clap::error::ErrorKind;
 use clap::{ArgMatches, Error};
+use live_stress::Load;
 use std::alloc::{AllocError, Global};
 use std::convert::AsStr;
 use std::fmt;
 use torture_commands::{Command, Stop, Walk};
+use torture_run::{Asked, MOST_ROUNDS, Run};
 use world::{Config, Flavour, Layout};
 
 /// Why the words give no command: a mistake, a call for help or for the version, or no memory.
@@ -123,14 +125,49 @@ fn walk_of(matches: &ArgMatches) -> Walk
     }
 }
 
-/// The command that the matches say.
-fn command_of(matches: &ArgMatches) -> Command
-    ensures { result ≡ command_said (subcommand_rows_of matches.now) }
+/// How many rounds a run makes where no word says it: where a time ends it, the most.
+fn rounds_beside(seconds: Option<u32>) -> u32
+    ensures { result ≡ rounds_beside seconds }
+{
+    match seconds {
+        Some(_) => MOST_ROUNDS,
+        None => 1000,
+    }
+}
+
+/// The load that the options of `run` say.
+fn load_of(matches: &ArgMatches) -> Load
+    ensures { result ≡ load_said (rows_of (found_of matches.now)) }
+{
+    let seconds = number_of(matches, "seconds");
+    Load {
+        readers: number_or(matches, "readers", 2),
+        updaters: number_or(matches, "updaters", 1),
+        workers: number_or(matches, "workers", 1),
+        rounds: number_or(matches, "rounds", rounds_beside(seconds)),
+        seconds,
+    }
+}
+
+/// The run that the options of `run` say.
+fn run_of(matches: &ArgMatches) -> Run
+    ensures { result ≡ run_said (rows_of (found_of matches.now)) }
+{
+    Run {
+        flavour: flavour_of(matches),
+        load: load_of(matches),
+    }
+}
+
+/// What the matches ask for.
+fn asked_of(matches: &ArgMatches) -> Asked
+    ensures { result ≡ asked_said (subcommand_rows_of matches.now) }
 {
     match matches.subcommand() {
-        Some(("check", _)) => Command::Check,
-        Some(("walk", options)) => Command::Walk(walk_of(options)),
-        _ => Command::Replay,
+        Some(("check", _)) => Asked::Command(Command::Check),
+        Some(("walk", options)) => Asked::Command(Command::Walk(walk_of(options))),
+        Some(("run", options)) => Asked::Run(run_of(options)),
+        _ => Asked::Command(Command::Replay),
     }
 }
 
@@ -161,25 +198,31 @@ fn no_such_actor(alloc: Global, walk: &Walk) -> Result<Error, AllocError>
     program(alloc)?.error(ErrorKind::ValueValidation, &text)
 }
 
-/// The command that the words ask for; the first word is the program's name. The fault has the text and the status with
-/// which the program ends.
-pub fn read_words<S: AsStr>(alloc: Global, words: &[S]) -> Result<Command, WordsFault>
-    ensures said { IfOk result (λ command. SayCommand (map S.text words.now) command) }
-    ensures within { IfOk result IsWithin }
+/// The fault of what is out of its limits, though `clap` took it: of all numbers it leaves who stops alone unbounded.
+fn out_of_limits(alloc: Global, asked: &Asked) -> Result<Error, AllocError>
+    ensures { IfOk result (λ e. kind_of e ≡ ValueValidation) }
+{
+    match asked {
+        Asked::Command(Command::Walk(walk)) => no_such_actor(alloc, walk),
+        _ => program(alloc)?.error(ErrorKind::ValueValidation, "a number is out of its limits"),
+    }
+}
+
+/// What the words ask for; the first word is the program's name. The fault has the text and the status with which the
+/// program ends.
+pub fn read_words<S: AsStr>(alloc: Global, words: &[S]) -> Result<Asked, WordsFault>
+    ensures said { IfOk result (λ asked. SayAsked (map S.text words.now) asked) }
+    ensures within { IfOk result IsAskedWithin }
     ensures refused { IfErr result (λ fault. IsRefused (map S.text words.now) fault.error) }
 {
-    let command = match parsed(alloc, words) {
-        Ok(matches) => command_of(&matches),
+    let asked = match parsed(alloc, words) {
+        Ok(matches) => asked_of(&matches),
         Err(error) => return Err(WordsFault { error }),
     };
-    let Command::Walk(walk) = command else {
-        return Ok(command);
-    };
-    if walk.is_within_limits() {
-        return Ok(command);
+    if asked.is_within_limits() {
+        return Ok(asked);
     }
-    // `clap` has bounded every other number.
-    match no_such_actor(alloc, &walk) {
+    match out_of_limits(alloc, &asked) {
         Ok(error) => Err(WordsFault { error }),
         Err(refused) => Err(WordsFault {
             error: Error::from(refused),

@@ -3,7 +3,7 @@ use Rattle.torture.proofs.run.Goals as goal
 
 pub returns-in-Ok-read_words-clause-had : goal.returns-in-Ok-read_words-clause-had
 returns-in-Ok-read_words-clause-had g c =
-    rw c.in-Ok.is (inl (c.in-Ok-read_words.command, (rw c.deref.ensures.value at c.in-Ok-read_words.ensures.said), c.execute.ensures.executes))
+    rw c.in-Ok.is (inl (c.in-Ok-read_words.asked, (rw c.deref.ensures.value at c.in-Ok-read_words.ensures.said), c.execute.ensures.executes))
 
 pub returns-clause-had : goal.returns-clause-had
 returns-clause-had g c =

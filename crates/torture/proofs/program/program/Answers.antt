@@ -7,8 +7,10 @@ use Rattle.torture.proofs.program.program.Goals as goal
 pub returns : goal.returns
 returns c =
     let walk = c.in_ok-walk.ensures in
+    let run = c.in_ok-run.ensures in
     let replay = c.replay_command.ensures in
     let check = c.check_command.ensures in
     let first = c.in_ok-subcommand.ensures.shape replay.1 ∙ ap₂ with_subcommand c.without_commands.ensures (ap (λ (a : App). a.top) replay.0) in
     let second = c.in_ok-subcommand-2.ensures.shape check.1 ∙ ap₂ with_subcommand first (ap (λ (a : App). a.top) check.0) in
-    IfOk-weaker c.subcommand-3.result _ (λ p. IsTorture (app_of p)) (λ p x. (walk.0, walk.1, x.shape walk.3 ∙ ap₂ with_subcommand second (ap (λ (a : App). a.top) walk.2))) c.subcommand-3.ensures
+    let third = c.in_ok-subcommand-3.ensures.shape walk.3 ∙ ap₂ with_subcommand second (ap (λ (a : App). a.top) walk.2) in
+    IfOk-weaker c.subcommand-4.result _ (λ p. IsTorture (app_of p)) (λ p x. (walk.0, run.0, walk.1, run.1, x.shape run.3 ∙ ap₂ with_subcommand third (ap (λ (a : App). a.top) run.2))) c.subcommand-4.ensures

@@ -1,0 +1,125 @@
+//! A routing table: a chain of routes, the longest prefix first, that a section walks.
+
+ghost use Rattle.std.specs.Prelude.{◌≡◌, ◌<◌, false};
+
+use domain::{Callback, Domain, Opened, Reader, Record, Section, Site};
+use gp_memb::MembPlan;
+use live_words::AnyChain;
+use rcu_model::Refusal;
+use std::alloc::Global;
+use std::sync::Wait;
+
+/// A route: addresses that begin with the prefix, under the mask, go to the next hop.
+#[derive(Clone, Copy, Drop)]
+struct Route {
+    prefix: u64,
+    mask: u64,
+    next_hop: u64,
+    metric: u64,
+}
+
+impl Route {
+    fn of(words: [u64; 4]) -> Route {
+        let [prefix, mask, next_hop, metric] = words;
+        Route {
+            prefix,
+            mask,
+            next_hop,
+            metric,
+        }
+    }
+
+    fn words(self) -> [u64; 4] {
+        [self.prefix, self.mask, self.next_hop, self.metric]
+    }
+
+    fn leads(self, address: u64) -> bool {
+        address & self.mask == self.prefix
+    }
+}
+
+/// The first route for an address.
+fn find<B: Site>(
+    section: &mut Section<MembPlan, AnyChain, B>,
+    address: u64,
+) -> Result<Option<Route>, Refusal>
+    requires { (B.qsbr ≡ false) × (0 < section.old.reader.now.depth) }
+{
+    let mut at = section.first(0)?;
+    for _ in 0..1_000u64 {
+        let Some(held) = at else {
+            return Ok(None);
+        };
+        let route = Route::of(section.read(held));
+        if route.leads(address) {
+            return Ok(Some(route));
+        }
+        at = section.next(held);
+    }
+    Ok(None)
+}
+
+/// Where the address goes, by one section.
+fn next_hop<B: Site>(
+    reader: &mut Reader<MembPlan, AnyChain, B>,
+    address: u64,
+) -> Result<u64, Refusal>
+    requires { B.qsbr ≡ false }
+{
+    let mut section = reader.section()?;
+    Ok(find(&mut section, address)?.map_or(0, |route| route.next_hop))
+}
+
+/// Adds a route in front of all others.
+fn add<B: Site, R: Wait>(
+    rt: &R,
+    domain: &Domain<MembPlan, AnyChain, B, Callback>,
+    record: &mut Record<B>,
+    route: Route,
+) -> Result<(), Refusal> {
+    let owned = domain.alloc(rt, record, route.words())?;
+    let mut writer = domain.chain(record, 0)?;
+    writer.push(record, owned);
+    Ok(())
+}
+
+/// The first route is withdrawn: sections that found it may go on with it, and its record is not used again.
+fn withdraw<B: Site>(
+    domain: &Domain<MembPlan, AnyChain, B, Callback>,
+    record: &mut Record<B>,
+) -> Result<(), Refusal> {
+    let mut writer = domain.chain(record, 0)?;
+    writer.cut(record, 0)?;
+    Ok(())
+}
+
+/// Two routes, of which the longer one is withdrawn. Answers the next hops of an address before and after.
+pub(crate) fn look_up<B: Site, R: Wait>(
+    rt: &R,
+    alloc: Global,
+    opened: Opened<MembPlan, AnyChain>,
+) -> Result<(u64, u64), Refusal>
+    requires { (B.qsbr ≡ false) × (opened.table.words.shared.table_id ≡ B.table) × (opened.table.words.shared.key ≡ B.sizes) }
+{
+    let (domain, mut record) = opened.named::<B, Callback>(alloc)?;
+    let far = Route {
+        prefix: 0x0a00_0000,
+        mask: 0xff00_0000,
+        next_hop: 1,
+        metric: 10,
+    };
+    let near = Route {
+        prefix: 0x0a01_0000,
+        mask: 0xffff_0000,
+        next_hop: 2,
+        metric: 5,
+    };
+    add(rt, &domain, &mut record, far)?;
+    add(rt, &domain, &mut record, near)?;
+    let mut reader = domain.register(rt, &mut record)?;
+    let before = next_hop(&mut reader, 0x0a01_0203)?;
+    withdraw(&domain, &mut record)?;
+    let after = next_hop(&mut reader, 0x0a01_0203)?;
+    domain.synchronize(rt, &mut record)?;
+    Ok((before, after))
+}

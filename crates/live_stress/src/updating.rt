@@ -1,0 +1,102 @@
+//! What an updater does.
+
+ghost use Rattle.std.specs.Prelude.{◌≤◌, IfOk};
+
+use crate::deadline::Deadline;
+use crate::load::Load;
+use crate::round::RoundDone;
+use domain::{Chain, Domain, Owned, Record, Site};
+use gp_memb::GracePlan;
+use live_words::AnyChain;
+use rcu_model::Refusal;
+use std::sync::Wait;
+use std::thread;
+use std::time::Clock;
+
+/// After so many tries in a row with no free record an updater ends.
+const MOST_TRIES: u32 = 1_000_000;
+
+/// A record of four times this word, as soon as one is free.
+///
+/// Refused as `alloc`, with `PoolFull` after so many tries.
+fn allocates<P: GracePlan + Drop, B: Site, R: Wait>(
+    rt: &R,
+    domain: &Domain<P, AnyChain, B, RoundDone>,
+    record: &mut Record<B>,
+    word: u64,
+) -> Result<Owned<B>, Refusal> {
+    for _ in 0..MOST_TRIES {
+        match domain.alloc(rt, record, [word; 4]) {
+            Ok(owned) => return Ok(owned),
+            Err(Refusal::PoolFull) => thread::yield_now(),
+            Err(refusal) => return Err(refusal),
+        }
+    }
+    Err(Refusal::PoolFull)
+}
+
+/// One round: a record of four times this word takes the place of the chain's first, which is retired.
+fn one_round<P: GracePlan + Drop, B: Site, R: Wait>(
+    rt: &R,
+    domain: &Domain<P, AnyChain, B, RoundDone>,
+    record: &mut Record<B>,
+    writer: &mut Chain<'_, P, AnyChain, B>,
+    word: u64,
+) -> Result<(), Refusal> {
+    let owned = allocates(rt, domain, record, word)?;
+    match domain.replace_retire(rt, record, writer, 0, owned, RoundDone(word)) {
+        Ok(_) => Ok(()),
+        Err((refusal, owned, _)) => {
+            domain.discard(record, owned);
+            Err(refusal)
+        }
+    }
+}
+
+/// Round after round, until all are done, the time is over, or the pool stays full. How many were done.
+fn rounds<P: GracePlan + Drop, B: Site, R: Wait + Clock>(
+    rt: &R,
+    domain: &Domain<P, AnyChain, B, RoundDone>,
+    record: &mut Record<B>,
+    writer: &mut Chain<'_, P, AnyChain, B>,
+    load: &Load,
+    deadline: &Deadline,
+) -> Result<u64, Refusal>
+    ensures { IfOk result (λ retired. retired ≤ load.now.rounds) }
+{
+    for number in 0..load.rounds {
+        let done = u64::from(number);
+        if deadline.is_over(rt) {
+            return Ok(done);
+        }
+        match one_round(rt, domain, record, writer, done + 1) {
+            Ok(()) => {}
+            Err(Refusal::PoolFull) => return Ok(done),
+            Err(refusal) => return Err(refusal),
+        }
+    }
+    Ok(u64::from(load.rounds))
+}
+
+/// What an updater does: it pushes a record of four zeros on its chain, and makes its rounds. How many records it
+/// retired.
+pub(crate) fn updates<P: GracePlan + Drop, B: Site, R: Wait + Clock>(
+    rt: &R,
+    domain: &Domain<P, AnyChain, B, RoundDone>,
+    record: &mut Record<B>,
+    chain: usize,
+    load: &Load,
+    deadline: &Deadline,
+) -> Result<u64, Refusal>
+    ensures { IfOk result (λ retired. retired ≤ load.now.rounds) }
+{
+    let mut writer = domain.chain(record, chain)?;
+    match allocates(rt, domain, record, 0) {
+        Ok(owned) => {
+            writer.push(record, owned);
+        }
+        Err(Refusal::PoolFull) => return Ok(0),
+        Err(refusal) => return Err(refusal),
+    }
+    rounds(rt, domain, record, &mut writer, load, deadline)
+}

@@ -1,0 +1,10 @@
+use Rattle.std.proofs.Common.{subst, sym, Err}
+use Rattle.torture_run.specs.declared.fault.RunFault.{RunFault}
+use Rattle.torture_run.specs.Running.{HasRun}
+use Rattle.torture_run.proofs.Refused.{untouched}
+use Rattle.torture_run.proofs.execution.run_threads.Goals as goal
+
+pub returns-in-Err : goal.returns-in-Err
+returns-in-Err g c =
+    let text = g.W.Write.contents c.args.writer.now in
+    subst (λ (f : RunFault). HasRun text text (Err f)) (sym c.fault_of.ensures) (untouched text c.in-Err.refusal)
