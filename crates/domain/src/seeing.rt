@@ -1,0 +1,51 @@
+//! What a program sees of a domain: how full it is, and which readers a grace period waits for.
+
+ghost use Rattle.std.specs.Prelude.{◌≡◌, ◌++◌, IfErr, IfOk};
+ghost use Rattle.rcu_model.specs.declared.refusal.Refusal.TheVariants.{Memory};
+ghost use Rattle.live_log.specs.Log.{seq_of};
+ghost use Rattle.live_read.specs.Hearing.{IsAsBefore, Stays};
+ghost use Rattle.live_status.specs.Status.{Counted, Looks, Stalls};
+ghost use Rattle.domain.specs.Waiting.{LoadedOnce};
+
+use crate::domain::Domain;
+use gp_memb::GracePlan;
+use live_read::{Site, Witness};
+use live_reclaim::Deleter;
+use live_status::{Counts, count_all};
+use live_words::ChainRule;
+use rcu_model::Refusal;
+use std::alloc::Global;
+
+impl<P: GracePlan + Drop, K: ChainRule, B: Site, D: Deleter> Domain<P, K, B, D> {
+    /// How full the domain is: how many records are in use, how many retired objects of each queue have not run, and the
+    /// sequence number. The counts are loaded one after another, so they are of different moments of the call. It takes
+    /// as long as the pool is large; it never waits and takes no memory.
+    pub fn counts<W: Witness>(&self, witness: &mut W) -> Counts
+        requires { W.home witness.old ≡ (B.table, B.sizes) }
+        ensures counted { (found : Looks) × (W.looks witness.new ≡ found ++ W.looks witness.old) × Counted B.sizes found result }
+        ensures seq { LoadedOnce P.QSBR K.allows (W.seen witness.old) (W.heard witness.old) (W.loads witness.old) (W.loads witness.new) (W.heard witness.new) × (seq_of (W.heard witness.new) ≡ result.seq) }
+        ensures same { Stays W.Witness witness.old witness.new }
+    {
+        let mut seat = witness.tell(&self.table);
+        let counts = count_all(&self.table, &mut seat);
+        witness.learn(&self.table, seat);
+        counts
+    }
+
+    /// The slots whose readers stand in the way of the grace period that runs, in ascending order: for a line in a
+    /// program's own log where `synchronize` takes long. Each was loaded at a moment of the call, at which its section
+    /// was open; none does where no grace period runs.
+    ///
+    /// Refused with `Memory` where the list's memory is refused; then nothing was loaded. It never waits.
+    pub fn stalled<W: Witness>(&self, alloc: Global, witness: &mut W) -> Result<Vec<usize>, Refusal>
+        requires { W.home witness.old ≡ (B.table, B.sizes) }
+        ensures told { IfOk result (λ slots. Stalls P.QSBR K.allows B.sizes (W.seen witness.old) (W.heard witness.old) (W.loads witness.old) (W.loads witness.new) (W.looks witness.old) (W.looks witness.new) slots.items (W.heard witness.new)) }
+        ensures refused { IfErr result (λ e. (e ≡ Memory) × IsAsBefore W.Witness witness.old witness.new) }
+        ensures same { Stays W.Witness witness.old witness.new }
+    {
+        let mut seat = witness.tell(&self.table);
+        let slots = live_status::stalled(alloc, &self.table, &mut seat)?;
+        witness.learn(&self.table, seat);
+        Ok(slots)
+    }
+}
