@@ -8,6 +8,7 @@ use Rattle.atomic_table.specs.Table.{Me}
 use Rattle.atomic_table.specs.declared.shared.Seat.{Seat}
 use Rattle.rcu_model.specs.declared.event.ObjectId.{ObjectId}
 use Rattle.rcu_model.specs.Sets.{In}
+use Rattle.callback_queue.specs.declared.item.Item.{Item}
 use Rattle.call_rcu_worker.specs.declared.finished.Finished.{Finished}
 use Rattle.live_log.specs.declared.event.LiveEvent.{LiveEvent}
 use Rattle.live_log.specs.declared.event.LiveEvent.TheVariants.{Close}
@@ -20,6 +21,7 @@ use Rattle.live_rule.specs.Views.{bare}
 use Rattle.live_rule.specs.declared.view.Sizes.{Sizes}
 use Rattle.live_table.specs.Steps.{Keeps}
 use Rattle.live_words.specs.Queues.{IsAt}
+use Rattle.live_items.specs.Items.{InOrder, JobValue}
 use Rattle.live_items.specs.Running.{KeepsFinds}
 use Rattle.live_reclaim.specs.Batches.{AreRunAs, IsDue, IsRunAs, Lists}
 use Rattle.domain.specs.declared.worker_end.Stop.{Stop}
@@ -51,6 +53,15 @@ due_later q given old new b x = (x.0, begins_trans x.0 old new x.1 b, ended_late
 -- of the list, in a later log
 pub list_later : (q : ℕ) (old new : Log) (first last : ℕ) (a b : List Finished) → Begins old new → b ≡ a → Lists q old first last a → Lists q new first last b
 list_later q old new first last a b x e l = subst (λ (z : List Finished). Lists q new first last z) (sym e) (all_later q old new first a x l.0, l.1)
+
+-- what is left is so in a later log
+pub order_later : (q : ℕ) (old new : Log) (n : ℕ) (items : List (Item JobValue)) → Begins old new → InOrder q old n items → InOrder q new n items
+order_later q old new n [] b x = x
+order_later q old new n (i ∷ is) b x = (record { turn = x.0.turn; known = begins_trans i.job.0.seen old new x.0.known b; named = x.0.named }, order_later q old new (n + 1) is b x.1)
+
+-- and so is nothing
+pub none_in_order : (q : ℕ) (log : Log) (n : ℕ) (items : List (Item JobValue)) → items ≡ [] → InOrder q log n items
+none_in_order q log n items e = subst (InOrder q log n) (sym e) tt
 
 -- what has run stays so
 some_at : (l : List ObjectId) (n : ℕ) → n < length l → (o : ObjectId) × (get_elem? l n ≡ some o)
@@ -98,11 +109,11 @@ used_up_since first start log old between new b since e x = record {
 }
 
 -- a seat worked that had seen as much as the witness and found nothing; the witness takes in what the seat found
-pub worked_for : (qsbr : Bool) (allows : Log → LiveEvent → Type 0) (key sizes : Sizes) (q : ℕ) (seen heard : Log) (v : View) (looks found before : Looks) (loads loaded earlier : List Log) (entries : List Finished) (stop : Stop) (log : Log)
+pub worked_for : (qsbr : Bool) (allows : Log → LiveEvent → Type 0) (key sizes : Sizes) (q : ℕ) (seen heard : Log) (v : View) (looks found before : Looks) (loads loaded earlier : List Log) (entries : List Finished) (items : List (Item JobValue)) (stop : Stop) (log : Log)
     → v ≡ bare sizes seen heard → looks ≡ found ++ before → loads ≡ loaded ++ earlier
-    → HasWorked qsbr allows key q v.seen v.heard v.looks found v.loads loaded entries stop log
-    → HasWorked qsbr allows key q seen heard before looks earlier loads entries stop log
-worked_for qsbr allows key sizes q seen heard v looks found before loads loaded earlier entries stop log is looks_are loads_are h =
+    → HasWorked qsbr allows key q v.seen v.heard v.looks found v.loads loaded entries items stop log
+    → HasWorked qsbr allows key q seen heard before looks earlier loads entries items stop log
+worked_for qsbr allows key sizes q seen heard v looks found before loads loaded earlier entries items stop log is looks_are loads_are h =
     let x : ℕ × ℕ = (work_at key q, left_by stop) in
     let y : ℕ × ℕ = (finished_at key q, h.first) in
     let z : ℕ × ℕ = (work_at key q, 0) in
@@ -120,6 +131,8 @@ worked_for qsbr allows key sizes q seen heard v looks found before loads loaded 
       run = h.run;
       lists = h.lists;
       through = h.through;
+      left = h.left;
+      nothing = h.nothing;
       closed = h.closed;
       exhausted = λ e. let u = h.exhausted e in record {
         at = u.at;

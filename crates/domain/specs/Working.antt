@@ -1,6 +1,7 @@
 -- What a queue's worker did.
-use Rattle.std.specs.Prelude.{Bool, ◌≡◌, ℕ, ◌+◌, ◌^◌, ◌<◌, ◌≤◌, List, [], ◌∷◌, ◌++◌, length}
+use Rattle.std.specs.Prelude.{Bool, ◌≡◌, ◌≢◌, ℕ, ◌+◌, ◌^◌, ◌<◌, ◌≤◌, List, [], ◌∷◌, ◌++◌, length}
 use Rattle.atomic_table.specs.declared.shared.Seat.{Seat}
+use Rattle.callback_queue.specs.declared.item.Item.{Item}
 use Rattle.call_rcu_worker.specs.declared.finished.Finished.{Finished}
 use Rattle.live_log.specs.declared.event.LiveEvent.{LiveEvent}
 use Rattle.live_log.specs.Log.{Log, Begins, HaveRun, IsLiveRun, line_of, seq_of}
@@ -8,6 +9,7 @@ use Rattle.live_rule.specs.declared.view.Sizes.{Sizes}
 use Rattle.live_rule.specs.declared.view.View.{View}
 use Rattle.live_rule.specs.Places.{finished_at, work_at}
 use Rattle.live_table.specs.Steps.{Keeps}
+use Rattle.live_items.specs.Items.{InOrder, JobValue}
 use Rattle.live_items.specs.Running.{KeepsFinds}
 use Rattle.live_reclaim.specs.Batches.{Lists}
 use Rattle.live_reclaim.specs.Working.{IsEmptied}
@@ -44,8 +46,9 @@ pub record FoundUsedUp (start log : Log) (old new : List Log) : Type 0 where
 
 module _ (qsbr : Bool) (allows : Log → LiveEvent → Type 0) (key : Sizes) (q : ℕ) where
   -- A worker began after all that had been seen and heard of, when the first so many were finished, and ran those that
-  -- came next, each in its turn. Where it was closed, no more were queued.
-  pub record HasWorked (seen heard : Log) (old new : Looks) (old_loads new_loads : List Log) (entries : List Finished) (stop : Stop) (log : Log) : Type 0 where
+  -- came next, each in its turn. Where it was closed, no more were queued. What is left comes next after them, and
+  -- nothing is but where the numbers were used up.
+  pub record HasWorked (seen heard : Log) (old new : Looks) (old_loads new_loads : List Log) (entries : List Finished) (items : List (Item JobValue)) (stop : Stop) (log : Log) : Type 0 where
     pub start : Log
     pub first : ℕ
     pub last : ℕ
@@ -59,6 +62,8 @@ module _ (qsbr : Bool) (allows : Log → LiveEvent → Type 0) (key : Sizes) (q 
     pub run : IsLiveRun qsbr allows log
     pub lists : Lists q log first last entries
     pub through : HaveRun q last log
+    pub left : InOrder q log last items
+    pub nothing : stop ≢ Exhausted → items ≡ []
     pub closed : stop ≡ Closed → IsEmptied q last log
     pub exhausted : stop ≡ Exhausted → FoundUsedUp start log old_loads new_loads
     pub looks : new ≡ (work_at key q, left_by stop) ∷ (looks_since ++ ((finished_at key q, first) ∷ (work_at key q, 0) ∷ old))

@@ -1,12 +1,13 @@
 //! How a program works for a queue.
 
-ghost use Rattle.std.specs.Prelude.{◌≡◌, ◌+◌, ◌-◌, ◌<◌, ◌≤◌, [], IfErr, IfOk, length, vec_capacity, vec_len};
+ghost use Rattle.std.specs.Prelude.{◌≡◌, ◌≢◌, ◌+◌, ◌-◌, ◌<◌, ◌≤◌, [], IfErr, IfOk, length, vec_capacity, vec_len};
 ghost use Rattle.live_log.specs.Log.{IsLiveRun, line_of};
 ghost use Rattle.live_rule.specs.Places.{work_at};
 ghost use Rattle.live_rule.specs.Seats.{but_work};
 ghost use Rattle.live_table.specs.Rights.{IsWorker, work_in};
 ghost use Rattle.live_table.specs.Steps.{IsLater, Keeps, Went, looked_view};
 ghost use Rattle.live_read.specs.Hearing.{IsAfter, Stays};
+ghost use Rattle.live_items.specs.Items.{InOrder};
 ghost use Rattle.live_reclaim.specs.Batches.{IsDue, Lists, WorksFor};
 ghost use Rattle.live_reclaim.specs.Working.{IsEmptied, RefusesWork};
 ghost use Rattle.domain.specs.declared.worker_end.Stop.TheVariants as stopped;
@@ -105,9 +106,11 @@ impl<P: GracePlan + Drop, K: ChainRule, B: Site, D: Deleter> Domain<P, K, B, D> 
         requires seat { (seat.old.table_id ≡ B.table) × (seat.old.me.0.sizes ≡ B.sizes) × IsLiveRun P.QSBR K.allows seat.old.me.0.seen }
         requires queue { (queue < B.sizes.queues) × WorksFor queue finished seat.old.me.0 }
         requires list { Lists queue seat.old.me.0.seen first finished list.old.items }
+        requires left { left.old.items ≡ [] }
         ensures seat { GoesOn P.QSBR K.allows seat.old seat.new }
         ensures work { WorksFor queue result.0 seat.new.me.0 }
         ensures list { Lists queue seat.new.me.0.seen first result.0 list.new.items }
+        ensures left { InOrder queue seat.new.me.0.heard result.0 left.new.items × (result.1 ≢ outcome.Exhausted → left.new.items ≡ []) }
         ensures exhausted { result.1 ≡ outcome.Exhausted → FoundUsedUp seat.old.me.0.seen seat.new.me.0.seen seat.old.me.0.loads seat.new.me.0.loads }
     {
         let sealed = self.queues[queue]
@@ -120,7 +123,9 @@ impl<P: GracePlan + Drop, K: ChainRule, B: Site, D: Deleter> Domain<P, K, B, D> 
             return (finished, Outcome::Nothing);
         }
         if self.ripen(rt, seat, queue).is_err() {
-            self.queues[queue].lock(rt, queue).take_back(queue, left);
+            self.queues[queue]
+                .lock(rt, queue)
+                .take_back(&self.table, seat, queue, finished, left);
             return (finished, Outcome::Exhausted);
         }
         let count = self.run_all(rt, seat, queue, first, finished, given, list);
@@ -143,9 +148,11 @@ impl<P: GracePlan + Drop, K: ChainRule, B: Site, D: Deleter> Domain<P, K, B, D> 
         requires seat { (seat.old.table_id ≡ B.table) × (seat.old.me.0.sizes ≡ B.sizes) × IsLiveRun P.QSBR K.allows seat.old.me.0.seen }
         requires queue { (queue < B.sizes.queues) × WorksFor queue first seat.old.me.0 }
         requires list { list.old.items ≡ [] }
+        requires left { left.old.items ≡ [] }
         ensures seat { GoesOn P.QSBR K.allows seat.old seat.new }
         ensures work { WorksFor queue result.0 seat.new.me.0 }
         ensures list { Lists queue seat.new.me.0.seen first result.0 list.new.items }
+        ensures left { InOrder queue seat.new.me.0.heard result.0 left.new.items × (result.1 ≢ stopped.Exhausted → left.new.items ≡ []) }
         ensures closed { result.1 ≡ stopped.Closed → IsEmptied queue result.0 seat.new.me.0.seen }
         ensures exhausted { result.1 ≡ stopped.Exhausted → FoundUsedUp seat.old.me.0.seen seat.new.me.0.seen seat.old.me.0.loads seat.new.me.0.loads }
     {
@@ -196,7 +203,7 @@ impl<P: GracePlan + Drop, K: ChainRule, B: Site, D: Deleter> Domain<P, K, B, D> 
     ) -> Result<WorkerEnd<B, D>, Refusal>
         requires { (seat.old.table_id ≡ B.table) × (seat.old.me.0.sizes ≡ B.sizes) × (seat.old.me.1 ≡ []) }
         ensures seat { (seat.new.table_id ≡ B.table) × (seat.new.me.1 ≡ []) }
-        ensures worked { IfOk result (λ e. HasWorked P.QSBR K.allows B.sizes queue seat.old.me.0.seen seat.old.me.0.heard seat.old.me.0.looks seat.new.me.0.looks seat.old.me.0.loads seat.new.me.0.loads e.finished.items e.stop seat.new.me.0.seen) }
+        ensures worked { IfOk result (λ e. HasWorked P.QSBR K.allows B.sizes queue seat.old.me.0.seen seat.old.me.0.heard seat.old.me.0.looks seat.new.me.0.looks seat.old.me.0.loads seat.new.me.0.loads e.finished.items e.left.items e.stop seat.new.me.0.seen) }
         ensures refused { IfErr result (λ e. RefusesWork B.sizes queue seat.old.me.0.looks seat.new.me.0.looks e) }
         ensures later { IfErr result (λ _. queue < B.sizes.queues → IsLater P.QSBR K.allows seat.old.me.0 seat.new.me.0) }
     {
@@ -228,7 +235,7 @@ impl<P: GracePlan + Drop, K: ChainRule, B: Site, D: Deleter> Domain<P, K, B, D> 
         queue: usize,
     ) -> Result<WorkerEnd<B, D>, Refusal>
         requires { W.home witness.old ≡ (B.table, B.sizes) }
-        ensures worked { IfOk result (λ e. HasWorked P.QSBR K.allows B.sizes queue (W.seen witness.old) (W.heard witness.old) (W.looks witness.old) (W.looks witness.new) (W.loads witness.old) (W.loads witness.new) e.finished.items e.stop (W.heard witness.new)) }
+        ensures worked { IfOk result (λ e. HasWorked P.QSBR K.allows B.sizes queue (W.seen witness.old) (W.heard witness.old) (W.looks witness.old) (W.looks witness.new) (W.loads witness.old) (W.loads witness.new) e.finished.items e.left.items e.stop (W.heard witness.new)) }
         ensures refused { IfErr result (λ e. RefusesWork B.sizes queue (W.looks witness.old) (W.looks witness.new) e) }
         ensures heard { IfErr result (λ _. queue < B.sizes.queues → IsAfter P.QSBR K.allows (W.seen witness.old) (W.heard witness.old) (W.heard witness.new)) }
         ensures nobody { B.sizes.queues ≤ queue → witness.new ≡ witness.old }

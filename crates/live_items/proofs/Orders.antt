@@ -1,10 +1,10 @@
 -- What stays of the order of a queue's items.
-use Rattle.std.proofs.Common.{◌≡◌, ℕ, ◌+◌, ◌≤◌, List, [], ◌∷◌, ◌++◌, length, sym, refl, ap, ◌∙◌, subst, arith, append_assoc, false, Some}
+use Rattle.std.proofs.Common.{◌≡◌, ℕ, ◌+◌, ◌-◌, ◌≤◌, List, [], ◌∷◌, ◌++◌, length, sym, refl, ap, ◌∙◌, subst, arith, append_assoc, false, Some}
 use lib.ListN.{length-append}
 use Rattle.rcu_model.specs.declared.event.ObjectId.{ObjectId}
 use Rattle.callback_queue.specs.declared.item.Item.{Item}
 use Rattle.callback_queue.specs.declared.item.Ticket.{Ticket}
-use Rattle.callback_queue.specs.Queue.{items_of, given_of, pushed, closed_queue, with_place, popped, first_of, first_with, object_of_first, object_with, taken_out}
+use Rattle.callback_queue.specs.Queue.{items_of, given_of, pushed, closed_queue, with_place, popped, first_of, first_with, object_of_first, object_with, segments_of, taken_out}
 use Rattle.live_log.specs.Log.{Log, Begins, line_of}
 use Rattle.live_log.proofs.Lemmas.{begins_trans, line_grows}
 use Rattle.live_rule.specs.declared.view.Sizes.{Sizes}
@@ -67,6 +67,16 @@ pub none_of : {A : Type 0} → (l : List A) → length l ≡ 0 → l ≡ []
 none_of [] e = refl
 none_of (x ∷ xs) e = absurd (omega (arith, e))
 
+-- how many have left, by how many tickets were given and how long the segments are
+pub gone_of : (jobs : Jobs) (given : ℕ) (segments : ℕ × ℕ × ℕ) (n : ℕ) → given ≡ given_of jobs → segments ≡ segments_of jobs → given - segments.0 - segments.1 - segments.2 ≡ n → jobs.gone ≡ n
+gone_of jobs given segments n is parts e =
+    let all = length-append (jobs.ready ++ jobs.waiting) jobs.fresh in
+    let settled = length-append jobs.ready jobs.waiting in
+    let ready = ap (λ z. z.0) parts in
+    let waiting = ap (λ z. z.1) parts in
+    let fresh = ap (λ z. z.2) parts in
+    omega (arith, all, settled, ready, waiting, fresh, is, e)
+
 -- the first item leaves
 module _ (key : Sizes) (v : View) (q : ℕ) where
   pub under_popped : (jobs : Jobs) → IsUnderLock key jobs v q → IsUnderLock key (popped jobs) v q
@@ -100,6 +110,13 @@ module _ (key : Sizes) (v : View) (q : ℕ) where
         placed = subst (λ (r : List (Item JobValue)). InOrder q v.seen (jobs.gone + length jobs.waiting) (r ++ [] ++ jobs.fresh)) (sym none)
             (order_without v.seen jobs.gone jobs.waiting jobs.fresh (subst (λ (r : List (Item JobValue)). InOrder q v.seen jobs.gone (r ++ jobs.waiting ++ jobs.fresh)) none under.placed));
       }
+
+  order_front : (seen : Log) (n : ℕ) (first rest : List (Item JobValue)) → InOrder q seen n (first ++ rest) → InOrder q seen n first
+  order_front seen n [] rest x = tt
+  order_front seen n (i ∷ is) rest x = (x.0, order_front seen (n + 1) is rest x.1)
+
+  pub waiting_placed : (jobs : Jobs) → jobs.ready ≡ [] → IsUnderLock key jobs v q → InOrder q v.seen jobs.gone jobs.waiting
+  waiting_placed jobs none under = order_front v.seen jobs.gone jobs.waiting jobs.fresh (subst (λ (r : List (Item JobValue)). InOrder q v.seen jobs.gone (r ++ jobs.waiting ++ jobs.fresh)) none under.placed)
 
   pub first_placed : (jobs : Jobs) (t : Ticket) (item : Item JobValue) → IsUnderLock key jobs v q → first_of jobs ≡ Some (t, item) → (t.0 ≡ jobs.gone + 1) × IsPlaced q v.seen jobs.gone item
   first_placed jobs t item under = by jobs.ready under

@@ -9,7 +9,7 @@ ghost use Rattle.live_rule.specs.declared.rights.RecordRight.TheVariants.{Nothin
 ghost use Rattle.live_table.specs.Rights.{object_in};
 ghost use Rattle.live_table.specs.Steps.{Keeps};
 ghost use Rattle.live_read.specs.Hearing.{OnlyHears};
-ghost use Rattle.live_items.specs.Items.{Closes, IsPlaced, ripened};
+ghost use Rattle.live_items.specs.Items.{Closes, InOrder, IsPlaced, ripened};
 ghost use Rattle.live_items.specs.Retiring.{IsAfterAll, Queues};
 
 use crate::job::Job;
@@ -210,16 +210,29 @@ impl<B: Site, C: Drop> Items<B, C> {
         }
     }
 
-    /// Moves what waits to the end of a list, where it is of this queue, nothing is ready and the list has room: for a
-    /// worker whose grace period was refused. It waits for nobody and takes no memory.
-    pub fn take_back(&mut self, queue: usize, left: &mut Vec<Item<Job<B, C>>>)
-        ensures same { (self.new.1 ≡ self.old.1) × (self.new.2 ≡ self.old.2) }
+    /// Moves what waits to the end of a list, where it is of this queue and its tickets come next after so many that are
+    /// finished, nothing is ready, and the list has room: for a worker whose grace period was refused. The worker's seat
+    /// hears what was seen under the lock. It waits for nobody and takes no memory.
+    pub fn take_back<P: GracePlan, K: ChainRule>(
+        &mut self,
+        table: &LiveTable<P, K>,
+        worker: &mut LiveSeat,
+        queue: usize,
+        finished: u64,
+        left: &mut Vec<Item<Job<B, C>>>,
+    )
+        requires { (table.now.words.shared.table_id ≡ B.table) × (worker.old.table_id ≡ B.table) }
+        ensures worker { Keeps worker.old worker.new × (worker.new.me ≡ (record worker.old.me.0 { heard = worker.new.me.0.heard }, worker.old.me.1)) }
+        ensures queue { self.new.2 ≡ self.old.2 }
         ensures taken { ((self.new.0 ≡ taken_out self.old.0) × (left.new.items ≡ left.old.items ++ self.old.0.waiting)) ⊎ ((self.new.0 ≡ self.old.0) × (left.new ≡ left.old)) }
-        ensures fits { self.old.2 ≡ queue → self.old.0.ready ≡ [] → vec_len left.old + length self.old.0.waiting ≤ vec_capacity left.old → self.new.0 ≡ taken_out self.old.0 }
+        ensures placed { left.old.items ≡ [] → InOrder queue worker.new.me.0.heard finished left.new.items }
+        ensures fits { self.old.2 ≡ queue → self.old.0.gone ≡ finished → self.old.0.ready ≡ [] → vec_len left.old + length self.old.0.waiting ≤ vec_capacity left.old → self.new.0 ≡ taken_out self.old.0 }
     {
-        let (ready, waiting, _) = self.queue.segments();
+        table.learn(worker, table.tell(&mut self.seat));
+        let (ready, waiting, fresh) = self.queue.segments();
+        let gone = self.queue.given() - ready - waiting - fresh;
         let room = left.capacity() - left.len();
-        if self.number == queue && ready == 0 && waiting <= room as u64 {
+        if self.number == queue && gone == finished && ready == 0 && waiting <= room as u64 {
             self.queue.take_waiting(left);
         }
     }

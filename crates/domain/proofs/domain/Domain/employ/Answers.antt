@@ -6,7 +6,7 @@ use Rattle.live_rule.specs.declared.view.Sizes.{Sizes}
 use Rattle.live_rule.specs.declared.view.View.{View}
 use Rattle.live_rule.specs.Places.{finished_at, work_at}
 use Rattle.domain.specs.Working.{Looks, left_by}
-use Rattle.domain.proofs.Running.{list_later, ran_through}
+use Rattle.domain.proofs.Running.{list_later, order_later, ran_through}
 use Rattle.domain.proofs.domain.Domain.employ.Goals as goal
 
 pub returns-clause-worked : goal.returns-clause-worked
@@ -42,6 +42,8 @@ returns-clause-worked g c =
       run = left.2.2;
       lists = lists;
       through = ran_through q start last first n items later begun.3 begun.2 lists;
+      left = order_later q c.work-stop.new.seat.me.0.heard last n c.work-stop.new.left.items left.2.1 w.left.0;
+      nothing = w.left.1;
       closed = λ x. let e = w.closed x in let k = closed_stays g.P.GracePlan.QSBR g.K.ChainRule.allows between last q more left.2.2 e.0 in (k.0, ap (λ (l : List ObjectId). length l) k.1 ∙ e.1);
       exhausted = λ x. let u = w.exhausted x in record {
         at = u.at;

@@ -1,13 +1,24 @@
 use Rattle.domain.proofs.Running.{goes_heard, goes_trans, list_later}
 use Rattle.domain.proofs.domain.Domain.run_batch.Goals as goal
 
+pub returns-then-is_err-clause-seat : goal.returns-then-is_err-clause-seat
+returns-then-is_err-clause-seat g c =
+    let qsbr = g.P.GracePlan.QSBR in
+    let allows = g.K.ChainRule.allows in
+    let sealed = c.seal-sealed.ensures in
+    let waited = goes_trans qsbr allows c.args.seat.now c.seal-sealed.new.worker c.ripen.new.seat (goes_heard qsbr allows c.args.seat.now c.seal-sealed.new.worker sealed.worker.0 sealed.worker.1 c.requires.seat.2) c.ripen.ensures.seat.0 in
+    let back = c.take_back.ensures.worker in
+    goes_trans qsbr allows c.args.seat.now c.ripen.new.seat c.take_back.new.worker waited (goes_heard qsbr allows c.ripen.new.seat c.take_back.new.worker back.0 back.1 waited.run)
+
 pub returns-then-is_err-clause-list : goal.returns-then-is_err-clause-list
 returns-then-is_err-clause-list g c =
     let qsbr = g.P.GracePlan.QSBR in
     let allows = g.K.ChainRule.allows in
     let sealed = c.seal-sealed.ensures in
     let waited = goes_trans qsbr allows c.args.seat.now c.seal-sealed.new.worker c.ripen.new.seat (goes_heard qsbr allows c.args.seat.now c.seal-sealed.new.worker sealed.worker.0 sealed.worker.1 c.requires.seat.2) c.ripen.ensures.seat.0 in
-    list_later c.args.queue c.args.seat.now.me.0.seen c.ripen.new.seat.me.0.seen c.args.first c.args.finished c.args.list.now.items c.seal-sealed.new.list.items waited.later sealed.list c.requires.list
+    let back = c.take_back.ensures.worker in
+    let all = goes_trans qsbr allows c.args.seat.now c.ripen.new.seat c.take_back.new.worker waited (goes_heard qsbr allows c.ripen.new.seat c.take_back.new.worker back.0 back.1 waited.run) in
+    list_later c.args.queue c.args.seat.now.me.0.seen c.take_back.new.worker.me.0.seen c.args.first c.args.finished c.args.list.now.items c.seal-sealed.new.list.items all.later sealed.list c.requires.list
 
 pub run_all-count-requires-clause-list : goal.run_all-count-requires-clause-list
 run_all-count-requires-clause-list g c =

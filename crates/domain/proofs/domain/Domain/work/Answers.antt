@@ -10,13 +10,14 @@ loop-init g c =
     let q = c.args.queue in
     let first : ℕ = c.args.first in
     let none : Lists q c.args.seat.now.me.0.seen first first [] = (tt, omega arith) in
-    (goes_same g.P.GracePlan.QSBR g.K.ChainRule.allows c.args.seat.now c.requires.seat.2, c.requires.queue.1, subst (Lists q c.args.seat.now.me.0.seen first first) (sym c.requires.list) none)
+    (goes_same g.P.GracePlan.QSBR g.K.ChainRule.allows c.args.seat.now c.requires.seat.2, c.requires.queue.1, subst (Lists q c.args.seat.now.me.0.seen first first) (sym c.requires.list) none, c.requires.left)
 
 pub loop-preserved-in-Ran : goal.loop-preserved-in-Ran
 loop-preserved-in-Ran g c =
     let i = c.loop.invariant in
     let b = c.run_batch-now.ensures in
-    (goes_trans g.P.GracePlan.QSBR g.K.ChainRule.allows c.args.seat.now c.loop.seat c.run_batch-now.new.seat i.0 b.seat, b.work, b.list)
+    let is : c.run_batch-now.result.1 ≡ outcome.Ran = search rules in
+    (goes_trans g.P.GracePlan.QSBR g.K.ChainRule.allows c.args.seat.now c.loop.seat c.run_batch-now.new.seat i.0 b.seat, b.work, b.list, b.left.1 (λ e. let z : outcome.Ran ≡ outcome.Exhausted = sym is ∙ e in cc))
 
 pub returns-then-is_emptied-clause-seat : goal.returns-then-is_emptied-clause-seat
 returns-then-is_emptied-clause-seat g c =
@@ -39,10 +40,12 @@ loop-preserved g c =
     let e = c.is_emptied.ensures in
     let b = c.run_batch-now.ensures in
     let items = c.run_batch-now.new.list.items in
+    let is : c.run_batch-now.result.1 ≡ outcome.Nothing = search rules in
     let looked = goes_looked qsbr allows c.run_batch-now.new.seat c.is_emptied.new.seat e.seat.0 e.seat.1 e.seat.2.0 e.later.0 e.later.2 _ _ e.exact.2 in (
       goes_trans qsbr allows c.args.seat.now c.loop.seat c.is_emptied.new.seat c.loop.invariant.0 (goes_trans qsbr allows c.loop.seat c.run_batch-now.new.seat c.is_emptied.new.seat b.seat looked),
       ap (λ (v : View). v.work) e.seat.2.0 ∙ b.work,
       list_later c.args.queue c.run_batch-now.new.seat.me.0.seen c.is_emptied.new.seat.me.0.seen c.args.first c.run_batch-now.result.0 items items e.later.0 refl b.list,
+      b.left.1 (λ x. let z : outcome.Nothing ≡ outcome.Exhausted = sym is ∙ x in cc),
     )
 
 pub returns-in-Exhausted-clause-seat : goal.returns-in-Exhausted-clause-seat

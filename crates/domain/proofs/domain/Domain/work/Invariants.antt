@@ -1,3 +1,4 @@
+use Rattle.std.proofs.Common.{◌≡◌, []}
 use Rattle.live_reclaim.specs.Batches.{Lists, WorksFor}
 use Rattle.domain.specs.Working.{GoesOn}
 use Rattle.domain.proofs.domain.Domain.work.Given as goal
@@ -7,3 +8,4 @@ invariant-loop g l =
     GoesOn g.P.GracePlan.QSBR g.K.ChainRule.allows l.fn.seat l.seat
     × WorksFor l.queue l.count l.seat.me.0
     × Lists l.queue l.seat.me.0.seen l.first l.count l.list.items
+    × (l.left.items ≡ [])
