@@ -26,6 +26,8 @@ mod records;
 #[cfg(test)]
 mod registering;
 #[cfg(test)]
+mod seeing;
+#[cfg(test)]
 mod threads;
 #[cfg(test)]
 mod words;

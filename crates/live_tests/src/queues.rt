@@ -107,14 +107,14 @@ fn batches<P: GracePlan, B: Site, R: Wait>(
     Ok(([given, ticket.0, item.object.0], [early, late]))
 }
 
-/// How many of two items were taken back: for another queue, before they were sealed, and then; and what was to be called
-/// for the last of them.
+/// How many of two items were taken back: for another queue, before they were sealed, by one who has finished the first,
+/// and then; and what was to be called for the last of them.
 fn takes_back<P: GracePlan, B: Site, R: Wait>(
     rt: &R,
     memory: Global,
     table: &LiveTable<P, AnyChain>,
     mut root: LiveSeat,
-) -> Result<([usize; 3], u64), Refusal>
+) -> Result<([usize; 4], u64), Refusal>
     requires site { (table.now.words.shared.table_id ≡ B.table) × (table.now.words.shared.key ≡ B.sizes) × (root.table_id ≡ B.table) × (root.me ≡ (first_view B.sizes, [])) }
     requires sizes { (table.now.chains ≡ 1) × (table.now.queues ≡ 1) × (table.now.pool ≡ 4) }
 {
@@ -132,17 +132,19 @@ fn takes_back<P: GracePlan, B: Site, R: Wait>(
     let mut worker = record.tell(table);
     let mut list: Vec<u64> = Vec::new(memory);
     let mut left: Vec<Item<Job<B, ObjectId>>> = Vec::new(memory);
-    items.take_back(0, &mut left);
+    items.take_back(table, &mut worker, 0, 0, &mut left);
     let fresh = left.len();
     items.seal(table, &mut worker, 0, 0, &mut list, &mut left)?;
-    items.take_back(1, &mut left);
+    items.take_back(table, &mut worker, 1, 0, &mut left);
     let other = left.len();
-    items.take_back(0, &mut left);
+    items.take_back(table, &mut worker, 0, 1, &mut left);
+    let later = left.len();
+    items.take_back(table, &mut worker, 0, 0, &mut left);
     let taken = left.len();
     let Some(item) = left.pop() else {
         return Err(Refusal::NoPlace);
     };
-    Ok(([other, fresh, taken], item.job.into_callback().0))
+    Ok(([other, fresh, later, taken], item.job.into_callback().0))
 }
 
 #[test]
@@ -165,7 +167,7 @@ fn what_waits_is_taken_back(rt: HostRuntime) {
     let (numbers, last) = takes_back::<_, Brand, _>(&rt, rt.alloc(), &table, root).expect(
         &rt, "memory",
     );
-    assert_eq!(rt; numbers, [0, 0, 2]);
+    assert_eq!(rt; numbers, [0, 0, 0, 2]);
     assert_eq!(rt; last, 9);
 }
 

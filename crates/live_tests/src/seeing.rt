@@ -1,0 +1,181 @@
+//! What a program sees of a domain: its counts, and which readers a grace period waits for.
+
+ghost use Rattle.std.specs.Prelude.{◌≡◌, false, true};
+
+use crate::deleter::Adds;
+use domain::{Counts, Domain, LiveConfig, Opened, Reader, Record, Site};
+use gp_memb::{GracePlan, MembPlan};
+use gp_qsbr::QsbrPlan;
+use live_words::AnyChain;
+use rcu_model::Refusal;
+use std::alloc::Global;
+use std::marker::Brand;
+use std::sync::Wait;
+use std::thread;
+use std::thread::{Threads, join};
+
+/// A small domain of two queues, and a chain for each.
+const SMALL: LiveConfig = LiveConfig {
+    slots: 3,
+    queues: 2,
+    chains: 2,
+    pool: 4,
+};
+
+/// The counts of such a domain.
+fn counted(seq: u64, records: u64, waits: [u64; 2]) -> Counts {
+    let [first, second] = waits;
+    Counts {
+        seq,
+        records,
+        waiting: [first, second, 0, 0, 0, 0, 0, 0],
+    }
+}
+
+/// Three records are pushed, and two of them cut and retired.
+fn retires_two<B: Site, R: Wait>(
+    rt: &R,
+    domain: &Domain<MembPlan, AnyChain, B, Adds>,
+    record: &mut Record<B>,
+) -> Result<(), Refusal> {
+    let mut writer = domain.chain(record, 1)?;
+    for word in 1..4 {
+        let owned = domain.alloc(rt, record, [word; 4])?;
+        writer.push(record, owned);
+    }
+    let first = domain.cut_retire(rt, record, &mut writer, 0, Adds(1));
+    let second = domain.cut_retire(rt, record, &mut writer, 0, Adds(2));
+    if first.is_err() || second.is_err() {
+        return Err(Refusal::Memory);
+    }
+    Ok(())
+}
+
+/// The counts of a new domain, once two of three records are retired, after a grace period, and once they have run.
+fn counts<B: Site, R: Wait>(
+    rt: &R,
+    alloc: Global,
+    opened: Opened<MembPlan, AnyChain>,
+) -> Result<[Counts; 4], Refusal>
+    requires { (B.qsbr ≡ false) × (opened.table.words.shared.table_id ≡ B.table) × (opened.table.words.shared.key ≡ B.sizes) }
+{
+    let (domain, mut record) = opened.named::<B, Adds>(alloc)?;
+    let new = domain.counts(&mut record);
+    retires_two(rt, &domain, &mut record)?;
+    let retired = domain.counts(&mut record);
+    domain.synchronize(rt, &mut record)?;
+    let waited = domain.counts(&mut record);
+    domain.close(rt, &mut record);
+    domain.run_worker(rt, alloc, &mut record, 1)?;
+    let run = domain.counts(&mut record);
+    Ok([new, retired, waited, run])
+}
+
+#[test]
+fn counts_tell_what_is_in_use_and_what_waits(rt: HostRuntime) {
+    let opened = Opened::<MembPlan, AnyChain>::new(rt.alloc(), SMALL).expect(&rt, "memory");
+    let found = counts::<Brand, _>(&rt, rt.alloc(), opened).expect(&rt, "not refused");
+    let [new, retired, waited, run] = found;
+    assert_eq!(rt; new, counted(0, 0, [0, 0]));
+    assert_eq!(rt; retired, counted(0, 3, [0, 2]));
+    assert_eq!(rt; waited, counted(2, 3, [0, 2]));
+    assert_eq!(rt; run, counted(4, 1, [0, 0]));
+}
+
+/// A reader that a grace period has to wait for.
+fn stands<P: GracePlan, B: Site>(reader: &mut Reader<P, AnyChain, B>) -> Result<(), Refusal>
+    requires { P.QSBR ≡ B.qsbr }
+{
+    if P::QSBR { reader.online() } else { reader.lock() }
+}
+
+/// It waits for the reader no more.
+fn leaves<P: GracePlan, B: Site>(reader: &mut Reader<P, AnyChain, B>) -> Result<(), Refusal>
+    requires { P.QSBR ≡ B.qsbr }
+{
+    if P::QSBR { reader.offline() } else { reader.unlock() }
+}
+
+/// The first look that finds anybody in the way, after which the reader leaves.
+fn looks<P: GracePlan + Drop, B: Site, R: Wait>(
+    rt: &R,
+    alloc: Global,
+    domain: &Domain<P, AnyChain, B, Adds>,
+    record: &mut Record<B>,
+    mut reader: Reader<P, AnyChain, B>,
+) -> Result<Vec<usize>, Refusal>
+    requires { P.QSBR ≡ B.qsbr }
+{
+    for _ in rt.forever() {
+        let slots = domain.stalled(alloc, record)?;
+        if slots.len() > 0 {
+            leaves(&mut reader)?;
+            return Ok(slots);
+        }
+        thread::yield_now();
+    }
+    unreachable!()
+}
+
+/// Who stands in the way of a grace period that another thread waits for.
+fn while_one_waits<P: GracePlan + Drop + Send + Sync, B: Site + Send + Sync, R: Threads + Wait + Sync>(
+    rt: &R,
+    alloc: Global,
+    domain: &Domain<P, AnyChain, B, Adds>,
+    record: &mut Record<B>,
+    reader: Reader<P, AnyChain, B>,
+) -> Result<Vec<usize>, Refusal>
+    requires { P.QSBR ≡ B.qsbr }
+{
+    let mut other = domain.split(record);
+    let (waited, found) = join(
+        rt,
+        move || domain.synchronize(rt, record),
+        move ||
+            requires { P.QSBR ≡ B.qsbr }
+        { looks(rt, alloc, domain, &mut other, reader) },
+    );
+    waited?;
+    found
+}
+
+/// Who stands in the way before a grace period, while one waits, and after it: the second of three readers.
+fn sees<P: GracePlan + Drop + Send + Sync, B: Site + Send + Sync, R: Threads + Wait + Sync>(
+    rt: &R,
+    alloc: Global,
+    opened: Opened<P, AnyChain>,
+) -> Result<(usize, Vec<usize>, usize), Refusal>
+    requires { (P.QSBR ≡ B.qsbr) × (opened.table.words.shared.table_id ≡ B.table) × (opened.table.words.shared.key ≡ B.sizes) }
+{
+    let (domain, mut record) = opened.named::<B, Adds>(alloc)?;
+    let _first = domain.register(rt, &mut record)?;
+    let mut second = domain.register(rt, &mut record)?;
+    let _third = domain.register(rt, &mut record)?;
+    stands(&mut second)?;
+    let before = domain.stalled(alloc, &mut record)?.len();
+    let found = while_one_waits(rt, alloc, &domain, &mut record, second)?;
+    let after = domain.stalled(alloc, &mut record)?.len();
+    Ok((before, found, after))
+}
+
+#[test]
+fn an_open_section_is_seen_in_the_way(rt: HostRuntime) {
+    let opened = Opened::<MembPlan, AnyChain>::new(rt.alloc(), SMALL).expect(&rt, "memory");
+    let (before, found, after) = sees::<_, Brand, _>(&rt, rt.alloc(), opened).expect(
+        &rt, "not refused",
+    );
+    assert_eq!(rt; before, 0);
+    assert_eq!(rt; found.as_slice(), [1].as_slice());
+    assert_eq!(rt; after, 0);
+}
+
+#[test]
+fn an_online_reader_is_seen_in_the_way(rt: HostRuntime) {
+    let opened = Opened::<QsbrPlan, AnyChain>::new(rt.alloc(), SMALL).expect(&rt, "memory");
+    let (before, found, after) = sees::<_, Brand, _>(&rt, rt.alloc(), opened).expect(
+        &rt, "not refused",
+    );
+    assert_eq!(rt; before, 0);
+    assert_eq!(rt; found.as_slice(), [1].as_slice());
+    assert_eq!(rt; after, 0);
+}
