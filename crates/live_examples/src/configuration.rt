@@ -35,7 +35,12 @@ impl Configuration {
     }
 
     fn words(self) -> [u64; 4] {
-        [self.version, self.workers, self.timeout_milliseconds, self.port]
+        [
+            self.version,
+            self.workers,
+            self.timeout_milliseconds,
+            self.port,
+        ]
     }
 }
 

@@ -74,7 +74,10 @@ fn main(rt: HostRuntime) -> io::Result<ExitCode> {
     match show(&rt, rt.alloc()) {
         Ok(found) => {
             println!(rt; "configuration: version {} was read last", found.version)?;
-            println!(rt; "routes: the next hop was {}, and then {}", found.hops.0, found.hops.1)?;
+            println!(rt;
+                "routes: the next hop was {}, and then {}",
+                found.hops.0, found.hops.1
+            )?;
             println!(rt; "event loop: {} turns found the record", found.turns)?;
             println!(rt; "callbacks: {} in all", found.codes)?;
             println!(rt; "polling: {} polls said no", found.polls)?;

@@ -86,13 +86,7 @@ fn read<P: GracePlan + Drop, B: Site, R: Wait + Clock>(
     shared: &Shared<'_, P, B>,
     record: &mut Record<B>,
 ) -> Result<Counts, Refusal> {
-    let mixed = reads(
-        rt,
-        shared.domain,
-        record,
-        &shared.load,
-        &shared.deadline,
-    )?;
+    let mixed = reads(rt, shared.domain, record, &shared.load, &shared.deadline)?;
     Ok(Counts { mixed, ..NOTHING })
 }
 
@@ -129,12 +123,11 @@ fn total(parts: &[Result<Counts, Refusal>]) -> Result<Counts, Refusal> {
 }
 
 /// The threads of a run, in a domain of its own.
-fn threads<P: GracePlan + Drop + Send + Sync, B: Site + Send + Sync, R: Threads + Wait + Clock + Sync>(
-    rt: &R,
-    alloc: Global,
-    opened: Opened<P, AnyChain>,
-    load: Load,
-) -> Result<Counts, Refusal>
+fn threads<
+    P: GracePlan + Drop + Send + Sync,
+    B: Site + Send + Sync,
+    R: Threads + Wait + Clock + Sync,
+>(rt: &R, alloc: Global, opened: Opened<P, AnyChain>, load: Load) -> Result<Counts, Refusal>
     requires { (P.QSBR ≡ B.qsbr) × (opened.table.words.shared.table_id ≡ B.table) × (opened.table.words.shared.key ≡ B.sizes) × (0 < load.updaters) }
 {
     let (domain, record) = opened.named::<B, RoundDone>(alloc)?;
@@ -148,7 +141,12 @@ fn threads<P: GracePlan + Drop + Send + Sync, B: Site + Send + Sync, R: Threads 
         deadline: Deadline::after(rt, load.seconds),
     };
     let number = load.workers as usize + load.updaters as usize + load.readers as usize;
-    match map_indices(rt, alloc, number, &|number| part(rt, alloc, &shared, number)) {
+    match map_indices(
+        rt,
+        alloc,
+        number,
+        &|number| part(rt, alloc, &shared, number),
+    ) {
         Ok(parts) => total(&parts),
         Err(_) => Err(Refusal::Memory),
     }

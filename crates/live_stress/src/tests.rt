@@ -60,6 +60,13 @@ fn a_time_ends_a_run(rt: HostRuntime) {
 
 #[test]
 fn a_run_has_a_reader(rt: HostRuntime) {
-    let refused = stress::<MembPlan, _>(&rt, rt.alloc(), Load { readers: 0, ..SHORT });
+    let refused = stress::<MembPlan, _>(
+        &rt,
+        rt.alloc(),
+        Load {
+            readers: 0,
+            ..SHORT
+        },
+    );
     assert_eq!(rt; refused, Err(Refusal::BadConfig));
 }

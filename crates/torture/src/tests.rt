@@ -70,19 +70,23 @@ const LOUD: Load = Load {
     seconds: Some(86_400),
 };
 
-/// A run of the flavour `memb`.
-const fn memb_run(load: Load) -> Asked {
-    Asked::Run(Run {
-        flavour: Flavour::Memb,
-        load,
-    })
-}
+const TIMED: Load = Load {
+    rounds: 1_000_000,
+    seconds: Some(5),
+    ..QUIET
+};
 
 const COMMANDS: [(&[&str], Asked); 8] = [
     (&["torture", "replay"], Asked::Command(Command::Replay)),
     (&["torture", "check"], Asked::Command(Command::Check)),
     (&["torture", "walk"], Asked::Command(Command::Walk(DEFAULT))),
-    (&["torture", "run"], memb_run(QUIET)),
+    (
+        &["torture", "run"],
+        Asked::Run(Run {
+            flavour: Flavour::Memb,
+            load: QUIET,
+        }),
+    ),
     (
         &[
             "torture",
@@ -102,10 +106,9 @@ const COMMANDS: [(&[&str], Asked); 8] = [
     // A time leaves room for all rounds.
     (
         &["torture", "run", "--seconds", "5"],
-        memb_run(Load {
-            rounds: 1_000_000,
-            seconds: Some(5),
-            ..QUIET
+        Asked::Run(Run {
+            flavour: Flavour::Memb,
+            load: TIMED,
         }),
     ),
     (

@@ -40,7 +40,11 @@ pub(crate) fn are_right(run: &Run, counts: Counts) -> bool
 }
 
 /// Writes the counts as one line. `Memory` writes nothing, and `Write` a beginning of that line.
-pub fn write_counts<W: Write>(alloc: Global, counts: Counts, writer: &mut W) -> Result<Counts, RunFault>
+pub fn write_counts<W: Write>(
+    alloc: Global,
+    counts: Counts,
+    writer: &mut W,
+) -> Result<Counts, RunFault>
     ensures { Runs counts (W.contents writer.old) (W.contents writer.new) result }
 {
     let text = CountsLine(counts).to_string(alloc)?;

@@ -82,7 +82,9 @@ pub fn execute<R: Threads + Wait + Clock + Sync, I: Read, W: Write, F: Write>(
     ensures silent { (result ≡ 0) ⊎ (result ≡ 1) → faults.new ≡ faults.old }
 {
     match asked {
-        Asked::Command(command) => torture_commands::execute(alloc, command, reader, writer, faults),
+        Asked::Command(command) => torture_commands::execute(
+            alloc, command, reader, writer, faults,
+        ),
         Asked::Run(run) => {
             let ended = run_threads(rt, alloc, &run, writer);
             end(&run, ended, faults)
