@@ -1,10 +1,10 @@
 -- What is known once a queue was closed.
-use Rattle.std.proofs.Common.{Bool, ◌≡◌, ◌⊎◌, ℕ, ◌+◌, ◌<◌, ◌∷◌, [], ◌++◌, cond, sym, refl, ap, ◌∙◌, subst, arith, eq-eqb, inl, inr}
+use Rattle.std.proofs.Common.{Bool, ◌≡◌, ◌⊎◌, ℕ, ◌+◌, ◌<◌, ◌∷◌, [], cond, sym, refl, ap, ◌∙◌, subst, arith, eq-eqb, inl, inr}
 use mathlib.Core.Logic.{dite}
 use native.Mathlib.Decide.{ℕ_discrete}
 use Rattle.live_log.specs.declared.event.LiveEvent.{LiveEvent}
 use Rattle.live_log.specs.declared.event.LiveEvent.TheVariants.{CloseQueue}
-use Rattle.live_log.specs.Log.{Log, Begins, IsLiveRun, closed_of}
+use Rattle.live_log.specs.Log.{Log, Begins, closed_of}
 use Rattle.live_log.proofs.Lemmas.{begins_trans, closed_stays}
 use Rattle.live_items.specs.Items.{Closes}
 use Rattle.live_read.specs.Hearing.{IsAfter}

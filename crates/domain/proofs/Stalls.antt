@@ -1,5 +1,5 @@
 -- What a program sees by a seat that was told what it has seen.
-use Rattle.std.proofs.Common.{Bool, ◌≡◌, ℕ, List, [], ◌∷◌, ◌++◌, append_assoc, append-nil, sym, ap, ◌∙◌, subst}
+use Rattle.std.proofs.Common.{Bool, ◌≡◌, ℕ, List, ◌∷◌, ◌++◌, append-nil, ap, ◌∙◌, subst}
 use Rattle.live_log.specs.declared.event.LiveEvent.{LiveEvent}
 use Rattle.live_log.specs.Log.{Log, Begins}
 use Rattle.live_rule.specs.declared.view.Sizes.{Sizes}

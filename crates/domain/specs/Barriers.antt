@@ -1,7 +1,7 @@
 -- What a barrier tells.
-use Rattle.std.specs.Prelude.{◌≡◌, Bool}
+use Rattle.std.specs.Prelude.{Bool}
 use Rattle.live_log.specs.declared.event.LiveEvent.{LiveEvent}
-use Rattle.live_log.specs.Log.{Log, Begins, IsLiveRun}
+use Rattle.live_log.specs.Log.{Log, Begins}
 use Rattle.live_read.specs.Hearing.{IsAfter}
 use Rattle.live_barrier.specs.Barrier.{HaveAllRun}
 

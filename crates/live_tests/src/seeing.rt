@@ -86,14 +86,22 @@ fn counts_tell_what_is_in_use_and_what_waits(rt: HostRuntime) {
 fn stands<P: GracePlan, B: Site>(reader: &mut Reader<P, AnyChain, B>) -> Result<(), Refusal>
     requires { P.QSBR ≡ B.qsbr }
 {
-    if P::QSBR { reader.online() } else { reader.lock() }
+    if P::QSBR {
+        reader.online()
+    } else {
+        reader.lock()
+    }
 }
 
 /// It waits for the reader no more.
 fn leaves<P: GracePlan, B: Site>(reader: &mut Reader<P, AnyChain, B>) -> Result<(), Refusal>
     requires { P.QSBR ≡ B.qsbr }
 {
-    if P::QSBR { reader.offline() } else { reader.unlock() }
+    if P::QSBR {
+        reader.offline()
+    } else {
+        reader.unlock()
+    }
 }
 
 /// The first look that finds anybody in the way, after which the reader leaves.
@@ -118,7 +126,11 @@ fn looks<P: GracePlan + Drop, B: Site, R: Wait>(
 }
 
 /// Who stands in the way of a grace period that another thread waits for.
-fn while_one_waits<P: GracePlan + Drop + Send + Sync, B: Site + Send + Sync, R: Threads + Wait + Sync>(
+fn while_one_waits<
+    P: GracePlan + Drop + Send + Sync,
+    B: Site + Send + Sync,
+    R: Threads + Wait + Sync,
+>(
     rt: &R,
     alloc: Global,
     domain: &Domain<P, AnyChain, B, Adds>,
@@ -162,7 +174,8 @@ fn sees<P: GracePlan + Drop + Send + Sync, B: Site + Send + Sync, R: Threads + W
 fn an_open_section_is_seen_in_the_way(rt: HostRuntime) {
     let opened = Opened::<MembPlan, AnyChain>::new(rt.alloc(), SMALL).expect(&rt, "memory");
     let (before, found, after) = sees::<_, Brand, _>(&rt, rt.alloc(), opened).expect(
-        &rt, "not refused",
+        &rt,
+        "not refused",
     );
     assert_eq!(rt; before, 0);
     assert_eq!(rt; found.as_slice(), [1].as_slice());
@@ -173,7 +186,8 @@ fn an_open_section_is_seen_in_the_way(rt: HostRuntime) {
 fn an_online_reader_is_seen_in_the_way(rt: HostRuntime) {
     let opened = Opened::<QsbrPlan, AnyChain>::new(rt.alloc(), SMALL).expect(&rt, "memory");
     let (before, found, after) = sees::<_, Brand, _>(&rt, rt.alloc(), opened).expect(
-        &rt, "not refused",
+        &rt,
+        "not refused",
     );
     assert_eq!(rt; before, 0);
     assert_eq!(rt; found.as_slice(), [1].as_slice());

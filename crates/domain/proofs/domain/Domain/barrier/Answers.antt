@@ -1,7 +1,6 @@
-use Rattle.std.proofs.Common.{◌≡◌, ◌∙◌, sym, subst}
-use Rattle.live_log.specs.Log.{Begins, Log}
+use Rattle.std.proofs.Common.{◌∙◌}
+use Rattle.live_log.specs.Log.{Log}
 use Rattle.live_log.proofs.Lemmas.{begins_trans}
-use Rattle.live_read.specs.Hearing.{IsAfter}
 use Rattle.domain.proofs.domain.Domain.barrier.Goals as goal
 
 pub returns-then-barrier_done-clause-barred : goal.returns-then-barrier_done-clause-barred

@@ -1,5 +1,5 @@
-use Rattle.std.proofs.Common.{rules, ◌≡◌, List, ◌++◌, ◌∷◌, sym, ap, ◌∙◌, subst}
-use Rattle.live_log.specs.Log.{Log, Begins, IsLiveRun}
+use Rattle.std.proofs.Common.{rules, ◌≡◌, List, ◌++◌, sym, ap, ◌∙◌, subst}
+use Rattle.live_log.specs.Log.{Log}
 use Rattle.live_rule.specs.declared.view.Sizes.{Sizes}
 use Rattle.live_rule.specs.declared.view.View.{View}
 use Rattle.live_status.specs.Status.{Looks, Stalls}
