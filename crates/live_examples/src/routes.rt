@@ -2,7 +2,9 @@
 
 ghost use Rattle.std.specs.Prelude.{◌≡◌, ◌<◌, false};
 
-use domain::{Callback, Domain, Opened, Reader, Record, Section, Site};
+use domain::{
+    Deleter, Domain, Finished, Opened, Reader, Record, Ripe, Section, Site, Ticket,
+};
 use gp_memb::MembPlan;
 use live_words::AnyChain;
 use rcu_model::Refusal;
@@ -35,6 +37,20 @@ impl Route {
 
     fn leads(self, address: u64) -> bool {
         address & self.mask == self.prefix
+    }
+}
+
+/// What is done with a route that was withdrawn, once no section can hold it: its next hop is told.
+#[derive(Drop)]
+struct Withdrawn;
+
+impl Deleter for Withdrawn {
+    fn run(self, ticket: Ticket, ripe: Ripe) -> Finished {
+        Finished {
+            ticket,
+            object: ripe.object,
+            code: Route::of(ripe.payload).next_hop,
+        }
     }
 }
 
@@ -73,7 +89,7 @@ fn next_hop<B: Site>(
 /// Adds a route in front of all others.
 fn add<B: Site, R: Wait>(
     rt: &R,
-    domain: &Domain<MembPlan, AnyChain, B, Callback>,
+    domain: &Domain<MembPlan, AnyChain, B, Withdrawn>,
     record: &mut Record<B>,
     route: Route,
 ) -> Result<(), Refusal> {
@@ -83,17 +99,21 @@ fn add<B: Site, R: Wait>(
     Ok(())
 }
 
-/// The first route is withdrawn: sections that found it may go on with it, and its record is not used again.
-fn withdraw<B: Site>(
-    domain: &Domain<MembPlan, AnyChain, B, Callback>,
+/// The first route is withdrawn: sections that found it may go on with it, and its record is used again once they have
+/// ended.
+fn withdraw<B: Site, R: Wait>(
+    rt: &R,
+    domain: &Domain<MembPlan, AnyChain, B, Withdrawn>,
     record: &mut Record<B>,
 ) -> Result<(), Refusal> {
     let mut writer = domain.chain(record, 0)?;
-    writer.cut(record, 0)?;
-    Ok(())
+    match domain.cut_retire(rt, record, &mut writer, 0, Withdrawn) {
+        Ok(_) => Ok(()),
+        Err((refusal, _)) => Err(refusal),
+    }
 }
 
-/// Two routes, of which the longer one is withdrawn. Answers the next hops of an address before and after.
+/// Two routes, of which the longer one is withdrawn and reclaimed. Answers the next hops of an address before and after.
 pub(crate) fn look_up<B: Site, R: Wait>(
     rt: &R,
     alloc: Global,
@@ -101,7 +121,7 @@ pub(crate) fn look_up<B: Site, R: Wait>(
 ) -> Result<(u64, u64), Refusal>
     requires { (B.qsbr ≡ false) × (opened.table.words.shared.table_id ≡ B.table) × (opened.table.words.shared.key ≡ B.sizes) }
 {
-    let (domain, mut record) = opened.named::<B, Callback>(alloc)?;
+    let (domain, mut record) = opened.named::<B, Withdrawn>(alloc)?;
     let far = Route {
         prefix: 0x0a00_0000,
         mask: 0xff00_0000,
@@ -118,8 +138,9 @@ pub(crate) fn look_up<B: Site, R: Wait>(
     add(rt, &domain, &mut record, near)?;
     let mut reader = domain.register(rt, &mut record)?;
     let before = next_hop(&mut reader, 0x0a01_0203)?;
-    withdraw(&domain, &mut record)?;
+    withdraw(rt, &domain, &mut record)?;
     let after = next_hop(&mut reader, 0x0a01_0203)?;
-    domain.synchronize(rt, &mut record)?;
+    domain.close(rt, &mut record);
+    domain.run_worker(rt, alloc, &mut record, 0)?;
     Ok((before, after))
 }
