@@ -1,7 +1,7 @@
 //! What is cut is retired: a call that may be refused memory leaves all as it was, and hands back what it was given.
 
 use crate::ledger::{Call, Finding, Ledger};
-use domain::{Chain, Deleter, Domain, Finished, Owned, Record, Ripe, Site, Ticket, Unlinked};
+use domain::{Chain, Deleter, Domain, Owned, Record, Ripe, Site, Ticket, Unlinked};
 use gp_memb::GracePlan;
 use live_words::AnyChain;
 use rcu_model::Refusal;
@@ -12,12 +12,8 @@ use std::sync::Wait;
 pub(crate) struct Says(pub(crate) u64);
 
 impl Deleter for Says {
-    fn run(self, ticket: Ticket, ripe: Ripe) -> Finished {
-        Finished {
-            ticket,
-            object: ripe.object,
-            code: self.0,
-        }
+    fn call(self, _ripe: Ripe) -> u64 {
+        self.0
     }
 }
 

@@ -4,7 +4,7 @@
 ghost use Rattle.std.specs.Prelude.{◌≡◌, false};
 ghost use Rattle.std.specs.Thread.{IsSync};
 
-use domain::{Deleter, Domain, Finished, Opened, Owned, Reader, Record, Ripe, Site, Ticket};
+use domain::{Deleter, Domain, Opened, Owned, Reader, Record, Ripe, Site};
 use gp_memb::MembPlan;
 use live_words::AnyChain;
 use rcu_model::Refusal;
@@ -49,12 +49,8 @@ impl Configuration {
 struct Replaced;
 
 impl Deleter for Replaced {
-    fn run(self, ticket: Ticket, ripe: Ripe) -> Finished {
-        Finished {
-            ticket,
-            object: ripe.object,
-            code: 0,
-        }
+    fn call(self, _ripe: Ripe) -> u64 {
+        0
     }
 }
 

@@ -4,7 +4,7 @@
 ghost use Rattle.std.specs.Prelude.{◌≡◌, false};
 
 use domain::{
-    Deleter, Domain, Finished, LiveCookie, Opened, Record, Ripe, Site, Ticket, Unlinked,
+    Deleter, Domain, LiveCookie, Opened, Record, Ripe, Site, Unlinked,
 };
 use gp_memb::MembPlan;
 use live_words::AnyChain;
@@ -17,12 +17,8 @@ use std::sync::Wait;
 struct Named;
 
 impl Deleter for Named {
-    fn run(self, ticket: Ticket, ripe: Ripe) -> Finished {
-        Finished {
-            ticket,
-            object: ripe.object,
-            code: ripe.payload[0],
-        }
+    fn call(self, ripe: Ripe) -> u64 {
+        ripe.payload[0]
     }
 }
 

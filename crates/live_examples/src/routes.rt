@@ -3,7 +3,7 @@
 ghost use Rattle.std.specs.Prelude.{◌≡◌, ◌<◌, false};
 
 use domain::{
-    Deleter, Domain, Finished, Opened, Reader, Record, Ripe, Section, Site, Ticket,
+    Deleter, Domain, Opened, Reader, Record, Ripe, Section, Site,
 };
 use gp_memb::MembPlan;
 use live_words::AnyChain;
@@ -45,12 +45,8 @@ impl Route {
 struct Withdrawn;
 
 impl Deleter for Withdrawn {
-    fn run(self, ticket: Ticket, ripe: Ripe) -> Finished {
-        Finished {
-            ticket,
-            object: ripe.object,
-            code: Route::of(ripe.payload).next_hop,
-        }
+    fn call(self, ripe: Ripe) -> u64 {
+        Route::of(ripe.payload).next_hop
     }
 }
 

@@ -3,7 +3,7 @@
 
 ghost use Rattle.std.specs.Prelude.{◌≡◌, false};
 
-use domain::{Deleter, Domain, Finished, Opened, Record, Ripe, Site, Ticket};
+use domain::{Deleter, Domain, Opened, Record, Ripe, Site};
 use gp_memb::MembPlan;
 use live_words::AnyChain;
 use rcu_model::Refusal;
@@ -16,12 +16,8 @@ use std::thread::{Threads, join};
 struct Tells;
 
 impl Deleter for Tells {
-    fn run(self, ticket: Ticket, ripe: Ripe) -> Finished {
-        Finished {
-            ticket,
-            object: ripe.object,
-            code: ripe.payload[0],
-        }
+    fn call(self, ripe: Ripe) -> u64 {
+        ripe.payload[0]
     }
 }
 

@@ -4,7 +4,7 @@ ghost use Rattle.std.specs.Prelude.{◌≡◌, false, true};
 
 use crate::deleter::Adds;
 use domain::{
-    Counts, Deleter, Domain, Finished, LiveConfig, Opened, Reader, Record, Ripe, Site, Ticket,
+    Counts, Deleter, Domain, LiveConfig, Opened, Reader, Record, Ripe, Site,
 };
 use gp_memb::{GracePlan, MembPlan};
 use gp_qsbr::QsbrPlan;
@@ -105,14 +105,10 @@ fn until_raised<R: Wait>(rt: &R, flag: &AtomicU64) {
 }
 
 impl<R: Wait> Deleter for Pauses<'_, R> {
-    fn run(self, ticket: Ticket, ripe: Ripe) -> Finished {
+    fn call(self, _ripe: Ripe) -> u64 {
         self.entered.store(1, Ordering::SeqCst);
         until_raised(self.rt, self.seen);
-        Finished {
-            ticket,
-            object: ripe.object,
-            code: 0,
-        }
+        0
     }
 }
 

@@ -64,15 +64,13 @@ pub returns-clause-run : goal.returns-clause-run
 returns-clause-run g c =
     let placed = c.requires.item.1 in
     let ran = c.run-deleter.ensures.run in
-    let done = c.run-done.ensures in
     let was : Log = c.args.item.job.0.seen in
     let log : Log = c.run-deleter.new.worker.me.0.heard in
     let last : Log = c.store_finished.new.seat.me.0.seen in
     let heard : Begins log last = c.store_finished.ensures.finished.2.1 in
     let on : Begins was log = subst (Begins was) (sym ran.wrote) (begins_trans was ran.before (_ ∷ ran.before) ran.after_job (_ ∷ [], refl)) in
-    let object = done.1 ∙ c.run-deleter.ensures.ripe.0 in
     record {
-      ticket = ap (λ (t : Ticket). t.0) done.0 ∙ c.requires.item.0;
-      turn = subst (λ (p : ObjectId). IsAt c.args.queue c.args.finished p last) (sym object) (stands_later was last c.args.queue c.args.finished c.args.item.object (begins_trans was log last on heard) placed.turn);
-      run = subst (λ (p : ObjectId). In (state_of last).reclaimed p) (sym object) (has_run ran.before log last c.args.item.object ran.wrote heard);
+      ticket = c.requires.item.0;
+      turn = stands_later was last c.args.queue c.args.finished c.args.item.object (begins_trans was log last on heard) placed.turn;
+      run = has_run ran.before log last c.args.item.object ran.wrote heard;
     }
