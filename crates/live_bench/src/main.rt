@@ -114,8 +114,13 @@ fn main(rt: HostRuntime) -> io::Result<ExitCode> {
         return Ok(ExitCode::FAILURE);
     };
     match in_flavour(&rt, rt.alloc(), flavour, kind, count) {
-        Ok(done) => println!(rt; "{done}")?,
-        Err(refusal) => println!(rt; "{refusal}")?,
+        Ok(done) => {
+            println!(rt; "{done}")?;
+            Ok(ExitCode::SUCCESS)
+        }
+        Err(refusal) => {
+            println!(rt; "{refusal}")?;
+            Ok(ExitCode::FAILURE)
+        }
     }
-    Ok(ExitCode::SUCCESS)
 }

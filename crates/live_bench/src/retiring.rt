@@ -151,10 +151,8 @@ pub(crate) fn boxed_retirements<
         rt,
         move || {
             let retired = retires(rt, home, &mut record, count, || {
-                match Box::new(alloc, move |ripe: Ripe| ripe.payload[0]) {
-                    Ok(call) => Some(Callback { call }),
-                    Err(_) => None,
-                }
+                let call = Box::new(alloc, |ripe: Ripe| ripe.payload[0]).ok()?;
+                Some(Callback { call })
             });
             home.close(rt, &mut record);
             retired
