@@ -49,10 +49,14 @@ fn retire<P: GracePlan + Drop, B: Site, R: Wait>(
 ) -> Result<Ticket, Finding> {
     let wrong = Finding::Wrong(Call::Retire);
     let unlinked = cut_one(rt, domain, record, 0).map_err(|_| wrong)?;
+    let before = domain.counts(record);
     match domain.retire(rt, record, unlinked, Says(1)) {
         Ok(ticket) => Ok(ticket),
         Err((Refusal::Memory, unlinked, callback)) => {
             ledger.note(Call::Retire);
+            if domain.counts(record) != before {
+                return Err(Finding::Changed(Call::Retire));
+            }
             domain
                 .retire(rt, record, unlinked, callback)
                 .map_err(|_| Finding::RefusedAgain(Call::Retire))
@@ -71,11 +75,12 @@ fn cut_retire<P: GracePlan + Drop, B: Site, R: Wait>(
     let wrong = Finding::Wrong(Call::CutRetire);
     let (mut writer, owned) = chain_and_record(rt, domain, record, 1).map_err(|_| wrong)?;
     writer.push(record, owned);
+    let before = domain.counts(record);
     match domain.cut_retire(rt, record, &mut writer, 0, Says(2)) {
         Ok(ticket) => Ok(ticket),
         Err((Refusal::Memory, callback)) => {
             ledger.note(Call::CutRetire);
-            if writer.len() != 1 {
+            if writer.len() != 1 || domain.counts(record) != before {
                 return Err(Finding::Changed(Call::CutRetire));
             }
             domain
@@ -97,11 +102,12 @@ fn replace_retire<P: GracePlan + Drop, B: Site, R: Wait>(
     let (mut writer, owned) = chain_and_record(rt, domain, record, 2).map_err(|_| wrong)?;
     writer.push(record, owned);
     let other = domain.alloc(rt, record, [2; 4]).map_err(|_| wrong)?;
+    let before = domain.counts(record);
     match domain.replace_retire(rt, record, &mut writer, 0, other, Says(3)) {
         Ok(ticket) => Ok(ticket),
         Err((Refusal::Memory, other, callback)) => {
             ledger.note(Call::ReplaceRetire);
-            if writer.get(0) != Some([1; 4]) {
+            if writer.get(0) != Some([1; 4]) || domain.counts(record) != before {
                 return Err(Finding::Changed(Call::ReplaceRetire));
             }
             domain

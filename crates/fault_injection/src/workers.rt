@@ -27,13 +27,13 @@ fn work<P: GracePlan + Drop, B: Site, R: Wait>(
 ) -> Result<(), Finding> {
     let wrong = Finding::Wrong(Call::RunWorker);
     let code = queue as u64 + 1;
+    let before = domain.counts(record);
     let first = domain.run_worker(rt, alloc, record, queue).map_err(|_| wrong)?;
     if first.stop != Stop::Memory {
         return if ran_one(&first, code) { Ok(()) } else { Err(wrong) };
     }
     ledger.note(Call::RunWorker);
-    let waiting = domain.counts(record).waiting;
-    if first.finished.len() + first.left.len() > 0 || waiting.get(queue) != Some(&1) {
+    if first.finished.len() + first.left.len() > 0 || domain.counts(record) != before {
         return Err(Finding::Changed(Call::RunWorker));
     }
     let second = domain.run_worker(rt, alloc, record, queue).map_err(|_| wrong)?;

@@ -3,9 +3,8 @@
 
 ghost use Rattle.std.specs.Prelude.{◌≡◌, false};
 
-use domain::{
-    Deleter, Domain, LiveCookie, Opened, Record, Ripe, Site, Unlinked,
-};
+use crate::working::work;
+use domain::{Deleter, Domain, LiveCookie, Opened, Record, Ripe, Site, Unlinked};
 use gp_memb::MembPlan;
 use live_words::AnyChain;
 use rcu_model::Refusal;
@@ -69,6 +68,6 @@ pub(crate) fn reuse<B: Site, R: Wait>(
         return Err(refusal);
     }
     domain.close(rt, &mut record);
-    domain.run_worker(rt, alloc, &mut record, 0)?;
+    work(rt, alloc, &domain, &mut record)?;
     Ok(refused)
 }

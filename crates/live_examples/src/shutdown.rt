@@ -3,6 +3,7 @@
 
 ghost use Rattle.std.specs.Prelude.{◌≡◌, false};
 
+use crate::working::work;
 use domain::{Deleter, Domain, Opened, Record, Ripe, Site};
 use gp_memb::MembPlan;
 use live_words::AnyChain;
@@ -68,9 +69,9 @@ pub(crate) fn stop<B: Site + Send + Sync, R: Threads + Wait + Sync>(
         },
         move || {
             let mut other = other;
-            home.run_worker(rt, alloc, &mut other, 0)
+            work(rt, alloc, home, &mut other)
         },
     );
     updated?;
-    Ok(worked?.finished.len() as u64)
+    worked
 }

@@ -1,14 +1,11 @@
 use Rattle.std.proofs.Common.{ℕ, [], ◌∷◌, ◌++◌, append_assoc, refl, sym, ap, ◌∙◌, subst, inr, arith}
-use Rattle.rcu_model.specs.declared.event.ObjectId.{ObjectId}
-use Rattle.rcu_model.specs.Sets.{In}
-use Rattle.callback_queue.specs.declared.item.Ticket.{Ticket}
-use Rattle.live_log.specs.Log.{Log, Begins, state_of}
+use Rattle.live_log.specs.Log.{Log, Begins}
 use Rattle.live_log.proofs.Lemmas.{begins_trans}
 use Rattle.live_rule.specs.declared.view.View.{View}
 use Rattle.live_rule.specs.Places.{closed_at}
 use Rattle.live_rule.specs.declared.rights.WorkRight.{WorkRight}
 use Rattle.live_table.specs.Rights.{finished_in, work_in}
-use Rattle.live_words.specs.Queues.{HasRunAt, IsAt}
+use Rattle.live_words.specs.Queues.{HasRunAt}
 use Rattle.live_reclaim.proofs.Ripening.{ended_later, has_run, ripe_next, stands_later}
 use Rattle.live_reclaim.proofs.run.run_next.Goals as goal
 
