@@ -20,7 +20,7 @@ const BETWEEN: u32 = 16_384;
 /// After so many tries in a row with no free record an updater ends.
 const MOST_TRIES: u32 = 1_000_000;
 
-/// A record of four times this word, as soon as one is free.
+/// A record whose four words are this one, as soon as one is free.
 ///
 /// Refused as `alloc`, with `PoolFull` after so many tries.
 fn allocates<P: GracePlan + Drop, B: Site, R: Wait>(
@@ -39,7 +39,7 @@ fn allocates<P: GracePlan + Drop, B: Site, R: Wait>(
     Err(Refusal::PoolFull)
 }
 
-/// One round: a record of four times this word takes the place of the chain's first, which is retired.
+/// One round: a record whose four words are this one takes the place of the chain's first, which is retired.
 fn one_round<P: GracePlan + Drop, B: Site, R: Wait>(
     rt: &R,
     domain: &Domain<P, AnyChain, B, RoundDone>,
