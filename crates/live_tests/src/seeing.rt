@@ -153,7 +153,7 @@ fn counts_within<B: Site + Send + Sync, R: Threads + Wait + Sync, D: Deleter + S
 }
 
 /// The counts of a domain with one retired record, while its callback runs.
-fn pauses<B: Site + Send + Sync, R: Threads + Wait + Sync>(
+fn paused<B: Site + Send + Sync, R: Threads + Wait + Sync>(
     rt: &R,
     alloc: Global,
     opened: Opened<MembPlan, AnyChain>,
@@ -173,7 +173,7 @@ fn a_callback_comes_after_the_free_and_before_the_count(rt: HostRuntime) {
     let opened = Opened::<MembPlan, AnyChain>::new(rt.alloc(), SMALL).expect(&rt, "memory");
     let entered = AtomicU64::new(0);
     let seen = AtomicU64::new(0);
-    let counts = pauses::<Brand, _>(&rt, rt.alloc(), opened, &entered, &seen).expect(
+    let counts = paused::<Brand, _>(&rt, rt.alloc(), opened, &entered, &seen).expect(
         &rt, "not refused",
     );
     assert_eq!(rt; counts, counted(2, 0, [1, 0]));
