@@ -3,17 +3,15 @@
 ghost use Rattle.std.specs.Prelude.{◌≡◌, false, true};
 
 use crate::deleter::Adds;
-use domain::{
-    Counts, Deleter, Domain, LiveConfig, Opened, Reader, Record, Ripe, Site,
-};
+use domain::{Counts, Deleter, Domain, LiveConfig, Opened, Reader, Record, Ripe, Site};
 use gp_memb::{GracePlan, MembPlan};
 use gp_qsbr::QsbrPlan;
 use live_words::AnyChain;
 use rcu_model::Refusal;
 use std::alloc::Global;
 use std::marker::Brand;
-use std::sync::Wait;
 use std::sync::atomic::{AtomicU64, Ordering};
+use std::sync::{Arc, Wait};
 use std::thread;
 use std::thread::{Threads, join};
 
@@ -87,27 +85,25 @@ fn counts_tell_what_is_in_use_and_what_waits(rt: HostRuntime) {
 
 /// A callback that returns once somebody has looked.
 #[derive(Drop)]
-struct Pauses<'a, R> {
-    rt: &'a R,
-    entered: &'a AtomicU64,
-    seen: &'a AtomicU64,
+struct Pauses {
+    entered: Arc<AtomicU64>,
+    seen: Arc<AtomicU64>,
 }
 
 /// Waits until the flag is raised.
-fn until_raised<R: Wait>(rt: &R, flag: &AtomicU64) {
-    for _ in rt.forever() {
+fn until_raised(flag: &AtomicU64) {
+    for _ in 0..1_000_000_000_000u64 {
         if flag.load(Ordering::SeqCst) == 1 {
             return;
         }
         thread::yield_now();
     }
-    unreachable!()
 }
 
-impl<R: Wait> Deleter for Pauses<'_, R> {
+impl Deleter for Pauses {
     fn call(self, _ripe: Ripe) -> u64 {
         self.entered.store(1, Ordering::SeqCst);
-        until_raised(self.rt, self.seen);
+        until_raised(&self.seen);
         0
     }
 }
@@ -122,7 +118,10 @@ fn retires<B: Site, R: Wait, D: Deleter>(
     let mut writer = domain.chain(record, 0)?;
     let owned = domain.alloc(rt, record, [1; 4])?;
     writer.push(record, owned);
-    if domain.cut_retire(rt, record, &mut writer, 0, callback).is_err() {
+    if domain
+        .cut_retire(rt, record, &mut writer, 0, callback)
+        .is_err()
+    {
         return Err(Refusal::Memory);
     }
     domain.close(rt, record);
@@ -141,15 +140,21 @@ fn counts_within<B: Site + Send + Sync, R: Threads + Wait + Sync, D: Deleter + S
     let mut other = domain.split(record);
     let (worked, counts) = join(
         rt,
-        move || domain.run_worker(rt, alloc, record, 0).map(|end| end.finished.len()),
+        move || domain
+            .run_worker(rt, alloc, record, 0)
+            .map(|end| end.finished.len()),
         move || {
-            until_raised(rt, entered);
+            until_raised(entered);
             let counts = domain.counts(&mut other);
             seen.store(1, Ordering::SeqCst);
             counts
         },
     );
-    if worked? == 1 { Ok(counts) } else { Err(Refusal::Busy) }
+    if worked? == 1 {
+        Ok(counts)
+    } else {
+        Err(Refusal::Busy)
+    }
 }
 
 /// The counts of a domain with one retired record, while its callback runs.
@@ -157,13 +162,21 @@ fn paused<B: Site + Send + Sync, R: Threads + Wait + Sync>(
     rt: &R,
     alloc: Global,
     opened: Opened<MembPlan, AnyChain>,
-    entered: &AtomicU64,
-    seen: &AtomicU64,
+    entered: &Arc<AtomicU64>,
+    seen: &Arc<AtomicU64>,
 ) -> Result<Counts, Refusal>
     requires { (B.qsbr ≡ false) × (opened.table.words.shared.table_id ≡ B.table) × (opened.table.words.shared.key ≡ B.sizes) }
 {
-    let (domain, mut record) = opened.named::<B, Pauses<'_, R>>(alloc)?;
-    let callback = Pauses { rt, entered, seen };
+    let (domain, mut record) = opened.named::<B, Pauses>(alloc)?;
+    let in_call: Result<Arc<AtomicU64>, _> = entered.clone();
+    let looked: Result<Arc<AtomicU64>, _> = seen.clone();
+    let (Ok(in_call), Ok(looked)) = (in_call, looked) else {
+        return Err(Refusal::Memory);
+    };
+    let callback = Pauses {
+        entered: in_call,
+        seen: looked,
+    };
     retires(rt, &domain, &mut record, callback)?;
     counts_within(rt, alloc, &domain, &mut record, entered, seen)
 }
@@ -171,10 +184,11 @@ fn paused<B: Site + Send + Sync, R: Threads + Wait + Sync>(
 #[test]
 fn a_callback_comes_after_the_free_and_before_the_count(rt: HostRuntime) {
     let opened = Opened::<MembPlan, AnyChain>::new(rt.alloc(), SMALL).expect(&rt, "memory");
-    let entered = AtomicU64::new(0);
-    let seen = AtomicU64::new(0);
+    let entered = Arc::new(rt.alloc(), AtomicU64::new(0)).expect(&rt, "memory");
+    let seen = Arc::new(rt.alloc(), AtomicU64::new(0)).expect(&rt, "memory");
     let counts = paused::<Brand, _>(&rt, rt.alloc(), opened, &entered, &seen).expect(
-        &rt, "not refused",
+        &rt,
+        "not refused",
     );
     assert_eq!(rt; counts, counted(2, 0, [1, 0]));
 }
