@@ -26,7 +26,7 @@ fn work<P: GracePlan + Drop, B: Site, R: Wait>(
     ledger: &mut Ledger,
 ) -> Result<(), Finding> {
     let wrong = Finding::Wrong(Call::RunWorker);
-    let code = queue as u64 + 1;
+    let code = (queue as u64).saturating_add(1);
     let before = domain.counts(record);
     let first = domain.run_worker(rt, alloc, record, queue).map_err(|_| wrong)?;
     if first.stop != Stop::Memory {
