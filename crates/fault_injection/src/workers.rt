@@ -28,19 +28,31 @@ fn work<P: GracePlan + Drop, B: Site, R: Wait>(
     let wrong = Finding::Wrong(Call::RunWorker);
     let code = (queue as u64).saturating_add(1);
     let before = domain.counts(record);
-    let first = domain.run_worker(rt, alloc, record, queue).map_err(|_| wrong)?;
+    let first = domain
+        .run_worker(rt, alloc, record, queue)
+        .map_err(|_| wrong)?;
     if first.stop != Stop::Memory {
-        return if ran_one(&first, code) { Ok(()) } else { Err(wrong) };
+        return if ran_one(&first, code) {
+            Ok(())
+        } else {
+            Err(wrong)
+        };
     }
     ledger.note(Call::RunWorker);
     if first.finished.len() + first.left.len() > 0 || domain.counts(record) != before {
         return Err(Finding::Changed(Call::RunWorker));
     }
-    let second = domain.run_worker(rt, alloc, record, queue).map_err(|_| wrong)?;
+    let second = domain
+        .run_worker(rt, alloc, record, queue)
+        .map_err(|_| wrong)?;
     if second.stop == Stop::Memory {
         return Err(Finding::RefusedAgain(Call::RunWorker));
     }
-    if ran_one(&second, code) { Ok(()) } else { Err(wrong) }
+    if ran_one(&second, code) {
+        Ok(())
+    } else {
+        Err(wrong)
+    }
 }
 
 /// Closes the queues, in each of which one object waits, and works for each.

@@ -63,7 +63,8 @@ fn a_time_that_is_over_ends_a_run(rt: HostRuntime) {
         ..SHORT
     };
     let counts = stress::<QsbrPlan, _, _>(&rt, rt.alloc(), load, &Unwatched).expect(
-        &rt, "not refused",
+        &rt,
+        "not refused",
     );
     assert_eq!(rt; counts, without_fault(0));
 }
