@@ -80,7 +80,8 @@ impl<'d, P: GracePlan, K: ChainRule, B: Site> Chain<'d, P, K, B> {
 
     /// The chain's number. It never waits.
     pub fn number(&self) -> usize
-        ensures { result ≡ self.now.number }
+        ensures number { result ≡ self.now.number }
+        ensures low { result < B.sizes.chains }
     {
         self.number
     }
