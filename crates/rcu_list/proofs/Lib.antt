@@ -1,2 +1,2 @@
+pub mod Changing
 pub mod Values
-pub mod Windows

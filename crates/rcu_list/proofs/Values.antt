@@ -86,10 +86,10 @@ pub record IsBehind (note : ObjectId → ℕ × List ℕ) (os : List ObjectId) (
 
 pub next_below : (note : ObjectId → ℕ × List ℕ) (os : List ObjectId) (o p : ObjectId) → Falls note os → In os o → next_of os o ≡ Some p → IsBehind note os o p
 next_below note [] o p falls h next = absurd h
-next_below note (x ∷ xs) o p falls h next = by (object_tells x o) h
+next_below note (x ∷ xs) o p falls h next = by (object_tells x o) h (λ k e. next_below note xs o p falls.1 k e)
   where
-    by : Tells (same_object x o) x o → In (x ∷ xs) o → IsBehind note (x ∷ xs) o p
-    by (inl y) h = let first : first_of xs ≡ Some p = sym (ap (λ (b : Bool). if b then first_of xs else next_of xs o) y.0) ∙ next in let has : In xs p = there xs first in record {
+    by : Tells (same_object x o) x o → In (x ∷ xs) o → (In xs o → next_of xs o ≡ Some p → IsBehind note xs o p) → IsBehind note (x ∷ xs) o p
+    by (inl y) h on = let first : first_of xs ≡ Some p = sym (ap (λ (b : Bool). if b then first_of xs else next_of xs o) y.0) ∙ next in let has : In xs p = there xs first in record {
       has = inr has;
       lower = subst (λ (z : ObjectId). rank_of (note p) < rank_of (note z)) y.1 (falls.0 p has).1;
       others = λ q k low. ⊎_elim (λ (e : x ≡ q). let same : rank_of (note o) ≡ rank_of (note q) = ap (λ (z : ObjectId). rank_of (note z)) (sym y.1 ∙ e) in absurd (omega arith)) (λ (l : In xs q). first_above note xs p q falls.1 first l) k;
@@ -98,8 +98,8 @@ next_below note (x ∷ xs) o p falls h next = by (object_tells x o) h
         there : (ys : List ObjectId) → first_of ys ≡ Some p → In ys p
         there [] first = absurd (none_some p first)
         there (z ∷ zs) first = inl (some_is z p first)
-    by (inr n) (inl e) = absurd (n.1 e)
-    by (inr n) (inr k) = let rest = next_below note xs o p falls.1 k (sym (ap (λ (b : Bool). if b then first_of xs else next_of xs o) n.0) ∙ next) in record {
+    by (inr n) (inl e) on = absurd (n.1 e)
+    by (inr n) (inr k) on = let rest = on k (sym (ap (λ (b : Bool). if b then first_of xs else next_of xs o) n.0) ∙ next) in record {
       has = inr rest.has;
       lower = rest.lower;
       others = λ q l low. ⊎_elim (λ (e : x ≡ q). let above = (falls.0 o k).1 in let same : rank_of (note x) ≡ rank_of (note q) = ap (λ (z : ObjectId). rank_of (note z)) e in absurd (omega arith)) (λ (m : In xs q). rest.others q m low) l;
@@ -108,15 +108,15 @@ next_below note (x ∷ xs) o p falls h next = by (object_tells x o) h
 -- behind the last one none has a lower rank
 pub last_below : (note : ObjectId → ℕ × List ℕ) (os : List ObjectId) (o q : ObjectId) → Falls note os → In os o → next_of os o ≡ None → In os q → ¬ (rank_of (note q) < rank_of (note o))
 last_below note [] o q falls h next k low = absurd h
-last_below note (x ∷ xs) o q falls h next k low = by (object_tells x o) h k
+last_below note (x ∷ xs) o q falls h next k low = by (object_tells x o) h k (λ m e l. last_below note xs o q falls.1 m e l low)
   where
-    by : Tells (same_object x o) x o → In (x ∷ xs) o → In (x ∷ xs) q → ⊥
-    by (inl y) h (inl e) = let same : rank_of (note o) ≡ rank_of (note q) = ap (λ (z : ObjectId). rank_of (note z)) (sym y.1 ∙ e) in omega arith
-    by (inl y) h (inr l) = none xs (sym (ap (λ (b : Bool). if b then first_of xs else next_of xs o) y.0) ∙ next) l
+    by : Tells (same_object x o) x o → In (x ∷ xs) o → In (x ∷ xs) q → (In xs o → next_of xs o ≡ None → In xs q → ⊥) → ⊥
+    by (inl y) h (inl e) on = let same : rank_of (note o) ≡ rank_of (note q) = ap (λ (z : ObjectId). rank_of (note z)) (sym y.1 ∙ e) in omega arith
+    by (inl y) h (inr l) on = none xs (sym (ap (λ (b : Bool). if b then first_of xs else next_of xs o) y.0) ∙ next) l
       where
         none : (ys : List ObjectId) → first_of ys ≡ None → In ys q → ⊥
         none [] first l = l
         none (z ∷ zs) first l = none_some z (sym first)
-    by (inr n) (inl e) k = n.1 e
-    by (inr n) (inr m) (inl e) = let above = (falls.0 o m).1 in let same : rank_of (note x) ≡ rank_of (note q) = ap (λ (z : ObjectId). rank_of (note z)) e in omega arith
-    by (inr n) (inr m) (inr l) = last_below note xs o q falls.1 m (sym (ap (λ (b : Bool). if b then first_of xs else next_of xs o) n.0) ∙ next) l low
+    by (inr n) (inl e) k on = n.1 e
+    by (inr n) (inr m) (inl e) on = let above = (falls.0 o m).1 in let same : rank_of (note x) ≡ rank_of (note q) = ap (λ (z : ObjectId). rank_of (note z)) e in omega arith
+    by (inr n) (inr m) (inr l) on = on m (sym (ap (λ (b : Bool). if b then first_of xs else next_of xs o) n.0) ∙ next) l

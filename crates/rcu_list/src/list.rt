@@ -7,7 +7,7 @@ ghost use Rattle.rcu_model.specs.declared.refusal.Refusal.TheVariants.{BadConfig
 ghost use Rattle.live_log.specs.Keys.{keyed, rank_of};
 ghost use Rattle.live_log.specs.Log.{chain_note, note_of};
 ghost use Rattle.live_table.specs.Rights.{own_in};
-ghost use Rattle.live_table.specs.Steps.{Keeps, Went};
+ghost use Rattle.live_table.specs.Steps.{IsLater, Keeps, Went};
 ghost use Rattle.live_read.specs.Hearing.{OnlyHears, Stays};
 ghost use Rattle.live_write.specs.Chains.{list_in};
 ghost use Rattle.rcu_list.specs.Calls.{HandsOver, Inserts, Removes, Replaces};
@@ -61,6 +61,7 @@ impl<'d, P: GracePlan + Drop, B: Site> RcuList<'d, P, B> {
 
     /// A rank above those of all keys, unless one has the last.
     fn fresh_rank(&mut self) -> Option<u64>
+        requires { IsLater P.QSBR keyed self.old.chain.seat.me.0 self.old.chain.seat.me.0 }
         ensures above { IfSome result (λ rank. (rank < 2 ^ 62) × ((o : ObjectId) → In (list_in self.old.chain.seat.me.0) o → rank_of (note_of self.new.chain.seat.me.0.seen o) < rank)) }
         ensures none { IfNone result (HasLastRank self.new.chain.seat.me.0.seen self.old.chain.number) }
         ensures looked { Keeps self.old.chain.seat self.new.chain.seat × Went P.QSBR keyed self.old.chain.seat.me.0 self.old.chain.seat.me self.new.chain.seat.me × (self.new.chain.number ≡ self.old.chain.number) }
