@@ -1,5 +1,5 @@
 -- The values of keys among objects.
-use Rattle.std.proofs.Common.{◌≡◌, ◌≢◌, ◌⊎◌, ℕ, ◌+◌, ◌<◌, ◌==◌, Bool, true, false, if◌then◌else◌, List, [], ◌∷◌, Option, Some, None, refl, sym, ap, ◌∙◌, subst, inl, inr, ⊎_elim, arith, eq-eqb, ne_eqb}
+use Rattle.std.proofs.Common.{◌≡◌, ◌≢◌, ◌⊎◌, ℕ, ◌+◌, ◌<◌, ◌==◌, Bool, true, false, if◌then◌else◌, List, [], ◌∷◌, Option, Some, None, refl, sym, ap, ◌∙◌, subst, inl, inr, ⊎_elim, arith, eq-eqb, ne_eqb, slice_get}
 use mathlib.Core.Logic.{dite}
 use native.Mathlib.Decide.{ℕ_discrete}
 use Rattle.rcu_model.specs.declared.event.ObjectId.{ObjectId}
@@ -71,6 +71,10 @@ one_key note (x ∷ xs) o p falls (inl a) (inl b) e = sym a ∙ b
 one_key note (x ∷ xs) o p falls (inl a) (inr k) e = absurd ((falls.0 p k).0 (sym e ∙ ap (λ (z : ObjectId). key_of (note z)) (sym a)))
 one_key note (x ∷ xs) o p falls (inr h) (inl b) e = absurd ((falls.0 o h).0 (e ∙ ap (λ (z : ObjectId). key_of (note z)) (sym b)))
 one_key note (x ∷ xs) o p falls (inr h) (inr k) e = one_key note xs o p falls.1 h k e
+
+pub first_at : (os : List ObjectId) (o : ObjectId) → slice_get os 0 ≡ Some o → first_of os ≡ Some o
+first_at [] o at = at
+first_at (x ∷ xs) o at = at
 
 -- the first object has the greatest rank
 pub first_above : (note : ObjectId → ℕ × List ℕ) (os : List ObjectId) (o p : ObjectId) → Falls note os → first_of os ≡ Some o → In os p → (o ≡ p) ⊎ (rank_of (note p) < rank_of (note o))
