@@ -33,7 +33,7 @@ module _ {S : Type 0} (qsbr : Bool) (c : ℕ) (m n : Me S View) (went : Went qsb
   note_walked o h = same_note qsbr c m.0.seen n.0.seen went.2.0 went.2.2 o (walked_in o h)
 
   pub walked_there : (o : ObjectId) (key : ℕ) → In (list_in m.0) o → key_of (note_of n.0.seen o) ≡ key → IsSome (map_of m.0.seen c key)
-  walked_there o key h key_is = subst (λ (x : Option ℕ). IsSome x) (sym (key_there qsbr c m.0.seen n.0.seen went.2.0 went.2.2 o key (walked_in o h) key_is)) tt
+  walked_there o key h key_is = subst (λ (x : Option ℕ). IsSome x) (sym (key_there qsbr c m.0.seen n.0.seen went.2.0 went.2.2 o key (walked_in o h) key_is)) refl
 
   pub walked_missing : (key : ℕ) → ((o : ObjectId) → In (list_in m.0) o → key_of (note_of n.0.seen o) ≢ key) → map_of m.0.seen c key ≡ None
   walked_missing key none = key_missing qsbr c m.0.seen n.0.seen went.2.0 went.2.2 key (λ o h. none o (subst (λ (l : List ObjectId). In l o) (chain_known m.0 c listed is) h))
