@@ -1,5 +1,6 @@
 -- What the writer of a list knows, and what its events tell of the map.
-use Rattle.std.proofs.Common.{◌≡◌, ◌≢◌, ◌≤◌, ℕ, ◌+◌, ◌^◌, Bool, List, [], ◌∷◌, Option, Some, None, IsSome, IfSome, IfNone, refl, sym, ap, ◌∙◌, subst}
+use Rattle.std.proofs.Common.{◌≡◌, ◌≢◌, ◌⊎◌, ◌≤◌, ℕ, ◌+◌, ◌^◌, Bool, List, [], ◌∷◌, Option, Some, None, IsSome, refl, sym, ap, ◌∙◌, subst, inl, inr}
+use Rattle.std.specs.Prelude.{Result, Ok, Err, IfOk, IfErr}
 use Rattle.atomic_table.specs.Table.{Me}
 use Rattle.rcu_model.specs.declared.event.ObjectId.{ObjectId}
 use Rattle.rcu_model.specs.Sets.{In, first_of, replaced, without_object}
@@ -81,3 +82,16 @@ module _ (qsbr : Bool) (c : ℕ) (known seen heard : Log) (v w : View) (is_v : (
         subst (Removes qsbr c known seen heard key o) (sym wrote)
         (removes qsbr c known seen heard p.before after key o known_in key_is (subst (IsLiveRun qsbr keyed) wrote p.run)
         (ap (λ (l : Log). (state_of l).chain c) (sym wrote) ∙ (chain_known w c listed is_w ∙ (list ∙ ap (without_object o) (sym knows)))))
+
+-- what holds of a result in either case, by what else holds of it there
+pub if_ok : {A E : Type 0} (r : Result A E) (P Q R : A → Type 0) → ((x : A) → P x → Q x → R x) → IfOk r P → IfOk r Q → IfOk r R
+if_ok (Ok x) P Q R f p q = f x p q
+if_ok (Err e) P Q R f p q = tt
+
+pub if_err : {A E : Type 0} (r : Result A E) (P Q R : E → Type 0) → ((e : E) → P e → Q e → R e) → IfErr r P → IfErr r Q → IfErr r R
+if_err (Ok x) P Q R f p q = tt
+if_err (Err e) P Q R f p q = f e p q
+
+pub by_second : {A B C : Type 0} → A ⊎ B → ¬ A → (B → C) → C
+by_second (inl a) none f = absurd (none a)
+by_second (inr b) none f = f b
