@@ -15,6 +15,8 @@ use Rattle.live_rule.specs.declared.rights.ChainRight.{ChainRight}
 use Rattle.live_table.specs.Rights.{IsListed, cell_in, object_in, own_in, payload_in}
 use Rattle.live_table.specs.Steps.{Went}
 use Rattle.live_chains.specs.Chains.{cut_of}
+use Rattle.live_read.specs.Hearing.{Stays}
+use Rattle.live_read.specs.declared.witness.Witness.{Ghosts}
 use Rattle.live_write.specs.Chains.{IsFirstWith, Publishes, first_word, list_in, push_by, replace_by}
 use Rattle.live_write.proofs.Lemmas.{index_has}
 use Rattle.rcu_list.specs.Calls.{Inserts, Replaces, Removes}
@@ -95,3 +97,7 @@ if_err (Err e) P Q R f p q = f e p q
 pub by_second : {A B C : Type 0} → A ⊎ B → ¬ A → (B → C) → C
 by_second (inl a) none f = absurd (none a)
 by_second (inr b) none f = f b
+
+-- what stays of a witness over two calls
+pub stays_both : {W : Type 0} (w : Ghosts W) (a b c : W) → Stays w a b → Stays w b c → Stays w a c
+stays_both w a b c x y = (y.0 ∙ x.0, y.1 ∙ x.1, y.2 ∙ x.2, λ h. y.3 (x.3 h))
