@@ -1,3 +1,4 @@
 pub mod Changing
 pub mod Values
+pub mod Windows
 pub mod Writing
