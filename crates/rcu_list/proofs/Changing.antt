@@ -1,9 +1,9 @@
 -- How the map of a keyed chain changes at an event of its writer.
-use Rattle.std.proofs.Common.{◌≡◌, ◌≢◌, ◌⊎◌, ℕ, Bool, List, [], ◌∷◌, ◌++◌, Option, Some, None, refl, sym, ap, ◌∙◌, subst, inl, inr, ⊎_elim}
+use Rattle.std.proofs.Common.{◌≡◌, ◌≢◌, ℕ, Bool, List, [], ◌∷◌, Some, None, refl, sym, ap, ◌∙◌, subst, ⊎_elim}
 use mathlib.Core.Logic.{dite}
 use native.Mathlib.Decide.{ℕ_discrete}
 use Rattle.rcu_model.specs.declared.event.ObjectId.{ObjectId}
-use Rattle.rcu_model.specs.Sets.{In, at_number, at_object, replaced, without_object}
+use Rattle.rcu_model.specs.Sets.{In, at_number, replaced, without_object}
 use Rattle.rcu_model.proofs.Lemmas.{at_number_same, at_number_other, at_object_same, has_replaced, has_without_object, in_objects, replaced_has, replaced_there, without_object_has}
 use Rattle.live_log.specs.declared.event.LiveEvent.{LiveEvent}
 use Rattle.live_log.specs.declared.event.LiveEvent.TheVariants.{Object}
@@ -80,21 +80,21 @@ module _ (qsbr : Bool) (c : ℕ) where
           let left : now ≡ replaced p o (chain_in before) = at_number_same c (replaced p o (chain_in before)) (state_of before).chain in
           let used : (x : ObjectId) → In (chain_in known) x → In (state_of before).used x = λ x h. (grows_log known before after.0).used x (chain_used qsbr keyed known c x (run_of qsbr keyed known before after.0 run.1) h) in
           let to : (x : ObjectId) → In (chain_in known) x → In (chain_in before) x = λ x h. by_object x p
-              (λ same. subst (In (chain_in before)) (sym same) has)
-              (λ other. ⊎_elim (λ (new : x ≡ o). absurd (fresh (subst (In (state_of before).used) new (used x h)))) (λ (k : In (chain_in before) x × (x ≢ p)). k.0)
-              (replaced_has p o (chain_in before) x (subst (λ (l : List ObjectId). In l x) (sym list ∙ left) (has_replaced p o (chain_in known) x h other)))) in
+          (λ same. subst (In (chain_in before)) (sym same) has)
+          (λ other. ⊎_elim (λ (new : x ≡ o). absurd (fresh (subst (In (state_of before).used) new (used x h)))) (λ (k : In (chain_in before) x × (x ≢ p)). k.0)
+          (replaced_has p o (chain_in before) x (subst (λ (l : List ObjectId). In l x) (sym list ∙ left) (has_replaced p o (chain_in known) x h other)))) in
           let from : (x : ObjectId) → In (chain_in before) x → In (chain_in known) x = λ x h. by_object x p
-              (λ same. subst (In (chain_in known)) (sym same) at)
-              (λ other. ⊎_elim (λ (new : x ≡ o). absurd (fresh (subst (In (state_of before).used) new (chain_used qsbr keyed before c x run.1 h)))) (λ (k : In (chain_in known) x × (x ≢ p)). k.0)
-              (replaced_has p o (chain_in known) x (subst (λ (l : List ObjectId). In l x) (sym left ∙ list) (has_replaced p o (chain_in before) x h other)))) in
+          (λ same. subst (In (chain_in known)) (sym same) at)
+          (λ other. ⊎_elim (λ (new : x ≡ o). absurd (fresh (subst (In (state_of before).used) new (chain_used qsbr keyed before c x run.1 h)))) (λ (k : In (chain_in known) x × (x ≢ p)). k.0)
+          (replaced_has p o (chain_in known) x (subst (λ (l : List ObjectId). In l x) (sym left ∙ list) (has_replaced p o (chain_in before) x h other)))) in
           let kept : (k : ℕ) → map_of before c k ≡ map_of known c k = same_map known before after.0 run.1 to from in
           let here : note_of (e ∷ before) o ≡ (cell, words_of key value rank) = at_object_same o (cell, words_of key value rank) (note_of before) in
           let stay : (x : ObjectId) → In (chain_in before) x → note_of (e ∷ before) x ≡ note_of before x = same_note before (e ∷ before) (e ∷ [], refl) run in
           let was : key_of (note_of before p) ≡ key = ap key_of (same_note known before after.0 run.1 p at) ∙ is in
           let others : (k : ℕ) → k ≢ key → map_of (e ∷ before) c k ≡ map_of before c k = λ k apart. value_kept (note_of before) (note_of (e ∷ before)) (chain_in before) now k (each_falls qsbr before c run.1) (each_falls qsbr (e ∷ before) c run)
-              (λ x h key_is. (subst (λ (l : List ObjectId). In l x) (sym left) (has_replaced p o (chain_in before) x h (λ same. apart (sym key_is ∙ (ap (λ (z : ObjectId). key_of (note_of before z)) same ∙ was)))), stay x h))
-              (λ x h key_is. ⊎_elim (λ (new : x ≡ o). absurd (apart (sym key_is ∙ (ap (λ (z : ObjectId). key_of (note_of (e ∷ before) z)) new ∙ ap key_of here)))) (λ (k : In (chain_in before) x × (x ≢ p)). (k.0, stay x k.0))
-              (replaced_has p o (chain_in before) x (subst (λ (l : List ObjectId). In l x) left h))) in
+          (λ x h key_is. (subst (λ (l : List ObjectId). In l x) (sym left) (has_replaced p o (chain_in before) x h (λ same. apart (sym key_is ∙ (ap (λ (z : ObjectId). key_of (note_of before z)) same ∙ was)))), stay x h))
+          (λ x h key_is. ⊎_elim (λ (new : x ≡ o). absurd (apart (sym key_is ∙ (ap (λ (z : ObjectId). key_of (note_of (e ∷ before) z)) new ∙ ap key_of here)))) (λ (k : In (chain_in before) x × (x ≢ p)). (k.0, stay x k.0))
+          (replaced_has p o (chain_in before) x (subst (λ (l : List ObjectId). In l x) left h))) in
           let own : map_of (e ∷ before) c key ≡ Some value = value_at (note_of (e ∷ before)) now o key (each_falls qsbr (e ∷ before) c run) (subst (λ (l : List ObjectId). In l o) (sym left) (replaced_there p o (chain_in before) has)) (ap key_of here) ∙ ap (λ (x : ℕ × List ℕ). Some (value_of x)) here in
           record {
             object = o;
@@ -122,18 +122,18 @@ module _ (qsbr : Bool) (c : ℕ) where
         let has : In (chain_in before) p = in_objects (chain_in before) p run.0.0 in
         let left : now ≡ without_object p (chain_in before) = at_number_same c (without_object p (chain_in before)) (state_of before).chain in
         let to : (x : ObjectId) → In (chain_in known) x → In (chain_in before) x = λ x h. by_object x p
-            (λ same. subst (In (chain_in before)) (sym same) has)
-            (λ other. (without_object_has p (chain_in before) x (subst (λ (l : List ObjectId). In l x) (sym list ∙ left) (has_without_object p (chain_in known) x h other))).0) in
+        (λ same. subst (In (chain_in before)) (sym same) has)
+        (λ other. (without_object_has p (chain_in before) x (subst (λ (l : List ObjectId). In l x) (sym list ∙ left) (has_without_object p (chain_in known) x h other))).0) in
         let from : (x : ObjectId) → In (chain_in before) x → In (chain_in known) x = λ x h. by_object x p
-            (λ same. subst (In (chain_in known)) (sym same) at)
-            (λ other. (without_object_has p (chain_in known) x (subst (λ (l : List ObjectId). In l x) (sym left ∙ list) (has_without_object p (chain_in before) x h other))).0) in
+        (λ same. subst (In (chain_in known)) (sym same) at)
+        (λ other. (without_object_has p (chain_in known) x (subst (λ (l : List ObjectId). In l x) (sym left ∙ list) (has_without_object p (chain_in before) x h other))).0) in
         let kept : (k : ℕ) → map_of before c k ≡ map_of known c k = same_map known before after.0 run.1 to from in
         let was : key_of (note_of before p) ≡ key = ap key_of (same_note known before after.0 run.1 p at) ∙ is in
         let others : (k : ℕ) → k ≢ key → map_of (e ∷ before) c k ≡ map_of before c k = λ k apart. value_kept (note_of before) (note_of before) (chain_in before) now k (each_falls qsbr before c run.1) (each_falls qsbr (e ∷ before) c run)
-            (λ x h key_is. (subst (λ (l : List ObjectId). In l x) (sym left) (has_without_object p (chain_in before) x h (λ same. apart (sym key_is ∙ (ap (λ (z : ObjectId). key_of (note_of before z)) same ∙ was)))), refl))
-            (λ x h key_is. ((without_object_has p (chain_in before) x (subst (λ (l : List ObjectId). In l x) left h)).0, refl)) in
+        (λ x h key_is. (subst (λ (l : List ObjectId). In l x) (sym left) (has_without_object p (chain_in before) x h (λ same. apart (sym key_is ∙ (ap (λ (z : ObjectId). key_of (note_of before z)) same ∙ was)))), refl))
+        (λ x h key_is. ((without_object_has p (chain_in before) x (subst (λ (l : List ObjectId). In l x) left h)).0, refl)) in
         let own : map_of (e ∷ before) c key ≡ None = value_absent (note_of before) now key (λ x h key_is. let k = without_object_has p (chain_in before) x (subst (λ (l : List ObjectId). In l x) left h) in
-            k.1 (one_key (note_of before) (chain_in before) x p (each_falls qsbr before c run.1) k.0 has (key_is ∙ sym was))) in
+        k.1 (one_key (note_of before) (chain_in before) x p (each_falls qsbr before c run.1) k.0 has (key_is ∙ sym was))) in
         record {
           had = value_of (note_of known p);
           changes = record {

@@ -1,10 +1,9 @@
 -- Where a reader stands in a lookup along a keyed chain.
-use Rattle.std.proofs.Common.{◌≡◌, ◌≢◌, ℕ, ◌<◌, Bool, List, [], Option, Some, None, refl, sym, ap, ◌∙◌, subst, arith}
+use Rattle.std.proofs.Common.{◌≡◌, ◌≢◌, ℕ, ◌<◌, Bool, List, [], Option, Some, None, refl, sym, ap, subst, arith}
 use Rattle.rcu_model.specs.declared.event.ObjectId.{ObjectId}
-use Rattle.rcu_model.specs.Sets.{first_of}
 use Rattle.rcu_model.proofs.Lemmas.{first_has}
 use Rattle.live_log.specs.Keys.{key_of, rank_of, keyed}
-use Rattle.live_log.specs.Log.{Log, Begins, IsLiveRun, note_of, objects_of}
+use Rattle.live_log.specs.Log.{Log, Begins, note_of, objects_of}
 use Rattle.live_log.proofs.Lemmas.{begins_trans, run_of}
 use Rattle.live_read.specs.declared.reader.Reader.{Reader}
 use Rattle.live_read.specs.declared.site.Site.{Ghosts}
@@ -82,6 +81,6 @@ module _ {P K B : Type 0} {g : Ghosts B} (qsbr : Bool) (c key : ℕ) (start : Re
       stands_next t cell' held m other = (
         stands_on s t p cell' (record { looked = here.looked; holds = held; met = reached.met; past = reached.past other }) m,
         let lower = reached.lower in
-        let a : rank_of (note_of (log_of t) p) ≡ rank_of (note_of (log_of s) p) = ap rank_of (m.keeps.notes p cell' held) in
-        let b : rank_of (note_of (log_of s) o) ≡ rank_of (note_of (log_of r) o) = ap rank_of (l.keeps.notes o cell at.holds) in omega arith,
+            let a : rank_of (note_of (log_of t) p) ≡ rank_of (note_of (log_of s) p) = ap rank_of (m.keeps.notes p cell' held) in
+            let b : rank_of (note_of (log_of s) o) ≡ rank_of (note_of (log_of r) o) = ap rank_of (l.keeps.notes o cell at.holds) in omega arith,
       )

@@ -1,8 +1,8 @@
 -- A lookup along a keyed chain answers by some moment of its window.
-use Rattle.std.proofs.Common.{◌≡◌, ◌≢◌, ◌⊎◌, ℕ, ◌<◌, ◌≤◌, Bool, List, [], ◌∷◌, ◌++◌, Option, Some, None, refl, sym, ap, ◌∙◌, subst, inl, inr, ⊎_elim, arith}
+use Rattle.std.proofs.Common.{◌≡◌, ◌≢◌, ◌⊎◌, ℕ, ◌<◌, Bool, List, [], ◌∷◌, ◌++◌, Option, Some, None, refl, sym, ap, ◌∙◌, subst, inl, inr, ⊎_elim, arith}
 use Rattle.rcu_model.specs.declared.event.ObjectId.{ObjectId}
 use Rattle.rcu_model.specs.Sets.{In, first_of, next_of, replaced, without_object}
-use Rattle.rcu_model.proofs.Lemmas.{StaysOrLeaves, StaysCut, at_number_same, at_object_same, first_has, in_objects, replaced_there, stays_cut, stays_or_leaves, without_object_has}
+use Rattle.rcu_model.proofs.Lemmas.{StaysOrLeaves, StaysCut, at_number_same, at_object_same, in_objects, replaced_there, stays_cut, stays_or_leaves, without_object_has}
 use Rattle.live_log.specs.declared.event.LiveEvent.{LiveEvent}
 use Rattle.live_log.specs.declared.event.LiveEvent.TheVariants.{Open, Close, SeqOdd, SeqEven, Present, ChainNote, CloseQueue, Object}
 use Rattle.live_log.specs.declared.event.ObjectEvent.TheVariants.{Push, Replace, Cut, Retire, Queue, Run}
@@ -118,7 +118,7 @@ module _ (qsbr : Bool) (c : ℕ) where
           let at : In ((state_of log).chain d) p = in_objects ((state_of log).chain d) p run.0.0 in
           let same : d ≡ c = (kept_log qsbr keyed log run.1).linking.one_chain d c p at (subst (In (chain_in log)) (sym e) r.has) in
           let left : chain_in (Object (Cut d p) ∷ log) ≡ without_object p (chain_in log) = ap (λ (n : ℕ). (state_of (Object (Cut d p) ∷ log)).chain n) (sym same)
-              ∙ (at_number_same d (without_object p ((state_of log).chain d)) (state_of log).chain ∙ ap (λ (n : ℕ). without_object p ((state_of log).chain n)) same) in
+          ∙ (at_number_same d (without_object p ((state_of log).chain d)) (state_of log).chain ∙ ap (λ (n : ℕ). without_object p ((state_of log).chain n)) same) in
           value_absent (note_of log) (chain_in (Object (Cut d p) ∷ log)) key (λ o h key_is. let k = without_object_has p (chain_in log) o (subst (λ (l : List ObjectId). In l o) left h) in
           k.1 (one_key (note_of log) (chain_in log) o p (each_falls qsbr log c run.1) k.0 (subst (In (chain_in log)) (sym e) r.has) (key_is ∙ (sym r.key_is ∙ ap (λ (z : ObjectId). key_of (note_of log z)) (sym e)))))
 

@@ -1,5 +1,5 @@
 -- What the writer of a list knows, and what its events tell of the map.
-use Rattle.std.proofs.Common.{◌≡◌, ◌≢◌, ◌⊎◌, ◌≤◌, ℕ, ◌+◌, ◌^◌, Bool, List, [], ◌∷◌, Option, Some, None, IsSome, refl, sym, ap, ◌∙◌, subst, inl, inr}
+use Rattle.std.proofs.Common.{◌≡◌, ◌≢◌, ◌⊎◌, ◌≤◌, ℕ, ◌+◌, ◌^◌, Bool, List, ◌∷◌, Option, Some, None, IsSome, refl, sym, ap, ◌∙◌, subst, inl, inr}
 use Rattle.std.specs.Prelude.{Result, Ok, Err, IfOk, IfErr}
 use Rattle.atomic_table.specs.Table.{Me}
 use Rattle.rcu_model.specs.declared.event.ObjectId.{ObjectId}
@@ -17,10 +17,10 @@ use Rattle.live_table.specs.Steps.{Went}
 use Rattle.live_chains.specs.Chains.{cut_of}
 use Rattle.live_read.specs.Hearing.{Stays}
 use Rattle.live_read.specs.declared.witness.Witness.{Ghosts}
-use Rattle.live_write.specs.Chains.{IsFirstWith, Publishes, first_word, list_in, push_by, replace_by}
+use Rattle.live_write.specs.Chains.{IsFirstWith, Publishes, list_in, push_by, replace_by}
 use Rattle.live_write.proofs.Lemmas.{index_has}
 use Rattle.rcu_list.specs.Calls.{Inserts, Replaces, Removes}
-use Rattle.rcu_list.specs.Maps.{HasLastRank, map_of, value_of, words_of}
+use Rattle.rcu_list.specs.Maps.{HasLastRank, map_of, words_of}
 use Rattle.rcu_list.proofs.Changing.{inserts, key_missing, key_there, removes, replaces, same_note}
 
 -- the chain of a log is the list that the writer knows

@@ -127,11 +127,7 @@ impl<B: Site> ListView<B> {
     ///
     /// It loads the key of each object that it passes, its link, and the rank of the first one. It returns, since ranks
     /// fall along the chain. It never waits and takes no memory.
-    pub fn get<P: GracePlan>(
-        self,
-        section: &mut Section<'_, P, Keyed, B>,
-        key: u64,
-    ) -> Option<u64>
+    pub fn get<P: GracePlan>(self, section: &mut Section<'_, P, Keyed, B>, key: u64) -> Option<u64>
         requires { (P.QSBR ≡ B.qsbr) × (0 < section.old.reader.now.depth) }
         ensures reader { section.new.reader.ghost_name ≡ section.old.reader.ghost_name }
         ensures looked { Looks P.QSBR keyed section.old.reader.now section.new.reader.now }

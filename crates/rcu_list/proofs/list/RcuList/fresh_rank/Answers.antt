@@ -1,7 +1,7 @@
-use Rattle.std.proofs.Common.{◌≡◌, ◌<◌, ℕ, ◌+◌, List, Some, slice_get, slice_index_or, ⊎_elim, arith, ap, sym, ◌∙◌, subst}
+use Rattle.std.proofs.Common.{◌≡◌, ◌<◌, ℕ, ◌+◌, List, Some, slice_get, slice_index_or, ⊎_elim, arith, ap, ◌∙◌, subst}
 use Rattle.rcu_model.specs.declared.event.ObjectId.{ObjectId}
-use Rattle.rcu_model.specs.Sets.{In, first_of}
-use Rattle.live_log.specs.Keys.{Falls, keyed, rank_of}
+use Rattle.rcu_model.specs.Sets.{In}
+use Rattle.live_log.specs.Keys.{Falls, rank_of}
 use Rattle.live_log.specs.Log.{Log, note_of}
 use Rattle.live_log.proofs.Lemmas.{each_falls}
 use Rattle.live_write.specs.Chains.{list_in}

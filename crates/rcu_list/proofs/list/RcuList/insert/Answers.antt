@@ -1,4 +1,4 @@
-use Rattle.std.proofs.Common.{◌≡◌, ◌≢◌, ◌<◌, ℕ, ◌∷◌, Bool, List, Option, Some, None, true, false, IfNone, IfSome, is_some, inl, inr, refl, ap, sym, ◌∙◌, subst, slice_index_or}
+use Rattle.std.proofs.Common.{◌≡◌, ◌<◌, ℕ, ◌∷◌, List, Option, Some, None, true, false, IfNone, IfSome, is_some, inl, inr, refl, ap, sym, ◌∙◌, subst, slice_index_or}
 use Rattle.std.proofs.lemmas.Result.{err_from_is_err_and}
 use Rattle.rcu_model.specs.declared.event.ObjectId.{ObjectId}
 use Rattle.rcu_model.specs.Sets.{In}
@@ -81,11 +81,14 @@ returns-clause-inserted g c =
     let missing = walked_missing qsbr old.number old.seat.me mid.seat.me e.walked.1 old.owns.1 old.owns.2 c.args.key none in
     let went = went_both qsbr keyed old.seat.me mid.seat.me new.seat.me e.walked.1 f.looked.1 in
     let known : Log = old.seat.me.0.seen in let before : Log = p.pushed.before in
-    let number : new.number ≡ old.number = f.looked.2 ∙ e.walked.2 in
-    (pushed_map qsbr old.number known (g.W.Witness.seen c.args.witness.now) (g.W.Witness.heard c.args.witness.now) new.seat.me.0 done.seat.me.0 (new.owns.2 ∙ number) (done.owns.2 ∙ (p.list.3 ∙ number)) done.owns.1
-    (chain_known old.seat.me.0 old.number old.owns.1 old.owns.2 ∙ ap (λ (x : ChainRight). x.objects) (sym (then ∙ first)))
-    (g.W.Witness.seen c.alloc.new.witness) (g.W.Witness.heard c.alloc.new.witness) owned.seat.me.0.seen owned.seat.me.0 c.args.key c.args.value c.in-Some.rank words p.pushed
-    (begins_trans known new.seat.me.0.seen before went.2.0 p.pushed.after.after_writer.0,
-    subst (λ (l : Log). Begins l before) a.same.0.0 p.pushed.after.after_caller.0,
-    begins_trans (g.W.Witness.heard c.args.witness.now) (g.W.Witness.heard c.alloc.new.witness) before a.heard.after_heard p.pushed.after.after_caller.1)
-    (p.list.0 ∙ ap (λ (o : ObjectId). o ∷ list_in new.seat.me.0) p.object) missing, p.heard)
+    let number : new.number ≡ old.number = f.looked.2 ∙ e.walked.2 in (
+      pushed_map qsbr old.number known (g.W.Witness.seen c.args.witness.now) (g.W.Witness.heard c.args.witness.now) new.seat.me.0 done.seat.me.0 (new.owns.2 ∙ number) (done.owns.2 ∙ (p.list.3 ∙ number)) done.owns.1
+          (chain_known old.seat.me.0 old.number old.owns.1 old.owns.2 ∙ ap (λ (x : ChainRight). x.objects) (sym (then ∙ first)))
+          (g.W.Witness.seen c.alloc.new.witness) (g.W.Witness.heard c.alloc.new.witness) owned.seat.me.0.seen owned.seat.me.0 c.args.key c.args.value c.in-Some.rank words p.pushed (
+            begins_trans known new.seat.me.0.seen before went.2.0 p.pushed.after.after_writer.0,
+            subst (λ (l : Log). Begins l before) a.same.0.0 p.pushed.after.after_caller.0,
+            begins_trans (g.W.Witness.heard c.args.witness.now) (g.W.Witness.heard c.alloc.new.witness) before a.heard.after_heard p.pushed.after.after_caller.1,
+          )
+          (p.list.0 ∙ ap (λ (o : ObjectId). o ∷ list_in new.seat.me.0) p.object) missing,
+      p.heard,
+    )

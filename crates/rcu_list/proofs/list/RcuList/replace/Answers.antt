@@ -1,4 +1,4 @@
-use Rattle.std.proofs.Common.{◌≡◌, ◌≤◌, ◌<◌, ◌%◌, ℕ, List, [], ◌∷◌, ◌++◌, length, slice_get, slice_index_or, inl, inr, refl, ap, sym, ◌∙◌, subst, arith}
+use Rattle.std.proofs.Common.{◌≡◌, ◌≤◌, ◌%◌, ℕ, List, ◌∷◌, length, slice_get, slice_index_or, inl, inr, refl, ap, sym, ◌∙◌, subst, arith}
 use Rattle.std.proofs.lemmas.Option.{slice_get_within}
 use Rattle.rcu_model.specs.declared.event.ObjectId.{ObjectId}
 use Rattle.rcu_model.proofs.Lemmas.{some_is}
@@ -9,7 +9,6 @@ use Rattle.live_rule.specs.Places.{cell_at, closed_at}
 use Rattle.live_rule.specs.declared.rights.ChainRight.{ChainRight}
 use Rattle.live_table.specs.Rights.{cell_in, payload_in}
 use Rattle.live_items.specs.Retiring.{Queues}
-use Rattle.live_reclaim.specs.Refusing.{RefusesRetirement}
 use Rattle.live_write.specs.Chains.{list_in}
 use Rattle.live_write.proofs.Lemmas.{index_has, keyed_replace, went_both}
 use Rattle.rcu_list.specs.Maps.{words_of}
@@ -30,9 +29,13 @@ unreachable-requires g c =
 
 pub returns-in-Err-clause-refused : goal.returns-in-Err-clause-refused
 returns-in-Err-clause-refused g c =
-    let e = c.in-Some.ensures in let old = c.args.self.now.chain in let a = c.in-Err.ensures in let l = a.looks in
-    (refl, inr (found_there g.P.GracePlan.QSBR old.number old.seat.me c.index_of.new.self.seat.me e.walked.1 old.owns.1 old.owns.2 c.args.key c.in-Some.index e.found,
-    inl (record { is = l.2.0; found = l.0; looks = l.1; why = l.2.1; after = a.heard; same = a.same })))
+    let e = c.in-Some.ensures in let old = c.args.self.now.chain in let a = c.in-Err.ensures in let l = a.looks in (
+      refl,
+      inr (
+        found_there g.P.GracePlan.QSBR old.number old.seat.me c.index_of.new.self.seat.me e.walked.1 old.owns.1 old.owns.2 c.args.key c.in-Some.index e.found,
+        inl (record { is = l.2.0; found = l.0; looks = l.1; why = l.2.1; after = a.heard; same = a.same }),
+      ),
+    )
 
 pub returns-in-Err-clause-kept : goal.returns-in-Err-clause-kept
 returns-in-Err-clause-kept g c =
@@ -67,17 +70,19 @@ returns-in-Ok-replace_retire-clause-replaced g c =
     let went = went_both qsbr keyed old.seat.me mid.seat.me new.seat.me e.walked.1 f.1 in
     let number : new.number ≡ old.number = f.2 ∙ e.walked.2 in
     let one : e.found.object ≡ r.object = some_is e.found.object r.object (sym e.found.at ∙ (ap (λ (x : ChainRight). slice_get x.objects index) (sym (then ∙ first)) ∙ r.was)) in
-    let key_is : key_of (note_of known r.object) ≡ c.args.key = ap (λ (p : ObjectId). key_of (note_of known p)) (sym one) ∙ (ap key_of (sym (note_walked qsbr old.number old.seat.me mid.seat.me e.walked.1 old.owns.1 old.owns.2 e.found.object (index_has (list_in old.seat.me.0) index e.found.object e.found.at))) ∙ e.found.begins) in
-    (r.object,
-    replaced_map qsbr old.number known (g.W.Witness.seen c.args.witness.now) (g.W.Witness.heard c.args.witness.now) new.seat.me.0 done.seat.me.0 (new.owns.2 ∙ number) (done.owns.2 ∙ (s.1 ∙ number)) done.owns.1
-    (chain_known old.seat.me.0 old.number old.owns.1 old.owns.2 ∙ ap (λ (x : ChainRight). x.objects) (sym (then ∙ first)))
-    (g.W.Witness.seen c.alloc.new.witness) (g.W.Witness.heard c.alloc.new.witness) owned.seat.me.0.seen c.args.key r.object (index_has (list_in new.seat.me.0) index r.object r.was) key_is
-    owned.seat.me.0 c.args.value (slice_index_or c.in-Some-get.words 2 0) a.owned.0 r.published
-    (begins_trans known new.seat.me.0.seen before went.2.0 r.published.after.after_writer.0,
-    subst (λ (l : Log). Begins l before) a.same.0.0 r.published.after.after_caller.0,
-    begins_trans (g.W.Witness.heard c.args.witness.now) (g.W.Witness.heard c.alloc.new.witness) before a.heard.after_heard r.published.after.after_caller.1)
-    r.left,
-    record { given = r.given; turn = r.turn; queued = subst (λ (n : ℕ). Queues qsbr keyed (Begins done.seat.me.0.seen) r.object (n % g.B.Site.sizes.queues) r.given (g.W.Witness.heard c.replace_retire.new.witness)) number r.queued })
+    let key_is : key_of (note_of known r.object) ≡ c.args.key = ap (λ (p : ObjectId). key_of (note_of known p)) (sym one) ∙ (ap key_of (sym (note_walked qsbr old.number old.seat.me mid.seat.me e.walked.1 old.owns.1 old.owns.2 e.found.object (index_has (list_in old.seat.me.0) index e.found.object e.found.at))) ∙ e.found.begins) in (
+      r.object,
+      replaced_map qsbr old.number known (g.W.Witness.seen c.args.witness.now) (g.W.Witness.heard c.args.witness.now) new.seat.me.0 done.seat.me.0 (new.owns.2 ∙ number) (done.owns.2 ∙ (s.1 ∙ number)) done.owns.1
+          (chain_known old.seat.me.0 old.number old.owns.1 old.owns.2 ∙ ap (λ (x : ChainRight). x.objects) (sym (then ∙ first)))
+          (g.W.Witness.seen c.alloc.new.witness) (g.W.Witness.heard c.alloc.new.witness) owned.seat.me.0.seen c.args.key r.object (index_has (list_in new.seat.me.0) index r.object r.was) key_is
+          owned.seat.me.0 c.args.value (slice_index_or c.in-Some-get.words 2 0) a.owned.0 r.published (
+            begins_trans known new.seat.me.0.seen before went.2.0 r.published.after.after_writer.0,
+            subst (λ (l : Log). Begins l before) a.same.0.0 r.published.after.after_caller.0,
+            begins_trans (g.W.Witness.heard c.args.witness.now) (g.W.Witness.heard c.alloc.new.witness) before a.heard.after_heard r.published.after.after_caller.1,
+          )
+          r.left,
+      record { given = r.given; turn = r.turn; queued = subst (λ (n : ℕ). Queues qsbr keyed (Begins done.seat.me.0.seen) r.object (n % g.B.Site.sizes.queues) r.given (g.W.Witness.heard c.replace_retire.new.witness)) number r.queued },
+    )
 
 pub returns-in-Err-replace_retire-clause-refused : goal.returns-in-Err-replace_retire-clause-refused
 returns-in-Err-replace_retire-clause-refused g c =
@@ -88,28 +93,35 @@ returns-in-Err-replace_retire-clause-refused g c =
     let first = same_own qsbr old.number old.seat.me mid.seat.me e.walked.1 old.owns.1 old.owns.2 in
     let then = same_own qsbr mid.number mid.seat.me new.seat.me f.1 mid.owns.1 mid.owns.2 in
     let within = slice_get_within (list_in old.seat.me.0) c.in-Some.index e.found.object e.found.at in
-    let number : new.number ≡ old.number = f.2 ∙ e.walked.2 in
-    (c.in-Err-replace_retire.ensures.back.1,
-    inr (found_there qsbr old.number old.seat.me mid.seat.me e.walked.1 old.owns.1 old.owns.2 c.args.key c.in-Some.index e.found,
-    inr (by_second c.in-Err-replace_retire.ensures.refused
-    (λ n. let few : length (list_in new.seat.me.0) ≤ c.in-Some.index = n.1 in let same : length (list_in new.seat.me.0) ≡ length (list_in old.seat.me.0) = ap (λ (x : ChainRight). length x.objects) (then ∙ first) in omega arith)
-    (λ k. let r = k.1 in record {
-      found = a.looks.0;
-      closed = r.closed;
-      cell = cell_in c.in-Err-replace_retire.owned.seat.me.0.object;
-      looks = d.freed ∙ ap (λ (l : List (ℕ × ℕ)). (cell_at sizes (cell_in c.in-Err-replace_retire.owned.seat.me.0.object) 0, 0) ∷ l) (r.looked ∙ (λ i. (closed_at sizes (number i % sizes.queues), r.closed) ∷ a.looks.1 i));
-      at = w.heard w2;
-      told = r.told ∙ ap (λ (n : ℕ). closed_of (n % sizes.queues) (w.heard w2)) number;
-      within = (record {
-        after_seen = subst (λ (l : Log). Begins l (w.heard w2)) a.same.0.0 r.after.after_seen;
-        after_heard = begins_trans (w.heard w0) (w.heard w1) (w.heard w2) a.heard.after_heard r.after.after_heard;
-        run = r.after.run;
-      }, d.heard.0.after_heard, d.heard.0.run);
-      why = r.why;
-      load = d.loads.0;
-      loads = d.loads.1 ∙ ap (λ (l : List Log). d.loads.0 ∷ l) (r.same.1 ∙ a.same.1);
-      same = stays_both w w0 w1 w3 a.same.0 (stays_both w w1 w2 w3 r.same.0 d.same);
-    }))))
+    let number : new.number ≡ old.number = f.2 ∙ e.walked.2 in (
+      c.in-Err-replace_retire.ensures.back.1,
+      inr (
+        found_there qsbr old.number old.seat.me mid.seat.me e.walked.1 old.owns.1 old.owns.2 c.args.key c.in-Some.index e.found,
+        inr (by_second c.in-Err-replace_retire.ensures.refused
+            (λ n. let few : length (list_in new.seat.me.0) ≤ c.in-Some.index = n.1 in let same : length (list_in new.seat.me.0) ≡ length (list_in old.seat.me.0) = ap (λ (x : ChainRight). length x.objects) (then ∙ first) in omega arith)
+            (λ k. let r = k.1 in record {
+              found = a.looks.0;
+              closed = r.closed;
+              cell = cell_in c.in-Err-replace_retire.owned.seat.me.0.object;
+              looks = d.freed ∙ ap (λ (l : List (ℕ × ℕ)). (cell_at sizes (cell_in c.in-Err-replace_retire.owned.seat.me.0.object) 0, 0) ∷ l) (r.looked ∙ (λ i. (closed_at sizes (number i % sizes.queues), r.closed) ∷ a.looks.1 i));
+              at = w.heard w2;
+              told = r.told ∙ ap (λ (n : ℕ). closed_of (n % sizes.queues) (w.heard w2)) number;
+              within = (
+                record {
+                  after_seen = subst (λ (l : Log). Begins l (w.heard w2)) a.same.0.0 r.after.after_seen;
+                  after_heard = begins_trans (w.heard w0) (w.heard w1) (w.heard w2) a.heard.after_heard r.after.after_heard;
+                  run = r.after.run;
+                },
+                d.heard.0.after_heard,
+                d.heard.0.run,
+              );
+              why = r.why;
+              load = d.loads.0;
+              loads = d.loads.1 ∙ ap (λ (l : List Log). d.loads.0 ∷ l) (r.same.1 ∙ a.same.1);
+              same = stays_both w w0 w1 w3 a.same.0 (stays_both w w1 w2 w3 r.same.0 d.same);
+            })),
+      ),
+    )
 
 pub returns-in-Err-replace_retire-clause-kept : goal.returns-in-Err-replace_retire-clause-kept
 returns-in-Err-replace_retire-clause-kept g c = let b = c.in-Err-replace_retire.ensures.back in let e = c.in-Some.ensures.walked in let f = c.in-Some-get.ensures.walked in

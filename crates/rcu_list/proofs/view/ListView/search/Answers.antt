@@ -1,11 +1,10 @@
-use Rattle.std.proofs.Common.{◌≡◌, ℕ, ◌+◌, ◌<◌, ◌≤◌, List, Some, None, sym, ap, ◌∙◌, subst, arith, slice_index_or}
-use Rattle.rcu_model.specs.declared.event.ObjectId.{ObjectId}
+use Rattle.std.proofs.Common.{◌≡◌, sym, ap, ◌∙◌, subst, arith}
 use Rattle.live_log.specs.Keys.{keyed, rank_of}
 use Rattle.live_log.specs.Log.{note_of}
 use Rattle.live_read.specs.Holding.{log_of}
 use Rattle.live_read.proofs.Lemmas.{looks_twice}
 use Rattle.rcu_list.specs.Maps.{AnswersBetween}
-use Rattle.rcu_list.proofs.Looking.{answers_first, answers_low, answers_next, answers_none, stands_first, stands_next, stands_on}
+use Rattle.rcu_list.proofs.Looking.{answers_next, answers_none, stands_first, stands_next}
 use Rattle.rcu_list.proofs.view.ListView.search.Goals as goal
 
 pub read_word-most-requires-clause-held : goal.read_word-most-requires-clause-held
@@ -49,7 +48,7 @@ pub loop-passed-preserved : goal.loop-passed-preserved
 loop-passed-preserved g c =
     let i = c.loop-passed.invariant in let e = c.in_default-value_at.ensures in let n = c.in_ok-held.ensures.some i.object i.stands.holds in
     let next = stands_next g.P.GracePlan.QSBR c.args.self.chain c.args.key c.args.section.now.reader.now c.loop-passed.section.reader.now c.next.new.self.reader.now i.object c.loop-passed.held.cell i.stands c.next.ensures.looked n.0 n.1
-        c.value_at-in-loop-passed.new.section.reader.now c.in_ok-held.held.cell n.2 e.looked (e.none n.0 n.2) in
+    c.value_at-in-loop-passed.new.section.reader.now c.in_ok-held.held.cell n.2 e.looked (e.none n.0 n.2) in
     record {
       reader = e.reader ∙ (c.next.ensures.reader ∙ i.reader);
       object = n.0;
