@@ -1,5 +1,4 @@
-use Rattle.std.proofs.Common.{length, ◌≡◌, ◌≢◌, ℕ, ◌+◌, ◌-◌, ◌<◌, ◌∙◌, List, Some, slice_get, slice_index_or, arith, ap, sym, subst, below_more}
-use Rattle.atomic_table.specs.Table.{Me}
+use Rattle.std.proofs.Common.{length, ◌≡◌, ◌≢◌, ℕ, ◌-◌, ◌<◌, ◌∙◌, List, Some, slice_get, slice_index_or, arith, ap, sym, below_more}
 use Rattle.rcu_model.specs.declared.event.ObjectId.{ObjectId}
 use Rattle.rcu_model.specs.Sets.{In}
 use Rattle.rcu_model.proofs.Lemmas.{some_is}
