@@ -1,12 +1,12 @@
 //! Keyed lists, in both flavours: what their calls answer, and what stays where they are refused.
 
-ghost use Rattle.std.specs.Prelude.{◌≡◌, ◌+◌, true, false};
+ghost use Rattle.std.specs.Prelude.{◌≡◌, IfOk};
 
 use crate::deleter::Adds;
-use domain::{Chain, Domain, LiveConfig, Opened, Reader, Record, Site, Ticket};
+use domain::{Domain, LiveConfig, Opened, Reader, Record, Site, Ticket};
 use gp_memb::{GracePlan, MembPlan};
 use gp_qsbr::QsbrPlan;
-use live_words::{ChainRule, Keyed};
+use live_words::Keyed;
 use rcu_list::{ListView, RcuList};
 use rcu_model::Refusal;
 use std::alloc::Global;
@@ -23,16 +23,19 @@ fn of_pool(pool: usize) -> LiveConfig {
     }
 }
 
-/// What a lookup in a section of its own answers.
+/// What a lookup in a section of its own answers; the reader has none open before and after.
 fn look<P: GracePlan, B: Site>(
     reader: &mut Reader<P, Keyed, B>,
     view: ListView<B>,
     key: u64,
 ) -> Result<Option<u64>, Refusal>
-    requires { P.QSBR ≡ B.qsbr }
+    requires { (P.QSBR ≡ B.qsbr) × (reader.old.depth ≡ 0) × (reader.old.locks ≡ 0) }
+    ensures { IfOk result (λ _. (reader.new.depth ≡ 0) × (reader.new.locks ≡ 0)) }
 {
     let mut section = reader.section()?;
-    Ok(view.get(&mut section, key))
+    let found = view.get(&mut section, key);
+    section.close();
+    Ok(found)
 }
 
 /// A list over chain 0.
@@ -54,6 +57,7 @@ fn registered<P: GracePlan + Drop, B: Site, R: Wait>(
     record: &mut Record<B>,
 ) -> Result<Reader<P, Keyed, B>, Refusal>
     requires { P.QSBR ≡ B.qsbr }
+    ensures { IfOk result (λ r. (r.depth ≡ 0) × (r.locks ≡ 0)) }
 {
     let mut reader = domain.register(rt, record)?;
     if P::QSBR {
@@ -100,6 +104,9 @@ fn calls_answer_by_the_map(rt: HostRuntime) {
     let general = Opened::<MembPlan, Keyed>::new(rt.alloc(), of_pool(4)).expect(&rt, "memory");
     let did = calls::<_, Brand, _>(&rt, rt.alloc(), general).expect(&rt, "not refused");
     assert_eq!(rt; did, ([true; 5], [None, Some(71), None, None]));
+    let quiescent = Opened::<QsbrPlan, Keyed>::new(rt.alloc(), of_pool(4)).expect(&rt, "memory");
+    let did = calls::<_, Brand, _>(&rt, rt.alloc(), quiescent).expect(&rt, "not refused");
+    assert_eq!(rt; did, ([true; 5], [None, Some(71), None, None]));
 }
 
 /// Keys at the front, in the middle and at the end of a list are looked up, replaced and removed; the values of all at
@@ -145,6 +152,9 @@ fn lookups_pass_other_keys(rt: HostRuntime) {
     let general = Opened::<MembPlan, Keyed>::new(rt.alloc(), of_pool(8)).expect(&rt, "memory");
     let found = walks::<_, Brand, _>(&rt, rt.alloc(), general).expect(&rt, "not refused");
     assert_eq!(rt; found, values);
+    let quiescent = Opened::<QsbrPlan, Keyed>::new(rt.alloc(), of_pool(8)).expect(&rt, "memory");
+    let found = walks::<_, Brand, _>(&rt, rt.alloc(), quiescent).expect(&rt, "not refused");
+    assert_eq!(rt; found, values);
 }
 
 /// With a pool of two: where no record is left, and where the queues are closed, the callback comes back, the map is as
@@ -186,6 +196,9 @@ fn refused_calls_give_all_back(rt: HostRuntime) {
     let values = [Some(30), Some(40)];
     let general = Opened::<MembPlan, Keyed>::new(rt.alloc(), of_pool(2)).expect(&rt, "memory");
     let did = refusals::<_, Brand, _>(&rt, rt.alloc(), general).expect(&rt, "not refused");
+    assert_eq!(rt; did, ([true; 6], values));
+    let quiescent = Opened::<QsbrPlan, Keyed>::new(rt.alloc(), of_pool(2)).expect(&rt, "memory");
+    let did = refusals::<_, Brand, _>(&rt, rt.alloc(), quiescent).expect(&rt, "not refused");
     assert_eq!(rt; did, ([true; 6], values));
 }
 
