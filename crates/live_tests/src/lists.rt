@@ -137,13 +137,12 @@ fn walks<P: GracePlan + Drop, B: Site, R: Wait>(
         return Err(refusal);
     }
     let view = ListView::of(&domain, 0)?;
-    Ok([
-        look(&mut reader, view, 1)?,
-        look(&mut reader, view, 2)?,
-        look(&mut reader, view, 3)?,
-        look(&mut reader, view, 4)?,
-        look(&mut reader, view, 5)?,
-    ])
+    let first = look(&mut reader, view, 1)?;
+    let second = look(&mut reader, view, 2)?;
+    let third = look(&mut reader, view, 3)?;
+    let fourth = look(&mut reader, view, 4)?;
+    let fifth = look(&mut reader, view, 5)?;
+    Ok([first, second, third, fourth, fifth])
 }
 
 #[test]
@@ -178,6 +177,8 @@ fn refusals<P: GracePlan + Drop, B: Site, R: Wait>(
     let full = list.insert(rt, &domain, &mut record, 5, 50);
     let no_room = list.replace(rt, &domain, &mut record, 4, 41, Adds(7));
     let view = list.view();
+    let third = look(&mut reader, view, 3)?;
+    let fourth = look(&mut reader, view, 4)?;
     Ok((
         [
             matches!(closed, Err((Refusal::Closed, Adds(5)))),
@@ -187,7 +188,7 @@ fn refusals<P: GracePlan + Drop, B: Site, R: Wait>(
             matches!(full, Err(Refusal::PoolFull)),
             matches!(no_room, Err((Refusal::PoolFull, Adds(7)))),
         ],
-        [look(&mut reader, view, 3)?, look(&mut reader, view, 4)?],
+        [third, fourth],
     ))
 }
 

@@ -126,7 +126,10 @@ fn retires<B: Site, R: Wait, D: Deleter>(
     let mut writer = domain.chain(record, 0)?;
     let owned = domain.alloc(rt, record, [1; 4])?;
     writer.push(record, owned);
-    if domain.cut_retire(rt, record, &mut writer, 0, callback).is_err() {
+    if domain
+        .cut_retire(rt, record, &mut writer, 0, callback)
+        .is_err()
+    {
         return Err(Refusal::Memory);
     }
     domain.close(rt, record);
@@ -145,7 +148,9 @@ fn counts_within<B: Site + Send + Sync, R: Threads + Wait + Sync, D: Deleter + S
     let mut other = domain.split(record);
     let (worked, counts) = join(
         rt,
-        move || domain.run_worker(rt, alloc, record, 0).map(|end| end.finished.len()),
+        move || domain
+            .run_worker(rt, alloc, record, 0)
+            .map(|end| end.finished.len()),
         move || {
             until_raised(rt, entered);
             let counts = domain.counts(&mut other);
@@ -153,11 +158,15 @@ fn counts_within<B: Site + Send + Sync, R: Threads + Wait + Sync, D: Deleter + S
             counts
         },
     );
-    if worked? == 1 { Ok(counts) } else { Err(Refusal::Busy) }
+    if worked? == 1 {
+        Ok(counts)
+    } else {
+        Err(Refusal::Busy)
+    }
 }
 
 /// The counts of a domain with one retired record, while its callback runs.
-fn pauses<B: Site + Send + Sync, R: Threads + Wait + Sync>(
+fn make_pauses<B: Site + Send + Sync, R: Threads + Wait + Sync>(
     rt: &R,
     alloc: Global,
     opened: Opened<MembPlan, AnyChain>,
@@ -177,8 +186,9 @@ fn a_callback_comes_after_the_free_and_before_the_count(rt: HostRuntime) {
     let opened = Opened::<MembPlan, AnyChain>::new(rt.alloc(), SMALL).expect(&rt, "memory");
     let entered = AtomicU64::new(0);
     let seen = AtomicU64::new(0);
-    let counts = pauses::<Brand, _>(&rt, rt.alloc(), opened, &entered, &seen).expect(
-        &rt, "not refused",
+    let counts = make_pauses::<Brand, _>(&rt, rt.alloc(), opened, &entered, &seen).expect(
+        &rt,
+        "not refused",
     );
     assert_eq!(rt; counts, counted(2, 0, [1, 0]));
 }
