@@ -3,6 +3,7 @@
 
 #define _GNU_SOURCE
 #include <pthread.h>
+#include <sched.h>
 #include <stdatomic.h>
 #include <stdint.h>
 #include <stdio.h>
@@ -17,6 +18,7 @@
 #endif
 
 static unsigned long count;
+static int threads;
 
 /* One thread's work, `count` times. */
 typedef void work(void);
@@ -181,6 +183,148 @@ FLAVOUR(mb)
 FLAVOUR(memb)
 FLAVOUR(qsbr)
 
+/* The headers declare these of the first flavour alone. */
+void urcu_memb_call_rcu(struct rcu_head *head, void (*callback)(struct rcu_head *head));
+void urcu_memb_barrier(void);
+void urcu_qsbr_call_rcu(struct rcu_head *head, void (*callback)(struct rcu_head *head));
+void urcu_qsbr_barrier(void);
+
+/* A place for each thread that updates, in a line of its own. */
+struct node {
+	struct rcu_head head;
+	unsigned long words[4];
+};
+static struct {
+	_Alignas(128) struct node *node;
+} places[16];
+
+/* About as many nodes wait to be freed as a pool of 65,536 records lets wait; an updater looks now and then. */
+#define MOST_WAITING 60000
+#define LOOK_EVERY 1000
+static _Alignas(128) atomic_ulong retired;
+static _Alignas(128) atomic_ulong freed; /* the one thread of call_rcu stores it */
+
+static struct node *new_node(unsigned long word)
+{
+	struct node *node = malloc(sizeof *node);
+	for (int k = 0; k < 4; k++)
+		node->words[k] = word;
+	return node;
+}
+
+static void free_node(struct rcu_head *head)
+{
+	free(caa_container_of(head, struct node, head));
+	atomic_store_explicit(&freed, atomic_load_explicit(&freed, memory_order_relaxed) + 1, memory_order_relaxed);
+}
+
+static int are_many(void)
+{
+	return atomic_load(&retired) > atomic_load(&freed) + MOST_WAITING;
+}
+
+static unsigned long look_into(struct node *node)
+{
+	return node ? node->words[0] ^ node->words[1] ^ node->words[2] ^ node->words[3] : 0;
+}
+
+#define RECLAIM(name)                                                                                                  \
+	static void name##_replace(int place, unsigned long word)                                                      \
+	{                                                                                                              \
+		struct node *old = rcu_xchg_pointer(&places[place].node, new_node(word));                              \
+		urcu_##name##_call_rcu(&old->head, free_node);                                                         \
+	}                                                                                                              \
+	/* Waits while as many are waiting as a full pool has. */                                                      \
+	static void name##_replace_some(int place, unsigned long word)                                                 \
+	{                                                                                                              \
+		static _Thread_local unsigned mine;                                                                    \
+		name##_replace(place, word);                                                                           \
+		if (++mine % LOOK_EVERY)                                                                               \
+			return;                                                                                        \
+		atomic_fetch_add(&retired, LOOK_EVERY);                                                                \
+		if (!are_many())                                                                                       \
+			return;                                                                                        \
+		name##_leave();                                                                                        \
+		while (are_many())                                                                                     \
+			sched_yield();                                                                                 \
+		name##_enter();                                                                                        \
+	}                                                                                                              \
+	static void name##_queue(void)                                                                                 \
+	{                                                                                                              \
+		urcu_##name##_register_thread();                                                                       \
+		places[0].node = new_node(0);                                                                          \
+		for (unsigned long i = 0; i < count; i++)                                                              \
+			name##_replace(0, i);                                                                          \
+		urcu_##name##_unregister_thread();                                                                     \
+	}                                                                                                              \
+	static void name##_retire_all(void)                                                                            \
+	{                                                                                                              \
+		name##_queue();                                                                                        \
+		urcu_##name##_barrier();                                                                               \
+	}                                                                                                              \
+	static void name##_retire(void)                                                                                \
+	{                                                                                                              \
+		urcu_##name##_register_thread();                                                                       \
+		places[0].node = new_node(0);                                                                          \
+		for (unsigned long i = 0; i < count; i++)                                                              \
+			name##_replace_some(0, i);                                                                     \
+		urcu_##name##_unregister_thread();                                                                     \
+		urcu_##name##_barrier();                                                                               \
+	}                                                                                                              \
+	static void name##_barrier(void)                                                                               \
+	{                                                                                                              \
+		urcu_##name##_register_thread();                                                                       \
+		places[0].node = new_node(0);                                                                          \
+		for (unsigned long i = 0; i < count; i++) {                                                            \
+			name##_replace(0, i);                                                                          \
+			urcu_##name##_barrier();                                                                       \
+		}                                                                                                      \
+		urcu_##name##_unregister_thread();                                                                     \
+	}                                                                                                              \
+	/* Reads the places in turn, and updates its own once in 100 times. */                                         \
+	static void name##_mix(void)                                                                                   \
+	{                                                                                                              \
+		int place = atomic_fetch_add(&claimed, 1);                                                             \
+		urcu_##name##_register_thread();                                                                       \
+		rcu_set_pointer(&places[place].node, new_node(0));                                                     \
+		for (unsigned long i = 0; i < count; i++) {                                                            \
+			if (i % 100 == 0) {                                                                            \
+				name##_replace_some(place, i);                                                         \
+				name##_announce();                                                                     \
+				continue;                                                                              \
+			}                                                                                              \
+			urcu_##name##_read_lock();                                                                     \
+			sink = look_into(rcu_dereference(places[i % threads].node));                                   \
+			urcu_##name##_read_unlock();                                                                   \
+		}                                                                                                      \
+		urcu_##name##_unregister_thread();                                                                     \
+		urcu_##name##_barrier();                                                                               \
+	}
+
+static void mb_enter(void)
+{
+}
+static void memb_enter(void)
+{
+}
+static void qsbr_enter(void)
+{
+	urcu_qsbr_thread_online();
+}
+static void mb_announce(void)
+{
+}
+static void memb_announce(void)
+{
+}
+static void qsbr_announce(void)
+{
+	urcu_qsbr_quiescent_state();
+}
+RECLAIM(mb)
+RECLAIM(memb)
+RECLAIM(qsbr)
+
 /* Polls came with liburcu 0.14. */
 #if __has_include(<urcu/urcu-poll.h>)
 #define HAS_POLL
@@ -232,6 +376,27 @@ static const struct {
 	{ "qsbr", "read", qsbr_read },
 	{ "qsbr", "announcement", qsbr_announcement },
 	{ "qsbr", "synchronize", qsbr_synchronize },
+	{ "mb", "queue", mb_queue },
+	{ "mb", "retire", mb_retire },
+	{ "mb", "retire-boxed", mb_retire },
+	{ "mb", "barrier", mb_barrier },
+	{ "mb", "mix", mb_mix },
+	{ "mb-unlimited", "retire", mb_retire_all },
+	{ "mb-unlimited", "retire-boxed", mb_retire_all },
+	{ "memb", "queue", memb_queue },
+	{ "memb", "retire", memb_retire },
+	{ "memb", "retire-boxed", memb_retire },
+	{ "memb", "barrier", memb_barrier },
+	{ "memb", "mix", memb_mix },
+	{ "memb-unlimited", "retire", memb_retire_all },
+	{ "memb-unlimited", "retire-boxed", memb_retire_all },
+	{ "qsbr", "queue", qsbr_queue },
+	{ "qsbr", "retire", qsbr_retire },
+	{ "qsbr", "retire-boxed", qsbr_retire },
+	{ "qsbr", "barrier", qsbr_barrier },
+	{ "qsbr", "mix", qsbr_mix },
+	{ "qsbr-unlimited", "retire", qsbr_retire_all },
+	{ "qsbr-unlimited", "retire-boxed", qsbr_retire_all },
 #endif
 #ifdef HAS_POLL
 	{ "mb", "poll", mb_poll },
@@ -254,17 +419,17 @@ int main(int argc, char **argv)
 		return 0;
 	}
 	count = strtoul(argv[3], NULL, 10);
+	threads = atoi(argv[4]);
 	link_records();
 	for (size_t i = 0; i < sizeof works / sizeof *works; i++) {
 		if (strcmp(argv[1], works[i].peer) || strcmp(argv[2], works[i].kind))
 			continue;
 		work *it = works[i].run;
-		pthread_t threads[16];
-		int n = atoi(argv[4]);
-		for (int k = 0; k < n; k++)
-			pthread_create(&threads[k], NULL, run, &it);
-		for (int k = 0; k < n; k++)
-			pthread_join(threads[k], NULL);
+		pthread_t running[16];
+		for (int k = 0; k < threads; k++)
+			pthread_create(&running[k], NULL, run, &it);
+		for (int k = 0; k < threads; k++)
+			pthread_join(running[k], NULL);
 		return 0;
 	}
 	return 2;

@@ -19,13 +19,13 @@ use Rattle.live_rule.specs.Places.{finished_at, work_at}
 use Rattle.live_rule.specs.Steps.{Wrote}
 use Rattle.live_rule.specs.Views.{bare}
 use Rattle.live_rule.specs.declared.view.Sizes.{Sizes}
-use Rattle.live_table.specs.Steps.{Keeps}
+use Rattle.live_table.specs.Steps.{IsKnown, Keeps}
 use Rattle.live_words.specs.Queues.{IsAt}
 use Rattle.live_items.specs.Items.{InOrder, JobValue}
 use Rattle.live_items.specs.Running.{KeepsFinds}
 use Rattle.live_reclaim.specs.Batches.{AreRunAs, IsDue, IsRunAs, Lists}
 use Rattle.domain.specs.declared.worker_end.Stop.{Stop}
-use Rattle.domain.specs.Working.{FoundUsedUp, GoesOn, HasWorked, Looks, left_by}
+use Rattle.domain.specs.Working.{FoundUsedUp, GoesOn, HasMore, HasWorked, Looks, left_by}
 
 stands_later : (old new : Log) (q n : ℕ) (o : ObjectId) → Begins old new → IsAt q n o old → IsAt q n o new
 stands_later old new q n o b at = let g = line_grows old new q b in ap (λ (l : List ObjectId). get_elem? l n) g.1 ∙ at_longer (line_of old q) g.0 n o at
@@ -53,6 +53,10 @@ due_later q given old new b x = (x.0, begins_trans x.0 old new x.1 b, ended_late
 -- of the list, in a later log
 pub list_later : (q : ℕ) (old new : Log) (first last : ℕ) (a b : List Finished) → Begins old new → b ≡ a → Lists q old first last a → Lists q new first last b
 list_later q old new first last a b x e l = subst (λ (z : List Finished). Lists q new first last z) (sym e) (all_later q old new first a x l.0, l.1)
+
+-- more were queued, as one knows who sees all that was seen and heard of
+pub more_known : (q n : ℕ) (v : View) (log : Log) → Begins v.seen log → Begins v.heard log → IsKnown (HasMore q n) v → HasMore q n log
+more_known q n v log seen heard known = ⊎_elim (λ (m : HasMore q n v.seen). let l = line_longer v.seen log q seen in omega (arith, m, l)) (λ (m : HasMore q n v.heard). let l = line_longer v.heard log q heard in omega (arith, m, l)) known
 
 -- what is left is so in a later log
 pub order_later : (q : ℕ) (old new : Log) (n : ℕ) (items : List (Item JobValue)) → Begins old new → InOrder q old n items → InOrder q new n items
@@ -134,6 +138,7 @@ worked_for qsbr allows key sizes q seen heard v looks found before loads loaded 
       left = h.left;
       nothing = h.nothing;
       closed = h.closed;
+      memory = h.memory;
       exhausted = λ e. let u = h.exhausted e in record {
         at = u.at;
         earlier = u.earlier;

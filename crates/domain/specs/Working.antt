@@ -44,9 +44,13 @@ pub record FoundUsedUp (start log : Log) (old new : List Log) : Type 0 where
   pub before : Begins at log
   pub used_up : 2 ^ 62 ≤ seq_of at
 
+-- more were queued than so many
+abbrev pub HasMore : ℕ → ℕ → Log → Type 0
+HasMore q n log = n < length (line_of log q)
+
 module _ (qsbr : Bool) (allows : Log → LiveEvent → Type 0) (key : Sizes) (q : ℕ) where
   -- A worker began after all that had been seen and heard of, when the first so many were finished, and ran those that
-  -- came next, each in its turn. Where it was closed, no more were queued. What is left comes next after them, and
+  -- came next, each in its turn. Where it was closed, no more were queued, and where memory was refused, more were. What is left comes next after them, and
   -- nothing is but where the numbers were used up.
   pub record HasWorked (seen heard : Log) (old new : Looks) (old_loads new_loads : List Log) (entries : List Finished) (items : List (Item JobValue)) (stop : Stop) (log : Log) : Type 0 where
     pub start : Log
@@ -65,5 +69,6 @@ module _ (qsbr : Bool) (allows : Log → LiveEvent → Type 0) (key : Sizes) (q 
     pub left : InOrder q log last items
     pub nothing : stop ≢ Exhausted → items ≡ []
     pub closed : stop ≡ Closed → IsEmptied q last log
+    pub memory : stop ≡ Memory → HasMore q last log
     pub exhausted : stop ≡ Exhausted → FoundUsedUp start log old_loads new_loads
     pub looks : new ≡ (work_at key q, left_by stop) ∷ (looks_since ++ ((finished_at key q, first) ∷ (work_at key q, 0) ∷ old))

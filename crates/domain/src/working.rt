@@ -5,14 +5,14 @@ ghost use Rattle.live_log.specs.Log.{IsLiveRun, line_of};
 ghost use Rattle.live_rule.specs.Places.{work_at};
 ghost use Rattle.live_rule.specs.Seats.{but_work};
 ghost use Rattle.live_table.specs.Rights.{IsWorker, work_in};
-ghost use Rattle.live_table.specs.Steps.{IsLater, Keeps, Went, looked_view};
+ghost use Rattle.live_table.specs.Steps.{IsKnown, IsLater, Keeps, Went, looked_view};
 ghost use Rattle.live_read.specs.Hearing.{IsAfter, Stays};
 ghost use Rattle.live_items.specs.Items.{InOrder};
 ghost use Rattle.live_reclaim.specs.Batches.{IsDue, Lists, WorksFor};
 ghost use Rattle.live_reclaim.specs.Working.{IsEmptied, RefusesWork};
 ghost use Rattle.domain.specs.declared.worker_end.Stop.TheVariants as stopped;
 ghost use Rattle.domain.specs.declared.working.Outcome.TheVariants as outcome;
-ghost use Rattle.domain.specs.Working.{FoundUsedUp, GoesOn, HasWorked, left_by};
+ghost use Rattle.domain.specs.Working.{FoundUsedUp, GoesOn, HasMore, HasWorked, left_by};
 
 use crate::domain::Domain;
 use crate::worker_end::{Stop, WorkerEnd};
@@ -112,6 +112,7 @@ impl<P: GracePlan + Drop, K: ChainRule, B: Site, D: Deleter> Domain<P, K, B, D> 
         ensures list { Lists queue seat.new.me.0.seen first result.0 list.new.items }
         ensures left { InOrder queue seat.new.me.0.heard result.0 left.new.items × (result.1 ≢ outcome.Exhausted → left.new.items ≡ []) }
         ensures exhausted { result.1 ≡ outcome.Exhausted → FoundUsedUp seat.old.me.0.seen seat.new.me.0.seen seat.old.me.0.loads seat.new.me.0.loads }
+        ensures memory { result.1 ≡ outcome.Memory → IsKnown (HasMore queue result.0) seat.new.me.0 }
     {
         let sealed = self.queues[queue]
             .lock(rt, queue)
@@ -155,6 +156,7 @@ impl<P: GracePlan + Drop, K: ChainRule, B: Site, D: Deleter> Domain<P, K, B, D> 
         ensures left { InOrder queue seat.new.me.0.heard result.0 left.new.items × (result.1 ≢ stopped.Exhausted → left.new.items ≡ []) }
         ensures closed { result.1 ≡ stopped.Closed → IsEmptied queue result.0 seat.new.me.0.seen }
         ensures exhausted { result.1 ≡ stopped.Exhausted → FoundUsedUp seat.old.me.0.seen seat.new.me.0.seen seat.old.me.0.loads seat.new.me.0.loads }
+        ensures memory { result.1 ≡ stopped.Memory → IsKnown (HasMore queue result.0) seat.new.me.0 }
     {
         let mut count = first;
         for _ in rt.forever() {
@@ -225,7 +227,7 @@ impl<P: GracePlan + Drop, K: ChainRule, B: Site, D: Deleter> Domain<P, K, B, D> 
     /// reader is of the quiescent-state flavour, hears of all that.
     ///
     /// It stops early where the sequence numbers are used up, and then nobody works for the queue any more; or where
-    /// memory is refused. Refused with `NoActor` exactly where there is no such queue, else with `Busy` where its hold
+    /// memory is refused for what is queued. Refused with `NoActor` exactly where there is no such queue, else with `Busy` where its hold
     /// word was found to be 1, as while another works for it, and with `Exhausted` where that was 2.
     pub fn run_worker<W: Witness, R: Wait>(
         &self,

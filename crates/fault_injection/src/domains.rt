@@ -4,6 +4,7 @@ ghost use Rattle.std.specs.Prelude.{◌≡◌};
 
 use crate::ledger::{Call, Finding, Ledger};
 use crate::retiring::{Says, retire_each};
+use crate::workers::{see_nobody, work_for_each};
 use domain::{Domain, LiveConfig, Opened, Reader, Record, Site};
 use gp_memb::{GracePlan, MembPlan};
 use gp_qsbr::QsbrPlan;
@@ -85,8 +86,8 @@ fn serves<P: GracePlan + Drop, B: Site, R: Wait>(
     Ok(words == Some([11, 13, 17, 19]))
 }
 
-/// Names a domain. Whether it answers, its records serve, and what is cut is retired with the first ticket of its queue;
-/// `None` where naming was refused memory.
+/// Names a domain. Whether it answers, its records serve, and what is cut is retired with the first ticket of its queue,
+/// and then run; `None` where naming was refused memory.
 fn name<P: GracePlan + Drop, B: Site, R: Wait>(
     rt: &R,
     alloc: Global,
@@ -101,6 +102,8 @@ fn name<P: GracePlan + Drop, B: Site, R: Wait>(
         Err(_) => return Err(Finding::Wrong(Call::NameDomain)),
     };
     let tickets = retire_each(rt, &domain, &mut record, ledger)?;
+    see_nobody(alloc, &domain, &mut record, ledger)?;
+    work_for_each(rt, alloc, &domain, &mut record, ledger)?;
     let served = matches!(serves(rt, &domain, &mut record), Ok(true));
     Ok(Some(answers(&domain, &mut record) && served && tickets == [1; 3]))
 }

@@ -40,6 +40,10 @@ pub enum Call {
     CutRetire,
     /// `domain::Domain::replace_retire`.
     ReplaceRetire,
+    /// `domain::Domain::run_worker`.
+    RunWorker,
+    /// `domain::Domain::stalled`.
+    Stalled,
     /// `rcu_model::check_log`.
     CheckLog,
     /// `schedule::read_line`.
@@ -77,6 +81,8 @@ impl fmt::Display for Call {
             Call::Retire => "retire",
             Call::CutRetire => "cut_retire",
             Call::ReplaceRetire => "replace_retire",
+            Call::RunWorker => "run_worker",
+            Call::Stalled => "stalled",
             Call::CheckLog => "check_log",
             Call::ReadLine => "read_line",
             Call::ReadSchedule => "read_schedule",

@@ -13,6 +13,7 @@ mod retiring;
 mod rows;
 mod scenario;
 mod stepping;
+mod workers;
 mod worlds;
 
 use ledger::{Call, Finding, Ledger};

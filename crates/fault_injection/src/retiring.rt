@@ -1,7 +1,7 @@
 //! What is cut is retired: a call that may be refused memory leaves all as it was, and hands back what it was given.
 
 use crate::ledger::{Call, Finding, Ledger};
-use domain::{Chain, Deleter, Domain, Finished, Owned, Record, Ripe, Site, Ticket, Unlinked};
+use domain::{Chain, Deleter, Domain, Owned, Record, Ripe, Site, Ticket, Unlinked};
 use gp_memb::GracePlan;
 use live_words::AnyChain;
 use rcu_model::Refusal;
@@ -12,12 +12,8 @@ use std::sync::Wait;
 pub(crate) struct Says(pub(crate) u64);
 
 impl Deleter for Says {
-    fn run(self, ticket: Ticket, ripe: Ripe) -> Finished {
-        Finished {
-            ticket,
-            object: ripe.object,
-            code: self.0,
-        }
+    fn call(self, _ripe: Ripe) -> u64 {
+        self.0
     }
 }
 
@@ -53,10 +49,14 @@ fn retire<P: GracePlan + Drop, B: Site, R: Wait>(
 ) -> Result<Ticket, Finding> {
     let wrong = Finding::Wrong(Call::Retire);
     let unlinked = cut_one(rt, domain, record, 0).map_err(|_| wrong)?;
+    let before = domain.counts(record);
     match domain.retire(rt, record, unlinked, Says(1)) {
         Ok(ticket) => Ok(ticket),
         Err((Refusal::Memory, unlinked, callback)) => {
             ledger.note(Call::Retire);
+            if domain.counts(record) != before {
+                return Err(Finding::Changed(Call::Retire));
+            }
             domain
                 .retire(rt, record, unlinked, callback)
                 .map_err(|_| Finding::RefusedAgain(Call::Retire))
@@ -75,11 +75,12 @@ fn cut_retire<P: GracePlan + Drop, B: Site, R: Wait>(
     let wrong = Finding::Wrong(Call::CutRetire);
     let (mut writer, owned) = chain_and_record(rt, domain, record, 1).map_err(|_| wrong)?;
     writer.push(record, owned);
+    let before = domain.counts(record);
     match domain.cut_retire(rt, record, &mut writer, 0, Says(2)) {
         Ok(ticket) => Ok(ticket),
         Err((Refusal::Memory, callback)) => {
             ledger.note(Call::CutRetire);
-            if writer.len() != 1 {
+            if writer.len() != 1 || domain.counts(record) != before {
                 return Err(Finding::Changed(Call::CutRetire));
             }
             domain
@@ -101,11 +102,12 @@ fn replace_retire<P: GracePlan + Drop, B: Site, R: Wait>(
     let (mut writer, owned) = chain_and_record(rt, domain, record, 2).map_err(|_| wrong)?;
     writer.push(record, owned);
     let other = domain.alloc(rt, record, [2; 4]).map_err(|_| wrong)?;
+    let before = domain.counts(record);
     match domain.replace_retire(rt, record, &mut writer, 0, other, Says(3)) {
         Ok(ticket) => Ok(ticket),
         Err((Refusal::Memory, other, callback)) => {
             ledger.note(Call::ReplaceRetire);
-            if writer.get(0) != Some([1; 4]) {
+            if writer.get(0) != Some([1; 4]) || domain.counts(record) != before {
                 return Err(Finding::Changed(Call::ReplaceRetire));
             }
             domain

@@ -1,21 +1,28 @@
 #![tactic(auto)]
 //! Operations of the library over live threads, one after the other, for the benchmark: `live_bench FLAVOUR KIND
-//! COUNT`. With `section-by-two` two readers make sections, each in a thread of its own.
+//! COUNT`. A kind that ends in `-by-two` or `-by-four` is of so many threads, each of which makes COUNT operations.
 
 ghost use Rattle.std.specs.Prelude.{◌≡◌};
 
 mod forgets;
+mod kind;
+mod mixing;
 mod reading;
+mod retiring;
 mod waiting;
 mod walking;
+mod worker;
 
 use crate::forgets::Forgets;
-use domain::{LiveConfig, Opened, Site};
+use crate::kind::{Kind, Operation, RECORDS, kind_of};
+use domain::{Opened, Site};
 use gp_memb::{GracePlan, MembPlan};
 use gp_qsbr::QsbrPlan;
 use live_words::AnyChain;
+use mixing::mix;
 use rcu_model::Refusal;
 use reading::{announcements, nested, sections};
+use retiring::{barriers, boxed_retirements, queued, retirements};
 use std::alloc::Global;
 use std::marker::Brand;
 use std::process::ExitCode;
@@ -25,69 +32,44 @@ use std::{env, io};
 use waiting::{polls, synchronizations};
 use walking::{allocations, cuts, further_reads, pushes, reads, reads_by_two, walks};
 
-/// What is repeated.
-#[derive(Clone, Copy, Drop)]
-enum Kind {
-    /// A read-side section with nothing in it.
-    Section,
-    /// The same by two readers, each in a thread of its own.
-    SectionByTwo,
-    /// An inner section with nothing in it.
-    Nested,
-    /// A section, and then a quiescent state.
-    Announcement,
-    /// A grace period that is waited for, with two readers that are in no section.
-    Synchronize,
-    /// A look whether an ask is answered.
-    Poll,
-    /// A section that reads the first object of a chain.
-    Read,
-    /// The same by two readers, each in a thread of its own.
-    ReadByTwo,
-    /// A further read in a section.
-    FurtherRead,
-    /// A step along a chain of 1,000 objects.
-    Walk,
-    /// A record allocated and pushed.
-    Push,
-    /// The same, cut at once.
-    Cut,
-    /// A record allocated and discarded, while so many of 100 are in use.
-    Alloc(u64),
-}
-
-fn kind_of(word: &str) -> Option<Kind> {
-    Some(match word {
-        "section" => Kind::Section,
-        "section-by-two" => Kind::SectionByTwo,
-        "nested" => Kind::Nested,
-        "announcement" => Kind::Announcement,
-        "synchronize" => Kind::Synchronize,
-        "poll" => Kind::Poll,
-        "read" => Kind::Read,
-        "read-by-two" => Kind::ReadByTwo,
-        "further-read" => Kind::FurtherRead,
-        "walk" => Kind::Walk,
-        "push" => Kind::Push,
-        "cut" => Kind::Cut,
-        "alloc-10" => Kind::Alloc(10),
-        "alloc-90" => Kind::Alloc(90),
-        "alloc-99" => Kind::Alloc(99),
-        _ => return None,
-    })
-}
-
-impl Kind {
-    /// Whether it reads a chain.
-    fn reads(self) -> bool {
-        matches!(
-            self,
-            Kind::Read | Kind::ReadByTwo | Kind::FurtherRead | Kind::Walk
-        )
+/// Repeats an operation, with two readers.
+fn alone<P: GracePlan + Drop + Send + Sync, B: Site + Send + Sync, R: Threads + Wait + Sync>(
+    rt: &R,
+    alloc: Global,
+    opened: Opened<P, AnyChain>,
+    operation: Operation,
+    count: u64,
+) -> Result<u64, Refusal>
+    requires { (P.QSBR ≡ B.qsbr) × (opened.table.words.shared.table_id ≡ B.table) × (opened.table.words.shared.key ≡ B.sizes) }
+{
+    let (domain, mut record) = opened.named::<B, Forgets>(alloc)?;
+    let mut one = domain.register(rt, &mut record)?;
+    let mut two = domain.register(rt, &mut record)?;
+    if operation.reads() {
+        pushes(rt, &domain, &mut record, 1_000)?;
+    }
+    match operation {
+        Operation::Section => sections(&mut one, count),
+        Operation::SectionByTwo => reading::sections_by_two(rt, one, two, count),
+        Operation::Nested => nested(&mut one, count),
+        Operation::Announcement => announcements(&mut one, count),
+        Operation::Synchronize => synchronizations(rt, &domain, &mut record, count),
+        Operation::Poll => polls(&domain, &mut record, count),
+        Operation::Read => reads(&mut one, count),
+        Operation::ReadByTwo => reads_by_two(rt, one, two, count),
+        Operation::FurtherRead => further_reads(&mut one, count),
+        Operation::Walk => walks(&mut one, count),
+        Operation::Push => pushes(rt, &domain, &mut record, count),
+        Operation::Cut => cuts(rt, &domain, &mut record, count),
+        Operation::Queue => queued(rt, &domain, &mut record, count),
+        Operation::Alloc(share) => {
+            let used = (RECORDS / 100).saturating_mul(share);
+            allocations(rt, &domain, &mut record, used, count)
+        }
     }
 }
 
-/// Repeats it, in a domain of 256 slots.
+/// Repeats it.
 fn repeat<P: GracePlan + Drop + Send + Sync, B: Site + Send + Sync, R: Threads + Wait + Sync>(
     rt: &R,
     alloc: Global,
@@ -97,44 +79,15 @@ fn repeat<P: GracePlan + Drop + Send + Sync, B: Site + Send + Sync, R: Threads +
 ) -> Result<u64, Refusal>
     requires { (P.QSBR ≡ B.qsbr) × (opened.table.words.shared.table_id ≡ B.table) × (opened.table.words.shared.key ≡ B.sizes) }
 {
-    let (domain, mut record) = opened.named::<B, Forgets>(alloc)?;
-    let mut one = domain.register(rt, &mut record)?;
-    let mut two = domain.register(rt, &mut record)?;
-    if kind.reads() {
-        pushes(rt, &domain, &mut record, 1_000)?;
-    }
     match kind {
-        Kind::Section => sections(&mut one, count),
-        Kind::SectionByTwo => reading::sections_by_two(rt, one, two, count),
-        Kind::Nested => nested(&mut one, count),
-        Kind::Announcement => announcements(&mut one, count),
-        Kind::Synchronize => synchronizations(rt, &domain, &mut record, count),
-        Kind::Poll => polls(&domain, &mut record, count),
-        Kind::Read => reads(&mut one, count),
-        Kind::ReadByTwo => reads_by_two(rt, one, two, count),
-        Kind::FurtherRead => further_reads(&mut one, count),
-        Kind::Walk => walks(&mut one, count),
-        Kind::Push => pushes(rt, &domain, &mut record, count),
-        Kind::Cut => cuts(rt, &domain, &mut record, count),
-        Kind::Alloc(share) => allocations(
-            rt,
-            &domain,
-            &mut record,
-            (RECORDS / 100).saturating_mul(share),
-            count,
-        ),
+        Kind::Alone(operation) => alone::<P, B, R>(rt, alloc, opened, operation, count),
+        Kind::Retire => retirements::<P, B, R>(rt, alloc, opened, count),
+        Kind::RetireBoxed => boxed_retirements::<P, B, R>(rt, alloc, opened, count),
+        Kind::Barrier => barriers::<P, B, R>(rt, alloc, opened, count),
+        Kind::MixByTwo => mix::<P, B, R>(rt, alloc, opened, 2, count),
+        Kind::MixByFour => mix::<P, B, R>(rt, alloc, opened, 4, count),
     }
 }
-
-/// How many records the domain has.
-const RECORDS: u64 = 65_536;
-
-const SIZE: LiveConfig = LiveConfig {
-    slots: 256,
-    queues: 1,
-    chains: 1,
-    pool: RECORDS as usize,
-};
 
 fn in_flavour<R: Threads + Wait + Sync>(
     rt: &R,
@@ -144,10 +97,10 @@ fn in_flavour<R: Threads + Wait + Sync>(
     count: u64,
 ) -> Result<u64, Refusal> {
     if flavour == "qsbr" {
-        let opened = Opened::<QsbrPlan, AnyChain>::new(alloc, SIZE)?;
+        let opened = Opened::<QsbrPlan, AnyChain>::new(alloc, kind.size())?;
         return repeat::<QsbrPlan, Brand, R>(rt, alloc, opened, kind, count);
     }
-    let opened = Opened::<MembPlan, AnyChain>::new(alloc, SIZE)?;
+    let opened = Opened::<MembPlan, AnyChain>::new(alloc, kind.size())?;
     repeat::<MembPlan, Brand, R>(rt, alloc, opened, kind, count)
 }
 
@@ -161,8 +114,13 @@ fn main(rt: HostRuntime) -> io::Result<ExitCode> {
         return Ok(ExitCode::FAILURE);
     };
     match in_flavour(&rt, rt.alloc(), flavour, kind, count) {
-        Ok(done) => println!(rt; "{done}")?,
-        Err(refusal) => println!(rt; "{refusal}")?,
+        Ok(done) => {
+            println!(rt; "{done}")?;
+            Ok(ExitCode::SUCCESS)
+        }
+        Err(refusal) => {
+            println!(rt; "{refusal}")?;
+            Ok(ExitCode::FAILURE)
+        }
     }
-    Ok(ExitCode::SUCCESS)
 }

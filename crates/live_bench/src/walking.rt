@@ -14,11 +14,14 @@ use std::thread::{Threads, join};
 
 /// One section that reads the first object of a chain: what a program's machine code is looked at for.
 #[inline(never)]
-fn read_first<P: GracePlan, B: Site>(reader: &mut Reader<P, AnyChain, B>) -> Result<u64, Refusal>
+pub(crate) fn read_first<P: GracePlan, B: Site>(
+    reader: &mut Reader<P, AnyChain, B>,
+    chain: usize,
+) -> Result<u64, Refusal>
     requires { P.QSBR ≡ B.qsbr }
 {
     let mut section = reader.section()?;
-    match section.first(0)? {
+    match section.first(chain)? {
         Some(held) => {
             let [key, value, rank, last] = section.read(held);
             Ok(key ^ value ^ rank ^ last)
@@ -37,7 +40,7 @@ pub(crate) fn reads<P: GracePlan, B: Site>(
     begin(reader)?;
     let mut done = 0;
     for number in 0..count {
-        if read_first(reader)? == 0 {
+        if read_first(reader, 0)? == 0 {
             done = number + 1;
         }
     }

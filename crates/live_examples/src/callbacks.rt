@@ -2,7 +2,7 @@
 
 ghost use Rattle.std.specs.Prelude.{◌≡◌, false};
 
-use domain::{Deleter, Domain, Finished, Opened, Record, Ripe, Site, Ticket};
+use domain::{Deleter, Domain, Opened, Record, Ripe, Site};
 use gp_memb::MembPlan;
 use live_words::AnyChain;
 use rcu_model::Refusal;
@@ -19,16 +19,11 @@ enum Reclaim {
 }
 
 impl Deleter for Reclaim {
-    fn run(self, ticket: Ticket, ripe: Ripe) -> Finished {
+    fn call(self, ripe: Ripe) -> u64 {
         let [size, handle, _, _] = ripe.payload;
-        let code = match self {
+        match self {
             Reclaim::Free => size,
             Reclaim::Close => handle,
-        };
-        Finished {
-            ticket,
-            object: ripe.object,
-            code,
         }
     }
 }

@@ -4,7 +4,8 @@
 ghost use Rattle.std.specs.Prelude.{◌≡◌, false};
 ghost use Rattle.std.specs.Thread.{IsSync};
 
-use domain::{Deleter, Domain, Finished, Opened, Owned, Reader, Record, Ripe, Site, Ticket};
+use crate::working::work;
+use domain::{Deleter, Domain, Opened, Owned, Reader, Record, Ripe, Site};
 use gp_memb::MembPlan;
 use live_words::AnyChain;
 use rcu_model::Refusal;
@@ -49,18 +50,14 @@ impl Configuration {
 struct Replaced;
 
 impl Deleter for Replaced {
-    fn run(self, ticket: Ticket, ripe: Ripe) -> Finished {
-        Finished {
-            ticket,
-            object: ripe.object,
-            code: 0,
-        }
+    fn call(self, _ripe: Ripe) -> u64 {
+        0
     }
 }
 
 /// Reads the configuration until it finds the last one. Answers its version, or 0 where one was not whole or older than
 /// the one before.
-fn reads<B: Site>(mut reader: Reader<MembPlan, AnyChain, B>) -> Result<u64, Refusal>
+fn newest<B: Site>(reader: &mut Reader<MembPlan, AnyChain, B>) -> Result<u64, Refusal>
     requires { B.qsbr ≡ false }
 {
     let mut newest = 0;
@@ -81,6 +78,22 @@ fn reads<B: Site>(mut reader: Reader<MembPlan, AnyChain, B>) -> Result<u64, Refu
     Ok(newest)
 }
 
+/// What a reader does: it registers, reads and unregisters.
+fn reads<B: Site, R: Wait>(
+    rt: &R,
+    domain: &Domain<MembPlan, AnyChain, B, Replaced>,
+    record: &mut Record<B>,
+) -> Result<u64, Refusal>
+    requires { B.qsbr ≡ false }
+{
+    let mut reader = domain.register(rt, record)?;
+    let found = newest(&mut reader);
+    match domain.unregister(rt, record, reader) {
+        Ok(()) => found,
+        Err((refusal, _)) => Err(refusal),
+    }
+}
+
 /// A record of this version, waited for while all are in use.
 fn when_free<B: Site, R: Wait>(
     rt: &R,
@@ -97,8 +110,8 @@ fn when_free<B: Site, R: Wait>(
     Err(Refusal::PoolFull)
 }
 
-/// Replaces the configuration by each version, and closes the queue.
-fn replaces<B: Site, R: Wait>(
+/// Replaces the configuration by each version.
+fn each_version<B: Site, R: Wait>(
     rt: &R,
     domain: &Domain<MembPlan, AnyChain, B, Replaced>,
     record: &mut Record<B>,
@@ -111,8 +124,18 @@ fn replaces<B: Site, R: Wait>(
             return Err(refusal);
         }
     }
-    domain.close(rt, record);
     Ok(())
+}
+
+/// What the updater does: whatever comes of its replacements, it closes the queue, so that the worker ends.
+fn replaces<B: Site, R: Wait>(
+    rt: &R,
+    domain: &Domain<MembPlan, AnyChain, B, Replaced>,
+    record: &mut Record<B>,
+) -> Result<(), Refusal> {
+    let replaced = each_version(rt, domain, record);
+    domain.close(rt, record);
+    replaced
 }
 
 /// Two readers, an updater and a worker, each in a thread of its own. Answers the version that both readers found last.
@@ -125,8 +148,8 @@ pub(crate) fn serve<B: Site + Send + Sync, R: Threads + Wait + Sync>(
 {
     let (domain, mut record) = opened.named::<B, Replaced>(alloc)?;
     publish_first(rt, &domain, &mut record)?;
-    let one = domain.register(rt, &mut record)?;
-    let two = domain.register(rt, &mut record)?;
+    let one = domain.split(&mut record);
+    let two = domain.split(&mut record);
     let other = domain.split(&mut record);
     let home = &domain;
     let ((first, second), (replaced, worked)) = join(
@@ -138,10 +161,16 @@ pub(crate) fn serve<B: Site + Send + Sync, R: Threads + Wait + Sync>(
                 rt,
                 move ||
                     requires { B.qsbr ≡ false }
-                { reads(one) },
+                {
+                    let mut one = one;
+                    reads(rt, home, &mut one)
+                },
                 move ||
                     requires { B.qsbr ≡ false }
-                { reads(two) },
+                {
+                    let mut two = two;
+                    reads(rt, home, &mut two)
+                },
             )
         },
         move ||
@@ -155,7 +184,7 @@ pub(crate) fn serve<B: Site + Send + Sync, R: Threads + Wait + Sync>(
                 },
                 move || {
                     let mut other = other;
-                    home.run_worker(rt, alloc, &mut other, 0).map(|_| ())
+                    work(rt, alloc, home, &mut other)
                 },
             )
         },

@@ -66,7 +66,10 @@ pub(crate) fn run<B: Site, R: Wait>(
     let (domain, mut record) = opened.named::<B, Callback>(alloc)?;
     publish(rt, &domain, &mut record)?;
     let mut reader = domain.register(rt, &mut record)?;
-    let found = turns(&mut reader)?;
+    let found = turns(&mut reader);
     domain.synchronize(rt, &mut record)?;
-    Ok(found)
+    match domain.unregister(rt, &mut record, reader) {
+        Ok(()) => found,
+        Err((refusal, _)) => Err(refusal),
+    }
 }

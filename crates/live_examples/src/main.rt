@@ -9,6 +9,7 @@ mod event_loop;
 mod polling;
 mod routes;
 mod shutdown;
+mod working;
 
 use domain::{LiveConfig, Opened};
 use gp_memb::{GracePlan, MembPlan};

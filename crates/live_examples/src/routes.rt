@@ -2,7 +2,8 @@
 
 ghost use Rattle.std.specs.Prelude.{◌≡◌, ◌<◌, false};
 
-use domain::{Callback, Domain, Opened, Reader, Record, Section, Site};
+use crate::working::work;
+use domain::{Chain, Deleter, Domain, Opened, Reader, Record, Ripe, Section, Site};
 use gp_memb::MembPlan;
 use live_words::AnyChain;
 use rcu_model::Refusal;
@@ -35,6 +36,16 @@ impl Route {
 
     fn leads(self, address: u64) -> bool {
         address & self.mask == self.prefix
+    }
+}
+
+/// What is done with a route that was withdrawn, once no section can hold it: its next hop is told.
+#[derive(Drop)]
+struct Withdrawn;
+
+impl Deleter for Withdrawn {
+    fn call(self, ripe: Ripe) -> u64 {
+        Route::of(ripe.payload).next_hop
     }
 }
 
@@ -73,35 +84,39 @@ fn next_hop<B: Site>(
 /// Adds a route in front of all others.
 fn add<B: Site, R: Wait>(
     rt: &R,
-    domain: &Domain<MembPlan, AnyChain, B, Callback>,
+    domain: &Domain<MembPlan, AnyChain, B, Withdrawn>,
     record: &mut Record<B>,
+    writer: &mut Chain<'_, MembPlan, AnyChain, B>,
     route: Route,
 ) -> Result<(), Refusal> {
     let owned = domain.alloc(rt, record, route.words())?;
-    let mut writer = domain.chain(record, 0)?;
     writer.push(record, owned);
     Ok(())
 }
 
-/// The first route is withdrawn: sections that found it may go on with it, and its record is not used again.
-fn withdraw<B: Site>(
-    domain: &Domain<MembPlan, AnyChain, B, Callback>,
+/// The first route is withdrawn: sections that found it may go on with it, and its record is used again once they have
+/// ended.
+fn withdraw<B: Site, R: Wait>(
+    rt: &R,
+    domain: &Domain<MembPlan, AnyChain, B, Withdrawn>,
     record: &mut Record<B>,
+    writer: &mut Chain<'_, MembPlan, AnyChain, B>,
 ) -> Result<(), Refusal> {
-    let mut writer = domain.chain(record, 0)?;
-    writer.cut(record, 0)?;
-    Ok(())
+    match domain.cut_retire(rt, record, writer, 0, Withdrawn) {
+        Ok(_) => Ok(()),
+        Err((refusal, _)) => Err(refusal),
+    }
 }
 
 /// Two routes, of which the longer one is withdrawn. Answers the next hops of an address before and after.
-pub(crate) fn look_up<B: Site, R: Wait>(
+fn changes<B: Site, R: Wait>(
     rt: &R,
-    alloc: Global,
-    opened: Opened<MembPlan, AnyChain>,
+    domain: &Domain<MembPlan, AnyChain, B, Withdrawn>,
+    record: &mut Record<B>,
+    reader: &mut Reader<MembPlan, AnyChain, B>,
 ) -> Result<(u64, u64), Refusal>
-    requires { (B.qsbr ≡ false) × (opened.table.words.shared.table_id ≡ B.table) × (opened.table.words.shared.key ≡ B.sizes) }
+    requires { B.qsbr ≡ false }
 {
-    let (domain, mut record) = opened.named::<B, Callback>(alloc)?;
     let far = Route {
         prefix: 0x0a00_0000,
         mask: 0xff00_0000,
@@ -114,12 +129,30 @@ pub(crate) fn look_up<B: Site, R: Wait>(
         next_hop: 2,
         metric: 5,
     };
-    add(rt, &domain, &mut record, far)?;
-    add(rt, &domain, &mut record, near)?;
-    let mut reader = domain.register(rt, &mut record)?;
-    let before = next_hop(&mut reader, 0x0a01_0203)?;
-    withdraw(&domain, &mut record)?;
-    let after = next_hop(&mut reader, 0x0a01_0203)?;
-    domain.synchronize(rt, &mut record)?;
+    let mut writer = domain.chain(record, 0)?;
+    add(rt, domain, record, &mut writer, far)?;
+    add(rt, domain, record, &mut writer, near)?;
+    let before = next_hop(reader, 0x0a01_0203)?;
+    withdraw(rt, domain, record, &mut writer)?;
+    let after = next_hop(reader, 0x0a01_0203)?;
     Ok((before, after))
+}
+
+/// A table that a reader looks up while its writer changes it. What was withdrawn is reclaimed at the end.
+pub(crate) fn look_up<B: Site, R: Wait>(
+    rt: &R,
+    alloc: Global,
+    opened: Opened<MembPlan, AnyChain>,
+) -> Result<(u64, u64), Refusal>
+    requires { (B.qsbr ≡ false) × (opened.table.words.shared.table_id ≡ B.table) × (opened.table.words.shared.key ≡ B.sizes) }
+{
+    let (domain, mut record) = opened.named::<B, Withdrawn>(alloc)?;
+    let mut reader = domain.register(rt, &mut record)?;
+    let hops = changes(rt, &domain, &mut record, &mut reader);
+    domain.close(rt, &mut record);
+    work(rt, alloc, &domain, &mut record)?;
+    match domain.unregister(rt, &mut record, reader) {
+        Ok(()) => hops,
+        Err((refusal, _)) => Err(refusal),
+    }
 }

@@ -3,7 +3,8 @@
 
 ghost use Rattle.std.specs.Prelude.{◌≡◌, false};
 
-use domain::{Deleter, Domain, Finished, Opened, Record, Ripe, Site, Ticket};
+use crate::working::work;
+use domain::{Deleter, Domain, Opened, Record, Ripe, Site};
 use gp_memb::MembPlan;
 use live_words::AnyChain;
 use rcu_model::Refusal;
@@ -16,12 +17,8 @@ use std::thread::{Threads, join};
 struct Tells;
 
 impl Deleter for Tells {
-    fn run(self, ticket: Ticket, ripe: Ripe) -> Finished {
-        Finished {
-            ticket,
-            object: ripe.object,
-            code: ripe.payload[0],
-        }
+    fn call(self, ripe: Ripe) -> u64 {
+        ripe.payload[0]
     }
 }
 
@@ -72,9 +69,9 @@ pub(crate) fn stop<B: Site + Send + Sync, R: Threads + Wait + Sync>(
         },
         move || {
             let mut other = other;
-            home.run_worker(rt, alloc, &mut other, 0)
+            work(rt, alloc, home, &mut other)
         },
     );
     updated?;
-    Ok(worked?.finished.len() as u64)
+    worked
 }

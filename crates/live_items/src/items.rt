@@ -1,7 +1,9 @@
 //! What lies under a queue's lock.
-ghost use Rattle.std.specs.Prelude.{◌≡◌, ◌⊎◌, ◌+◌, ◌-◌, ◌<◌, ◌≤◌, ◌^◌, ◌∷◌, ◌++◌, [], Some, length, vec_capacity, vec_len, true, false, IfErr, IfNone, IfOk, IfSome, IsOk};
+ghost use Rattle.std.specs.Prelude.{◌≡◌, ◌≢◌, ◌⊎◌, ◌+◌, ◌-◌, ◌<◌, ◌≤◌, ◌^◌, ◌∷◌, ◌++◌, [], Some, length, max, vec_capacity, vec_len, true, false, IfErr, IfNone, IfOk, IfSome, IsOk};
 ghost use Rattle.rcu_model.specs.declared.refusal.Refusal.TheVariants.{Closed, Memory};
-ghost use Rattle.callback_queue.specs.Queue.{closed_queue, empty_queue, first_of, given_of, popped, sealed, taken_out, with_place};
+ghost use Rattle.rcu_model.specs.declared.event.ObjectId.{ObjectId};
+ghost use Rattle.callback_queue.specs.declared.item.Ticket.{Ticket};
+ghost use Rattle.callback_queue.specs.Queue.{closed_queue, empty_queue, first_of, given_of, object_of_first, popped, pushed, sealed, taken_out, with_place};
 ghost use Rattle.live_log.specs.declared.event.LiveEvent.TheVariants.{CloseQueue};
 ghost use Rattle.live_log.specs.Log.{Begins, line_of};
 ghost use Rattle.live_rule.specs.declared.rights.QueueRight.TheVariants.{Owns};
@@ -9,7 +11,7 @@ ghost use Rattle.live_rule.specs.declared.rights.RecordRight.TheVariants.{Nothin
 ghost use Rattle.live_table.specs.Rights.{object_in};
 ghost use Rattle.live_table.specs.Steps.{Keeps};
 ghost use Rattle.live_read.specs.Hearing.{OnlyHears};
-ghost use Rattle.live_items.specs.Items.{Closes, InOrder, IsPlaced, ripened};
+ghost use Rattle.live_items.specs.Items.{Closes, InOrder, IsPlaced, JobValue, ripened};
 ghost use Rattle.live_items.specs.Retiring.{IsAfterAll, Queues};
 
 use crate::job::Job;
@@ -101,6 +103,7 @@ impl<B: Site, C: Drop> Items<B, C> {
         requires site { (table.now.words.shared.table_id ≡ B.table) × (table.now.words.shared.key ≡ B.sizes) × (W.home witness.old ≡ (B.table, B.sizes)) }
         ensures queue { self.new.2 ≡ self.old.2 }
         ensures ticket { IfOk result (λ t. (self.old.0.closed ≡ false) × (t.0 ≡ given_of self.old.0 + 1) × (given_of self.new.0 ≡ t.0)) }
+        ensures pushed { IfOk result (λ _. (job : JobValue) × (self.new.0 ≡ pushed (with_place self.old.0) (record { object = object_in unlinked.seat.me.0.object; job = job }))) }
         ensures retired { IfOk result (λ t. Queues P.QSBR K.allows (IsAfterAll unlinked.seat.me.0.seen (W.seen witness.old) (W.heard witness.old)) (object_in unlinked.seat.me.0.object) self.old.2 (given_of self.old.0) (W.heard witness.new)) }
         ensures refused { IfErr result (λ e. ((e.0 ≡ Closed) × (self.old.0.closed ≡ true)) ⊎ ((e.0 ≡ Memory) × (self.old.0.closed ≡ false))) }
         ensures prepared { self.old.0.closed ≡ false → self.old.0.reserved ≡ true → given_of self.old.0 < 2 ^ 63 → IsOk result }
@@ -144,7 +147,7 @@ impl<B: Site, C: Drop> Items<B, C> {
         requires { (table.now.words.shared.table_id ≡ B.table) × (worker.old.table_id ≡ B.table) }
         ensures worker { Keeps worker.old worker.new × (worker.new.me ≡ (record worker.old.me.0 { heard = worker.new.me.0.heard }, worker.old.me.1)) }
         ensures item { IfSome result (λ r. (r.0.0 ≡ finished + 1) × (self.old.2 ≡ queue) × IsPlaced queue worker.new.me.0.heard finished r.1 × (first_of self.old.0 ≡ Some r) × (self.new.0 ≡ popped self.old.0)) }
-        ensures none { IfNone result (self.new.0 ≡ self.old.0) }
+        ensures none { IfNone result ((self.new.0 ≡ self.old.0) × (self.old.2 ≡ queue → (t : Ticket) (o : ObjectId) → object_of_first self.old.0 ≡ Some (t, o) → t.0 ≢ finished + 1)) }
         ensures queue { self.new.2 ≡ self.old.2 }
     {
         table.learn(worker, table.tell(&mut self.seat));
@@ -160,9 +163,10 @@ impl<B: Site, C: Drop> Items<B, C> {
 
     /// Lets the fresh items wait, where none are ready or wait already, once both lists have room for all that are not
     /// finished: one for what is told of each that runs, and one for those that are taken back. The worker's seat hears
-    /// what was seen under the lock. Answers how many tickets were given.
+    /// what was seen under the lock. Answers how many tickets were given, where some are not finished.
     ///
-    /// Refused with `Memory`, and then the items are as they were. It waits for nobody.
+    /// Refused with `Memory` where room is refused for what is not finished, and then the items are as they were. It
+    /// waits for nobody.
     pub fn seal<P: GracePlan, K: ChainRule, T: Drop>(
         &mut self,
         table: &LiveTable<P, K>,
@@ -172,20 +176,19 @@ impl<B: Site, C: Drop> Items<B, C> {
         list: &mut Vec<T>,
         left: &mut Vec<Item<Job<B, C>>>,
     ) -> Result<u64, Refusal>
-        requires { (table.now.words.shared.table_id ≡ B.table) × (worker.old.table_id ≡ B.table) }
+        requires site { (table.now.words.shared.table_id ≡ B.table) × (worker.old.table_id ≡ B.table) }
+        requires queue { self.old.2 ≡ queue }
         ensures worker { Keeps worker.old worker.new × (worker.new.me ≡ (record worker.old.me.0 { heard = worker.new.me.0.heard }, worker.old.me.1)) }
         ensures list { list.new.items ≡ list.old.items }
         ensures left { left.new.items ≡ left.old.items }
-        ensures given { IfOk result (λ n. (n ≡ given_of self.old.0) × (self.old.2 ≡ queue) × (finished ≤ n) × (n ≤ length (line_of worker.new.me.0.heard queue)) × (vec_len list.new + (n - finished) ≤ vec_capacity list.new) × (vec_len left.new + (n - finished) ≤ vec_capacity left.new)) }
-        ensures refused { IfErr result (λ e. (e ≡ Memory) × (self.new.0 ≡ self.old.0)) }
-        ensures sealed { (self.new.0 ≡ self.old.0) ⊎ ((self.old.0.ready ≡ []) × (self.old.0.waiting ≡ []) × (self.new.0 ≡ sealed self.old.0)) }
+        ensures given { IfOk result (λ n. (n ≡ max (given_of self.old.0) finished) × (finished < n → n ≤ length (line_of worker.new.me.0.heard queue)) × (vec_len list.new + (n - finished) ≤ vec_capacity list.new) × (vec_len left.new + (n - finished) ≤ vec_capacity left.new)) }
+        ensures refused { IfErr result (λ e. (e ≡ Memory) × (finished < length (line_of worker.new.me.0.heard queue)) × (self.new.0 ≡ self.old.0)) }
+        ensures sealed { IfOk result (λ _. self.old.0.ready ≡ [] → self.old.0.waiting ≡ [] → self.new.0 ≡ sealed self.old.0) }
+        ensures kept { IfOk result (λ _. (0 < length self.old.0.ready) ⊎ (0 < length self.old.0.waiting) → self.new.0 ≡ self.old.0) }
         ensures queue { self.new.2 ≡ self.old.2 }
     {
         table.learn(worker, table.tell(&mut self.seat));
-        let given = self.queue.given();
-        if self.number != queue || given < finished {
-            return Err(Refusal::Memory);
-        }
+        let given = self.queue.given().max(finished);
         let room = (given - finished) as usize;
         if list.reserve(room).is_err() || left.reserve(room).is_err() {
             return Err(Refusal::Memory);

@@ -38,7 +38,11 @@ pub fn run_next<P: GracePlan, K: ChainRule, B: Site, D: Deleter>(
     // The worker sees what it heard of under the lock.
     load_closed(table, seat, queue);
     let (ripe, deleter) = job.run(table, seat, object);
-    let done = deleter.run(ticket, ripe);
+    let code = deleter.call(ripe);
     store_finished(table, seat, queue, finished + 1);
-    done
+    Finished {
+        ticket,
+        object,
+        code,
+    }
 }

@@ -10,8 +10,10 @@ mod running;
 #[cfg(test)]
 mod tests;
 mod updating;
+mod watch;
 
 pub use counts::Counts;
 pub use load::Load;
 pub use round::RoundDone;
 pub use running::stress;
+pub use watch::{Unwatched, Watch};

@@ -8,6 +8,7 @@ use crate::load::Load;
 use crate::reading::reads;
 use crate::round::RoundDone;
 use crate::updating::updates;
+use crate::watch::Watch;
 use domain::{Domain, LiveConfig, Opened, Record, Site, Stop};
 use gp_memb::GracePlan;
 use live_words::AnyChain;
@@ -24,7 +25,7 @@ const POOL: usize = 1024;
 
 /// What the threads of a run share.
 #[derive(Drop)]
-struct Shared<'a, P: GracePlan, B: Site> {
+struct Shared<'a, P: GracePlan, B: Site, W> {
     domain: &'a Domain<P, AnyChain, B, RoundDone>,
     // The record that each thread's own is split from.
     root: &'a Mutex<Record<B>>,
@@ -32,14 +33,16 @@ struct Shared<'a, P: GracePlan, B: Site> {
     ended: &'a AtomicU64,
     load: Load,
     deadline: Deadline,
+    // Who hears how far the first updater is.
+    watch: &'a W,
     ghost flavour: { P.QSBR ≡ B.qsbr },
     ghost some: { 0 < load.updaters },
 }
 
 /// What an updater does. The last one to end closes all queues.
-fn update<P: GracePlan + Drop, B: Site, R: Wait + Clock>(
+fn update<P: GracePlan + Drop, B: Site, R: Wait + Clock, W: Watch>(
     rt: &R,
-    shared: &Shared<'_, P, B>,
+    shared: &Shared<'_, P, B, W>,
     record: &mut Record<B>,
     chain: usize,
 ) -> Result<Counts, Refusal> {
@@ -50,6 +53,7 @@ fn update<P: GracePlan + Drop, B: Site, R: Wait + Clock>(
         chain,
         &shared.load,
         &shared.deadline,
+        if chain == 0 { Some(shared.watch) } else { None },
     );
     let before = shared.ended.fetch_add(1, Ordering::SeqCst);
     if before == u64::from(shared.load.updaters - 1) {
@@ -62,10 +66,10 @@ fn update<P: GracePlan + Drop, B: Site, R: Wait + Clock>(
 }
 
 /// What a worker does.
-fn work<P: GracePlan + Drop, B: Site, R: Wait>(
+fn work<P: GracePlan + Drop, B: Site, R: Wait, W: Watch>(
     rt: &R,
     alloc: Global,
-    shared: &Shared<'_, P, B>,
+    shared: &Shared<'_, P, B, W>,
     record: &mut Record<B>,
     queue: usize,
 ) -> Result<Counts, Refusal> {
@@ -81,9 +85,9 @@ fn work<P: GracePlan + Drop, B: Site, R: Wait>(
 }
 
 /// What a reader does.
-fn read<P: GracePlan + Drop, B: Site, R: Wait + Clock>(
+fn read<P: GracePlan + Drop, B: Site, R: Wait + Clock, W: Watch>(
     rt: &R,
-    shared: &Shared<'_, P, B>,
+    shared: &Shared<'_, P, B, W>,
     record: &mut Record<B>,
 ) -> Result<Counts, Refusal> {
     let mixed = reads(rt, shared.domain, record, &shared.load, &shared.deadline)?;
@@ -92,10 +96,10 @@ fn read<P: GracePlan + Drop, B: Site, R: Wait + Clock>(
 
 /// What the thread of this number does. The first ones work, the next ones update, and the others read: where no thread
 /// can be made, the later ones are done first, and nobody waits for one that comes after it.
-fn part<P: GracePlan + Drop, B: Site, R: Wait + Clock>(
+fn part<P: GracePlan + Drop, B: Site, R: Wait + Clock, W: Watch>(
     rt: &R,
     alloc: Global,
-    shared: &Shared<'_, P, B>,
+    shared: &Shared<'_, P, B, W>,
     number: usize,
 ) -> Result<Counts, Refusal> {
     let mut record = shared.domain.split(&mut *shared.root.lock(rt));
@@ -127,7 +131,14 @@ fn threads<
     P: GracePlan + Drop + Send + Sync,
     B: Site + Send + Sync,
     R: Threads + Wait + Clock + Sync,
->(rt: &R, alloc: Global, opened: Opened<P, AnyChain>, load: Load) -> Result<Counts, Refusal>
+    W: Watch + Sync,
+>(
+    rt: &R,
+    alloc: Global,
+    opened: Opened<P, AnyChain>,
+    load: Load,
+    watch: &W,
+) -> Result<Counts, Refusal>
     requires { (P.QSBR ≡ B.qsbr) × (opened.table.words.shared.table_id ≡ B.table) × (opened.table.words.shared.key ≡ B.sizes) × (0 < load.updaters) }
 {
     let (domain, record) = opened.named::<B, RoundDone>(alloc)?;
@@ -139,6 +150,7 @@ fn threads<
         ended: &ended,
         load,
         deadline: Deadline::after(rt, load.seconds),
+        watch,
     };
     let number = load.workers as usize + load.updaters as usize + load.readers as usize;
     match map_indices(
@@ -152,11 +164,12 @@ fn threads<
     }
 }
 
-/// Readers, updaters and workers of one domain, each in a thread of its own.
-pub fn stress<P: GracePlan + Drop + Send + Sync, R: Threads + Wait + Clock + Sync>(
+/// Readers, updaters and workers of one domain, each in a thread of its own. `watch` hears how far the first updater is.
+pub fn stress<P: GracePlan + Drop + Send + Sync, R: Threads + Wait + Clock + Sync, W: Watch + Sync>(
     rt: &R,
     alloc: Global,
     load: Load,
+    watch: &W,
 ) -> Result<Counts, Refusal>
     requires { 0 < load.updaters }
 {
@@ -169,5 +182,5 @@ pub fn stress<P: GracePlan + Drop + Send + Sync, R: Threads + Wait + Clock + Syn
             pool: POOL,
         },
     )?;
-    threads::<P, Brand, R>(rt, alloc, opened, load)
+    threads::<P, Brand, R, W>(rt, alloc, opened, load, watch)
 }

@@ -5,6 +5,7 @@ ghost use Rattle.std.specs.Prelude.{◌≤◌, IfOk};
 use crate::deadline::Deadline;
 use crate::load::Load;
 use crate::round::RoundDone;
+use crate::watch::Watch;
 use domain::{Chain, Domain, Owned, Record, Site};
 use gp_memb::GracePlan;
 use live_words::AnyChain;
@@ -13,10 +14,13 @@ use std::sync::Wait;
 use std::thread;
 use std::time::Clock;
 
+/// Whoever watches hears once in so many rounds.
+const BETWEEN: u32 = 16_384;
+
 /// After so many tries in a row with no free record an updater ends.
 const MOST_TRIES: u32 = 1_000_000;
 
-/// A record of four times this word, as soon as one is free.
+/// A record whose four words are this one, as soon as one is free.
 ///
 /// Refused as `alloc`, with `PoolFull` after so many tries.
 fn allocates<P: GracePlan + Drop, B: Site, R: Wait>(
@@ -35,7 +39,7 @@ fn allocates<P: GracePlan + Drop, B: Site, R: Wait>(
     Err(Refusal::PoolFull)
 }
 
-/// One round: a record of four times this word takes the place of the chain's first, which is retired.
+/// One round: a record whose four words are this one takes the place of the chain's first, which is retired.
 fn one_round<P: GracePlan + Drop, B: Site, R: Wait>(
     rt: &R,
     domain: &Domain<P, AnyChain, B, RoundDone>,
@@ -54,13 +58,14 @@ fn one_round<P: GracePlan + Drop, B: Site, R: Wait>(
 }
 
 /// Round after round, until all are done, the time is over, or the pool stays full. How many were done.
-fn rounds<P: GracePlan + Drop, B: Site, R: Wait + Clock>(
+fn rounds<P: GracePlan + Drop, B: Site, R: Wait + Clock, W: Watch>(
     rt: &R,
     domain: &Domain<P, AnyChain, B, RoundDone>,
     record: &mut Record<B>,
     writer: &mut Chain<'_, P, AnyChain, B>,
     load: &Load,
     deadline: &Deadline,
+    watch: Option<&W>,
 ) -> Result<u64, Refusal>
     ensures { IfOk result (λ retired. retired ≤ load.now.rounds) }
 {
@@ -74,19 +79,23 @@ fn rounds<P: GracePlan + Drop, B: Site, R: Wait + Clock>(
             Err(Refusal::PoolFull) => return Ok(done),
             Err(refusal) => return Err(refusal),
         }
+        if let (Some(watch), 0) = (watch, (number + 1) % BETWEEN) {
+            watch.hear(number + 1);
+        }
     }
     Ok(u64::from(load.rounds))
 }
 
 /// What an updater does: it pushes a record of four zeros on its chain, and makes its rounds. How many records it
 /// retired.
-pub(crate) fn updates<P: GracePlan + Drop, B: Site, R: Wait + Clock>(
+pub(crate) fn updates<P: GracePlan + Drop, B: Site, R: Wait + Clock, W: Watch>(
     rt: &R,
     domain: &Domain<P, AnyChain, B, RoundDone>,
     record: &mut Record<B>,
     chain: usize,
     load: &Load,
     deadline: &Deadline,
+    watch: Option<&W>,
 ) -> Result<u64, Refusal>
     ensures { IfOk result (λ retired. retired ≤ load.now.rounds) }
 {
@@ -98,5 +107,5 @@ pub(crate) fn updates<P: GracePlan + Drop, B: Site, R: Wait + Clock>(
         Err(Refusal::PoolFull) => return Ok(0),
         Err(refusal) => return Err(refusal),
     }
-    rounds(rt, domain, record, &mut writer, load, deadline)
+    rounds(rt, domain, record, &mut writer, load, deadline, watch)
 }

@@ -383,3 +383,52 @@ fn a_worker_of_the_quiescent_state_flavour(rt: HostRuntime) {
     let done = both::<QsbrPlan, Brand, _>(&rt, rt.alloc(), opened).expect(&rt, "not refused");
     assert_eq!(rt; done, (1000, (1000, Stop::Closed)));
 }
+
+/// What a second worker of the queue is answered while the first one is there: it has run what was retired. Then the
+/// queue is closed.
+fn second_worker<B: Site, R: Wait>(
+    rt: &R,
+    alloc: Global,
+    domain: &Domain<MembPlan, AnyChain, B, Adds>,
+    record: &mut Record<B>,
+) -> Result<Option<Refusal>, Refusal> {
+    let unlinked = cut_one(rt, domain, record, 0, 1)?;
+    if domain.retire(rt, record, unlinked, Adds(0)).is_err() {
+        return Err(Refusal::Memory);
+    }
+    domain.barrier(rt, record);
+    let refused = domain.run_worker(rt, alloc, record, 0).err();
+    domain.close(rt, record);
+    Ok(refused)
+}
+
+fn two_workers<B: Site + Send + Sync, R: Threads + Wait + Sync>(
+    rt: &R,
+    alloc: Global,
+    opened: Opened<MembPlan, AnyChain>,
+) -> Result<(Option<Refusal>, (u64, Stop)), Refusal>
+    requires { (B.qsbr ≡ false) × (opened.table.words.shared.table_id ≡ B.table) × (opened.table.words.shared.key ≡ B.sizes) }
+{
+    let (domain, mut record) = opened.named::<B, Adds>(alloc)?;
+    let other = domain.split(&mut record);
+    let home = &domain;
+    let (second, first) = join(
+        rt,
+        move || {
+            let mut record = record;
+            second_worker(rt, alloc, home, &mut record)
+        },
+        move || {
+            let mut other = other;
+            works(rt, alloc, home, &mut other)
+        },
+    );
+    Ok((second?, first?))
+}
+
+#[test]
+fn a_queue_has_one_worker(rt: HostRuntime) {
+    let opened = Opened::<MembPlan, AnyChain>::new(rt.alloc(), of_queues(1)).expect(&rt, "memory");
+    let done = two_workers::<Brand, _>(&rt, rt.alloc(), opened).expect(&rt, "not refused");
+    assert_eq!(rt; done, (Some(Refusal::Busy), (1, Stop::Closed)));
+}

@@ -3,14 +3,15 @@
 ghost use Rattle.std.specs.Prelude.{◌≡◌, false, true};
 
 use crate::deleter::Adds;
-use domain::{Counts, Domain, LiveConfig, Opened, Reader, Record, Site};
+use domain::{Counts, Deleter, Domain, LiveConfig, Opened, Reader, Record, Ripe, Site};
 use gp_memb::{GracePlan, MembPlan};
 use gp_qsbr::QsbrPlan;
 use live_words::AnyChain;
 use rcu_model::Refusal;
 use std::alloc::Global;
 use std::marker::Brand;
-use std::sync::Wait;
+use std::sync::atomic::{AtomicU64, Ordering};
+use std::sync::{Arc, Wait};
 use std::thread;
 use std::thread::{Threads, join};
 
@@ -80,6 +81,116 @@ fn counts_tell_what_is_in_use_and_what_waits(rt: HostRuntime) {
     assert_eq!(rt; retired, counted(0, 3, [0, 2]));
     assert_eq!(rt; waited, counted(2, 3, [0, 2]));
     assert_eq!(rt; run, counted(4, 1, [0, 0]));
+}
+
+/// A callback that returns once somebody has looked.
+#[derive(Drop)]
+struct Pauses {
+    entered: Arc<AtomicU64>,
+    seen: Arc<AtomicU64>,
+}
+
+/// Waits until the flag is raised.
+fn until_raised(flag: &AtomicU64) {
+    for _ in 0..1_000_000_000_000u64 {
+        if flag.load(Ordering::SeqCst) == 1 {
+            return;
+        }
+        thread::yield_now();
+    }
+}
+
+impl Deleter for Pauses {
+    fn call(self, _ripe: Ripe) -> u64 {
+        self.entered.store(1, Ordering::SeqCst);
+        until_raised(&self.seen);
+        0
+    }
+}
+
+/// A record is pushed, cut and retired with this callback, and the queues are closed.
+fn retires<B: Site, R: Wait, D: Deleter>(
+    rt: &R,
+    domain: &Domain<MembPlan, AnyChain, B, D>,
+    record: &mut Record<B>,
+    callback: D,
+) -> Result<(), Refusal> {
+    let mut writer = domain.chain(record, 0)?;
+    let owned = domain.alloc(rt, record, [1; 4])?;
+    writer.push(record, owned);
+    if domain
+        .cut_retire(rt, record, &mut writer, 0, callback)
+        .is_err()
+    {
+        return Err(Refusal::Memory);
+    }
+    domain.close(rt, record);
+    Ok(())
+}
+
+/// The counts while a callback runs.
+fn counts_within<B: Site + Send + Sync, R: Threads + Wait + Sync, D: Deleter + Send>(
+    rt: &R,
+    alloc: Global,
+    domain: &Domain<MembPlan, AnyChain, B, D>,
+    record: &mut Record<B>,
+    entered: &AtomicU64,
+    seen: &AtomicU64,
+) -> Result<Counts, Refusal> {
+    let mut other = domain.split(record);
+    let (worked, counts) = join(
+        rt,
+        move || domain
+            .run_worker(rt, alloc, record, 0)
+            .map(|end| end.finished.len()),
+        move || {
+            until_raised(entered);
+            let counts = domain.counts(&mut other);
+            seen.store(1, Ordering::SeqCst);
+            counts
+        },
+    );
+    if worked? == 1 {
+        Ok(counts)
+    } else {
+        Err(Refusal::Busy)
+    }
+}
+
+/// The counts of a domain with one retired record, while its callback runs.
+fn paused<B: Site + Send + Sync, R: Threads + Wait + Sync>(
+    rt: &R,
+    alloc: Global,
+    opened: Opened<MembPlan, AnyChain>,
+    entered: &Arc<AtomicU64>,
+    seen: &Arc<AtomicU64>,
+) -> Result<Counts, Refusal>
+    requires { (B.qsbr ≡ false) × (opened.table.words.shared.table_id ≡ B.table) × (opened.table.words.shared.key ≡ B.sizes) }
+{
+    let (domain, mut record) = opened.named::<B, Pauses>(alloc)?;
+    let in_call: Result<Arc<AtomicU64>, _> = entered.clone();
+    let looked: Result<Arc<AtomicU64>, _> = seen.clone();
+    let (Ok(in_call), Ok(looked)) = (in_call, looked) else {
+        return Err(Refusal::Memory);
+    };
+    let callback = Pauses {
+        entered: in_call,
+        seen: looked,
+    };
+    retires(rt, &domain, &mut record, callback)?;
+    counts_within(rt, alloc, &domain, &mut record, entered, seen)
+}
+
+#[test]
+fn a_callback_comes_after_the_free_and_before_the_count(rt: HostRuntime) {
+    let opened = Opened::<MembPlan, AnyChain>::new(rt.alloc(), SMALL).expect(&rt, "memory");
+    let entered = Arc::new(rt.alloc(), AtomicU64::new(0)).expect(&rt, "memory");
+    let seen = Arc::new(rt.alloc(), AtomicU64::new(0)).expect(&rt, "memory");
+    let counts = paused::<Brand, _>(&rt, rt.alloc(), opened, &entered, &seen).expect(
+        &rt,
+        "not refused",
+    );
+    assert_eq!(rt; counts, counted(2, 0, [1, 0]));
 }
 
 /// A reader that a grace period has to wait for.

@@ -58,10 +58,10 @@ walk_said rows = record {
   stop = option_map (λ actor. record { actor = actor; from = number_or 32 rows (codes "from") 1 }) (number_of 32 rows (codes "stop"));
 }
 
--- where a time ends the run, all rounds are made that it leaves room for
+-- where a time alone ends the run, there are as many rounds as can be
 abbrev pub rounds_beside : Option ℕ → ℕ
 rounds_beside None = 1000
-rounds_beside (Some seconds) = 1000000
+rounds_beside (Some seconds) = 4294967295
 
 abbrev pub load_said : List Row → Load
 load_said rows = record {

@@ -8,9 +8,12 @@ ghost use Rattle.torture.specs.Status.{IsStatus, EndsAfter, status_of_words};
 ghost use Rattle.torture.specs.Words.{EndsBy};
 
 mod program;
+mod progress;
 mod words;
 
-use std::io::{Read, Write};
+use live_stress::Watch;
+use progress::Progress;
+use std::io::{IsTerminal, Read, Write};
 use std::process::ExitCode;
 use std::sync::Wait;
 use std::thread::Threads;
@@ -55,9 +58,10 @@ fn own_words(rt: &HostRuntime) -> io::Result<Vec<String>> {
 
 /// Executes the command of these words, from the reader to the writer, or tells why they give none, or why they cannot
 /// be had. Answers what the program ends with.
-fn run<H: Threads + Wait + Clock + Sync, R: Read, W: Write, F: Write>(
+fn run<H: Threads + Wait + Clock + Sync, V: Watch + Sync, R: Read, W: Write, F: Write>(
     rt: &HostRuntime,
     threads: &H,
+    watch: &V,
     words: io::Result<Vec<String>>,
     reader: &mut R,
     writer: &mut W,
@@ -72,16 +76,21 @@ fn run<H: Threads + Wait + Clock + Sync, R: Read, W: Write, F: Write>(
         Err(fault) => return tell_unreadable(rt, &fault),
     };
     match read_words(rt.alloc(), &words) {
-        Ok(asked) => execute(threads, rt.alloc(), asked, reader, writer, faults),
+        Ok(asked) => execute(threads, rt.alloc(), asked, watch, reader, writer, faults),
         Err(fault) => tell(rt, &fault),
     }
 }
 
 fn main(rt: HostRuntime) -> ExitCode {
     let words = own_words(&rt);
+    let progress = Progress {
+        rt: &rt,
+        is_shown: rt.stderr().is_terminal(),
+    };
     ExitCode::from(run(
         &rt,
         &rt,
+        &progress,
         words,
         &mut rt.reader(),
         &mut io::writer(&rt),

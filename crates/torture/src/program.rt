@@ -97,7 +97,7 @@ const RUN_ABOUT: &str = "Runs readers, updaters and workers in threads of their 
 const RUN_HELP: &str =
     "Runs readers, updaters and workers in threads of their own, on a domain of 1,024 records with a chain for each updater and a queue for each worker.
 
-Updater u pushes a record of four zeros on chain u. In its round i it puts a record of four times i in that one's place and retires the old one; where no record is free it tries again, and ends after 1,000,000 tries in a row. Each reader opens as many sections as there are rounds and reads the first record of one chain after the other; it counts a record whose four words differ. Each worker waits for grace periods and runs the callbacks of its queue.
+Updater u pushes a record of four zeros on chain u. In its round i it puts a record whose four words are i in that one's place and retires the old one; where no record is free it tries again, and ends after 1,000,000 tries in a row. Each reader opens as many sections as there are rounds and reads the first record of one chain after the other; it counts a record whose four words differ. Each worker waits for grace periods and runs the callbacks of its queue.
 
 It writes `run retired=A finished=B mixed=M`: the records retired, the callbacks run, and the records found mixed. The counts are right where A is B, M is 0, and without `--seconds` A is the number of updaters times the rounds.
 
@@ -106,7 +106,7 @@ Example: torture run --flavour qsbr --readers 8 --updaters 3 --workers 2 --round
 Exit status: 0 the counts are right, 1 they are wrong, 2 bad words, 3 a fault of writing or memory.";
 
 const ROUNDS_HELP: &str =
-    "How many rounds, 1 to 1,000,000; 1000 where it is left out, or 1,000,000 with --seconds";
+    "How many rounds, 1 to 1,000,000; where it is left out 1000, or with --seconds as many as the time allows";
 
 const SECONDS_HELP: &str = "End after so many seconds at the latest, 1 to 86,400";
 

@@ -71,7 +71,7 @@ const LOUD: Load = Load {
 };
 
 const TIMED: Load = Load {
-    rounds: 1_000_000,
+    rounds: 4_294_967_295,
     seconds: Some(5),
     ..QUIET
 };

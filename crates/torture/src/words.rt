@@ -125,7 +125,7 @@ fn walk_of(matches: &ArgMatches) -> Walk
     }
 }
 
-/// How many rounds a run makes where no word says it: where a time ends it, the most.
+/// How many rounds a run makes where no word says it: where a time ends it, as many as can be.
 fn rounds_beside(seconds: Option<u32>) -> u32
     ensures { result ≡ rounds_beside seconds }
 {

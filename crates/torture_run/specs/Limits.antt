@@ -10,7 +10,7 @@ use Rattle.torture_run.specs.declared.asked.Run.{Run}
 
 -- as many threads as a world has actors, and an end
 abbrev pub is_load_within : Load → Bool
-is_load_within load = is_in 1 64 load.readers && is_in 1 16 load.updaters && is_in 1 8 load.workers && is_in 1 1000000 load.rounds && option_map_or (is_in 1 86400) load.seconds true
+is_load_within load = is_in 1 64 load.readers && is_in 1 16 load.updaters && is_in 1 8 load.workers && is_in 1 4294967295 load.rounds && option_map_or (is_in 1 86400) load.seconds true
 
 abbrev pub is_run_within : Run → Bool
 is_run_within run = is_load_within run.load

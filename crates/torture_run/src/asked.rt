@@ -6,8 +6,8 @@ use live_stress::Load;
 use torture_commands::Command;
 use world::Flavour;
 
-/// The most rounds of a run.
-pub const MOST_ROUNDS: u32 = 1_000_000;
+/// The most rounds of a run: as many as one has that a time alone ends.
+pub const MOST_ROUNDS: u32 = 4_294_967_295;
 
 /// The most seconds of a run.
 pub const MOST_SECONDS: u32 = 86_400;
@@ -33,7 +33,7 @@ pub struct Run {
 impl Run {
     ghost use Rattle.torture_run.specs.Limits.{is_run_within};
 
-    /// Whether there are from 1 to 64 readers, 16 updaters, 8 workers and 1,000,000 rounds, and from 1 to 86,400 seconds
+    /// Whether there are from 1 to 64 readers, 16 updaters, 8 workers and 4,294,967,295 rounds, and from 1 to 86,400 seconds
     /// where there are any.
     pub fn is_within_limits(&self) -> bool
         ensures { result ≡ is_run_within self.now }

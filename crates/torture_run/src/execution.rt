@@ -10,7 +10,7 @@ use crate::counting::{are_right, write_counts};
 use crate::fault::{RunFault, fault_of};
 use gp_memb::MembPlan;
 use gp_qsbr::QsbrPlan;
-use live_stress::{Counts, stress};
+use live_stress::{Counts, Watch, stress};
 use rcu_model::Refusal;
 use std::alloc::Global;
 use std::io::{Read, Write};
@@ -20,31 +20,33 @@ use std::time::Clock;
 use world::Flavour;
 
 /// The threads of a run, in its flavour. What they count.
-fn counted<R: Threads + Wait + Clock + Sync>(
+fn counted<R: Threads + Wait + Clock + Sync, V: Watch + Sync>(
     rt: &R,
     alloc: Global,
     run: &Run,
+    watch: &V,
 ) -> Result<Counts, Refusal>
     requires { IsRunWithin run.now }
 {
     match run.flavour {
-        Flavour::Memb => stress::<MembPlan, R>(rt, alloc, run.load),
-        Flavour::Qsbr => stress::<QsbrPlan, R>(rt, alloc, run.load),
+        Flavour::Memb => stress::<MembPlan, R, V>(rt, alloc, run.load, watch),
+        Flavour::Qsbr => stress::<QsbrPlan, R, V>(rt, alloc, run.load, watch),
     }
 }
 
 /// Runs the threads, and writes what they count as one line. A refusal and `Memory` write nothing, and `Write` a
 /// beginning of that line.
-fn run_threads<R: Threads + Wait + Clock + Sync, W: Write>(
+fn run_threads<R: Threads + Wait + Clock + Sync, V: Watch + Sync, W: Write>(
     rt: &R,
     alloc: Global,
     run: &Run,
+    watch: &V,
     writer: &mut W,
 ) -> Result<Counts, RunFault>
     requires { IsRunWithin run.now }
     ensures { HasRun (W.contents writer.old) (W.contents writer.new) result }
 {
-    match counted(rt, alloc, run) {
+    match counted(rt, alloc, run, watch) {
         Ok(counts) => write_counts(alloc, counts, writer),
         Err(refusal) => Err(fault_of(refusal)),
     }
@@ -66,13 +68,14 @@ fn end<F: Write>(run: &Run, ended: Result<Counts, RunFault>, faults: &mut F) -> 
     }
 }
 
-/// Does what was asked for, from the reader to the writer; a run reads nothing. A fault is told on `faults`, where a
+/// Does what was asked for, from the reader to the writer; a run reads nothing, and `watch` hears how far it is. A fault is told on `faults`, where a
 /// write error is passed over. Answers what the program ends with: 0 good, 1 a log that is no run or wrong counts, 2 bad
 /// input, 3 a fault of reading, writing or memory.
-pub fn execute<R: Threads + Wait + Clock + Sync, I: Read, W: Write, F: Write>(
+pub fn execute<R: Threads + Wait + Clock + Sync, V: Watch + Sync, I: Read, W: Write, F: Write>(
     rt: &R,
     alloc: Global,
     asked: Asked,
+    watch: &V,
     reader: &mut I,
     writer: &mut W,
     faults: &mut F,
@@ -86,7 +89,7 @@ pub fn execute<R: Threads + Wait + Clock + Sync, I: Read, W: Write, F: Write>(
             alloc, command, reader, writer, faults,
         ),
         Asked::Run(run) => {
-            let ended = run_threads(rt, alloc, &run, writer);
+            let ended = run_threads(rt, alloc, &run, watch, writer);
             end(&run, ended, faults)
         }
     }

@@ -1,4 +1,4 @@
-use Rattle.std.proofs.Common.{ℕ, ◌<◌}
+use Rattle.std.proofs.Common.{◌<◌}
 use Rattle.live_read.specs.Holding.{MayHoldIn}
 use Rattle.live_bench.proofs.walking.read_again.Given as goal
 

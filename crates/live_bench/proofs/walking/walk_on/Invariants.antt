@@ -1,4 +1,4 @@
-use Rattle.std.proofs.Common.{ℕ, ◌≤◌, ◌<◌, IfSome}
+use Rattle.std.proofs.Common.{◌≤◌, ◌<◌, IfSome}
 use Rattle.live_read.specs.Holding.{MayHoldIn}
 use Rattle.live_bench.proofs.walking.walk_on.Given as goal
 

@@ -1,14 +1,11 @@
 use Rattle.std.proofs.Common.{ℕ, [], ◌∷◌, ◌++◌, append_assoc, refl, sym, ap, ◌∙◌, subst, inr, arith}
-use Rattle.rcu_model.specs.declared.event.ObjectId.{ObjectId}
-use Rattle.rcu_model.specs.Sets.{In}
-use Rattle.callback_queue.specs.declared.item.Ticket.{Ticket}
-use Rattle.live_log.specs.Log.{Log, Begins, state_of}
+use Rattle.live_log.specs.Log.{Log, Begins}
 use Rattle.live_log.proofs.Lemmas.{begins_trans}
 use Rattle.live_rule.specs.declared.view.View.{View}
 use Rattle.live_rule.specs.Places.{closed_at}
 use Rattle.live_rule.specs.declared.rights.WorkRight.{WorkRight}
 use Rattle.live_table.specs.Rights.{finished_in, work_in}
-use Rattle.live_words.specs.Queues.{HasRunAt, IsAt}
+use Rattle.live_words.specs.Queues.{HasRunAt}
 use Rattle.live_reclaim.proofs.Ripening.{ended_later, has_run, ripe_next, stands_later}
 use Rattle.live_reclaim.proofs.run.run_next.Goals as goal
 
@@ -64,15 +61,13 @@ pub returns-clause-run : goal.returns-clause-run
 returns-clause-run g c =
     let placed = c.requires.item.1 in
     let ran = c.run-deleter.ensures.run in
-    let done = c.run-done.ensures in
     let was : Log = c.args.item.job.0.seen in
     let log : Log = c.run-deleter.new.worker.me.0.heard in
     let last : Log = c.store_finished.new.seat.me.0.seen in
     let heard : Begins log last = c.store_finished.ensures.finished.2.1 in
     let on : Begins was log = subst (Begins was) (sym ran.wrote) (begins_trans was ran.before (_ ∷ ran.before) ran.after_job (_ ∷ [], refl)) in
-    let object = done.1 ∙ c.run-deleter.ensures.ripe.0 in
     record {
-      ticket = ap (λ (t : Ticket). t.0) done.0 ∙ c.requires.item.0;
-      turn = subst (λ (p : ObjectId). IsAt c.args.queue c.args.finished p last) (sym object) (stands_later was last c.args.queue c.args.finished c.args.item.object (begins_trans was log last on heard) placed.turn);
-      run = subst (λ (p : ObjectId). In (state_of last).reclaimed p) (sym object) (has_run ran.before log last c.args.item.object ran.wrote heard);
+      ticket = c.requires.item.0;
+      turn = stands_later was last c.args.queue c.args.finished c.args.item.object (begins_trans was log last on heard) placed.turn;
+      run = has_run ran.before log last c.args.item.object ran.wrote heard;
     }

@@ -6,7 +6,7 @@ use Rattle.live_rule.specs.declared.view.Sizes.{Sizes}
 use Rattle.live_rule.specs.declared.view.View.{View}
 use Rattle.live_rule.specs.Places.{finished_at, work_at}
 use Rattle.domain.specs.Working.{Looks, left_by}
-use Rattle.domain.proofs.Running.{list_later, order_later, ran_through}
+use Rattle.domain.proofs.Running.{list_later, more_known, order_later, ran_through}
 use Rattle.domain.proofs.domain.Domain.employ.Goals as goal
 
 pub returns-clause-worked : goal.returns-clause-worked
@@ -45,6 +45,7 @@ returns-clause-worked g c =
       left = order_later q c.work-stop.new.seat.me.0.heard last n c.work-stop.new.left.items left.2.1 w.left.0;
       nothing = w.left.1;
       closed = λ x. let e = w.closed x in let k = closed_stays g.P.GracePlan.QSBR g.K.ChainRule.allows between last q more left.2.2 e.0 in (k.0, ap (λ (l : List ObjectId). length l) k.1 ∙ e.1);
+      memory = λ x. more_known q n c.work-stop.new.seat.me.0 last more left.2.1 (w.memory x);
       exhausted = λ x. let u = w.exhausted x in record {
         at = u.at;
         earlier = u.earlier;

@@ -1,0 +1,23 @@
+//! The worker of a domain's queue.
+
+use domain::{Deleter, Domain, Record, Site, Stop};
+use gp_memb::GracePlan;
+use live_words::AnyChain;
+use rcu_model::Refusal;
+use std::alloc::Global;
+use std::sync::Wait;
+
+/// Reclaims until the queue is closed and nothing is left. Answers how many records.
+pub(crate) fn works<P: GracePlan + Drop, B: Site, D: Deleter, R: Wait>(
+    rt: &R,
+    alloc: Global,
+    domain: &Domain<P, AnyChain, B, D>,
+    record: &mut Record<B>,
+) -> Result<u64, Refusal> {
+    let end = domain.run_worker(rt, alloc, record, 0)?;
+    match end.stop {
+        Stop::Closed => Ok(end.finished.len() as u64),
+        Stop::Exhausted => Err(Refusal::Exhausted),
+        Stop::Memory => Err(Refusal::Memory),
+    }
+}
