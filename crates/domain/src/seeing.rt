@@ -17,6 +17,13 @@ use rcu_model::Refusal;
 use std::alloc::Global;
 
 impl<P: GracePlan + Drop, K: ChainRule, B: Site, D: Deleter> Domain<P, K, B, D> {
+    /// How many chains it has, numbered from 0. It never waits.
+    pub fn chains(&self) -> usize
+        ensures { result ≡ B.sizes.chains }
+    {
+        self.table.chains
+    }
+
     /// How full the domain is: how many records are in use, how many retired objects of each queue have not run, and the
     /// sequence number. The counts are loaded one after another, so they are of different moments of the call. It takes
     /// as long as the pool is large; it never waits and takes no memory.

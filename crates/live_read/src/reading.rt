@@ -64,7 +64,7 @@ impl<P: GracePlan, K: ChainRule, B: Site> Reader<P, K, B> {
     }
 
     // One word of an object.
-    fn read_word(&mut self, held: Held, index: usize) -> u64
+    pub(crate) fn read_word(&mut self, held: Held, index: usize) -> u64
         requires open_section { (P.QSBR ≡ B.qsbr) × (0 < self.old.depth) × (index < 4) }
         requires held { MayHoldIn self.old held.cell }
         ensures looked { Looks P.QSBR K.allows self.old self.new }

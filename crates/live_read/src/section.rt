@@ -1,9 +1,9 @@
 //! Read-side sections.
 
-ghost use Rattle.std.specs.Prelude.{◌≡◌, ◌<◌, ◌≤◌, Some, None, IfOk, IfErr, IfSome, IfNone};
+ghost use Rattle.std.specs.Prelude.{◌≡◌, ◌<◌, ◌≤◌, Some, None, IfOk, IfErr, IfSome, IfNone, slice_index_or};
 ghost use Rattle.rcu_model.specs.declared.event.ObjectId.{ObjectId};
 ghost use Rattle.rcu_model.specs.declared.refusal.Refusal.TheVariants.{NoPlace};
-ghost use Rattle.live_log.specs.Log.{payload_of};
+ghost use Rattle.live_log.specs.Log.{note_of, payload_of};
 ghost use Rattle.live_read.specs.Holding.{MayHold, MayHoldIn, log_of};
 ghost use Rattle.live_read.specs.Reads.{FindsFirst, FindsNext, Looks};
 ghost use Rattle.live_read.specs.Sections.{BeginsSection, EndsSection, MayNotBegin};
@@ -85,6 +85,19 @@ impl<'a, P: GracePlan, K: ChainRule, B: Site> Section<'a, P, K, B> {
         ensures payload { (o : ObjectId) → MayHold self.old.reader.now o held.cell → result ≡ payload_of (log_of self.old.reader.now) o }
     {
         self.reader.read_words(held)
+    }
+
+    /// One of the four words of an object that the section holds, the first one at `index` 0: that which was published
+    /// with it. It never waits and takes no memory.
+    pub fn read_word(&mut self, held: Held, index: usize) -> u64
+        requires open_section { (P.QSBR ≡ B.qsbr) × (0 < self.old.reader.now.depth) × (index < 4) }
+        requires held { MayHoldIn self.old.reader.now held.cell }
+        ensures reader { self.new.reader.ghost_name ≡ self.old.reader.ghost_name }
+        ensures looked { Looks P.QSBR K.allows self.old.reader.now self.new.reader.now }
+        ensures still { MayHoldIn self.new.reader.now held.cell }
+        ensures word { (o : ObjectId) → MayHold self.old.reader.now o held.cell → result ≡ slice_index_or (note_of (log_of self.old.reader.now) o).1 index 0 }
+    {
+        self.reader.read_word(held, index)
     }
 
     /// Ends the section, as dropping it does. It never waits.

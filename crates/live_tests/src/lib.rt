@@ -12,6 +12,8 @@ mod grace_periods;
 #[cfg(test)]
 mod keyed;
 #[cfg(test)]
+mod lists;
+#[cfg(test)]
 mod publishing;
 #[cfg(test)]
 mod queues;

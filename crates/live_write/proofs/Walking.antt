@@ -1,9 +1,9 @@
 -- Where a writer stands in a walk over its chain.
-use Rattle.std.proofs.Common.{Bool, ◌≡◌, ◌≢◌, ℕ, ◌+◌, ◌-◌, ◌<◌, ◌≤◌, suc, List, [], ◌∷◌, ◌++◌, length, Option, Some, None, IfSome, slice_get, sym, refl, ap, ◌∙◌, subst, inl, inr, arith, length-append, append_assoc, append-nil}
+use Rattle.std.proofs.Common.{Bool, ◌≡◌, ◌≢◌, ℕ, ◌+◌, ◌-◌, ◌<◌, ◌≤◌, zero, suc, List, [], ◌∷◌, ◌++◌, length, Option, Some, None, IfSome, slice_get, sym, refl, ap, ◌∙◌, subst, inl, inr, arith, length-append, append_assoc, append-nil}
 use Rattle.atomic_table.specs.Table.{Me}
 use Rattle.rcu_model.specs.declared.event.ObjectId.{ObjectId}
 use Rattle.rcu_model.specs.Sets.{In, IsPlace, follows, first_of, next_of, same_object, without_object, replaced}
-use Rattle.rcu_model.proofs.Lemmas.{Once, Tells, object_tells, follows_has}
+use Rattle.rcu_model.proofs.Lemmas.{Once, Tells, object_tells, follows_has, some_is, none_some}
 use Rattle.live_log.specs.declared.event.LiveEvent.{LiveEvent}
 use Rattle.live_log.specs.Log.{Log, note_of, objects_of}
 use Rattle.live_log.proofs.Lemmas.{begins_trans, kept_log}
@@ -20,6 +20,10 @@ in_middle : (front : List ObjectId) (o : ObjectId) (rest : List ObjectId) → In
 in_middle [] o rest = inl refl
 in_middle (p ∷ ps) o rest = inr (in_middle ps o rest)
 
+in_behind : (front rest : List ObjectId) (o : ObjectId) → In rest o → In (front ++ rest) o
+in_behind [] rest o h = h
+in_behind (p ∷ ps) rest o h = inr (in_behind ps rest o h)
+
 -- what follows an object is the first of what stands behind it
 next_at : (front : List ObjectId) (o : ObjectId) (rest : List ObjectId) → Once (front ++ o ∷ rest) → next_of (front ++ o ∷ rest) o ≡ first_of rest
 next_at [] o rest once = by (object_tells o o)
@@ -32,6 +36,17 @@ next_at (p ∷ ps) o rest once = by (object_tells p o) (next_at ps o rest once.1
     by : Tells (same_object p o) p o → next_of (ps ++ o ∷ rest) o ≡ first_of rest → next_of (p ∷ ps ++ o ∷ rest) o ≡ first_of rest
     by (inl y) next = absurd (once.0 (subst (In (ps ++ o ∷ rest)) (sym y.1) (in_middle ps o rest)))
     by (inr n) next = rw n.0 next
+
+-- an object stands in a list exactly where it has an index there
+pub index_has : (xs : List ObjectId) (k : ℕ) (o : ObjectId) → slice_get xs k ≡ Some o → In xs o
+index_has [] k o at = absurd (none_some o at)
+index_has (x ∷ xs) zero o at = inl (some_is x o at)
+index_has (x ∷ xs) (suc k) o at = inr (index_has xs k o at)
+
+pub has_index : (xs : List ObjectId) (o : ObjectId) → In xs o → (k : ℕ) × (k < length xs) × (slice_get xs k ≡ Some o)
+has_index [] o h = absurd h
+has_index (x ∷ xs) o (inl e) = (0, omega arith, ap Some e)
+has_index (x ∷ xs) o (inr h) = let r = has_index xs o h in (suc r.0, omega arith, r.2)
 
 get_middle : (front : List ObjectId) (o : ObjectId) (rest : List ObjectId) → slice_get (front ++ o ∷ rest) (length front) ≡ Some o
 get_middle [] o rest = refl
@@ -186,6 +201,36 @@ module _ {S : Type 0} (qsbr : Bool) (allows : Log → LiveEvent → Type 0) (m0 
           there = ap (λ (z : ℕ × List ℕ). z.0) (note_same qsbr allows m.0 m p went s.listed h.object (subst (λ (c : ChainRight). In c.objects h.object) (sym same_own) h.has)) ∙ h.cell;
           leads = told.1.1 ∙ ap (ref (objects_of p.0.seen)) (told.1.3 still_writer (subst (λ (c : ChainRight). In c.objects h.object) (sym same_own) h.has) ∙ (ap (λ (c : ChainRight). next_of c.objects h.object) same_own ∙ follows_is));
         }
+
+    -- or loads a word, and stands where it stood
+    module _ (p : Me S View) (went : Went qsbr allows m.0 m p) where
+      pub note_here : (o : ObjectId) → In xs o → note_of p.0.seen o ≡ note_of m.0.seen o
+      note_here o has = note_same qsbr allows m.0 m p went s.listed o (subst (λ (c : ChainRight). In c.objects o) (sym same_own) has)
+
+      there_here : (b : Option ℕ) (q : Option ObjectId) → IsPlace xs q → IsThere m.0 b q → IsThere p.0 b q
+      there_here None None place there = there
+      there_here None (Some q) place there = absurd there
+      there_here (Some j) None place there = absurd there
+      there_here (Some j) (Some q) place there = ap (λ (z : ℕ × List ℕ). z.0) (note_here q place) ∙ there
+
+      leads_here : (os : List ObjectId) → ((o : ObjectId) → In os o → In xs o) → ref (objects_of m.0.seen) (first_of os) ≡ ref (objects_of p.0.seen) (first_of os)
+      leads_here [] all = refl
+      leads_here (o ∷ os) all = ap (λ (z : ℕ × List ℕ). z.0 + 1) (sym (note_here o (all o (inl refl))))
+
+      pub stands_on : KnowsChains m.0 p.0 → Stands qsbr allows m0 p n before word
+      stands_on knows = let k = knows.1 still_writer in record {
+        went = went_both qsbr allows m0 m p s.went went;
+        listed = k.0;
+        low = λ o has. subst (λ (z : ℕ). (note_of p.0.seen o).0 < z) (ap (λ (u : View). u.sizes.pool) s.went.1) (k.1 o (subst (λ (c : ChainRight). In c.objects o) (sym same_own) has));
+        front = s.front;
+        rest = s.rest;
+        list = s.list;
+        many = s.many;
+        place = s.place;
+        placed = s.placed;
+        there = there_here before s.place s.placed.0 s.there;
+        leads = s.leads ∙ leads_here s.rest (λ o has. subst (λ (l : List ObjectId). In l o) (sym s.list) (in_behind s.front s.rest o has));
+      }
 
     -- the place before it
     pub is_before : (h : Here) → IsBefore m.0 s.place h.object

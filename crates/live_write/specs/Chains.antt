@@ -1,10 +1,10 @@
 -- What a call of a chain's writer tells.
-use Rattle.std.specs.Prelude.{◌≡◌, ◌∷◌, Bool, List}
+use Rattle.std.specs.Prelude.{◌≡◌, ◌≢◌, ℕ, ◌<◌, ◌∷◌, Bool, List, Some, slice_get, slice_index_or}
 use Rattle.rcu_model.specs.declared.event.ObjectId.{ObjectId}
 use Rattle.live_log.specs.declared.event.LiveEvent.{LiveEvent}
 use Rattle.live_log.specs.declared.event.LiveEvent.TheVariants.{Object}
 use Rattle.live_log.specs.declared.event.ObjectEvent.TheVariants.{Push, Replace}
-use Rattle.live_log.specs.Log.{Log, Begins, IsLiveRun}
+use Rattle.live_log.specs.Log.{Log, Begins, IsLiveRun, note_of}
 use Rattle.live_rule.specs.declared.view.View.{View}
 use Rattle.live_table.specs.Rights.{AreAsKnown, own_in, object_in, cell_in, payload_in}
 use Rattle.live_chains.specs.Chains.{IsAllowedBy}
@@ -12,6 +12,17 @@ use Rattle.live_chains.specs.Chains.{IsAllowedBy}
 -- the objects that a writer's chain links, the first one first
 abbrev pub list_in : View → List ObjectId
 list_in v = (own_in v.chains).objects
+
+-- the word with which the payload of an object begins
+abbrev pub first_word : Log → ObjectId → ℕ
+first_word log o = slice_index_or (note_of log o).1 0 0
+
+-- the object at the index begins with the word, and none before it does
+pub record IsFirstWith (log : Log) (os : List ObjectId) (word index : ℕ) : Type 0 where
+  pub object : ObjectId
+  pub at : slice_get os index ≡ Some object
+  pub begins : first_word log object ≡ word
+  pub others : (k : ℕ) (o : ObjectId) → k < index → slice_get os k ≡ Some o → first_word log o ≢ word
 
 -- the push by one seat of another's fresh record
 abbrev pub push_by : View → View → LiveEvent

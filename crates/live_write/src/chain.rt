@@ -1,8 +1,8 @@
 //! The one writer of a chain.
 
-ghost use Rattle.std.specs.Prelude.{◌≡◌, ◌⊎◌, ◌<◌, ◌≤◌, ◌∷◌, [], Some, length, slice_get, IfErr, IfNone, IfOk, IfSome};
+ghost use Rattle.std.specs.Prelude.{◌≡◌, ◌≢◌, ◌⊎◌, ◌<◌, ◌≤◌, ◌∷◌, [], Some, length, slice_get, IfErr, IfNone, IfOk, IfSome};
 ghost use Rattle.rcu_model.specs.declared.refusal.Refusal.TheVariants.{Busy, NoPlace};
-ghost use Rattle.rcu_model.specs.Sets.{replaced, without_object};
+ghost use Rattle.rcu_model.specs.Sets.{In, replaced, without_object};
 ghost use Rattle.rcu_model.specs.declared.event.ObjectId.{ObjectId};
 ghost use Rattle.live_log.specs.declared.event.LiveEvent.TheVariants.{ChainNote};
 ghost use Rattle.live_log.specs.Log.{Begins, IsLiveRun, chain_note, payload_of};
@@ -12,11 +12,11 @@ ghost use Rattle.live_table.specs.Rights.{IsListed, IsWriter, object_in, own_in}
 ghost use Rattle.live_table.specs.Steps.{Keeps, Went};
 ghost use Rattle.live_chains.specs.Chains.{cut_of};
 ghost use Rattle.live_read.specs.Hearing.{IsAfter, OnlyHears, Stays};
-ghost use Rattle.live_write.specs.Chains.{MayPublish, Publishes, list_in, push_by, replace_by};
+ghost use Rattle.live_write.specs.Chains.{IsFirstWith, MayPublish, Publishes, first_word, list_in, push_by, replace_by};
 
 use crate::publish::{cut_record, push_record, replace_record, write_note};
 use crate::records::{Owned, Unlinked};
-use crate::walk::{count, read};
+use crate::walk::{count, read, seek};
 use gp_memb::GracePlan;
 use live_read::{Site, Witness};
 use live_words::{ChainRule, LiveSeat, LiveTable, free_chain, hold_chain, load_note};
@@ -80,7 +80,8 @@ impl<'d, P: GracePlan, K: ChainRule, B: Site> Chain<'d, P, K, B> {
 
     /// The chain's number. It never waits.
     pub fn number(&self) -> usize
-        ensures { result ≡ self.now.number }
+        ensures number { result ≡ self.now.number }
+        ensures low { result < B.sizes.chains }
     {
         self.number
     }
@@ -122,6 +123,16 @@ impl<'d, P: GracePlan, K: ChainRule, B: Site> Chain<'d, P, K, B> {
             return None;
         }
         Some(read(self.table, &mut self.seat, self.number, index))
+    }
+
+    /// The index of the first object whose payload begins with this word, by the list that the writer knows: None exactly
+    /// where none does. It walks from the head, loads one word of each object, and never waits.
+    pub fn index_of(&mut self, word: u64) -> Option<usize>
+        ensures found { IfSome result (λ index. IsFirstWith self.new.seat.me.0.seen (list_in self.old.seat.me.0) word index) }
+        ensures none { IfNone result ((o : ObjectId) → In (list_in self.old.seat.me.0) o → first_word self.new.seat.me.0.seen o ≢ word) }
+        ensures walked { Keeps self.old.seat self.new.seat × Went P.QSBR K.allows self.old.seat.me.0 self.old.seat.me self.new.seat.me × (self.new.number ≡ self.old.number) }
+    {
+        seek(self.table, &mut self.seat, self.number, word)
     }
 
     /// The object at an index leaves the chain, liburcu's `cds_list_del_rcu`, after a walk to it: what led to it leads

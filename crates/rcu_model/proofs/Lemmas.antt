@@ -8,7 +8,7 @@ pub use Rattle.rcu_model.proofs.Endings.{opens_once, queues_once, runs_queued}
 pub use Rattle.rcu_model.proofs.Safety.{Linking, Safe, linked, cut_last, cut_before, SafeIn, Kept, kept_start, kept_step, kept_run, kept_log, safe_step, safe_successor, not_reclaimed, at_linked}
 pub use Rattle.rcu_model.proofs.Opening.{OpenSeen, open_seen, seen_since, open_between, not_closed, open_by_events, closed_by_events}
 pub use Rattle.rcu_model.proofs.Awaiting.{AwaitsOpen, awaits_open, awaited_since, awaited_was_open, awaits_none}
-pub use Rattle.rcu_model.proofs.Lifetimes.{stays_cut_run, LinkedWithin, CutWithin, linked_or_cut, IsPlaced, within_placed, used_placed, successor_placed}
+pub use Rattle.rcu_model.proofs.Lifetimes.{StaysOrLeaves, stays_or_leaves, StaysCut, stays_cut, replaced_there, stays_cut_run, LinkedWithin, CutWithin, linked_or_cut, IsPlaced, within_placed, used_placed, successor_placed}
 pub use Rattle.rcu_model.proofs.Protection.{safe_since, was_linked_safe, was_linked_not_reclaimed, successor_was_linked}
 pub use Rattle.rcu_model.proofs.Backwards.{in_reverse, state_goes_on, run_went_on, run_goes_on, state_is, run_is, run_back_prop, kept_back, open_seen_back, awaits_open_back, successor_placed_back, open_back, closed_back, open_between_back, safe_back, protected_back, linked_or_cut_back, LinkedSince, successor_since_back, awaits_none_back}
 pub use Rattle.rcu_model.proofs.Growing.{Grows, grows, grows_run, grows_back}

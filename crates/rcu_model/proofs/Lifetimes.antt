@@ -14,7 +14,7 @@ use Rattle.rcu_model.proofs.Headline.{allowed_split, run_parts}
 use Rattle.rcu_model.proofs.Safety.{Kept, at_linked, kept_step, kept_run, kept_start, kept_log}
 
 -- a linked object is linked where it was, or is cut, and keeps the successor that it had
-abbrev StaysOrLeaves : State → State → ℕ → ObjectId → Type 0
+abbrev pub StaysOrLeaves : State → State → ℕ → ObjectId → Type 0
 StaysOrLeaves now later c o = In (later.chain c) o ⊎ (In later.cut o × (later.successor o ≡ next_of (now.chain c) o))
 
 -- where one chain is set, what it keeps is linked as before
@@ -36,7 +36,7 @@ leaves now d c p o xs k at rest h = by (decide o p)
         inr (inl (sym e), ap (at_object p (next_of (now.chain d) p) now.successor) e ∙ at_object_same p (next_of (now.chain d) p) now.successor ∙ (λ i. next_of (now.chain (sym same i)) (sym e i)))
     by (inr n) = inl (chain_set now.chain d c xs o (λ e. rest o (subst (λ (m : ℕ). In (now.chain m) o) e h) n) h)
 
-stays_or_leaves : (now : State) (e : Event) (c : ℕ) (o : ObjectId) → Kept now → IsAllowed now e → In (now.chain c) o → StaysOrLeaves now (after now e) c o
+pub stays_or_leaves : (now : State) (e : Event) (c : ℕ) (o : ObjectId) → Kept now → IsAllowed now e → In (now.chain c) o → StaysOrLeaves now (after now e) c o
 stays_or_leaves now (Open s) c o k a h = inl h
 stays_or_leaves now (Close s) c o k a h = inl h
 stays_or_leaves now (First s d None) c o k a h = inl h
@@ -58,10 +58,10 @@ stays_or_leaves now (Bar n) c o k a h = inl h
 stays_or_leaves now (Clear n) c o k a h = inl h
 
 -- a cut object stays cut, with the successor that it had
-abbrev StaysCut : State → State → ObjectId → Type 0
+abbrev pub StaysCut : State → State → ObjectId → Type 0
 StaysCut now later o = In later.cut o × (later.successor o ≡ now.successor o)
 
-stays_cut : (now : State) (e : Event) (o : ObjectId) → Kept now → IsAllowed now e → In now.cut o → StaysCut now (after now e) o
+pub stays_cut : (now : State) (e : Event) (o : ObjectId) → Kept now → IsAllowed now e → In now.cut o → StaysCut now (after now e) o
 stays_cut now (Open s) o k a h = (h, refl)
 stays_cut now (Close s) o k a h = (h, refl)
 stays_cut now (First s d None) o k a h = (h, refl)
@@ -89,7 +89,7 @@ stays_cut_run now (e ∷ es) o k a h =
     let rest = stays_cut_run (after now e) es o (kept_step now e k a.0) a.1 one.0 in
     (rest.0, rest.1 ∙ one.1)
 
-replaced_there : (old new : ObjectId) (xs : List ObjectId) → In xs old → In (replaced old new xs) new
+pub replaced_there : (old new : ObjectId) (xs : List ObjectId) → In xs old → In (replaced old new xs) new
 replaced_there old new [] h = absurd h
 replaced_there old new (x ∷ xs) (inl e) = by (object_tells x old)
   where

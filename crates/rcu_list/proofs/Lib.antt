@@ -1,0 +1,5 @@
+pub mod Changing
+pub mod Looking
+pub mod Values
+pub mod Windows
+pub mod Writing

@@ -1,0 +1,29 @@
+use Rattle.std.proofs.Common.{◌≡◌, ℕ, List, [], ◌∷◌, None, refl, sym}
+use Rattle.rcu_model.specs.declared.event.ObjectId.{ObjectId}
+use Rattle.rcu_model.specs.Sets.{first_of}
+use Rattle.rcu_model.proofs.Lemmas.{none_some}
+use Rattle.live_log.specs.Keys.{keyed}
+use Rattle.live_log.specs.Log.{Log, note_of, state_of}
+use Rattle.live_log.proofs.Lemmas.{begins_trans}
+use Rattle.live_read.specs.Holding.{log_of}
+use Rattle.live_read.proofs.Lemmas.{looks_twice}
+use Rattle.rcu_list.specs.Maps.{value_in}
+use Rattle.rcu_list.proofs.view.ListView.get.Goals as goal
+
+-- where no object is linked, no key has a value
+empty_map : (note : ObjectId → ℕ × List ℕ) (os : List ObjectId) (key : ℕ) → first_of os ≡ None → value_in note os key ≡ None
+empty_map note [] key none = refl
+empty_map note (o ∷ os) key none = absurd (none_some o (sym none))
+
+pub returns-in-Ok-Some-clause-looked : goal.returns-in-Ok-Some-clause-looked
+returns-in-Ok-Some-clause-looked g c = looks_twice g.P.GracePlan.QSBR keyed c.args.section.now.reader.now c.first.new.self.reader.now c.search.new.section.reader.now c.in-Ok-Some.ensures.looked.1 c.search.ensures.looked
+
+pub returns-in-Ok-Some-clause-window : goal.returns-in-Ok-Some-clause-window
+returns-in-Ok-Some-clause-window g c =
+    let l = c.in-Ok-Some.ensures.looked.1.later in let a = c.search.ensures.window in let old = c.args.section.now.reader.now in let start : Log = log_of c.first.new.self.reader.now in
+    record { at = a.at; after_seen = begins_trans (log_of old) start a.at l.after_seen a.after_seen; after_heard = begins_trans old.seat.me.0.heard start a.at l.after_heard a.after_seen; before = a.before; is = a.is }
+
+pub returns-in-Ok-None-clause-window : goal.returns-in-Ok-None-clause-window
+returns-in-Ok-None-clause-window g c =
+    let l = c.in-Ok-None.ensures.looked.1.later in let at : Log = log_of c.first.new.self.reader.now in let e = rw c.in-Ok-None.field-0-is at c.in-Ok-None.ensures in
+    record { at = at; after_seen = l.after_seen; after_heard = l.after_heard; before = ([], refl); is = empty_map (note_of at) ((state_of at).chain c.args.self.chain) c.args.key e.none }

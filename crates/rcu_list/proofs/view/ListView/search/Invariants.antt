@@ -1,0 +1,15 @@
+use Rattle.std.proofs.Common.{◌≡◌, ◌+◌, ◌≤◌}
+use Rattle.rcu_model.specs.declared.event.ObjectId.{ObjectId}
+use Rattle.live_log.specs.Keys.{rank_of}
+use Rattle.live_log.specs.Log.{note_of}
+use Rattle.live_read.specs.Holding.{log_of}
+use Rattle.rcu_list.proofs.Looking.{StandsAt}
+use Rattle.rcu_list.proofs.view.ListView.search.Given as goal
+
+abbrev pub invariant-loop-passed : goal.invariant-loop-passed
+invariant-loop-passed g l = record {
+  reader : l.section.reader.ghost_name ≡ l.fn.section.reader.ghost_name;
+  object : ObjectId;
+  stands : StandsAt g.P.GracePlan.QSBR l.fn.self.chain l.fn.key l.fn.section.reader.now l.section.reader.now object l.held.cell;
+  low : rank_of (note_of (log_of l.section.reader.now) object) + l._passed ≤ l.most;
+}

@@ -1,0 +1,9 @@
+#![tactic(auto)]
+//! Keyed lists over the chains of a domain: lookups in read-side sections, which take no lock, beside one writer that
+//! inserts, replaces in place and removes.
+
+mod list;
+mod view;
+
+pub use list::RcuList;
+pub use view::ListView;

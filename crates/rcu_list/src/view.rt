@@ -1,0 +1,142 @@
+//! Lookups in a keyed list.
+
+ghost use Rattle.std.specs.Prelude.{◌≡◌, ◌≤◌, ◌<◌, IfErr, IfOk, IfSome};
+ghost use Rattle.rcu_model.specs.declared.refusal.Refusal.TheVariants.{NoPlace};
+ghost use Rattle.live_log.specs.Keys.{keyed};
+ghost use Rattle.live_read.specs.Holding.{log_of};
+ghost use Rattle.live_read.specs.Reads.{Looks};
+ghost use Rattle.rcu_list.specs.Maps.{AnswersBetween};
+
+use domain::{Chain, Deleter, Domain, Held, Section, Site};
+use gp_memb::GracePlan;
+use live_words::Keyed;
+use rcu_model::Refusal;
+use std::alloc::AllocError;
+use std::marker::PhantomData;
+
+/// What readers look keys up by: the chain of a keyed list. Any number of threads may have it.
+pub struct ListView<B: Site> {
+    /// The chain's number.
+    pub chain: usize,
+    site: PhantomData<B>,
+    pub ghost low: { chain < B.sizes.chains },
+}
+
+impl<B: Site> Copy for ListView<B> {}
+
+impl<B: Site> Clone for ListView<B> {
+    ghost use Rattle.std.specs.Prelude.{⊤};
+
+    ghost is_clone = { λ x y. y ≡ x };
+
+    ghost is_infallible = { λ _. ⊤ };
+
+    fn clone(&self) -> Result<ListView<B>, AllocError> {
+        Ok(*self)
+    }
+}
+
+impl<B: Site> ListView<B> {
+    ghost use Rattle.std.specs.Prelude.{◌≢◌, Some, IfNone};
+    ghost use Rattle.rcu_model.specs.declared.event.ObjectId.{ObjectId};
+    ghost use Rattle.live_log.specs.Keys.{key_of};
+    ghost use Rattle.live_log.specs.Log.{note_of};
+    ghost use Rattle.live_read.specs.Holding.{MayHold, MayHoldIn};
+    ghost use Rattle.live_read.specs.Reads.{FindsFirst};
+    ghost use Rattle.rcu_list.specs.Maps.{value_of};
+
+    /// Of the list over a chain.
+    pub(crate) fn over<P: GracePlan>(chain: &Chain<'_, P, Keyed, B>) -> ListView<B>
+        ensures { result.chain ≡ chain.now.number }
+    {
+        ListView {
+            chain: chain.number(),
+            site: PhantomData,
+        }
+    }
+
+    /// Of the list over a chain of the domain, whoever writes it.
+    ///
+    /// Refused with `NoPlace` exactly where there is no such chain. It takes no memory and never waits.
+    pub fn of<P: GracePlan + Drop, D: Deleter>(
+        domain: &Domain<P, Keyed, B, D>,
+        chain: usize,
+    ) -> Result<ListView<B>, Refusal>
+        ensures ok { IfOk result (λ v. (v.chain ≡ chain) × (chain < B.sizes.chains)) }
+        ensures refused { IfErr result (λ e. (e ≡ NoPlace) × (B.sizes.chains ≤ chain)) }
+    {
+        if chain >= domain.chains() {
+            return Err(Refusal::NoPlace);
+        }
+        Ok(ListView {
+            chain,
+            site: PhantomData,
+        })
+    }
+
+    // The value of an object, if it has the key: one load, and one more where it has.
+    fn value_at<P: GracePlan>(
+        section: &mut Section<'_, P, Keyed, B>,
+        held: Held,
+        key: u64,
+    ) -> Option<u64>
+        requires open_section { (P.QSBR ≡ B.qsbr) × (0 < section.old.reader.now.depth) }
+        requires held { MayHoldIn section.old.reader.now held.cell }
+        ensures reader { section.new.reader.ghost_name ≡ section.old.reader.ghost_name }
+        ensures looked { Looks P.QSBR keyed section.old.reader.now section.new.reader.now }
+        ensures some { IfSome result (λ value. (o : ObjectId) → MayHold section.old.reader.now o held.cell → (key_of (note_of (log_of section.old.reader.now) o) ≡ key) × (value_of (note_of (log_of section.old.reader.now) o) ≡ value)) }
+        ensures none { IfNone result ((o : ObjectId) → MayHold section.old.reader.now o held.cell → key_of (note_of (log_of section.old.reader.now) o) ≢ key) }
+    {
+        if section.read_word(held, 0) != key {
+            return None;
+        }
+        Some(section.read_word(held, 1))
+    }
+
+    // The value of the key, from the first object of the chain on. Ranks fall along the chain, so no more objects come
+    // than the first one's rank tells.
+    fn search<P: GracePlan>(
+        self,
+        section: &mut Section<'_, P, Keyed, B>,
+        first: Held,
+        key: u64,
+    ) -> Option<u64>
+        requires open_section { (P.QSBR ≡ B.qsbr) × (0 < section.old.reader.now.depth) }
+        requires first { (o : ObjectId) × FindsFirst section.old.reader.now self.chain (Some o) × MayHold section.old.reader.now o first.cell }
+        ensures reader { section.new.reader.ghost_name ≡ section.old.reader.ghost_name }
+        ensures looked { Looks P.QSBR keyed section.old.reader.now section.new.reader.now }
+        ensures window { AnswersBetween (log_of section.old.reader.now) (log_of section.old.reader.now) (log_of section.new.reader.now) self.chain key result }
+    {
+        if let Some(value) = Self::value_at(section, first, key) {
+            return Some(value);
+        }
+        let most = section.read_word(first, 2);
+        let mut held = first;
+        for _passed in 0..most {
+            held = section.next(held)?;
+            if let Some(value) = Self::value_at(section, held, key) {
+                return Some(value);
+            }
+        }
+        None
+    }
+
+    /// The value of a key, or none; liburcu's `cds_list_for_each_entry_rcu` up to the key. It is what the list has for the
+    /// key at some moment between the call and the return: in a log that begins with all that the reader had seen and
+    /// heard of. So a key that is there all along is found, also while its value is replaced.
+    ///
+    /// It loads the key of each object that it passes, its link, and the rank of the first one. It returns, since ranks
+    /// fall along the chain. It never waits and takes no memory.
+    pub fn get<P: GracePlan>(self, section: &mut Section<'_, P, Keyed, B>, key: u64) -> Option<u64>
+        requires { (P.QSBR ≡ B.qsbr) × (0 < section.old.reader.now.depth) }
+        ensures reader { section.new.reader.ghost_name ≡ section.old.reader.ghost_name }
+        ensures looked { Looks P.QSBR keyed section.old.reader.now section.new.reader.now }
+        ensures window { AnswersBetween (log_of section.old.reader.now) section.old.reader.now.seat.me.0.heard (log_of section.new.reader.now) self.chain key result }
+    {
+        match section.first(self.chain) {
+            Ok(Some(first)) => self.search(section, first, key),
+            Ok(None) => None,
+            Err(_) => unreachable!(),
+        }
+    }
+}
