@@ -1,8 +1,9 @@
 -- What a worker keeps, and what it has run.
-use Rattle.std.proofs.Common.{Bool, true, false, ◌≡◌, ◌≢◌, ℕ, zero, suc, ◌+◌, ◌<◌, ◌≤◌, List, [], ◌∷◌, ◌++◌, length, append_assoc, sym, refl, ap, ◌∙◌, subst, arith, ⊎_elim, ◌==◌}
+use Rattle.std.proofs.Common.{Bool, true, false, ◌≡◌, ◌≢◌, ℕ, zero, suc, ◌+◌, ◌<◌, ◌≤◌, List, [], ◌∷◌, ◌++◌, length, reverse, append_assoc, sym, refl, ap, ◌∙◌, subst, arith, ⊎_elim, ◌==◌}
 use mathlib.Core.Option.{some, some-injective}
 use Rattle.std.proofs.lemmas.Bool.Decides.{eqb_tells}
 use lib.ListN.{get_elem?, length-append}
+use Rattle.std.proofs.lemmas.List.{reverse-append}
 use Rattle.atomic_table.proofs.Lists.{at_longer}
 use Rattle.atomic_table.specs.Table.{Me}
 use Rattle.atomic_table.specs.declared.shared.Seat.{Seat}
@@ -19,9 +20,9 @@ use Rattle.live_rule.specs.Places.{finished_at, work_at}
 use Rattle.live_rule.specs.Steps.{Wrote}
 use Rattle.live_rule.specs.Views.{bare}
 use Rattle.live_rule.specs.declared.view.Sizes.{Sizes}
-use Rattle.live_table.specs.Steps.{IsKnown, Keeps}
+use Rattle.live_table.specs.Steps.{IsKnown, Keeps, Went, looked_view}
 use Rattle.live_words.specs.Queues.{IsAt}
-use Rattle.live_items.specs.Items.{InOrder, JobValue}
+use Rattle.live_items.specs.Items.{InOrder, IsPlaced, JobValue}
 use Rattle.live_items.specs.Running.{KeepsFinds}
 use Rattle.live_reclaim.specs.Batches.{AreRunAs, IsDue, IsRunAs, Lists}
 use Rattle.domain.specs.declared.worker_end.Stop.{Stop}
@@ -66,6 +67,14 @@ order_later q old new n (i ∷ is) b x = (record { turn = x.0.turn; known = begi
 -- and so is nothing
 pub none_in_order : (q : ℕ) (log : Log) (n : ℕ) (items : List (Item JobValue)) → items ≡ [] → InOrder q log n items
 none_in_order q log n items e = subst (InOrder q log n) (sym e) tt
+
+-- of a batch, whose last item comes first
+pub order_popped : (q : ℕ) (log : Log) (n : ℕ) (items rest : List (Item JobValue)) (item : Item JobValue) → items ≡ rest ++ item ∷ [] → InOrder q log n (reverse items) → IsPlaced q log n item × InOrder q log (n + 1) (reverse rest)
+order_popped q log n items rest item e o = subst (InOrder q log n) (ap reverse e ∙ reverse-append rest (item ∷ [])) o
+
+pub none_left : (items : List (Item JobValue)) → length items ≡ 0 → items ≡ []
+none_left [] e = refl
+none_left (x ∷ xs) e = absurd (omega (arith, e))
 
 -- what has run stays so
 some_at : (l : List ObjectId) (n : ℕ) → n < length l → (o : ObjectId) × (get_elem? l n ≡ some o)
@@ -198,4 +207,15 @@ module _ {S : Type 0} (qsbr : Bool) (allows : Log → LiveEvent → Type 0) wher
     later = later;
     run = run;
     finds = ((a ∷ b ∷ [], looks), ([], ap (λ (v : View). v.loads) view));
+  }
+
+  -- it loads one word
+  pub goes_looked_once : (s t : Seat S View) → Keeps s t → (place word : ℕ) → Went qsbr allows (looked_view place word s.me.0) s.me t.me → GoesOn qsbr allows s t
+  goes_looked_once s t keeps place word e = record {
+    keeps = keeps;
+    own = e.0;
+    sizes = ap (λ (v : View). v.sizes) e.1;
+    later = e.2.0;
+    run = e.2.2;
+    finds = (((place, word) ∷ [], ap (λ (v : View). v.looks) e.1), ([], ap (λ (v : View). v.loads) e.1));
   }

@@ -1,6 +1,6 @@
 //! How a program works for a queue.
 
-ghost use Rattle.std.specs.Prelude.{◌≡◌, ◌≢◌, ◌+◌, ◌-◌, ◌<◌, ◌≤◌, [], IfErr, IfOk, length, vec_capacity, vec_len};
+ghost use Rattle.std.specs.Prelude.{◌≡◌, ◌≢◌, ◌+◌, ◌-◌, ◌<◌, ◌≤◌, [], IfErr, IfOk, length, reverse, vec_capacity, vec_len};
 ghost use Rattle.live_log.specs.Log.{IsLiveRun, line_of};
 ghost use Rattle.live_rule.specs.Places.{work_at};
 ghost use Rattle.live_rule.specs.Seats.{but_work};
@@ -18,12 +18,13 @@ use crate::domain::Domain;
 use crate::worker_end::{Stop, WorkerEnd};
 use call_rcu_worker::Finished;
 use callback_queue::Item;
+use crossbeam_utils::Backoff;
 use gp_memb::GracePlan;
 use live_grace::ask;
 use live_items::Job;
 use live_read::{Site, Witness};
 use live_reclaim::{Deleter, begin_work, is_emptied, run_next};
-use live_words::{ChainRule, LiveSeat, end_work, free_work, load_seq};
+use live_words::{ChainRule, LiveSeat, end_work, free_work, load_closed, load_seq};
 use rcu_model::Refusal;
 use std::alloc::Global;
 use std::sync::Wait;
@@ -41,54 +42,80 @@ enum Outcome {
     Memory,
 }
 
+/// Lets some time pass, in which more is queued: one grace period serves all of a batch.
+fn back_off<R: Wait>(rt: &R) {
+    let backoff = Backoff::new();
+    for _ in rt.forever() {
+        if backoff.is_completed() {
+            return;
+        }
+        backoff.snooze();
+    }
+}
+
 impl<P: GracePlan + Drop, K: ChainRule, B: Site, D: Deleter> Domain<P, K, B, D> {
-    /// Runs all items with tickets up to the last one given: each is popped under the queue's lock and run with no lock
-    /// held. Answers how many are finished.
-    fn run_all<R: Wait>(
+    /// Runs a batch, whose first item is the last one of its list, each in its turn and with no lock held. Answers how many
+    /// are finished.
+    fn run_all(
         &self,
-        rt: &R,
         seat: &mut LiveSeat,
         queue: usize,
         first: u64,
         finished: u64,
         given: u64,
         list: &mut Vec<Finished>,
+        batch: &mut Vec<Item<Job<B, D>>>,
     ) -> u64
         requires seat { (seat.old.table_id ≡ B.table) × (seat.old.me.0.sizes ≡ B.sizes) }
         requires queue { (queue < B.sizes.queues) × WorksFor queue finished seat.old.me.0 }
         requires due { (finished ≤ given) × IsDue queue given seat.old.me.0.seen × IsLiveRun P.QSBR K.allows seat.old.me.0.seen }
         requires list { Lists queue seat.old.me.0.seen first finished list.old.items × (vec_len list.old + (given - finished) ≤ vec_capacity list.old) }
+        requires batch { InOrder queue seat.old.me.0.seen finished (reverse batch.old.items) × (vec_len batch.old ≤ given - finished) }
         ensures seat { GoesOn P.QSBR K.allows seat.old seat.new }
         ensures work { WorksFor queue result seat.new.me.0 }
         ensures list { Lists queue seat.new.me.0.seen first result list.new.items }
+        ensures batch { batch.new.items ≡ [] }
     {
         for count in finished..given {
-            let popped = self.queues[queue]
-                .lock(rt, queue)
-                .pop(&self.table, seat, queue, count);
-            let Some((ticket, item)) = popped else {
+            let Some(item) = batch.pop() else {
                 return count;
             };
-            let done = run_next(&self.table, seat, queue, count, given, ticket, item);
+            let done = run_next(&self.table, seat, queue, count, given, item);
             list.push_reserved(done);
         }
         given
     }
 
-    /// Waits for a grace period, after which what waited in the queue is ready.
+    /// Waits for a grace period, after which what waited in the queue is ready, and takes that, the last item first.
     ///
     /// Refused with `Exhausted` where the sequence numbers are used up.
-    fn ripen<R: Wait>(&self, rt: &R, seat: &mut LiveSeat, queue: usize) -> Result<(), Refusal>
-        requires seat { (seat.old.table_id ≡ B.table) × (queue < B.sizes.queues) }
+    fn ripen<R: Wait>(
+        &self,
+        rt: &R,
+        seat: &mut LiveSeat,
+        queue: usize,
+        finished: u64,
+        given: u64,
+        batch: &mut Vec<Item<Job<B, D>>>,
+    ) -> Result<(), Refusal>
+        requires seat { (seat.old.table_id ≡ B.table) × (seat.old.me.0.sizes ≡ B.sizes) × (queue < B.sizes.queues) }
+        requires batch { (batch.old.items ≡ []) × (finished ≤ given) × (given - finished ≤ vec_capacity batch.old) }
         ensures seat { GoesOn P.QSBR K.allows seat.old seat.new × (seat.new.me.0.work ≡ seat.old.me.0.work) }
         ensures due { IfOk result (λ _. IsDue queue (length (line_of seat.old.me.0.heard queue)) seat.new.me.0.seen) }
-        ensures refused { IfErr result (λ _. FoundUsedUp seat.old.me.0.seen seat.new.me.0.seen seat.old.me.0.loads seat.new.me.0.loads) }
+        ensures batch { IfOk result (λ _. InOrder queue seat.new.me.0.seen finished (reverse batch.new.items) × (vec_len batch.new ≤ given - finished)) }
+        ensures refused { IfErr result (λ _. FoundUsedUp seat.old.me.0.seen seat.new.me.0.seen seat.old.me.0.loads seat.new.me.0.loads × (batch.new ≡ batch.old)) }
     {
         let asked = ask::<P, K>(&self.table, seat)?;
         let cookie = asked.cookie();
         self.grace.lock(rt).answer(rt, &self.table, seat, asked);
         let seq = load_seq(&self.table, seat);
-        self.queues[queue].lock(rt, queue).ripen(cookie, seq);
+        {
+            let mut items = self.queues[queue].lock(rt, queue);
+            items.ripen(cookie, seq);
+            items.take_ready(&self.table, seat, queue, finished, given - finished, batch);
+        }
+        // The worker sees what it heard of under the lock.
+        load_closed(&self.table, seat, queue);
         Ok(())
     }
 
@@ -123,13 +150,13 @@ impl<P: GracePlan + Drop, K: ChainRule, B: Site, D: Deleter> Domain<P, K, B, D> 
         if given == finished {
             return (finished, Outcome::Nothing);
         }
-        if self.ripen(rt, seat, queue).is_err() {
+        if self.ripen(rt, seat, queue, finished, given, left).is_err() {
             self.queues[queue]
                 .lock(rt, queue)
                 .take_back(&self.table, seat, queue, finished, left);
             return (finished, Outcome::Exhausted);
         }
-        let count = self.run_all(rt, seat, queue, first, finished, given, list);
+        let count = self.run_all(seat, queue, first, finished, given, list, left);
         if count < given {
             return (count, Outcome::Memory);
         }
@@ -163,12 +190,14 @@ impl<P: GracePlan + Drop, K: ChainRule, B: Site, D: Deleter> Domain<P, K, B, D> 
             let (now, outcome) = self.run_batch(rt, seat, queue, first, count, list, left);
             count = now;
             match outcome {
-                Outcome::Ran => {}
+                Outcome::Ran => {
+                    back_off(rt);
+                }
                 Outcome::Nothing => {
                     if is_emptied(&self.table, seat, queue, count) {
                         return (count, Stop::Closed);
                     }
-                    self.queues[queue].parker.lock(rt).park(rt);
+                    self.rest(rt, queue);
                 }
                 Outcome::Exhausted => {
                     return (count, Stop::Exhausted);
@@ -179,6 +208,14 @@ impl<P: GracePlan + Drop, K: ChainRule, B: Site, D: Deleter> Domain<P, K, B, D> 
             }
         }
         unreachable!()
+    }
+
+    /// Rests while nothing is queued. Before that it lets some time pass, so that what is queued meanwhile wakes nobody.
+    fn rest<R: Wait>(&self, rt: &R, queue: usize)
+        requires { queue < B.sizes.queues }
+    {
+        back_off(rt);
+        self.queues[queue].parker.lock(rt).park(rt);
     }
 
     /// Gives the right to work for the queue back, or up for good where the sequence numbers are used up.

@@ -1,10 +1,9 @@
 -- What stays of the order of a queue's items.
-use Rattle.std.proofs.Common.{◌≡◌, ℕ, ◌+◌, ◌-◌, ◌≤◌, List, [], ◌∷◌, ◌++◌, length, sym, refl, ap, ◌∙◌, subst, arith, append_assoc, false, Some}
+use Rattle.std.proofs.Common.{◌≡◌, ℕ, ◌+◌, ◌-◌, ◌≤◌, List, [], ◌∷◌, ◌++◌, length, sym, refl, ap, ◌∙◌, subst, arith, append_assoc, false}
 use lib.ListN.{length-append}
 use Rattle.rcu_model.specs.declared.event.ObjectId.{ObjectId}
 use Rattle.callback_queue.specs.declared.item.Item.{Item}
-use Rattle.callback_queue.specs.declared.item.Ticket.{Ticket}
-use Rattle.callback_queue.specs.Queue.{items_of, given_of, pushed, closed_queue, with_place, popped, first_of, first_with, object_of_first, object_with, segments_of, taken_out}
+use Rattle.callback_queue.specs.Queue.{items_of, given_of, handed_out, pushed, closed_queue, with_place, segments_of, taken_out}
 use Rattle.live_log.specs.Log.{Log, Begins, line_of}
 use Rattle.live_log.proofs.Lemmas.{begins_trans, line_grows}
 use Rattle.live_rule.specs.declared.view.Sizes.{Sizes}
@@ -60,9 +59,6 @@ module _ (key : Sizes) (jobs : Jobs) (v w : View) (q : ℕ) (under : IsUnderLock
 pub under_place : (key : Sizes) (jobs : Jobs) (v : View) (q : ℕ) → IsUnderLock key jobs v q → IsUnderLock key (with_place jobs) v q
 under_place key jobs v q under = record { sizes = under.sizes; right = under.right; empty = under.empty; low = under.low; long = under.long; placed = under.placed }
 
-some_same : {A : Type 0} {a b : A} → Some a ≡ Some b → a ≡ b
-some_same e = cc
-
 pub none_of : {A : Type 0} → (l : List A) → length l ≡ 0 → l ≡ []
 none_of [] e = refl
 none_of (x ∷ xs) e = absurd (omega (arith, e))
@@ -77,27 +73,13 @@ gone_of jobs given segments n is parts e =
     let fresh = ap (λ z. z.2) parts in
     omega (arith, all, settled, ready, waiting, fresh, is, e)
 
--- the first item leaves
+-- items leave
 module _ (key : Sizes) (v : View) (q : ℕ) where
-  pub under_popped : (jobs : Jobs) → IsUnderLock key jobs v q → IsUnderLock key (popped jobs) v q
-  under_popped jobs under = by jobs.ready under
-    where
-      by : (ready : List (Item JobValue)) → IsUnderLock key (record jobs { ready = ready }) v q → IsUnderLock key (popped (record jobs { ready = ready })) v q
-      by [] u = u
-      by (x ∷ xs) u = let e : given_of (record jobs { ready = x ∷ xs }) ≡ given_of (popped (record jobs { ready = x ∷ xs })) = omega arith in record {
-        sizes = u.sizes;
-        right = u.right ∙ ap (λ k. Owns q k (word_of jobs.closed)) e;
-        empty = u.empty;
-        low = u.low;
-        long = let l = u.long in omega (arith, e);
-        placed = u.placed.1;
-      }
-
-  -- the items that wait leave, where none is ready
   order_without : (seen : Log) (n : ℕ) (first rest : List (Item JobValue)) → InOrder q seen n (first ++ rest) → InOrder q seen (n + length first) rest
   order_without seen n [] rest x = subst (λ (k : ℕ). InOrder q seen k rest) (omega arith) x
   order_without seen n (i ∷ is) rest x = subst (λ (k : ℕ). InOrder q seen k rest) (omega arith) (order_without seen (n + 1) is rest x.1)
 
+  -- the items that wait leave, where none is ready
   pub under_taken : (jobs : Jobs) → jobs.ready ≡ [] → IsUnderLock key jobs v q → IsUnderLock key (taken_out jobs) v q
   under_taken jobs none under =
       let same : given_of (taken_out jobs) ≡ given_of jobs = ap (λ (r : List (Item JobValue)). jobs.gone + length jobs.waiting + length (r ++ [] ++ jobs.fresh)) none ∙ (omega (arith, length-append jobs.waiting jobs.fresh) ∙ ap (λ (r : List (Item JobValue)). jobs.gone + length (r ++ jobs.waiting ++ jobs.fresh)) (sym none)) in
@@ -118,17 +100,21 @@ module _ (key : Sizes) (v : View) (q : ℕ) where
   pub waiting_placed : (jobs : Jobs) → jobs.ready ≡ [] → IsUnderLock key jobs v q → InOrder q v.seen jobs.gone jobs.waiting
   waiting_placed jobs none under = order_front v.seen jobs.gone jobs.waiting jobs.fresh (subst (λ (r : List (Item JobValue)). InOrder q v.seen jobs.gone (r ++ jobs.waiting ++ jobs.fresh)) none under.placed)
 
-  pub first_placed : (jobs : Jobs) (t : Ticket) (item : Item JobValue) → IsUnderLock key jobs v q → first_of jobs ≡ Some (t, item) → (t.0 ≡ jobs.gone + 1) × IsPlaced q v.seen jobs.gone item
-  first_placed jobs t item under = by jobs.ready under
-    where
-      by : (ready : List (Item JobValue)) → IsUnderLock key (record jobs { ready = ready }) v q → first_with (jobs.gone + 1) ready ≡ Some (t, item) → (t.0 ≡ jobs.gone + 1) × IsPlaced q v.seen jobs.gone item
-      by [] u e = cc
-      by (x ∷ xs) u e = let z = some_same e in (ap (λ (p : Ticket × Item JobValue). p.0.0) (sym z), subst (IsPlaced q v.seen jobs.gone) (ap (λ (p : Ticket × Item JobValue). p.1) z) u.placed.0)
+  -- the ready items leave
+  ready_first : (jobs : Jobs) → IsUnderLock key jobs v q → InOrder q v.seen jobs.gone (jobs.ready ++ (jobs.waiting ++ jobs.fresh))
+  ready_first jobs under = subst (InOrder q v.seen jobs.gone) (append_assoc jobs.ready jobs.waiting jobs.fresh) under.placed
 
--- the ticket of the first ready item is the next one
-pub first_ticket : (jobs : Jobs) (t : Ticket) (o : ObjectId) → object_of_first jobs ≡ Some (t, o) → t.0 ≡ jobs.gone + 1
-first_ticket jobs t o = by jobs.ready
-  where
-    by : (ready : List (Item JobValue)) → object_with (jobs.gone + 1) ready ≡ Some (t, o) → t.0 ≡ jobs.gone + 1
-    by [] e = cc
-    by (x ∷ xs) e = ap (λ (p : Ticket × ObjectId). p.0.0) (sym (some_same e))
+  pub under_handed : (jobs : Jobs) → IsUnderLock key jobs v q → IsUnderLock key (handed_out jobs) v q
+  under_handed jobs under =
+      let all = ap (λ (l : List (Item JobValue)). length l) (append_assoc jobs.ready jobs.waiting jobs.fresh) ∙ length-append jobs.ready (jobs.waiting ++ jobs.fresh) in
+      let same : given_of (handed_out jobs) ≡ given_of jobs = omega (arith, all) in record {
+        sizes = under.sizes;
+        right = under.right ∙ ap (λ (k : ℕ). Owns q k (word_of jobs.closed)) (sym same);
+        empty = under.empty;
+        low = under.low;
+        long = let l = under.long in omega (arith, same);
+        placed = order_without v.seen jobs.gone jobs.ready (jobs.waiting ++ jobs.fresh) (ready_first jobs under);
+      }
+
+  pub ready_placed : (jobs : Jobs) → IsUnderLock key jobs v q → InOrder q v.seen jobs.gone jobs.ready
+  ready_placed jobs under = order_front v.seen jobs.gone jobs.ready (jobs.waiting ++ jobs.fresh) (ready_first jobs under)

@@ -1,9 +1,8 @@
 //! What lies under a queue's lock.
-ghost use Rattle.std.specs.Prelude.{◌≡◌, ◌≢◌, ◌⊎◌, ◌+◌, ◌-◌, ◌<◌, ◌≤◌, ◌^◌, ◌∷◌, ◌++◌, [], Some, length, max, vec_capacity, vec_len, true, false, IfErr, IfNone, IfOk, IfSome, IsOk};
+ghost use Rattle.std.specs.Prelude.{◌≡◌, ◌≢◌, ◌⊎◌, ◌+◌, ◌-◌, ◌<◌, ◌≤◌, ◌^◌, ◌∷◌, ◌++◌, [], length, max, reverse, vec_capacity, vec_len, true, false, IfErr, IfOk, IsOk};
 ghost use Rattle.rcu_model.specs.declared.refusal.Refusal.TheVariants.{Closed, Memory};
 ghost use Rattle.rcu_model.specs.declared.event.ObjectId.{ObjectId};
-ghost use Rattle.callback_queue.specs.declared.item.Ticket.{Ticket};
-ghost use Rattle.callback_queue.specs.Queue.{closed_queue, empty_queue, first_of, given_of, object_of_first, popped, pushed, sealed, taken_out, with_place};
+ghost use Rattle.callback_queue.specs.Queue.{closed_queue, empty_queue, given_of, handed_out, pushed, sealed, taken_out, with_place};
 ghost use Rattle.live_log.specs.declared.event.LiveEvent.TheVariants.{CloseQueue};
 ghost use Rattle.live_log.specs.Log.{Begins, line_of};
 ghost use Rattle.live_rule.specs.declared.rights.QueueRight.TheVariants.{Owns};
@@ -11,7 +10,7 @@ ghost use Rattle.live_rule.specs.declared.rights.RecordRight.TheVariants.{Nothin
 ghost use Rattle.live_table.specs.Rights.{object_in};
 ghost use Rattle.live_table.specs.Steps.{Keeps};
 ghost use Rattle.live_read.specs.Hearing.{OnlyHears};
-ghost use Rattle.live_items.specs.Items.{Closes, InOrder, IsPlaced, JobValue, ripened};
+ghost use Rattle.live_items.specs.Items.{Closes, InOrder, JobValue, ripened};
 ghost use Rattle.live_items.specs.Retiring.{IsAfterAll, Queues};
 
 use crate::job::Job;
@@ -135,32 +134,6 @@ impl<B: Site, C: Drop> Items<B, C> {
         }
     }
 
-    /// Hands out the first ready item, where its ticket comes next after so many that are finished. The worker's seat
-    /// hears what was seen under the lock. It waits for nobody and takes no memory.
-    pub fn pop<P: GracePlan, K: ChainRule>(
-        &mut self,
-        table: &LiveTable<P, K>,
-        worker: &mut LiveSeat,
-        queue: usize,
-        finished: u64,
-    ) -> Option<(Ticket, Item<Job<B, C>>)>
-        requires { (table.now.words.shared.table_id ≡ B.table) × (worker.old.table_id ≡ B.table) }
-        ensures worker { Keeps worker.old worker.new × (worker.new.me ≡ (record worker.old.me.0 { heard = worker.new.me.0.heard }, worker.old.me.1)) }
-        ensures item { IfSome result (λ r. (r.0.0 ≡ finished + 1) × (self.old.2 ≡ queue) × IsPlaced queue worker.new.me.0.heard finished r.1 × (first_of self.old.0 ≡ Some r) × (self.new.0 ≡ popped self.old.0)) }
-        ensures none { IfNone result ((self.new.0 ≡ self.old.0) × (self.old.2 ≡ queue → (t : Ticket) (o : ObjectId) → object_of_first self.old.0 ≡ Some (t, o) → t.0 ≢ finished + 1)) }
-        ensures queue { self.new.2 ≡ self.old.2 }
-    {
-        table.learn(worker, table.tell(&mut self.seat));
-        if self.number != queue {
-            return None;
-        }
-        let (ticket, _) = self.queue.first_ready()?;
-        if ticket.0 - 1 != finished {
-            return None;
-        }
-        self.queue.pop_ready()
-    }
-
     /// Lets the fresh items wait, where none are ready or wait already, once both lists have room for all that are not
     /// finished: one for what is told of each that runs, and one for those that are taken back. The worker's seat hears
     /// what was seen under the lock. Answers how many tickets were given, where some are not finished.
@@ -210,6 +183,36 @@ impl<B: Site, C: Drop> Items<B, C> {
         if waiting > 0 {
             self.queue.note(cookie);
             self.queue.advance(seq);
+        }
+    }
+
+    /// Moves what is ready to a list, the last one first, so that popping gives it in the order of its tickets: where it
+    /// is of this queue, its tickets come next after so many that are finished, and it is no more than the list has room
+    /// for. The worker's seat hears what was seen under the lock. It waits for nobody and takes no memory.
+    pub fn take_ready<P: GracePlan, K: ChainRule>(
+        &mut self,
+        table: &LiveTable<P, K>,
+        worker: &mut LiveSeat,
+        queue: usize,
+        finished: u64,
+        room: u64,
+        list: &mut Vec<Item<Job<B, C>>>,
+    )
+        requires site { (table.now.words.shared.table_id ≡ B.table) × (worker.old.table_id ≡ B.table) }
+        requires list { (list.old.items ≡ []) × (room ≤ vec_capacity list.old) }
+        ensures worker { Keeps worker.old worker.new × (worker.new.me ≡ (record worker.old.me.0 { heard = worker.new.me.0.heard }, worker.old.me.1)) }
+        ensures queue { self.new.2 ≡ self.old.2 }
+        ensures taken { ((self.new.0 ≡ handed_out self.old.0) × (reverse list.new.items ≡ self.old.0.ready)) ⊎ ((self.new.0 ≡ self.old.0) × (list.new ≡ list.old)) }
+        ensures placed { InOrder queue worker.new.me.0.heard finished (reverse list.new.items) }
+        ensures room { vec_len list.new ≤ room }
+        ensures fits { self.old.2 ≡ queue → self.old.0.gone ≡ finished → length self.old.0.ready ≤ room → self.new.0 ≡ handed_out self.old.0 }
+    {
+        table.learn(worker, table.tell(&mut self.seat));
+        let (ready, waiting, fresh) = self.queue.segments();
+        let gone = self.queue.given() - ready - waiting - fresh;
+        if self.number == queue && gone == finished && ready <= room {
+            self.queue.take_ready(list);
+            list.reverse();
         }
     }
 

@@ -12,7 +12,7 @@ use callback_queue::{Item, Ticket};
 use gp_memb::GracePlan;
 use live_items::Job;
 use live_read::Site;
-use live_words::{ChainRule, LiveSeat, LiveTable, load_closed, store_finished};
+use live_words::{ChainRule, LiveSeat, LiveTable, store_finished};
 
 /// Runs the item whose turn it is: its record is freed, then its deleter is called, and then the finished count is
 /// stored. It waits for what the deleter waits for.
@@ -22,26 +22,23 @@ pub fn run_next<P: GracePlan, K: ChainRule, B: Site, D: Deleter>(
     queue: usize,
     finished: u64,
     given: u64,
-    ticket: Ticket,
     item: Item<Job<B, D>>,
 ) -> Finished
     requires table { (table.now.words.shared.table_id ≡ B.table) × (table.now.words.shared.key ≡ B.sizes) × (seat.old.table_id ≡ B.table) × (seat.old.me.0.sizes ≡ B.sizes) }
     requires queue { (queue < table.now.queues) × WorksFor queue finished seat.old.me.0 }
-    requires item { (ticket.0 ≡ finished + 1) × IsPlaced queue seat.old.me.0.heard finished item }
-    requires due { (finished < given) × (given < 2 ^ 64) × IsDue queue given seat.old.me.0.seen }
+    requires item { IsPlaced queue seat.old.me.0.seen finished item }
+    requires due { (finished < given) × (given < 2 ^ 64) × IsDue queue given seat.old.me.0.seen × IsLiveRun P.QSBR K.allows seat.old.me.0.seen }
     ensures seat { Keeps seat.old seat.new × (seat.new.me.1 ≡ seat.old.me.1) × (seat.new.me.0.sizes ≡ seat.old.me.0.sizes) × WorksFor queue (finished + 1) seat.new.me.0 }
     ensures finds { KeepsFinds seat.old.me.0 seat.new.me.0 }
     ensures seen { Begins seat.old.me.0.seen seat.new.me.0.seen × IsLiveRun P.QSBR K.allows seat.new.me.0.seen }
     ensures run { IsRunAs queue seat.new.me.0.seen finished result }
 {
     let Item { object, job } = item;
-    // The worker sees what it heard of under the lock.
-    load_closed(table, seat, queue);
     let (ripe, deleter) = job.run(table, seat, object);
     let code = deleter.call(ripe);
     store_finished(table, seat, queue, finished + 1);
     Finished {
-        ticket,
+        ticket: Ticket(finished + 1),
         object,
         code,
     }

@@ -75,8 +75,8 @@ fn retires<P: GracePlan, B: Site, R: Wait>(
     Ok((ticket.0, [before, after], back))
 }
 
-/// How many tickets were given as a batch was sealed, and the ticket and the object of the item that was handed out once
-/// its grace period had ended; whether none was handed out before, and none after it.
+/// How many tickets were given as a batch of two was sealed, and the objects of the items that were taken out once their
+/// grace period had ended, in the order of their turns; whether none was taken before, and none after it.
 fn batches<P: GracePlan, B: Site, R: Wait>(
     rt: &R,
     memory: Global,
@@ -93,18 +93,28 @@ fn batches<P: GracePlan, B: Site, R: Wait>(
     let Ok(_ticket) = items.retire(table, &mut record, first, ObjectId(7)) else {
         return Err(Refusal::Memory);
     };
+    let second: Unlinked<B> = cut_one(rt, table, &mut record, [6, 0, 0, 0])?;
+    let Ok(_ticket) = items.retire(table, &mut record, second, ObjectId(9)) else {
+        return Err(Refusal::Memory);
+    };
     let mut worker = record.tell(table);
     let mut list: Vec<u64> = Vec::new(memory);
-    let mut left: Vec<Item<Job<B, ObjectId>>> = Vec::new(memory);
-    let given = items.seal(table, &mut worker, 0, 0, &mut list, &mut left)?;
+    let mut batch: Vec<Item<Job<B, ObjectId>>> = Vec::new(memory);
+    let given = items.seal(table, &mut worker, 0, 0, &mut list, &mut batch)?;
+    let mut early: Vec<Item<Job<B, ObjectId>>> = Vec::new(memory);
     items.ripen(cookie_of(0)?, 1);
-    let early = items.pop(table, &mut worker, 0, 0).is_none();
+    items.take_ready(table, &mut worker, 0, 0, 0, &mut early);
     items.ripen(cookie_of(0)?, 2);
-    let Some((ticket, item)) = items.pop(table, &mut worker, 0, 0) else {
+    items.take_ready(table, &mut worker, 0, 0, given, &mut batch);
+    let mut late: Vec<Item<Job<B, ObjectId>>> = Vec::new(memory);
+    items.take_ready(table, &mut worker, 0, 2, 0, &mut late);
+    let (Some(one), Some(two)) = (batch.pop(), batch.pop()) else {
         return Err(Refusal::NoPlace);
     };
-    let late = items.pop(table, &mut worker, 0, 1).is_none();
-    Ok(([given, ticket.0, item.object.0], [early, late]))
+    Ok((
+        [given, one.object.0, two.object.0],
+        [early.is_empty(), late.is_empty()],
+    ))
 }
 
 /// How many of two items were taken back: for another queue, before they were sealed, by one who has finished the first,
@@ -155,7 +165,7 @@ fn a_batch_leaves_once_its_grace_period_has_ended(rt: HostRuntime) {
     let (numbers, none) = batches::<_, Brand, _>(&rt, rt.alloc(), &table, root).expect(
         &rt, "memory",
     );
-    assert_eq!(rt; numbers, [1, 1, 1]);
+    assert_eq!(rt; numbers, [2, 1, 2]);
     assert_eq!(rt; none, [true; 2]);
 }
 

@@ -1,4 +1,5 @@
-use Rattle.std.proofs.Common.{◌+◌, ◌-◌, ◌≤◌, vec_len, vec_capacity}
+use Rattle.std.proofs.Common.{◌+◌, ◌-◌, ◌≤◌, reverse, vec_len, vec_capacity}
+use Rattle.live_items.specs.Items.{InOrder}
 use Rattle.live_reclaim.specs.Batches.{IsDue, Lists, WorksFor}
 use Rattle.domain.specs.Working.{GoesOn}
 use Rattle.domain.proofs.domain.Domain.run_all.Given as goal
@@ -10,4 +11,6 @@ invariant-loop-count g l =
     × IsDue l.queue l.given l.seat.me.0.seen
     × Lists l.queue l.seat.me.0.seen l.first l.count l.list.items
     × (vec_len l.list + (l.given - l.count) ≤ vec_capacity l.list)
+    × InOrder l.queue l.seat.me.0.seen l.count (reverse l.batch.items)
+    × (vec_len l.batch ≤ l.given - l.count)
     × (l.count ≤ l.given)
