@@ -17,6 +17,7 @@ pub mod SectionLemmas
 pub mod WaitLemmas
 pub mod HoldingLemmas
 pub mod Steps
+pub mod Refusals
 pub mod Judging
 pub mod ObjectsTables
 pub mod ObjectsLinking

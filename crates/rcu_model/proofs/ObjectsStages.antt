@@ -9,11 +9,12 @@ use Rattle.rcu_model.specs.declared.event.SectionId.{SectionId}
 use Rattle.rcu_model.specs.declared.objects.Objects.{Objects}
 use Rattle.rcu_model.specs.Machine.{State, IsSuccessor, after, got, start}
 use Rattle.rcu_model.specs.Sets.{has_object, HasObject, at_object}
-use Rattle.rcu_model.specs.Objects.{is_linked, is_cut, is_retired, is_queued, is_reclaimed, moment_of, ticket_of, says, number_in, says_linked, after_of, before_of, LeadsTo, Shows, Knows, FindsWaiting}
+use Rattle.rcu_model.specs.Objects.{is_linked, is_cut, is_retired, is_queued, is_reclaimed, moment_of, ticket_of, says, number_in, says_linked, after_of, before_of, LeadsTo, Shows, Knows, FindsWaiting, written}
 use Rattle.rcu_model.proofs.SetLemmas.{at_object_same, at_object_other}
 use Rattle.rcu_model.proofs.Follows.{decide, some_is, none_some}
 use Rattle.rcu_model.proofs.ObjectsLinking.{number_same}
-use Rattle.rcu_model.proofs.ObjectsStores.{has_first, has_past}
+use Rattle.rcu_model.proofs.ObjectsTables.{written_at}
+use Rattle.rcu_model.proofs.ObjectsStores.{has_first, has_past, shows_at}
 
 cut_unlinked : (x y : Stage) → is_linked x ≡ false → is_linked y ≡ false → is_cut x ≡ is_cut y
 cut_unlinked x y a b = past x a ∙ sym (past y b)
@@ -201,3 +202,17 @@ shows_nothing head state moments tickets no_head no_state = record {
 pub knows_got : (objects : Objects) (now : State) (s : SectionId) (found : Option ObjectId) (moments tickets : ObjectId → ℕ) → Knows objects now moments tickets → Knows objects (got now s found) moments tickets
 knows_got objects now s None moments tickets k = k
 knows_got objects now s (Some o) moments tickets k = k
+
+-- the write of a run, which needs no look at the object before
+pub shows_run_written : (head : ℕ → Option ObjectId) (state state' : ObjectId → Option ObjectState) (now : State) (moments tickets : ObjectId → ℕ) (o : ObjectId) →
+    state' ≡ written state (Some o) (λ x. record x { stage = Reclaimed }) → HasObject now.queued o →
+    Shows head state now.chain now.used now.cut now.successor now.retired now.queued now.reclaimed moments tickets →
+    let later : State = after now (Run o) in Shows head state' later.chain later.used later.cut later.successor later.retired later.queued later.reclaimed moments tickets
+shows_run_written head state state' now moments tickets o wrote queued k = by (state o) refl
+  where
+    by : (x : Option ObjectState) → state o ≡ x → let later : State = after now (Run o) in Shows head state' later.chain later.used later.cut later.successor later.retired later.queued later.reclaimed moments tickets
+    by None is = absurd (true≢false (sym queued ∙ sym (k.was_queued o) ∙ ap (says is_queued) is))
+    by (Some t) is =
+        let waits : is_queued t.stage ≡ true = ap (says is_queued) (sym is) ∙ k.was_queued o ∙ queued in
+        shows_at head head (at_object o (Some (record t { stage = Reclaimed })) state) state' (after now (Run o)) moments tickets (λ i. head) (wrote ∙ written_at state o t (λ x. record x { stage = Reclaimed }) is)
+        (shows_run head state now moments tickets k o t is waits)

@@ -1,6 +1,6 @@
 -- The tables of the checker as functions, and writes into them.
-use Rattle.std.proofs.Common.{◌≡◌, ◌≢◌, ◌⊎◌, inl, inr, ℕ, ◌==◌, cond, nat_eq, Option, Some, None, refl, sym, ap, ◌∙◌, subst}
-use Rattle.std.specs.HashMap.{HashMap, IsEmpty, get}
+use Rattle.std.proofs.Common.{◌≡◌, ◌≢◌, ◌⊎◌, inl, inr, ℕ, ◌==◌, cond, nat_eq, Option, Some, None, refl, sym, ap, ◌∙◌, subst, true≢false, Result, Ok, Err, OnErr, IsOk}
+use Rattle.std.specs.HashMap.{HashMap, IsEmpty, IsUnchanged, get}
 use Rattle.std.specs.Map.{lookup}
 use Rattle.std.proofs.lemmas.Bool.Decides.{eqb_tells}
 use Rattle.rcu_model.specs.declared.event.ObjectId.{ObjectId}
@@ -10,6 +10,15 @@ use Rattle.rcu_model.specs.Objects.{states_of, heads_of, write_at, written, ente
 use Rattle.rcu_model.proofs.Members.{Tells, object_tells}
 use Rattle.rcu_model.proofs.SetLemmas.{at_number_same, at_number_other, at_object_same, at_object_other}
 use Rattle.rcu_model.proofs.Follows.{decide, some_is, none_some}
+
+-- what holds at an error
+pub on_err : {T E P : Type 0} (r : Result T E) → P → OnErr r P
+on_err (Ok x) p = tt
+on_err (Err e) p = p
+
+pub never_err : {T E : Type 0} (r : Result T E) (P : Type 0) → IsOk r → OnErr r P
+never_err (Ok x) P is = tt
+never_err (Err e) P is = absurd (true≢false (sym is))
 
 -- an empty table
 pub states_empty : {S : Type 0} (m : HashMap ObjectId ObjectState S) → IsEmpty m → (o : ObjectId) → states_of m o ≡ None
@@ -38,6 +47,34 @@ heads_put m n c x e i q = at_key q (eqb_tells c q) i
     at_key : (q : ℕ) → Tells (c == q) c q → get nat_eq n q ≡ at_number c x (λ p. get nat_eq m p) q
     at_key q (inl y) = e q ∙ rw y.0 refl ∙ sym (ap (at_number c x (λ p. get nat_eq m p)) (sym y.1) ∙ at_number_same c x (λ p. get nat_eq m p))
     at_key q (inr n) = e q ∙ rw n.0 refl ∙ sym (at_number_other c q x (λ p. get nat_eq m p) (λ f. n.1 (sym f)))
+
+-- a table with the same entries, or the same values
+pub states_same : {S : Type 0} (m n : HashMap ObjectId ObjectState S) → ((q : ObjectId) → get same_object n q ≡ get same_object m q) → states_of n ≡ states_of m
+unfolding states_of
+states_same m n e i q = e q i
+
+pub heads_unchanged : {S : Type 0} (m n : HashMap ℕ ObjectId S) → IsUnchanged m n → heads_of n ≡ heads_of m
+unfolding heads_of
+heads_unchanged m n e i q = ap (lookup (nat_eq q)) e i
+
+-- one object was written, where it is known
+pub states_wrote : {S : Type 0} (m n : HashMap ObjectId ObjectState S) (o : ObjectId) (t : ObjectState) (f : ObjectState → ObjectState) → Some t ≡ get same_object m o →
+    ((q : ObjectId) → get same_object n q ≡ cond (same_object o q) (Some (f t)) (get same_object m q)) → states_of n ≡ written (states_of m) (Some o) f
+unfolding states_of
+states_wrote m n o t f is puts = states_put m n o (Some (f t)) puts ∙ ap (write_at (states_of m) o f) is
+
+pub states_missed : {S : Type 0} (m n : HashMap ObjectId ObjectState S) (o : ObjectId) (f : ObjectState → ObjectState) → None ≡ get same_object m o → IsUnchanged m n → states_of n ≡ written (states_of m) (Some o) f
+unfolding states_of
+states_missed m n o f is e = states_same m n (λ q. ap (lookup (same_object q)) e) ∙ ap (write_at (states_of m) o f) is
+
+-- a write of a known object
+pub written_at : (state : ObjectId → Option ObjectState) (o : ObjectId) (t : ObjectState) (f : ObjectState → ObjectState) → state o ≡ Some t → written state (Some o) f ≡ at_object o (Some (f t)) state
+written_at state o t f is = ap (write_at state o f) is
+
+-- the object that enters was put
+pub states_entered : {S : Type 0} (m n : HashMap ObjectId ObjectState S) (o : ObjectId) (x : ObjectState) (q : Option ObjectId) → q ≡ Some o →
+    ((p : ObjectId) → get same_object n p ≡ cond (same_object o p) (Some x) (get same_object m p)) → states_of n ≡ entered (states_of m) q x
+states_entered m n o x q e puts = subst (λ (r : Option ObjectId). states_of n ≡ entered (states_of m) r x) (sym e) (states_put m n o (Some x) puts)
 
 -- a write of one object
 pub written_other : (state : ObjectId → Option ObjectState) (q : Option ObjectId) (f : ObjectState → ObjectState) (p : ObjectId) → q ≢ Some p → written state q f p ≡ state p

@@ -54,6 +54,10 @@ pub record Goes (new : Checker) (now : State) (e : Event) (fine : Bool) : Type 0
 abbrev pub Answers : Checker → Checker → Event → Bool → Type 0
 Answers old new e fine = (now : State) → IsReached now → Follows old now → Goes new now e fine
 
+-- what was known stays known
+abbrev pub Keeps : Checker → Checker → Type 0
+Keeps old new = (now : State) → Follows old now → Follows new now
+
 -- a section got what it found, if it found an object
 abbrev pub GetsIn : Holdings → Holdings → SectionId → Option ObjectId → Type 0
 GetsIn old new section None = new ≡ old

@@ -15,4 +15,5 @@ pub mod Sections
 pub mod Waits
 pub mod Holdings
 pub mod Checker
+pub mod Judge
 pub mod Objects

@@ -119,6 +119,11 @@ pub record Shows (head : ℕ → Option ObjectId) (state : ObjectId → Option O
 abbrev pub Knows : Objects → State → (ObjectId → ℕ) → (ObjectId → ℕ) → Type 0
 Knows objects now moments tickets = Shows (heads_of objects.heads) (states_of objects.known) now.chain now.used now.cut now.successor now.retired now.queued now.reclaimed moments tickets
 
+-- the same is known of objects and chains
+pub record IsSame (old new : Objects) : Type 0 where
+  pub heads : heads_of new.heads ≡ heads_of old.heads
+  pub states : states_of new.known ≡ states_of old.known
+
 -- a run leads to the state
 pub record IsReached (now : State) : Type 0 where
   pub log : List Event

@@ -1,5 +1,5 @@
 -- The sections of a log, as the checker keeps them, against those of the machine.
-use Rattle.std.specs.Prelude.{◌↔◌, ℕ, Bool, List, [], ◌∷◌, ◌++◌, Option, IsSome, IsTrue}
+use Rattle.std.specs.Prelude.{◌≡◌, ◌↔◌, ℕ, Bool, List, [], ◌∷◌, ◌++◌, Option, IsSome, IsTrue}
 use Rattle.std.specs.HashMap.{get}
 use Rattle.std.specs.Option.{unwrap_or}
 use Rattle.rcu_model.specs.declared.event.SectionId.{SectionId}
@@ -33,3 +33,8 @@ pub record Closes (old new : Sections) (seen still : List SectionId) (s : Sectio
   pub was : IsTrue closed ↔ HasSection still s
   pub closed_now : IsTrue closed → AreSections new seen (without_section s still)
   pub awaits : IsTrue closed → (awaited : List SectionId) (moment : ℕ) → AwaitsSections old still awaited moment → AwaitsSections new (without_section s still) (without_section s awaited) moment
+
+-- the same sections have the same places
+pub record StaySections (old new : Sections) : Type 0 where
+  pub places : found_place new ≡ found_place old
+  pub roster : new.roster ≡ old.roster

@@ -1,24 +1,21 @@
-//! Logs, judged.
+//! What is known of the abstract machine after some events.
 
-ghost use Rattle.std.specs.Prelude.{◌≡◌, ◌↔◌, ℕ, IfOk};
+ghost use Rattle.std.specs.Prelude.{ℕ, IfOk, OnErr};
 ghost use Rattle.rcu_model.specs.declared.event.Event.TheVariants.{Open, Close, First, Next, Touch, Push, Replace, Cut, Retire, Queue, Run, Ask, Answer, Bar, Clear};
-ghost use Rattle.rcu_model.specs.declared.verdict.Verdict.TheVariants.{Yes};
-ghost use Rattle.rcu_model.specs.Machine.{IsRun, start};
-ghost use Rattle.rcu_model.specs.Verdict.{Judges};
-ghost use Rattle.rcu_model.specs.Checker.{Follows, Answers, Gets};
+ghost use Rattle.rcu_model.specs.Machine.{start};
+ghost use Rattle.rcu_model.specs.Checker.{Follows, Answers, Gets, Keeps};
 
 use crate::event::{Event, ObjectId, SectionId};
 use crate::holdings::Holdings;
 use crate::objects::Objects;
 use crate::roster::Roster;
 use crate::sections::Sections;
-use crate::verdict::{LogFault, Rule, Verdict};
 use crate::waits::Waits;
 use std::alloc::{AllocError, Global};
 
-/// What is known of the abstract machine after some events. Once an event was refused it is of no more use.
+/// What is known of the abstract machine after some events. Once an event was wrong it is of no more use.
 #[derive(Drop)]
-struct Checker {
+pub(crate) struct Checker {
     sections: Sections,
     holdings: Holdings,
     objects: Objects,
@@ -29,7 +26,8 @@ struct Checker {
 }
 
 impl Checker {
-    fn new(alloc: Global) -> Self
+    /// Nothing has happened.
+    pub(crate) fn new(alloc: Global) -> Self
         ensures { Follows result start }
     {
         Checker {
@@ -42,9 +40,13 @@ impl Checker {
         }
     }
 
-    // Whether the event may come now, and if so it has.
-    fn follow(&mut self, event: &Event) -> Result<bool, AllocError>
-        ensures { IfOk result (Answers self.old self.new event.now) }
+    /// Whether the event may come now, and if so it has.
+    ///
+    /// # Errors
+    /// `AllocError` where memory was refused; then the event has not come.
+    pub(crate) fn follow(&mut self, event: &Event) -> Result<bool, AllocError>
+        ensures answered { IfOk result (Answers self.old self.new event.now) }
+        ensures refused { OnErr result (Keeps self.old self.new) }
     {
         match *event {
             Event::Open(section) => self.open(section),
@@ -63,18 +65,19 @@ impl Checker {
             Event::Push { chain, object } => self.push(chain, object),
             Event::Replace { chain, old, new } => self.replace(chain, old, new),
             Event::Cut { chain, object } => self.cut(chain, object),
-            Event::Retire(object) => self.retire(object),
+            Event::Retire(object) => Ok(self.retire(object)),
             Event::Queue { object, .. } => self.queue(object),
-            Event::Run(object) => self.run(object),
+            Event::Run(object) => Ok(self.run(object)),
             Event::Ask(ask) => self.ask(ask),
-            Event::Answer(ask) => self.answer(ask),
+            Event::Answer(ask) => Ok(self.answer(ask)),
             Event::Bar(barrier) => self.bar(barrier),
-            Event::Clear(barrier) => self.clear(barrier),
+            Event::Clear(barrier) => Ok(self.clear(barrier)),
         }
     }
 
     fn open(&mut self, section: SectionId) -> Result<bool, AllocError>
-        ensures { IfOk result (Answers self.old self.new (Open section)) }
+        ensures answered { IfOk result (Answers self.old self.new (Open section)) }
+        ensures refused { OnErr result (Keeps self.old self.new) }
     {
         let opened = self.sections.open(section)?;
         Ok(opened)
@@ -88,7 +91,8 @@ impl Checker {
 
     // The section holds what it found, if it found an object.
     fn hold(&mut self, section: SectionId, found: Option<ObjectId>) -> Result<(), AllocError>
-        ensures { IfOk result (λ _. Gets self.old self.new section found) }
+        ensures answered { IfOk result (λ _. Gets self.old self.new section found) }
+        ensures refused { OnErr result (Keeps self.old self.new) }
     {
         if let Some(object) = found {
             self.holdings.add(section, object)?;
@@ -102,7 +106,8 @@ impl Checker {
         chain: u32,
         found: Option<ObjectId>,
     ) -> Result<bool, AllocError>
-        ensures { IfOk result (Answers self.old self.new (First section chain found)) }
+        ensures answered { IfOk result (Answers self.old self.new (First section chain found)) }
+        ensures refused { OnErr result (Keeps self.old self.new) }
     {
         if !self.sections.is_open(section) {
             return Ok(false);
@@ -120,7 +125,8 @@ impl Checker {
         from: ObjectId,
         found: Option<ObjectId>,
     ) -> Result<bool, AllocError>
-        ensures { IfOk result (Answers self.old self.new (Next section from found)) }
+        ensures answered { IfOk result (Answers self.old self.new (Next section from found)) }
+        ensures refused { OnErr result (Keeps self.old self.new) }
     {
         if !self.touch(section, from) {
             return Ok(false);
@@ -139,104 +145,87 @@ impl Checker {
     }
 
     fn push(&mut self, chain: u32, object: ObjectId) -> Result<bool, AllocError>
-        ensures { IfOk result (Answers self.old self.new (Push chain object)) }
+        ensures answered { IfOk result (Answers self.old self.new (Push chain object)) }
+        ensures refused { OnErr result (Keeps self.old self.new) }
     {
         let done = self.objects.push(chain, object)?;
         Ok(done)
     }
 
     fn replace(&mut self, chain: u32, old: ObjectId, new: ObjectId) -> Result<bool, AllocError>
-        ensures { IfOk result (Answers self.old self.new (Replace chain old new)) }
+        ensures answered { IfOk result (Answers self.old self.new (Replace chain old new)) }
+        ensures refused { OnErr result (Keeps self.old self.new) }
     {
         let done = self.objects.replace(chain, old, new)?;
         Ok(done)
     }
 
     fn cut(&mut self, chain: u32, object: ObjectId) -> Result<bool, AllocError>
-        ensures { IfOk result (Answers self.old self.new (Cut chain object)) }
+        ensures answered { IfOk result (Answers self.old self.new (Cut chain object)) }
+        ensures refused { OnErr result (Keeps self.old self.new) }
     {
         let done = self.objects.cut(chain, object)?;
         Ok(done)
     }
 
-    fn retire(&mut self, object: ObjectId) -> Result<bool, AllocError>
-        ensures { IfOk result (Answers self.old self.new (Retire object)) }
+    fn retire(&mut self, object: ObjectId) -> bool
+        ensures { Answers self.old self.new (Retire object) result }
     {
-        let done = self.objects.retire(object, self.sections.moment())?;
-        Ok(done)
+        self.objects.retire(object, self.sections.moment())
     }
 
     fn queue(&mut self, object: ObjectId) -> Result<bool, AllocError>
-        ensures { IfOk result (λ done. (queue : ℕ) → Answers self.old self.new (Queue object queue) done) }
+        ensures answered { IfOk result (λ done. (queue : ℕ) → Answers self.old self.new (Queue object queue) done) }
+        ensures refused { OnErr result (Keeps self.old self.new) }
     {
         let ticket = self.queued.arrive()?;
-        let done = self.objects.queue(object, ticket)?;
-        Ok(done)
+        Ok(self.objects.queue(object, ticket))
     }
 
-    fn run(&mut self, object: ObjectId) -> Result<bool, AllocError>
-        ensures { IfOk result (Answers self.old self.new (Run object)) }
+    fn run(&mut self, object: ObjectId) -> bool
+        ensures { Answers self.old self.new (Run object) result }
     {
         let Some(waiting) = self.objects.queued(object) else {
-            return Ok(false);
+            return false;
         };
         if !self.sections.all_closed(waiting.moment) {
-            return Ok(false);
+            return false;
         }
-        self.objects.reclaim(object)?;
-        Ok(self.queued.leave(waiting.ticket))
+        self.objects.reclaim(object);
+        self.queued.leave(waiting.ticket)
     }
 
     fn ask(&mut self, ask: u64) -> Result<bool, AllocError>
-        ensures { IfOk result (Answers self.old self.new (Ask ask)) }
+        ensures answered { IfOk result (Answers self.old self.new (Ask ask)) }
+        ensures refused { OnErr result (Keeps self.old self.new) }
     {
         let fresh = self.asks.begin(ask, self.sections.moment())?;
         Ok(fresh)
     }
 
-    fn answer(&mut self, ask: u64) -> Result<bool, AllocError>
-        ensures { IfOk result (Answers self.old self.new (Answer ask)) }
+    fn answer(&mut self, ask: u64) -> bool
+        ensures { Answers self.old self.new (Answer ask) result }
     {
-        match self.asks.end(ask)? {
-            Some(moment) => Ok(self.sections.all_closed(moment)),
-            None => Ok(false),
+        match self.asks.end(ask) {
+            Some(moment) => self.sections.all_closed(moment),
+            None => false,
         }
     }
 
     fn bar(&mut self, barrier: u64) -> Result<bool, AllocError>
-        ensures { IfOk result (Answers self.old self.new (Bar barrier)) }
+        ensures answered { IfOk result (Answers self.old self.new (Bar barrier)) }
+        ensures refused { OnErr result (Keeps self.old self.new) }
     {
         let fresh = self.barriers.begin(barrier, self.queued.moment())?;
         Ok(fresh)
     }
 
-    fn clear(&mut self, barrier: u64) -> Result<bool, AllocError>
-        ensures { IfOk result (Answers self.old self.new (Clear barrier)) }
+    fn clear(&mut self, barrier: u64) -> bool
+        ensures { Answers self.old self.new (Clear barrier) result }
     {
-        match self.barriers.end(barrier)? {
-            Some(moment) => Ok(self.queued.all_left(moment)),
-            None => Ok(false),
+        match self.barriers.end(barrier) {
+            Some(moment) => self.queued.all_left(moment),
+            None => false,
         }
     }
-}
-
-/// Whether the log is a run of the abstract machine, or else the first event that breaks its rule, and that rule. Takes
-/// any log, in memory linear in its length, and in time that is so on the average (its maps hash without a secret).
-///
-/// # Errors
-/// `Memory` where memory was refused.
-pub fn check_log(alloc: Global, log: &[Event]) -> Result<Verdict, LogFault>
-    ensures judged { IfOk result (λ verdict. Judges verdict log.now) }
-    ensures exactly { IfOk result (λ verdict. (verdict ≡ Yes) ↔ IsRun log.now) }
-{
-    let mut checker = Checker::new(alloc);
-    for (index, event) in log.iter().enumerate() {
-        if !checker.follow(event)? {
-            return Ok(Verdict::No {
-                at: index + 1,
-                rule: Rule::of(event),
-            });
-        }
-    }
-    Ok(Verdict::Yes)
 }

@@ -1,6 +1,6 @@
 //! Which section got which object.
 
-ghost use Rattle.std.specs.Prelude.{◌≡◌, ◌⊎◌, ◌↔◌, IsTrue, OnOk};
+ghost use Rattle.std.specs.Prelude.{◌≡◌, ◌⊎◌, ◌↔◌, IsTrue, OnOk, OnErr};
 ghost use Rattle.rcu_model.specs.declared.event.SectionId.{SectionId};
 ghost use Rattle.rcu_model.specs.declared.event.ObjectId.{ObjectId};
 ghost use Rattle.rcu_model.specs.Holdings.{HasGot};
@@ -37,7 +37,8 @@ impl Holdings {
     /// # Errors
     /// `AllocError` where memory was refused.
     pub(crate) fn add(&mut self, section: SectionId, object: ObjectId) -> Result<(), AllocError>
-        ensures { OnOk result ((s : SectionId) (o : ObjectId) → HasGot self.new s o ↔ (HasGot self.old s o ⊎ ((section ≡ s) × (object ≡ o)))) }
+        ensures got { OnOk result ((s : SectionId) (o : ObjectId) → HasGot self.new s o ↔ (HasGot self.old s o ⊎ ((section ≡ s) × (object ≡ o)))) }
+        ensures refused { OnErr result ((s : SectionId) (o : ObjectId) → HasGot self.new s o ↔ HasGot self.old s o) }
     {
         self.pairs.insert(Holding { section, object })?;
         Ok(())

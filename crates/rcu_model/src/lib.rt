@@ -4,6 +4,7 @@
 mod checker;
 mod event;
 mod holdings;
+mod judge;
 mod laws;
 mod object;
 mod objects;
@@ -15,8 +16,8 @@ mod states;
 mod verdict;
 mod waits;
 
-pub use checker::check_log;
 pub use event::{Event, ObjectId, SectionId};
+pub use judge::{Judge, check_log};
 pub use laws::{
     callbacks_are_queued_once_before_they_run, callbacks_run_once_after_their_sections,
     every_run_counts_its_state, every_run_is_safe, held_is_not_reclaimed,

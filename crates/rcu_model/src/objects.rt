@@ -3,7 +3,7 @@
 use crate::event::ObjectId;
 use crate::object::{ObjectState, Splice, Stage, Waiting};
 use crate::states::{
-    Heads, States, enter, leave, put, put_after, put_before, state_of, store_head,
+    Heads, States, enter, leave, make_room, put_after, put_before, put_stage, state_of, store_head,
 };
 use std::alloc::{AllocError, Global};
 use std::collections::HashMap;
@@ -16,11 +16,11 @@ pub(crate) struct Objects {
 }
 
 impl Objects {
-    ghost use Rattle.std.specs.Prelude.{◌≡◌, ◌↔◌, ℕ, IsTrue, IfOk, OnOk, is_some};
+    ghost use Rattle.std.specs.Prelude.{◌≡◌, ◌↔◌, ℕ, IsTrue, IfOk, OnOk, OnErr, is_some};
     ghost use Rattle.rcu_model.specs.declared.event.Event.TheVariants.{Push, Replace, Cut, Retire, Queue, Run};
     ghost use Rattle.rcu_model.specs.Machine.{State, IsAllowed, after, start};
     ghost use Rattle.rcu_model.specs.Sets.{HasObject, first_of, at_object};
-    ghost use Rattle.rcu_model.specs.Objects.{states_of, heads_of, linked_state, spliced_heads, spliced_states, Knows, IsReached, FindsSuccessor, FindsWaiting};
+    ghost use Rattle.rcu_model.specs.Objects.{states_of, heads_of, linked_state, spliced_heads, spliced_states, Knows, IsSame, IsReached, FindsSuccessor, FindsWaiting};
 
     /// Nothing was put into a chain.
     pub(crate) fn new(alloc: Global) -> Objects
@@ -70,11 +70,13 @@ impl Objects {
     fn splice(&mut self, splice: Splice) -> Result<(), AllocError>
         ensures heads { OnOk result (heads_of self.new.heads ≡ spliced_heads (heads_of self.old.heads) splice) }
         ensures states { OnOk result (states_of self.new.known ≡ spliced_states (states_of self.old.known) splice) }
+        ensures refused { OnErr result (IsSame self.old self.new) }
     {
+        make_room(&mut self.known)?;
         store_head(&mut self.heads, splice.chain, splice.before, splice.value())?;
-        put_after(&mut self.known, splice.before, splice.value())?;
-        put_before(&mut self.known, splice.after, splice.mark())?;
-        leave(&mut self.known, splice.leaves)?;
+        put_after(&mut self.known, splice.before, splice.value());
+        put_before(&mut self.known, splice.after, splice.mark());
+        leave(&mut self.known, splice.leaves);
         let entering = ObjectState {
             chain: splice.chain,
             before: splice.before,
@@ -87,9 +89,10 @@ impl Objects {
     /// Puts a new object first into a chain. False where the object was used before.
     ///
     /// # Errors
-    /// Where memory was refused; then nothing is known of the objects.
+    /// Where memory was refused; then what is known of the objects stays.
     pub(crate) fn push(&mut self, chain: u32, object: ObjectId) -> Result<bool, AllocError>
-        ensures { (now : State) (moments tickets : ObjectId → ℕ) → IsReached now → Knows self.old now moments tickets → IfOk result (λ done. (IsTrue done ↔ IsAllowed now (Push chain object)) × (IsTrue done → Knows self.new (after now (Push chain object)) moments tickets)) }
+        ensures done { (now : State) (moments tickets : ObjectId → ℕ) → IsReached now → Knows self.old now moments tickets → IfOk result (λ done. (IsTrue done ↔ IsAllowed now (Push chain object)) × (IsTrue done → Knows self.new (after now (Push chain object)) moments tickets)) }
+        ensures refused { OnErr result (IsSame self.old self.new) }
     {
         if self.is_used(object) {
             return Ok(false);
@@ -109,14 +112,15 @@ impl Objects {
     /// one was used before.
     ///
     /// # Errors
-    /// Where memory was refused; then nothing is known of the objects.
+    /// Where memory was refused; then what is known of the objects stays.
     pub(crate) fn replace(
         &mut self,
         chain: u32,
         old: ObjectId,
         new: ObjectId,
     ) -> Result<bool, AllocError>
-        ensures { (now : State) (moments tickets : ObjectId → ℕ) → IsReached now → Knows self.old now moments tickets → IfOk result (λ done. (IsTrue done ↔ IsAllowed now (Replace chain old new)) × (IsTrue done → Knows self.new (after now (Replace chain old new)) moments tickets)) }
+        ensures done { (now : State) (moments tickets : ObjectId → ℕ) → IsReached now → Knows self.old now moments tickets → IfOk result (λ done. (IsTrue done ↔ IsAllowed now (Replace chain old new)) × (IsTrue done → Knows self.new (after now (Replace chain old new)) moments tickets)) }
+        ensures refused { OnErr result (IsSame self.old self.new) }
     {
         let Some(state) = self.linked(chain, old) else {
             return Ok(false);
@@ -137,9 +141,10 @@ impl Objects {
     /// Takes a linked object out of its chain. False where it is not linked in the chain.
     ///
     /// # Errors
-    /// Where memory was refused; then nothing is known of the objects.
+    /// Where memory was refused; then what is known of the objects stays.
     pub(crate) fn cut(&mut self, chain: u32, object: ObjectId) -> Result<bool, AllocError>
-        ensures { (now : State) (moments tickets : ObjectId → ℕ) → IsReached now → Knows self.old now moments tickets → IfOk result (λ done. (IsTrue done ↔ IsAllowed now (Cut chain object)) × (IsTrue done → Knows self.new (after now (Cut chain object)) moments tickets)) }
+        ensures done { (now : State) (moments tickets : ObjectId → ℕ) → IsReached now → Knows self.old now moments tickets → IfOk result (λ done. (IsTrue done ↔ IsAllowed now (Cut chain object)) × (IsTrue done → Knows self.new (after now (Cut chain object)) moments tickets)) }
+        ensures refused { OnErr result (IsSame self.old self.new) }
     {
         let Some(state) = self.linked(chain, object) else {
             return Ok(false);
@@ -155,39 +160,31 @@ impl Objects {
     }
 
     /// Retires a cut object at a moment. False where it is not cut, or was retired before.
-    ///
-    /// # Errors
-    /// Where memory was refused; then nothing is known of the objects.
-    pub(crate) fn retire(&mut self, object: ObjectId, moment: usize) -> Result<bool, AllocError>
-        ensures { (now : State) (moments tickets : ObjectId → ℕ) → Knows self.old now moments tickets → IfOk result (λ done. (IsTrue done ↔ IsAllowed now (Retire object)) × (IsTrue done → Knows self.new (after now (Retire object)) (at_object object moment moments) tickets)) }
+    pub(crate) fn retire(&mut self, object: ObjectId, moment: usize) -> bool
+        ensures { (now : State) (moments tickets : ObjectId → ℕ) → Knows self.old now moments tickets → (IsTrue result ↔ IsAllowed now (Retire object)) × (IsTrue result → Knows self.new (after now (Retire object)) (at_object object moment moments) tickets) }
     {
         let Some(state) = state_of(&self.known, object) else {
-            return Ok(false);
+            return false;
         };
         let Stage::Cut = state.stage else {
-            return Ok(false);
+            return false;
         };
-        let stage = Stage::Retired { moment };
-        put(&mut self.known, object, ObjectState { stage, ..state })?;
-        Ok(true)
+        put_stage(&mut self.known, object, Stage::Retired { moment });
+        true
     }
 
     /// Queues the callback of a retired object, under a ticket. False where it is not retired, or was queued before.
-    ///
-    /// # Errors
-    /// Where memory was refused; then nothing is known of the objects.
-    pub(crate) fn queue(&mut self, object: ObjectId, ticket: usize) -> Result<bool, AllocError>
-        ensures { (now : State) (moments tickets : ObjectId → ℕ) (queue : ℕ) → Knows self.old now moments tickets → IfOk result (λ done. (IsTrue done ↔ IsAllowed now (Queue object queue)) × (IsTrue done → Knows self.new (after now (Queue object queue)) moments (at_object object ticket tickets))) }
+    pub(crate) fn queue(&mut self, object: ObjectId, ticket: usize) -> bool
+        ensures { (now : State) (moments tickets : ObjectId → ℕ) (queue : ℕ) → Knows self.old now moments tickets → (IsTrue result ↔ IsAllowed now (Queue object queue)) × (IsTrue result → Knows self.new (after now (Queue object queue)) moments (at_object object ticket tickets)) }
     {
         let Some(state) = state_of(&self.known, object) else {
-            return Ok(false);
+            return false;
         };
         let Stage::Retired { moment } = state.stage else {
-            return Ok(false);
+            return false;
         };
-        let stage = Stage::Queued { moment, ticket };
-        put(&mut self.known, object, ObjectState { stage, ..state })?;
-        Ok(true)
+        put_stage(&mut self.known, object, Stage::Queued { moment, ticket });
+        true
     }
 
     /// What an object waits with, where its callback is queued and was not run.
@@ -201,16 +198,9 @@ impl Objects {
     }
 
     /// Runs the callback of an object that is queued and was not run.
-    ///
-    /// # Errors
-    /// Where memory was refused; then nothing is known of the objects.
-    pub(crate) fn reclaim(&mut self, object: ObjectId) -> Result<(), AllocError>
-        ensures { (now : State) (moments tickets : ObjectId → ℕ) → Knows self.old now moments tickets → HasObject now.queued object → (¬ HasObject now.reclaimed object) → OnOk result (Knows self.new (after now (Run object)) moments tickets) }
+    pub(crate) fn reclaim(&mut self, object: ObjectId)
+        ensures { (now : State) (moments tickets : ObjectId → ℕ) → Knows self.old now moments tickets → HasObject now.queued object → (¬ HasObject now.reclaimed object) → Knows self.new (after now (Run object)) moments tickets }
     {
-        let Some(state) = state_of(&self.known, object) else {
-            return Ok(());
-        };
-        let stage = Stage::Reclaimed;
-        put(&mut self.known, object, ObjectState { stage, ..state })
+        put_stage(&mut self.known, object, Stage::Reclaimed);
     }
 }

@@ -1,6 +1,6 @@
 //! Who came, in order, and who has left since.
 
-ghost use Rattle.std.specs.Prelude.{◌≡◌, ◌≤◌, ◌↔◌, ◌++◌, ◌∷◌, [], true, false, length, slice_set, IsTrue, IfOk, OnOk};
+ghost use Rattle.std.specs.Prelude.{◌≡◌, ◌≤◌, ◌↔◌, ◌++◌, ◌∷◌, [], true, false, length, slice_set, IsTrue, IfOk, OnOk, OnErr, List, Bool};
 ghost use Rattle.rcu_model.specs.Roster.{IsThere, HaveLeft, IsNext};
 
 use std::alloc::{AllocError, Global};
@@ -43,10 +43,19 @@ impl Roster {
     pub(crate) fn arrive(&mut self) -> Result<usize, AllocError>
         ensures place { IfOk result (λ place. place ≡ length self.old) }
         ensures came { OnOk result (self.new ≡ self.old ++ true ∷ []) }
+        ensures refused { OnErr result (self.new ≡ self.old) }
     {
         let place = self.present.len();
         self.present.push(true)?;
         Ok(place)
+    }
+
+    /// The one that came last was never there.
+    pub(crate) fn forget_last(&mut self)
+        ensures { (before : List Bool) → self.old ≡ before ++ true ∷ [] → self.new ≡ before }
+    {
+        self.present.pop();
+        self.oldest = self.oldest.min(self.present.len());
     }
 
     /// The one at the place leaves: whether it was there.

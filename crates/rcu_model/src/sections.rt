@@ -1,9 +1,9 @@
 //! The sections of a log: which were ever opened, and which are open.
 
-ghost use Rattle.std.specs.Prelude.{◌≡◌, ◌↔◌, [], List, IsTrue, IfOk};
+ghost use Rattle.std.specs.Prelude.{◌≡◌, ◌↔◌, [], List, IsTrue, IfOk, OnErr};
 ghost use Rattle.rcu_model.specs.declared.event.SectionId.{SectionId};
 ghost use Rattle.rcu_model.specs.Sets.{HasSection};
-ghost use Rattle.rcu_model.specs.Sections.{AreSections, AwaitsSections, Opens, Closes};
+ghost use Rattle.rcu_model.specs.Sections.{AreSections, AwaitsSections, Opens, Closes, StaySections};
 
 use crate::event::SectionId;
 use crate::roster::Roster;
@@ -31,13 +31,19 @@ impl Sections {
     /// Opens a section: false where it was opened before, and then the sections are of no more use.
     ///
     /// # Errors
-    /// `AllocError` where memory was refused.
+    /// `AllocError` where memory was refused; then the sections stay.
     pub(crate) fn open(&mut self, section: SectionId) -> Result<bool, AllocError>
-        ensures { IfOk result (λ opened. (seen still : List SectionId) → AreSections self.old seen still → Opens self.old self.new seen still section opened) }
+        ensures opened { IfOk result (λ opened. (seen still : List SectionId) → AreSections self.old seen still → Opens self.old self.new seen still section opened) }
+        ensures refused { OnErr result (StaySections self.old self.new) }
     {
         let place = self.roster.arrive()?;
-        let before = self.places.insert(section, place)?;
-        Ok(before.is_none())
+        match self.places.insert(section, place) {
+            Ok(before) => Ok(before.is_none()),
+            Err(_) => {
+                self.roster.forget_last();
+                Err(AllocError)
+            }
+        }
     }
 
     /// Closes a section: whether it was open.

@@ -1,6 +1,7 @@
 //! Writes into the tables of what is known of objects and chains.
 
-ghost use Rattle.std.specs.Prelude.{◌≡◌, OnOk, Some};
+ghost use Rattle.std.specs.Prelude.{◌≡◌, ◌<◌, OnOk, OnErr, IsOk, Some};
+ghost use Rattle.std.specs.HashMap.{spare};
 ghost use Rattle.rcu_model.specs.declared.object.Stage.TheVariants.{Cut};
 ghost use Rattle.rcu_model.specs.Sets.{at_number, at_object};
 ghost use Rattle.rcu_model.specs.Objects.{states_of, heads_of, written, entered, stored};
@@ -23,70 +24,62 @@ pub(crate) fn state_of(states: &States, object: ObjectId) -> Option<ObjectState>
     states.get(&object).copied()
 }
 
-/// Writes the state of an object.
-pub(crate) fn put(
-    states: &mut States,
-    object: ObjectId,
-    state: ObjectState,
-) -> Result<(), AllocError>
-    ensures { OnOk result (states_of states.new ≡ at_object object (Some state) (states_of states.old)) }
+/// Makes room for one more object.
+pub(crate) fn make_room(states: &mut States) -> Result<(), AllocError>
+    ensures same { states_of states.new ≡ states_of states.old }
+    ensures room { OnOk result (0 < spare states.new) }
 {
-    states.insert(object, state)?;
-    Ok(())
+    states.reserve(1)
 }
 
 /// Writes an object's link.
-pub(crate) fn put_after(
-    states: &mut States,
-    object: Option<ObjectId>,
-    after: Option<ObjectId>,
-) -> Result<(), AllocError>
-    ensures { OnOk result (states_of states.new ≡ written (states_of states.old) object (λ x. record x { after = after })) }
+pub(crate) fn put_after(states: &mut States, object: Option<ObjectId>, after: Option<ObjectId>)
+    ensures wrote { states_of states.new ≡ written (states_of states.old) object (λ x. record x { after = after }) }
+    ensures room { spare states.new ≡ spare states.old }
 {
     let Some(object) = object else {
-        return Ok(());
+        return;
     };
-    let Some(state) = state_of(states, object) else {
-        return Ok(());
+    let Some(state) = states.get_mut(&object) else {
+        return;
     };
-    put(states, object, ObjectState { after, ..state })
+    state.after = after;
 }
 
 /// Writes the object that stands before an object.
-pub(crate) fn put_before(
-    states: &mut States,
-    object: Option<ObjectId>,
-    before: Option<ObjectId>,
-) -> Result<(), AllocError>
-    ensures { OnOk result (states_of states.new ≡ written (states_of states.old) object (λ x. record x { before = before })) }
+pub(crate) fn put_before(states: &mut States, object: Option<ObjectId>, before: Option<ObjectId>)
+    ensures wrote { states_of states.new ≡ written (states_of states.old) object (λ x. record x { before = before }) }
+    ensures room { spare states.new ≡ spare states.old }
 {
     let Some(object) = object else {
-        return Ok(());
+        return;
     };
-    let Some(state) = state_of(states, object) else {
-        return Ok(());
+    let Some(state) = states.get_mut(&object) else {
+        return;
     };
-    put(states, object, ObjectState { before, ..state })
+    state.before = before;
+}
+
+/// Writes how far an object has come.
+pub(crate) fn put_stage(states: &mut States, object: ObjectId, stage: Stage)
+    ensures wrote { states_of states.new ≡ written (states_of states.old) (Some object) (λ x. record x { stage = stage }) }
+    ensures room { spare states.new ≡ spare states.old }
+{
+    let Some(state) = states.get_mut(&object) else {
+        return;
+    };
+    state.stage = stage;
 }
 
 /// Writes that an object is cut.
-pub(crate) fn leave(states: &mut States, object: Option<ObjectId>) -> Result<(), AllocError>
-    ensures { OnOk result (states_of states.new ≡ written (states_of states.old) object (λ x. record x { stage = Cut })) }
+pub(crate) fn leave(states: &mut States, object: Option<ObjectId>)
+    ensures wrote { states_of states.new ≡ written (states_of states.old) object (λ x. record x { stage = Cut }) }
+    ensures room { spare states.new ≡ spare states.old }
 {
     let Some(object) = object else {
-        return Ok(());
+        return;
     };
-    let Some(state) = state_of(states, object) else {
-        return Ok(());
-    };
-    put(
-        states,
-        object,
-        ObjectState {
-            stage: Stage::Cut,
-            ..state
-        },
-    )
+    put_stage(states, object, Stage::Cut);
 }
 
 /// Writes the state of an object that enters a chain.
@@ -95,12 +88,14 @@ pub(crate) fn enter(
     object: Option<ObjectId>,
     state: ObjectState,
 ) -> Result<(), AllocError>
-    ensures { OnOk result (states_of states.new ≡ entered (states_of states.old) object state) }
+    ensures entered { OnOk result (states_of states.new ≡ entered (states_of states.old) object state) }
+    ensures succeeds { 0 < spare states.old → IsOk result }
 {
     let Some(object) = object else {
         return Ok(());
     };
-    put(states, object, state)
+    states.insert(object, state)?;
+    Ok(())
 }
 
 /// Writes the first object of a chain.
@@ -109,7 +104,8 @@ pub(crate) fn put_head(
     chain: u32,
     first: Option<ObjectId>,
 ) -> Result<(), AllocError>
-    ensures { OnOk result (heads_of heads.new ≡ at_number chain first (heads_of heads.old)) }
+    ensures put { OnOk result (heads_of heads.new ≡ at_number chain first (heads_of heads.old)) }
+    ensures refused { OnErr result (heads_of heads.new ≡ heads_of heads.old) }
 {
     match first {
         Some(object) => {
@@ -129,7 +125,8 @@ pub(crate) fn store_head(
     before: Option<ObjectId>,
     value: Option<ObjectId>,
 ) -> Result<(), AllocError>
-    ensures { OnOk result (heads_of heads.new ≡ stored (heads_of heads.old) chain before value) }
+    ensures stored { OnOk result (heads_of heads.new ≡ stored (heads_of heads.old) chain before value) }
+    ensures refused { OnErr result (heads_of heads.new ≡ heads_of heads.old) }
 {
     if before.is_some() {
         return Ok(());

@@ -78,9 +78,16 @@ pub enum LogFault {
     /// Memory for what the log says was refused.
     #[error("no memory")]
     Memory,
+    /// There are more events than can be counted.
+    #[error("too many events")]
+    TooLong,
 }
 
 impl From<AllocError> for LogFault {
+    ghost use Rattle.rcu_model.specs.declared.verdict.LogFault.TheVariants.{Memory};
+
+    ghost from_gives = { λ _ fault. fault ≡ Memory };
+
     fn from(_refused: AllocError) -> Self {
         LogFault::Memory
     }

@@ -1,7 +1,7 @@
 //! Waits that begin and end: grace periods that are asked for, and barriers.
 
-ghost use Rattle.std.specs.Prelude.{◌≡◌, ℕ, [], List, IfOk};
-ghost use Rattle.rcu_model.specs.Waits.{moment_of, AreWaits, Begins, Ends};
+ghost use Rattle.std.specs.Prelude.{◌≡◌, ℕ, [], List, IfOk, OnErr};
+ghost use Rattle.rcu_model.specs.Waits.{moment_of, found_wait, AreWaits, Begins, Ends};
 
 use std::alloc::{AllocError, Global};
 use std::collections::HashMap;
@@ -47,24 +47,26 @@ impl Waits {
     /// no more use.
     ///
     /// # Errors
-    /// `AllocError` where memory was refused.
+    /// `AllocError` where memory was refused; then the waits stay.
     pub(crate) fn begin(&mut self, number: u64, moment: usize) -> Result<bool, AllocError>
-        ensures { IfOk result (λ fresh. (begun over : List ℕ) → AreWaits self.old begun over → Begins self.old self.new begun over number moment fresh) }
+        ensures began { IfOk result (λ fresh. (begun over : List ℕ) → AreWaits self.old begun over → Begins self.old self.new begun over number moment fresh) }
+        ensures refused { OnErr result (found_wait self.new ≡ found_wait self.old) }
     {
         let before = self.begun.insert(number, Wait::Pending(moment))?;
         Ok(before.is_none())
     }
 
-    /// Ends a wait: its moment, or none where it was not pending, and then the waits are of no more use.
-    ///
-    /// # Errors
-    /// `AllocError` where memory was refused.
-    pub(crate) fn end(&mut self, number: u64) -> Result<Option<usize>, AllocError>
-        ensures { IfOk result (λ moment. (begun over : List ℕ) → AreWaits self.old begun over → Ends self.old self.new begun over number moment) }
+    /// Ends a wait: its moment, or none where it was not pending.
+    pub(crate) fn end(&mut self, number: u64) -> Option<usize>
+        ensures { (begun over : List ℕ) → AreWaits self.old begun over → Ends self.old self.new begun over number result }
     {
-        match self.begun.insert(number, Wait::Over)? {
-            Some(wait) => Ok(wait.moment()),
-            None => Ok(None),
+        match self.begun.get_mut(&number) {
+            Some(wait) => {
+                let moment = wait.moment();
+                *wait = Wait::Over;
+                moment
+            }
+            None => None,
         }
     }
 }

@@ -7,5 +7,5 @@ at : {T E : Type 0} (r : Result T E) (P : T → ℕ → Type 0) (n : ℕ) → If
 at (Ok x) P n h = h n
 at (Err e) P n h = h
 
-pub returns-in-Queue : goal.returns-in-Queue
-returns-in-Queue c = rw c.in-Queue.is (at c.queue.result (λ done n. Answers c.args.self.now c.queue.new.self (Queue c.in-Queue.object n) done) c.in-Queue.queue c.queue.ensures)
+pub returns-in-Queue-clause-answered : goal.returns-in-Queue-clause-answered
+returns-in-Queue-clause-answered c = rw c.in-Queue.is (at c.queue.result (λ done n. Answers c.args.self.now c.queue.new.self (Queue c.in-Queue.object n) done) c.in-Queue.queue c.queue.ensures.answered)

@@ -6,4 +6,4 @@ returns-then-not-all_closed c = λ now r f. run_waits c.args.self.now c.args.obj
 
 pub returns : goal.returns
 returns c = λ now r f. run_goes c.args.self.now c.args.object c.in-Some.waiting c.all_closed.result c.in-Some.ensures c.all_closed.ensures now r f
-    c.reclaim.new.self c.leave.new.self c.leave.result c.if-not-all_closed.false c.leave.ensures.left c.leave.ensures.was c.in_ok-reclaim.ensures
+    c.reclaim.new.self c.leave.new.self c.leave.result c.if-not-all_closed.false c.leave.ensures.left c.leave.ensures.was c.reclaim.ensures

@@ -6,11 +6,11 @@ use Rattle.rcu_model.specs.Objects.{heads_of, states_of, spliced_heads, spliced_
 use Rattle.rcu_model.proofs.ObjectsStores.{kept_reached, refused, done, not_there, unused, shows_at, shows_pushed}
 use Rattle.rcu_model.proofs.objects.Objects.push.Goals as goal
 
-pub returns-then-is_used : goal.returns-then-is_used
-returns-then-is_used c now moments tickets reached k = refused (λ new. new (sym (k.known c.args.object) ∙ sym c.if-is_used.ensures))
+pub returns-then-is_used-clause-done : goal.returns-then-is_used-clause-done
+returns-then-is_used-clause-done c now moments tickets reached k = refused (λ new. new (sym (k.known c.args.object) ∙ sym c.if-is_used.ensures))
 
-pub returns : goal.returns
-returns c now moments tickets reached k =
+pub returns-clause-done : goal.returns-clause-done
+returns-clause-done c now moments tickets reached k =
     let head = heads_of c.args.self.now.heads in
     let state = states_of c.args.self.now.known in
     let kept = kept_reached now reached in

@@ -6,8 +6,8 @@ use Rattle.rcu_model.specs.Objects.{heads_of, states_of, spliced_heads, spliced_
 use Rattle.rcu_model.proofs.ObjectsStores.{kept_reached, done, not_there, unused, has_old, shows_at, shows_replaced}
 use Rattle.rcu_model.proofs.objects.Objects.replace.Goals as goal
 
-pub returns : goal.returns
-returns c now moments tickets reached k =
+pub returns-clause-done : goal.returns-clause-done
+returns-clause-done c now moments tickets reached k =
     let head = heads_of c.args.self.now.heads in
     let state = states_of c.args.self.now.known in
     let kept = kept_reached now reached in
