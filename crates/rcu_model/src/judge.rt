@@ -1,16 +1,16 @@
 //! Logs, judged as they grow.
 
-ghost use Rattle.std.specs.Prelude.{◌≡◌, ◌-◌, ◌^◌, ◌≢◌, ◌↔◌, ◌++◌, ◌∷◌, [], List, length, OnOk, OnErr, IfOk, Err};
+ghost use Rattle.std.specs.Prelude.{◌≡◌, ◌-◌, ◌^◌, ◌↔◌, ◌++◌, ◌∷◌, [], List, length, OnOk, OnErr, IfOk, Err};
 ghost use Rattle.rcu_model.specs.declared.event.Event.{Event};
 ghost use Rattle.rcu_model.specs.declared.verdict.Verdict.TheVariants.{Yes};
-ghost use Rattle.rcu_model.specs.declared.verdict.LogFault.TheVariants.{TooLong};
+ghost use Rattle.rcu_model.specs.declared.verdict.JudgeFault.TheVariants.{TooLong};
 ghost use Rattle.rcu_model.specs.Machine.{IsRun};
 ghost use Rattle.rcu_model.specs.Verdict.{Judges};
 ghost use Rattle.rcu_model.specs.Judge.{HasTaken};
 
 use crate::checker::Checker;
 use crate::event::Event;
-use crate::verdict::{LogFault, Rule, Verdict};
+use crate::verdict::{JudgeFault, LogFault, Rule, Verdict};
 use std::alloc::Global;
 
 /// A judge of a log that is told event by event: whether the events that it has taken are a run of the abstract machine,
@@ -41,7 +41,7 @@ impl Judge {
     /// # Errors
     /// `Memory` where memory was refused, and `TooLong` after 2^64 - 1 events that are a run. The event is then not taken:
     /// the judge is as it was, and the same event may be given again.
-    pub fn take(&mut self, event: &Event) -> Result<(), LogFault>
+    pub fn take(&mut self, event: &Event) -> Result<(), JudgeFault>
         ensures taken { OnOk result ((log : List Event) → HasTaken self.old log → HasTaken self.new (log ++ event.now ∷ [])) }
         ensures refused { OnErr result ((log : List Event) → HasTaken self.old log → HasTaken self.new log) }
         ensures too_long { result ≡ Err TooLong → (log : List Event) → HasTaken self.old log → length log ≡ 2 ^ 64 - 1 }
@@ -50,7 +50,7 @@ impl Judge {
             return Ok(());
         };
         let Some(at) = self.taken.checked_add(1) else {
-            return Err(LogFault::TooLong);
+            return Err(JudgeFault::TooLong);
         };
         if !self.checker.follow(event)? {
             self.verdict = Verdict::No {
@@ -79,11 +79,14 @@ impl Judge {
 pub fn check_log(alloc: Global, log: &[Event]) -> Result<Verdict, LogFault>
     ensures judged { IfOk result (λ verdict. Judges verdict log.now) }
     ensures exactly { IfOk result (λ verdict. (verdict ≡ Yes) ↔ IsRun log.now) }
-    ensures never_too_long { result ≢ Err TooLong }
 {
     let mut judge = Judge::new(alloc);
     for event in log {
-        judge.take(event)?;
+        match judge.take(event) {
+            Ok(()) => {}
+            Err(JudgeFault::Memory) => return Err(LogFault::Memory),
+            Err(JudgeFault::TooLong) => unreachable!(),
+        }
     }
     Ok(judge.verdict())
 }

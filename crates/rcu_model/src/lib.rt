@@ -25,4 +25,4 @@ pub use laws::{
     waits_end_once_after_what_they_await, what_was_linked_is_not_reclaimed,
 };
 pub use refusal::Refusal;
-pub use verdict::{LogFault, Rule, Verdict};
+pub use verdict::{JudgeFault, LogFault, Rule, Verdict};

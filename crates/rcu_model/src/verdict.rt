@@ -78,9 +78,6 @@ pub enum LogFault {
     /// Memory for what the log says was refused.
     #[error("no memory")]
     Memory,
-    /// There are more events than can be counted.
-    #[error("too many events")]
-    TooLong,
 }
 
 impl From<AllocError> for LogFault {
@@ -90,5 +87,26 @@ impl From<AllocError> for LogFault {
 
     fn from(_refused: AllocError) -> Self {
         LogFault::Memory
+    }
+}
+
+/// Why an event is not taken.
+#[derive(Clone, Copy, Debug, PartialEq, Eq, Drop, Error)]
+pub enum JudgeFault {
+    /// Memory for what the event says was refused.
+    #[error("no memory")]
+    Memory,
+    /// There are more events than can be counted.
+    #[error("too many events")]
+    TooLong,
+}
+
+impl From<AllocError> for JudgeFault {
+    ghost use Rattle.rcu_model.specs.declared.verdict.JudgeFault.TheVariants.{Memory};
+
+    ghost from_gives = { λ _ fault. fault ≡ Memory };
+
+    fn from(_refused: AllocError) -> Self {
+        JudgeFault::Memory
     }
 }

@@ -34,7 +34,7 @@ pub fn judge(alloc: Global, log: &[Event]) -> Result<Verdict, ReplayFault>
 {
     match check_log(alloc, log) {
         Ok(verdict) => Ok(verdict),
-        Err(LogFault::Memory | LogFault::TooLong) => Err(ReplayFault::Memory),
+        Err(LogFault::Memory) => Err(ReplayFault::Memory),
     }
 }
 

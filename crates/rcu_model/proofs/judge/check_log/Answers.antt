@@ -10,7 +10,7 @@ use Rattle.rcu_model.proofs.judge.check_log.Goals as goal
 pub loop-event-preserved : goal.loop-event-preserved
 loop-event-preserved c =
     let i = c.loop-event.event-index in
-    subst (HasTaken c.take.new.self) (sym (take_more c.args.log.now i (Open (record { reader = 0; ordinal = 0 })) c.loop-event-test.true)) (c.in_ok-take.ensures.taken (take i c.args.log.now) c.loop-event.invariant)
+    subst (HasTaken c.take.new.self) (sym (take_more c.args.log.now i (Open (record { reader = 0; ordinal = 0 })) c.loop-event-test.true)) (c.in-Ok.ensures.taken (take i c.args.log.now) c.loop-event.invariant)
 
 pub returns-clause-exactly : goal.returns-clause-exactly
 returns-clause-exactly c =
