@@ -1,7 +1,7 @@
 //! Two readers look one key up while a writer replaces its value and a worker gives the records back: never is the key
 //! missing.
 
-ghost use Rattle.std.specs.Prelude.{◌≡◌, IfOk};
+ghost use Rattle.std.specs.Prelude.{◌≡◌};
 ghost use Rattle.std.specs.Thread.{IsSync};
 
 use crate::deleter::Adds;
@@ -70,7 +70,7 @@ fn look<P: GracePlan, B: Site>(
     Ok(found)
 }
 
-/// Lookups until the writer is done. Whether each found the key, with a value no less than the one before.
+/// Lookups until the writer is done. Whether each found the key, once one had, with a value no less than the one before.
 fn looks<P: GracePlan, B: Site>(idle: Idle<P, B>, view: ListView<B>, done: &AtomicU64) -> bool
     requires { P.QSBR ≡ B.qsbr }
 {
@@ -79,6 +79,7 @@ fn looks<P: GracePlan, B: Site>(idle: Idle<P, B>, view: ListView<B>, done: &Atom
     for _ in 0..u64::MAX {
         match look(&mut reader, view) {
             Ok(Some(value)) if value >= last => last = value,
+            Ok(None) if last == 0 => (),
             _ => return false,
         }
         if done.load(Ordering::SeqCst) == 1 {
@@ -129,25 +130,24 @@ fn replaces_once<P: GracePlan + Drop, B: Site, R: Wait>(
     false
 }
 
-/// How often the value was replaced; then the readers are told to end, and the queue is closed.
+/// The value that the key has in the end; then the readers are told to end, and the queue is closed.
 fn replaces<P: GracePlan + Drop, B: Site, R: Wait>(
     rt: &R,
     domain: &Domain<P, Keyed, B, Adds>,
-    list: RcuList<'_, P, B>,
     record: &mut Record<B>,
     done: &AtomicU64,
-) -> u64 {
-    let mut list = list;
+) -> Result<u64, Refusal> {
+    let mut list = listed(rt, domain, record)?;
     let mut last = 0u64;
     for number in 0..REPLACEMENTS {
-        let value = number + 1;
+        let value = number + 2;
         if replaces_once(rt, domain, &mut list, record, value) {
             last = value;
         }
     }
     done.store(1, Ordering::SeqCst);
     domain.close(rt, record);
-    last
+    Ok(last)
 }
 
 /// How many callbacks a worker ran, and why it stopped.
@@ -161,7 +161,7 @@ fn works<P: GracePlan + Drop, B: Site, R: Wait>(
     Ok((end.finished.len(), end.stop))
 }
 
-/// A list in which the key has the value 0.
+/// A list in which the key has the value 1.
 fn listed<'d, P: GracePlan + Drop, B: Site, R: Wait>(
     rt: &R,
     domain: &'d Domain<P, Keyed, B, Adds>,
@@ -170,38 +170,37 @@ fn listed<'d, P: GracePlan + Drop, B: Site, R: Wait>(
     let chain = domain.chain(record, 0)?;
     match RcuList::new(chain) {
         Ok(mut list) => {
-            list.insert(rt, domain, record, KEY, 0)?;
+            list.insert(rt, domain, record, KEY, 1)?;
             Ok(list)
         }
         Err((refusal, _)) => Err(refusal),
     }
 }
 
-/// A writer and a worker, in a thread each.
+/// A writer and a worker, in a thread each: the last value, and what the worker ran.
 fn two_write<P: GracePlan + Drop + Send + Sync, B: Site + Send + Sync, R: Threads + Wait + Sync>(
     rt: &R,
     alloc: Global,
     domain: &Domain<P, Keyed, B, Adds>,
-    list: RcuList<'_, P, B>,
-    records: (Record<B>, Record<B>),
+    one: Record<B>,
+    two: Record<B>,
     done: &AtomicU64,
 ) -> Result<(u64, (usize, Stop)), Refusal> {
-    let (writes, works_by) = records;
     let (replaced, worked) = join(
         rt,
         move || {
-            let mut record = writes;
-            replaces(rt, domain, list, &mut record, done)
+            let mut record = one;
+            replaces(rt, domain, &mut record, done)
         },
         move || {
-            let mut record = works_by;
+            let mut record = two;
             works(rt, alloc, domain, &mut record)
         },
     );
-    Ok((replaced, worked?))
+    Ok((replaced?, worked?))
 }
 
-/// Whether the readers always found the key; how often it was replaced, and what the worker ran.
+/// Whether the readers always found the key; its last value, and what the worker ran.
 fn serves<P: GracePlan + Drop + Send + Sync, B: Site + Send + Sync, R: Threads + Wait + Sync>(
     rt: &R,
     alloc: Global,
@@ -213,19 +212,18 @@ fn serves<P: GracePlan + Drop + Send + Sync, B: Site + Send + Sync, R: Threads +
     let other = domain.split(&mut record);
     let one = registered(rt, &domain, &mut record)?;
     let two = registered(rt, &domain, &mut record)?;
-    let list = listed(rt, &domain, &mut record)?;
-    let view = list.view();
-    let done = AtomicU64::new(0);
+    let view = ListView::of(&domain, 0)?;
+    let flag = AtomicU64::new(0);
     let home = &domain;
-    let flag = &done;
+    let done = &flag;
     let (found, wrote) = join(
         rt,
         move ||
             requires { IsSync R.row × (P.QSBR ≡ B.qsbr) }
-        { two_look(rt, one, two, view, flag) },
+        { two_look(rt, one, two, view, done) },
         move ||
             requires { IsSync R.row }
-        { two_write(rt, alloc, home, list, (record, other), flag) },
+        { two_write(rt, alloc, home, record, other, done) },
     );
     Ok((found, wrote?))
 }
@@ -234,12 +232,12 @@ fn serves<P: GracePlan + Drop + Send + Sync, B: Site + Send + Sync, R: Threads +
 fn a_replaced_key_is_never_missing(rt: HostRuntime) {
     let opened = Opened::<MembPlan, Keyed>::new(rt.alloc(), of_two_readers()).expect(&rt, "memory");
     let served = serves::<MembPlan, Brand, _>(&rt, rt.alloc(), opened).expect(&rt, "not refused");
-    assert_eq!(rt; served, (true, (10_000, (10_000, Stop::Closed))));
+    assert_eq!(rt; served, (true, (10_001, (10_000, Stop::Closed))));
 }
 
 #[test]
 fn nor_is_it_in_the_quiescent_state_flavour(rt: HostRuntime) {
     let opened = Opened::<QsbrPlan, Keyed>::new(rt.alloc(), of_two_readers()).expect(&rt, "memory");
     let served = serves::<QsbrPlan, Brand, _>(&rt, rt.alloc(), opened).expect(&rt, "not refused");
-    assert_eq!(rt; served, (true, (10_000, (10_000, Stop::Closed))));
+    assert_eq!(rt; served, (true, (10_001, (10_000, Stop::Closed))));
 }
