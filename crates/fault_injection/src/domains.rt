@@ -8,7 +8,7 @@ use crate::workers::{see_nobody, work_for_each};
 use domain::{Domain, LiveConfig, Opened, Reader, Record, Site};
 use gp_memb::{GracePlan, MembPlan};
 use gp_qsbr::QsbrPlan;
-use live_words::AnyChain;
+use live_words::{AnyChain, ChainRule};
 use rcu_model::Refusal;
 use std::alloc::Global;
 use std::marker::Brand;
@@ -23,10 +23,10 @@ const SMALL: LiveConfig = LiveConfig {
 };
 
 /// The words of a domain, made again where memory was refused.
-fn open<P: GracePlan + Drop>(
+pub(crate) fn open<P: GracePlan + Drop, K: ChainRule>(
     alloc: Global,
     ledger: &mut Ledger,
-) -> Result<Opened<P, AnyChain>, Finding> {
+) -> Result<Opened<P, K>, Finding> {
     match Opened::new(alloc, SMALL) {
         Ok(opened) => Ok(opened),
         Err(Refusal::Memory) => {
@@ -114,12 +114,12 @@ fn make<P: GracePlan + Drop, R: Wait>(
     alloc: Global,
     ledger: &mut Ledger,
 ) -> Result<bool, Finding> {
-    let first = open::<P>(alloc, ledger)?;
+    let first = open::<P, AnyChain>(alloc, ledger)?;
     if let Some(good) = name::<P, Brand, R>(rt, alloc, first, ledger)? {
         return Ok(good);
     }
     ledger.note(Call::NameDomain);
-    let second = open::<P>(alloc, ledger)?;
+    let second = open::<P, AnyChain>(alloc, ledger)?;
     let again = name::<P, Brand, R>(rt, alloc, second, ledger)?;
     again.ok_or(Finding::RefusedAgain(Call::NameDomain))
 }

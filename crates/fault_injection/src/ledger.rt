@@ -44,6 +44,10 @@ pub enum Call {
     RunWorker,
     /// `domain::Domain::stalled`.
     Stalled,
+    /// `rcu_list::RcuList::replace`.
+    ListReplace,
+    /// `rcu_list::RcuList::remove`.
+    ListRemove,
     /// `rcu_model::check_log`.
     CheckLog,
     /// `schedule::read_line`.
@@ -83,6 +87,8 @@ impl fmt::Display for Call {
             Call::ReplaceRetire => "replace_retire",
             Call::RunWorker => "run_worker",
             Call::Stalled => "stalled",
+            Call::ListReplace => "list_replace",
+            Call::ListRemove => "list_remove",
             Call::CheckLog => "check_log",
             Call::ReadLine => "read_line",
             Call::ReadSchedule => "read_schedule",

@@ -4,6 +4,7 @@
 mod answers;
 mod domains;
 mod ledger;
+mod lists;
 mod logs;
 mod operations;
 mod queues;

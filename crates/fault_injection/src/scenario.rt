@@ -2,6 +2,7 @@
 
 use crate::domains::make_domains;
 use crate::ledger::{Finding, Ledger};
+use crate::lists::make_lists;
 use crate::logs::{check_logs, read_logs, read_schedules};
 use crate::queues::push_items;
 use crate::registries::claim_slots;
@@ -26,6 +27,8 @@ pub enum Scenario {
     Registry,
     /// A domain of live threads is made in each flavour, and its record is taken, published and read.
     Domain,
+    /// A list is made in each flavour, and a key of it replaced and removed.
+    List,
     /// The logs of the worked schedules are judged, and broken ones.
     CheckLog,
     /// The texts of the worked schedules are read.
@@ -39,7 +42,7 @@ pub enum Scenario {
 }
 
 /// All scenarios, in the order in which they run.
-pub const SCENARIOS: [Scenario; 15] = [
+pub const SCENARIOS: [Scenario; 16] = [
     Scenario::New,
     Scenario::Step(Flavour::Memb),
     Scenario::Step(Flavour::Qsbr),
@@ -48,6 +51,7 @@ pub const SCENARIOS: [Scenario; 15] = [
     Scenario::Queue,
     Scenario::Registry,
     Scenario::Domain,
+    Scenario::List,
     Scenario::CheckLog,
     Scenario::ReadSchedule,
     Scenario::ReadAnswers,
@@ -69,6 +73,7 @@ impl Scenario {
             Scenario::Queue => "queue",
             Scenario::Registry => "registry",
             Scenario::Domain => "domain",
+            Scenario::List => "list",
             Scenario::CheckLog => "check-log",
             Scenario::ReadSchedule => "read-schedule",
             Scenario::ReadAnswers => "read-answers",
@@ -88,6 +93,7 @@ impl Scenario {
             Scenario::Queue => push_items(alloc, ledger),
             Scenario::Registry => claim_slots(alloc, ledger),
             Scenario::Domain => make_domains(rt, alloc, ledger),
+            Scenario::List => make_lists(rt, alloc, ledger),
             Scenario::CheckLog => check_logs(alloc, ledger),
             Scenario::ReadSchedule => read_schedules(alloc, ledger),
             Scenario::ReadAnswers => read_logs(alloc, ledger),

@@ -14,6 +14,8 @@ mod keyed;
 #[cfg(test)]
 mod lists;
 #[cfg(test)]
+mod lookups;
+#[cfg(test)]
 mod publishing;
 #[cfg(test)]
 mod queues;

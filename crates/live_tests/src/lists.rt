@@ -3,7 +3,7 @@
 ghost use Rattle.std.specs.Prelude.{◌≡◌, IfOk};
 
 use crate::deleter::Adds;
-use domain::{Domain, LiveConfig, Opened, Reader, Record, Site, Ticket};
+use domain::{Chain, Domain, LiveConfig, Opened, Reader, Record, Site, Ticket};
 use gp_memb::{GracePlan, MembPlan};
 use gp_qsbr::QsbrPlan;
 use live_words::Keyed;
@@ -69,23 +69,22 @@ fn registered<P: GracePlan + Drop, B: Site, R: Wait>(
 /// A key is inserted, inserted again, replaced, looked up and removed, and another one removed that is not there.
 fn calls<P: GracePlan + Drop, B: Site, R: Wait>(
     rt: &R,
-    alloc: Global,
-    opened: Opened<P, Keyed>,
+    domain: &Domain<P, Keyed, B, Adds>,
+    record: &mut Record<B>,
 ) -> Result<([bool; 5], [Option<u64>; 4]), Refusal>
-    requires { (P.QSBR ≡ B.qsbr) × (opened.table.words.shared.table_id ≡ B.table) × (opened.table.words.shared.key ≡ B.sizes) }
+    requires { P.QSBR ≡ B.qsbr }
 {
-    let (domain, mut record) = opened.named::<B, Adds>(alloc)?;
-    let mut reader = registered(rt, &domain, &mut record)?;
-    let mut list = listed(&domain, &mut record)?;
+    let mut reader = registered(rt, domain, record)?;
+    let mut list = listed(domain, record)?;
     let view = list.view();
     let empty = look(&mut reader, view, 7)?;
-    let inserted = list.insert(rt, &domain, &mut record, 7, 70);
-    let again = list.insert(rt, &domain, &mut record, 7, 71);
-    let replaced = list.replace(rt, &domain, &mut record, 7, 71, Adds(1));
+    let inserted = list.insert(rt, domain, record, 7, 70);
+    let again = list.insert(rt, domain, record, 7, 71);
+    let replaced = list.replace(rt, domain, record, 7, 71, Adds(1));
     let found = look(&mut reader, view, 7)?;
     let other = look(&mut reader, view, 9)?;
-    let missing = list.remove(rt, &domain, &mut record, 9, Adds(5));
-    let removed = list.remove(rt, &domain, &mut record, 7, Adds(2));
+    let missing = list.remove(rt, domain, record, 9, Adds(5));
+    let removed = list.remove(rt, domain, record, 7, Adds(2));
     let gone = look(&mut reader, view, 7)?;
     Ok((
         [
@@ -99,13 +98,25 @@ fn calls<P: GracePlan + Drop, B: Site, R: Wait>(
     ))
 }
 
+/// The same, in a domain of its own.
+fn calls_in<P: GracePlan + Drop, B: Site, R: Wait>(
+    rt: &R,
+    alloc: Global,
+    opened: Opened<P, Keyed>,
+) -> Result<([bool; 5], [Option<u64>; 4]), Refusal>
+    requires { (P.QSBR ≡ B.qsbr) × (opened.table.words.shared.table_id ≡ B.table) × (opened.table.words.shared.key ≡ B.sizes) }
+{
+    let (domain, mut record) = opened.named::<B, Adds>(alloc)?;
+    calls(rt, &domain, &mut record)
+}
+
 #[test]
 fn calls_answer_by_the_map(rt: HostRuntime) {
     let general = Opened::<MembPlan, Keyed>::new(rt.alloc(), of_pool(4)).expect(&rt, "memory");
-    let did = calls::<_, Brand, _>(&rt, rt.alloc(), general).expect(&rt, "not refused");
+    let did = calls_in::<_, Brand, _>(&rt, rt.alloc(), general).expect(&rt, "not refused");
     assert_eq!(rt; did, ([true; 5], [None, Some(71), None, None]));
     let quiescent = Opened::<QsbrPlan, Keyed>::new(rt.alloc(), of_pool(4)).expect(&rt, "memory");
-    let did = calls::<_, Brand, _>(&rt, rt.alloc(), quiescent).expect(&rt, "not refused");
+    let did = calls_in::<_, Brand, _>(&rt, rt.alloc(), quiescent).expect(&rt, "not refused");
     assert_eq!(rt; did, ([true; 5], [None, Some(71), None, None]));
 }
 
@@ -113,30 +124,29 @@ fn calls_answer_by_the_map(rt: HostRuntime) {
 /// the end.
 fn walks<P: GracePlan + Drop, B: Site, R: Wait>(
     rt: &R,
-    alloc: Global,
-    opened: Opened<P, Keyed>,
+    domain: &Domain<P, Keyed, B, Adds>,
+    record: &mut Record<B>,
 ) -> Result<[Option<u64>; 5], Refusal>
-    requires { (P.QSBR ≡ B.qsbr) × (opened.table.words.shared.table_id ≡ B.table) × (opened.table.words.shared.key ≡ B.sizes) }
+    requires { P.QSBR ≡ B.qsbr }
 {
-    let (domain, mut record) = opened.named::<B, Adds>(alloc)?;
-    let mut reader = registered(rt, &domain, &mut record)?;
-    let mut list = listed(&domain, &mut record)?;
-    for key in [1, 2, 3, 4] {
-        list.insert(rt, &domain, &mut record, key, 10 * key)?;
+    let mut reader = registered(rt, domain, record)?;
+    let mut list = listed(domain, record)?;
+    for (key, value) in [(1, 10), (2, 20), (3, 30), (4, 40)] {
+        list.insert(rt, domain, record, key, value)?;
     }
-    for key in [1, 3, 4] {
-        if let Err((refusal, _)) = list.replace(rt, &domain, &mut record, key, 100 * key, Adds(0)) {
+    for (key, value) in [(1, 100), (3, 300), (4, 400)] {
+        if let Err((refusal, _)) = list.replace(rt, domain, record, key, value, Adds(0)) {
             return Err(refusal);
         }
     }
-    if let Err((refusal, _)) = list.remove(rt, &domain, &mut record, 2, Adds(0)) {
+    if let Err((refusal, _)) = list.remove(rt, domain, record, 2, Adds(0)) {
         return Err(refusal);
     }
-    list.insert(rt, &domain, &mut record, 5, 50)?;
-    if let Err((refusal, _)) = list.remove(rt, &domain, &mut record, 4, Adds(0)) {
+    list.insert(rt, domain, record, 5, 50)?;
+    if let Err((refusal, _)) = list.remove(rt, domain, record, 4, Adds(0)) {
         return Err(refusal);
     }
-    let view = ListView::of(&domain, 0)?;
+    let view = ListView::of(domain, 0)?;
     let first = look(&mut reader, view, 1)?;
     let second = look(&mut reader, view, 2)?;
     let third = look(&mut reader, view, 3)?;
@@ -145,14 +155,26 @@ fn walks<P: GracePlan + Drop, B: Site, R: Wait>(
     Ok([first, second, third, fourth, fifth])
 }
 
+/// The same, in a domain of its own.
+fn walks_in<P: GracePlan + Drop, B: Site, R: Wait>(
+    rt: &R,
+    alloc: Global,
+    opened: Opened<P, Keyed>,
+) -> Result<[Option<u64>; 5], Refusal>
+    requires { (P.QSBR ≡ B.qsbr) × (opened.table.words.shared.table_id ≡ B.table) × (opened.table.words.shared.key ≡ B.sizes) }
+{
+    let (domain, mut record) = opened.named::<B, Adds>(alloc)?;
+    walks(rt, &domain, &mut record)
+}
+
 #[test]
 fn lookups_pass_other_keys(rt: HostRuntime) {
     let values = [Some(100), None, Some(300), None, Some(50)];
     let general = Opened::<MembPlan, Keyed>::new(rt.alloc(), of_pool(8)).expect(&rt, "memory");
-    let found = walks::<_, Brand, _>(&rt, rt.alloc(), general).expect(&rt, "not refused");
+    let found = walks_in::<_, Brand, _>(&rt, rt.alloc(), general).expect(&rt, "not refused");
     assert_eq!(rt; found, values);
     let quiescent = Opened::<QsbrPlan, Keyed>::new(rt.alloc(), of_pool(8)).expect(&rt, "memory");
-    let found = walks::<_, Brand, _>(&rt, rt.alloc(), quiescent).expect(&rt, "not refused");
+    let found = walks_in::<_, Brand, _>(&rt, rt.alloc(), quiescent).expect(&rt, "not refused");
     assert_eq!(rt; found, values);
 }
 
@@ -160,22 +182,21 @@ fn lookups_pass_other_keys(rt: HostRuntime) {
 /// it was, and so is the pool.
 fn refusals<P: GracePlan + Drop, B: Site, R: Wait>(
     rt: &R,
-    alloc: Global,
-    opened: Opened<P, Keyed>,
+    domain: &Domain<P, Keyed, B, Adds>,
+    record: &mut Record<B>,
 ) -> Result<([bool; 6], [Option<u64>; 2]), Refusal>
-    requires { (P.QSBR ≡ B.qsbr) × (opened.table.words.shared.table_id ≡ B.table) × (opened.table.words.shared.key ≡ B.sizes) }
+    requires { P.QSBR ≡ B.qsbr }
 {
-    let (domain, mut record) = opened.named::<B, Adds>(alloc)?;
-    let mut reader = registered(rt, &domain, &mut record)?;
-    let mut list = listed(&domain, &mut record)?;
-    list.insert(rt, &domain, &mut record, 3, 30)?;
-    domain.close(rt, &mut record);
-    let closed = list.replace(rt, &domain, &mut record, 3, 31, Adds(5));
-    let kept = list.remove(rt, &domain, &mut record, 3, Adds(6));
-    let unused = domain.counts(&mut record).records == 1;
-    let last = list.insert(rt, &domain, &mut record, 4, 40);
-    let full = list.insert(rt, &domain, &mut record, 5, 50);
-    let no_room = list.replace(rt, &domain, &mut record, 4, 41, Adds(7));
+    let mut reader = registered(rt, domain, record)?;
+    let mut list = listed(domain, record)?;
+    list.insert(rt, domain, record, 3, 30)?;
+    domain.close(rt, record);
+    let closed = list.replace(rt, domain, record, 3, 31, Adds(5));
+    let kept = list.remove(rt, domain, record, 3, Adds(6));
+    let unused = domain.counts(record).records == 1;
+    let last = list.insert(rt, domain, record, 4, 40);
+    let full = list.insert(rt, domain, record, 5, 50);
+    let no_room = list.replace(rt, domain, record, 4, 41, Adds(7));
     let view = list.view();
     let third = look(&mut reader, view, 3)?;
     let fourth = look(&mut reader, view, 4)?;
@@ -192,48 +213,77 @@ fn refusals<P: GracePlan + Drop, B: Site, R: Wait>(
     ))
 }
 
+/// The same, in a domain of its own.
+fn refusals_in<P: GracePlan + Drop, B: Site, R: Wait>(
+    rt: &R,
+    alloc: Global,
+    opened: Opened<P, Keyed>,
+) -> Result<([bool; 6], [Option<u64>; 2]), Refusal>
+    requires { (P.QSBR ≡ B.qsbr) × (opened.table.words.shared.table_id ≡ B.table) × (opened.table.words.shared.key ≡ B.sizes) }
+{
+    let (domain, mut record) = opened.named::<B, Adds>(alloc)?;
+    refusals(rt, &domain, &mut record)
+}
+
 #[test]
 fn refused_calls_give_all_back(rt: HostRuntime) {
     let values = [Some(30), Some(40)];
     let general = Opened::<MembPlan, Keyed>::new(rt.alloc(), of_pool(2)).expect(&rt, "memory");
-    let did = refusals::<_, Brand, _>(&rt, rt.alloc(), general).expect(&rt, "not refused");
+    let did = refusals_in::<_, Brand, _>(&rt, rt.alloc(), general).expect(&rt, "not refused");
     assert_eq!(rt; did, ([true; 6], values));
     let quiescent = Opened::<QsbrPlan, Keyed>::new(rt.alloc(), of_pool(2)).expect(&rt, "memory");
-    let did = refusals::<_, Brand, _>(&rt, rt.alloc(), quiescent).expect(&rt, "not refused");
+    let did = refusals_in::<_, Brand, _>(&rt, rt.alloc(), quiescent).expect(&rt, "not refused");
     assert_eq!(rt; did, ([true; 6], values));
+}
+
+/// The number of a chain over which no list is made, and how many objects it has.
+fn refused<P: GracePlan + Drop, B: Site>(chain: Chain<'_, P, Keyed, B>) -> Option<(usize, usize)> {
+    match RcuList::new(chain) {
+        Ok(_list) => None,
+        Err((Refusal::BadConfig, chain)) => Some((chain.number(), chain.len())),
+        Err((_, _chain)) => None,
+    }
 }
 
 /// Whether a chain that has an object, and one that has a note, make no list and come back; and whether there is a view
 /// of the last chain, and of none after it.
 fn bad_chains<P: GracePlan + Drop, B: Site, R: Wait>(
     rt: &R,
+    domain: &Domain<P, Keyed, B, Adds>,
+    record: &mut Record<B>,
+) -> Result<[bool; 5], Refusal> {
+    let mut list = listed(domain, record)?;
+    list.insert(rt, domain, record, 3, 30)?;
+    drop(list);
+    let held = domain.chain(record, 0)?;
+    let held = refused(held);
+    let mut noted = domain.chain(record, 1)?;
+    noted.set_note(record, 1);
+    let noted = refused(noted);
+    Ok([
+        held == Some((0, 1)),
+        noted == Some((1, 0)),
+        matches!(ListView::of(domain, 1), Ok(_)),
+        matches!(ListView::of(domain, 2), Err(Refusal::NoPlace)),
+        matches!(domain.chain(record, 0), Ok(_)),
+    ])
+}
+
+/// The same, in a domain of its own.
+fn bad_chains_in<P: GracePlan + Drop, B: Site, R: Wait>(
+    rt: &R,
     alloc: Global,
     opened: Opened<P, Keyed>,
-) -> Result<[bool; 6], Refusal>
+) -> Result<[bool; 5], Refusal>
     requires { (opened.table.words.shared.table_id ≡ B.table) × (opened.table.words.shared.key ≡ B.sizes) }
 {
     let (domain, mut record) = opened.named::<B, Adds>(alloc)?;
-    let mut list = listed(&domain, &mut record)?;
-    list.insert(rt, &domain, &mut record, 3, 30)?;
-    drop(list);
-    let held = RcuList::new(domain.chain(&mut record, 0)?);
-    let mut noted = domain.chain(&mut record, 1)?;
-    noted.set_note(&mut record, 1);
-    let busy = matches!(domain.chain(&mut record, 1), Err(Refusal::Busy));
-    let marked = RcuList::new(noted);
-    Ok([
-        matches!(held, Err((Refusal::BadConfig, chain)) if chain.len() == 1),
-        busy,
-        matches!(marked, Err((Refusal::BadConfig, chain)) if chain.number() == 1),
-        matches!(ListView::of(&domain, 1), Ok(_)),
-        matches!(ListView::of(&domain, 2), Err(Refusal::NoPlace)),
-        matches!(domain.chain(&mut record, 0), Ok(_)),
-    ])
+    bad_chains(rt, &domain, &mut record)
 }
 
 #[test]
 fn lists_begin_empty(rt: HostRuntime) {
     let general = Opened::<MembPlan, Keyed>::new(rt.alloc(), of_pool(2)).expect(&rt, "memory");
-    let did = bad_chains::<_, Brand, _>(&rt, rt.alloc(), general).expect(&rt, "not refused");
-    assert_eq!(rt; did, [true; 6]);
+    let did = bad_chains_in::<_, Brand, _>(&rt, rt.alloc(), general).expect(&rt, "not refused");
+    assert_eq!(rt; did, [true; 5]);
 }
