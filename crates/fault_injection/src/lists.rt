@@ -97,7 +97,7 @@ fn name<P: GracePlan + Drop, B: Site, R: Wait>(
     opened: Opened<P, Keyed>,
     ledger: &mut Ledger,
 ) -> Result<Option<bool>, Finding>
-    requires { (opened.table.words.shared.table_id ≡ B.table) × (opened.table.words.shared.key ≡ B.sizes) }
+    requires { (P.QSBR ≡ B.qsbr) × (opened.table.words.shared.table_id ≡ B.table) × (opened.table.words.shared.key ≡ B.sizes) }
 {
     let (domain, mut record) = match opened.named::<B, Says>(alloc) {
         Ok(named) => named,

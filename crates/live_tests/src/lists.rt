@@ -275,7 +275,7 @@ fn bad_chains_in<P: GracePlan + Drop, B: Site, R: Wait>(
     alloc: Global,
     opened: Opened<P, Keyed>,
 ) -> Result<[bool; 5], Refusal>
-    requires { (opened.table.words.shared.table_id ≡ B.table) × (opened.table.words.shared.key ≡ B.sizes) }
+    requires { (P.QSBR ≡ B.qsbr) × (opened.table.words.shared.table_id ≡ B.table) × (opened.table.words.shared.key ≡ B.sizes) }
 {
     let (domain, mut record) = opened.named::<B, Adds>(alloc)?;
     bad_chains(rt, &domain, &mut record)
