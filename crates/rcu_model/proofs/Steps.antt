@@ -3,18 +3,18 @@ use Rattle.std.proofs.Common.{◌≡◌, ◌≢◌, ◌⊎◌, ◌↔◌, inl, i
 use Rattle.std.specs.Option.{option_eq}
 use Rattle.rcu_model.specs.declared.event.SectionId.{SectionId}
 use Rattle.rcu_model.specs.declared.event.ObjectId.{ObjectId}
-use Rattle.rcu_model.specs.declared.event.Event.TheVariants.{Open, Close, First, Next, Touch, Queue, Run, Answer, Clear}
+use Rattle.rcu_model.specs.declared.event.Event.TheVariants.{Open, Close, First, Next, Touch, Queue, Run, Answer, Bar, Clear}
 use Rattle.rcu_model.specs.declared.checker.Checker.{Checker}
 use Rattle.rcu_model.specs.declared.holdings.Holdings.{Holdings}
 use Rattle.rcu_model.specs.declared.objects.Objects.{Objects}
 use Rattle.rcu_model.specs.declared.sections.Sections.{Sections}
 use Rattle.rcu_model.specs.declared.waits.Waits.{Waits}
-use Rattle.rcu_model.specs.Sets.{same_section, same_object, has_object, HasSection, HasObject, HasNumber, without_section, without_object, at_section, at_object, first_of}
+use Rattle.rcu_model.specs.Sets.{same_section, same_object, has_object, HasSection, HasObject, HasNumber, without_section, without_object, at_number, at_section, at_object, first_of}
 use Rattle.rcu_model.specs.Machine.{State, start, IsAllowed, IsSuccessor, after, not_run, got}
 use Rattle.rcu_model.specs.Roster.{IsThere, HaveLeft, Rostered, Awaits}
 use Rattle.rcu_model.specs.Sections.{AreSections, AwaitsSections, Opens, Closes}
 use Rattle.rcu_model.specs.Holdings.{HasGot}
-use Rattle.rcu_model.specs.Waits.{AreWaits, IsPending, Ends}
+use Rattle.rcu_model.specs.Waits.{AreWaits, IsPending, Begins, Ends}
 use Rattle.rcu_model.specs.declared.object.ObjectState.{ObjectState}
 use Rattle.rcu_model.specs.declared.object.Stage.{Stage}
 use Rattle.rcu_model.specs.declared.object.Stage.TheVariants.{Linked, Cut as IsCut, Retired, Queued, Reclaimed}
@@ -22,9 +22,9 @@ use Rattle.rcu_model.specs.declared.object.Waiting.{Waiting}
 use Rattle.rcu_model.specs.Objects.{Knows, IsReached, FindsSuccessor, FindsWaiting, states_of, says, is_queued, is_reclaimed}
 use Rattle.rcu_model.specs.Checker.{AreHeld, Follows, Goes, Gets, GetsIn}
 use Rattle.rcu_model.proofs.Members.{In, Tells, section_tells, object_tells, in_sections, has_section_in, in_objects, has_object_in, empty_from}
-use Rattle.rcu_model.proofs.SetLemmas.{filter_has, has_filter, without_object_has, has_without_object, at_section_same, at_section_other, at_object_same, at_object_other}
+use Rattle.rcu_model.proofs.SetLemmas.{filter_has, has_filter, without_object_has, has_without_object, at_number_same, at_number_other, at_section_same, at_section_other, at_object_same, at_object_other}
 use Rattle.rcu_model.proofs.Safety.{Kept, kept_log, SafeIn, linked, cut_last, cut_before}
-use Rattle.rcu_model.proofs.Rosters.{none_awaited, all_have_left, rostered_arrive, awaits_arrive, rostered_leave, awaits_leave}
+use Rattle.rcu_model.proofs.Rosters.{none_awaited, all_have_left, awaits_here, rostered_arrive, awaits_arrive, rostered_leave, awaits_leave}
 use Rattle.rcu_model.proofs.SectionLemmas.{has_last, has_without}
 
 kept_reached : (now : State) → IsReached now → Kept now
@@ -428,9 +428,44 @@ clear_goes k barriers b moment gone ends told now f = record {
       (λ none. told.1 (all_have_left (HasObject now.queued) (HasObject (not_run now)) f.tickets k.queued (HasObject (now.noted_objects b)) moment f.queued awaits ((no_object (now.noted_objects b)).1 none))),
     )
 
+-- a barrier begins
+pub bar_goes : (k : Checker) (barriers : Waits) (b moment : ℕ) (fresh : Bool) → moment ≡ length k.queued →
+    ((begun over : List ℕ) → AreWaits k.barriers begun over → Begins k.barriers barriers begun over b moment fresh) →
+    (now : State) → Follows k now → Goes (record k { barriers = barriers }) now (Bar b) fresh
+bar_goes k barriers b moment fresh at begins now f = record {
+  allowed = e.fresh;
+  follows = λ t. record {
+    moments = f.moments;
+    tickets = f.tickets;
+    sections = f.sections;
+    holdings = f.holdings;
+    objects = f.objects;
+    retired = f.retired;
+    queued = f.queued;
+    asks = f.asks;
+    asked = f.asked;
+    barriers = e.begun_now t;
+    noted = λ c m h. noted c m (e.pends t c m h);
+  };
+}
+  where
+    e : Begins k.barriers barriers now.noted now.cleared b moment fresh
+    e = begins now.noted now.cleared f.barriers
+
+    here : Awaits (HasObject (not_run now)) (HasObject (not_run now)) f.tickets k.queued (length k.queued)
+    here = awaits_here (HasObject now.queued) (HasObject (not_run now)) f.tickets k.queued f.queued
+
+    noted : (c m : ℕ) → ((c ≡ b) × (m ≡ moment)) ⊎ ((c ≢ b) × IsPending k.barriers c m) → Awaits (HasObject (not_run now)) (HasObject (at_number b (not_run now) now.noted_objects c)) f.tickets k.queued m
+    noted c m (inl y) =
+        subst (λ i. Awaits (HasObject (not_run now)) (HasObject (at_number b (not_run now) now.noted_objects i)) f.tickets k.queued m) (sym y.0)
+        (subst (λ (os : List ObjectId). Awaits (HasObject (not_run now)) (HasObject os) f.tickets k.queued m) (sym (at_number_same b (not_run now) now.noted_objects))
+        (subst (λ i. Awaits (HasObject (not_run now)) (HasObject (not_run now)) f.tickets k.queued i) (sym (y.1 ∙ at)) here))
+    noted c m (inr o) =
+        subst (λ (os : List ObjectId). Awaits (HasObject (not_run now)) (HasObject os) f.tickets k.queued m) (sym (at_number_other b c (not_run now) now.noted_objects o.0)) (f.noted c m o.1)
+
 -- nothing has happened
 none_pending : (w : Waits) → AreWaits w [] [] → (n m : ℕ) → ¬ IsPending w n m
-none_pending w a n m h = true≢false (sym ((a.known n).1 (ap (λ o. is_some o) h)))
+none_pending w a n m h = true≢false (sym ((a.pending n).0 (ap (λ o. is_some o) h)).0)
 
 pub follows_start : (sections : Sections) (holdings : Holdings) (objects : Objects) (queued : List Bool) (asks barriers : Waits) →
     AreSections sections [] [] → ((s : SectionId) (o : ObjectId) → ¬ HasGot holdings s o) →
