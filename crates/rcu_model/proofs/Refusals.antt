@@ -26,8 +26,10 @@ module _ (old new : Sections) (same : StaySections old new) where
 
   sections_stay : (seen still : List SectionId) → AreSections old seen still → AreSections new seen still
   sections_stay seen still a = record {
-    known = at_places (λ f _. (s : SectionId) → HasSection seen s ↔ IsSome (f s)) a.known;
-    rostered = at_places (λ f present. Rostered (HasSection seen) (HasSection still) (λ s. unwrap_or (f s) 0) present) a.rostered;
+    known = λ s. let b = a.known s in ((λ h. (same.seen s).1 (b.0 h)), (λ h. b.1 ((same.seen s).0 h)));
+    placed = at_places (λ f _. (s : SectionId) → HasSection still s ↔ IsSome (f s)) a.placed;
+    came = a.came;
+    rostered = at_places (λ f present. Rostered (HasSection still) (HasSection still) (λ s. unwrap_or (f s) 0) present) a.rostered;
   }
 
   awaits_stay : (still awaited : List SectionId) (moment : ℕ) → AwaitsSections old still awaited moment → AwaitsSections new still awaited moment

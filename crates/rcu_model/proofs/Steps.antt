@@ -1,6 +1,7 @@
 -- What an event leaves, the checker knows.
 use Rattle.std.proofs.Common.{◌≡◌, ◌≢◌, ◌⊎◌, ◌↔◌, inl, inr, ⊎_elim, ℕ, ◌<◌, Bool, true, false, not, List, [], ◌∷◌, ◌++◌, length, set, filter, Option, Some, None, is_some, arith, refl, sym, ap, ◌∙◌, subst, true≢false, IsTrue}
 use Rattle.std.specs.Option.{option_eq}
+use Rattle.std.proofs.lemmas.List.{get_or_past}
 use Rattle.rcu_model.specs.declared.event.SectionId.{SectionId}
 use Rattle.rcu_model.specs.declared.event.ObjectId.{ObjectId}
 use Rattle.rcu_model.specs.declared.event.Event.TheVariants.{Open, Close, First, Next, Touch, Queue, Run, Answer, Bar, Clear}
@@ -57,7 +58,7 @@ open_goes k new s opened does now r f = record {
     moments = f.moments;
     tickets = f.tickets;
     sections = o.open_now t;
-    holdings = open_held k.holdings now s (kept_reached now r) f.holdings f.sections.rostered.came (o.fresh.0 t);
+    holdings = open_held k.holdings now s (kept_reached now r) f.holdings f.sections.came (o.fresh.0 t);
     objects = f.objects;
     retired = λ p h. o.awaits t (now.awaited p) (f.moments p) (f.retired p h);
     queued = f.queued;
@@ -136,7 +137,7 @@ get_follows k new s (Some o) g now is_open f = subst (λ c. Follows c (got now s
   moments = f.moments;
   tickets = f.tickets;
   sections = f.sections;
-  holdings = get_held k.holdings new.holdings now s o is_open (f.sections.rostered.came s is_open) g.got f.holdings;
+  holdings = get_held k.holdings new.holdings now s o is_open (f.sections.came s is_open) g.got f.holdings;
   objects = f.objects;
   retired = f.retired;
   queued = f.queued;
@@ -484,7 +485,7 @@ follows_start sections holdings objects queued asks barriers are none knows empt
   queued = record {
     placed = λ o h. absurd (true≢false (sym h));
     apart = λ o p h. absurd (true≢false (sym h));
-    named = λ i less. absurd (nobody i (subst (λ (l : List Bool). i < length l) empty less));
+    named = λ i there. absurd (nobody i (subst (λ (l : List Bool). IsThere l i) empty there));
     marked = λ o h. absurd (true≢false (sym h));
     came = λ o h. absurd (true≢false (sym h));
   };
@@ -494,5 +495,5 @@ follows_start sections holdings objects queued asks barriers are none knows empt
   noted = λ n m h. absurd (none_pending barriers b n m h);
 }
   where
-    nobody : (i : ℕ) → ¬ (i < 0)
-    nobody i less = absurd (omega arith)
+    nobody : (i : ℕ) → ¬ IsThere [] i
+    nobody i there = true≢false (sym there ∙ get_or_past [] i false (omega arith))

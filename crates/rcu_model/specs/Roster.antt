@@ -35,7 +35,7 @@ pub record IsKept (forgotten : ℕ) (present : List Bool) (oldest : ℕ) : Type 
 pub record Rostered {X : Type 0} (Came Here : X → Type 0) (place : X → ℕ) (present : List Bool) : Type 0 where
   pub placed : (x : X) → Came x → place x < length present
   pub apart : (x y : X) → Came x → Came y → place x ≡ place y → x ≡ y
-  pub named : (i : ℕ) → i < length present → (x : X) × (Came x × (place x ≡ i))
+  pub named : (i : ℕ) → IsThere present i → (x : X) × (Here x × (place x ≡ i))
   pub marked : (x : X) → Came x → Here x ↔ IsThere present (place x)
   pub came : (x : X) → Here x → Came x
 
