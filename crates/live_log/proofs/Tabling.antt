@@ -115,7 +115,7 @@ module _ (qsbr : Bool) where
   each_sorted (Object (Run o) ∷ es) c run = each_sorted es c run.1
 
   -- a directory takes the place of one that was alone
-  was_alone : (log : Log) (d : ℕ) (p o : ObjectId) (i : ℕ) (w : List ℕ) → IsLiveRun qsbr tabled (Object (Replace d p o i w) ∷ log) → IsDirectory (note_of log p) → chain_in log d ≡ p ∷ []
+  pub was_alone : (log : Log) (d : ℕ) (p o : ObjectId) (i : ℕ) (w : List ℕ) → IsLiveRun qsbr tabled (Object (Replace d p o i w) ∷ log) → IsDirectory (note_of log p) → chain_in log d ≡ p ∷ []
   was_alone log d p o i w run directory = alone_there log d p (each_sorted log d run.1) (in_objects (chain_in log d) p run.0.0.0) directory
 
   -- one object alone falls
