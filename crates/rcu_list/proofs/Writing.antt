@@ -8,7 +8,7 @@ use Rattle.rcu_model.proofs.Lemmas.{first_has}
 use Rattle.live_log.specs.declared.event.LiveEvent.{LiveEvent}
 use Rattle.live_log.specs.declared.event.LiveEvent.TheVariants.{Object}
 use Rattle.live_log.specs.declared.event.ObjectEvent.TheVariants.{Push, Replace, Cut}
-use Rattle.live_log.specs.Keys.{key_of, rank_of, keyed}
+use Rattle.live_log.specs.Keys.{key_of, rank_of}
 use Rattle.live_log.specs.Log.{Log, Begins, IsLiveRun, note_of, state_of}
 use Rattle.live_rule.specs.declared.view.View.{View}
 use Rattle.live_rule.specs.declared.rights.ChainRight.{ChainRight}
@@ -19,6 +19,7 @@ use Rattle.live_read.specs.Hearing.{Stays}
 use Rattle.live_read.specs.declared.witness.Witness.{Ghosts}
 use Rattle.live_write.specs.Chains.{IsFirstWith, Publishes, list_in, push_by, replace_by}
 use Rattle.live_write.proofs.Lemmas.{index_has}
+use Rattle.live_log.specs.Maps.{HasMaps}
 use Rattle.rcu_list.specs.Calls.{Inserts, Replaces, Removes}
 use Rattle.rcu_list.specs.Maps.{HasLastRank, map_of, words_of}
 use Rattle.rcu_list.proofs.Changing.{inserts, key_missing, key_there, removes, replaces, same_note}
@@ -28,18 +29,18 @@ pub chain_known : (v : View) (c : ℕ) → IsListed v → (own_in v.chains).chai
 chain_known v c listed is = subst (λ (n : ℕ). (state_of v.seen).chain n ≡ list_in v) is listed.0
 
 -- after a walk
-module _ {S : Type 0} (qsbr : Bool) (c : ℕ) (m n : Me S View) (went : Went qsbr keyed m.0 m n) (listed : IsListed m.0) (is : (own_in m.0.chains).chain ≡ c) where
+module _ {S : Type 0} (qsbr : Bool) (allows : Log → LiveEvent → Type 0) (maps : HasMaps qsbr allows) (c : ℕ) (m n : Me S View) (went : Went qsbr allows m.0 m n) (listed : IsListed m.0) (is : (own_in m.0.chains).chain ≡ c) where
   walked_in : (o : ObjectId) → In (list_in m.0) o → In ((state_of m.0.seen).chain c) o
   walked_in o h = subst (λ (l : List ObjectId). In l o) (sym (chain_known m.0 c listed is)) h
 
   pub note_walked : (o : ObjectId) → In (list_in m.0) o → note_of n.0.seen o ≡ note_of m.0.seen o
-  note_walked o h = same_note qsbr c m.0.seen n.0.seen went.2.0 went.2.2 o (walked_in o h)
+  note_walked o h = same_note qsbr allows maps c m.0.seen n.0.seen went.2.0 went.2.2 o (walked_in o h)
 
   pub walked_there : (o : ObjectId) (key : ℕ) → In (list_in m.0) o → key_of (note_of n.0.seen o) ≡ key → IsSome (map_of m.0.seen c key)
-  walked_there o key h key_is = subst (λ (x : Option ℕ). IsSome x) (sym (key_there qsbr c m.0.seen n.0.seen went.2.0 went.2.2 o key (walked_in o h) key_is)) refl
+  walked_there o key h key_is = subst (λ (x : Option ℕ). IsSome x) (sym (key_there qsbr allows maps c m.0.seen n.0.seen went.2.0 went.2.2 o key (walked_in o h) key_is)) refl
 
   pub walked_missing : (key : ℕ) → ((o : ObjectId) → In (list_in m.0) o → key_of (note_of n.0.seen o) ≢ key) → map_of m.0.seen c key ≡ None
-  walked_missing key none = key_missing qsbr c m.0.seen n.0.seen went.2.0 went.2.2 key (λ o h. none o (subst (λ (l : List ObjectId). In l o) (chain_known m.0 c listed is) h))
+  walked_missing key none = key_missing qsbr allows maps c m.0.seen n.0.seen went.2.0 went.2.2 key (λ o h. none o (subst (λ (l : List ObjectId). In l o) (chain_known m.0 c listed is) h))
 
   pub found_there : (key index : ℕ) → IsFirstWith n.0.seen (list_in m.0) key index → IsSome (map_of m.0.seen c key)
   found_there key index f = walked_there f.object key (index_has (list_in m.0) index f.object f.at) f.begins
@@ -54,35 +55,35 @@ module _ {S : Type 0} (qsbr : Bool) (c : ℕ) (m n : Me S View) (went : Went qsb
       (o, ap first_of (chain_known m.0 c listed is) ∙ here, subst (λ (x : ℕ × List ℕ). 2 ^ 62 ≤ rank_of x + 1) (note_walked o (first_has (list_in m.0) o here)) last)
 
 -- what an event of the writer tells of the map
-module _ (qsbr : Bool) (c : ℕ) (known seen heard : Log) (v w : View) (is_v : (own_in v.chains).chain ≡ c) (is_w : (own_in w.chains).chain ≡ c) (listed : IsListed w) (knows : (state_of known).chain c ≡ list_in v) (seen' heard' owner : Log) where
-  pub pushed_map : (u : View) (key value rank : ℕ) → payload_in u.object ≡ words_of key value rank → (p : Publishes qsbr keyed v seen' heard' owner (push_by v u) w.seen) → Begins known p.before × Begins seen p.before × Begins heard p.before → list_in w ≡ object_in u.object ∷ list_in v → map_of known c key ≡ None → Inserts qsbr c known seen heard key value w.seen
+module _ (qsbr : Bool) (allows : Log → LiveEvent → Type 0) (maps : HasMaps qsbr allows) (c : ℕ) (known seen heard : Log) (v w : View) (is_v : (own_in v.chains).chain ≡ c) (is_w : (own_in w.chains).chain ≡ c) (listed : IsListed w) (knows : (state_of known).chain c ≡ list_in v) (seen' heard' owner : Log) where
+  pub pushed_map : (u : View) (key value rank : ℕ) → payload_in u.object ≡ words_of key value rank → (p : Publishes qsbr allows v seen' heard' owner (push_by v u) w.seen) → Begins known p.before × Begins seen p.before × Begins heard p.before → list_in w ≡ object_in u.object ∷ list_in v → map_of known c key ≡ None → Inserts qsbr allows c known seen heard key value w.seen
   pushed_map u key value rank words p after list none =
       let o : ObjectId = object_in u.object in
       let e : LiveEvent = Object (Push c o (cell_in u.object) (words_of key value rank)) in
       let wrote : w.seen ≡ e ∷ p.before = p.wrote ∙ (λ i. Object (Push (is_v i) o (cell_in u.object) (words i)) ∷ p.before) in
-      subst (Inserts qsbr c known seen heard key value) (sym wrote)
-      (inserts qsbr c known seen heard p.before after key value rank (cell_in u.object) o (subst (IsLiveRun qsbr keyed) wrote p.run)
+      subst (Inserts qsbr allows c known seen heard key value) (sym wrote)
+      (inserts qsbr allows maps c known seen heard p.before after key value rank (cell_in u.object) o (subst (IsLiveRun qsbr allows) wrote p.run)
       (ap (λ (l : Log). (state_of l).chain c) (sym wrote) ∙ (chain_known w c listed is_w ∙ (list ∙ ap (λ (l : List ObjectId). o ∷ l) (sym knows)))) none)
 
   module _ (key : ℕ) (o : ObjectId) (at : In (list_in v) o) (key_is : key_of (note_of known o) ≡ key) where
     known_in : In ((state_of known).chain c) o
     known_in = subst (λ (l : List ObjectId). In l o) (sym knows) at
 
-    pub replaced_map : (u : View) (value rank : ℕ) → payload_in u.object ≡ words_of key value rank → (p : Publishes qsbr keyed v seen' heard' owner (replace_by o v u) w.seen) → Begins known p.before × Begins seen p.before × Begins heard p.before → list_in w ≡ replaced o (object_in u.object) (list_in v) → Replaces qsbr c known seen heard key value o w.seen
+    pub replaced_map : (u : View) (value rank : ℕ) → payload_in u.object ≡ words_of key value rank → (p : Publishes qsbr allows v seen' heard' owner (replace_by o v u) w.seen) → Begins known p.before × Begins seen p.before × Begins heard p.before → list_in w ≡ replaced o (object_in u.object) (list_in v) → Replaces qsbr allows c known seen heard key value o w.seen
     replaced_map u value rank words p after list =
         let new : ObjectId = object_in u.object in
         let e : LiveEvent = Object (Replace c o new (cell_in u.object) (words_of key value rank)) in
         let wrote : w.seen ≡ e ∷ p.before = p.wrote ∙ (λ i. Object (Replace (is_v i) o new (cell_in u.object) (words i)) ∷ p.before) in
-        subst (Replaces qsbr c known seen heard key value o) (sym wrote)
-        (replaces qsbr c known seen heard p.before after key value rank (cell_in u.object) new o known_in key_is (subst (IsLiveRun qsbr keyed) wrote p.run)
+        subst (Replaces qsbr allows c known seen heard key value o) (sym wrote)
+        (replaces qsbr allows maps c known seen heard p.before after key value rank (cell_in u.object) new o known_in key_is (subst (IsLiveRun qsbr allows) wrote p.run)
         (ap (λ (l : Log). (state_of l).chain c) (sym wrote) ∙ (chain_known w c listed is_w ∙ (list ∙ ap (replaced o new) (sym knows)))))
 
-    pub cut_map : (p : Publishes qsbr keyed v seen' heard' owner (cut_of o v) w.seen) → Begins known p.before × Begins seen p.before × Begins heard p.before → list_in w ≡ without_object o (list_in v) → Removes qsbr c known seen heard key o w.seen
+    pub cut_map : (p : Publishes qsbr allows v seen' heard' owner (cut_of o v) w.seen) → Begins known p.before × Begins seen p.before × Begins heard p.before → list_in w ≡ without_object o (list_in v) → Removes qsbr allows c known seen heard key o w.seen
     cut_map p after list =
         let e : LiveEvent = Object (Cut c o) in
         let wrote : w.seen ≡ e ∷ p.before = p.wrote ∙ (λ i. Object (Cut (is_v i) o) ∷ p.before) in
-        subst (Removes qsbr c known seen heard key o) (sym wrote)
-        (removes qsbr c known seen heard p.before after key o known_in key_is (subst (IsLiveRun qsbr keyed) wrote p.run)
+        subst (Removes qsbr allows c known seen heard key o) (sym wrote)
+        (removes qsbr allows maps c known seen heard p.before after key o known_in key_is (subst (IsLiveRun qsbr allows) wrote p.run)
         (ap (λ (l : Log). (state_of l).chain c) (sym wrote) ∙ (chain_known w c listed is_w ∙ (list ∙ ap (without_object o) (sym knows)))))
 
 -- what holds of a result in either case, by what else holds of it there
