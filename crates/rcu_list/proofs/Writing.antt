@@ -1,5 +1,5 @@
 -- What the writer of a list knows, and what its events tell of the map.
-use Rattle.std.proofs.Common.{◌≡◌, ◌≢◌, ◌⊎◌, ◌≤◌, ℕ, ◌+◌, ◌^◌, Bool, List, ◌∷◌, Option, Some, None, IsSome, refl, sym, ap, ◌∙◌, subst, inl, inr}
+use Rattle.std.proofs.Common.{◌≡◌, ◌≢◌, ◌⊎◌, ◌≤◌, ◌<◌, ℕ, ◌+◌, ◌^◌, Bool, List, ◌∷◌, Option, Some, None, IsSome, refl, sym, ap, ◌∙◌, subst, inl, inr}
 use Rattle.std.specs.Prelude.{Result, Ok, Err, IfOk, IfErr}
 use Rattle.atomic_table.specs.Table.{Me}
 use Rattle.rcu_model.specs.declared.event.ObjectId.{ObjectId}
@@ -12,14 +12,17 @@ use Rattle.live_log.specs.Keys.{key_of, rank_of}
 use Rattle.live_log.specs.Log.{Log, Begins, IsLiveRun, note_of, state_of}
 use Rattle.live_rule.specs.declared.view.View.{View}
 use Rattle.live_rule.specs.declared.rights.ChainRight.{ChainRight}
-use Rattle.live_table.specs.Rights.{IsListed, cell_in, object_in, own_in, payload_in}
+use Rattle.live_table.specs.Rights.{AreAsKnown, IsAsKnown, IsListed, IsWriter, cell_in, object_in, own_in, payload_in}
 use Rattle.live_table.specs.Steps.{Went}
 use Rattle.live_chains.specs.Chains.{cut_of}
 use Rattle.live_read.specs.Hearing.{Stays}
 use Rattle.live_read.specs.declared.witness.Witness.{Ghosts}
-use Rattle.live_write.specs.Chains.{IsFirstWith, Publishes, list_in, push_by, replace_by}
+use Rattle.live_write.specs.Chains.{IsFirstWith, MayPublish, Publishes, list_in, push_by, replace_by}
 use Rattle.live_write.proofs.Lemmas.{index_has}
 use Rattle.live_log.specs.Maps.{HasMaps}
+use Rattle.live_log.specs.Tables.{HasKey}
+use Rattle.live_log.proofs.Lemmas.{not_has}
+use Rattle.rcu_list.proofs.Allowing.{may_cut, may_push, may_replace}
 use Rattle.rcu_list.specs.Calls.{Inserts, Replaces, Removes}
 use Rattle.rcu_list.specs.Maps.{HasLastRank, map_of, words_of}
 use Rattle.rcu_list.proofs.Changing.{inserts, key_missing, key_there, removes, replaces, same_note}
@@ -102,3 +105,22 @@ by_second (inr b) none f = f b
 -- what stays of a witness over two calls
 pub stays_both : {W : Type 0} (w : Ghosts W) (a b c : W) → Stays w a b → Stays w b c → Stays w a c
 stays_both w a b c x y = (y.0 ∙ x.0, y.1 ∙ x.1, y.2 ∙ x.2, λ h. y.3 (x.3 h))
+
+-- what the writer of a list may publish, by the list and the notes that it knows
+module _ (qsbr : Bool) (allows : Log → LiveEvent → Type 0) (maps : HasMaps qsbr allows) (v : View) (seen heard owner : Log) (own : IsWriter v) (listed : IsListed v) (unnoted : (own_in v.chains).note ≡ 0) (keys : (o : ObjectId) → In (list_in v) o → HasKey (note_of v.seen o)) where
+  own_known : (log : Log) → AreAsKnown log v.chains → IsAsKnown log (own_in v.chains)
+  own_known log known = (subst (AreAsKnown log) own known).0
+
+  pub may_insert : (u : View) → HasKey (0, payload_in u.object) → ((p : ObjectId) → In (list_in v) p → (key_of (note_of v.seen p) ≢ key_of (0, payload_in u.object)) × (rank_of (note_of v.seen p) < rank_of (0, payload_in u.object))) → MayPublish qsbr allows v seen heard owner (push_by v u)
+  may_insert u key above log on run known made = let k = own_known log known in
+      may_push qsbr allows maps (own_in v.chains).chain v.seen log on.after_writer.0 run (list_in v) listed.0 k.0 (k.1 ∙ unnoted) keys
+      (object_in u.object) (cell_in u.object) (payload_in u.object) (not_has (state_of log).used (object_in u.object) made) key above
+
+  pub may_exchange : (u : View) (o : ObjectId) → In (list_in v) o → HasKey (0, payload_in u.object) → (key_of (0, payload_in u.object) ≡ key_of (note_of v.seen o)) × (rank_of (0, payload_in u.object) ≡ rank_of (note_of v.seen o)) → MayPublish qsbr allows v seen heard owner (replace_by o v u)
+  may_exchange u o at key kept log on run known made = let k = own_known log known in
+      may_replace qsbr allows maps (own_in v.chains).chain v.seen log on.after_writer.0 run (list_in v) listed.0 k.0 (k.1 ∙ unnoted) keys
+      o (object_in u.object) (cell_in u.object) (payload_in u.object) at (not_has (state_of log).used (object_in u.object) made.1) key kept
+
+  pub may_remove : (o : ObjectId) → In (list_in v) o → MayPublish qsbr allows v seen heard owner (cut_of o v)
+  may_remove o at log on run known made = let k = own_known log known in
+      may_cut qsbr allows maps (own_in v.chains).chain v.seen log on.after_writer.0 run (list_in v) listed.0 k.0 (k.1 ∙ unnoted) keys o at
