@@ -1,3 +1,4 @@
+pub mod Allowing
 pub mod Changing
 pub mod Looking
 pub mod Values
