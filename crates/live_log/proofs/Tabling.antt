@@ -6,14 +6,15 @@ use mathlib.Core.Option.{some}
 use native.Mathlib.Decide.{ℕ_discrete}
 use Rattle.rcu_model.specs.declared.event.ObjectId.{ObjectId}
 use Rattle.rcu_model.specs.Sets.{In, replaced, same_object, without_object}
-use Rattle.rcu_model.proofs.Lemmas.{at_number_other, at_number_same, at_object_same, in_objects, object_tells, replaced_has, without_object_has}
+use Rattle.rcu_model.proofs.Lemmas.{at_number_other, at_number_same, at_object_same, has_replaced, has_without_object, in_objects, object_tells, replaced_has, without_object_has}
 use Rattle.live_log.specs.declared.event.ObjectEvent.TheVariants.{Push, Replace, Cut, Retire, Queue, Run}
 use Rattle.live_log.specs.declared.event.LiveEvent.{LiveEvent}
 use Rattle.live_log.specs.declared.event.LiveEvent.TheVariants.{Open, Close, SeqOdd, SeqEven, Present, ChainNote, CloseQueue, Object}
 use Rattle.live_log.specs.Keys.{Falls, IsKeyed, key_of, keyed_event, rank_of}
-use Rattle.live_log.specs.Log.{Log, Has, HaveEnded, IsLiveRun, chain_note, note_of, open_of, state_of}
-use Rattle.live_log.specs.Tables.{HasKey, HasKeys, IsDirectory, IsFree, IsNamed, MayDirect, Names, kind_of, tabled}
+use Rattle.live_log.specs.Log.{Log, Begins, Has, HaveEnded, IsLiveRun, chain_note, note_of, open_of, state_of}
+use Rattle.live_log.specs.Tables.{HasKey, HasKeys, IsDirectory, IsFree, IsNamed, IsReplaced, MayDirect, Names, kind_of, tabled}
 use Rattle.live_log.proofs.Falling.{LeavesFalling, all_fall}
+use Rattle.live_log.proofs.Machine.{by_object, run_of}
 use Rattle.live_log.proofs.Notes.{note_stays}
 use Rattle.live_log.proofs.Places.{chain_used}
 
@@ -295,3 +296,58 @@ module _ (qsbr : Bool) where
   pub left_stays : (log since before : Log) (c d : ℕ) (old new : ObjectId) (cell : ℕ) (payload : List ℕ) (r n m : ℕ) → IsLiveRun qsbr tabled log → log ≡ since ++ Object (Replace d old new cell payload) ∷ before → IsDirectory (note_of before old) → Names (note_of before old) c → open_of r before ≡ some (n, m) → ¬ Has (Close r n) log → chain_in log c ≡ chain_in before c
   left_stays log since before c d old new cell payload r n m run is directory names opened none =
       ap (λ (l : Log). chain_in l c) is ∙ stays_since before c d old new cell payload directory names r n m opened since (subst (IsLiveRun qsbr tabled) is run) (λ h. none (subst (Has (Close r n)) (sym is) h))
+
+  -- a directory that is linked is replaced by an event, or stays linked
+  module _ (start : Log) (d : ℕ) (o : ObjectId) (at : In (chain_in start d) o) (directory : IsDirectory (note_of start o)) where
+    abbrev Goes : Log → Type 0
+    Goes log = In (chain_in log d) o ⊎ IsReplaced start log d o
+
+    later : (e : LiveEvent) (log : Log) → IsReplaced start log d o → Goes (e ∷ log)
+    later e log r = inr (record { since = e ∷ r.since; before = r.before; new = r.new; cell = r.cell; payload = r.payload; is = ap (λ (l : Log). e ∷ l) r.is; after = r.after; linked = r.linked })
+
+    directory_then : (since : Log) → IsLiveRun qsbr tabled (since ++ start) → IsDirectory (note_of (since ++ start) o)
+    directory_then since run = subst IsDirectory (sym (note_stays qsbr tabled start (since ++ start) o (since, refl) run (chain_used qsbr tabled start d o (run_of qsbr tabled start (since ++ start) (since, refl) run) at))) directory
+
+    goes_push : (b : ℕ) (p : ObjectId) (i : ℕ) (w : List ℕ) (log : Log) → In (chain_in log d) o → Goes (Object (Push b p i w) ∷ log)
+    goes_push b p i w log h = let e : LiveEvent = Object (Push b p i w) in dite (ℕ_discrete b d)
+        (λ is. inl (subst (λ (n : ℕ). In (chain_in (e ∷ log) n) o) is (subst (λ (l : List ObjectId). In l o) (sym (pushed_list log b p p i w)) (inr (subst (λ (n : ℕ). In (chain_in log n) o) (sym is) h)))))
+        (λ ne. inl (subst (λ (l : List ObjectId). In l o) (sym (at_number_other b d (p ∷ chain_in log b) (chain_in log) (λ is. ne (sym is)))) h))
+
+    goes_replace : (b : ℕ) (p n : ObjectId) (i : ℕ) (w : List ℕ) (since : Log) → In (chain_in (since ++ start) d) o → Goes (Object (Replace b p n i w) ∷ (since ++ start))
+    goes_replace b p n i w since h = let log : Log = since ++ start in let e : LiveEvent = Object (Replace b p n i w) in dite (ℕ_discrete b d)
+        (λ is. by_object o p
+        (λ same. inr (record { since = []; before = log; new = n; cell = i; payload = w; is = λ j. Object (Replace (is j) (sym same j) n i w) ∷ log; after = (since, refl); linked = h }))
+        (λ other. inl (subst (λ (m : ℕ). In (chain_in (e ∷ log) m) o) is (subst (λ (l : List ObjectId). In l o) (sym (replaced_list log b p n i w)) (has_replaced p n (chain_in log b) o (subst (λ (m : ℕ). In (chain_in log m) o) (sym is) h) other)))))
+        (λ ne. inl (subst (λ (l : List ObjectId). In l o) (sym (at_number_other b d (replaced p n (chain_in log b)) (chain_in log) (λ is. ne (sym is)))) h))
+
+    goes_cut : (b : ℕ) (p : ObjectId) (since : Log) → IsLiveRun qsbr tabled (Object (Cut b p) ∷ (since ++ start)) → In (chain_in (since ++ start) d) o → Goes (Object (Cut b p) ∷ (since ++ start))
+    goes_cut b p since run h = let log : Log = since ++ start in let e : LiveEvent = Object (Cut b p) in dite (ℕ_discrete b d)
+        (λ is. by_object o p
+        (λ same. one_kind (note_of log o) (subst (λ (q : ObjectId). HasKey (note_of log q)) (sym same) run.0.1.1) (directory_then since run.1))
+        (λ other. inl (subst (λ (m : ℕ). In (chain_in (e ∷ log) m) o) is (subst (λ (l : List ObjectId). In l o) (sym (cut_list log b p p 0 [])) (has_without_object p (chain_in log b) o (subst (λ (m : ℕ). In (chain_in log m) o) (sym is) h) other)))))
+        (λ ne. inl (subst (λ (l : List ObjectId). In l o) (sym (at_number_other b d (without_object p (chain_in log b)) (chain_in log) (λ is. ne (sym is)))) h))
+
+    goes_on : (e : LiveEvent) (since : Log) → IsLiveRun qsbr tabled (e ∷ (since ++ start)) → In (chain_in (since ++ start) d) o → Goes (e ∷ (since ++ start))
+    goes_on (Open r n m) since run h = inl h
+    goes_on (Close r n) since run h = inl h
+    goes_on SeqOdd since run h = inl h
+    goes_on SeqEven since run h = inl h
+    goes_on (Present p) since run h = inl h
+    goes_on (ChainNote b x) since run h = inl h
+    goes_on (CloseQueue q) since run h = inl h
+    goes_on (Object (Retire p)) since run h = inl h
+    goes_on (Object (Queue p q)) since run h = inl h
+    goes_on (Object (Run p)) since run h = inl h
+    goes_on (Object (Push b p i w)) since run h = goes_push b p i w (since ++ start) h
+    goes_on (Object (Replace b p n i w)) since run h = goes_replace b p n i w since h
+    goes_on (Object (Cut b p)) since run h = goes_cut b p since run h
+
+    goes_since : (since : Log) → IsLiveRun qsbr tabled (since ++ start) → Goes (since ++ start)
+    goes_since [] run = inl at
+    goes_since (e ∷ es) run = ⊎_elim
+        (λ (h : In (chain_in (es ++ start) d) o). goes_on e es run h)
+        (λ (r : IsReplaced start (es ++ start) d o). later e (es ++ start) r)
+        (goes_since es run.1)
+
+  pub linked_or_replaced : (start log : Log) (d : ℕ) (o : ObjectId) → Begins start log → IsLiveRun qsbr tabled log → In (chain_in start d) o → IsDirectory (note_of start o) → In (chain_in log d) o ⊎ IsReplaced start log d o
+  linked_or_replaced start log d o b run at directory = subst (λ (l : Log). In (chain_in l d) o ⊎ IsReplaced start l d o) (sym b.1) (goes_since start d o at directory b.0 (subst (IsLiveRun qsbr tabled) b.1 run))

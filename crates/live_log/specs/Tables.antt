@@ -7,7 +7,7 @@ use Rattle.live_log.specs.declared.event.LiveEvent.TheVariants.{ChainNote, Objec
 use Rattle.live_log.specs.declared.event.ObjectEvent.{ObjectEvent}
 use Rattle.live_log.specs.declared.event.ObjectEvent.TheVariants.{Push, Replace, Cut}
 use Rattle.live_log.specs.Keys.{keyed_event, rank_of}
-use Rattle.live_log.specs.Log.{Log, HaveEnded, chain_note, note_of, state_of}
+use Rattle.live_log.specs.Log.{Log, Begins, HaveEnded, chain_note, note_of, state_of}
 
 -- of a payload: its fourth word, 0 with a key and 1 in a directory
 abbrev pub kind_of : ℕ × List ℕ → ℕ
@@ -35,6 +35,17 @@ pub record IsNamed (log : Log) (c : ℕ) : Type 0 where
 -- each section has ended that was open where a directory that named the chain was replaced
 abbrev pub IsFree : Log → ℕ → Type 0
 IsFree log c = (since before : Log) (d : ℕ) (old new : ObjectId) (cell : ℕ) (payload : List ℕ) → log ≡ since ++ Object (Replace d old new cell payload) ∷ before → IsDirectory (note_of before old) → Names (note_of before old) c → HaveEnded before log
+
+-- an object of the chain was replaced, no earlier than in one log, and not after another
+pub record IsReplaced (start log : Log) (c : ℕ) (o : ObjectId) : Type 0 where
+  pub since : Log
+  pub before : Log
+  pub new : ObjectId
+  pub cell : ℕ
+  pub payload : List ℕ
+  pub is : log ≡ since ++ Object (Replace c o new cell payload) ∷ before
+  pub after : Begins start before
+  pub linked : In ((state_of before).chain c) o
 
 -- a directory may come into a chain: it names others alone, whose notes are this chain's number and 1
 abbrev pub MayDirect : Log → ℕ → ℕ × List ℕ → Type 0
