@@ -115,6 +115,9 @@ module _ (qsbr : Bool) where
   each_sorted (Object (Queue o q) ∷ es) c run = each_sorted es c run.1
   each_sorted (Object (Run o) ∷ es) c run = each_sorted es c run.1
 
+  pub directory_alone : (log : Log) (d : ℕ) (o : ObjectId) → IsLiveRun qsbr tabled log → In (chain_in log d) o → IsDirectory (note_of log o) → chain_in log d ≡ o ∷ []
+  directory_alone log d o run h directory = alone_there log d o (each_sorted log d run) h directory
+
   -- a directory takes the place of one that was alone
   pub was_alone : (log : Log) (d : ℕ) (p o : ObjectId) (i : ℕ) (w : List ℕ) → IsLiveRun qsbr tabled (Object (Replace d p o i w) ∷ log) → IsDirectory (note_of log p) → chain_in log d ≡ p ∷ []
   was_alone log d p o i w run directory = alone_there log d p (each_sorted log d run.1) (in_objects (chain_in log d) p run.0.0.0) directory
