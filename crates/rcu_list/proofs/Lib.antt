@@ -4,3 +4,4 @@ pub mod Looking
 pub mod Values
 pub mod Windows
 pub mod Writing
+pub mod Lemmas
