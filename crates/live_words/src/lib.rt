@@ -14,7 +14,7 @@ pub use live_queues::{
     store_finished, store_queued,
 };
 pub use live_readers::{
-    load_present, lock, offline, online, quiescent, store_close, store_inner, store_open,
+    load_present, lock, look_slot, offline, online, quiescent, store_close, store_inner, store_open,
     store_quiescent, unlock,
 };
 pub use live_records::{
