@@ -126,6 +126,7 @@ impl GracePlan for MembPlan {
         MembPlan::grouped(Layout::Wide, slots, seq, word == 1)
     }
 
+    #[inline(always)]
     fn next(&self) -> Action {
         match self.place {
             Place::StoreOdd => Action::StoreSeq(self.odd),
@@ -136,6 +137,7 @@ impl GracePlan for MembPlan {
         }
     }
 
+    #[inline(always)]
     fn take(&mut self, loaded: u64) -> Turn {
         match self.place {
             Place::StoreOdd => self.place = Place::Flip,

@@ -69,6 +69,7 @@ impl Scan {
     }
 
     /// What is loaded behind a look, once its word was loaded; nothing, where the scan is over.
+    #[inline(always)]
     pub fn behind(self, look: Look, loaded: u64) -> Option<Look>
         ensures { result ≡ look_behind self look loaded }
     {
@@ -86,6 +87,7 @@ impl Scan {
     }
 
     /// The first slot of the group, from this one on, whose bit is set; or else the next group.
+    #[inline(always)]
     fn in_group(self, group: usize, bits: u64, from: usize) -> Option<Look>
         requires { (64 * group ≤ from) × (from ≤ 64 * group + 64) }
         ensures { result ≡ in_group self.slots group bits from }

@@ -117,6 +117,7 @@ impl GracePlan for QsbrPlan {
         QsbrPlan::grouped(slots, seq, word)
     }
 
+    #[inline(always)]
     fn next(&self) -> Action {
         match self.place {
             Place::StoreOdd => Action::StoreSeq(self.odd),
@@ -127,6 +128,7 @@ impl GracePlan for QsbrPlan {
         }
     }
 
+    #[inline(always)]
     fn take(&mut self, loaded: u64) -> Turn {
         match self.place {
             Place::StoreOdd => self.place = Place::Raise,

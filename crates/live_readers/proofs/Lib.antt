@@ -1,3 +1,4 @@
 pub mod Stores
 pub mod Sections
 mod Words
+mod Slots

@@ -1,5 +1,5 @@
 -- What a step of a reader tells.
-use Rattle.std.specs.Prelude.{◌≡◌, ℕ, ◌+◌, ◌-◌, Bool, true, false, [], ◌∷◌, ◌++◌}
+use Rattle.std.specs.Prelude.{◌≡◌, ℕ, ◌+◌, ◌-◌, ◌<◌, Bool, true, false, [], ◌∷◌, ◌++◌}
 use Rattle.atomic_table.specs.Table.{Me, Step}
 use Rattle.reader_word.specs.declared.layout.Layout.TheVariants.{Wide}
 use Rattle.reader_word.specs.Word.{number, phase_in}
@@ -8,9 +8,11 @@ use Rattle.live_log.specs.declared.event.LiveEvent.TheVariants.{Open, Close}
 use Rattle.live_log.specs.Log.{Log, Begins, open_of, sections_of, present_of}
 use Rattle.live_rule.specs.declared.view.View.{View}
 use Rattle.live_rule.specs.declared.rights.SlotRight.TheVariants.{Owns}
+use Rattle.live_rule.specs.Places.{slot_at}
 use Rattle.live_rule.specs.Readers.{Fits}
 use Rattle.live_rule.specs.Steps.{Wrote, at_log, Looked}
 use Rattle.live_table.specs.Rights.{count_in}
+use Rattle.live_table.specs.Steps.{Went, looked_view}
 
 -- the phase or number that an open word copied
 abbrev pub copied : Bool → ℕ → ℕ
@@ -46,6 +48,10 @@ module _ {S : Type 0} (qsbr : Bool) (allows : Log → LiveEvent → Type 0) wher
   -- the phase or number was loaded
   abbrev pub looked_present : Step S → Me S View → ℕ → Me S View → Type 0
   looked_present st m n m' = Looked qsbr allows m m' × (present_of m'.0.seen ≡ n)
+
+  -- the word of a slot was loaded, which is that of the slot's open section, if it has one
+  abbrev pub looked_slot : Step S → Me S View → ℕ → Me S View → Type 0
+  looked_slot st m n m' = Went qsbr allows (looked_view st.word n m.0) m m' × ((r : ℕ) → r < m.0.sizes.slots → st.word ≡ slot_at r → Fits qsbr n (open_of r m'.0.seen))
 
   -- the word of slot r was stored, these events were written, and the slot has had so many sections
   abbrev pub Stored : ℕ → ℕ → ℕ → Log → Me S View → Me S View → Type 0

@@ -8,4 +8,4 @@ mod steps;
 
 pub use announcements::{offline, online, quiescent};
 pub use locks::{lock, unlock};
-pub use steps::{load_present, store_close, store_inner, store_open, store_quiescent};
+pub use steps::{load_present, look_slot, store_close, store_inner, store_open, store_quiescent};

@@ -1,5 +1,5 @@
 //! What each step of a reader tells.
-ghost use Rattle.live_readers.specs.Sections.{announces, closes, looked_present, nests, opens, stored};
+ghost use Rattle.live_readers.specs.Sections.{announces, closes, looked_present, looked_slot, nests, opens, stored};
 
 use atomic_table::Play;
 use gp_memb::GracePlan;
@@ -11,6 +11,12 @@ pub(crate) struct LooksPresent<P, K>(PhantomData<(P, K)>);
 
 impl<P: GracePlan, K: ChainRule> Play<(), View> for LooksPresent<P, K> {
     ghost then = { looked_present P.QSBR K.allows };
+}
+
+pub(crate) struct LooksSlot<P, K>(PhantomData<(P, K)>);
+
+impl<P: GracePlan, K: ChainRule> Play<(), View> for LooksSlot<P, K> {
+    ghost then = { looked_slot P.QSBR K.allows };
 }
 
 pub(crate) struct Opens<P, K>(PhantomData<(P, K)>);

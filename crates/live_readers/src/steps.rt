@@ -2,14 +2,15 @@
 ghost use Rattle.std.specs.Prelude.{◌≡◌, ℕ, ◌<◌};
 ghost use Rattle.reader_word.specs.declared.layout.Layout.TheVariants.{Wide};
 ghost use Rattle.gp_memb.specs.Plan.{Shows};
-ghost use Rattle.live_log.specs.Log.{MayCopy, present_of};
-ghost use Rattle.live_rule.specs.Readers.{IsClosed};
+ghost use Rattle.live_log.specs.Log.{MayCopy, open_of, present_of};
+ghost use Rattle.live_rule.specs.Places.{slot_at};
+ghost use Rattle.live_rule.specs.Readers.{Fits, IsClosed};
 ghost use Rattle.live_rule.specs.Steps.{Looked};
-ghost use Rattle.live_table.specs.Steps.{Keeps};
+ghost use Rattle.live_table.specs.Steps.{Keeps, Went, looked_view};
 ghost use Rattle.live_table.specs.Rights.{IsOwner, word_in};
 ghost use Rattle.live_readers.specs.Sections.{Announced, Closed, Nested, Opened, copied};
 
-use crate::plays::{Announces, Closes, LooksPresent, Nests, Opens};
+use crate::plays::{Announces, Closes, LooksPresent, LooksSlot, Nests, Opens};
 use gp_memb::GracePlan;
 use live_log::ChainRule;
 use live_rule::LiveSeat;
@@ -24,6 +25,21 @@ pub fn load_present<P: GracePlan, K: ChainRule>(table: &LiveTable<P, K>, seat: &
 {
     let place = table.present_place();
     table.words.shared.load::<LooksPresent<P, K>>(seat, place)
+}
+
+/// Loads the word of a slot's reader, by any seat. What it found is kept among the looks.
+pub fn look_slot<P: GracePlan, K: ChainRule>(
+    table: &LiveTable<P, K>,
+    seat: &mut LiveSeat,
+    slot: usize,
+) -> u64
+    requires { (seat.old.table_id ≡ table.now.words.shared.table_id) × (seat.old.me.0.sizes ≡ table.now.words.shared.key) × (slot < table.now.slots) }
+    ensures seat { Keeps seat.old seat.new }
+    ensures looked { Went P.QSBR K.allows (looked_view (slot_at slot) result seat.old.me.0) seat.old.me seat.new.me }
+    ensures word { Fits P.QSBR result (open_of slot seat.new.me.0.seen) }
+{
+    let place = table.slot_place(slot);
+    table.words.shared.load::<LooksSlot<P, K>>(seat, place)
 }
 
 /// The store of an outermost lock, or of going online: it opens the slot's next section. What the word copied was

@@ -1,3 +1,2 @@
-pub mod Slots
 pub mod Loads
 pub mod Scans

@@ -1,7 +1,7 @@
 -- What a domain tells of itself.
 use Rattle.std.specs.Prelude.{◌≡◌, ◌≢◌, ℕ, zero, suc, ◌+◌, ◌%◌, ◌==◌, ◌<◌, ◌≤◌, Bool, if◌then◌else◌, List, [], ◌∷◌, ◌++◌, slice_index}
 use mathlib.Core.Option.{none}
-use Rattle.atomic_table.specs.Table.{Me, Step}
+use Rattle.atomic_table.specs.Table.{Me}
 use Rattle.rcu_model.specs.Sets.{In}
 use Rattle.reader_word.specs.declared.layout.Layout.TheVariants.{Wide}
 use Rattle.gp_memb.specs.Plan.{stands_before}
@@ -10,17 +10,11 @@ use Rattle.live_log.specs.Log.{Log, Begins, IsLiveRun, open_of, present_of, seq_
 use Rattle.live_rule.specs.declared.view.Sizes.{Sizes}
 use Rattle.live_rule.specs.declared.view.View.{View}
 use Rattle.live_rule.specs.Places.{cell_at, finished_at, queued_at, slot_at}
-use Rattle.live_rule.specs.Readers.{Fits}
-use Rattle.live_table.specs.Steps.{Went, looked_view}
 use Rattle.live_status.specs.declared.counting.Counts.{Counts}
 
 -- what was loaded, by its place, the last one first
 abbrev pub Looks : Type 0
 Looks = List (ℕ × ℕ)
-
--- the word of a slot was loaded, which is that of the slot's open section, if it has one
-abbrev pub looked_slot : {S : Type 0} → Bool → (Log → LiveEvent → Type 0) → Step S → Me S View → ℕ → Me S View → Type 0
-looked_slot qsbr allows st m n m' = Went qsbr allows (looked_view st.word n m.0) m m' × ((r : ℕ) → r < m.0.sizes.slots → st.word ≡ slot_at r → Fits qsbr n (open_of r m'.0.seen))
 
 -- these words were found, the last one first, and no less was seen
 abbrev pub HasFound : {S : Type 0} → Looks → Me S View → Me S View → Type 0

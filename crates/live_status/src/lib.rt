@@ -2,7 +2,6 @@
 //! What the words of a domain tell of it: how full it is, and which readers a grace period waits for.
 
 mod counting;
-mod looking;
 mod stalling;
 
 pub use counting::{Counts, count_all};

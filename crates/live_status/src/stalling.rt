@@ -6,9 +6,8 @@ ghost use Rattle.gp_memb.specs.Plan.{stands_before};
 ghost use Rattle.live_table.specs.Steps.{Keeps};
 ghost use Rattle.live_status.specs.Status.{Stalls};
 
-use crate::looking::look_slot;
 use gp_memb::GracePlan;
-use live_words::{ChainRule, LiveSeat, LiveTable, load_present, load_seq};
+use live_words::{ChainRule, LiveSeat, LiveTable, load_present, load_seq, look_slot};
 use rcu_model::Refusal;
 use reader_word::{Layout, qs_stands_in_way, stands_in_way};
 use std::alloc::Global;

@@ -9,6 +9,8 @@ pub struct Counts {
     pub finished: u64,
     /// The records that a reader found with words that differ.
     pub mixed: u64,
+    /// The updaters that ended because no record became free.
+    pub starved: u64,
 }
 
 /// Nothing was counted yet.
@@ -16,6 +18,7 @@ pub(crate) const NOTHING: Counts = Counts {
     retired: 0,
     finished: 0,
     mixed: 0,
+    starved: 0,
 };
 
 impl Counts {
@@ -25,6 +28,7 @@ impl Counts {
             retired: self.retired.saturating_add(other.retired),
             finished: self.finished.saturating_add(other.finished),
             mixed: self.mixed.saturating_add(other.mixed),
+            starved: self.starved.saturating_add(other.starved),
         }
     }
 }

@@ -46,7 +46,7 @@ fn update<P: GracePlan + Drop, B: Site, R: Wait + Clock, W: Watch>(
     record: &mut Record<B>,
     chain: usize,
 ) -> Result<Counts, Refusal> {
-    let retired = updates(
+    let done = updates(
         rt,
         shared.domain,
         record,
@@ -59,8 +59,10 @@ fn update<P: GracePlan + Drop, B: Site, R: Wait + Clock, W: Watch>(
     if before == u64::from(shared.load.updaters - 1) {
         shared.domain.close(rt, record);
     }
+    let done = done?;
     Ok(Counts {
-        retired: retired?,
+        retired: done.retired,
+        starved: u64::from(done.starved),
         ..NOTHING
     })
 }

@@ -21,6 +21,7 @@ fn without_fault(retired: u64) -> Counts {
         retired,
         finished: retired,
         mixed: 0,
+        starved: 0,
     }
 }
 

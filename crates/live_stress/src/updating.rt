@@ -20,6 +20,15 @@ const BETWEEN: u32 = 16_384;
 /// After so many tries in a row with no free record an updater ends.
 const MOST_TRIES: u32 = 1_000_000;
 
+/// What an updater did.
+#[derive(Clone, Copy, Drop)]
+pub(crate) struct Updated {
+    /// How many records it retired.
+    pub(crate) retired: u64,
+    /// Whether it ended because no record became free.
+    pub(crate) starved: bool,
+}
+
 /// A record whose four words are this one, as soon as one is free.
 ///
 /// Refused as `alloc`, with `PoolFull` after so many tries.
@@ -57,7 +66,7 @@ fn one_round<P: GracePlan + Drop, B: Site, R: Wait>(
     }
 }
 
-/// Round after round, until all are done, the time is over, or the pool stays full. How many were done.
+/// Round after round, until all are done, the time is over, or the pool stays full.
 fn rounds<P: GracePlan + Drop, B: Site, R: Wait + Clock, W: Watch>(
     rt: &R,
     domain: &Domain<P, AnyChain, B, RoundDone>,
@@ -66,28 +75,38 @@ fn rounds<P: GracePlan + Drop, B: Site, R: Wait + Clock, W: Watch>(
     load: &Load,
     deadline: &Deadline,
     watch: Option<&W>,
-) -> Result<u64, Refusal>
-    ensures { IfOk result (λ retired. retired ≤ load.now.rounds) }
+) -> Result<Updated, Refusal>
+    ensures { IfOk result (λ done. done.retired ≤ load.now.rounds) }
 {
     for number in 0..load.rounds {
         let done = u64::from(number);
         if deadline.is_over(rt) {
-            return Ok(done);
+            return Ok(Updated {
+                retired: done,
+                starved: false,
+            });
         }
         match one_round(rt, domain, record, writer, done + 1) {
             Ok(()) => {}
-            Err(Refusal::PoolFull) => return Ok(done),
+            Err(Refusal::PoolFull) => {
+                return Ok(Updated {
+                    retired: done,
+                    starved: true,
+                });
+            }
             Err(refusal) => return Err(refusal),
         }
         if let (Some(watch), 0) = (watch, (number + 1) % BETWEEN) {
             watch.hear(number + 1);
         }
     }
-    Ok(u64::from(load.rounds))
+    Ok(Updated {
+        retired: u64::from(load.rounds),
+        starved: false,
+    })
 }
 
-/// What an updater does: it pushes a record of four zeros on its chain, and makes its rounds. How many records it
-/// retired.
+/// What an updater does: it pushes a record of four zeros on its chain, and makes its rounds.
 pub(crate) fn updates<P: GracePlan + Drop, B: Site, R: Wait + Clock, W: Watch>(
     rt: &R,
     domain: &Domain<P, AnyChain, B, RoundDone>,
@@ -96,15 +115,20 @@ pub(crate) fn updates<P: GracePlan + Drop, B: Site, R: Wait + Clock, W: Watch>(
     load: &Load,
     deadline: &Deadline,
     watch: Option<&W>,
-) -> Result<u64, Refusal>
-    ensures { IfOk result (λ retired. retired ≤ load.now.rounds) }
+) -> Result<Updated, Refusal>
+    ensures { IfOk result (λ done. done.retired ≤ load.now.rounds) }
 {
     let mut writer = domain.chain(record, chain)?;
     match allocates(rt, domain, record, 0) {
         Ok(owned) => {
             writer.push(record, owned);
         }
-        Err(Refusal::PoolFull) => return Ok(0),
+        Err(Refusal::PoolFull) => {
+            return Ok(Updated {
+                retired: 0,
+                starved: true,
+            });
+        }
         Err(refusal) => return Err(refusal),
     }
     rounds(rt, domain, record, &mut writer, load, deadline, watch)

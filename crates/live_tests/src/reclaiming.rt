@@ -56,7 +56,7 @@ fn pushes<B: Site, R: Wait>(
     Ok(())
 }
 
-/// The tickets of a replacement, of a cut, and of what was cut before and is retired alone, in one queue.
+/// The tickets of a replacement, and of what was cut before and is retired by each name of the call, in one queue.
 fn three<B: Site, R: Wait>(
     rt: &R,
     domain: &Domain<MembPlan, AnyChain, B, Adds>,
@@ -68,14 +68,15 @@ fn three<B: Site, R: Wait>(
     let Ok(replaced) = domain.replace_retire(rt, record, &mut writer, 0, owned, Adds(1)) else {
         return Err(Refusal::Memory);
     };
-    let Ok(cut) = domain.cut_retire(rt, record, &mut writer, 0, Adds(2)) else {
+    let unlinked = writer.cut(record, 0)?;
+    let Ok(alone) = domain.retire(rt, record, unlinked, Adds(2)) else {
         return Err(Refusal::Memory);
     };
     let unlinked = writer.cut(record, 0)?;
-    let Ok(alone) = domain.rcu_retire(rt, record, unlinked, Adds(3)) else {
+    let Ok(last) = domain.rcu_retire(rt, record, unlinked, Adds(3)) else {
         return Err(Refusal::Memory);
     };
-    Ok([replaced.0, cut.0, alone.0])
+    Ok([replaced.0, alone.0, last.0])
 }
 
 fn three_tickets<B: Site, R: Wait>(
@@ -252,6 +253,83 @@ fn a_worker_runs_what_a_closed_queue_has(rt: HostRuntime) {
     };
     assert_eq!(rt; ticket, 1);
     assert_eq!(rt; end, (1, Some(entry), 0, Stop::Closed));
+}
+
+/// The ticket of an object of these words that is cut and retired on chain 0; then the queues are closed.
+fn retires_and_closes<B: Site, R: Wait>(
+    rt: &R,
+    domain: &Domain<MembPlan, AnyChain, B, Adds>,
+    record: &mut Record<B>,
+    words: [u64; 4],
+) -> Result<u64, Refusal> {
+    let owned = domain.alloc(rt, record, words)?;
+    let mut writer = domain.chain(record, 0)?;
+    writer.push(record, owned);
+    let Ok(ticket) = domain.cut_retire(rt, record, &mut writer, 0, Adds(0)) else {
+        return Err(Refusal::Memory);
+    };
+    domain.close(rt, record);
+    Ok(ticket.0)
+}
+
+/// Whether a second object, which was cut, is refused by a closed queue, and comes back with its deleter.
+fn refuses_the_second<B: Site, R: Wait>(
+    rt: &R,
+    domain: &Domain<MembPlan, AnyChain, B, Adds>,
+    record: &mut Record<B>,
+) -> Result<bool, Refusal> {
+    let unlinked = cut_one(rt, domain, record, 1, 7)?;
+    let Err((refusal, mut unlinked, back)) = domain.retire(rt, record, unlinked, Adds(8)) else {
+        return Ok(false);
+    };
+    Ok(refusal == Refusal::Closed && domain.object(&mut unlinked).0 == 2 && back.0 == 8)
+}
+
+/// Whether a cut past the end of a chain of one object is refused as that, also where the queue is closed; its deleter
+/// comes back, and the chain is as long as before.
+fn refuses_past_one<B: Site, R: Wait>(
+    rt: &R,
+    domain: &Domain<MembPlan, AnyChain, B, Adds>,
+    record: &mut Record<B>,
+) -> Result<bool, Refusal> {
+    let owned = domain.alloc(rt, record, [9, 0, 0, 0])?;
+    let mut writer = domain.chain(record, 0)?;
+    writer.push(record, owned);
+    let Err((refusal, back)) = domain.cut_retire(rt, record, &mut writer, 1, Adds(9)) else {
+        return Ok(false);
+    };
+    Ok(refusal == Refusal::NoPlace && back.0 == 9 && writer.len() == 1)
+}
+
+/// One queue to its end: its first ticket; whether it is refused what comes once it is closed, a worker of a second
+/// queue, and a cut past the end of a chain; and what its worker ended with.
+fn one_queue<B: Site, R: Wait>(
+    rt: &R,
+    alloc: Global,
+    opened: Opened<MembPlan, AnyChain>,
+) -> Result<(u64, [bool; 3], (usize, Option<Finished>, usize, Stop)), Refusal>
+    requires { (B.qsbr ≡ false) × (opened.table.words.shared.table_id ≡ B.table) × (opened.table.words.shared.key ≡ B.sizes) }
+{
+    let (domain, mut record) = opened.named::<B, Adds>(alloc)?;
+    let ticket = retires_and_closes(rt, &domain, &mut record, [5, 0, 0, 0])?;
+    let closed = refuses_the_second(rt, &domain, &mut record)?;
+    let end = domain.run_worker(rt, alloc, &mut record, 0)?;
+    let absent = domain.run_worker(rt, alloc, &mut record, 1);
+    let past = refuses_past_one(rt, &domain, &mut record)?;
+    let nobody = matches!(absent, Err(Refusal::NoActor));
+    Ok((ticket, [closed, nobody, past], told(&end)))
+}
+
+#[test]
+fn one_queue_from_its_first_ticket_to_its_end(rt: HostRuntime) {
+    let opened = Opened::<MembPlan, AnyChain>::new(rt.alloc(), of_queues(1)).expect(&rt, "memory");
+    let done = one_queue::<Brand, _>(&rt, rt.alloc(), opened).expect(&rt, "not refused");
+    let entry = Finished {
+        ticket: Ticket(1),
+        object: ObjectId(1),
+        code: 5,
+    };
+    assert_eq!(rt; done, (1, [true; 3], (1, Some(entry), 0, Stop::Closed)));
 }
 
 /// Whether a worker of a queue that is not there is refused, and one of an empty closed queue ends at once, twice.

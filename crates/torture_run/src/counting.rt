@@ -28,14 +28,15 @@ impl fmt::Display for CountsLine {
     }
 }
 
-/// Whether the counts are those of a run without a fault: all that was retired has run, no record was found mixed, and
-/// where no time was said each updater made all its rounds.
+/// Whether the counts are those of a run without a fault: all that was retired has run, no record was found mixed, no
+/// updater ended because no record became free, and where no time was said each one made all its rounds.
 pub(crate) fn are_right(run: &Run, counts: Counts) -> bool
     ensures { result ≡ are_right run.now counts }
 {
     let whole = u64::from(run.load.updaters) * u64::from(run.load.rounds);
     counts.retired == counts.finished
         && counts.mixed == 0
+        && counts.starved == 0
         && (run.load.seconds.is_some() || counts.retired == whole)
 }
 

@@ -10,7 +10,7 @@ use Rattle.live_rule.specs.Readers.{Fits}
 use Rattle.live_rule.specs.Rule.{KeepsRule}
 use Rattle.live_rule.proofs.Lemmas.{looks, look_all}
 use Rattle.live_table.specs.Steps.{looked_view}
-use Rattle.live_status.specs.Status.{looked_slot}
+use Rattle.live_readers.specs.Sections.{looked_slot}
 
 module _ {S : Type 0} (qsbr : Bool) (allows : Log → LiveEvent → Type 0) (key : Sizes) where
   abbrev Rule : State S View → Type 0

@@ -1,7 +1,7 @@
 use Rattle.std.proofs.Common.{ap, sym, arith}
 use Rattle.live_rule.specs.declared.view.Sizes.{Sizes}
-use Rattle.live_status.proofs.Slots.{looks_slot}
-use Rattle.live_status.proofs.looking.look_slot.Goals as goal
+use Rattle.live_readers.proofs.Slots.{looks_slot}
+use Rattle.live_readers.proofs.steps.look_slot.Goals as goal
 
 pub load-requires : goal.load-requires
 load-requires g c = (c.requires.0, c.slot_place-place.ensures.1, looks_slot g.P.GracePlan.QSBR g.K.ChainRule.allows _ _ _ _ _ c.requires.1)

@@ -1,0 +1,201 @@
+//! What the benchmark holds the live library against in Rust: crossbeam-epoch, arc-swap, and std's lock. Built by
+//! bench/live. It takes the words of `../peers.c`: peers PEER KIND COUNT THREADS.
+
+use arc_swap::ArcSwap;
+use crossbeam_epoch::{pin, Atomic, Owned};
+use std::hint::black_box;
+use std::process::ExitCode;
+use std::sync::atomic::{AtomicBool, Ordering};
+use std::sync::{Arc, PoisonError, RwLock};
+use std::{env, mem, thread};
+
+const KINDS: [&str; 4] = ["section", "read", "retire", "mix"];
+
+/// One operation of so many is an update.
+const UPDATE_EVERY: u64 = 100;
+
+/// A record of four words.
+struct Words([u64; 4]);
+
+impl Words {
+    fn look_into(&self) -> u64 {
+        let [key, value, rank, last] = self.0;
+        key ^ value ^ rank ^ last
+    }
+}
+
+/// A place with a record, which threads read while another record is put there.
+trait Place: Sync {
+    /// With a record of zeros.
+    fn new() -> Self;
+
+    /// A section with nothing in it.
+    fn section(&self);
+
+    /// What a section finds in the record.
+    fn read(&self) -> u64;
+
+    /// A record of four times this word takes the place of the other, which is freed once nobody reads it.
+    fn replace(&self, word: u64);
+
+    /// Waits until all that this thread replaced is freed.
+    fn settle() {}
+}
+
+/// Of crossbeam-epoch.
+struct Epoch(Atomic<Words>);
+
+impl Place for Epoch {
+    fn new() -> Self {
+        Epoch(Atomic::new(Words([0; 4])))
+    }
+
+    fn section(&self) {
+        black_box(&pin());
+    }
+
+    fn read(&self) -> u64 {
+        let guard = pin();
+        // What a place has is there until it is replaced, and then until this guard is dropped.
+        unsafe { self.0.load(Ordering::Acquire, &guard).deref() }.look_into()
+    }
+
+    fn replace(&self, word: u64) {
+        let guard = pin();
+        let old = self.0.swap(Owned::new(Words([word; 4])), Ordering::AcqRel, &guard);
+        // It is in no place any more.
+        unsafe { guard.defer_destroy(old) };
+    }
+
+    fn settle() {
+        let done = Arc::new(AtomicBool::new(false));
+        let told = done.clone();
+        // Called after all that this thread deferred before.
+        pin().defer(move || told.store(true, Ordering::Release));
+        while !done.load(Ordering::Acquire) {
+            pin().flush();
+            thread::yield_now();
+        }
+    }
+}
+
+/// Of arc-swap, where a section is a load of what the place has.
+struct Swapped(ArcSwap<Words>);
+
+impl Place for Swapped {
+    fn new() -> Self {
+        Swapped(ArcSwap::from_pointee(Words([0; 4])))
+    }
+
+    fn section(&self) {
+        black_box(&self.0.load());
+    }
+
+    fn read(&self) -> u64 {
+        self.0.load().look_into()
+    }
+
+    fn replace(&self, word: u64) {
+        self.0.store(Arc::new(Words([word; 4])));
+    }
+}
+
+/// Of std's lock.
+struct Locked(RwLock<Box<Words>>);
+
+impl Place for Locked {
+    fn new() -> Self {
+        Locked(RwLock::new(Box::new(Words([0; 4]))))
+    }
+
+    fn section(&self) {
+        black_box(&self.0.read());
+    }
+
+    fn read(&self) -> u64 {
+        self.0.read().unwrap_or_else(PoisonError::into_inner).look_into()
+    }
+
+    fn replace(&self, word: u64) {
+        let new = Box::new(Words([word; 4]));
+        let old = mem::replace(&mut *self.0.write().unwrap_or_else(PoisonError::into_inner), new);
+        // With the lock free again.
+        drop(old);
+    }
+}
+
+/// A place in cache lines of its own.
+#[repr(align(128))]
+struct Apart<P>(P);
+
+fn repeat(count: u64, operation: impl FnMut(u64)) {
+    (0..count).for_each(operation);
+}
+
+/// Reads the places in turn, and updates its own once in 100 times.
+fn mix<P: Place>(places: &[Apart<P>], own: &P, count: u64) {
+    repeat(count, |number| {
+        if number % UPDATE_EVERY == 0 {
+            own.replace(number);
+        } else {
+            black_box(places[number as usize % places.len()].0.read());
+        }
+    });
+}
+
+/// What one thread does.
+fn part<P: Place>(kind: &str, places: &[Apart<P>], own: &P, count: u64) {
+    let first = &places[0].0;
+    match kind {
+        "section" => repeat(count, |_| first.section()),
+        "read" => repeat(count, |_| {
+            black_box(first.read());
+        }),
+        "retire" => repeat(count, |number| own.replace(number)),
+        _ => mix(places, own, count),
+    }
+    P::settle();
+}
+
+/// So many threads, with a place each.
+fn run<P: Place>(kind: &str, count: u64, threads: usize) {
+    let places: Vec<Apart<P>> = (0..threads).map(|_| Apart(P::new())).collect();
+    thread::scope(|scope| {
+        for own in &places {
+            scope.spawn(|| part(kind, &places, &own.0, count));
+        }
+    });
+}
+
+type Run = fn(&str, u64, usize);
+
+const PEERS: [(&str, Run); 3] = [
+    ("crossbeam-epoch", run::<Epoch>),
+    ("arc-swap", run::<Swapped>),
+    ("std-rwlock", run::<Locked>),
+];
+
+/// Runs what the words name.
+fn run_words(words: &[String]) -> Option<()> {
+    let [peer, kind, count, threads] = words else {
+        return None;
+    };
+    let (_, run) = PEERS.iter().find(|it| it.0 == peer)?;
+    let kind = KINDS.iter().find(|it| *it == kind)?;
+    run(kind, count.parse().ok()?, threads.parse().ok()?);
+    Some(())
+}
+
+fn main() -> ExitCode {
+    let words: Vec<String> = env::args().skip(1).collect();
+    if words.len() != 4 {
+        for (peer, _) in PEERS {
+            KINDS.iter().for_each(|kind| println!("{peer} {kind}"));
+        }
+        return ExitCode::SUCCESS;
+    }
+    match run_words(&words) {
+        Some(()) => ExitCode::SUCCESS,
+        None => ExitCode::from(2),
+    }
+}
