@@ -1,5 +1,5 @@
 /* What the benchmark holds the live library against: liburcu's flavours where they are installed, pthread_rwlock, and the
-   bare steps of a section. Built by bench/live. Usage: peers PEER KIND COUNT THREADS. */
+   bare steps of a section and of a grace period. Built by bench/live. Usage: peers PEER KIND COUNT THREADS. */
 
 #define _GNU_SOURCE
 #include <pthread.h>
@@ -15,6 +15,7 @@
 #include <urcu/urcu-mb.h>
 #include <urcu/urcu-memb.h>
 #include <urcu/urcu-qsbr.h>
+#include <urcu/rculist.h>
 #endif
 
 static unsigned long count;
@@ -46,6 +47,43 @@ static void bare_nested(void)
 	for (unsigned long i = 0; i < count; i++) {
 		atomic_exchange(word, 2);
 		atomic_exchange(word, 1);
+	}
+}
+
+/* The bare steps of a grace period, two readers in 256 slots: a lock, the number odd, a flip, each group word and the
+   slots whose bit is set, a flip back, the same again, the number even. Nobody is in the way. */
+static _Alignas(128) atomic_ulong number;
+static _Alignas(128) atomic_ulong groups[4];
+static pthread_mutex_t grace = PTHREAD_MUTEX_INITIALIZER;
+
+static unsigned long bare_scan(void)
+{
+	unsigned long in_the_way = 0;
+	for (unsigned long g = 0; g < 4; g++)
+		for (unsigned long bits = atomic_load(&groups[g]); bits; bits &= bits - 1)
+			in_the_way |= atomic_load(&slots[64 * g + (unsigned long) __builtin_ctzl(bits)].word) & 0xffff;
+	return in_the_way;
+}
+
+static void bare_synchronize(void)
+{
+	atomic_store(&groups[0], 3);
+	for (unsigned long i = 0; i < count; i++) {
+		unsigned long cookie = (atomic_load(&number) + 3) & ~1ul;
+		pthread_mutex_lock(&grace);
+		unsigned long seq = atomic_load(&number);
+		if (seq < cookie) {
+			unsigned long phase = atomic_load(&present);
+			atomic_exchange(&number, seq + 1);
+			atomic_exchange(&present, phase ^ 1);
+			while (bare_scan())
+				sched_yield();
+			atomic_exchange(&present, phase);
+			while (bare_scan())
+				sched_yield();
+			atomic_exchange(&number, seq + 2);
+		}
+		pthread_mutex_unlock(&grace);
 	}
 }
 
@@ -325,6 +363,48 @@ RECLAIM(mb)
 RECLAIM(memb)
 RECLAIM(qsbr)
 
+/* A list of nodes of four words: a step along 1,000 of them, one that is put in front, and one that is taken out too. */
+struct item {
+	struct cds_list_head link;
+	unsigned long words[4];
+};
+static CDS_LIST_HEAD(items);
+
+static struct item *add_item(unsigned long word)
+{
+	struct item *item = malloc(sizeof *item);
+	for (int k = 0; k < 4; k++)
+		item->words[k] = word;
+	cds_list_add_rcu(&item->link, &items);
+	return item;
+}
+
+static void list_push(void)
+{
+	for (unsigned long i = 0; i < count; i++)
+		add_item(i);
+}
+
+static void list_cut(void)
+{
+	for (unsigned long i = 0; i < count; i++)
+		cds_list_del_rcu(&add_item(i)->link);
+}
+
+static void mb_walk(void)
+{
+	for (int i = 0; i < 1000; i++)
+		add_item(i);
+	urcu_mb_register_thread();
+	urcu_mb_read_lock();
+	struct cds_list_head *at = &items;
+	for (unsigned long i = 0; i < count; i++)
+		at = rcu_dereference(at->next);
+	sink = (unsigned long) at;
+	urcu_mb_read_unlock();
+	urcu_mb_unregister_thread();
+}
+
 /* Polls came with liburcu 0.14. */
 #if __has_include(<urcu/urcu-poll.h>)
 #define HAS_POLL
@@ -362,6 +442,7 @@ static const struct {
 	{ "bare", "read", bare_read },
 	{ "bare", "further-read", bare_further_read },
 	{ "bare", "walk", bare_walk },
+	{ "bare", "synchronize", bare_synchronize },
 	{ "rwlock", "section", rwlock_section },
 #ifdef HAS_URCU
 	{ "mb", "section", mb_section },
@@ -376,6 +457,9 @@ static const struct {
 	{ "qsbr", "read", qsbr_read },
 	{ "qsbr", "announcement", qsbr_announcement },
 	{ "qsbr", "synchronize", qsbr_synchronize },
+	{ "mb", "walk", mb_walk },
+	{ "mb", "push", list_push },
+	{ "mb", "cut", list_cut },
 	{ "mb", "queue", mb_queue },
 	{ "mb", "retire", mb_retire },
 	{ "mb", "retire-boxed", mb_retire },
