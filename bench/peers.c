@@ -1,5 +1,5 @@
 /* What the benchmark holds the live library against: liburcu's flavours where they are installed, pthread_rwlock, and the
-   bare steps of a section. Built by bench/live. Usage: peers PEER KIND COUNT THREADS. */
+   bare steps of a section and of a grace period. Built by bench/live. Usage: peers PEER KIND COUNT THREADS. */
 
 #define _GNU_SOURCE
 #include <pthread.h>
@@ -46,6 +46,43 @@ static void bare_nested(void)
 	for (unsigned long i = 0; i < count; i++) {
 		atomic_exchange(word, 2);
 		atomic_exchange(word, 1);
+	}
+}
+
+/* The bare steps of a grace period, two readers in 256 slots: a lock, the number odd, a flip, each group word and the
+   slots whose bit is set, a flip back, the same again, the number even. Nobody is in the way. */
+static _Alignas(128) atomic_ulong number;
+static _Alignas(128) atomic_ulong groups[4];
+static pthread_mutex_t grace = PTHREAD_MUTEX_INITIALIZER;
+
+static unsigned long bare_scan(void)
+{
+	unsigned long in_the_way = 0;
+	for (unsigned long g = 0; g < 4; g++)
+		for (unsigned long bits = atomic_load(&groups[g]); bits; bits &= bits - 1)
+			in_the_way |= atomic_load(&slots[64 * g + (unsigned long) __builtin_ctzl(bits)].word) & 0xffff;
+	return in_the_way;
+}
+
+static void bare_synchronize(void)
+{
+	atomic_store(&groups[0], 3);
+	for (unsigned long i = 0; i < count; i++) {
+		unsigned long cookie = (atomic_load(&number) + 3) & ~1ul;
+		pthread_mutex_lock(&grace);
+		unsigned long seq = atomic_load(&number);
+		if (seq < cookie) {
+			unsigned long phase = atomic_load(&present);
+			atomic_exchange(&number, seq + 1);
+			atomic_exchange(&present, phase ^ 1);
+			while (bare_scan())
+				sched_yield();
+			atomic_exchange(&present, phase);
+			while (bare_scan())
+				sched_yield();
+			atomic_exchange(&number, seq + 2);
+		}
+		pthread_mutex_unlock(&grace);
 	}
 }
 
@@ -362,6 +399,7 @@ static const struct {
 	{ "bare", "read", bare_read },
 	{ "bare", "further-read", bare_further_read },
 	{ "bare", "walk", bare_walk },
+	{ "bare", "synchronize", bare_synchronize },
 	{ "rwlock", "section", rwlock_section },
 #ifdef HAS_URCU
 	{ "mb", "section", mb_section },

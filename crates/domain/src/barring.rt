@@ -2,7 +2,7 @@
 
 ghost use Rattle.std.specs.Prelude.{◌≡◌, ◌++◌, IsTrue, List, MatchBool, ℕ};
 ghost use Rattle.live_log.specs.Log.{Begins};
-ghost use Rattle.live_barrier.specs.Barrier.{AreReached, HaveAllRun, WasLess, WereGiven};
+ghost use Rattle.live_barrier.specs.Barrier.{AreNoted, AreReached, HaveAllRun, WasLess, WereGiven};
 ghost use Rattle.live_read.specs.Hearing.{IsAfter, Stays};
 ghost use Rattle.domain.specs.Barriers.{Barred};
 
@@ -22,6 +22,7 @@ impl<P: GracePlan + Drop, K: ChainRule, B: Site, D: Deleter> Domain<P, K, B, D> 
         requires { W.home witness.old ≡ (B.table, B.sizes) }
         ensures asked { Begins (W.seen witness.old) result.asked.value.me.0.seen × Begins (W.heard witness.old) result.asked.value.me.0.seen × Begins result.asked.value.me.0.seen (W.heard witness.new) × (result.asked.value.me.0.sizes ≡ B.sizes) }
         ensures given { WereGiven B.sizes result.counts (W.heard witness.new) }
+        ensures noted { (since : List (ℕ × ℕ)) × (W.looks witness.new ≡ since ++ W.looks witness.old) × AreNoted B.sizes result.counts B.sizes.queues since }
         ensures heard { IsAfter P.QSBR K.allows (W.seen witness.old) (W.heard witness.old) (W.heard witness.new) }
         ensures same { Stays W.Witness witness.old witness.new × (W.loads witness.new ≡ W.loads witness.old) }
     {

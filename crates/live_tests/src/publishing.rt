@@ -307,12 +307,13 @@ fn thins<B: Site + Send + Sync, R: Threads + Wait + Sync>(
     Ok((pushed, whole, cut))
 }
 
-/// What is refused: a second record of one, a chain that is held, one that is not there, and an index past the end.
+/// What is refused: a second record of one, a chain that is held, one that is not there, and an index past the end. A
+/// record that was to replace what is not there comes back.
 fn refuses<B: Site, R: Wait>(
     rt: &R,
     alloc: Global,
     opened: Opened<MembPlan, AnyChain>,
-) -> Result<[bool; 6], Refusal>
+) -> Result<[bool; 8], Refusal>
     requires { (B.qsbr ≡ false) × (opened.table.words.shared.table_id ≡ B.table) × (opened.table.words.shared.key ≡ B.sizes) }
 {
     let (domain, mut record) = opened.named::<B, Adds>(alloc)?;
@@ -322,14 +323,26 @@ fn refuses<B: Site, R: Wait>(
         Err(Refusal::PoolFull)
     );
     domain.discard(&mut record, owned);
-    let again = domain.alloc(rt, &mut record, [6; 4]).is_ok();
+    let again = domain.alloc(rt, &mut record, [6; 4])?;
     let mut writer = domain.chain(&mut record, 0)?;
     let held = matches!(domain.chain(&mut record, 0), Err(Refusal::Busy));
     let absent = matches!(domain.chain(&mut record, 2), Err(Refusal::NoPlace));
     let past = matches!(writer.cut(&mut record, 0), Err(Refusal::NoPlace));
+    let missing = match writer.replace(&mut record, 0, again) {
+        Ok(_) => false,
+        Err((refusal, owned)) => {
+            domain.discard(&mut record, owned);
+            matches!(refusal, Refusal::NoPlace)
+        }
+    };
+    let back = domain.alloc(rt, &mut record, [7; 4]).is_ok();
     drop(writer);
     let free = domain.chain(&mut record, 0).is_ok();
-    Ok([second, again, held, absent, past, free])
+    let mut reader = domain.register(rt, &mut record)?;
+    let mut section = reader.section()?;
+    let unread = matches!(section.first(2), Err(Refusal::NoPlace));
+    section.close();
+    Ok([second, held, absent, past, missing, back, free, unread])
 }
 
 /// What a writer and a section tell of one chain: two are pushed, the first is replaced, and the second cut.
@@ -384,7 +397,7 @@ fn what_is_not_there_is_refused(rt: HostRuntime) {
         &rt, "memory",
     );
     let refused = refuses::<Brand, _>(&rt, rt.alloc(), opened).expect(&rt, "not refused");
-    assert_eq!(rt; refused, [true; 6]);
+    assert_eq!(rt; refused, [true; 8]);
 }
 
 #[test]

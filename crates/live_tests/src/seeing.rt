@@ -128,7 +128,20 @@ fn retires<B: Site, R: Wait, D: Deleter>(
     Ok(())
 }
 
-/// The counts while a callback runs.
+/// Takes the locks of the queues, of grace periods and of the registry, one after the other: it would wait for ever for
+/// one that whoever calls a callback held.
+fn takes_each_lock<B: Site, R: Wait, D: Deleter>(
+    rt: &R,
+    domain: &Domain<MembPlan, AnyChain, B, D>,
+    record: &mut Record<B>,
+) -> Result<(), Refusal> {
+    domain.close(rt, record);
+    domain.synchronize(rt, record)?;
+    domain.register(rt, record)?;
+    Ok(())
+}
+
+/// The counts while a callback runs, which is called with no lock held.
 fn counts_within<B: Site + Send + Sync, R: Threads + Wait + Sync, D: Deleter + Send>(
     rt: &R,
     alloc: Global,
@@ -146,12 +159,13 @@ fn counts_within<B: Site + Send + Sync, R: Threads + Wait + Sync, D: Deleter + S
         move || {
             until_raised(entered);
             let counts = domain.counts(&mut other);
+            let free = takes_each_lock(rt, domain, &mut other);
             seen.store(1, Ordering::SeqCst);
-            counts
+            free.map(|()| counts)
         },
     );
     if worked? == 1 {
-        Ok(counts)
+        counts
     } else {
         Err(Refusal::Busy)
     }

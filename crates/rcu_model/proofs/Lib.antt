@@ -23,5 +23,6 @@ pub mod ObjectsTables
 pub mod ObjectsLinking
 pub mod ObjectsStores
 pub mod ObjectsStages
+pub mod RunOrder
 mod Sizes
 pub mod Lemmas
