@@ -32,6 +32,8 @@ mod registering;
 #[cfg(test)]
 mod seeing;
 #[cfg(test)]
+mod tables;
+#[cfg(test)]
 mod threads;
 #[cfg(test)]
 mod words;
