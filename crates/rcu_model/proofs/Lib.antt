@@ -13,6 +13,7 @@ pub mod Fitting
 pub mod Awaiting
 pub mod Endings
 pub mod Rosters
+pub mod Places
 pub mod SectionLemmas
 pub mod WaitLemmas
 pub mod HoldingLemmas

@@ -12,6 +12,7 @@ mod printing;
 mod refusal;
 mod roster;
 mod sections;
+mod seen;
 mod states;
 mod verdict;
 mod waits;
