@@ -24,5 +24,6 @@ pub mod ObjectsTables
 pub mod ObjectsLinking
 pub mod ObjectsStores
 pub mod ObjectsStages
+pub mod ObjectsKept
 mod Sizes
 pub mod Lemmas

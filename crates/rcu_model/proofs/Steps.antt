@@ -16,15 +16,12 @@ use Rattle.rcu_model.specs.Roster.{IsThere, HaveLeft, Rostered, Awaits}
 use Rattle.rcu_model.specs.Sections.{AreSections, AwaitsSections, Opens, Closes}
 use Rattle.rcu_model.specs.Holdings.{HasGot}
 use Rattle.rcu_model.specs.Waits.{AreWaits, IsPending, Begins, Ends}
-use Rattle.rcu_model.specs.declared.object.ObjectState.{ObjectState}
-use Rattle.rcu_model.specs.declared.object.Stage.{Stage}
-use Rattle.rcu_model.specs.declared.object.Stage.TheVariants.{Linked, Cut as IsCut, Retired, Queued, Reclaimed}
 use Rattle.rcu_model.specs.declared.object.Waiting.{Waiting}
-use Rattle.rcu_model.specs.Objects.{Knows, IsReached, FindsSuccessor, FindsWaiting, states_of, says, is_queued, is_reclaimed}
+use Rattle.rcu_model.specs.Objects.{Knows, IsReached, FindsSuccessor, FindsWaiting}
 use Rattle.rcu_model.specs.Checker.{AreHeld, Follows, Goes, Gets, GetsIn}
 use Rattle.rcu_model.proofs.Members.{In, Tells, section_tells, object_tells, in_sections, has_section_in, in_objects, has_object_in, empty_from}
 use Rattle.rcu_model.proofs.SetLemmas.{filter_has, has_filter, without_object_has, has_without_object, at_number_same, at_number_other, at_section_same, at_section_other, at_object_same, at_object_other}
-use Rattle.rcu_model.proofs.Safety.{Kept, kept_log, SafeIn, linked, cut_last, cut_before}
+use Rattle.rcu_model.proofs.Safety.{Kept, kept_log, SafeIn, linked, cut_last, cut_before, not_reclaimed}
 use Rattle.rcu_model.proofs.Rosters.{none_awaited, all_have_left, awaits_here, rostered_arrive, awaits_arrive, rostered_leave, awaits_leave}
 use Rattle.rcu_model.proofs.SectionLemmas.{has_last, has_without}
 
@@ -184,21 +181,6 @@ has_without_object_is o os p = (
   (λ h. has_object_in (without_object o os) p (has_without_object o os p (in_objects os p h.0) h.1)),
 )
 
--- what ran was queued
-ran_queued : (k : Objects) (now : State) (moments tickets : ObjectId → ℕ) → Knows k now moments tickets → (o : ObjectId) → HasObject now.reclaimed o → HasObject now.queued o
-ran_queued k now moments tickets knows o h = sym (knows.was_queued o) ∙ by (states_of k.known o) (knows.was_reclaimed o ∙ h)
-  where
-    by : (state : Option ObjectState) → says is_reclaimed state ≡ true → says is_queued state ≡ true
-    by None e = e
-    by (Some state) e = by_stage state.stage e
-      where
-        by_stage : (stage : Stage) → is_reclaimed stage ≡ true → is_queued stage ≡ true
-        by_stage Linked e = absurd (true≢false (sym e))
-        by_stage IsCut e = absurd (true≢false (sym e))
-        by_stage (Retired m) e = absurd (true≢false (sym e))
-        by_stage (Queued m t) e = refl
-        by_stage Reclaimed e = refl
-
 pub queue_goes : (k : Checker) (objects : Objects) (present : List Bool) (o : ObjectId) (q ticket : ℕ) (done : Bool) →
     ticket ≡ length k.queued → present ≡ k.queued ++ true ∷ [] →
     ((now : State) (moments tickets : ObjectId → ℕ) (queue : ℕ) → Knows k.objects now moments tickets → (IsTrue done ↔ IsAllowed now (Queue o queue)) × (IsTrue done → Knows objects (after now (Queue o queue)) moments (at_object o ticket tickets))) →
@@ -228,7 +210,7 @@ queue_goes k objects present o q ticket done at came does now f = record {
     d = does now f.moments f.tickets q f.objects
 
     not_ran : IsTrue done → ¬ HasObject now.reclaimed o
-    not_ran t h = (d.0.0 t).1 (ran_queued k.objects now f.moments f.tickets f.objects o h)
+    not_ran t h = (d.0.0 t).1 (f.objects.shows.was_run o h)
 
     last : at_object o ticket f.tickets o ≡ length k.queued
     last = at_object_same o ticket f.tickets ∙ at
@@ -256,7 +238,7 @@ module _ (k : Checker) (o : ObjectId) (w : Waiting) (closed : Bool)
   }
 
   pub run_goes : (objects : Objects) (present : List Bool) (left : Bool) → closed ≡ true → present ≡ set k.queued w.ticket false → (IsTrue left ↔ IsThere k.queued w.ticket) →
-      ((now : State) (moments tickets : ObjectId → ℕ) → Knows k.objects now moments tickets → HasObject now.queued o → (¬ HasObject now.reclaimed o) → Knows objects (after now (Run o)) moments tickets) →
+      ((now : State) (moments tickets : ObjectId → ℕ) → Knows k.objects now moments tickets → HasObject now.queued o → Knows objects (after now (Run o)) moments tickets) →
       Goes (record k { objects = objects; queued = present }) now (Run o) left
   run_goes objects present left yes_closed gone was does = record {
     allowed = ((λ _. (q.0, q.1, awaits_nobody.0 yes_closed)), (λ _. was.1 (subst (IsThere k.queued) (sym waits.is.1) there)));
@@ -265,7 +247,7 @@ module _ (k : Checker) (o : ObjectId) (w : Waiting) (closed : Bool)
       tickets = f.tickets;
       sections = f.sections;
       holdings = f.holdings;
-      objects = does now f.moments f.tickets f.objects q.0 q.1;
+      objects = does now f.moments f.tickets f.objects q.0;
       retired = f.retired;
       queued = subst (Rostered (HasObject now.queued) (HasObject (not_run (after now (Run o)))) f.tickets) (sym at)
           (rostered_leave (HasObject now.queued) (HasObject (not_run now)) f.tickets k.queued o (HasObject (not_run (after now (Run o)))) is_here (reclaimed_here now o) f.queued);
@@ -355,8 +337,11 @@ module _ (k : Checker) (s : SectionId) (from : ObjectId) (found : Option ObjectI
     follows = λ t. absurd (true≢false (sym t));
   }
     where
+      kept : Kept now
+      kept = kept_reached now r
+
       by : (after : Option (Option ObjectId)) → FindsSuccessor now from after → after ≢ Some found → ¬ (HasSection now.sections s × HasObject (now.held s) from × IsSuccessor now from found)
-      by None absent apart a = absent (holds_used now s from (kept_reached now r) a.1)
+      by None absent apart a = ⊎_elim (λ (n : ¬ HasObject now.used from). n (holds_used now s from kept a.1)) (λ (h : HasObject now.reclaimed from). not_reclaimed now s from kept (kept.safe s from (in_objects (now.held s) from a.1)) (in_objects now.reclaimed from h)) absent
       by (Some next) finds apart a = apart (ap (λ (x : Option ObjectId). Some x) ((finds.1 found).1 a.2))
 
 -- a wait is over
