@@ -70,23 +70,24 @@ open_goes k new s opened does now r f = record {
     o = does now.seen now.sections f.sections
 
 -- a section closes
-close_held : (h : Holdings) (now : State) (s : SectionId) → AreHeld h now.seen now.sections now.held → AreHeld h now.seen (without_section s now.sections) (at_section s [] now.held)
-close_held h now s a = record {
-  opened = a.opened;
+close_held : (h new : Holdings) (now : State) (s : SectionId) → ((t : SectionId) (o : ObjectId) → HasGot new t o ↔ (HasGot h t o × (s ≢ t))) → AreHeld h now.seen now.sections now.held → AreHeld new now.seen (without_section s now.sections) (at_section s [] now.held)
+close_held h new now s forgets a = record {
+  opened = λ t o g. a.opened t o ((forgets t o).0 g).0;
   holds = λ t o i. let w = (has_without s now.sections t).0 i in
-      subst (λ (os : List ObjectId). HasGot h t o ↔ HasObject os o) (sym (at_section_other s t [] now.held w.1)) (a.holds t o w.0);
+      let b = a.holds t o w.0 in
+      subst (λ (os : List ObjectId). HasGot new t o ↔ HasObject os o) (sym (at_section_other s t [] now.held w.1)) ((λ g. b.0 ((forgets t o).0 g).0), (λ m. (forgets t o).1 (b.1 m, (λ e. w.1 (sym e)))));
 }
 
-pub close_goes : (k : Checker) (new : Sections) (s : SectionId) (closed : Bool) →
+pub close_goes : (k : Checker) (holdings : Holdings) (new : Sections) (s : SectionId) (closed : Bool) → ((t : SectionId) (o : ObjectId) → HasGot holdings t o ↔ (HasGot k.holdings t o × (s ≢ t))) →
     ((seen still : List SectionId) → AreSections k.sections seen still → Closes k.sections new seen still s closed) →
-    (now : State) → Follows k now → Goes (record k { sections = new }) now (Close s) closed
-close_goes k new s closed does now f = record {
+    (now : State) → Follows k now → Goes (record k { sections = new; holdings = holdings }) now (Close s) closed
+close_goes k holdings new s closed forgets does now f = record {
   allowed = c.was;
   follows = λ t. record {
     moments = f.moments;
     tickets = f.tickets;
     sections = c.closed_now t;
-    holdings = close_held k.holdings now s f.holdings;
+    holdings = close_held k.holdings holdings now s forgets f.holdings;
     objects = f.objects;
     retired = λ p h. c.awaits t (now.awaited p) (f.moments p) (f.retired p h);
     queued = f.queued;

@@ -86,6 +86,7 @@ impl Checker {
     fn close(&mut self, section: SectionId) -> bool
         ensures { Answers self.old self.new (Close section) result }
     {
+        self.holdings.forget(section);
         self.sections.close(section)
     }
 
