@@ -10,17 +10,13 @@ use Rattle.schedule.specs.declared.fault.ReplayFault.{ReplayFault}
 use Rattle.schedule.specs.declared.fault.ReplayFault.TheVariants.{BadText, BadConfig, Read, Write, Memory}
 use Rattle.schedule.specs.AnswerLines.{TellsLog, BreaksOffAnswers}
 use Rattle.schedule.specs.Ports.{Tells}
+use Rattle.torture_commands.specs.declared.judging.Judging.{Judging}
+use Rattle.torture_commands.specs.Judging.{HasJudged}
 
 -- the line of a verdict on a log of so many events
 abbrev pub verdict_line : Verdict → ℕ → List ℕ
 verdict_line Yes events = codes "yes events=" ++ decimal events ++ codes "\n"
 verdict_line (No at rule) events = codes "no event=" ++ decimal at ++ codes " rule=" ++ name_of rule ++ codes "\n"
-
--- why a text tells no log: memory may be refused at any text
-abbrev pub TellsNoLog : List ℕ → ReplayFault → Type 0
-TellsNoLog text (BadText line column) = BreaksOffAnswers text line column
-TellsNoLog text Memory = Unit {0}
-TellsNoLog text _ = ⊥
 
 -- the text tells a log, of which this verdict is so and this line is printed
 pub record Judged (text : List ℕ) (verdict : Verdict) (printed : List ℕ) : Type 0 where
@@ -32,6 +28,19 @@ pub record Judged (text : List ℕ) (verdict : Verdict) (printed : List ℕ) : T
 -- the line of some verdict that is so begins like this
 abbrev pub IsFrontOfVerdict : List ℕ → List ℕ → Type 0
 IsFrontOfVerdict text printed = (verdict : Verdict) × ((more : List ℕ) × Judged text verdict (printed ++ more))
+
+-- what is written at the end of the input
+abbrev pub Closed : List ℕ → List ℕ → Result Verdict ReplayFault → Type 0
+Closed text printed (Ok verdict) = Judged text verdict printed
+Closed text printed (Err (BadText line column)) = BreaksOffAnswers text line column × (printed ≡ [])
+Closed text printed (Err Write) = IsFrontOfVerdict text printed
+Closed text printed (Err Memory) = printed ≡ []
+Closed text printed (Err _) = ⊥
+
+pub record Closes (text : List ℕ) (before after : Option (List ℕ)) (result : Result Verdict ReplayFault) : Type 0 where
+  pub printed : List ℕ
+  pub writes : Appends before after printed
+  pub closed : Closed text printed result
 
 -- Where all was read and written, the verdict's line is printed. A bad text prints nothing.
 abbrev pub Checked : Option (List ℕ) → Option (List ℕ) → List ℕ → List ℕ → Result Verdict ReplayFault → Type 0
@@ -47,3 +56,9 @@ pub record Checks (given left before after : Option (List ℕ)) (result : Result
   pub printed : List ℕ
   pub writes : Appends before after printed
   pub checked : Checked given left text printed result
+
+-- in the middle of the reader's text
+pub record Checking (given left : Option (List ℕ)) (judging : Judging) : Type 0 where
+  pub read : List ℕ
+  pub reads : Consumes given left read
+  pub judged : HasJudged judging read

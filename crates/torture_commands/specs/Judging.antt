@@ -1,0 +1,50 @@
+-- Lines of answers that come in pieces, judged as they come.
+use Rattle.std.specs.Prelude.{◌≡◌, ℕ, List, length, Result, Ok, Err}
+use Rattle.rcu_model.specs.declared.event.Event.{Event}
+use Rattle.rcu_model.specs.declared.verdict.Verdict.{Verdict}
+use Rattle.rcu_model.specs.declared.verdict.Verdict.TheVariants.{Yes}
+use Rattle.rcu_model.specs.Judge.{HasTaken}
+use Rattle.rcu_model.specs.Verdict.{Judges}
+use Rattle.schedule.specs.declared.fault.AnswersFault.{AnswersFault}
+use Rattle.schedule.specs.declared.fault.AnswersFault.TheVariants as answers_faults
+use Rattle.schedule.specs.declared.fault.ReplayFault.{ReplayFault}
+use Rattle.schedule.specs.declared.fault.ReplayFault.TheVariants.{BadText, BadConfig, Read, Write, Memory}
+use Rattle.schedule.specs.AnswerLines.{TellsLog, BreaksOffAnswers}
+use Rattle.schedule.specs.AnswerPieces.{HasRead, StopsAnswers}
+use Rattle.torture_commands.specs.declared.judging.Judging.{Judging}
+
+abbrev pub replay_fault : AnswersFault → ReplayFault
+replay_fault (answers_faults.BadText line column) = BadText line column
+replay_fault answers_faults.Memory = Memory
+
+-- this text came, and the events of its lines were judged
+pub record HasJudged (judging : Judging) (fed : List ℕ) : Type 0 where
+  pub log : List Event
+  pub read : HasRead judging.answers fed log
+  pub taken : HasTaken judging.judge log
+
+-- no line goes on so, whatever follows, and the events of the lines before were judged
+pub record StopsJudging (judging : Judging) (fed : List ℕ) (line column : ℕ) : Type 0 where
+  pub log : List Event
+  pub stops : StopsAnswers fed log line column
+  pub taken : HasTaken judging.judge log
+
+-- what a piece comes to
+abbrev pub JudgesOn : Judging → List ℕ → Result (Unit {0}) ReplayFault → Type 0
+JudgesOn judging fed (Ok _) = HasJudged judging fed
+JudgesOn judging fed (Err (BadText line column)) = StopsJudging judging fed line column
+JudgesOn judging fed (Err Memory) = Unit {0}
+JudgesOn judging fed (Err _) = ⊥
+
+-- the text tells a log, of which this verdict is so, and which has so many events, if it is a run
+pub record JudgedAs (text : List ℕ) (verdict : Verdict) (events : ℕ) : Type 0 where
+  pub log : List Event
+  pub told : TellsLog text log
+  pub judged : Judges verdict log
+  pub counted : verdict ≡ Yes → events ≡ length log
+
+-- what the end of the input comes to
+abbrev pub Ends : List ℕ → Result (Verdict × ℕ) ReplayFault → Type 0
+Ends fed (Ok judged) = JudgedAs fed judged.0 judged.1
+Ends fed (Err (BadText line column)) = BreaksOffAnswers fed line column
+Ends fed (Err _) = ⊥
