@@ -1,5 +1,5 @@
 -- Lines of answers, as their pieces come.
-use Rattle.std.proofs.Common.{◌≡◌, ℕ, ◌+◌, ◌-◌, ◌<◌, ◌^◌, min, List, [], ◌∷◌, ◌++◌, length, Ok, Err, refl, sym, ap, subst, ◌∙◌, append_assoc, arith}
+use Rattle.std.proofs.Common.{◌≡◌, ◌≢◌, ℕ, ◌+◌, ◌-◌, ◌<◌, ◌^◌, min, List, [], ◌∷◌, ◌++◌, length, Ok, Err, refl, sym, ap, subst, ◌∙◌, append_assoc, arith}
 use Rattle.std.proofs.lemmas.List.{append-nil, length-append}
 use Rattle.rcu_model.specs.declared.event.Event.{Event}
 use Rattle.schedule.specs.declared.answer_line.AnswerLine.{AnswerLine}
@@ -44,6 +44,10 @@ stops all rest log at column b bs r e place = record {
   where
     long : (more : List ℕ) → 0 < length (rest ++ more)
     long more = omega (arith, bad_within AnswerLineText answer_line_at answer_reads rest (b ∷ bs) e, length-append rest more)
+
+pub stops_at : (all rest bad : List ℕ) (log : List Event) (at column : ℕ) → ReadSoFar all rest log at → answer_line_at rest ≡ Err bad → length bad ≢ 0 → column + length bad ≡ length rest + 1 → StopsAnswers all log at column
+stops_at all rest [] log at column r e some place = absurd (some refl)
+stops_at all rest (b ∷ bs) log at column r e some place = stops all rest log at column b bs r e place
 
 -- the end of the input
 pub ends : (fed held : List ℕ) (log : List Event) (at : ℕ) → ReadSoFar fed held log at → IsPartial IsAnswerText held → 0 < length held → BreaksOffAnswers fed at (length held + 1)

@@ -130,8 +130,10 @@ pub fn front_answers<'a>(
                 *line = line.saturating_add(1);
                 rest = after;
             }
-            Err([]) => return Ok(rest),
             Err(bad) => {
+                if bad.is_empty() {
+                    return Ok(rest);
+                }
                 let column = column_of(rest, bad);
                 return Err(AnswersFault::BadText {
                     line: *line,

@@ -31,15 +31,14 @@ module _ (old new : Judging) (fed piece : List ℕ) (before events : List Event)
   judged_stop Memory reads = tt
 
 -- the end of the input
-pub judged_end : (judging : Judging) (fed : List ℕ) (u : Unit {0}) (verdict : Verdict) (events : ℕ) → HasJudged judging fed → ((text : List ℕ) (log : List Event) → HasRead judging.answers text log → EndsAnswers text log (Ok u)) →
-    ((log : List Event) → HasTaken judging.judge log → Judges verdict log) → ((log : List Event) → HasTaken judging.judge log → IsRun log → events ≡ length log) → JudgedAs fed verdict events
+pub judged_end : (judging : Judging) (fed : List ℕ) (u : Unit {0}) (verdict : Verdict) (events : ℕ) → (j : HasJudged judging fed) → ((text : List ℕ) (log : List Event) → HasRead judging.answers text log → EndsAnswers text log (Ok u)) →
+    ((log : List Event) → HasTaken judging.judge log → Judges verdict log) → ((log : List Event) → HasTaken judging.judge log → IsRun log → events ≡ length log) → JudgedAs fed j.log verdict events
 judged_end judging fed u verdict events j ends judges counts = record {
-  log = j.log;
   told = ends fed j.log j.read;
   judged = judges j.log j.taken;
   counted = λ yes. counts j.log j.taken (subst (λ v. Judges v j.log) yes (judges j.log j.taken));
 }
 
-pub judged_cut : (judging : Judging) (fed : List ℕ) (fault : AnswersFault) → HasJudged judging fed → ((text : List ℕ) (log : List Event) → HasRead judging.answers text log → EndsAnswers text log (Err fault)) → Ends fed (Err (replay_fault fault))
+pub judged_cut : (judging : Judging) (fed : List ℕ) (fault : AnswersFault) → (j : HasJudged judging fed) → ((text : List ℕ) (log : List Event) → HasRead judging.answers text log → EndsAnswers text log (Err fault)) → Ends fed j.log (Err (replay_fault fault))
 judged_cut judging fed (BadText line column) j ends = ends fed j.log j.read
 judged_cut judging fed Memory j ends = absurd (ends fed j.log j.read)

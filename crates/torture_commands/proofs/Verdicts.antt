@@ -9,37 +9,49 @@ use Rattle.schedule.specs.declared.fault.ReplayFault.{ReplayFault}
 use Rattle.schedule.specs.declared.fault.ReplayFault.TheVariants.{BadText, BadConfig, Read, Write, Memory}
 use Rattle.schedule.specs.AnswerLines.{TellsLog, BreaksOffAnswers}
 use Rattle.schedule.specs.Ports.{Tells, Writes}
-use Rattle.schedule.proofs.KnownBytes.{appends_none, consumes_more, tells_more, tells_all}
+use Rattle.schedule.proofs.Lemmas.{appends_none, consumes_more, tells_more, tells_all}
 use Rattle.torture_commands.specs.declared.judging.Judging.{Judging}
 use Rattle.torture_commands.specs.Judging.{JudgesOn, JudgedAs, Ends}
-use Rattle.torture_commands.specs.Checking.{verdict_line, Judged, Closed, Closes, Checked, Checks}
+use Rattle.torture_commands.specs.Checking.{verdict_line, Printed, Prints, TellsVerdict, Closed, Closes, Checked, Checks}
 
 -- the number of events is printed of runs alone
 counted_line : (verdict : Verdict) (events n : ℕ) → (verdict ≡ Yes → events ≡ n) → verdict_line verdict events ≡ verdict_line verdict n
 counted_line Yes events n e = ap (λ (k : ℕ). verdict_line Yes k) (e refl)
 counted_line (No at rule) events n e = refl
 
-judged_by : (text line : List ℕ) (verdict : Verdict) (events : ℕ) → JudgedAs text verdict events → line ≡ verdict_line verdict events → Judged text verdict line
-judged_by text line verdict events j is = record { log = j.log; told = j.told; judged = j.judged; line = is ∙ counted_line verdict events (length j.log) j.counted }
+-- the line is written, or a beginning of it
+pub printed_whole : (before after : Option (List ℕ)) (line : List ℕ) (verdict : Verdict) (events : ℕ) → line ≡ verdict_line verdict events → Appends before after line → Prints verdict events before after (Ok verdict)
+printed_whole before after line verdict events is w = record { printed = line; writes = w; line = (refl, is) }
 
-pub close_whole : (fed : List ℕ) (before after : Option (List ℕ)) (line : List ℕ) (verdict : Verdict) (events : ℕ) → JudgedAs fed verdict events → line ≡ verdict_line verdict events → Appends before after line → Closes fed before after (Ok verdict)
-close_whole fed before after line verdict events j is w = record { printed = line; writes = w; closed = judged_by fed line verdict events j is }
-
-pub close_cut : (fed : List ℕ) (before after : Option (List ℕ)) (line : List ℕ) (verdict : Verdict) (events : ℕ) (fault : ReplayFault) → JudgedAs fed verdict events → line ≡ verdict_line verdict events → Writes before after line (Err fault) → Closes fed before after (Err fault)
-close_cut fed before after line verdict events fault j is w =
+pub printed_cut : (before after : Option (List ℕ)) (line : List ℕ) (verdict : Verdict) (events : ℕ) (fault : ReplayFault) → line ≡ verdict_line verdict events → Writes before after line (Err fault) → Prints verdict events before after (Err fault)
+printed_cut before after line verdict events fault is w =
     let f = w.1.1 in
-    record {
-      printed = f.front;
-      writes = f.writes;
-      closed = rw w.0 (verdict, (w.1.0, subst (Judged fed verdict) f.parts (judged_by fed line verdict events j is)));
-    }
+    record { printed = f.front; writes = f.writes; line = rw w.0 (w.1.0, sym f.parts ∙ is) }
 
-pub close_fault : (fed : List ℕ) (before : Option (List ℕ)) (fault : ReplayFault) → Ends fed (Err fault) → Closes fed before before (Err fault)
-close_fault fed before (BadText line column) e = record { printed = []; writes = appends_none before; closed = (e, refl) }
-close_fault fed before BadConfig e = absurd e
-close_fault fed before Read e = absurd e
-close_fault fed before Write e = absurd e
-close_fault fed before Memory e = absurd e
+pub printed_none : (before : Option (List ℕ)) (verdict : Verdict) (events : ℕ) → Prints verdict events before before (Err Memory)
+printed_none before verdict events = record { printed = []; writes = appends_none before; line = refl }
+
+-- the end of the input
+pub closes_by : (fed : List ℕ) (log : List Event) (before after : Option (List ℕ)) (verdict : Verdict) (events : ℕ) (result : Result Verdict ReplayFault) → JudgedAs fed log verdict events → Prints verdict events before after result → Closes fed log before after result
+closes_by fed log before after verdict events result j p = record { printed = p.printed; writes = p.writes; closed = by result p.line }
+  where
+    told : (line : List ℕ) → line ≡ verdict_line verdict events → TellsVerdict fed log verdict line
+    told line is = record { told = j.told; judged = j.judged; line = is ∙ counted_line verdict events (length log) j.counted }
+
+    by : (r : Result Verdict ReplayFault) → Printed verdict events p.printed r → Closed fed log p.printed r
+    by (Ok said) is = subst (λ v. TellsVerdict fed log v p.printed) (sym is.0) (told p.printed is.1)
+    by (Err (BadText line column)) is = absurd is
+    by (Err BadConfig) is = absurd is
+    by (Err Read) is = absurd is
+    by (Err Write) is = (verdict, (is.0, told (p.printed ++ is.0) is.1))
+    by (Err Memory) is = is
+
+pub close_fault : (fed : List ℕ) (log : List Event) (before : Option (List ℕ)) (fault : ReplayFault) → Ends fed log (Err fault) → Closes fed log before before (Err fault)
+close_fault fed log before (BadText line column) e = record { printed = []; writes = appends_none before; closed = (e, refl) }
+close_fault fed log before BadConfig e = absurd e
+close_fault fed log before Read e = absurd e
+close_fault fed log before Write e = absurd e
+close_fault fed log before Memory e = absurd e
 
 -- a fault before anything was written
 pub full : (given left before : Option (List ℕ)) → Checks given left before before (Err Memory)
@@ -58,18 +70,22 @@ piece_fault given left before judging fed Read c j = absurd j
 piece_fault given left before judging fed Write c j = absurd j
 
 -- the reader is at the end of the text
-checked_by : (given left : Option (List ℕ)) (text printed : List ℕ) (result : Result Verdict ReplayFault) → Tells given text → Closed text printed result → Checked given left text printed result
-checked_by given left text printed (Ok verdict) t c = (t, c)
-checked_by given left text printed (Err (BadText line column)) t c = (t, c)
-checked_by given left text printed (Err Write) t c = (t, c)
-checked_by given left text printed (Err Read) t c = absurd c
-checked_by given left text printed (Err Memory) t c = c
-checked_by given left text printed (Err BadConfig) t c = absurd c
+checked_by : (given left : Option (List ℕ)) (text : List ℕ) (log : List Event) (printed : List ℕ) (result : Result Verdict ReplayFault) → Tells given text → Closed text log printed result → Checked given left text printed result
+checked_by given left text log printed (Ok verdict) t c = (t, (log, c))
+checked_by given left text log printed (Err (BadText line column)) t c = (t, c)
+checked_by given left text log printed (Err Write) t c = (t, (c.0, (c.1.0, (log, c.1.1))))
+checked_by given left text log printed (Err Read) t c = absurd c
+checked_by given left text log printed (Err Memory) t c = c
+checked_by given left text log printed (Err BadConfig) t c = absurd c
 
-pub checks_end : (given left end before after : Option (List ℕ)) (read : List ℕ) (result : Result Verdict ReplayFault) → Consumes given left read → Consumes left end [] → IsAtEnd end → Closes read before after result → Checks given end before after result
-checks_end given left end before after read result reads none atend c = record {
+-- nothing is left to be read
+pub read_whole : (given left end : Option (List ℕ)) (read : List ℕ) → Consumes given left read → Consumes left end [] → IsAtEnd end → Tells given read
+read_whole given left end read reads none atend = tells_all given end read (subst (Consumes given end) (append-nil read) (consumes_more given left end read [] reads none)) atend
+
+pub checks_end : (given left end before after : Option (List ℕ)) (read : List ℕ) (log : List Event) (result : Result Verdict ReplayFault) → Consumes given left read → Consumes left end [] → IsAtEnd end → Closes read log before after result → Checks given end before after result
+checks_end given left end before after read log result reads none atend c = record {
   text = read;
   printed = c.printed;
   writes = c.writes;
-  checked = checked_by given end read c.printed result (tells_all given end read (subst (Consumes given end) (append-nil read) (consumes_more given left end read [] reads none)) atend) c.closed;
+  checked = checked_by given end read log c.printed result (read_whole given left end read reads none atend) c.closed;
 }

@@ -18,29 +18,44 @@ abbrev pub verdict_line : Verdict → ℕ → List ℕ
 verdict_line Yes events = codes "yes events=" ++ decimal events ++ codes "\n"
 verdict_line (No at rule) events = codes "no event=" ++ decimal at ++ codes " rule=" ++ name_of rule ++ codes "\n"
 
--- the text tells a log, of which this verdict is so and this line is printed
-pub record Judged (text : List ℕ) (verdict : Verdict) (printed : List ℕ) : Type 0 where
-  pub log : List Event
+-- that line is printed, or a beginning of it before a fault of writing
+abbrev pub Printed : Verdict → ℕ → List ℕ → Result Verdict ReplayFault → Type 0
+Printed verdict events printed (Ok said) = (said ≡ verdict) × (printed ≡ verdict_line verdict events)
+Printed verdict events printed (Err Write) = (more : List ℕ) × (printed ++ more ≡ verdict_line verdict events)
+Printed verdict events printed (Err Memory) = printed ≡ []
+Printed verdict events printed (Err _) = ⊥
+
+pub record Prints (verdict : Verdict) (events : ℕ) (before after : Option (List ℕ)) (result : Result Verdict ReplayFault) : Type 0 where
+  pub printed : List ℕ
+  pub writes : Appends before after printed
+  pub line : Printed verdict events printed result
+
+-- the text tells the log, of which this verdict is so and this line is printed
+pub record TellsVerdict (text : List ℕ) (log : List Event) (verdict : Verdict) (printed : List ℕ) : Type 0 where
   pub told : TellsLog text log
   pub judged : Judges verdict log
   pub line : printed ≡ verdict_line verdict (length log)
+
+-- the text tells some log, of which it is so
+abbrev pub Judged : List ℕ → Verdict → List ℕ → Type 0
+Judged text verdict printed = (log : List Event) × TellsVerdict text log verdict printed
 
 -- the line of some verdict that is so begins like this
 abbrev pub IsFrontOfVerdict : List ℕ → List ℕ → Type 0
 IsFrontOfVerdict text printed = (verdict : Verdict) × ((more : List ℕ) × Judged text verdict (printed ++ more))
 
--- what is written at the end of the input
-abbrev pub Closed : List ℕ → List ℕ → Result Verdict ReplayFault → Type 0
-Closed text printed (Ok verdict) = Judged text verdict printed
-Closed text printed (Err (BadText line column)) = BreaksOffAnswers text line column × (printed ≡ [])
-Closed text printed (Err Write) = IsFrontOfVerdict text printed
-Closed text printed (Err Memory) = printed ≡ []
-Closed text printed (Err _) = ⊥
+-- what is written at the end of the input, whose lines tell the log
+abbrev pub Closed : List ℕ → List Event → List ℕ → Result Verdict ReplayFault → Type 0
+Closed text log printed (Ok verdict) = TellsVerdict text log verdict printed
+Closed text log printed (Err (BadText line column)) = BreaksOffAnswers text line column × (printed ≡ [])
+Closed text log printed (Err Write) = (verdict : Verdict) × ((more : List ℕ) × TellsVerdict text log verdict (printed ++ more))
+Closed text log printed (Err Memory) = printed ≡ []
+Closed text log printed (Err _) = ⊥
 
-pub record Closes (text : List ℕ) (before after : Option (List ℕ)) (result : Result Verdict ReplayFault) : Type 0 where
+pub record Closes (text : List ℕ) (log : List Event) (before after : Option (List ℕ)) (result : Result Verdict ReplayFault) : Type 0 where
   pub printed : List ℕ
   pub writes : Appends before after printed
-  pub closed : Closed text printed result
+  pub closed : Closed text log printed result
 
 -- Where all was read and written, the verdict's line is printed. A bad text prints nothing.
 abbrev pub Checked : Option (List ℕ) → Option (List ℕ) → List ℕ → List ℕ → Result Verdict ReplayFault → Type 0

@@ -36,15 +36,14 @@ JudgesOn judging fed (Err (BadText line column)) = StopsJudging judging fed line
 JudgesOn judging fed (Err Memory) = Unit {0}
 JudgesOn judging fed (Err _) = ⊥
 
--- the text tells a log, of which this verdict is so, and which has so many events, if it is a run
-pub record JudgedAs (text : List ℕ) (verdict : Verdict) (events : ℕ) : Type 0 where
-  pub log : List Event
+-- the text tells the log, of which this verdict is so, and which has so many events, if it is a run
+pub record JudgedAs (text : List ℕ) (log : List Event) (verdict : Verdict) (events : ℕ) : Type 0 where
   pub told : TellsLog text log
   pub judged : Judges verdict log
   pub counted : verdict ≡ Yes → events ≡ length log
 
 -- what the end of the input comes to
-abbrev pub Ends : List ℕ → Result (Verdict × ℕ) ReplayFault → Type 0
-Ends fed (Ok judged) = JudgedAs fed judged.0 judged.1
-Ends fed (Err (BadText line column)) = BreaksOffAnswers fed line column
-Ends fed (Err _) = ⊥
+abbrev pub Ends : List ℕ → List Event → Result (Verdict × ℕ) ReplayFault → Type 0
+Ends fed log (Ok judged) = JudgedAs fed log judged.0 judged.1
+Ends fed log (Err (BadText line column)) = BreaksOffAnswers fed line column
+Ends fed log (Err _) = ⊥

@@ -6,7 +6,7 @@ ghost use Rattle.rcu_model.specs.Machine.{IsRun};
 ghost use Rattle.rcu_model.specs.Verdict.{Judges};
 ghost use Rattle.schedule.specs.declared.fault.ReplayFault.TheVariants.{Memory};
 ghost use Rattle.torture_commands.specs.Judging.{HasJudged};
-ghost use Rattle.torture_commands.specs.Checking.{verdict_line, Closes, Checks};
+ghost use Rattle.torture_commands.specs.Checking.{verdict_line, Prints, Closes, Checks};
 
 use crate::judging::Judging;
 use rcu_model::{Event, LogFault, Verdict, check_log};
@@ -45,18 +45,30 @@ impl fmt::Display for VerdictLine {
     }
 }
 
+/// Writes the line of a verdict. `Memory` writes nothing, and `Write` a beginning of that line.
+fn tell<W: Write>(
+    alloc: Global,
+    verdict: Verdict,
+    events: usize,
+    writer: &mut W,
+) -> Result<Verdict, ReplayFault>
+    ensures { Prints verdict events (W.contents writer.old) (W.contents writer.new) result }
+{
+    let line = VerdictLine { verdict, events }.to_string(alloc)?;
+    write_whole(writer, line.as_bytes())?;
+    Ok(verdict)
+}
+
 /// Ends the input, and writes the line of the verdict.
 fn close<W: Write>(
     alloc: Global,
     judging: &Judging,
     writer: &mut W,
 ) -> Result<Verdict, ReplayFault>
-    ensures { (fed : List ℕ) → HasJudged judging.now fed → Closes fed (W.contents writer.old) (W.contents writer.new) result }
+    ensures { (fed : List ℕ) (judged : HasJudged judging.now fed) → Closes fed judged.log (W.contents writer.old) (W.contents writer.new) result }
 {
     let (verdict, events) = judging.finish()?;
-    let line = VerdictLine { verdict, events }.to_string(alloc)?;
-    write_whole(writer, line.as_bytes())?;
-    Ok(verdict)
+    tell(alloc, verdict, events, writer)
 }
 
 /// Reads lines of answers to their end in pieces, judges the log that they tell as they come, and writes one line: whether

@@ -72,7 +72,7 @@ impl Judging {
     /// Ends the input: the verdict, and how many events there were where they are a run. `BadText` after a line that has
     /// no end.
     pub fn finish(&self) -> Result<(Verdict, usize), ReplayFault>
-        ensures { (fed : List ℕ) → HasJudged self.now fed → Ends fed result }
+        ensures { (fed : List ℕ) (judged : HasJudged self.now fed) → Ends fed judged.log result }
     {
         match self.answers.finish() {
             Ok(()) => Ok((self.judge.verdict(), self.judge.taken())),

@@ -1,7 +1,7 @@
 use Rattle.std.proofs.Common.{rules, ◌<◌, ℕ, ◌++◌, length, take, subst, arith}
 use Rattle.std.specs.Io.KnownBytes.{Consumes, Keeps}
 use Rattle.std.proofs.lemmas.Result.{err_from_is_err_and}
-use Rattle.schedule.proofs.KnownBytes.{consumes_more, consumes_kept}
+use Rattle.schedule.proofs.Lemmas.{consumes_more, consumes_kept}
 use Rattle.torture_commands.proofs.Verdicts.{checks_end, piece_fault, unread}
 use Rattle.torture_commands.proofs.checking.check.Goals as goal
 
@@ -13,7 +13,7 @@ returns-in-Ok-eq0 g c =
     let none = c.in-Ok-eq0.field-0-test in
     let bytes = c.in-Ok-eq0.ensures.bytes in
     let room : 0 < length c.read.new.buf = omega arith in
-    checks_end (g.R.Read.remaining c.args.reader.now) left end (g.W.Write.contents c.args.writer.now) (g.W.Write.contents c.close.new.writer) i.read c.close.result i.reads
+    checks_end (g.R.Read.remaining c.args.reader.now) left end (g.W.Write.contents c.args.writer.now) (g.W.Write.contents c.close.new.writer) i.read i.judged.log c.close.result i.reads
     (subst (λ (n : ℕ). Consumes left end (take n c.read.new.buf)) none bytes.0) (bytes.1 none room) (c.close.ensures i.read i.judged)
 
 pub returns-in_err-feed-in-Ok : goal.returns-in_err-feed-in-Ok
