@@ -5,8 +5,8 @@ use Rattle.live_log.specs.Log.{Log, Begins}
 use Rattle.live_read.specs.Hearing.{IsAfter}
 use Rattle.live_barrier.specs.Barrier.{HaveAllRun}
 
--- The first count of the call was loaded at `asked`, after all that had been seen and heard of. All that was queued in
--- `asked` has its Run in the log.
+-- All that was queued in `asked` has its Run in the log. `asked` is a log that comes after all that had been seen and
+-- heard of; which one it is, no clause names.
 pub record Barred (qsbr : Bool) (allows : Log → LiveEvent → Type 0) (seen heard log : Log) : Type 0 where
   pub asked : Log
   pub after : Begins seen asked

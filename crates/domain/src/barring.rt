@@ -2,7 +2,7 @@
 
 ghost use Rattle.std.specs.Prelude.{◌≡◌, ◌++◌, IsTrue, List, MatchBool, ℕ};
 ghost use Rattle.live_log.specs.Log.{Begins};
-ghost use Rattle.live_barrier.specs.Barrier.{AreReached, HaveAllRun, WasLess, WereGiven};
+ghost use Rattle.live_barrier.specs.Barrier.{AreNoted, AreReached, HaveAllRun, WasLess, WereGiven};
 ghost use Rattle.live_read.specs.Hearing.{IsAfter, Stays};
 ghost use Rattle.domain.specs.Barriers.{Barred};
 
@@ -16,12 +16,13 @@ use live_words::ChainRule;
 use std::sync::Wait;
 
 impl<P: GracePlan + Drop, K: ChainRule, B: Site, D: Deleter> Domain<P, K, B, D> {
-    /// Begins a barrier that nobody waits for: notes how many callbacks each queue was given. The mark keeps the log at
-    /// the first load, which begins with all that the caller had seen and heard of. It never waits and takes no memory.
+    /// Begins a barrier that nobody waits for: notes how many callbacks each queue was given, by the counts that it
+    /// loads, which `looks` tells. The mark keeps a log that begins with all that the caller had seen and heard of. It never waits and takes no memory.
     pub fn barrier_start<W: Witness>(&self, witness: &mut W) -> BarrierMark
         requires { W.home witness.old ≡ (B.table, B.sizes) }
         ensures asked { Begins (W.seen witness.old) result.asked.value.me.0.seen × Begins (W.heard witness.old) result.asked.value.me.0.seen × Begins result.asked.value.me.0.seen (W.heard witness.new) × (result.asked.value.me.0.sizes ≡ B.sizes) }
         ensures given { WereGiven B.sizes result.counts (W.heard witness.new) }
+        ensures noted { (since : List (ℕ × ℕ)) × (W.looks witness.new ≡ since ++ W.looks witness.old) × AreNoted B.sizes result.counts B.sizes.queues since }
         ensures heard { IsAfter P.QSBR K.allows (W.seen witness.old) (W.heard witness.old) (W.heard witness.new) }
         ensures same { Stays W.Witness witness.old witness.new × (W.loads witness.new ≡ W.loads witness.old) }
     {
@@ -47,9 +48,8 @@ impl<P: GracePlan + Drop, K: ChainRule, B: Site, D: Deleter> Domain<P, K, B, D> 
         passed
     }
 
-    /// Waits until all that was queued before the call has run, liburcu's `rcu_barrier`: the log at its first load begins
-    /// with all that the caller had seen and heard of, and each object that was queued in it has its Run in the log
-    /// that the caller hears of at the return. It waits for the workers of all queues, with a back-off, so it is not
+    /// Waits until all that was queued before the call has run, liburcu's `rcu_barrier`: each object that was queued in
+    /// what the caller had seen and heard of has its Run in the log that the caller hears of at the return. It waits for the workers of all queues, with a back-off, so it is not
     /// called in a section or a callback. It takes no memory.
     pub fn barrier<W: Witness, R: Wait>(&self, rt: &R, witness: &mut W)
         requires { W.home witness.old ≡ (B.table, B.sizes) }

@@ -1,10 +1,6 @@
 #![tactic(auto)]
-//! Tests of the library's crates by their public faces, as the files of `tests/` are in a crate of Rust's.
+//! Tests of the crates below the world by their public faces, as the files of `tests/` are in a crate of Rust's.
 
-#[cfg(test)]
-mod chains;
-#[cfg(test)]
-mod commands;
 #[cfg(test)]
 mod cookies;
 #[cfg(test)]
@@ -18,10 +14,6 @@ mod queues;
 #[cfg(test)]
 mod reader_words;
 #[cfg(test)]
-mod schedules;
-#[cfg(test)]
 mod slots;
 #[cfg(test)]
 mod workers;
-#[cfg(test)]
-mod worlds;

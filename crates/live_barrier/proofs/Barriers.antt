@@ -12,9 +12,9 @@ use Rattle.live_log.specs.Log.{Log, Begins, state_of, line_of, HaveRun}
 use Rattle.live_log.proofs.Lemmas.{begins_trans, grows_log, line_grows, line_has, barrier_of}
 use Rattle.live_rule.specs.declared.view.Sizes.{Sizes}
 use Rattle.live_rule.specs.declared.view.View.{View}
-use Rattle.live_rule.specs.Places.{finished_at}
+use Rattle.live_rule.specs.Places.{finished_at, queued_at}
 use Rattle.live_table.specs.Steps.{IsKnown, Went, looked_view}
-use Rattle.live_barrier.specs.Barrier.{AreReached, Found, HaveAllRun}
+use Rattle.live_barrier.specs.Barrier.{AreNoted, AreReached, Found, HaveAllRun}
 
 -- a queue is never shorter than it was
 pub longer : (old log : Log) (q : ℕ) → Begins old log → length (line_of old q) ≤ length (line_of log q)
@@ -41,6 +41,20 @@ reached_more key counts queue n rest low reached =
     let next : AreReached key counts (suc queue) ((finished_at key queue, n) ∷ rest) = (n, rest, refl, low, reached) in
     let one : suc queue ≡ queue + 1 = omega arith in
     subst (λ (q : ℕ). AreReached key counts q ((finished_at key queue, n) ∷ rest)) one next
+
+-- the counts of other queues are as they were noted
+still_noted : (key : Sizes) (counts counts' : List ℕ) (queue : ℕ) (looks : List (ℕ × ℕ)) → ((q : ℕ) → q < queue → get_or counts' q 0 ≡ get_or counts q 0) → AreNoted key counts queue looks → AreNoted key counts' queue looks
+still_noted key counts counts' zero looks same noted = noted
+still_noted key counts counts' (suc q) looks same (rest, is, others) =
+    (rest, is ∙ ap (λ n. (queued_at key q, n) ∷ rest) (sym (same q (omega arith))), still_noted key counts counts' q rest (λ p low. same p (omega arith)) others)
+
+-- one more queue's count is noted
+pub noted_more : (key : Sizes) (counts : List ℕ) (queue n : ℕ) (looks : List (ℕ × ℕ)) → queue < length counts → AreNoted key counts queue looks → AreNoted key (set counts queue n) (queue + 1) ((queued_at key queue, n) ∷ looks)
+noted_more key counts queue n looks inside noted =
+    let next : AreNoted key (set counts queue n) (suc queue) ((queued_at key queue, n) ∷ looks) =
+    (looks, ap (λ m. (queued_at key queue, m) ∷ looks) (sym (get_or-set_same counts queue n 0 inside)), still_noted key counts (set counts queue n) queue looks (λ q low. get_or-set_other counts queue q n 0 (omega arith)) noted) in
+    let one : suc queue ≡ queue + 1 = omega arith in
+    subst (λ q. AreNoted key (set counts queue n) q ((queued_at key queue, n) ∷ looks)) one next
 
 -- a count that was loaded now is between what the queue had been given then and what it has been given now
 module _ (first log new : Log) (queue n : ℕ) (counts : List ℕ) (inside : queue < length counts) (after : Begins first log) (later : Begins log new) (is : n ≡ length (line_of new queue)) where

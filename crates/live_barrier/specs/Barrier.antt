@@ -7,7 +7,7 @@ use Rattle.live_log.specs.declared.event.LiveEvent.{LiveEvent}
 use Rattle.live_log.specs.Log.{Log, line_of, state_of}
 use Rattle.live_rule.specs.declared.view.Sizes.{Sizes}
 use Rattle.live_rule.specs.declared.view.View.{View}
-use Rattle.live_rule.specs.Places.{finished_at}
+use Rattle.live_rule.specs.Places.{finished_at, queued_at}
 use Rattle.live_table.specs.Steps.{Went}
 
 -- each queue of the table had been given no more than its count
@@ -21,6 +21,11 @@ WereGiven key counts log = (q : ℕ) → q < key.queues → slice_index counts q
 -- all that was queued in the old log has its Run in the new one
 abbrev pub HaveAllRun : Log → Log → Type 0
 HaveAllRun old new = (o : ObjectId) → In (state_of old).queued o → In (state_of new).reclaimed o
+
+-- the counts of so many queues are those that were loaded, each once and that of queue 0 first
+abbrev pub AreNoted : Sizes → List ℕ → ℕ → List (ℕ × ℕ) → Type 0
+AreNoted key counts zero looks = looks ≡ []
+AreNoted key counts (suc q) looks = (rest : List (ℕ × ℕ)) × (looks ≡ (queued_at key q, slice_index counts q) ∷ rest) × AreNoted key counts q rest
 
 -- the finished counts of so many queues were loaded, each once and that of queue 0 first, and none was below the noted one
 abbrev pub AreReached : Sizes → List ℕ → ℕ → List (ℕ × ℕ) → Type 0

@@ -3,7 +3,7 @@ ghost use Rattle.std.specs.Prelude.{◌≡◌, ◌≤◌, ◌++◌, List, ℕ, I
 ghost use Rattle.live_rule.specs.Steps.{Precedes};
 ghost use Rattle.live_log.specs.Log.{Begins};
 ghost use Rattle.live_table.specs.Steps.{IsKnown, Keeps};
-ghost use Rattle.live_barrier.specs.Barrier.{AreReached, CoverAll, Found, HaveAllRun, WasLess, WereGiven};
+ghost use Rattle.live_barrier.specs.Barrier.{AreNoted, AreReached, CoverAll, Found, HaveAllRun, WasLess, WereGiven};
 
 use gp_memb::GracePlan;
 use live_words::{ChainRule, LiveSeat, LiveTable, load_finished, load_queued};
@@ -27,7 +27,7 @@ pub fn barrier_start<P: GracePlan, K: ChainRule>(
     requires seat { (seat.old.table_id ≡ table.now.words.shared.table_id) × (seat.old.me.0.sizes ≡ table.now.words.shared.key) }
     requires queues { 1 ≤ table.now.queues }
     ensures seat { Keeps seat.old seat.new }
-    ensures looked { (since : List (ℕ × ℕ)) × Found P.QSBR K.allows since seat.old.me seat.new.me }
+    ensures looked { (since : List (ℕ × ℕ)) × Found P.QSBR K.allows since seat.old.me seat.new.me × AreNoted table.now.words.shared.key result.counts table.now.words.shared.key.queues since }
     ensures asked { Precedes seat.old.me.0 result.asked.value.me.0.seen × Begins result.asked.value.me.0.seen seat.new.me.0.seen × (result.asked.value.me.0.sizes ≡ seat.old.me.0.sizes) }
     ensures given { WereGiven seat.old.me.0.sizes result.counts seat.new.me.0.seen }
 {

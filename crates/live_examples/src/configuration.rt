@@ -120,7 +120,8 @@ fn each_version<B: Site, R: Wait>(
     for number in 0..VERSIONS {
         let owned = when_free(rt, domain, record, number + 1)?;
         let replaced = domain.replace_retire(rt, record, &mut writer, 0, owned, Replaced);
-        if let Err((refusal, _, _)) = replaced {
+        if let Err((refusal, owned, _)) = replaced {
+            domain.discard(record, owned); // else its record stays out of use
             return Err(refusal);
         }
     }

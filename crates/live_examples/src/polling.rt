@@ -65,7 +65,7 @@ pub(crate) fn reuse<B: Site, R: Wait>(
     let (unlinked, cookie) = cut_and_ask(rt, &domain, &mut record)?;
     let refused = polls(rt, &domain, &mut record, &cookie)?;
     if let Err((refusal, _, _)) = domain.retire(rt, &mut record, unlinked, Named) {
-        return Err(refusal);
+        return Err(refusal); // its record stays out of use, but this domain ends here
     }
     domain.close(rt, &mut record);
     work(rt, alloc, &domain, &mut record)?;

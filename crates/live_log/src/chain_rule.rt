@@ -26,3 +26,15 @@ impl ChainRule for Keyed {
 
     ghost allows = { keyed };
 }
+
+/// A chain has keys, by the rule of keyed chains, or one directory, which names the chains of a table and which only
+/// another directory replaces. The payload of a directory is the number of the first chain that it names, how many it
+/// names, 0, and 1. Each chain that it names has its chain's number and 1 as its note. Once it is replaced, nothing is
+/// written to a chain that it named, nor its note changed, until every section of then has ended.
+pub struct Tabled;
+
+impl ChainRule for Tabled {
+    ghost use Rattle.live_log.specs.Tables.{tabled};
+
+    ghost allows = { tabled };
+}

@@ -1,8 +1,9 @@
 -- Which slots are claimed.
-use Rattle.std.specs.Prelude.{◌≡◌, ℕ, ◌==◌, ◌&&◌, Bool, true, false, List, length, Some, slice_get}
+use Rattle.std.specs.Prelude.{◌≡◌, ℕ, ◌==◌, ◌&&◌, Bool, true, false, List, length, Some, slice_get, slice_set}
 use Rattle.std.specs.List.{list_any}
 use Rattle.registry.specs.Registry.{Registry, Claims, GivesBack}
 use Rattle.registry.specs.declared.slot.Slot.{Slot}
+use Rattle.live_table.specs.Rights.{count_in}
 use Rattle.live_read.specs.Bits.{bit_in}
 use Rattle.live_read.specs.declared.parked.Parked.{Parked}
 use Rattle.live_read.specs.declared.parked.Place.{Place}
@@ -30,6 +31,15 @@ module _ {P K B : Type 0} {g : Ghosts B} where
   pub record AreFree (row : List (Place P K B g)) (slots : ℕ) : Type 0 where
     pub sized : length row ≡ slots
     pub each : (r : ℕ) (x : Place P K B g) → slice_get row r ≡ Some x → (p : Parked P K B g) × (x ≡ Free p) × (p.slot ≡ r)
+
+  -- the place of a slot had the seat that a reader has now, with as many sections so far, and keeps its claim; no other
+  -- place has changed
+  abbrev pub TakesSeat : List (Place P K B g) → List (Place P K B g) → ℕ → ℕ → Type 0
+  TakesSeat old new r count = (p : Parked P K B g) × (s : Slot) × (slice_get old r ≡ Some (Free p)) × (count_in p.seat.me.0.slot ≡ count) × (new ≡ slice_set old r (Claimed s))
+
+  -- the place of a slot has the seat that a reader had, with as many sections so far; no other place has changed
+  abbrev pub GivesSeat : List (Place P K B g) → List (Place P K B g) → ℕ → ℕ → Type 0
+  GivesSeat old new r count = (p : Parked P K B g) × (count_in p.seat.me.0.slot ≡ count) × (new ≡ slice_set old r (Free p))
 
 -- the slot was free, and is claimed
 pub record Registers (old new : Registry) (r : ℕ) : Type 0 where

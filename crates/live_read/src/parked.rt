@@ -101,6 +101,7 @@ impl<B: Site> GroupWords<B> {
         requires { P.QSBR ≡ B.qsbr }
         ensures bits { Turns self.old.words self.new.words parked.slot true }
         ensures reader { (result.slot ≡ parked.slot) × (result.word ≡ parked.word) × (result.depth ≡ 0) × (result.locks ≡ 0) }
+        ensures count { count_in result.seat.me.0.slot ≡ count_in parked.seat.me.0.slot }
         ensures later { Begins self.old.seat.me.0.seen self.new.seat.me.0.seen × (result.seat.me.0.seen ≡ self.new.seat.me.0.seen) }
     {
         let Parked {
@@ -126,6 +127,7 @@ impl<B: Site> GroupWords<B> {
         ensures was_set { bit_in self.old.words reader.slot ≡ true }
         ensures bits { Turns self.old.words self.new.words reader.slot false }
         ensures slot { result.slot ≡ reader.slot }
+        ensures count { count_in result.seat.me.0.slot ≡ count_in reader.seat.me.0.slot }
         ensures later { Begins self.old.seat.me.0.seen self.new.seat.me.0.seen × Begins reader.seat.me.0.seen self.new.seat.me.0.seen }
         ensures closed { P.QSBR ≡ true → reader.word ≢ 0 → Has (Close reader.slot (count_in reader.seat.me.0.slot)) self.new.seat.me.0.seen }
     {

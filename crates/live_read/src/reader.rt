@@ -5,7 +5,7 @@ ghost use Rattle.std.specs.Arc.{arc_value};
 ghost use Rattle.rcu_model.specs.declared.refusal.Refusal.TheVariants.{NotOpen};
 ghost use Rattle.reader_word.specs.declared.layout.Layout.TheVariants.{Wide};
 ghost use Rattle.reader_word.specs.Word.{count_of};
-ghost use Rattle.live_table.specs.Rights.{IsOwner, word_in};
+ghost use Rattle.live_table.specs.Rights.{IsOwner, count_in, word_in};
 
 use crate::section::Section;
 use crate::site::Site;
@@ -78,6 +78,7 @@ impl<P: GracePlan, K: ChainRule, B: Site> Reader<P, K, B> {
         requires { W.home witness.old ≡ (B.table, B.sizes) }
         ensures reader { (self.new.slot ≡ self.old.slot) × (self.new.word ≡ self.old.word) × (self.new.depth ≡ self.old.depth) × (self.new.locks ≡ self.old.locks) }
         ensures heard { IsAfter P.QSBR K.allows (W.seen witness.old) (W.heard witness.old) self.new.seat.me.0.heard × (self.new.seat.me.0.seen ≡ self.old.seat.me.0.seen) }
+        ensures count { count_in self.new.seat.me.0.slot ≡ count_in self.old.seat.me.0.slot }
         ensures witness { IsAsBefore W.Witness witness.old witness.new }
     {
         let told = tell_all(&self.table, witness);

@@ -11,7 +11,7 @@ ghost use Rattle.live_rule.specs.declared.rights.SlotRight.TheVariants.{Spare};
 ghost use Rattle.live_rule.specs.Seats.{but_groups};
 ghost use Rattle.live_table.specs.Rights.{count_in};
 ghost use Rattle.live_read.specs.Hearing.{IsAfter, IsAsBefore};
-ghost use Rattle.live_read.specs.Registering.{AreFree, Fits, Registers, Unregisters};
+ghost use Rattle.live_read.specs.Registering.{AreFree, Fits, GivesSeat, Registers, TakesSeat, Unregisters};
 
 use crate::parked::{GroupWords, Parked, Place};
 use crate::reader::Reader;
@@ -72,6 +72,7 @@ impl<P: GracePlan, K: ChainRule, B: Site> Registrar<P, K, B> {
         requires { (P.QSBR ≡ B.qsbr) × (W.home witness.old ≡ (B.table, B.sizes)) }
         ensures registered { IfOk result (λ r. Registers self.old.registry self.new.registry r.slot) }
         ensures idle { IfOk result (λ r. (r.depth ≡ 0) × (r.locks ≡ 0) × (B.qsbr ≡ true → r.word ≡ 0)) }
+        ensures seat { IfOk result (λ r. TakesSeat self.old.row.items self.new.row.items r.slot (count_in r.seat.me.0.slot)) }
         ensures told { IfOk result (λ r. IsAfter P.QSBR K.allows (W.seen witness.old) (W.heard witness.old) r.seat.me.0.heard) }
         ensures later { IfOk result (λ r. Begins self.old.groups.seat.me.0.seen r.seat.me.0.seen) }
         ensures refused { IfErr result (λ e. (e ≡ NoSlot) × AllAreClaimed self.old.registry × (self.new.registry ≡ self.old.registry) × (self.new.groups ≡ self.old.groups) × (self.new.row ≡ self.old.row)) }
@@ -98,6 +99,7 @@ impl<P: GracePlan, K: ChainRule, B: Site> Registrar<P, K, B> {
     pub fn unregister(&mut self, reader: Reader<P, K, B>) -> Result<(), (Refusal, Reader<P, K, B>)>
         requires { P.QSBR ≡ B.qsbr }
         ensures left { IfOk result (λ _. (reader.depth ≡ 0) × Unregisters self.old.registry self.new.registry reader.slot) }
+        ensures seat { IfOk result (λ _. GivesSeat self.old.row.items self.new.row.items reader.slot (count_in reader.seat.me.0.slot)) }
         ensures later { IfOk result (λ _. Begins self.old.groups.seat.me.0.seen self.new.groups.seat.me.0.seen × Begins reader.seat.me.0.seen self.new.groups.seat.me.0.seen) }
         ensures closed { IfOk result (λ _. P.QSBR ≡ true → reader.word ≢ 0 → Has (Close reader.slot (count_in reader.seat.me.0.slot)) self.new.groups.seat.me.0.seen) }
         ensures busy { IfErr result (λ e. (e.0 ≡ Busy) × (e.1 ≡ reader) × (0 < reader.depth) × (self.new ≡ self.old)) }

@@ -7,7 +7,7 @@ pub use live_chains::{
     store_cut, store_note, store_push, store_replace,
 };
 pub use live_groups::{claim, release, store_clear, store_set};
-pub use live_log::{AnyChain, ChainRule, Keyed, LiveEvent, ObjectEvent};
+pub use live_log::{AnyChain, ChainRule, Keyed, LiveEvent, ObjectEvent, Tabled};
 pub use live_periods::{load_group, load_seq, load_slot, store_even, store_odd, store_present};
 pub use live_queues::{
     end_work, free_work, hold_work, load_closed, load_finished, load_queued, store_closed,

@@ -14,7 +14,7 @@ ghost use Rattle.live_chains.specs.Chains.{cut_of};
 ghost use Rattle.live_read.specs.Hearing.{IsAfter, OnlyHears, Stays};
 ghost use Rattle.live_write.specs.Chains.{IsFirstWith, MayPublish, Publishes, first_word, list_in, push_by, replace_by};
 
-use crate::publish::{cut_record, push_record, replace_record, write_note};
+use crate::publish::{cut_record, hear_caller, push_record, replace_record, write_note};
 use crate::records::{Owned, Unlinked};
 use crate::walk::{count, read, seek};
 use gp_memb::GracePlan;
@@ -204,6 +204,19 @@ impl<'d, P: GracePlan, K: ChainRule, B: Site> Chain<'d, P, K, B> {
         ensures looked { Keeps self.old.seat self.new.seat × Went P.QSBR K.allows self.old.seat.me.0 self.old.seat.me self.new.seat.me × (self.new.number ≡ self.old.number) }
     {
         load_note(self.table, &mut self.seat, self.number)
+    }
+
+    /// The writer sees all that the witness has seen and heard of, by a load of the chain's note, and the witness hears of
+    /// what the writer has seen then. So the list and the note that the writer knows are those of a log that comes after
+    /// all that its caller knew. It takes no memory and never waits.
+    pub fn hear<W: Witness>(&mut self, witness: &mut W)
+        requires { W.home witness.old ≡ (B.table, B.sizes) }
+        ensures chains { (self.new.seat.me.0.chains ≡ self.old.seat.me.0.chains) × (self.new.number ≡ self.old.number) }
+        ensures told { IsAfter P.QSBR K.allows (W.seen witness.old) (W.heard witness.old) self.new.seat.me.0.seen × Begins self.old.seat.me.0.seen self.new.seat.me.0.seen × Begins self.old.seat.me.0.heard self.new.seat.me.0.seen }
+        ensures heard { W.heard witness.new ≡ self.new.seat.me.0.seen }
+        ensures same { OnlyHears W.Witness witness.old witness.new }
+    {
+        hear_caller(self.table, &mut self.seat, self.number, witness);
     }
 
     /// The chain's note becomes this one. The note comes after all that the witness had seen, and the witness hears of

@@ -4,11 +4,12 @@ ghost use Rattle.std.specs.Prelude.{◌≡◌, ◌+◌, ◌<◌, ◌≤◌, ◌�
 ghost use Rattle.rcu_model.specs.Sets.{replaced, without_object};
 ghost use Rattle.rcu_model.specs.declared.event.ObjectId.{ObjectId};
 ghost use Rattle.live_log.specs.declared.event.LiveEvent.TheVariants.{ChainNote};
+ghost use Rattle.live_log.specs.Log.{Begins};
 ghost use Rattle.live_rule.specs.Seats.{lent_chains};
 ghost use Rattle.live_table.specs.Rights.{IsFresh, IsListed, IsUnlinked, IsWriter, cell_in, object_in, own_in};
 ghost use Rattle.live_table.specs.Steps.{Keeps};
 ghost use Rattle.live_chains.specs.Chains.{cut_of};
-ghost use Rattle.live_read.specs.Hearing.{OnlyHears};
+ghost use Rattle.live_read.specs.Hearing.{IsAfter, OnlyHears};
 ghost use Rattle.live_write.specs.Chains.{MayPublish, Publishes, list_in, push_by, replace_by};
 
 use crate::walk::find;
@@ -140,6 +141,30 @@ pub(crate) fn write_note<P: GracePlan, K: ChainRule, W: Witness>(
     let told = tell_all(table, witness);
     table.learn(seat, told);
     store_note(table, seat, chain, note);
+    let heard = table.tell(seat);
+    witness.learn(table, heard);
+}
+
+/// The seat, which has a chain of its own, sees all that the witness has seen and heard of, by a load of that chain's
+/// note, and the witness hears of what the seat has seen then.
+pub(crate) fn hear_caller<P: GracePlan, K: ChainRule, W: Witness>(
+    table: &LiveTable<P, K>,
+    seat: &mut LiveSeat,
+    chain: usize,
+    witness: &mut W,
+)
+    requires seat { (seat.old.table_id ≡ table.now.words.shared.table_id) × (seat.old.me.0.sizes ≡ table.now.words.shared.key) × (chain < table.now.chains) × IsWriter seat.old.me.0 }
+    requires witness { W.home witness.old ≡ (table.now.words.shared.table_id, table.now.words.shared.key) }
+    ensures seat { Keeps seat.old seat.new × (seat.new.me.1 ≡ seat.old.me.1) × (seat.new.me.0.sizes ≡ seat.old.me.0.sizes) × IsListed seat.new.me.0 }
+    ensures chains { seat.new.me.0.chains ≡ seat.old.me.0.chains }
+    ensures told { IsAfter P.QSBR K.allows (W.seen witness.old) (W.heard witness.old) seat.new.me.0.seen × Begins seat.old.me.0.seen seat.new.me.0.seen × Begins seat.old.me.0.heard seat.new.me.0.seen }
+    ensures heard { W.heard witness.new ≡ seat.new.me.0.seen }
+    ensures same { OnlyHears W.Witness witness.old witness.new }
+{
+    load_note(table, seat, chain);
+    let told = tell_all(table, witness);
+    table.learn(seat, told);
+    load_note(table, seat, chain);
     let heard = table.tell(seat);
     witness.learn(table, heard);
 }

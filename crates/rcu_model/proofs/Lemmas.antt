@@ -13,3 +13,4 @@ pub use Rattle.rcu_model.proofs.Protection.{safe_since, was_linked_safe, was_lin
 pub use Rattle.rcu_model.proofs.Backwards.{in_reverse, state_goes_on, run_went_on, run_goes_on, state_is, run_is, run_back_prop, kept_back, open_seen_back, awaits_open_back, successor_placed_back, open_back, closed_back, open_between_back, safe_back, protected_back, linked_or_cut_back, LinkedSince, successor_since_back, awaits_none_back}
 pub use Rattle.rcu_model.proofs.Growing.{Grows, grows, grows_run, grows_back}
 pub use Rattle.rcu_model.proofs.Fitting.{live_part, live_alone, live_same, live_allowed, goes_on_live, goes_on_fitted}
+pub use Rattle.rcu_model.proofs.RunOrder.{runs_of, NoTurn, InTurn, quiet_turn, queued_turn, queued_elsewhere, run_turn, run_elsewhere}

@@ -13,6 +13,7 @@ pub mod Fitting
 pub mod Awaiting
 pub mod Endings
 pub mod Rosters
+pub mod Places
 pub mod SectionLemmas
 pub mod WaitLemmas
 pub mod HoldingLemmas
@@ -23,5 +24,6 @@ pub mod ObjectsTables
 pub mod ObjectsLinking
 pub mod ObjectsStores
 pub mod ObjectsStages
+pub mod RunOrder
 mod Sizes
 pub mod Lemmas

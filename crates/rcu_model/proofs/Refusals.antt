@@ -1,20 +1,19 @@
 -- What a refused allocation leaves of what the checker knows.
-use Rattle.std.proofs.Common.{◌≡◌, ◌↔◌, ℕ, List, Bool, Option, Some, IsSome, sym, subst}
+use Rattle.std.proofs.Common.{◌≡◌, ◌↔◌, ℕ, List, Bool, Option, IsSome, sym, subst, ◌↔◌, ◌∙◌}
 use Rattle.std.specs.Option.{unwrap_or}
+use Rattle.number_runs.specs.Runs.{Has}
 use Rattle.rcu_model.specs.declared.event.SectionId.{SectionId}
 use Rattle.rcu_model.specs.declared.event.ObjectId.{ObjectId}
 use Rattle.rcu_model.specs.declared.checker.Checker.{Checker}
 use Rattle.rcu_model.specs.declared.holdings.Holdings.{Holdings}
 use Rattle.rcu_model.specs.declared.objects.Objects.{Objects}
 use Rattle.rcu_model.specs.declared.sections.Sections.{Sections}
-use Rattle.rcu_model.specs.declared.waits.Wait.{Wait}
-use Rattle.rcu_model.specs.declared.waits.Wait.TheVariants.{Pending, Over}
 use Rattle.rcu_model.specs.declared.waits.Waits.{Waits}
 use Rattle.rcu_model.specs.Sets.{HasSection, HasNumber}
 use Rattle.rcu_model.specs.Roster.{Rostered, Awaits}
 use Rattle.rcu_model.specs.Sections.{found_place, AreSections, AwaitsSections, StaySections}
 use Rattle.rcu_model.specs.Holdings.{HasGot}
-use Rattle.rcu_model.specs.Waits.{found_wait, IsPending, AreWaits}
+use Rattle.rcu_model.specs.Waits.{IsPending, AreWaits, StayWaits}
 use Rattle.rcu_model.specs.Objects.{heads_of, states_of, IsSame}
 use Rattle.rcu_model.specs.Checker.{Follows, Keeps}
 pub use Rattle.rcu_model.proofs.ObjectsTables.{on_err}
@@ -27,8 +26,10 @@ module _ (old new : Sections) (same : StaySections old new) where
 
   sections_stay : (seen still : List SectionId) → AreSections old seen still → AreSections new seen still
   sections_stay seen still a = record {
-    known = at_places (λ f _. (s : SectionId) → HasSection seen s ↔ IsSome (f s)) a.known;
-    rostered = at_places (λ f present. Rostered (HasSection seen) (HasSection still) (λ s. unwrap_or (f s) 0) present) a.rostered;
+    known = λ s. let b = a.known s in ((λ h. (same.seen s).1 (b.0 h)), (λ h. b.1 ((same.seen s).0 h)));
+    placed = at_places (λ f _. (s : SectionId) → HasSection still s ↔ IsSome (f s)) a.placed;
+    came = a.came;
+    rostered = at_places (λ f present. Rostered (HasSection still) (HasSection still) (λ s. unwrap_or (f s) 0) present) a.rostered;
   }
 
   awaits_stay : (still awaited : List SectionId) (moment : ℕ) → AwaitsSections old still awaited moment → AwaitsSections new still awaited moment
@@ -86,20 +87,18 @@ pub keeps_queued : (k : Checker) (q : List Bool) → q ≡ k.queued → Keeps k 
 keeps_queued k q e now f = subst (λ (p : List Bool). let c : Checker = record k { queued = p } in Follows c now) (sym e) f
 
 -- the same waits
-module _ (old new : Waits) (same : found_wait new ≡ found_wait old) where
-  at_waits : (P : (ℕ → Option Wait) → Type 0) → P (found_wait old) → P (found_wait new)
-  at_waits P h = subst P (sym same) h
-
+module _ (old new : Waits) (same : StayWaits old new) where
   waits_stay : (begun over : List ℕ) → AreWaits old begun over → AreWaits new begun over
   waits_stay begun over a = record {
-    known = at_waits (λ f. (n : ℕ) → HasNumber begun n ↔ IsSome (f n)) a.known;
-    ended = at_waits (λ f. (n : ℕ) → HasNumber over n ↔ (f n ≡ Some Over)) a.ended;
+    known = λ n. subst (λ r. HasNumber begun n ↔ Has r n) (sym same.begun) (a.known n);
+    pending = λ n. subst (λ (o : Option ℕ). IsSome o ↔ (HasNumber begun n × ¬ HasNumber over n)) (sym (same.pending n)) (a.pending n);
+    began = a.began;
   }
 
   pending_stays : (n moment : ℕ) → IsPending new n moment → IsPending old n moment
-  pending_stays n moment h = subst (λ (f : ℕ → Option Wait). f n ≡ Some (Pending moment)) same h
+  pending_stays n moment h = sym (same.pending n) ∙ h
 
-pub keeps_asks : (k : Checker) (w : Waits) → found_wait w ≡ found_wait k.asks → Keeps k (record k { asks = w })
+pub keeps_asks : (k : Checker) (w : Waits) → StayWaits k.asks w → Keeps k (record k { asks = w })
 keeps_asks k w same now f = record {
   moments = f.moments;
   tickets = f.tickets;
@@ -114,7 +113,7 @@ keeps_asks k w same now f = record {
   noted = f.noted;
 }
 
-pub keeps_barriers : (k : Checker) (w : Waits) → found_wait w ≡ found_wait k.barriers → Keeps k (record k { barriers = w })
+pub keeps_barriers : (k : Checker) (w : Waits) → StayWaits k.barriers w → Keeps k (record k { barriers = w })
 keeps_barriers k w same now f = record {
   moments = f.moments;
   tickets = f.tickets;

@@ -40,11 +40,8 @@ module _ {X : Type 0} (Came Here : X → Type 0) (place : X → ℕ) (present : 
 
   pub all_have_left : (Awaited : X → Type 0) (moment : ℕ) → Rostered Came Here place present → Awaits Here Awaited place present moment → ((x : X) → ¬ Awaited x) → HaveLeft present moment
   all_have_left Awaited moment r a none i less there =
-      let n = r.named i (there_within present i there) in
-      let x = n.0 in
-      let came = n.1.0 in
-      let here = (r.marked x came).1 (subst (IsThere present) (sym n.1.1) there) in
-      none x ((a.exact x).1 (here, subst (λ j. j < moment) (sym n.1.1) less))
+      let n = r.named i there in
+      none n.0 ((a.exact n.0).1 (n.1.0, subst (λ j. j < moment) (sym n.1.1) less))
 
   -- all that are here came before now
   pub awaits_here : Rostered Came Here place present → Awaits Here Here place present (length present)
@@ -60,7 +57,7 @@ module _ {X : Type 0} (Came Here : X → Type 0) (place : X → ℕ) (present : 
     rostered_arrive r = record {
       placed = λ y h. placed y ((more y).0 h);
       apart = λ y z h k e. apart y z ((more y).0 h) ((more z).0 k) e;
-      named = λ i less. named i less (eqb_tells i (length present));
+      named = λ i there. named i there (eqb_tells i (length present));
       marked = λ y h. marked y ((more y).0 h);
       came = λ y h. (more y).1 (⊎_elim (λ (e : x ≡ y). inl e) (λ (k : Here y). inr (r.came y k)) ((here y).0 h));
     }
@@ -81,13 +78,14 @@ module _ {X : Type 0} (Came Here : X → Type 0) (place : X → ℕ) (present : 
         apart y z (inr h) (inl f) same = absurd (new_apart y h (same ∙ sym (ap place' f) ∙ last))
         apart y z (inr h) (inr k) same = r.apart y z h k (sym (keeps y h) ∙ same ∙ keeps z k)
 
-        named : (i : ℕ) → i < length (present ++ true ∷ []) → ((eqb i (length present) ≡ true) × (i ≡ length present)) ⊎ ((eqb i (length present) ≡ false) × (i ≢ length present)) → (y : X) × (Came' y × (place' y ≡ i))
-        named i less (inl e) = (x, ((more x).1 (inl refl), last ∙ sym e.1))
-        named i less (inr n) =
+        named : (i : ℕ) → IsThere (present ++ true ∷ []) i → ((eqb i (length present) ≡ true) × (i ≡ length present)) ⊎ ((eqb i (length present) ≡ false) × (i ≢ length present)) → (y : X) × (Here' y × (place' y ≡ i))
+        named i there (inl e) = (x, ((here x).1 (inl refl), last ∙ sym e.1))
+        named i there (inr n) =
             let ne = n.1 in
+            let within : i < length (present ++ true ∷ []) = there_within (present ++ true ∷ []) i there in
             let was : i < length present = omega (arith, grown) in
-            let k = r.named i was in
-            (k.0, ((more k.0).1 (inr k.1.0), keeps k.0 k.1.0 ∙ k.1.1))
+            let k = r.named i ((there_push present i was).0 there) in
+            (k.0, ((here k.0).1 (inr k.1.0), keeps k.0 (r.came k.0 k.1.0) ∙ k.1.1))
 
         marked : (y : X) → (x ≡ y) ⊎ Came y → Here' y ↔ IsThere (present ++ true ∷ []) (place' y)
         marked y (inl e) = ((λ _. there_last present (place' y) (sym (ap place' e) ∙ last)), (λ _. (here y).1 (inl e)))
@@ -118,11 +116,17 @@ module _ {X : Type 0} (Came Here : X → Type 0) (place : X → ℕ) (present : 
     rostered_leave r = record {
       placed = λ y h. let l = r.placed y h in omega (arith, length-set present (place x) false);
       apart = r.apart;
-      named = λ i l. r.named i (subst (λ n. i < n) (length-set present (place x) false) l);
+      named = λ i there. named i there (eqb_tells i (place x));
       marked = λ y h. marked y h (eqb_tells (place y) (place x));
       came = λ y h. r.came y ((less y).0 h).0;
     }
       where
+        named : (i : ℕ) → IsThere (set present (place x) false) i → ((eqb i (place x) ≡ true) × (i ≡ place x)) ⊎ ((eqb i (place x) ≡ false) × (i ≢ place x)) → (y : X) × (Here' y × (place y ≡ i))
+        named i there (inl e) = absurd (gone_set present (place x) (r.placed x (r.came x is_here)) (subst (IsThere (set present (place x) false)) e.1 there))
+        named i there (inr n) =
+            let k = r.named i ((there_set_other present (place x) i n.1).0 there) in
+            (k.0, ((less k.0).1 (k.1.0, (λ e. n.1 (sym k.1.1 ∙ ap place e))), k.1.1))
+
         marked : (y : X) → Came y → ((eqb (place y) (place x) ≡ true) × (place y ≡ place x)) ⊎ ((eqb (place y) (place x) ≡ false) × (place y ≢ place x)) → Here' y ↔ IsThere (set present (place x) false) (place y)
         marked y h (inl e) =
             let same = r.apart y x h (r.came x is_here) e.1 in
@@ -140,3 +144,22 @@ module _ {X : Type 0} (Came Here : X → Type 0) (place : X → ℕ) (present : 
         (λ h. let k = (less y).0 h.0 in (aw y).1 ((a.exact y).1 (k.0, h.1), k.1)),
       );
     }
+
+  -- of those that left, the places may be forgotten, and those of the others may be kept elsewhere
+  pub rostered_only : (place' : X → ℕ) → ((x : X) → Here x → place' x ≡ place x) → Rostered Came Here place present → Rostered Here Here place' present
+  rostered_only place' same r = record {
+    placed = λ x h. subst (λ i. i < length present) (sym (same x h)) (r.placed x (r.came x h));
+    apart = λ x y h k e. r.apart x y (r.came x h) (r.came y k) (sym (same x h) ∙ e ∙ same y k);
+    named = λ i there. let n = r.named i there in (n.0, (n.1.0, same n.0 n.1.0 ∙ n.1.1));
+    marked = λ x h. ((λ k. subst (IsThere present) (sym (same x k)) ((r.marked x (r.came x k)).0 k)), (λ _. h));
+    came = λ x h. h;
+  }
+
+  pub awaits_at : (place' : X → ℕ) → ((x : X) → Here x → place' x ≡ place x) → (Awaited : X → Type 0) (moment : ℕ) → Awaits Here Awaited place present moment → Awaits Here Awaited place' present moment
+  awaits_at place' same Awaited moment a = record {
+    past = a.past;
+    exact = λ x. (
+      (λ h. let k = (a.exact x).0 h in (k.0, subst (λ i. i < moment) (sym (same x k.0)) k.1)),
+      (λ h. (a.exact x).1 (h.0, subst (λ i. i < moment) (same x h.0) h.1)),
+    );
+  }

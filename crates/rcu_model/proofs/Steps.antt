@@ -1,20 +1,21 @@
 -- What an event leaves, the checker knows.
-use Rattle.std.proofs.Common.{◌≡◌, ◌≢◌, ◌⊎◌, ◌↔◌, inl, inr, ⊎_elim, ℕ, ◌<◌, Bool, true, false, not, List, [], ◌∷◌, ◌++◌, length, set, filter, Option, Some, None, is_some, arith, refl, sym, ap, ◌∙◌, subst, true≢false, IsTrue}
+use Rattle.std.proofs.Common.{◌≡◌, ◌≢◌, ◌⊎◌, ◌↔◌, inl, inr, ⊎_elim, ℕ, Bool, true, false, not, List, [], ◌∷◌, ◌++◌, length, set, filter, Option, Some, None, is_some, arith, refl, sym, ap, ◌∙◌, subst, true≢false, IsTrue}
 use Rattle.std.specs.Option.{option_eq}
+use Rattle.std.proofs.lemmas.List.{get_or_past}
 use Rattle.rcu_model.specs.declared.event.SectionId.{SectionId}
 use Rattle.rcu_model.specs.declared.event.ObjectId.{ObjectId}
-use Rattle.rcu_model.specs.declared.event.Event.TheVariants.{Open, Close, First, Next, Touch, Queue, Run, Answer, Clear}
+use Rattle.rcu_model.specs.declared.event.Event.TheVariants.{Open, Close, First, Next, Touch, Retire, Queue, Run, Ask, Answer, Bar, Clear}
 use Rattle.rcu_model.specs.declared.checker.Checker.{Checker}
 use Rattle.rcu_model.specs.declared.holdings.Holdings.{Holdings}
 use Rattle.rcu_model.specs.declared.objects.Objects.{Objects}
 use Rattle.rcu_model.specs.declared.sections.Sections.{Sections}
 use Rattle.rcu_model.specs.declared.waits.Waits.{Waits}
-use Rattle.rcu_model.specs.Sets.{same_section, same_object, has_object, HasSection, HasObject, HasNumber, without_section, without_object, at_section, at_object, first_of}
+use Rattle.rcu_model.specs.Sets.{same_section, same_object, has_object, HasSection, HasObject, HasNumber, without_section, without_object, at_number, at_section, at_object, first_of}
 use Rattle.rcu_model.specs.Machine.{State, start, IsAllowed, IsSuccessor, after, not_run, got}
 use Rattle.rcu_model.specs.Roster.{IsThere, HaveLeft, Rostered, Awaits}
 use Rattle.rcu_model.specs.Sections.{AreSections, AwaitsSections, Opens, Closes}
 use Rattle.rcu_model.specs.Holdings.{HasGot}
-use Rattle.rcu_model.specs.Waits.{AreWaits, IsPending, Ends}
+use Rattle.rcu_model.specs.Waits.{AreWaits, IsPending, Begins, Ends}
 use Rattle.rcu_model.specs.declared.object.ObjectState.{ObjectState}
 use Rattle.rcu_model.specs.declared.object.Stage.{Stage}
 use Rattle.rcu_model.specs.declared.object.Stage.TheVariants.{Linked, Cut as IsCut, Retired, Queued, Reclaimed}
@@ -22,9 +23,9 @@ use Rattle.rcu_model.specs.declared.object.Waiting.{Waiting}
 use Rattle.rcu_model.specs.Objects.{Knows, IsReached, FindsSuccessor, FindsWaiting, states_of, says, is_queued, is_reclaimed}
 use Rattle.rcu_model.specs.Checker.{AreHeld, Follows, Goes, Gets, GetsIn}
 use Rattle.rcu_model.proofs.Members.{In, Tells, section_tells, object_tells, in_sections, has_section_in, in_objects, has_object_in, empty_from}
-use Rattle.rcu_model.proofs.SetLemmas.{filter_has, has_filter, without_object_has, has_without_object, at_section_same, at_section_other, at_object_same, at_object_other}
+use Rattle.rcu_model.proofs.SetLemmas.{filter_has, has_filter, without_object_has, has_without_object, at_number_same, at_number_other, at_section_same, at_section_other, at_object_same, at_object_other}
 use Rattle.rcu_model.proofs.Safety.{Kept, kept_log, SafeIn, linked, cut_last, cut_before}
-use Rattle.rcu_model.proofs.Rosters.{none_awaited, all_have_left, rostered_arrive, awaits_arrive, rostered_leave, awaits_leave}
+use Rattle.rcu_model.proofs.Rosters.{none_awaited, all_have_left, awaits_here, rostered_arrive, awaits_arrive, rostered_leave, awaits_leave}
 use Rattle.rcu_model.proofs.SectionLemmas.{has_last, has_without}
 
 kept_reached : (now : State) → IsReached now → Kept now
@@ -57,7 +58,7 @@ open_goes k new s opened does now r f = record {
     moments = f.moments;
     tickets = f.tickets;
     sections = o.open_now t;
-    holdings = open_held k.holdings now s (kept_reached now r) f.holdings f.sections.rostered.came (o.fresh.0 t);
+    holdings = open_held k.holdings now s (kept_reached now r) f.holdings f.sections.came (o.fresh.0 t);
     objects = f.objects;
     retired = λ p h. o.awaits t (now.awaited p) (f.moments p) (f.retired p h);
     queued = f.queued;
@@ -136,7 +137,7 @@ get_follows k new s (Some o) g now is_open f = subst (λ c. Follows c (got now s
   moments = f.moments;
   tickets = f.tickets;
   sections = f.sections;
-  holdings = get_held k.holdings new.holdings now s o is_open (f.sections.rostered.came s is_open) g.got f.holdings;
+  holdings = get_held k.holdings new.holdings now s o is_open (f.sections.came s is_open) g.got f.holdings;
   objects = f.objects;
   retired = f.retired;
   queued = f.queued;
@@ -428,9 +429,129 @@ clear_goes k barriers b moment gone ends told now f = record {
       (λ none. told.1 (all_have_left (HasObject now.queued) (HasObject (not_run now)) f.tickets k.queued (HasObject (now.noted_objects b)) moment f.queued awaits ((no_object (now.noted_objects b)).1 none))),
     )
 
+-- a barrier begins
+pub bar_goes : (k : Checker) (barriers : Waits) (b moment : ℕ) (fresh : Bool) → moment ≡ length k.queued →
+    ((begun over : List ℕ) → AreWaits k.barriers begun over → Begins k.barriers barriers begun over b moment fresh) →
+    (now : State) → Follows k now → Goes (record k { barriers = barriers }) now (Bar b) fresh
+bar_goes k barriers b moment fresh at begins now f = record {
+  allowed = e.fresh;
+  follows = λ t. record {
+    moments = f.moments;
+    tickets = f.tickets;
+    sections = f.sections;
+    holdings = f.holdings;
+    objects = f.objects;
+    retired = f.retired;
+    queued = f.queued;
+    asks = f.asks;
+    asked = f.asked;
+    barriers = e.begun_now t;
+    noted = λ c m h. noted c m (e.pends t c m h);
+  };
+}
+  where
+    e : Begins k.barriers barriers now.noted now.cleared b moment fresh
+    e = begins now.noted now.cleared f.barriers
+
+    here : Awaits (HasObject (not_run now)) (HasObject (not_run now)) f.tickets k.queued (length k.queued)
+    here = awaits_here (HasObject now.queued) (HasObject (not_run now)) f.tickets k.queued f.queued
+
+    noted : (c m : ℕ) → ((c ≡ b) × (m ≡ moment)) ⊎ ((c ≢ b) × IsPending k.barriers c m) → Awaits (HasObject (not_run now)) (HasObject (at_number b (not_run now) now.noted_objects c)) f.tickets k.queued m
+    noted c m (inl y) =
+        subst (λ i. Awaits (HasObject (not_run now)) (HasObject (at_number b (not_run now) now.noted_objects i)) f.tickets k.queued m) (sym y.0)
+        (subst (λ (os : List ObjectId). Awaits (HasObject (not_run now)) (HasObject os) f.tickets k.queued m) (sym (at_number_same b (not_run now) now.noted_objects))
+        (subst (λ i. Awaits (HasObject (not_run now)) (HasObject (not_run now)) f.tickets k.queued i) (sym (y.1 ∙ at)) here))
+    noted c m (inr o) =
+        subst (λ (os : List ObjectId). Awaits (HasObject (not_run now)) (HasObject os) f.tickets k.queued m) (sym (at_number_other b c (not_run now) now.noted_objects o.0)) (f.noted c m o.1)
+
+-- an ask begins
+pub ask_goes : (k : Checker) (asks : Waits) (a moment : ℕ) (fresh : Bool) → ((seen still : List SectionId) → AreSections k.sections seen still → AwaitsSections k.sections still still moment) →
+    ((begun over : List ℕ) → AreWaits k.asks begun over → Begins k.asks asks begun over a moment fresh) →
+    (now : State) → Follows k now → Goes (record k { asks = asks }) now (Ask a) fresh
+ask_goes k asks a moment fresh at begins now f = record {
+  allowed = e.fresh;
+  follows = λ t. record {
+    moments = f.moments;
+    tickets = f.tickets;
+    sections = f.sections;
+    holdings = f.holdings;
+    objects = f.objects;
+    retired = f.retired;
+    queued = f.queued;
+    asks = e.begun_now t;
+    asked = λ c m h. asked c m (e.pends t c m h);
+    barriers = f.barriers;
+    noted = f.noted;
+  };
+}
+  where
+    e : Begins k.asks asks now.asked now.answered a moment fresh
+    e = begins now.asked now.answered f.asks
+
+    asked : (c m : ℕ) → ((c ≡ a) × (m ≡ moment)) ⊎ ((c ≢ a) × IsPending k.asks c m) → AwaitsSections k.sections now.sections (at_number a now.sections now.asked_sections c) m
+    asked c m (inl y) =
+        subst (λ i. AwaitsSections k.sections now.sections (at_number a now.sections now.asked_sections i) m) (sym y.0)
+        (subst (λ (ss : List SectionId). AwaitsSections k.sections now.sections ss m) (sym (at_number_same a now.sections now.asked_sections))
+        (subst (λ i. AwaitsSections k.sections now.sections now.sections i) (sym y.1) (at now.seen now.sections f.sections)))
+    asked c m (inr o) =
+        subst (λ (ss : List SectionId). AwaitsSections k.sections now.sections ss m) (sym (at_number_other a c now.sections now.asked_sections o.0)) (f.asked c m o.1)
+
+-- an object is retired
+pub retire_goes : (k : Checker) (objects : Objects) (o : ObjectId) (moment : ℕ) (done : Bool) → ((seen still : List SectionId) → AreSections k.sections seen still → AwaitsSections k.sections still still moment) →
+    ((now : State) (moments tickets : ObjectId → ℕ) → Knows k.objects now moments tickets → (IsTrue done ↔ IsAllowed now (Retire o)) × (IsTrue done → Knows objects (after now (Retire o)) (at_object o moment moments) tickets)) →
+    (now : State) → Follows k now → Goes (record k { objects = objects }) now (Retire o) done
+retire_goes k objects o moment done at retires now f = record {
+  allowed = r.0;
+  follows = λ t. record {
+    moments = at_object o moment f.moments;
+    tickets = f.tickets;
+    sections = f.sections;
+    holdings = f.holdings;
+    objects = r.1 t;
+    retired = λ p h. awaits p (object_tells o p) h;
+    queued = f.queued;
+    asks = f.asks;
+    asked = f.asked;
+    barriers = f.barriers;
+    noted = f.noted;
+  };
+}
+  where
+    r : (IsTrue done ↔ IsAllowed now (Retire o)) × (IsTrue done → Knows objects (after now (Retire o)) (at_object o moment f.moments) f.tickets)
+    r = retires now f.moments f.tickets f.objects
+
+    before : (p : ObjectId) → o ≢ p → HasObject (o ∷ now.retired) p → HasObject now.retired p
+    before p other h = ⊎_elim (λ e. absurd (other e)) (λ g. g) ((has_more o now.retired p).0 h)
+
+    awaits : (p : ObjectId) → Tells (same_object o p) o p → HasObject (o ∷ now.retired) p → AwaitsSections k.sections now.sections (at_object o now.sections now.awaited p) (at_object o moment f.moments p)
+    awaits p (inl e) h =
+        subst (λ q. AwaitsSections k.sections now.sections (at_object o now.sections now.awaited q) (at_object o moment f.moments q)) e.1
+        (rw (at_object_same o now.sections now.awaited, at_object_same o moment f.moments) (at now.seen now.sections f.sections))
+    awaits p (inr n) h =
+        rw (at_object_other o p now.sections now.awaited (λ e. n.1 (sym e)), at_object_other o p moment f.moments (λ e. n.1 (sym e))) (f.retired p (before p n.1 h))
+
+-- a section that is not open reads nothing
+pub first_stops : (k : Checker) (s : SectionId) (c : ℕ) (found : Option ObjectId) (is_open : Bool) →
+    ((seen still : List SectionId) → AreSections k.sections seen still → IsTrue is_open ↔ HasSection still s) → is_open ≡ false →
+    (now : State) → Follows k now → Goes k now (First s c found) false
+first_stops k s c found is_open told not_open now f = record {
+  allowed = ((λ t. absurd (true≢false (sym t))), (λ a. absurd (true≢false (sym ((told now.seen now.sections f.sections).1 a.0) ∙ not_open))));
+  follows = λ t. absurd (true≢false (sym t));
+}
+
+module _ (k : Checker) (s : SectionId) (o : ObjectId) (is_open : Bool) (told : (seen still : List SectionId) → AreSections k.sections seen still → IsTrue is_open ↔ HasSection still s) (now : State) (f : Follows k now) where
+  pub touch_goes : (has : Bool) → IsTrue has ↔ HasGot k.holdings s o → is_open ≡ true → Goes k now (Touch s o) has
+  touch_goes has got yes_open =
+      let opened = (told now.seen now.sections f.sections).0 yes_open in
+      let held = f.holdings.holds s o opened in
+      record { allowed = ((λ t. (opened, held.0 (got.0 t))), (λ a. got.1 (held.1 a.1))); follows = λ _. f }
+
+  pub touch_stops : is_open ≡ false → Goes k now (Touch s o) is_open
+  touch_stops not_open = record { allowed = ((λ t. absurd (true≢false (sym t ∙ not_open))), (λ a. (told now.seen now.sections f.sections).1 a.0)); follows = λ _. f }
+
 -- nothing has happened
 none_pending : (w : Waits) → AreWaits w [] [] → (n m : ℕ) → ¬ IsPending w n m
-none_pending w a n m h = true≢false (sym ((a.known n).1 (ap (λ o. is_some o) h)))
+none_pending w a n m h = true≢false (sym ((a.pending n).0 (ap (λ o. is_some o) h)).0)
 
 pub follows_start : (sections : Sections) (holdings : Holdings) (objects : Objects) (queued : List Bool) (asks barriers : Waits) →
     AreSections sections [] [] → ((s : SectionId) (o : ObjectId) → ¬ HasGot holdings s o) →
@@ -449,7 +570,7 @@ follows_start sections holdings objects queued asks barriers are none knows empt
   queued = record {
     placed = λ o h. absurd (true≢false (sym h));
     apart = λ o p h. absurd (true≢false (sym h));
-    named = λ i less. absurd (nobody i (subst (λ (l : List Bool). i < length l) empty less));
+    named = λ i there. absurd (nobody i (subst (λ (l : List Bool). IsThere l i) empty there));
     marked = λ o h. absurd (true≢false (sym h));
     came = λ o h. absurd (true≢false (sym h));
   };
@@ -459,5 +580,5 @@ follows_start sections holdings objects queued asks barriers are none knows empt
   noted = λ n m h. absurd (none_pending barriers b n m h);
 }
   where
-    nobody : (i : ℕ) → ¬ (i < 0)
-    nobody i less = absurd (omega arith)
+    nobody : (i : ℕ) → ¬ IsThere [] i
+    nobody i there = true≢false (sym there ∙ get_or_past [] i false (omega arith))

@@ -11,6 +11,7 @@ pub mod Fitting
 pub mod RunOrder
 pub mod Verdict
 pub mod Roster
+pub mod Seen
 pub mod Sections
 pub mod Waits
 pub mod Holdings

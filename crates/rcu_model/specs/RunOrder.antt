@@ -1,11 +1,11 @@
 -- The order in which the callbacks of a queue run, in a log that is a run of the machine: so each object is queued once,
 -- before it runs.
-use Rattle.std.specs.Prelude.{◌≡◌, ℕ, ◌==◌, if◌then◌else◌, List, ◌++◌, filter, Option, Some, None}
+use Rattle.std.specs.Prelude.{◌≡◌, ℕ, ◌==◌, if◌then◌else◌, List, ◌∷◌, ◌++◌, filter, Option, Some, None}
 use Rattle.std.specs.List.{filter_map}
 use Rattle.rcu_model.specs.declared.event.Event.{Event}
 use Rattle.rcu_model.specs.declared.event.Event.TheVariants.{Queue, Run}
 use Rattle.rcu_model.specs.declared.event.ObjectId.{ObjectId}
-use Rattle.rcu_model.specs.Sets.{has_object}
+use Rattle.rcu_model.specs.Sets.{In, has_object}
 
 -- the object that the event puts into this queue; and the one whose callback it runs
 abbrev pub queued_by : ℕ → Event → Option ObjectId
@@ -27,3 +27,7 @@ run_from q log = filter (λ o. has_object (queued_into q log) o) (filter_map run
 -- behind them
 abbrev pub RunsInOrder : ℕ → List Event → Type 0
 RunsInOrder q log = (waiting : List ObjectId) × (queued_into q log ≡ run_from q log ++ waiting)
+
+-- each callback of the queue runs as the first of those that wait in it: first in, first out
+abbrev pub RunsFirst : ℕ → List Event → Type 0
+RunsFirst q log = (before later : List Event) (o : ObjectId) → log ≡ before ++ Run o ∷ later → In (queued_into q before) o → (behind : List ObjectId) × (queued_into q before ≡ run_from q before ++ o ∷ behind)

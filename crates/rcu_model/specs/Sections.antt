@@ -6,6 +6,7 @@ use Rattle.rcu_model.specs.declared.event.SectionId.{SectionId}
 use Rattle.rcu_model.specs.declared.sections.Sections.{Sections}
 use Rattle.rcu_model.specs.Sets.{same_section, HasSection, without_section}
 use Rattle.rcu_model.specs.Roster.{Rostered, Awaits}
+use Rattle.rcu_model.specs.Seen.{WasSeen}
 
 abbrev pub found_place : Sections → SectionId → Option ℕ
 found_place k s = get same_section k.places s
@@ -15,8 +16,10 @@ place_of k s = unwrap_or (found_place k s) 0
 
 -- these sections were ever opened, and these are still open
 pub record AreSections (k : Sections) (seen still : List SectionId) : Type 0 where
-  pub known : (s : SectionId) → HasSection seen s ↔ IsSome (found_place k s)
-  pub rostered : Rostered (HasSection seen) (HasSection still) (place_of k) k.roster
+  pub known : (s : SectionId) → HasSection seen s ↔ WasSeen k.seen s
+  pub placed : (s : SectionId) → HasSection still s ↔ IsSome (found_place k s)
+  pub came : (s : SectionId) → HasSection still s → HasSection seen s
+  pub rostered : Rostered (HasSection still) (HasSection still) (place_of k) k.roster
 
 -- these are the sections that were opened before the moment and are still open
 abbrev pub AwaitsSections : Sections → List SectionId → List SectionId → ℕ → Type 0
@@ -34,7 +37,8 @@ pub record Closes (old new : Sections) (seen still : List SectionId) (s : Sectio
   pub closed_now : IsTrue closed → AreSections new seen (without_section s still)
   pub awaits : IsTrue closed → (awaited : List SectionId) (moment : ℕ) → AwaitsSections old still awaited moment → AwaitsSections new (without_section s still) (without_section s awaited) moment
 
--- the same sections have the same places
+-- the same sections were opened, and have the same places
 pub record StaySections (old new : Sections) : Type 0 where
+  pub seen : (s : SectionId) → WasSeen new.seen s ↔ WasSeen old.seen s
   pub places : found_place new ≡ found_place old
   pub roster : new.roster ≡ old.roster

@@ -14,8 +14,9 @@ use crate::verdict::{JudgeFault, LogFault, Rule, Verdict};
 use std::alloc::Global;
 
 /// A judge of a log that is told event by event: whether the events that it has taken are a run of the abstract machine,
-/// or else the first of them that breaks its rule. An event takes constant time, amortized and on the average (its maps
-/// hash without a secret).
+/// or else the first of them that breaks its rule. It knows closed sections and waits that are over by the runs of their
+/// numbers. Beside a look-up among these runs an event takes constant time, amortized and on the average (its maps hash
+/// without a secret).
 #[derive(Drop)]
 pub struct Judge {
     checker: Checker,
@@ -63,6 +64,13 @@ impl Judge {
         Ok(())
     }
 
+    /// How many events were taken, as long as they are a run.
+    pub fn taken(&self) -> usize
+        ensures { (log : List Event) → HasTaken self.now log → IsRun log → result ≡ length log }
+    {
+        self.taken
+    }
+
     /// The verdict on the events that were taken.
     pub fn verdict(&self) -> Verdict
         ensures { (log : List Event) → HasTaken self.now log → Judges result log }
@@ -72,7 +80,8 @@ impl Judge {
 }
 
 /// Whether the log is a run of the abstract machine, or else the first event that breaks its rule, and that rule. Takes
-/// any log, in memory linear in its length, and in time that is so on the average (its maps hash without a secret).
+/// any log, in memory linear in its length, and on the average in time that is so where numbers count up in a few threads
+/// of order (its maps hash without a secret).
 ///
 /// # Errors
 /// `Memory` where memory was refused.

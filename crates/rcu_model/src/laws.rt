@@ -1,6 +1,6 @@
 //! Laws of the machine.
 
-ghost use Rattle.std.specs.Prelude.{◌≡◌, ◌↔◌, List, Some, reverse};
+ghost use Rattle.std.specs.Prelude.{◌≡◌, ◌↔◌, ℕ, List, Some, reverse};
 ghost use Rattle.rcu_model.specs.declared.event.Event.{Event};
 ghost use Rattle.rcu_model.specs.declared.event.SectionId.{SectionId};
 ghost use Rattle.rcu_model.specs.declared.event.ObjectId.{ObjectId};
@@ -11,6 +11,7 @@ ghost use Rattle.rcu_model.specs.Sizes.{CountsItsState};
 ghost use Rattle.rcu_model.specs.Protection.{WasLinkedIn};
 ghost use Rattle.rcu_model.specs.Fitting.{IsLive, live_events};
 ghost use Rattle.rcu_model.specs.Backwards.{IsRunBack, state_back};
+ghost use Rattle.rcu_model.specs.RunOrder.{RunsFirst, RunsInOrder};
 ghost use Rattle.rcu_model.specs.Headline.{RunsOnceAfterItsSections, UsesNoReclaimed, AnswersOnceAfterItsSections, ClearsOnceAfterItsCallbacks, QueuesOnceAfterRetirement, RunsAfterItsQueueing, OpensOnce};
 
 /// The protection law: in every run, an object that a section holds is not reclaimed, and the section is open.
@@ -48,6 +49,13 @@ pub fn waits_end_once_after_what_they_await()
 pub fn callbacks_are_queued_once_before_they_run()
     ensures queued { (log : List Event) → IsRun log → QueuesOnceAfterRetirement log }
     ensures runs { (log : List Event) → IsRun log → RunsAfterItsQueueing log }
+{}
+
+/// In every run in which each callback of a queue runs as the first of those that wait in it, the callbacks of that queue
+/// run in the order in which they were queued, and none is passed over: a queue that hands out its items first in, first
+/// out is enough, whoever runs them. So it is with the list of a liburcu `call_rcu` worker.
+pub fn first_in_first_out_runs_in_order()
+    ensures { (q : ℕ) (log : List Event) → IsRun log → RunsFirst q log → RunsInOrder q log }
 {}
 
 /// In every run, a section is opened at most once.

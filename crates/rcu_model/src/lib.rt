@@ -12,6 +12,7 @@ mod printing;
 mod refusal;
 mod roster;
 mod sections;
+mod seen;
 mod states;
 mod verdict;
 mod waits;
@@ -20,8 +21,8 @@ pub use event::{Event, ObjectId, SectionId};
 pub use judge::{Judge, check_log};
 pub use laws::{
     callbacks_are_queued_once_before_they_run, callbacks_run_once_after_their_sections,
-    every_run_counts_its_state, every_run_is_safe, held_is_not_reclaimed,
-    readings_change_no_live_event, runs_read_both_ways, sections_open_once,
+    every_run_counts_its_state, every_run_is_safe, first_in_first_out_runs_in_order,
+    held_is_not_reclaimed, readings_change_no_live_event, runs_read_both_ways, sections_open_once,
     waits_end_once_after_what_they_await, what_was_linked_is_not_reclaimed,
 };
 pub use refusal::Refusal;

@@ -6,23 +6,30 @@ ghost use Rattle.rcu_model.specs.Roster.{IsThere, HaveLeft, IsNext};
 use std::alloc::{AllocError, Global};
 use std::marker::Model;
 
-/// Those that came, each at its place, in the order of their coming, from 0: whether they are still there.
+// So many places are kept in any case.
+const FEW: usize = 64;
+
+/// Those that came, each at its place, in the order of their coming, from 0: whether they are still there. Memory is linear
+/// in the number of those that came since the first one that is still there.
 #[derive(Drop)]
 pub(crate) struct Roster {
+    // How many of the first places are forgotten: their holders have left.
+    forgotten: usize,
+    // The places after them.
     present: Vec<bool>,
-    // The first place whose holder is still there.
+    // The first of these whose holder is still there.
     oldest: usize,
 }
 
 impl Model for Roster {
     ghost use Rattle.std.specs.Prelude.{List, Bool};
-    ghost use Rattle.rcu_model.specs.Roster.{IsFront};
+    ghost use Rattle.rcu_model.specs.Roster.{all_places, IsKept};
 
     ghost Value = { List Bool };
 
-    ghost view = { λ r. r.present.items };
+    ghost view = { λ r. all_places r.forgotten r.present.items };
 
-    ghost invariant = { λ r. IsFront r.present.items r.oldest };
+    ghost invariant = { λ r. IsKept r.forgotten r.present.items r.oldest };
 }
 
 impl Roster {
@@ -31,6 +38,7 @@ impl Roster {
         ensures { result ≡ [] }
     {
         Roster {
+            forgotten: 0,
             present: Vec::new(alloc),
             oldest: 0,
         }
@@ -39,13 +47,16 @@ impl Roster {
     /// Somebody comes: answers the place.
     ///
     /// # Errors
-    /// `AllocError` where memory was refused.
+    /// `AllocError` where memory was refused, or no number is left for the place.
     pub(crate) fn arrive(&mut self) -> Result<usize, AllocError>
         ensures place { IfOk result (λ place. place ≡ length self.old) }
         ensures came { OnOk result (self.new ≡ self.old ++ true ∷ []) }
         ensures refused { OnErr result (self.new ≡ self.old) }
     {
-        let place = self.present.len();
+        let place = self.moment();
+        if place == usize::MAX {
+            return Err(AllocError);
+        }
         self.present.push(true)?;
         Ok(place)
     }
@@ -66,30 +77,49 @@ impl Roster {
         if !self.is_there(place) {
             return false;
         }
-        self.present[place] = false;
+        let at = place - self.forgotten;
+        self.present[at] = false;
         self.oldest = first_present(&self.present, self.oldest);
+        self.forget_the_first();
         true
+    }
+
+    // Forgets the places before the first whose holder is still there, once they are half of them.
+    fn forget_the_first(&mut self)
+        ensures { self.new ≡ self.old }
+    {
+        let kept = self.present.len() - self.oldest;
+        if self.oldest < FEW || self.oldest < kept {
+            return;
+        }
+        self.present.rotate_left(self.oldest);
+        self.present.truncate(kept);
+        self.forgotten += self.oldest;
+        self.oldest = 0;
     }
 
     /// Whether the one at the place came and has not left.
     pub(crate) fn is_there(&self, place: usize) -> bool
         ensures { IsTrue result ↔ IsThere self.now place }
     {
-        place < self.present.len() && self.present[place]
+        match place.checked_sub(self.forgotten) {
+            Some(at) => at < self.present.len() && self.present[at],
+            None => false,
+        }
     }
 
     /// How many came so far.
     pub(crate) fn moment(&self) -> usize
         ensures { result ≡ length self.now }
     {
-        self.present.len()
+        self.forgotten + self.present.len()
     }
 
     /// Whether all that came before the moment have left.
     pub(crate) fn all_left(&self, moment: usize) -> bool
         ensures { IsTrue result ↔ HaveLeft self.now moment }
     {
-        moment <= self.oldest || self.oldest == self.present.len()
+        moment <= self.forgotten + self.oldest || self.oldest == self.present.len()
     }
 }
 

@@ -7,12 +7,15 @@ ghost use Rattle.rcu_model.specs.Sections.{AreSections, AwaitsSections, Opens, C
 
 use crate::event::SectionId;
 use crate::roster::Roster;
+use crate::seen::SeenSections;
 use std::alloc::{AllocError, Global};
 use std::collections::HashMap;
 
-/// The sections that were ever opened, each with its place in the order of opening.
+/// The sections that were ever opened, and those that are open, each with its place in the order of opening. Those that
+/// are closed take next to no memory where ordinals count up.
 #[derive(Drop)]
 pub(crate) struct Sections {
+    seen: SeenSections,
     places: HashMap<SectionId, usize>,
     roster: Roster,
 }
@@ -23,6 +26,7 @@ impl Sections {
         ensures { AreSections result [] [] }
     {
         Sections {
+            seen: SeenSections::new(alloc),
             places: HashMap::new(alloc),
             roster: Roster::new(alloc),
         }
@@ -36,9 +40,14 @@ impl Sections {
         ensures opened { IfOk result (λ opened. (seen still : List SectionId) → AreSections self.old seen still → Opens self.old self.new seen still section opened) }
         ensures refused { OnErr result (StaySections self.old self.new) }
     {
+        self.places.reserve(1)?;
         let place = self.roster.arrive()?;
-        match self.places.insert(section, place) {
-            Ok(before) => Ok(before.is_none()),
+        match self.seen.insert(section) {
+            Ok(true) => {
+                self.places.insert(section, place)?;
+                Ok(true)
+            }
+            Ok(false) => Ok(false),
             Err(_) => {
                 self.roster.forget_last();
                 Err(AllocError)
@@ -50,8 +59,8 @@ impl Sections {
     pub(crate) fn close(&mut self, section: SectionId) -> bool
         ensures { (seen still : List SectionId) → AreSections self.old seen still → Closes self.old self.new seen still section result }
     {
-        match self.places.get(&section) {
-            Some(place) => self.roster.leave(*place),
+        match self.places.remove(&section) {
+            Some(place) => self.roster.leave(place),
             None => false,
         }
     }
@@ -60,10 +69,7 @@ impl Sections {
     pub(crate) fn is_open(&self, section: SectionId) -> bool
         ensures { (seen still : List SectionId) → AreSections self.now seen still → (IsTrue result ↔ HasSection still section) }
     {
-        match self.places.get(&section) {
-            Some(place) => self.roster.is_there(*place),
-            None => false,
-        }
+        self.places.contains_key(&section)
     }
 
     /// The moment from which on sections that open are not awaited.

@@ -13,7 +13,7 @@ use Rattle.rcu_model.specs.declared.event.ObjectId.{ObjectId}
 use Rattle.rcu_model.specs.declared.refusal.Refusal.{Refusal}
 use Rattle.rcu_model.specs.Machine.{State, start, after, after_all}
 use Rattle.rcu_model.specs.Sets.{same_object, has_object}
-use Rattle.rcu_model.proofs.Lemmas.{In, object_tells, in_objects, has_object_in, in_append, filter_has}
+use Rattle.rcu_model.proofs.Lemmas.{In, in_append, filter_has, runs_of, NoTurn, InTurn, quiet_turn, queued_turn, queued_elsewhere, run_turn, run_elsewhere}
 use Rattle.callback_queue.specs.declared.item.Item.{Item}
 use Rattle.callback_queue.specs.declared.item.Ticket.{Ticket}
 use Rattle.callback_queue.specs.Queue.{items_of, without_first, object_with}
@@ -64,9 +64,6 @@ use Rattle.world.proofs.Sweeping.{Each}
 
 -- ---- the log
 
-abbrev runs_of : List Event → List ObjectId
-runs_of log = filter_map run_by log
-
 -- what ran is reclaimed
 stays_reclaimed : (now : State) (e : Event) (o : ObjectId) → In now.reclaimed o → In (after now e).reclaimed o
 stays_reclaimed now (events.Open s) o h = h
@@ -111,11 +108,6 @@ all_reclaimed now [] o (inr h) = absurd h
 all_reclaimed now (e ∷ es) o (inl h) = all_reclaimed (after now e) es o (inl (stays_reclaimed now e o h))
 all_reclaimed now (e ∷ es) o (inr h) = all_reclaimed (after now e) es o (one_reclaimed now e es o h)
 
--- events that neither queue nor run a callback
-record NoTurn (es : List Event) : Type 0 where
-  runs : filter_map run_by es ≡ []
-  queues : (q : ℕ) → queued_into q es ≡ []
-
 other_runs : (e : Event) → IsOther e → (run_by e ≡ None) × ((q : ℕ) → queued_by q e ≡ None)
 other_runs (events.Open s) h = (refl, λ q. refl)
 other_runs (events.Close s) h = (refl, λ q. refl)
@@ -143,41 +135,6 @@ others_run (e ∷ es) h =
       queues = λ q. ap (λ x. cons_option x (queued_into q es)) (one.1 q) ∙ more.queues q;
     }
 
-none_more : (f : Event → Option ObjectId) (log es : List Event) → filter_map f es ≡ [] → filter_map f (log ++ es) ≡ filter_map f log
-none_more f log es none = filter_map-append f log es ∙ ap (λ os. filter_map f log ++ os) none ∙ append-nil (filter_map f log)
-
--- a filter by tests that agree on what is there
-filter_same : (p q : ObjectId → Bool) (xs : List ObjectId) → ((x : ObjectId) → In xs x → p x ≡ q x) → filter p xs ≡ filter q xs
-filter_same p q [] agree = refl
-filter_same p q (x ∷ xs) agree = ap (λ b. cond b (x ∷ filter p xs) (filter p xs)) (agree x (inl refl)) ∙ ap (λ l. cond (q x) (x ∷ l) l) (filter_same p q xs (λ y h. agree y (inr h)))
-
-not_same : (o p : ObjectId) → o ≢ p → same_object o p ≡ false
-not_same o p apart = ⊎_elim (λ (y : (same_object o p ≡ true) × (o ≡ p)). absurd (apart y.1)) (λ (n : (same_object o p ≡ false) × (o ≢ p)). n.0) (object_tells o p)
-
--- another object at the end is not found
-has_more : (os : List ObjectId) (o p : ObjectId) → o ≢ p → has_object (os ++ o ∷ []) p ≡ has_object os p
-has_more [] o p apart = ap (λ b. b || false) (not_same o p apart)
-has_more (x ∷ os) o p apart = ap (λ b. same_object x p || b) (has_more os o p apart)
-
-not_there : (os : List ObjectId) (o : ObjectId) → (¬ In os o) → has_object os o ≡ false
-not_there os o none = by (has_object os o) refl
-  where
-    by : (b : Bool) → has_object os o ≡ b → has_object os o ≡ false
-    by true e = absurd (none (in_objects os o e))
-    by false e = e
-
-queued_here : (q : ℕ) (o : ObjectId) → queued_into q (events.Queue o q ∷ []) ≡ o ∷ []
-queued_here q o = ⊎_elim
-    (λ (y : ((q == q) ≡ true) × (q ≡ q)). ap (λ b. cons_option (if b then Some o else None) []) y.0)
-    (λ (n : ((q == q) ≡ false) × (q ≢ q)). absurd (n.1 refl))
-    (eqb_tells q q)
-
-queued_else : (j q : ℕ) (o : ObjectId) → q ≢ j → queued_into q (events.Queue o j ∷ []) ≡ []
-queued_else j q o apart = ⊎_elim
-    (λ (y : ((j == q) ≡ true) × (j ≡ q)). absurd (apart (sym y.1)))
-    (λ (n : ((j == q) ≡ false) × (j ≢ q)). ap (λ b. cons_option (if b then Some o else None) []) n.0)
-    (eqb_tells j q)
-
 -- ---- what waits
 
 abbrev objects_of : Items → List ObjectId
@@ -197,94 +154,37 @@ abbrev waiting_in : QueueState → List ObjectId
 waiting_in q = objects_of (items_of q.items)
 
 -- of each queue: what was queued in it has run, in order, or waits in it, in order
-abbrev InTurn : List Event → List QueueState → Type 0
-InTurn log qs = (q : ℕ) → queued_into q log ≡ run_from q log ++ waiting_in (queue_at qs q)
+abbrev AllInTurn : List Event → List QueueState → Type 0
+AllInTurn log qs = (q : ℕ) → InTurn q log (waiting_in (queue_at qs q))
 
--- these events told nothing of this queue
-abbrev Passes : List Event → List Event → ℕ → Type 0
-Passes log es q = (queued_into q (log ++ es) ≡ queued_into q log) × (run_from q (log ++ es) ≡ run_from q log)
+-- what waits in a queue is another list
+waits : (q : ℕ) (log : List Event) (ws ws' : List ObjectId) → ws' ≡ ws → InTurn q log ws → InTurn q log ws'
+waits q log ws ws' same = subst (InTurn q log) (sym same)
 
--- nothing was queued in it, and what ran was none of its objects
-passes : (log es : List Event) (q : ℕ) → queued_into q es ≡ [] → filter (λ o. has_object (queued_into q log) o) (runs_of es) ≡ [] → Passes log es q
-passes log es q none unseen = (
-  same,
-  ap (λ os. filter (λ o. has_object os o) (runs_of (log ++ es))) same
-      ∙ ap (filter here) (filter_map-append run_by log es)
-      ∙ filter-append here (runs_of log) (runs_of es)
-      ∙ ap (λ l. run_from q log ++ l) unseen
-      ∙ append-nil (run_from q log),
-)
-  where
-    here : ObjectId → Bool
-    here o = has_object (queued_into q log) o
-
-    same : queued_into q (log ++ es) ≡ queued_into q log
-    same = none_more (queued_by q) log es none
-
-turn_over : (log es : List Event) (q : ℕ) (ws ws' : List ObjectId) → Passes log es q → ws' ≡ ws → queued_into q log ≡ run_from q log ++ ws →
-    queued_into q (log ++ es) ≡ run_from q (log ++ es) ++ ws'
-turn_over log es q ws ws' same stay k = same.0 ∙ k ∙ ap (λ l. l ++ ws) (sym same.1) ∙ ap (λ l. run_from q (log ++ es) ++ l) (sym stay)
-
-quiet : (log : List Event) (qs qs' : List QueueState) (es : List Event) → NoTurn es → ((q : ℕ) → waiting_in (queue_at qs' q) ≡ waiting_in (queue_at qs q)) → InTurn log qs → InTurn (log ++ es) qs'
-quiet log qs qs' es none stay k q =
-    turn_over log es q _ _ (passes log es q (none.queues q) (ap (filter (λ o. has_object (queued_into q log) o)) none.runs)) (stay q) (k q)
+quiet : (log : List Event) (qs qs' : List QueueState) (es : List Event) → NoTurn es → ((q : ℕ) → waiting_in (queue_at qs' q) ≡ waiting_in (queue_at qs q)) → AllInTurn log qs → AllInTurn (log ++ es) qs'
+quiet log qs qs' es none stay k q = waits q (log ++ es) _ _ (stay q) (quiet_turn q log es _ none (k q))
 
 -- one is queued that did not run
 queues_one : (log : List Event) (qs qs' : List QueueState) (j : ℕ) (o : ObjectId) → (¬ In (runs_of log) o) → waiting_in (queue_at qs' j) ≡ waiting_in (queue_at qs j) ++ o ∷ [] →
-    ((q : ℕ) → q ≢ j → waiting_in (queue_at qs' q) ≡ waiting_in (queue_at qs q)) → InTurn log qs → InTurn (log ++ events.Queue o j ∷ []) qs'
-queues_one log qs qs' j o fresh here beside k q = by (decide_number q j)
-  where
-    log' : List Event
-    log' = log ++ events.Queue o j ∷ []
-
-    mine : queued_into j log' ≡ run_from j log' ++ waiting_in (queue_at qs' j)
-    mine =
-        let more : queued_into j log' ≡ queued_into j log ++ o ∷ [] = filter_map-append (queued_by j) log (events.Queue o j ∷ []) ∙ ap (λ l. queued_into j log ++ l) (queued_here j o) in
-        let runs : runs_of log' ≡ runs_of log = none_more run_by log (events.Queue o j ∷ []) refl in
-        let same : run_from j log' ≡ run_from j log =
-        ap (λ os. filter (λ p. has_object os p) (runs_of log')) more ∙ ap (filter (λ p. has_object (queued_into j log ++ o ∷ []) p)) runs
-        ∙ filter_same (λ p. has_object (queued_into j log ++ o ∷ []) p) (λ p. has_object (queued_into j log) p) (runs_of log) (λ p h. has_more (queued_into j log) o p (λ e. fresh (subst (In (runs_of log)) (sym e) h))) in
-        more ∙ ap (λ l. l ++ o ∷ []) (k j) ∙ append_assoc (run_from j log) (waiting_in (queue_at qs j)) (o ∷ [])
-        ∙ ap (λ l. run_from j log ++ l) (sym here) ∙ ap (λ l. l ++ waiting_in (queue_at qs' j)) (sym same)
-
-    by : (q ≡ j) ⊎ (q ≢ j) → queued_into q log' ≡ run_from q log' ++ waiting_in (queue_at qs' q)
-    by (inl e) = subst (λ n. queued_into n log' ≡ run_from n log' ++ waiting_in (queue_at qs' n)) (sym e) mine
-    by (inr apart) = turn_over log (events.Queue o j ∷ []) q _ _ (passes log (events.Queue o j ∷ []) q (queued_else j q o apart) refl) (beside q apart) (k q)
+    ((q : ℕ) → q ≢ j → waiting_in (queue_at qs' q) ≡ waiting_in (queue_at qs q)) → AllInTurn log qs → AllInTurn (log ++ events.Queue o j ∷ []) qs'
+queues_one log qs qs' j o fresh here beside k q = ⊎_elim
+    (λ (e : q ≡ j). subst (λ n. InTurn n (log ++ events.Queue o j ∷ []) (waiting_in (queue_at qs' n))) (sym e) (waits j (log ++ events.Queue o j ∷ []) _ _ here (queued_turn j log _ o fresh (k j))))
+    (λ (apart : q ≢ j). waits q (log ++ events.Queue o j ∷ []) _ _ (beside q apart) (queued_elsewhere j q log _ o apart (k q)))
+    (decide_number q j)
 
 -- the first of a queue runs, which waits in no other and did not run
 runs_first : (log : List Event) (qs qs' : List QueueState) (j : ℕ) (o : ObjectId) → (¬ In (runs_of log) o) → waiting_in (queue_at qs j) ≡ o ∷ waiting_in (queue_at qs' j) →
-    ((q : ℕ) → q ≢ j → (waiting_in (queue_at qs' q) ≡ waiting_in (queue_at qs q)) × (¬ In (waiting_in (queue_at qs q)) o)) → InTurn log qs → InTurn (log ++ events.Run o ∷ []) qs'
-runs_first log qs qs' j o fresh first beside k q = by (decide_number q j)
+    ((q : ℕ) → q ≢ j → (waiting_in (queue_at qs' q) ≡ waiting_in (queue_at qs q)) × (¬ In (waiting_in (queue_at qs q)) o)) → AllInTurn log qs → AllInTurn (log ++ events.Run o ∷ []) qs'
+runs_first log qs qs' j o fresh first beside k q = ⊎_elim
+    (λ (e : q ≡ j). subst (λ n. InTurn n (log ++ events.Run o ∷ []) (waiting_in (queue_at qs' n))) (sym e) (run_turn j log _ o (subst (InTurn j log) first (k j))))
+    (λ (apart : q ≢ j). waits q (log ++ events.Run o ∷ []) _ _ ((beside q apart).0) (run_elsewhere q log _ o (none apart) (k q)))
+    (decide_number q j)
   where
-    es : List Event
-    es = events.Run o ∷ []
-
-    mine : queued_into j (log ++ es) ≡ run_from j (log ++ es) ++ waiting_in (queue_at qs' j)
-    mine =
-        let same : queued_into j (log ++ es) ≡ queued_into j log = none_more (queued_by j) log es refl in
-        let is : queued_into j log ≡ run_from j log ++ o ∷ waiting_in (queue_at qs' j) = k j ∙ ap (λ l. run_from j log ++ l) first in
-        let there : has_object (queued_into j log) o ≡ true = has_object_in (queued_into j log) o (subst (λ l. In l o) (sym is) (in_right (run_from j log) (o ∷ waiting_in (queue_at qs' j)) o (inl refl))) in
-        let more : run_from j (log ++ es) ≡ run_from j log ++ o ∷ [] =
-        ap (λ os. filter (λ p. has_object os p) (runs_of (log ++ es))) same ∙ ap (filter (λ p. has_object (queued_into j log) p)) (filter_map-append run_by log es)
-        ∙ filter-append (λ p. has_object (queued_into j log) p) (runs_of log) (o ∷ []) ∙ ap (λ b. run_from j log ++ cond b (o ∷ []) []) there in
-        same ∙ is ∙ sym (append_assoc (run_from j log) (o ∷ []) (waiting_in (queue_at qs' j))) ∙ ap (λ l. l ++ waiting_in (queue_at qs' j)) (sym more)
-      where
-        in_right : (xs ys : List ObjectId) (x : ObjectId) → In ys x → In (xs ++ ys) x
-        in_right [] ys x h = h
-        in_right (y ∷ xs) ys x h = inr (in_right xs ys x h)
-
-    others : q ≢ j → queued_into q (log ++ es) ≡ run_from q (log ++ es) ++ waiting_in (queue_at qs' q)
-    others apart = turn_over log es q _ _ (passes log es q refl (ap (λ b. cond b (o ∷ []) []) (not_there (queued_into q log) o none))) ((beside q apart).0) (k q)
-      where
-        none : ¬ In (queued_into q log) o
-        none h = ⊎_elim
-            (λ (ran : In (run_from q log) o). fresh ((filter_has (λ p. has_object (queued_into q log) p) (runs_of log) o ran).0))
-            (λ (waits : In (waiting_in (queue_at qs q)) o). (beside q apart).1 waits)
-            (in_append (run_from q log) (waiting_in (queue_at qs q)) o (subst (λ l. In l o) (k q) h))
-
-    by : (q ≡ j) ⊎ (q ≢ j) → queued_into q (log ++ es) ≡ run_from q (log ++ es) ++ waiting_in (queue_at qs' q)
-    by (inl e) = subst (λ n. queued_into n (log ++ es) ≡ run_from n (log ++ es) ++ waiting_in (queue_at qs' n)) (sym e) mine
-    by (inr apart) = others apart
+    none : q ≢ j → ¬ In (queued_into q log) o
+    none apart h = ⊎_elim
+        (λ (ran : In (run_from q log) o). fresh ((filter_has (λ p. has_object (queued_into q log) p) (runs_of log) o ran).0))
+        (λ (waits : In (waiting_in (queue_at qs q)) o). (beside q apart).1 waits)
+        (in_append (run_from q log) (waiting_in (queue_at qs q)) o (subst (λ l. In l o) (k q) h))
 
 -- one queue changes, and not what waits in it
 waits_same : (f : QueueState → QueueState) (qs : List QueueState) (j : ℕ) → j < length qs → items_of (f (queue_at qs j)).items ≡ items_of (queue_at qs j).items →
@@ -313,7 +213,7 @@ worker_keeps seq (worker.Ran tickets ticket item) = λ q. refl
 worker_keeps seq (worker.Counts tickets ticket) = λ q. refl
 
 abbrev StaysInTurn : {P : Type 0} → BoardView P → Change P → Type 0
-StaysInTurn w change = InTurn w.log w.queues → InTurn (changed w change).log (changed w change).queues
+StaysInTurn w change = AllInTurn w.log w.queues → AllInTurn (changed w change).log (changed w change).queues
 
 -- ---- the rows
 
@@ -376,7 +276,7 @@ module _ {P : Type 0} (plans : Plans P) (layout : Layout) (slots : ℕ) (laws : 
           (ap (λ (y : UpdaterState P). y.place) (get_or_from_slice_get w.updaters u x idle at.was) ∙ at.at) (l.callbacks.retiring u)).1.0
 
   turn_run : (k : ℕ) (x : WorkerState P) (tickets : Tickets) (first : Ticket × ObjectId) → WorkedAt plans w k x (worker.Pops tickets) → first_in (slice_get w.queues k) ≡ Some first →
-      InTurn w.log w.queues → InTurn (w.log ++ events.Run first.1 ∷ []) (acted_at w.queues k act.Pop)
+      AllInTurn w.log w.queues → AllInTurn (w.log ++ events.Run first.1 ∷ []) (acted_at w.queues k act.Pop)
   turn_run k x tickets first at is = by (mine k).items.ready refl (sym (ap first_in (slice_get-get_or w.queues k empty_queue_state inside)) ∙ is)
     where
       inside : k < length w.queues
@@ -392,7 +292,7 @@ module _ {P : Type 0} (plans : Plans P) (layout : Layout) (slots : ℕ) (laws : 
       second y z e = ap (λ (v : Ticket × ObjectId). v.1) (let same : y ≡ z = cc in same)
 
       by : (ready : Items) → (mine k).items.ready ≡ ready → object_with ((mine k).items.gone + 1) ready ≡ Some first →
-          InTurn w.log w.queues → InTurn (w.log ++ events.Run o ∷ []) (acted_at w.queues k act.Pop)
+          AllInTurn w.log w.queues → AllInTurn (w.log ++ events.Run o ∷ []) (acted_at w.queues k act.Pop)
       by [] e none_first = absurd (none_some first none_first)
       by (i ∷ rest) e here = runs_first w.log w.queues after' k o
           (not_yet o (subst (λ (y : Life). LifeKept y o now.retired now.queued now.reclaimed) (queued k (subst (λ os. In os o) (sym was) (inl refl))) (l.callbacks.items.lives o)).2)
@@ -447,15 +347,15 @@ module _ {P : Type 0} (plans : Plans P) (layout : Layout) (slots : ℕ) (laws : 
     counts = λ k x tickets ticket item core at. quiet w.log w.queues _ _ none (waits_same (acted act.Finish) w.queues k (worker_queue k x at.was) refl);
   }
 
-  turn_step : (line : Line) → InTurn w.log w.queues → InTurn ((outcome_of plans w line).world).log ((outcome_of plans w line).world).queues
+  turn_step : (line : Line) → AllInTurn w.log w.queues → AllInTurn ((outcome_of plans w line).world).log ((outcome_of plans w line).world).queues
   turn_step line k = by (change_of plans w line) (each_row plans w (StaysInTurn w) rows line)
     where
-      by : (x : Result (Change P) Refusal) → Each (StaysInTurn w) x → InTurn ((with_change w x).world).log ((with_change w x).world).queues
+      by : (x : Result (Change P) Refusal) → Each (StaysInTurn w) x → AllInTurn ((with_change w x).world).log ((with_change w x).world).queues
       by (Ok change) stays = stays k
       by (Err e) stays = k
 
 module _ {P : Type 0} (plans : Plans P) (layout : Layout) (slots : ℕ) (laws : Laws plans layout slots) where
-  turn_lines : (w : BoardView P) (lines : List Line) → Logged plans layout slots laws w → InTurn w.log w.queues → InTurn (world_after plans w lines).log (world_after plans w lines).queues
+  turn_lines : (w : BoardView P) (lines : List Line) → Logged plans layout slots laws w → AllInTurn w.log w.queues → AllInTurn (world_after plans w lines).log (world_after plans w lines).queues
   turn_lines w [] l k = k
   turn_lines w (line ∷ lines) l k = turn_lines ((outcome_of plans w line).world) lines (logged_step plans layout slots laws w line l) (turn_step plans layout slots laws w l line k)
 

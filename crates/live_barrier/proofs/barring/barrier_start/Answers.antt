@@ -6,7 +6,8 @@ use Rattle.live_rule.specs.declared.view.Sizes.{Sizes}
 use Rattle.live_rule.specs.declared.view.View.{View}
 use Rattle.live_rule.specs.Places.{queued_at}
 use Rattle.live_rule.specs.Steps.{Precedes}
-use Rattle.live_barrier.proofs.Barriers.{found_more, covers_more, given_more}
+use Rattle.live_barrier.specs.Barrier.{AreNoted}
+use Rattle.live_barrier.proofs.Barriers.{found_more, covers_more, given_more, noted_more}
 use Rattle.live_barrier.proofs.barring.barrier_start.Goals as goal
 
 pub loop-queue-init : goal.loop-queue-init
@@ -18,7 +19,7 @@ loop-queue-init g c =
     let z : List ℕ = 0 ∷ 0 ∷ 0 ∷ 0 ∷ 0 ∷ 0 ∷ 0 ∷ 0 ∷ [] in
     let asked = subst (λ (t : Seat _ View). Precedes old t.me.0.seen × Begins t.me.0.seen new.seen × (t.me.0.sizes ≡ old.sizes)) (sym same) ((e.looked.2.0, e.looked.2.1), ([], refl), ap (λ (v : View). v.sizes) e.looked.1) in (
       e.seat,
-      ((queued_at c.args.table.now.words.shared.key 0, c.load_queued.result) ∷ [], e.looked),
+      ((queued_at c.args.table.now.words.shared.key 0, c.load_queued.result) ∷ [], e.looked, ([], refl, refl)),
       asked,
       refl,
       covers_more c.of-asked.result.value.me.0.seen c.of-asked.result.value.me.0.seen new.seen 0 c.load_queued.result z (omega arith) ([], refl) asked.1 e.count.0 (λ q low. absurd (omega arith)),
@@ -39,7 +40,11 @@ loop-queue-preserved g c =
     let long = i.3 in
     let new : View = c.load_queued-in-loop-queue.new.seat.me.0 in (
       (e.seat.0 ∙ i.0.0, e.seat.1 ∙ i.0.1),
-      ((queued_at c.args.table.now.words.shared.key c.loop-queue.queue, c.load_queued-in-loop-queue.result) ∷ i.1.0, found_more g.P.GracePlan.QSBR g.K.ChainRule.allows i.1.0 c.args.seat.now.me c.loop-queue.seat.me c.load_queued-in-loop-queue.new.seat.me _ _ i.1.1 e.looked),
+      (
+        (queued_at c.args.table.now.words.shared.key c.loop-queue.queue, c.load_queued-in-loop-queue.result) ∷ i.1.0,
+        found_more g.P.GracePlan.QSBR g.K.ChainRule.allows i.1.0 c.args.seat.now.me c.loop-queue.seat.me c.load_queued-in-loop-queue.new.seat.me _ _ i.1.1 e.looked,
+        noted_more c.args.table.now.words.shared.key c.loop-queue.counts c.loop-queue.queue c.load_queued-in-loop-queue.result i.1.0 (omega arith) i.1.2,
+      ),
       (i.2.0, begins_trans c.of-asked.result.value.me.0.seen c.loop-queue.seat.me.0.seen new.seen i.2.1 e.looked.2.0, i.2.2),
       length-set c.loop-queue.counts c.loop-queue.queue c.load_queued-in-loop-queue.result ∙ i.3,
       covers_more c.of-asked.result.value.me.0.seen c.loop-queue.seat.me.0.seen new.seen c.loop-queue.queue c.load_queued-in-loop-queue.result c.loop-queue.counts (omega arith) i.2.1 e.looked.2.0 e.count.0 i.4,
@@ -58,7 +63,12 @@ pub returns-clause-seat : goal.returns-clause-seat
 returns-clause-seat g c = c.loop-queue.invariant.0
 
 pub returns-clause-looked : goal.returns-clause-looked
-returns-clause-looked g c = c.loop-queue.invariant.1
+returns-clause-looked g c =
+    let i = c.loop-queue.invariant in
+    let over = c.loop-queue-test.false in
+    let queues = c.args.table.now.sized.4 in
+    let all : c.loop-queue.queue ≡ c.args.table.now.words.shared.key.queues = omega arith in
+    (i.1.0, i.1.1, subst (λ n. AreNoted c.args.table.now.words.shared.key c.loop-queue.counts n i.1.0) all i.1.2)
 
 pub returns-clause-asked : goal.returns-clause-asked
 returns-clause-asked g c = c.loop-queue.invariant.2

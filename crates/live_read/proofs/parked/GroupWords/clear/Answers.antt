@@ -1,4 +1,4 @@
-use Rattle.std.proofs.Common.{rules, [], ◌∷◌, true≢false, sym, ap, subst, refl}
+use Rattle.std.proofs.Common.{rules, ◌≡◌, [], ◌∷◌, ◌∙◌, true≢false, sym, ap, subst, refl}
 use Rattle.live_log.specs.declared.event.LiveEvent.TheVariants.{Close}
 use Rattle.live_log.specs.Log.{Begins, Has}
 use Rattle.live_log.proofs.Lemmas.{begins_trans}
@@ -39,3 +39,13 @@ returns-clause-closed g c is online =
         | else-QSBR-via-else-QSBR x ↦ true≢false (search rules)
       ])
     ])
+
+pub returns-clause-count : goal.returns-clause-count
+returns-clause-count g c =
+    let was = count_in c.args.reader.seat.me.0.slot in
+    let now : count_in c.cut_slot-seat.result.me.0.slot ≡ count_in c.if-QSBR.seat.me.0.slot = search rules in
+    let same : count_in c.if-QSBR.seat.me.0.slot ≡ was = elim c.if-QSBR.branch [
+      | then-QSBR+then-word-ne0 w ↦ subst (λ z. count_in z.me.0.slot ≡ was) (sym w.seat-is) (search rules)
+      | else-QSBR w ↦ ap (λ z. count_in z.me.0.slot) w.seat-is
+    ] in
+    now ∙ same

@@ -17,3 +17,6 @@ invariant_of-self-clause-fits g c = let now = c.args.self.now in
 pub returns-clause-left : goal.returns-clause-left
 returns-clause-left g c = let now = c.args.self.now in
     (search rules, record { slot = c.in-Claimed.slot; is = (now.fits.claimed c.args.reader.slot c.in-Claimed.slot (c.change.ensures.was ∙ ap Some c.in-Claimed.is)).0; gives_back = c.give_back.ensures })
+
+pub returns-clause-seat : goal.returns-clause-seat
+returns-clause-seat g c = (c.clear-parked.result, c.clear-parked.ensures.count, c.change.ensures.row)

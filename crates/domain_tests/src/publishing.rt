@@ -1,0 +1,437 @@
+//! Records, chains and sections that read them, by the calls of a domain: on one thread, and with four readers and two
+//! writers in threads of their own. The words of a payload are equal, so a mixed one shows.
+
+ghost use Rattle.std.specs.Prelude.{◌≡◌, ◌<◌, false, true};
+ghost use Rattle.std.specs.Thread.{IsSync};
+
+use crate::deleter::Adds;
+use domain::{Chain, Domain, LiveConfig, Opened, Reader, Record, Section, Site};
+use gp_memb::{GracePlan, MembPlan};
+use gp_qsbr::QsbrPlan;
+use live_words::AnyChain;
+use rcu_model::Refusal;
+use std::alloc::Global;
+use std::marker::Brand;
+use std::sync::Wait;
+use std::thread::{Threads, join};
+
+/// How many records each writer pushes, of which it replaces every second one, and cuts every fourth.
+const PUSHES: u64 = 200;
+
+/// How many walks each reader makes.
+const WALKS: u64 = 200;
+
+/// How many records a long chain has.
+const LONG: u64 = 10_000;
+
+/// What a section met on a chain.
+#[derive(Clone, Copy)]
+struct Walk {
+    /// Whether each record had four equal words, which fell from record to record.
+    whole: bool,
+    /// How many it met.
+    met: u64,
+    /// How many of even words it met.
+    even: u64,
+}
+
+/// A walk over a chain, to its end where each record is whole.
+fn walks<P: GracePlan, B: Site>(
+    section: &mut Section<P, AnyChain, B>,
+    chain: usize,
+) -> Result<Walk, Refusal>
+    requires { (P.QSBR ≡ B.qsbr) × (0 < section.old.reader.now.depth) }
+    ensures reader { section.new.reader.ghost_name ≡ section.old.reader.ghost_name }
+    ensures counts { (section.new.reader.now.depth ≡ section.old.reader.now.depth) × (section.new.reader.now.locks ≡ section.old.reader.now.locks) }
+{
+    let mut at = section.first(chain)?;
+    let mut walk = Walk {
+        whole: false,
+        met: 0,
+        even: 0,
+    };
+    let mut before = u64::MAX;
+    for _ in 0..=LONG {
+        let Some(held) = at else {
+            walk.whole = true;
+            return Ok(walk);
+        };
+        let [key, value, rank, last] = section.read(held);
+        if value != key || rank != key || last != key || key >= before {
+            return Ok(walk);
+        }
+        before = key;
+        walk.met += 1;
+        walk.even += 1 - key % 2;
+        at = section.next(held);
+    }
+    Ok(walk)
+}
+
+/// Pushes so many records to a chain, with rising words. Whether each was taken and pushed.
+fn pushes<P: GracePlan + Drop, B: Site, R: Wait>(
+    rt: &R,
+    domain: &Domain<P, AnyChain, B, Adds>,
+    record: &mut Record<B>,
+    chain: usize,
+    count: u64,
+) -> bool {
+    let Ok(mut writer) = domain.chain(record, chain) else {
+        return false;
+    };
+    for number in 0..count {
+        let Ok(owned) = domain.alloc(rt, record, [number; 4]) else {
+            return false;
+        };
+        writer.push(record, owned);
+    }
+    true
+}
+
+/// Cuts every second record of a chain, from the first one on. Whether each was there.
+fn cuts<P: GracePlan + Drop, B: Site>(
+    domain: &Domain<P, AnyChain, B, Adds>,
+    record: &mut Record<B>,
+    chain: usize,
+    count: usize,
+) -> bool {
+    let Ok(mut writer) = domain.chain(record, chain) else {
+        return false;
+    };
+    for index in 0..count {
+        if writer.cut(record, index).is_err() {
+            return false;
+        }
+    }
+    true
+}
+
+/// Puts a record of other words into the place of the first one.
+fn replaces<P: GracePlan + Drop, B: Site, R: Wait>(
+    rt: &R,
+    domain: &Domain<P, AnyChain, B, Adds>,
+    record: &mut Record<B>,
+    writer: &mut Chain<P, AnyChain, B>,
+    word: u64,
+) -> bool {
+    let Ok(owned) = domain.alloc(rt, record, [word; 4]) else {
+        return false;
+    };
+    writer.replace(record, 0, owned).is_ok()
+}
+
+/// Pushes records to a chain, replaces every second one, and cuts one behind it after every fourth. Whether none was
+/// refused.
+fn writes<P: GracePlan + Drop, B: Site, R: Wait>(
+    rt: &R,
+    domain: &Domain<P, AnyChain, B, Adds>,
+    record: &mut Record<B>,
+    chain: usize,
+) -> bool {
+    let Ok(mut writer) = domain.chain(record, chain) else {
+        return false;
+    };
+    for number in 0..PUSHES {
+        let Ok(owned) = domain.alloc(rt, record, [2 * number; 4]) else {
+            return false;
+        };
+        writer.push(record, owned);
+        if number % 2 == 1 && !replaces(rt, domain, record, &mut writer, 2 * number + 1) {
+            return false;
+        }
+        if number % 4 == 3 && writer.cut(record, 1).is_err() {
+            return false;
+        }
+    }
+    true
+}
+
+/// A reader with no section or lock open.
+#[derive(Drop)]
+struct Idle<P: GracePlan, B: Site> {
+    reader: Reader<P, AnyChain, B>,
+    ghost idle: { (reader.depth ≡ 0) × (reader.locks ≡ 0) },
+}
+
+fn registered<P: GracePlan + Drop, B: Site, R: Wait>(
+    rt: &R,
+    domain: &Domain<P, AnyChain, B, Adds>,
+    record: &mut Record<B>,
+) -> Result<Idle<P, B>, Refusal> {
+    let reader = domain.register(rt, record)?;
+    Ok(Idle { reader })
+}
+
+/// One walk in a section of its own.
+fn one_walk<P: GracePlan, B: Site>(
+    reader: &mut Reader<P, AnyChain, B>,
+    chain: usize,
+) -> Result<Walk, Refusal>
+    requires { (P.QSBR ≡ B.qsbr) × (reader.old.depth ≡ 0) × (reader.old.locks ≡ 0) }
+    ensures { (reader.new.depth ≡ 0) × (reader.new.locks ≡ 0) }
+{
+    let mut section = reader.section()?;
+    let walked = walks(&mut section, chain);
+    section.close();
+    walked
+}
+
+/// So many walks, each in a section of its own, with an announcement after each in the quiescent-state flavour. Whether
+/// each met whole records alone, and so many of even words at least.
+fn reads<P: GracePlan, B: Site>(idle: Idle<P, B>, chain: usize, times: u64, even: u64) -> bool
+    requires { P.QSBR ≡ B.qsbr }
+{
+    let Idle { mut reader } = idle;
+    if P::QSBR && reader.online().is_err() {
+        return false;
+    }
+    for _ in 0..times {
+        let Ok(walk) = one_walk(&mut reader, chain) else {
+            return false;
+        };
+        if !walk.whole || walk.even < even {
+            return false;
+        }
+        if P::QSBR && reader.quiescent().is_err() {
+            return false;
+        }
+    }
+    !P::QSBR || reader.offline().is_ok()
+}
+
+/// Two readers, of a chain each, in a thread each.
+fn two_read<P: GracePlan + Send + Sync, B: Site + Send + Sync, R: Threads + Sync>(
+    rt: &R,
+    one: Idle<P, B>,
+    two: Idle<P, B>,
+) -> bool
+    requires { P.QSBR ≡ B.qsbr }
+{
+    let (first, second) = join(
+        rt,
+        move ||
+            requires { P.QSBR ≡ B.qsbr }
+        { reads(one, 0, WALKS, 0) },
+        move ||
+            requires { P.QSBR ≡ B.qsbr }
+        { reads(two, 1, WALKS, 0) },
+    );
+    first && second
+}
+
+/// Two writers, of a chain each, in a thread each.
+fn two_write<P: GracePlan + Drop + Send + Sync, B: Site + Send + Sync, R: Threads + Wait + Sync>(
+    rt: &R,
+    domain: &Domain<P, AnyChain, B, Adds>,
+    one: Record<B>,
+    two: Record<B>,
+) -> bool {
+    let (first, second) = join(
+        rt,
+        move ||
+            requires { IsSync R.row }
+        {
+            let mut record = one;
+            writes(rt, domain, &mut record, 0)
+        },
+        move ||
+            requires { IsSync R.row }
+        {
+            let mut record = two;
+            writes(rt, domain, &mut record, 1)
+        },
+    );
+    first && second
+}
+
+/// Four readers and two writers on two chains. Whether no call was refused, and each payload was whole.
+fn serves<P: GracePlan + Drop + Send + Sync, B: Site + Send + Sync, R: Threads + Wait + Sync>(
+    rt: &R,
+    alloc: Global,
+    opened: Opened<P, AnyChain>,
+) -> Result<(bool, bool, bool), Refusal>
+    requires { (P.QSBR ≡ B.qsbr) × (opened.table.words.shared.table_id ≡ B.table) × (opened.table.words.shared.key ≡ B.sizes) }
+{
+    let (domain, mut record) = opened.named::<B, Adds>(alloc)?;
+    let other = domain.split(&mut record);
+    let one = registered(rt, &domain, &mut record)?;
+    let two = registered(rt, &domain, &mut record)?;
+    let three = registered(rt, &domain, &mut record)?;
+    let four = registered(rt, &domain, &mut record)?;
+    let home = &domain;
+    let (first, (second, written)) = join(
+        rt,
+        move ||
+            requires { IsSync R.row × (P.QSBR ≡ B.qsbr) }
+        { two_read(rt, one, two) },
+        move ||
+            requires { IsSync R.row × (P.QSBR ≡ B.qsbr) }
+        {
+            join(
+                rt,
+                move ||
+                    requires { IsSync R.row × (P.QSBR ≡ B.qsbr) }
+                { two_read(rt, three, four) },
+                move ||
+                    requires { IsSync R.row }
+                { two_write(rt, home, record, other) },
+            )
+        },
+    );
+    Ok((first, second, written))
+}
+
+/// A reader walks a long chain while its writer cuts the records of odd words. Whether each walk met all that stay:
+/// words fall along a walk, so none is met twice.
+fn thins<B: Site + Send + Sync, R: Threads + Wait + Sync>(
+    rt: &R,
+    alloc: Global,
+    opened: Opened<MembPlan, AnyChain>,
+) -> Result<(bool, bool, bool), Refusal>
+    requires { (B.qsbr ≡ false) × (opened.table.words.shared.table_id ≡ B.table) × (opened.table.words.shared.key ≡ B.sizes) }
+{
+    let (domain, mut record) = opened.named::<B, Adds>(alloc)?;
+    let pushed = pushes(rt, &domain, &mut record, 0, LONG);
+    let reader = registered(rt, &domain, &mut record)?;
+    let home = &domain;
+    let (whole, cut) = join(
+        rt,
+        move ||
+            requires { B.qsbr ≡ false }
+        { reads(reader, 0, 3, LONG / 2) },
+        move || {
+            let mut record = record;
+            cuts(home, &mut record, 0, LONG as usize / 2)
+        },
+    );
+    Ok((pushed, whole, cut))
+}
+
+/// What is refused: a second record of one, a chain that is held, one that is not there, and an index past the end. A
+/// record that was to replace what is not there comes back.
+fn refuses<B: Site, R: Wait>(
+    rt: &R,
+    alloc: Global,
+    opened: Opened<MembPlan, AnyChain>,
+) -> Result<[bool; 8], Refusal>
+    requires { (B.qsbr ≡ false) × (opened.table.words.shared.table_id ≡ B.table) × (opened.table.words.shared.key ≡ B.sizes) }
+{
+    let (domain, mut record) = opened.named::<B, Adds>(alloc)?;
+    let owned = domain.alloc(rt, &mut record, [1, 2, 3, 4])?;
+    let second = matches!(
+        domain.alloc(rt, &mut record, [5; 4]),
+        Err(Refusal::PoolFull)
+    );
+    domain.discard(&mut record, owned);
+    let again = domain.alloc(rt, &mut record, [6; 4])?;
+    let mut writer = domain.chain(&mut record, 0)?;
+    let held = matches!(domain.chain(&mut record, 0), Err(Refusal::Busy));
+    let absent = matches!(domain.chain(&mut record, 2), Err(Refusal::NoPlace));
+    let past = matches!(writer.cut(&mut record, 0), Err(Refusal::NoPlace));
+    let missing = match writer.replace(&mut record, 0, again) {
+        Ok(_) => false,
+        Err((refusal, owned)) => {
+            domain.discard(&mut record, owned);
+            matches!(refusal, Refusal::NoPlace)
+        }
+    };
+    let back = domain.alloc(rt, &mut record, [7; 4]).is_ok();
+    drop(writer);
+    let free = domain.chain(&mut record, 0).is_ok();
+    let mut reader = domain.register(rt, &mut record)?;
+    let mut section = reader.section()?;
+    let unread = matches!(section.first(2), Err(Refusal::NoPlace));
+    section.close();
+    Ok([second, held, absent, past, missing, back, free, unread])
+}
+
+/// What a writer and a section tell of one chain: two are pushed, the first is replaced, and the second cut.
+fn tells<B: Site, R: Wait>(
+    rt: &R,
+    alloc: Global,
+    opened: Opened<QsbrPlan, AnyChain>,
+) -> Result<(usize, Option<[u64; 4]>, Option<[u64; 4]>, u64, (bool, u64)), Refusal>
+    requires { (B.qsbr ≡ true) × (opened.table.words.shared.table_id ≡ B.table) × (opened.table.words.shared.key ≡ B.sizes) }
+{
+    let (domain, mut record) = opened.named::<B, Adds>(alloc)?;
+    let mut reader = domain.register(rt, &mut record)?;
+    let one = domain.alloc(rt, &mut record, [1, 2, 3, 4])?;
+    let two = domain.alloc(rt, &mut record, [5, 6, 7, 8])?;
+    let three = domain.alloc(rt, &mut record, [9; 4])?;
+    let mut writer = domain.chain(&mut record, 1)?;
+    writer.push(&mut record, one);
+    writer.push(&mut record, two);
+    let last = writer.get(1);
+    let _replaced = writer.replace(&mut record, 0, three).is_ok();
+    let _cut = writer.cut(&mut record, 1).is_ok();
+    writer.set_note(&mut record, 11);
+    let length = writer.len();
+    let first = writer.get(0);
+    let note = writer.note();
+    reader.online()?;
+    let walked = one_walk(&mut reader, 1)?;
+    Ok((length, last, first, note, (walked.whole, walked.met)))
+}
+
+fn of_one_record() -> LiveConfig {
+    LiveConfig {
+        slots: 1,
+        queues: 1,
+        chains: 2,
+        pool: 1,
+    }
+}
+
+fn of_many_records() -> LiveConfig {
+    LiveConfig {
+        slots: 4,
+        queues: 1,
+        chains: 2,
+        pool: 10_000,
+    }
+}
+
+#[test]
+fn what_is_not_there_is_refused(rt: HostRuntime) {
+    let opened = Opened::<MembPlan, AnyChain>::new(rt.alloc(), of_one_record()).expect(
+        &rt, "memory",
+    );
+    let refused = refuses::<Brand, _>(&rt, rt.alloc(), opened).expect(&rt, "not refused");
+    assert_eq!(rt; refused, [true; 8]);
+}
+
+#[test]
+fn a_chain_is_written_and_read(rt: HostRuntime) {
+    let opened = Opened::<QsbrPlan, AnyChain>::new(rt.alloc(), of_many_records()).expect(
+        &rt, "memory",
+    );
+    let told = tells::<Brand, _>(&rt, rt.alloc(), opened).expect(&rt, "not refused");
+    assert_eq!(rt; told, (1, Some([1, 2, 3, 4]), Some([9; 4]), 11, (true, 1)));
+}
+
+#[test]
+fn sections_read_whole_payloads(rt: HostRuntime) {
+    let opened = Opened::<MembPlan, AnyChain>::new(rt.alloc(), of_many_records()).expect(
+        &rt, "memory",
+    );
+    let served = serves::<MembPlan, Brand, _>(&rt, rt.alloc(), opened).expect(&rt, "not refused");
+    assert_eq!(rt; served, (true, true, true));
+}
+
+#[test]
+fn announcing_readers_read_whole_payloads(rt: HostRuntime) {
+    let opened = Opened::<QsbrPlan, AnyChain>::new(rt.alloc(), of_many_records()).expect(
+        &rt, "memory",
+    );
+    let served = serves::<QsbrPlan, Brand, _>(&rt, rt.alloc(), opened).expect(&rt, "not refused");
+    assert_eq!(rt; served, (true, true, true));
+}
+
+#[test]
+fn a_walk_meets_all_that_stays(rt: HostRuntime) {
+    let opened = Opened::<MembPlan, AnyChain>::new(rt.alloc(), of_many_records()).expect(
+        &rt, "memory",
+    );
+    let thinned = thins::<Brand, _>(&rt, rt.alloc(), opened).expect(&rt, "not refused");
+    assert_eq!(rt; thinned, (true, true, true));
+}

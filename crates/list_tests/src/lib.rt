@@ -1,0 +1,9 @@
+#![tactic(auto)]
+//! Tests of keyed lists by their public face, also under threads.
+
+#[cfg(test)]
+mod deleter;
+#[cfg(test)]
+mod lists;
+#[cfg(test)]
+mod lookups;

@@ -1,5 +1,0 @@
-use Rattle.std.specs.Prelude.{false}
-use Rattle.live_tests.proofs.seeing.a_callback_comes_after_the_free_and_before_the_count.Given as goal
-
-abbrev pub ghosts-paused : goal.ghosts-paused
-ghosts-paused g a = record { table = a.opened.table.words.shared.table_id; sizes = a.opened.table.words.shared.key; qsbr = false }

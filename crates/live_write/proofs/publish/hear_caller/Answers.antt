@@ -1,0 +1,29 @@
+use Rattle.std.proofs.Common.{Bool, ◌≡◌, ℕ, [], ap, sym, ◌∙◌, subst}
+use Rattle.atomic_table.specs.Table.{Me}
+use Rattle.live_log.specs.Log.{Log, Begins}
+use Rattle.live_log.proofs.Lemmas.{begins_trans}
+use Rattle.live_rule.specs.declared.view.View.{View}
+use Rattle.live_read.specs.Hearing.{IsAfter}
+use Rattle.live_write.proofs.Publishing.{hears_caller}
+use Rattle.live_write.proofs.publish.hear_caller.Goals as goal
+
+pub returns-clause-chains : goal.returns-clause-chains
+returns-clause-chains g c =
+    let qsbr = g.P.GracePlan.QSBR in let allows = g.K.ChainRule.allows in let v = c.args.seat.now.me in let w = c.learn.new.seat.me in let seen = g.W.Witness.seen c.args.witness.now in let heard = g.W.Witness.heard c.args.witness.now in
+    let hears = hears_caller qsbr allows seen heard v c.load_note.new.seat.me w c.load_note.ensures.looked c.tell_all-told.result.me.0 c.tell_all-told.ensures.told c.learn.ensures.2 in
+    ap (λ z. z.0.chains) c.tell-heard.ensures.2 ∙ (ap (λ (u : View). u.chains) c.load_note-2.ensures.looked.1 ∙ hears.chains)
+
+pub returns-clause-told : goal.returns-clause-told
+returns-clause-told g c =
+    let qsbr = g.P.GracePlan.QSBR in let allows = g.K.ChainRule.allows in let v = c.args.seat.now.me in let w = c.learn.new.seat.me in let n = c.load_note-2.new.seat.me in let seen = g.W.Witness.seen c.args.witness.now in let heard = g.W.Witness.heard c.args.witness.now in
+    let hears = hears_caller qsbr allows seen heard v c.load_note.new.seat.me w c.load_note.ensures.looked c.tell_all-told.result.me.0 c.tell_all-told.ensures.told c.learn.ensures.2 in
+    let later = c.load_note-2.ensures.looked.2 in
+    subst (λ (l : Log). IsAfter qsbr allows seen heard l × Begins v.0.seen l × Begins v.0.heard l) (ap (λ z. z.0.seen) (sym c.tell-heard.ensures.2)) (
+      record {
+        after_seen = begins_trans seen w.0.heard n.0.seen hears.of_caller.0 later.1;
+        after_heard = begins_trans heard w.0.heard n.0.seen hears.of_caller.1 later.1;
+        run = later.2;
+      },
+      begins_trans v.0.seen w.0.seen n.0.seen hears.of_writer.0 later.0,
+      begins_trans v.0.heard w.0.seen n.0.seen hears.of_writer.1 later.0,
+    )

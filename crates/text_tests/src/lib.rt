@@ -1,0 +1,9 @@
+#![tactic(auto)]
+//! Tests of schedules, answers and commands by the public faces of their crates.
+
+#[cfg(test)]
+mod chains;
+#[cfg(test)]
+mod commands;
+#[cfg(test)]
+mod schedules;

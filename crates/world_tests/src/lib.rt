@@ -1,0 +1,5 @@
+#![tactic(auto)]
+//! Tests of the world by its public face.
+
+#[cfg(test)]
+mod worlds;
