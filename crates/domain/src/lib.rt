@@ -25,6 +25,7 @@ pub use live_items::Job;
 pub use live_read::{Held, Reader, Record, Section, Site, Witness};
 pub use live_reclaim::Deleter;
 pub use live_status::Counts;
-pub use live_write::{Chain, Owned, Unlinked};
+pub use live_write::{Owned, Unlinked};
 pub use opened::Opened;
 pub use worker_end::{Stop, WorkerEnd};
+pub use writing::Chain;

@@ -11,13 +11,17 @@ ghost use Rattle.live_read.specs.Hearing.{IsAfter, Stays};
 ghost use Rattle.live_write.specs.Searching.{AreTaken, IsUsedUp};
 
 use crate::domain::Domain;
+use callback_queue::Callback;
 use gp_memb::GracePlan;
 use live_read::{Site, Witness};
 use live_reclaim::Deleter;
 use live_words::ChainRule;
-use live_write::{Chain, Owned, Unlinked};
+use live_write::{Owned, Unlinked};
 use rcu_model::{ObjectId, Refusal};
 use std::sync::Wait;
+
+/// The one writer of a chain of a domain.
+pub type Chain<'d, P, K, B, D = Callback> = live_write::Chain<'d, P, K, B, Domain<P, K, B, D>>;
 
 impl<P: GracePlan + Drop, K: ChainRule, B: Site, D: Deleter> Domain<P, K, B, D> {
     /// A record with these four words, which no chain links yet. The caller hears of what was seen at that.
@@ -61,15 +65,16 @@ impl<P: GracePlan + Drop, K: ChainRule, B: Site, D: Deleter> Domain<P, K, B, D> 
         &'d self,
         witness: &mut W,
         chain: usize,
-    ) -> Result<Chain<'d, P, K, B>, Refusal>
+    ) -> Result<Chain<'d, P, K, B, D>, Refusal>
         requires { W.home witness.old ≡ (B.table, B.sizes) }
         ensures held { IfOk result (λ c. (c.number ≡ chain) × (chain < B.sizes.chains) × (W.looks witness.new ≡ (hold_at B.sizes chain, 0) ∷ W.looks witness.old) × Begins (W.heard witness.new) c.seat.me.0.seen) }
+        ensures domain { IfOk result (λ c. c.home.now ≡ self.now) }
         ensures run { IfOk result (λ c. IsLiveRun P.QSBR K.allows c.seat.me.0.seen × (lent_chains c.seat.me.0.chains ≡ [])) }
         ensures refused { IfErr result (λ e. ((e ≡ NoPlace) × (B.sizes.chains ≤ chain) × (witness.new ≡ witness.old)) ⊎ ((e ≡ Busy) × (chain < B.sizes.chains) × (W.looks witness.new ≡ (hold_at B.sizes chain, 1) ∷ W.looks witness.old))) }
         ensures heard { chain < B.sizes.chains → IsAfter P.QSBR K.allows (W.seen witness.old) (W.heard witness.old) (W.heard witness.new) }
         ensures same { Stays W.Witness witness.old witness.new × (W.loads witness.new ≡ W.loads witness.old) }
     {
-        Chain::hold(&self.table, witness, chain)
+        Chain::hold(self, &self.table, witness, chain)
     }
 
     /// The object of a record that was cut, by a load of the record's header, which is kept among the looks of the

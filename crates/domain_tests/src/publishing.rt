@@ -5,7 +5,7 @@ ghost use Rattle.std.specs.Prelude.{◌≡◌, ◌<◌, false, true};
 ghost use Rattle.std.specs.Thread.{IsSync};
 
 use crate::deleter::Adds;
-use domain::{Chain, Domain, LiveConfig, Opened, Reader, Record, Section, Site};
+use domain::{Chain, Domain, LiveConfig, Opened, Owned, Reader, Record, Section, Site};
 use gp_memb::{GracePlan, MembPlan};
 use gp_qsbr::QsbrPlan;
 use live_words::AnyChain;
@@ -111,7 +111,7 @@ fn replaces<P: GracePlan + Drop, B: Site, R: Wait>(
     rt: &R,
     domain: &Domain<P, AnyChain, B, Adds>,
     record: &mut Record<B>,
-    writer: &mut Chain<P, AnyChain, B>,
+    writer: &mut Chain<P, AnyChain, B, Adds>,
     word: u64,
 ) -> bool {
     let Ok(owned) = domain.alloc(rt, record, [word; 4]) else {
@@ -307,6 +307,35 @@ fn thins<B: Site + Send + Sync, R: Threads + Wait + Sync>(
     Ok((pushed, whole, cut))
 }
 
+/// Whether a replacement in an empty chain is refused. The record comes back, and is discarded.
+fn replaces_nothing<B: Site>(
+    domain: &Domain<MembPlan, AnyChain, B, Adds>,
+    record: &mut Record<B>,
+    writer: &mut Chain<MembPlan, AnyChain, B, Adds>,
+    owned: Owned<B>,
+) -> bool {
+    match writer.replace(record, 0, owned) {
+        Ok(_) => false,
+        Err((refusal, owned)) => {
+            domain.discard(record, owned);
+            refusal == Refusal::NoPlace
+        }
+    }
+}
+
+/// Whether a section is refused the first object of a chain that is not there.
+fn finds_no_chain<B: Site>(reader: &mut Reader<MembPlan, AnyChain, B>) -> Result<bool, Refusal>
+    requires { (B.qsbr ≡ false) × (reader.old.depth ≡ 0) × (reader.old.locks ≡ 0) }
+{
+    let mut section = reader.section()?;
+    let found = section.first(2);
+    section.close();
+    match found {
+        Ok(_) => Ok(false),
+        Err(refusal) => Ok(refusal == Refusal::NoPlace),
+    }
+}
+
 /// What is refused: a second record of one, a chain that is held, one that is not there, and an index past the end. A
 /// record that was to replace what is not there comes back.
 fn refuses<B: Site, R: Wait>(
@@ -328,20 +357,12 @@ fn refuses<B: Site, R: Wait>(
     let held = matches!(domain.chain(&mut record, 0), Err(Refusal::Busy));
     let absent = matches!(domain.chain(&mut record, 2), Err(Refusal::NoPlace));
     let past = matches!(writer.cut(&mut record, 0), Err(Refusal::NoPlace));
-    let missing = match writer.replace(&mut record, 0, again) {
-        Ok(_) => false,
-        Err((refusal, owned)) => {
-            domain.discard(&mut record, owned);
-            matches!(refusal, Refusal::NoPlace)
-        }
-    };
+    let missing = replaces_nothing(&domain, &mut record, &mut writer, again);
     let back = domain.alloc(rt, &mut record, [7; 4]).is_ok();
     drop(writer);
     let free = domain.chain(&mut record, 0).is_ok();
     let mut reader = domain.register(rt, &mut record)?;
-    let mut section = reader.section()?;
-    let unread = matches!(section.first(2), Err(Refusal::NoPlace));
-    section.close();
+    let unread = finds_no_chain(&mut reader)?;
     Ok([second, held, absent, past, missing, back, free, unread])
 }
 

@@ -69,7 +69,7 @@ fn three<B: Site, R: Wait>(
         return Err(Refusal::Memory);
     };
     let unlinked = writer.cut(record, 0)?;
-    let Ok(alone) = domain.retire(rt, record, unlinked, Adds(2)) else {
+    let Ok(alone) = writer.domain().retire(rt, record, unlinked, Adds(2)) else {
         return Err(Refusal::Memory);
     };
     let unlinked = writer.cut(record, 0)?;

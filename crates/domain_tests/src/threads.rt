@@ -296,8 +296,8 @@ fn spawns<B: Site + Send + Sync + 'static, R: Threads + Wait + Copy + Send + 'st
 }
 
 /// Pushes a record, and reads what is first then.
-fn pushes<P: GracePlan, B: Site>(
-    mut chain: Chain<'_, P, AnyChain, B>,
+fn pushes<P: GracePlan + Drop, B: Site>(
+    mut chain: Chain<'_, P, AnyChain, B, Adds>,
     mut record: Record<B>,
     owned: Owned<B>,
 ) -> Option<[u64; 4]> {

@@ -22,7 +22,7 @@ fn listed<'d, P: GracePlan + Drop, B: Site, R: Wait>(
     domain: &'d Domain<P, Keyed, B, Says>,
     record: &mut Record<B>,
     chain: usize,
-) -> Result<RcuList<'d, P, B>, Refusal> {
+) -> Result<RcuList<'d, P, B, Says>, Refusal> {
     let writer = domain.chain(record, chain)?;
     let Ok(mut list) = RcuList::new(writer) else {
         return Err(Refusal::BadConfig);

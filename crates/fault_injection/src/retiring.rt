@@ -23,7 +23,7 @@ fn chain_and_record<'d, P: GracePlan + Drop, B: Site, R: Wait>(
     domain: &'d Domain<P, AnyChain, B, Says>,
     record: &mut Record<B>,
     chain: usize,
-) -> Result<(Chain<'d, P, AnyChain, B>, Owned<B>), Refusal> {
+) -> Result<(Chain<'d, P, AnyChain, B, Says>, Owned<B>), Refusal> {
     let owned = domain.alloc(rt, record, [1; 4])?;
     Ok((domain.chain(record, chain)?, owned))
 }

@@ -39,7 +39,7 @@ fn update<P: GracePlan + Drop, B: Site, R: Wait>(
     shared: &Shared<'_, P, B>,
     record: &mut Record<B>,
     reader: &mut Reader<P, AnyChain, B>,
-    writer: &mut Chain<'_, P, AnyChain, B>,
+    writer: &mut Chain<'_, P, AnyChain, B, Forgets>,
     word: u64,
 ) -> Result<(), Refusal> {
     if P::QSBR {
@@ -55,7 +55,7 @@ fn operations<P: GracePlan + Drop, B: Site, R: Wait>(
     shared: &Shared<'_, P, B>,
     record: &mut Record<B>,
     reader: &mut Reader<P, AnyChain, B>,
-    writer: &mut Chain<'_, P, AnyChain, B>,
+    writer: &mut Chain<'_, P, AnyChain, B, Forgets>,
 ) -> Result<(), Refusal> {
     for number in 0..shared.count {
         if number % UPDATE_EVERY == 0 {

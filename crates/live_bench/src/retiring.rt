@@ -37,7 +37,7 @@ pub(crate) fn published<'d, P: GracePlan + Drop, B: Site, D: Deleter, R: Wait>(
     domain: &'d Domain<P, AnyChain, B, D>,
     record: &mut Record<B>,
     chain: usize,
-) -> Result<Chain<'d, P, AnyChain, B>, Refusal> {
+) -> Result<Chain<'d, P, AnyChain, B, D>, Refusal> {
     let owned = domain.alloc(rt, record, [0; 4])?;
     let mut writer = domain.chain(record, chain)?;
     writer.push(record, owned);
@@ -49,7 +49,7 @@ pub(crate) fn replaces<P: GracePlan + Drop, B: Site, D: Deleter, R: Wait>(
     rt: &R,
     domain: &Domain<P, AnyChain, B, D>,
     record: &mut Record<B>,
-    writer: &mut Chain<'_, P, AnyChain, B>,
+    writer: &mut Chain<'_, P, AnyChain, B, D>,
     word: u64,
     deleter: D,
 ) -> Result<(), Refusal> {

@@ -86,7 +86,7 @@ fn add<B: Site, R: Wait>(
     rt: &R,
     domain: &Domain<MembPlan, AnyChain, B, Withdrawn>,
     record: &mut Record<B>,
-    writer: &mut Chain<'_, MembPlan, AnyChain, B>,
+    writer: &mut Chain<'_, MembPlan, AnyChain, B, Withdrawn>,
     route: Route,
 ) -> Result<(), Refusal> {
     let owned = domain.alloc(rt, record, route.words())?;
@@ -98,11 +98,10 @@ fn add<B: Site, R: Wait>(
 /// ended.
 fn withdraw<B: Site, R: Wait>(
     rt: &R,
-    domain: &Domain<MembPlan, AnyChain, B, Withdrawn>,
     record: &mut Record<B>,
-    writer: &mut Chain<'_, MembPlan, AnyChain, B>,
+    writer: &mut Chain<'_, MembPlan, AnyChain, B, Withdrawn>,
 ) -> Result<(), Refusal> {
-    match domain.cut_retire(rt, record, writer, 0, Withdrawn) {
+    match writer.domain().cut_retire(rt, record, writer, 0, Withdrawn) {
         Ok(_) => Ok(()),
         Err((refusal, _)) => Err(refusal),
     }
@@ -133,7 +132,7 @@ fn changes<B: Site, R: Wait>(
     add(rt, domain, record, &mut writer, far)?;
     add(rt, domain, record, &mut writer, near)?;
     let before = next_hop(reader, 0x0a01_0203)?;
-    withdraw(rt, domain, record, &mut writer)?;
+    withdraw(rt, record, &mut writer)?;
     let after = next_hop(reader, 0x0a01_0203)?;
     Ok((before, after))
 }

@@ -53,7 +53,7 @@ fn one_round<P: GracePlan + Drop, B: Site, R: Wait>(
     rt: &R,
     domain: &Domain<P, AnyChain, B, RoundDone>,
     record: &mut Record<B>,
-    writer: &mut Chain<'_, P, AnyChain, B>,
+    writer: &mut Chain<'_, P, AnyChain, B, RoundDone>,
     word: u64,
 ) -> Result<(), Refusal> {
     let owned = allocates(rt, domain, record, word)?;
@@ -71,7 +71,7 @@ fn rounds<P: GracePlan + Drop, B: Site, R: Wait + Clock, W: Watch>(
     rt: &R,
     domain: &Domain<P, AnyChain, B, RoundDone>,
     record: &mut Record<B>,
-    writer: &mut Chain<'_, P, AnyChain, B>,
+    writer: &mut Chain<'_, P, AnyChain, B, RoundDone>,
     load: &Load,
     deadline: &Deadline,
     watch: Option<&W>,

@@ -19,8 +19,8 @@ use std::sync::Wait;
 
 /// Whether a chain of at most one object has another key there, below the rank: a payload is a key, a value, a rank,
 /// and 0.
-fn may_stand_first<P: GracePlan, B: Site>(
-    chain: &mut Chain<'_, P, Keyed, B>,
+fn may_stand_first<P: GracePlan, B: Site, H>(
+    chain: &mut Chain<'_, P, Keyed, B, H>,
     words: [u64; 4],
 ) -> bool
     requires run { IsLiveRun P.QSBR keyed chain.old.seat.me.0.seen }
@@ -40,8 +40,8 @@ fn may_stand_first<P: GracePlan, B: Site>(
 }
 
 /// Pushes a record where the rule allows it. Whether it did.
-fn push_above<P: GracePlan, B: Site>(
-    chain: &mut Chain<'_, P, Keyed, B>,
+fn push_above<P: GracePlan, B: Site, H>(
+    chain: &mut Chain<'_, P, Keyed, B, H>,
     record: &mut Record<B>,
     owned: Owned<B>,
     words: [u64; 4],
@@ -58,8 +58,8 @@ fn push_above<P: GracePlan, B: Site>(
 }
 
 /// Replaces an object by one with its key and rank, as the rule wants. Whether it did.
-fn replace_alike<P: GracePlan, B: Site>(
-    chain: &mut Chain<'_, P, Keyed, B>,
+fn replace_alike<P: GracePlan, B: Site, H>(
+    chain: &mut Chain<'_, P, Keyed, B, H>,
     record: &mut Record<B>,
     index: usize,
     owned: Owned<B>,
@@ -87,7 +87,7 @@ fn writes<P: GracePlan, B: Site, R: Wait>(
     requires site { (table.now.words.shared.table_id ≡ B.table) × (table.now.words.shared.key ≡ B.sizes) × (root.table_id ≡ B.table) × (root.me.0.sizes ≡ B.sizes) × (root.me.1 ≡ []) }
 {
     let mut record: Record<B> = Record::new(root);
-    let mut chain: Chain<P, Keyed, B> = Chain::hold(table, &mut record, 0)?;
+    let mut chain: Chain<P, Keyed, B, _> = Chain::hold(table, table, &mut record, 0)?;
     let first: Owned<B> = alloc(rt, table, &mut record, [3, 7, 1, 0])?;
     let pushed_first = push_above(&mut chain, &mut record, first, [3, 7, 1, 0]);
     let same: Owned<B> = alloc(rt, table, &mut record, [3, 11, 2, 0])?;

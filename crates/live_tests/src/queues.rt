@@ -31,7 +31,7 @@ fn cut_one<P: GracePlan, B: Site, R: Wait>(
 ) -> Result<Unlinked<B>, Refusal>
     requires { (table.now.words.shared.table_id ≡ B.table) × (table.now.words.shared.key ≡ B.sizes) }
 {
-    let mut chain: Chain<P, AnyChain, B> = Chain::hold(table, record, 0)?;
+    let mut chain: Chain<P, AnyChain, B, _> = Chain::hold(table, table, record, 0)?;
     let owned: Owned<B> = alloc(rt, table, record, words)?;
     chain.push(record, owned);
     chain.cut(record, 0)

@@ -54,7 +54,7 @@ fn publishes<P: GracePlan, B: Site, R: Wait>(
 {
     let mut walker = table.tell(&mut root);
     let mut record: Record<B> = Record::new(root);
-    let mut chain: Chain<P, AnyChain, B> = Chain::hold(table, &mut record, 0)?;
+    let mut chain: Chain<P, AnyChain, B, _> = Chain::hold(table, table, &mut record, 0)?;
     let first: Owned<B> = alloc(rt, table, &mut record, [3, 5, 7, 11])?;
     chain.push(&mut record, first);
     let second: Owned<B> = alloc(rt, table, &mut record, [13, 17, 19, 23])?;
@@ -107,9 +107,14 @@ fn refuses<P: GracePlan, B: Site, R: Wait>(
     requires site { (table.now.words.shared.table_id ≡ B.table) × (table.now.words.shared.key ≡ B.sizes) × (root.table_id ≡ B.table) × (root.me.0.sizes ≡ B.sizes) × (root.me.1 ≡ []) }
 {
     let mut record: Record<B> = Record::new(root);
-    let missing: Result<Chain<P, AnyChain, B>, Refusal> = Chain::hold(table, &mut record, 1);
-    let mut chain: Chain<P, AnyChain, B> = Chain::hold(table, &mut record, 0)?;
-    let busy: Result<Chain<P, AnyChain, B>, Refusal> = Chain::hold(table, &mut record, 0);
+    let missing: Result<Chain<P, AnyChain, B, _>, Refusal> = Chain::hold(
+        table,
+        table,
+        &mut record,
+        1,
+    );
+    let mut chain: Chain<P, AnyChain, B, _> = Chain::hold(table, table, &mut record, 0)?;
+    let busy: Result<Chain<P, AnyChain, B, _>, Refusal> = Chain::hold(table, table, &mut record, 0);
     let first: Owned<B> = alloc(rt, table, &mut record, [3, 5, 7, 11])?;
     chain.push(&mut record, first);
     let payload = chain.get(0);
@@ -125,7 +130,7 @@ fn refuses<P: GracePlan, B: Site, R: Wait>(
         matches!(cut, Err(Refusal::NoPlace)),
     ];
     drop(chain);
-    let again: Chain<P, AnyChain, B> = Chain::hold(table, &mut record, 0)?;
+    let again: Chain<P, AnyChain, B, _> = Chain::hold(table, table, &mut record, 0)?;
     Ok((payload, notes, again.len(), refusals))
 }
 

@@ -23,8 +23,11 @@ use live_words::{ChainRule, LiveSeat, LiveTable, free_chain, hold_chain, load_no
 use rcu_model::{ObjectId, Refusal};
 use std::marker::PhantomData;
 
-/// The one writer of a chain. Dropping it gives the chain back: its hold word becomes 0.
-pub struct Chain<'d, P: GracePlan, K: ChainRule, B: Site> {
+/// The one writer of a chain, which was taken of an `H`: a domain. Dropping it gives the chain back: its hold word
+/// becomes 0.
+pub struct Chain<'d, P: GracePlan, K: ChainRule, B: Site, H> {
+    /// What it was taken of.
+    pub home: &'d H,
     pub(crate) table: &'d LiveTable<P, K>,
     /// What it has seen, and its right to the chain, whose objects it knows.
     pub seat: LiveSeat,
@@ -39,19 +42,21 @@ pub struct Chain<'d, P: GracePlan, K: ChainRule, B: Site> {
     pub(crate) ghost counted: { linked ≡ length (list_in seat.me.0) },
 }
 
-impl<'d, P: GracePlan, K: ChainRule, B: Site> Chain<'d, P, K, B> {
+impl<'d, P: GracePlan, K: ChainRule, B: Site, H> Chain<'d, P, K, B, H> {
     /// Takes the right to write a chain, if nobody has it, and counts its objects by a walk. The witness hears of what
     /// was seen at the taking; the writer knows the list and the note of the log that it has seen, and no other chain.
     ///
     /// Refused with `NoPlace` exactly where there is no such chain, else with `Busy` exactly where its hold word was
     /// found to be 1, which `looks` tells. It takes no memory and never waits.
     pub fn hold<W: Witness>(
+        home: &'d H,
         table: &'d LiveTable<P, K>,
         witness: &mut W,
         chain: usize,
-    ) -> Result<Chain<'d, P, K, B>, Refusal>
+    ) -> Result<Chain<'d, P, K, B, H>, Refusal>
         requires site { (table.now.words.shared.table_id ≡ B.table) × (table.now.words.shared.key ≡ B.sizes) × (W.home witness.old ≡ (B.table, B.sizes)) }
         ensures held { IfOk result (λ c. (c.number ≡ chain) × (chain < B.sizes.chains) × (W.looks witness.new ≡ (hold_at B.sizes chain, 0) ∷ W.looks witness.old) × Begins (W.heard witness.new) c.seat.me.0.seen) }
+        ensures home { IfOk result (λ c. c.home.now ≡ home.now) }
         ensures run { IfOk result (λ c. IsLiveRun P.QSBR K.allows c.seat.me.0.seen × (lent_chains c.seat.me.0.chains ≡ [])) }
         ensures refused { IfErr result (λ e. ((e ≡ NoPlace) × (B.sizes.chains ≤ chain) × (witness.new ≡ witness.old)) ⊎ ((e ≡ Busy) × (chain < B.sizes.chains) × (W.looks witness.new ≡ (hold_at B.sizes chain, 1) ∷ W.looks witness.old))) }
         ensures heard { chain < B.sizes.chains → IsAfter P.QSBR K.allows (W.seen witness.old) (W.heard witness.old) (W.heard witness.new) }
@@ -70,6 +75,7 @@ impl<'d, P: GracePlan, K: ChainRule, B: Site> Chain<'d, P, K, B> {
         witness.learn(table, told);
         let linked = count(table, &mut seat, chain);
         Ok(Chain {
+            home,
             table,
             seat,
             number: chain,
@@ -86,6 +92,13 @@ impl<'d, P: GracePlan, K: ChainRule, B: Site> Chain<'d, P, K, B> {
         self.number
     }
 
+    /// What the chain was taken of: its domain. It never waits.
+    pub fn domain(&self) -> &'d H
+        ensures { result.now ≡ self.now.home.now }
+    {
+        self.home
+    }
+
     /// How many objects the chain links, by the list that its writer knows. It never waits.
     pub fn len(&self) -> usize
         ensures { result ≡ length (list_in self.now.seat.me.0) }
@@ -100,7 +113,7 @@ impl<'d, P: GracePlan, K: ChainRule, B: Site> Chain<'d, P, K, B> {
         requires home { W.home witness.old ≡ (B.table, B.sizes) }
         requires rule { MayPublish P.QSBR K.allows self.old.seat.me.0 (W.seen witness.old) (W.heard witness.old) owned.seat.me.0.seen (push_by self.old.seat.me.0 owned.seat.me.0) }
         ensures object { result ≡ object_in owned.seat.me.0.object }
-        ensures list { (list_in self.new.seat.me.0 ≡ result ∷ list_in self.old.seat.me.0) × ((own_in self.new.seat.me.0.chains).note ≡ (own_in self.old.seat.me.0.chains).note) × (lent_chains self.new.seat.me.0.chains ≡ lent_chains self.old.seat.me.0.chains) × (self.new.number ≡ self.old.number) }
+        ensures list { (list_in self.new.seat.me.0 ≡ result ∷ list_in self.old.seat.me.0) × ((own_in self.new.seat.me.0.chains).note ≡ (own_in self.old.seat.me.0.chains).note) × (lent_chains self.new.seat.me.0.chains ≡ lent_chains self.old.seat.me.0.chains) × (self.new.number ≡ self.old.number) × (self.new.home.now ≡ self.old.home.now) }
         ensures pushed { Publishes P.QSBR K.allows self.old.seat.me.0 (W.seen witness.old) (W.heard witness.old) owned.seat.me.0.seen (push_by self.old.seat.me.0 owned.seat.me.0) self.new.seat.me.0.seen }
         ensures heard { W.heard witness.new ≡ self.new.seat.me.0.seen }
         ensures same { OnlyHears W.Witness witness.old witness.new }
@@ -116,7 +129,7 @@ impl<'d, P: GracePlan, K: ChainRule, B: Site> Chain<'d, P, K, B> {
     /// None exactly where the index is not below the length. It walks from the head, and never waits.
     pub fn get(&mut self, index: usize) -> Option<[u64; 4]>
         ensures some { IfSome result (λ words. (o : ObjectId) × (slice_get (list_in self.old.seat.me.0) index ≡ Some o) × (words ≡ payload_of self.new.seat.me.0.seen o)) }
-        ensures walked { IfSome result (λ _. Keeps self.old.seat self.new.seat × Went P.QSBR K.allows self.old.seat.me.0 self.old.seat.me self.new.seat.me × (self.new.number ≡ self.old.number)) }
+        ensures walked { IfSome result (λ _. Keeps self.old.seat self.new.seat × Went P.QSBR K.allows self.old.seat.me.0 self.old.seat.me self.new.seat.me × (self.new.number ≡ self.old.number) × (self.new.home.now ≡ self.old.home.now)) }
         ensures none { IfNone result ((length (list_in self.old.seat.me.0) ≤ index) × (self.new ≡ self.old)) }
     {
         if index >= self.linked {
@@ -130,7 +143,7 @@ impl<'d, P: GracePlan, K: ChainRule, B: Site> Chain<'d, P, K, B> {
     pub fn index_of(&mut self, word: u64) -> Option<usize>
         ensures found { IfSome result (λ index. IsFirstWith self.new.seat.me.0.seen (list_in self.old.seat.me.0) word index) }
         ensures none { IfNone result ((o : ObjectId) → In (list_in self.old.seat.me.0) o → first_word self.new.seat.me.0.seen o ≢ word) }
-        ensures walked { Keeps self.old.seat self.new.seat × Went P.QSBR K.allows self.old.seat.me.0 self.old.seat.me self.new.seat.me × (self.new.number ≡ self.old.number) }
+        ensures walked { Keeps self.old.seat self.new.seat × Went P.QSBR K.allows self.old.seat.me.0 self.old.seat.me self.new.seat.me × (self.new.number ≡ self.old.number) × (self.new.home.now ≡ self.old.home.now) }
     {
         seek(self.table, &mut self.seat, self.number, word)
     }
@@ -145,7 +158,7 @@ impl<'d, P: GracePlan, K: ChainRule, B: Site> Chain<'d, P, K, B> {
         requires home { W.home witness.old ≡ (B.table, B.sizes) }
         requires rule { (o : ObjectId) → slice_get (list_in self.old.seat.me.0) index ≡ Some o → MayPublish P.QSBR K.allows self.old.seat.me.0 (W.seen witness.old) (W.heard witness.old) [] (cut_of o self.old.seat.me.0) }
         ensures object { IfOk result (λ u. (slice_get (list_in self.old.seat.me.0) index ≡ Some (object_in u.seat.me.0.object)) × (u.seat.me.0.seen ≡ self.new.seat.me.0.seen) × (u.chain ≡ self.old.number)) }
-        ensures list { IfOk result (λ u. (list_in self.new.seat.me.0 ≡ without_object (object_in u.seat.me.0.object) (list_in self.old.seat.me.0)) × ((own_in self.new.seat.me.0.chains).note ≡ (own_in self.old.seat.me.0.chains).note) × (lent_chains self.new.seat.me.0.chains ≡ lent_chains self.old.seat.me.0.chains) × (self.new.number ≡ self.old.number)) }
+        ensures list { IfOk result (λ u. (list_in self.new.seat.me.0 ≡ without_object (object_in u.seat.me.0.object) (list_in self.old.seat.me.0)) × ((own_in self.new.seat.me.0.chains).note ≡ (own_in self.old.seat.me.0.chains).note) × (lent_chains self.new.seat.me.0.chains ≡ lent_chains self.old.seat.me.0.chains) × (self.new.number ≡ self.old.number) × (self.new.home.now ≡ self.old.home.now)) }
         ensures cut { IfOk result (λ u. Publishes P.QSBR K.allows self.old.seat.me.0 (W.seen witness.old) (W.heard witness.old) [] (cut_of (object_in u.seat.me.0.object) self.old.seat.me.0) self.new.seat.me.0.seen) }
         ensures heard { IfOk result (λ _. W.heard witness.new ≡ self.new.seat.me.0.seen) }
         ensures refused { IfErr result (λ e. (e ≡ NoPlace) × (length (list_in self.old.seat.me.0) ≤ index) × (self.new ≡ self.old) × (witness.new ≡ witness.old)) }
@@ -175,7 +188,7 @@ impl<'d, P: GracePlan, K: ChainRule, B: Site> Chain<'d, P, K, B> {
         requires home { W.home witness.old ≡ (B.table, B.sizes) }
         requires rule { (o : ObjectId) → slice_get (list_in self.old.seat.me.0) index ≡ Some o → MayPublish P.QSBR K.allows self.old.seat.me.0 (W.seen witness.old) (W.heard witness.old) owned.seat.me.0.seen (replace_by o self.old.seat.me.0 owned.seat.me.0) }
         ensures object { IfOk result (λ u. (slice_get (list_in self.old.seat.me.0) index ≡ Some (object_in u.seat.me.0.object)) × (u.seat.me.0.seen ≡ self.new.seat.me.0.seen) × (u.chain ≡ self.old.number)) }
-        ensures list { IfOk result (λ u. (list_in self.new.seat.me.0 ≡ replaced (object_in u.seat.me.0.object) (object_in owned.seat.me.0.object) (list_in self.old.seat.me.0)) × ((own_in self.new.seat.me.0.chains).note ≡ (own_in self.old.seat.me.0.chains).note) × (lent_chains self.new.seat.me.0.chains ≡ lent_chains self.old.seat.me.0.chains) × (self.new.number ≡ self.old.number)) }
+        ensures list { IfOk result (λ u. (list_in self.new.seat.me.0 ≡ replaced (object_in u.seat.me.0.object) (object_in owned.seat.me.0.object) (list_in self.old.seat.me.0)) × ((own_in self.new.seat.me.0.chains).note ≡ (own_in self.old.seat.me.0.chains).note) × (lent_chains self.new.seat.me.0.chains ≡ lent_chains self.old.seat.me.0.chains) × (self.new.number ≡ self.old.number) × (self.new.home.now ≡ self.old.home.now)) }
         ensures replaced { IfOk result (λ u. Publishes P.QSBR K.allows self.old.seat.me.0 (W.seen witness.old) (W.heard witness.old) owned.seat.me.0.seen (replace_by (object_in u.seat.me.0.object) self.old.seat.me.0 owned.seat.me.0) self.new.seat.me.0.seen) }
         ensures heard { IfOk result (λ _. W.heard witness.new ≡ self.new.seat.me.0.seen) }
         ensures refused { IfErr result (λ e. (e.0 ≡ NoPlace) × (e.1 ≡ owned) × (length (list_in self.old.seat.me.0) ≤ index) × (self.new ≡ self.old) × (witness.new ≡ witness.old)) }
@@ -201,7 +214,7 @@ impl<'d, P: GracePlan, K: ChainRule, B: Site> Chain<'d, P, K, B> {
     /// waits.
     pub fn note(&mut self) -> u64
         ensures note { (result ≡ (own_in self.old.seat.me.0.chains).note) × (result ≡ chain_note self.old.number self.new.seat.me.0.seen) }
-        ensures looked { Keeps self.old.seat self.new.seat × Went P.QSBR K.allows self.old.seat.me.0 self.old.seat.me self.new.seat.me × (self.new.number ≡ self.old.number) }
+        ensures looked { Keeps self.old.seat self.new.seat × Went P.QSBR K.allows self.old.seat.me.0 self.old.seat.me self.new.seat.me × (self.new.number ≡ self.old.number) × (self.new.home.now ≡ self.old.home.now) }
     {
         load_note(self.table, &mut self.seat, self.number)
     }
@@ -211,7 +224,7 @@ impl<'d, P: GracePlan, K: ChainRule, B: Site> Chain<'d, P, K, B> {
     /// all that its caller knew. It takes no memory and never waits.
     pub fn hear<W: Witness>(&mut self, witness: &mut W)
         requires { W.home witness.old ≡ (B.table, B.sizes) }
-        ensures chains { (self.new.seat.me.0.chains ≡ self.old.seat.me.0.chains) × (self.new.number ≡ self.old.number) }
+        ensures chains { (self.new.seat.me.0.chains ≡ self.old.seat.me.0.chains) × (self.new.number ≡ self.old.number) × (self.new.home.now ≡ self.old.home.now) }
         ensures told { IsAfter P.QSBR K.allows (W.seen witness.old) (W.heard witness.old) self.new.seat.me.0.seen × Begins self.old.seat.me.0.seen self.new.seat.me.0.seen × Begins self.old.seat.me.0.heard self.new.seat.me.0.seen }
         ensures heard { W.heard witness.new ≡ self.new.seat.me.0.seen }
         ensures same { OnlyHears W.Witness witness.old witness.new }
@@ -224,7 +237,7 @@ impl<'d, P: GracePlan, K: ChainRule, B: Site> Chain<'d, P, K, B> {
     pub fn set_note<W: Witness>(&mut self, witness: &mut W, note: u64)
         requires home { W.home witness.old ≡ (B.table, B.sizes) }
         requires rule { MayPublish P.QSBR K.allows self.old.seat.me.0 (W.seen witness.old) (W.heard witness.old) [] (ChainNote self.old.number note) }
-        ensures note { ((own_in self.new.seat.me.0.chains).note ≡ note) × (list_in self.new.seat.me.0 ≡ list_in self.old.seat.me.0) × (lent_chains self.new.seat.me.0.chains ≡ lent_chains self.old.seat.me.0.chains) × (self.new.number ≡ self.old.number) }
+        ensures note { ((own_in self.new.seat.me.0.chains).note ≡ note) × (list_in self.new.seat.me.0 ≡ list_in self.old.seat.me.0) × (lent_chains self.new.seat.me.0.chains ≡ lent_chains self.old.seat.me.0.chains) × (self.new.number ≡ self.old.number) × (self.new.home.now ≡ self.old.home.now) }
         ensures noted { Publishes P.QSBR K.allows self.old.seat.me.0 (W.seen witness.old) (W.heard witness.old) [] (ChainNote self.old.number note) self.new.seat.me.0.seen }
         ensures heard { W.heard witness.new ≡ self.new.seat.me.0.seen }
         ensures same { OnlyHears W.Witness witness.old witness.new }
@@ -233,9 +246,10 @@ impl<'d, P: GracePlan, K: ChainRule, B: Site> Chain<'d, P, K, B> {
     }
 }
 
-impl<'d, P: GracePlan, K: ChainRule, B: Site> Drop for Chain<'d, P, K, B> {
+impl<'d, P: GracePlan, K: ChainRule, B: Site, H> Drop for Chain<'d, P, K, B, H> {
     fn drop(self) {
         let Chain {
+            home: _,
             table,
             mut seat,
             number,

@@ -15,7 +15,7 @@ ghost use Rattle.rcu_list.specs.Maps.{HasLastRank};
 ghost use Rattle.rcu_list.specs.Refusing.{RefusesInsertion, RefusesRemoval, RefusesReplacement};
 
 use crate::view::ListView;
-use domain::{Chain, Deleter, Domain, Site, Ticket, Witness};
+use domain::{Callback, Chain, Deleter, Domain, Site, Ticket, Witness};
 use gp_memb::GracePlan;
 use live_words::Keyed;
 use rcu_model::Refusal;
@@ -28,19 +28,19 @@ const LAST_RANK: u64 = 4_611_686_018_427_387_903;
 /// payload of a key is the key, its value, its rank, and 0. Ranks fall along the chain: a key is put in at the front,
 /// above all others, and keeps its place as its value is replaced. Dropping the list gives its chain back.
 #[derive(Drop)]
-pub struct RcuList<'d, P: GracePlan, B: Site> {
+pub struct RcuList<'d, P: GracePlan, B: Site, D: Deleter = Callback> {
     /// The chain's writer.
-    pub chain: Chain<'d, P, Keyed, B>,
+    pub chain: Chain<'d, P, Keyed, B, D>,
 }
 
-impl<'d, P: GracePlan + Drop, B: Site> RcuList<'d, P, B> {
+impl<'d, P: GracePlan + Drop, B: Site, D: Deleter> RcuList<'d, P, B, D> {
     /// A list with no keys, over a chain.
     ///
     /// Refused with `BadConfig` exactly where the chain is not empty or has a note other than 0; then it comes back. It
     /// takes no memory and never waits.
     pub fn new(
-        mut chain: Chain<'d, P, Keyed, B>,
-    ) -> Result<RcuList<'d, P, B>, (Refusal, Chain<'d, P, Keyed, B>)>
+        mut chain: Chain<'d, P, Keyed, B, D>,
+    ) -> Result<RcuList<'d, P, B, D>, (Refusal, Chain<'d, P, Keyed, B, D>)>
         ensures made { IfOk result (λ l. (list_in chain.entry.seat.me.0 ≡ []) × ((own_in chain.entry.seat.me.0.chains).note ≡ 0) × (l.chain.number ≡ chain.entry.number) × Keeps chain.entry.seat l.chain.seat × Went P.QSBR keyed chain.entry.seat.me.0 chain.entry.seat.me l.chain.seat.me) }
         ensures refused { IfErr result (λ e. (e.0 ≡ BadConfig) × ((list_in chain.entry.seat.me.0 ≢ []) ⊎ ((own_in chain.entry.seat.me.0.chains).note ≢ 0))) }
         ensures back { IfErr result (λ e. (e.1.number ≡ chain.entry.number) × Keeps chain.entry.seat e.1.seat × Went P.QSBR keyed chain.entry.seat.me.0 chain.entry.seat.me e.1.seat.me) }
@@ -81,7 +81,7 @@ impl<'d, P: GracePlan + Drop, B: Site> RcuList<'d, P, B> {
     /// Refused with `Exists` exactly where the key has a value, else with `PoolFull` where the ranks are used up, or as
     /// `alloc`; then the map is as it was. It takes no memory, and waits for nobody, but tries again where other threads
     /// draw object numbers meanwhile.
-    pub fn insert<D: Deleter, W: Witness, R: Wait>(
+    pub fn insert<W: Witness, R: Wait>(
         &mut self,
         rt: &R,
         domain: &Domain<P, Keyed, B, D>,
@@ -113,7 +113,7 @@ impl<'d, P: GracePlan + Drop, B: Site> RcuList<'d, P, B> {
     /// Refused with `Missing` exactly where the key has no value, else as `alloc`, else as `retire`; then the map is as
     /// it was, the callback comes back, and the new record is back in the pool. It waits for the queue's lock alone, and
     /// tries again where other threads draw object numbers meanwhile.
-    pub fn replace<D: Deleter, W: Witness, R: Wait>(
+    pub fn replace<W: Witness, R: Wait>(
         &mut self,
         rt: &R,
         domain: &Domain<P, Keyed, B, D>,
@@ -152,7 +152,7 @@ impl<'d, P: GracePlan + Drop, B: Site> RcuList<'d, P, B> {
     ///
     /// Refused with `Missing` exactly where the key has no value, else as `retire`; then the map is as it was, and the
     /// callback comes back. It waits for the queue's lock alone.
-    pub fn remove<D: Deleter, W: Witness, R: Wait>(
+    pub fn remove<W: Witness, R: Wait>(
         &mut self,
         rt: &R,
         domain: &Domain<P, Keyed, B, D>,

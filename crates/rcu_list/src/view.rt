@@ -46,7 +46,7 @@ impl<B: Site> ListView<B> {
     ghost use Rattle.rcu_list.specs.Maps.{value_of};
 
     /// Of the list over a chain.
-    pub(crate) fn over<P: GracePlan>(chain: &Chain<'_, P, Keyed, B>) -> ListView<B>
+    pub(crate) fn over<P: GracePlan, D: Deleter>(chain: &Chain<'_, P, Keyed, B, D>) -> ListView<B>
         ensures { result.chain ≡ chain.now.number }
     {
         ListView {

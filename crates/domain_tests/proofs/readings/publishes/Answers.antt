@@ -1,8 +1,8 @@
-use Rattle.std.proofs.Common.{rules, ◌≡◌, ◌∷◌, ℕ, List, refl, ap, ◌∙◌, Some}
+use Rattle.std.proofs.Common.{rules, ◌≡◌, ◌∷◌, ℕ, List, refl, ap, ◌∙◌, Some, subst, sym}
 use Rattle.rcu_model.specs.declared.event.ObjectId.{ObjectId}
 use Rattle.live_log.specs.declared.event.LiveEvent.TheVariants.{Object}
 use Rattle.live_log.specs.declared.event.ObjectEvent.TheVariants.{Push}
-use Rattle.live_log.specs.Log.{Has, Log, payload_of, words_in}
+use Rattle.live_log.specs.Log.{Begins, Has, Log, payload_of, words_in}
 use Rattle.live_table.specs.Rights.{cell_in, object_in, own_in}
 use Rattle.live_read.specs.Holding.{MayHold, log_of}
 use Rattle.live_read.specs.Reads.{FindsFirst}
@@ -33,6 +33,6 @@ returns-clause-found g c =
     elim c.match-branch-4.branch [
       | in-Some w ↦
           let f = some_so c.in_ok-held.field-0 w.in-Some.held (λ h. (o : ObjectId) × FindsFirst r c.args.chain (Some o) × MayHold r o h.cell) w.in-Some.is c.in_ok-held.ensures.some in
-          so_some c.match-branch-4.read _ _ w.read-is (log, o, f.0, cell_in u.object, looked.later.run, w.read.ensures.looked.later.after_seen, has, f.1, w.read.ensures.payload f.0 f.2, λ same. w.read.ensures.payload f.0 f.2 ∙ (ap (payload_of log) same ∙ payload))
+          so_some c.match-branch-4.read _ _ w.read-is (log, o, f.0, cell_in u.object, looked.later.run, subst (λ s. Begins log (log_of s.reader.now)) (sym w.section-is) w.read.ensures.looked.later.after_seen, has, f.1, w.read.ensures.payload f.0 f.2, λ same. w.read.ensures.payload f.0 f.2 ∙ (ap (payload_of log) same ∙ payload))
       | in-None w ↦ none_so c.match-branch-4.read _ w.read-is
     ]
