@@ -22,7 +22,7 @@ fn listed<'d, P: GracePlan + Drop, B: Site, R: Wait>(
     domain: &'d Domain<P, Keyed, B, Says>,
     record: &mut Record<B>,
     chain: usize,
-) -> Result<RcuList<'d, P, B>, Refusal> {
+) -> Result<RcuList<'d, P, Keyed, B>, Refusal> {
     let writer = domain.chain(record, chain)?;
     let Ok(mut list) = RcuList::new(writer) else {
         return Err(Refusal::BadConfig);
@@ -45,7 +45,7 @@ fn replace<P: GracePlan + Drop, B: Site, R: Wait>(
         Ok(ticket) => ticket,
         Err((Refusal::Memory, callback)) => {
             ledger.note(Call::ListReplace);
-            if list.chain.get(0) != Some([7, 70, 0, 0]) || domain.counts(record) != before {
+            if list.value(7) != Some(70) || domain.counts(record) != before {
                 return Err(Finding::Changed(Call::ListReplace));
             }
             list.replace(rt, domain, record, 7, 71, callback)
@@ -53,7 +53,7 @@ fn replace<P: GracePlan + Drop, B: Site, R: Wait>(
         }
         Err(_) => return Err(wrong),
     };
-    if list.chain.get(0) == Some([7, 71, 0, 0]) {
+    if list.value(7) == Some(71) {
         Ok(ticket)
     } else {
         Err(wrong)
@@ -74,7 +74,7 @@ fn remove<P: GracePlan + Drop, B: Site, R: Wait>(
         Ok(ticket) => ticket,
         Err((Refusal::Memory, callback)) => {
             ledger.note(Call::ListRemove);
-            if list.chain.get(0) != Some([7, 70, 0, 0]) || domain.counts(record) != before {
+            if list.value(7) != Some(70) || domain.counts(record) != before {
                 return Err(Finding::Changed(Call::ListRemove));
             }
             list.remove(rt, domain, record, 7, callback)

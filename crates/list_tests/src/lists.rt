@@ -42,7 +42,7 @@ fn look<P: GracePlan, B: Site>(
 fn listed<'d, P: GracePlan + Drop, B: Site>(
     domain: &'d Domain<P, Keyed, B, Adds>,
     record: &mut Record<B>,
-) -> Result<RcuList<'d, P, B>, Refusal> {
+) -> Result<RcuList<'d, P, Keyed, B>, Refusal> {
     let chain = domain.chain(record, 0)?;
     match RcuList::new(chain) {
         Ok(list) => Ok(list),

@@ -115,7 +115,7 @@ fn two_look<P: GracePlan + Send + Sync, B: Site + Send + Sync, R: Threads + Sync
 fn replaces_once<P: GracePlan + Drop, B: Site, R: Wait>(
     rt: &R,
     domain: &Domain<P, Keyed, B, Adds>,
-    list: &mut RcuList<'_, P, B>,
+    list: &mut RcuList<'_, P, Keyed, B>,
     record: &mut Record<B>,
     value: u64,
 ) -> bool {
@@ -166,7 +166,7 @@ fn listed<'d, P: GracePlan + Drop, B: Site, R: Wait>(
     rt: &R,
     domain: &'d Domain<P, Keyed, B, Adds>,
     record: &mut Record<B>,
-) -> Result<RcuList<'d, P, B>, Refusal> {
+) -> Result<RcuList<'d, P, Keyed, B>, Refusal> {
     let chain = domain.chain(record, 0)?;
     match RcuList::new(chain) {
         Ok(mut list) => {
