@@ -2,14 +2,13 @@
 
 ghost use Rattle.std.specs.Prelude.{◌≡◌, ◌≤◌, ◌<◌, IfErr, IfOk, IfSome};
 ghost use Rattle.rcu_model.specs.declared.refusal.Refusal.TheVariants.{NoPlace};
-ghost use Rattle.live_log.specs.Keys.{keyed};
 ghost use Rattle.live_read.specs.Holding.{log_of};
 ghost use Rattle.live_read.specs.Reads.{Looks};
 ghost use Rattle.rcu_list.specs.Maps.{AnswersBetween};
 
+use crate::rule::MapRule;
 use domain::{Chain, Deleter, Domain, Held, Section, Site};
 use gp_memb::GracePlan;
-use live_words::Keyed;
 use rcu_model::Refusal;
 use std::alloc::AllocError;
 use std::marker::PhantomData;
@@ -46,7 +45,9 @@ impl<B: Site> ListView<B> {
     ghost use Rattle.rcu_list.specs.Maps.{value_of};
 
     /// Of the list over a chain.
-    pub(crate) fn over<P: GracePlan, D: Deleter>(chain: &Chain<'_, P, Keyed, B, D>) -> ListView<B>
+    pub(crate) fn over<P: GracePlan, K: MapRule, D: Deleter>(
+        chain: &Chain<'_, P, K, B, D>,
+    ) -> ListView<B>
         ensures { result.chain ≡ chain.now.number }
     {
         ListView {
@@ -58,8 +59,8 @@ impl<B: Site> ListView<B> {
     /// Of the list over a chain of the domain, whoever writes it.
     ///
     /// Refused with `NoPlace` exactly where there is no such chain. It takes no memory and never waits.
-    pub fn of<P: GracePlan + Drop, D: Deleter>(
-        domain: &Domain<P, Keyed, B, D>,
+    pub fn of<P: GracePlan + Drop, K: MapRule, D: Deleter>(
+        domain: &Domain<P, K, B, D>,
         chain: usize,
     ) -> Result<ListView<B>, Refusal>
         ensures ok { IfOk result (λ v. (v.chain ≡ chain) × (chain < B.sizes.chains)) }
@@ -68,22 +69,30 @@ impl<B: Site> ListView<B> {
         if chain >= domain.chains() {
             return Err(Refusal::NoPlace);
         }
-        Ok(ListView {
+        Ok(ListView::at(chain))
+    }
+
+    /// Of the list over this chain, which is one of the domain's, whoever writes it. It takes no memory and never waits.
+    pub fn at(chain: usize) -> ListView<B>
+        requires { chain < B.sizes.chains }
+        ensures { result.chain ≡ chain }
+    {
+        ListView {
             chain,
             site: PhantomData,
-        })
+        }
     }
 
     // The value of an object, if it has the key: one load, and one more where it has.
-    fn value_at<P: GracePlan>(
-        section: &mut Section<'_, P, Keyed, B>,
+    fn value_at<P: GracePlan, K: MapRule>(
+        section: &mut Section<'_, P, K, B>,
         held: Held,
         key: u64,
     ) -> Option<u64>
         requires open_section { (P.QSBR ≡ B.qsbr) × (0 < section.old.reader.now.depth) }
         requires held { MayHoldIn section.old.reader.now held.cell }
         ensures reader { section.new.reader.ghost_name ≡ section.old.reader.ghost_name }
-        ensures looked { Looks P.QSBR keyed section.old.reader.now section.new.reader.now }
+        ensures looked { Looks P.QSBR K.allows section.old.reader.now section.new.reader.now }
         ensures some { IfSome result (λ value. (o : ObjectId) → MayHold section.old.reader.now o held.cell → (key_of (note_of (log_of section.old.reader.now) o) ≡ key) × (value_of (note_of (log_of section.old.reader.now) o) ≡ value)) }
         ensures none { IfNone result ((o : ObjectId) → MayHold section.old.reader.now o held.cell → key_of (note_of (log_of section.old.reader.now) o) ≢ key) }
     {
@@ -95,16 +104,16 @@ impl<B: Site> ListView<B> {
 
     // The value of the key, from the first object of the chain on. Ranks fall along the chain, so no more objects come
     // than the first one's rank tells.
-    fn search<P: GracePlan>(
+    fn search<P: GracePlan, K: MapRule>(
         self,
-        section: &mut Section<'_, P, Keyed, B>,
+        section: &mut Section<'_, P, K, B>,
         first: Held,
         key: u64,
     ) -> Option<u64>
         requires open_section { (P.QSBR ≡ B.qsbr) × (0 < section.old.reader.now.depth) }
         requires first { (o : ObjectId) × FindsFirst section.old.reader.now self.chain (Some o) × MayHold section.old.reader.now o first.cell }
         ensures reader { section.new.reader.ghost_name ≡ section.old.reader.ghost_name }
-        ensures looked { Looks P.QSBR keyed section.old.reader.now section.new.reader.now }
+        ensures looked { Looks P.QSBR K.allows section.old.reader.now section.new.reader.now }
         ensures window { AnswersBetween (log_of section.old.reader.now) (log_of section.old.reader.now) (log_of section.new.reader.now) self.chain key result }
     {
         if let Some(value) = Self::value_at(section, first, key) {
@@ -127,10 +136,14 @@ impl<B: Site> ListView<B> {
     ///
     /// It loads the key of each object that it passes, its link, and the rank of the first one. It returns, since ranks
     /// fall along the chain. It never waits and takes no memory.
-    pub fn get<P: GracePlan>(self, section: &mut Section<'_, P, Keyed, B>, key: u64) -> Option<u64>
+    pub fn get<P: GracePlan, K: MapRule>(
+        self,
+        section: &mut Section<'_, P, K, B>,
+        key: u64,
+    ) -> Option<u64>
         requires { (P.QSBR ≡ B.qsbr) × (0 < section.old.reader.now.depth) }
         ensures reader { section.new.reader.ghost_name ≡ section.old.reader.ghost_name }
-        ensures looked { Looks P.QSBR keyed section.old.reader.now section.new.reader.now }
+        ensures looked { Looks P.QSBR K.allows section.old.reader.now section.new.reader.now }
         ensures window { AnswersBetween (log_of section.old.reader.now) section.old.reader.now.seat.me.0.heard (log_of section.new.reader.now) self.chain key result }
     {
         match section.first(self.chain) {
