@@ -31,8 +31,9 @@ fn tabled<'d, P: GracePlan + Drop, B: Site>(
             if domain.counts(record) != before {
                 return Err(Finding::Changed(Call::NewTable));
             }
-            RcuHash::new(alloc, domain, record, 0, 3)
-                .map_err(|_| Finding::RefusedAgain(Call::NewTable))
+            RcuHash::new(alloc, domain, record, 0, 3).map_err(|_| Finding::RefusedAgain(
+                Call::NewTable,
+            ))
         }
         Err(_) => Err(Finding::Wrong(Call::NewTable)),
     }
@@ -130,9 +131,7 @@ fn name<P: GracePlan + Drop, B: Site, R: Wait>(
     let replaced = replace(rt, &domain, &table, &mut record, ledger)?;
     let removed = remove(rt, &domain, &table, &mut record, ledger)?;
     let found = look(rt, &domain, &table, &mut record, 7);
-    Ok(Some(
-        replaced.0 == 1 && removed.0 == 1 && matches!(found, Ok(Some(71))),
-    ))
+    Ok(Some(replaced.0 == 1 && removed.0 == 1 && matches!(found, Ok(Some(71)))))
 }
 
 /// Makes a domain, again where memory was refused. Whether its table serves.

@@ -9,3 +9,5 @@ mod lists;
 mod lookups;
 #[cfg(test)]
 mod tables;
+#[cfg(test)]
+mod walks;

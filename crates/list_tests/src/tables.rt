@@ -133,7 +133,9 @@ fn tables_answer_by_the_map(rt: HostRuntime) {
     let general = Opened::<MembPlan, Keyed>::new(rt.alloc(), of_sizes(4, 4)).expect(&rt, "memory");
     let did = calls_in::<_, _, Brand, _>(&rt, rt.alloc(), general).expect(&rt, "not refused");
     assert_eq!(rt; did, answers);
-    let quiescent = Opened::<QsbrPlan, Tabled>::new(rt.alloc(), of_sizes(4, 4)).expect(&rt, "memory");
+    let quiescent = Opened::<QsbrPlan, Tabled>::new(rt.alloc(), of_sizes(4, 4)).expect(
+        &rt, "memory",
+    );
     let did = calls_in::<_, _, Brand, _>(&rt, rt.alloc(), quiescent).expect(&rt, "not refused");
     assert_eq!(rt; did, answers);
 }
@@ -191,7 +193,9 @@ fn refused_calls_of_tables_give_all_back(rt: HostRuntime) {
     let general = Opened::<MembPlan, Tabled>::new(rt.alloc(), of_sizes(3, 2)).expect(&rt, "memory");
     let did = refusals_in::<_, _, Brand, _>(&rt, rt.alloc(), general).expect(&rt, "not refused");
     assert_eq!(rt; did, answers);
-    let quiescent = Opened::<QsbrPlan, Keyed>::new(rt.alloc(), of_sizes(3, 2)).expect(&rt, "memory");
+    let quiescent = Opened::<QsbrPlan, Keyed>::new(rt.alloc(), of_sizes(3, 2)).expect(
+        &rt, "memory",
+    );
     let did = refusals_in::<_, _, Brand, _>(&rt, rt.alloc(), quiescent).expect(&rt, "not refused");
     assert_eq!(rt; did, answers);
 }

@@ -46,7 +46,7 @@ fn through_list<P: GracePlan + Drop, K: MapRule, B: Site>(
 /// The same of a table.
 fn through_table<P: GracePlan + Drop, K: MapRule, B: Site>(
     reader: &mut Reader<P, K, B>,
-    table: &RcuHash<'_, P, K, B>,
+    table: &RcuHash<'_, P, K, B, Adds>,
 ) -> Result<(u64, u64), Refusal>
     requires { (P.QSBR ≡ B.qsbr) × (reader.old.depth ≡ 0) × (reader.old.locks ≡ 0) }
     ensures { IfOk result (λ _. (reader.new.depth ≡ 0) × (reader.new.locks ≡ 0)) }
@@ -82,21 +82,21 @@ fn walks<P: GracePlan + Drop, K: MapRule, B: Site, R: Wait>(
         return Err(Refusal::BadConfig);
     };
     let empty = through_list(&mut reader, list.view())?;
-    list.insert(rt, domain, record, 2, 10)?;
-    list.insert(rt, domain, record, 3, 100)?;
-    list.insert(rt, domain, record, 5, 1000)?;
-    if list.replace(rt, domain, record, 3, 7, Adds(0)).is_err() {
+    list.insert(rt, record, 2, 10)?;
+    list.insert(rt, record, 3, 100)?;
+    list.insert(rt, record, 5, 1000)?;
+    if list.replace(rt, record, 3, 7, Adds(0)).is_err() {
         return Err(Refusal::BadConfig);
     }
-    if list.remove(rt, domain, record, 5, Adds(0)).is_err() {
+    if list.remove(rt, record, 5, Adds(0)).is_err() {
         return Err(Refusal::BadConfig);
     }
     let listed = through_list(&mut reader, list.view())?;
     let table = RcuHash::new(alloc, domain, record, 0, 3)?;
     let none = through_table(&mut reader, &table)?;
-    table.insert(rt, domain, record, 4, 1)?;
-    table.insert(rt, domain, record, 7, 10)?;
-    table.insert(rt, domain, record, 2, 100)?;
+    table.insert(rt, record, 4, 1)?;
+    table.insert(rt, record, 7, 10)?;
+    table.insert(rt, record, 2, 100)?;
     let tabled = through_table(&mut reader, &table)?;
     Ok([empty, listed, none, tabled])
 }

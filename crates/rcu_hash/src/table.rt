@@ -1,6 +1,7 @@
 //! A hash table.
 
 ghost use Rattle.std.specs.Prelude.{◌≡◌, ◌⊎◌, ◌+◌, ◌%◌, ◌<◌, ◌≤◌, ◌++◌, ℕ, List, None, IfErr, IfOk, vec_len};
+ghost use Rattle.std.specs.List.{FoldsTo};
 ghost use Rattle.std.specs.Sync.Mutex.{mutex_guard_value};
 ghost use Rattle.rcu_model.specs.declared.event.ObjectId.{ObjectId};
 ghost use Rattle.rcu_model.specs.declared.refusal.Refusal.TheVariants.{BadConfig, Memory};
@@ -12,6 +13,7 @@ ghost use Rattle.rcu_list.specs.Calls.{HandsOver};
 ghost use Rattle.rcu_hash.specs.Calls.{Inserts, Removes, Replaces};
 ghost use Rattle.rcu_hash.specs.Refusing.{RefusesInsertion, RefusesRemoval, RefusesReplacement};
 ghost use Rattle.rcu_hash.specs.Tables.{Answers, WasEmpty, bucket_of};
+ghost use Rattle.rcu_hash.specs.Walks.{GoesThrough};
 
 use domain::{Callback, Deleter, Domain, Section, Site, Ticket, Witness};
 use gp_memb::GracePlan;
@@ -217,5 +219,28 @@ impl<'d, P: GracePlan + Drop, K: MapRule, B: Site, D: Deleter> RcuHash<'d, P, K,
     {
         let mut list = self.writer(rt, witness, key);
         list.remove(rt, witness, key, callback)
+    }
+
+    /// Goes through the table, liburcu's `cds_lfht_for_each`: a call with the key and the value of each entry that it comes
+    /// to, bucket by bucket. A key that is there all along, from the call to the return, is met exactly once, also while
+    /// its value is replaced; one that never is there is not met; and each value is one that its key had meanwhile.
+    ///
+    /// It returns where each call does, since ranks fall along each chain. It never waits and takes no memory.
+    pub fn for_each<F: FnMut(u64, u64)>(&self, section: &mut Section<'_, P, K, B>, visit: &mut F)
+        requires open_section { (P.QSBR ≡ B.qsbr) × (0 < section.old.reader.now.depth) }
+        requires callable { F.IsAlwaysCallable visit.old }
+        ensures reader { section.new.reader.ghost_name ≡ section.old.reader.ghost_name }
+        ensures looked { Looks P.QSBR K.allows section.old.reader.now section.new.reader.now }
+        ensures callable { F.IsAlwaysCallable visit.new }
+        ensures met { (met : List (ℕ × ℕ)) × GoesThrough (log_of section.old.reader.now) section.old.reader.now.seat.me.0.heard (log_of section.new.reader.now) self.now.first self.now.buckets met × FoldsTo (λ f e g. F.step f e.0 e.1 tt g) visit.old met visit.new }
+    {
+        for number in 0..self.buckets {
+            ListView::at(self.first + number).for_each_of(
+                section,
+                self.buckets as u64,
+                number as u64,
+                visit,
+            );
+        }
     }
 }

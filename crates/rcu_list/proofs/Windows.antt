@@ -218,6 +218,26 @@ module _ (qsbr : Bool) (allows : Log → LiveEvent → Type 0) (maps : HasMaps q
   note_at : (at now : Log) (o : ObjectId) → Begins at now → IsLiveRun qsbr allows now → In (chain_in c at) o → note_of now o ≡ note_of at o
   note_at at now o b run h = note_stays qsbr allows at now o b run (chain_used qsbr allows at c o (run_of qsbr allows at now b run) h)
 
+  -- what follows an object that was met was met, with a lower rank
+  pub advances : (start now : Log) (o p : ObjectId) → IsLiveRun qsbr allows now → Met c start now o → Follows (objects_of now) o (Some p) → Met c start now p × (rank_of (note_of now p) < rank_of (note_of now o))
+  advances start now o p run met follows =
+      let f = follower start now o (Some p) run met follows in
+      let b = next_below (note_of f.at) (chain_in c f.at) o p (maps.falls f.at c (run_of qsbr allows f.at now f.before run)) f.has f.next in
+      let here : rank_of (note_of now o) ≡ rank_of (note_of f.at o) = ap rank_of (note_at f.at now o f.before run f.has) in
+      let there : rank_of (note_of now p) ≡ rank_of (note_of f.at p) = ap rank_of (note_at f.at now p f.before run b.has) in
+      let lower = b.lower in
+      (record { at = f.at; after = f.after; before = f.before; has = b.has }, omega arith)
+
+  -- a key that was there when the lookup began, and was met, was met with the rank that it had then, or was absent
+  pub met_rank : (start now : Log) (key rank : ℕ) (o : ObjectId) → IsLiveRun qsbr allows now → Ranked c start key rank → Met c start now o → key_of (note_of now o) ≡ key → Lacked c start now key ⊎ (rank_of (note_of now o) ≡ rank)
+  met_rank start now key rank o run r m key_is =
+      let run_at = run_of qsbr allows m.at now m.before run in
+      let note = note_at m.at now o m.before run m.has in
+      ⊎_elim
+      (λ (l : Lacked c start m.at key). inl (lacked_later c start m.at now key m.before l))
+      (λ (k : Ranked c m.at key rank). inr (ap rank_of note ∙ (ap (λ (p : ObjectId). rank_of (note_of m.at p)) (one_key (note_of m.at) (chain_in c m.at) o k.object (maps.falls m.at c run_at) m.has k.has (ap key_of (sym note) ∙ (key_is ∙ sym k.key_is))) ∙ k.rank_is)))
+      (ranked_later start m.at key rank m.after run_at r)
+
   -- at the first object
   pub past_first : (start : Log) (o : ObjectId) (key : ℕ) → IsLiveRun qsbr allows start → first_of (chain_in c start) ≡ Some o → key_of (note_of start o) ≢ key → Past c start start key (rank_of (note_of start o))
   past_first start o key run first other = ⊎_elim
