@@ -48,6 +48,12 @@ pub enum Call {
     ListReplace,
     /// `rcu_list::RcuList::remove`.
     ListRemove,
+    /// `rcu_hash::RcuHash::new`.
+    NewTable,
+    /// `rcu_hash::RcuHash::replace`.
+    TableReplace,
+    /// `rcu_hash::RcuHash::remove`.
+    TableRemove,
     /// `rcu_model::check_log`.
     CheckLog,
     /// `schedule::read_line`.
@@ -89,6 +95,9 @@ impl fmt::Display for Call {
             Call::Stalled => "stalled",
             Call::ListReplace => "list_replace",
             Call::ListRemove => "list_remove",
+            Call::NewTable => "new_table",
+            Call::TableReplace => "table_replace",
+            Call::TableRemove => "table_remove",
             Call::CheckLog => "check_log",
             Call::ReadLine => "read_line",
             Call::ReadSchedule => "read_schedule",

@@ -22,12 +22,12 @@ fn listed<'d, P: GracePlan + Drop, B: Site, R: Wait>(
     domain: &'d Domain<P, Keyed, B, Says>,
     record: &mut Record<B>,
     chain: usize,
-) -> Result<RcuList<'d, P, B, Says>, Refusal> {
+) -> Result<RcuList<'d, P, Keyed, B, Says>, Refusal> {
     let writer = domain.chain(record, chain)?;
     let Ok(mut list) = RcuList::new(writer) else {
         return Err(Refusal::BadConfig);
     };
-    list.insert(rt, domain, record, 7, 70)?;
+    list.insert(rt, record, 7, 70)?;
     Ok(list)
 }
 
@@ -41,19 +41,19 @@ fn replace<P: GracePlan + Drop, B: Site, R: Wait>(
     let wrong = Finding::Wrong(Call::ListReplace);
     let mut list = listed(rt, domain, record, 0).map_err(|_| wrong)?;
     let before = domain.counts(record);
-    let ticket = match list.replace(rt, domain, record, 7, 71, Says(1)) {
+    let ticket = match list.replace(rt, record, 7, 71, Says(1)) {
         Ok(ticket) => ticket,
         Err((Refusal::Memory, callback)) => {
             ledger.note(Call::ListReplace);
-            if list.chain.get(0) != Some([7, 70, 0, 0]) || domain.counts(record) != before {
+            if list.value(7) != Some(70) || domain.counts(record) != before {
                 return Err(Finding::Changed(Call::ListReplace));
             }
-            list.replace(rt, domain, record, 7, 71, callback)
+            list.replace(rt, record, 7, 71, callback)
                 .map_err(|_| Finding::RefusedAgain(Call::ListReplace))?
         }
         Err(_) => return Err(wrong),
     };
-    if list.chain.get(0) == Some([7, 71, 0, 0]) {
+    if list.value(7) == Some(71) {
         Ok(ticket)
     } else {
         Err(wrong)
@@ -70,14 +70,14 @@ fn remove<P: GracePlan + Drop, B: Site, R: Wait>(
     let wrong = Finding::Wrong(Call::ListRemove);
     let mut list = listed(rt, domain, record, 1).map_err(|_| wrong)?;
     let before = domain.counts(record);
-    let ticket = match list.remove(rt, domain, record, 7, Says(2)) {
+    let ticket = match list.remove(rt, record, 7, Says(2)) {
         Ok(ticket) => ticket,
         Err((Refusal::Memory, callback)) => {
             ledger.note(Call::ListRemove);
-            if list.chain.get(0) != Some([7, 70, 0, 0]) || domain.counts(record) != before {
+            if list.value(7) != Some(70) || domain.counts(record) != before {
                 return Err(Finding::Changed(Call::ListRemove));
             }
-            list.remove(rt, domain, record, 7, callback)
+            list.remove(rt, record, 7, callback)
                 .map_err(|_| Finding::RefusedAgain(Call::ListRemove))?
         }
         Err(_) => return Err(wrong),

@@ -14,6 +14,7 @@ mod retiring;
 mod rows;
 mod scenario;
 mod stepping;
+mod tables;
 mod workers;
 mod worlds;
 

@@ -7,6 +7,7 @@ use crate::logs::{check_logs, read_logs, read_schedules};
 use crate::queues::push_items;
 use crate::registries::claim_slots;
 use crate::replays::{Way, replay_worked};
+use crate::tables::make_tables;
 use crate::worlds::{drain_worked, make_worlds, step_worked};
 use std::alloc::Global;
 use std::sync::Wait;
@@ -29,6 +30,8 @@ pub enum Scenario {
     Domain,
     /// A list is made in each flavour, and a key of it replaced and removed.
     List,
+    /// A table is made in each flavour, and keys of it replaced and removed.
+    Table,
     /// The logs of the worked schedules are judged, and broken ones.
     CheckLog,
     /// The texts of the worked schedules are read.
@@ -42,7 +45,7 @@ pub enum Scenario {
 }
 
 /// All scenarios, in the order in which they run.
-pub const SCENARIOS: [Scenario; 16] = [
+pub const SCENARIOS: [Scenario; 17] = [
     Scenario::New,
     Scenario::Step(Flavour::Memb),
     Scenario::Step(Flavour::Qsbr),
@@ -52,6 +55,7 @@ pub const SCENARIOS: [Scenario; 16] = [
     Scenario::Registry,
     Scenario::Domain,
     Scenario::List,
+    Scenario::Table,
     Scenario::CheckLog,
     Scenario::ReadSchedule,
     Scenario::ReadAnswers,
@@ -74,6 +78,7 @@ impl Scenario {
             Scenario::Registry => "registry",
             Scenario::Domain => "domain",
             Scenario::List => "list",
+            Scenario::Table => "table",
             Scenario::CheckLog => "check-log",
             Scenario::ReadSchedule => "read-schedule",
             Scenario::ReadAnswers => "read-answers",
@@ -94,6 +99,7 @@ impl Scenario {
             Scenario::Registry => claim_slots(alloc, ledger),
             Scenario::Domain => make_domains(rt, alloc, ledger),
             Scenario::List => make_lists(rt, alloc, ledger),
+            Scenario::Table => make_tables(rt, alloc, ledger),
             Scenario::CheckLog => check_logs(alloc, ledger),
             Scenario::ReadSchedule => read_schedules(alloc, ledger),
             Scenario::ReadAnswers => read_logs(alloc, ledger),

@@ -1,5 +1,5 @@
 #![tactic(auto)]
-//! Tests of keyed lists by their public face, also under threads.
+//! Tests of keyed lists and hash tables by their public face, also under threads.
 
 #[cfg(test)]
 mod deleter;
@@ -7,3 +7,7 @@ mod deleter;
 mod lists;
 #[cfg(test)]
 mod lookups;
+#[cfg(test)]
+mod tables;
+#[cfg(test)]
+mod walks;

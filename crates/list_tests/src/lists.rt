@@ -42,7 +42,7 @@ fn look<P: GracePlan, B: Site>(
 fn listed<'d, P: GracePlan + Drop, B: Site>(
     domain: &'d Domain<P, Keyed, B, Adds>,
     record: &mut Record<B>,
-) -> Result<RcuList<'d, P, B, Adds>, Refusal> {
+) -> Result<RcuList<'d, P, Keyed, B, Adds>, Refusal> {
     let chain = domain.chain(record, 0)?;
     match RcuList::new(chain) {
         Ok(list) => Ok(list),
@@ -78,13 +78,13 @@ fn calls<P: GracePlan + Drop, B: Site, R: Wait>(
     let mut list = listed(domain, record)?;
     let view = list.view();
     let empty = look(&mut reader, view, 7)?;
-    let inserted = list.insert(rt, domain, record, 7, 70);
-    let again = list.insert(rt, domain, record, 7, 71);
-    let replaced = list.replace(rt, domain, record, 7, 71, Adds(1));
+    let inserted = list.insert(rt, record, 7, 70);
+    let again = list.insert(rt, record, 7, 71);
+    let replaced = list.replace(rt, record, 7, 71, Adds(1));
     let found = look(&mut reader, view, 7)?;
     let other = look(&mut reader, view, 9)?;
-    let missing = list.remove(rt, domain, record, 9, Adds(5));
-    let removed = list.remove(rt, domain, record, 7, Adds(2));
+    let missing = list.remove(rt, record, 9, Adds(5));
+    let removed = list.remove(rt, record, 7, Adds(2));
     let gone = look(&mut reader, view, 7)?;
     Ok((
         [
@@ -132,18 +132,18 @@ fn walks<P: GracePlan + Drop, B: Site, R: Wait>(
     let mut reader = registered(rt, domain, record)?;
     let mut list = listed(domain, record)?;
     for (key, value) in [(1, 10), (2, 20), (3, 30), (4, 40)] {
-        list.insert(rt, domain, record, key, value)?;
+        list.insert(rt, record, key, value)?;
     }
     for (key, value) in [(1, 100), (3, 300), (4, 400)] {
-        if let Err((refusal, _)) = list.replace(rt, domain, record, key, value, Adds(0)) {
+        if let Err((refusal, _)) = list.replace(rt, record, key, value, Adds(0)) {
             return Err(refusal);
         }
     }
-    if let Err((refusal, _)) = list.remove(rt, domain, record, 2, Adds(0)) {
+    if let Err((refusal, _)) = list.remove(rt, record, 2, Adds(0)) {
         return Err(refusal);
     }
-    list.insert(rt, domain, record, 5, 50)?;
-    if let Err((refusal, _)) = list.remove(rt, domain, record, 4, Adds(0)) {
+    list.insert(rt, record, 5, 50)?;
+    if let Err((refusal, _)) = list.remove(rt, record, 4, Adds(0)) {
         return Err(refusal);
     }
     let view = ListView::of(domain, 0)?;
@@ -189,14 +189,14 @@ fn refusals<P: GracePlan + Drop, B: Site, R: Wait>(
 {
     let mut reader = registered(rt, domain, record)?;
     let mut list = listed(domain, record)?;
-    list.insert(rt, domain, record, 3, 30)?;
+    list.insert(rt, record, 3, 30)?;
     domain.close(rt, record);
-    let closed = list.replace(rt, domain, record, 3, 31, Adds(5));
-    let kept = list.remove(rt, domain, record, 3, Adds(6));
+    let closed = list.replace(rt, record, 3, 31, Adds(5));
+    let kept = list.remove(rt, record, 3, Adds(6));
     let unused = domain.counts(record).records == 1;
-    let last = list.insert(rt, domain, record, 4, 40);
-    let full = list.insert(rt, domain, record, 5, 50);
-    let no_room = list.replace(rt, domain, record, 4, 41, Adds(7));
+    let last = list.insert(rt, record, 4, 40);
+    let full = list.insert(rt, record, 5, 50);
+    let no_room = list.replace(rt, record, 4, 41, Adds(7));
     let view = list.view();
     let third = look(&mut reader, view, 3)?;
     let fourth = look(&mut reader, view, 4)?;
@@ -237,9 +237,7 @@ fn refused_calls_give_all_back(rt: HostRuntime) {
 }
 
 /// The number of a chain over which no list is made, and how many objects it has.
-fn refused<P: GracePlan + Drop, B: Site>(
-    chain: Chain<'_, P, Keyed, B, Adds>,
-) -> Option<(usize, usize)> {
+fn refused<P: GracePlan + Drop, B: Site>(chain: Chain<'_, P, Keyed, B, Adds>) -> Option<(usize, usize)> {
     match RcuList::new(chain) {
         Ok(_list) => None,
         Err((Refusal::BadConfig, chain)) => Some((chain.number(), chain.len())),
@@ -255,7 +253,7 @@ fn bad_chains<P: GracePlan + Drop, B: Site, R: Wait>(
     record: &mut Record<B>,
 ) -> Result<[bool; 5], Refusal> {
     let mut list = listed(domain, record)?;
-    list.insert(rt, domain, record, 3, 30)?;
+    list.insert(rt, record, 3, 30)?;
     drop(list);
     let held = domain.chain(record, 0)?;
     let held = refused(held);

@@ -114,14 +114,13 @@ fn two_look<P: GracePlan + Send + Sync, B: Site + Send + Sync, R: Threads + Sync
 /// Replaces the value of the key, and waits for a record while all are in use. Whether it did.
 fn replaces_once<P: GracePlan + Drop, B: Site, R: Wait>(
     rt: &R,
-    domain: &Domain<P, Keyed, B, Adds>,
-    list: &mut RcuList<'_, P, B, Adds>,
+    list: &mut RcuList<'_, P, Keyed, B, Adds>,
     record: &mut Record<B>,
     value: u64,
 ) -> bool {
     let backoff = Backoff::new();
     for _ in 0..1_000_000_000u64 {
-        match list.replace(rt, domain, record, KEY, value, Adds(0)) {
+        match list.replace(rt, record, KEY, value, Adds(0)) {
             Ok(_) => return true,
             Err((Refusal::PoolFull, _)) => backoff.snooze(),
             Err(_) => return false,
@@ -141,7 +140,7 @@ fn replaces<P: GracePlan + Drop, B: Site, R: Wait>(
     let mut last = 0u64;
     for number in 0..REPLACEMENTS {
         let value = number + 2;
-        if replaces_once(rt, domain, &mut list, record, value) {
+        if replaces_once(rt, &mut list, record, value) {
             last = value;
         }
     }
@@ -166,11 +165,11 @@ fn listed<'d, P: GracePlan + Drop, B: Site, R: Wait>(
     rt: &R,
     domain: &'d Domain<P, Keyed, B, Adds>,
     record: &mut Record<B>,
-) -> Result<RcuList<'d, P, B, Adds>, Refusal> {
+) -> Result<RcuList<'d, P, Keyed, B, Adds>, Refusal> {
     let chain = domain.chain(record, 0)?;
     match RcuList::new(chain) {
         Ok(mut list) => {
-            list.insert(rt, domain, record, KEY, 1)?;
+            list.insert(rt, record, KEY, 1)?;
             Ok(list)
         }
         Err((refusal, _)) => Err(refusal),

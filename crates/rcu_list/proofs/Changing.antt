@@ -8,9 +8,10 @@ use Rattle.rcu_model.proofs.Lemmas.{at_number_same, at_number_other, at_object_s
 use Rattle.live_log.specs.declared.event.LiveEvent.{LiveEvent}
 use Rattle.live_log.specs.declared.event.LiveEvent.TheVariants.{Object}
 use Rattle.live_log.specs.declared.event.ObjectEvent.TheVariants.{Push, Replace, Cut}
-use Rattle.live_log.specs.Keys.{key_of, keyed}
+use Rattle.live_log.specs.Keys.{key_of}
 use Rattle.live_log.specs.Log.{Log, Begins, IsLiveRun, note_of, state_of}
-use Rattle.live_log.proofs.Lemmas.{by_object, chain_used, each_falls, grows_log, not_has, note_stays, run_of}
+use Rattle.live_log.proofs.Lemmas.{by_object, chain_used, grows_log, not_has, note_stays, run_of}
+use Rattle.live_log.specs.Maps.{HasMaps}
 use Rattle.rcu_list.specs.Calls.{Inserts, Replaces, Removes}
 use Rattle.rcu_list.specs.Maps.{map_of, value_in, value_of, words_of}
 use Rattle.rcu_list.proofs.Values.{one_key, value_absent, value_at, value_first, value_kept, value_same}
@@ -18,33 +19,33 @@ use Rattle.rcu_list.proofs.Values.{one_key, value_absent, value_at, value_first,
 tail_is : (x y : ObjectId) (xs ys : List ObjectId) → x ∷ xs ≡ y ∷ ys → xs ≡ ys
 tail_is x y xs ys e = cc
 
-module _ (qsbr : Bool) (c : ℕ) where
+module _ (qsbr : Bool) (allows : Log → LiveEvent → Type 0) (maps : HasMaps qsbr allows) (c : ℕ) where
   -- the objects of the chain
   abbrev chain_in : Log → List ObjectId
   chain_in log = (state_of log).chain c
 
-  module _ (known log : Log) (begins : Begins known log) (run : IsLiveRun qsbr keyed log) where
-    known_run : IsLiveRun qsbr keyed known
-    known_run = run_of qsbr keyed known log begins run
+  module _ (known log : Log) (begins : Begins known log) (run : IsLiveRun qsbr allows log) where
+    known_run : IsLiveRun qsbr allows known
+    known_run = run_of qsbr allows known log begins run
 
     pub same_note : (o : ObjectId) → In (chain_in known) o → note_of log o ≡ note_of known o
-    same_note o h = note_stays qsbr keyed known log o begins run (chain_used qsbr keyed known c o known_run h)
+    same_note o h = note_stays qsbr allows known log o begins run (chain_used qsbr allows known c o known_run h)
 
     -- a key that is there, and one that is not
     pub key_there : (o : ObjectId) (key : ℕ) → In (chain_in known) o → key_of (note_of log o) ≡ key → map_of known c key ≡ Some (value_of (note_of known o))
-    key_there o key h is = value_at (note_of known) (chain_in known) o key (each_falls qsbr known c known_run) h (ap key_of (sym (same_note o h)) ∙ is)
+    key_there o key h is = value_at (note_of known) (chain_in known) o key (maps.falls known c known_run) h (ap key_of (sym (same_note o h)) ∙ is)
 
     pub key_missing : (key : ℕ) → ((o : ObjectId) → In (chain_in known) o → key_of (note_of log o) ≢ key) → map_of known c key ≡ None
     key_missing key none = value_absent (note_of known) (chain_in known) key (λ o h is. none o h (ap key_of (same_note o h) ∙ is))
 
     -- the same objects have the same map
     pub same_map : ((o : ObjectId) → In (chain_in known) o → In (chain_in log) o) → ((o : ObjectId) → In (chain_in log) o → In (chain_in known) o) → (k : ℕ) → map_of log c k ≡ map_of known c k
-    same_map to from k = value_kept (note_of known) (note_of log) (chain_in known) (chain_in log) k (each_falls qsbr known c known_run) (each_falls qsbr log c run)
+    same_map to from k = value_kept (note_of known) (note_of log) (chain_in known) (chain_in log) k (maps.falls known c known_run) (maps.falls log c run)
         (λ o h is. (to o h, same_note o h))
         (λ o h is. (from o h, same_note o (from o h)))
 
   module _ (known seen heard before : Log) (after : Begins known before × Begins seen before × Begins heard before) (key value rank cell : ℕ) (o : ObjectId) where
-    pub inserts : IsLiveRun qsbr keyed (Object (Push c o cell (words_of key value rank)) ∷ before) → chain_in (Object (Push c o cell (words_of key value rank)) ∷ before) ≡ o ∷ chain_in known → map_of known c key ≡ None → Inserts qsbr c known seen heard key value (Object (Push c o cell (words_of key value rank)) ∷ before)
+    pub inserts : IsLiveRun qsbr allows (Object (Push c o cell (words_of key value rank)) ∷ before) → chain_in (Object (Push c o cell (words_of key value rank)) ∷ before) ≡ o ∷ chain_in known → map_of known c key ≡ None → Inserts qsbr allows c known seen heard key value (Object (Push c o cell (words_of key value rank)) ∷ before)
     inserts run list none =
         let e : LiveEvent = Object (Push c o cell (words_of key value rank)) in
         let now : List ObjectId = chain_in (e ∷ before) in
@@ -71,31 +72,31 @@ module _ (qsbr : Bool) (c : ℕ) where
 
     module _ (p : ObjectId) (at : In (chain_in known) p) (is : key_of (note_of known p) ≡ key) where
       -- what is in the chain before the event, by what is in it after it
-      pub replaces : IsLiveRun qsbr keyed (Object (Replace c p o cell (words_of key value rank)) ∷ before) → chain_in (Object (Replace c p o cell (words_of key value rank)) ∷ before) ≡ replaced p o (chain_in known) → Replaces qsbr c known seen heard key value p (Object (Replace c p o cell (words_of key value rank)) ∷ before)
+      pub replaces : IsLiveRun qsbr allows (Object (Replace c p o cell (words_of key value rank)) ∷ before) → chain_in (Object (Replace c p o cell (words_of key value rank)) ∷ before) ≡ replaced p o (chain_in known) → Replaces qsbr allows c known seen heard key value p (Object (Replace c p o cell (words_of key value rank)) ∷ before)
       replaces run list =
           let e : LiveEvent = Object (Replace c p o cell (words_of key value rank)) in
           let now : List ObjectId = chain_in (e ∷ before) in
           let has : In (chain_in before) p = in_objects (chain_in before) p run.0.0.0 in
           let fresh : ¬ In (state_of before).used o = not_has (state_of before).used o run.0.0.1 in
           let left : now ≡ replaced p o (chain_in before) = at_number_same c (replaced p o (chain_in before)) (state_of before).chain in
-          let used : (x : ObjectId) → In (chain_in known) x → In (state_of before).used x = λ x h. (grows_log known before after.0).used x (chain_used qsbr keyed known c x (run_of qsbr keyed known before after.0 run.1) h) in
+          let used : (x : ObjectId) → In (chain_in known) x → In (state_of before).used x = λ x h. (grows_log known before after.0).used x (chain_used qsbr allows known c x (run_of qsbr allows known before after.0 run.1) h) in
           let to : (x : ObjectId) → In (chain_in known) x → In (chain_in before) x = λ x h. by_object x p
           (λ same. subst (In (chain_in before)) (sym same) has)
           (λ other. ⊎_elim (λ (new : x ≡ o). absurd (fresh (subst (In (state_of before).used) new (used x h)))) (λ (k : In (chain_in before) x × (x ≢ p)). k.0)
           (replaced_has p o (chain_in before) x (subst (λ (l : List ObjectId). In l x) (sym list ∙ left) (has_replaced p o (chain_in known) x h other)))) in
           let from : (x : ObjectId) → In (chain_in before) x → In (chain_in known) x = λ x h. by_object x p
           (λ same. subst (In (chain_in known)) (sym same) at)
-          (λ other. ⊎_elim (λ (new : x ≡ o). absurd (fresh (subst (In (state_of before).used) new (chain_used qsbr keyed before c x run.1 h)))) (λ (k : In (chain_in known) x × (x ≢ p)). k.0)
+          (λ other. ⊎_elim (λ (new : x ≡ o). absurd (fresh (subst (In (state_of before).used) new (chain_used qsbr allows before c x run.1 h)))) (λ (k : In (chain_in known) x × (x ≢ p)). k.0)
           (replaced_has p o (chain_in known) x (subst (λ (l : List ObjectId). In l x) (sym left ∙ list) (has_replaced p o (chain_in before) x h other)))) in
           let kept : (k : ℕ) → map_of before c k ≡ map_of known c k = same_map known before after.0 run.1 to from in
           let here : note_of (e ∷ before) o ≡ (cell, words_of key value rank) = at_object_same o (cell, words_of key value rank) (note_of before) in
           let stay : (x : ObjectId) → In (chain_in before) x → note_of (e ∷ before) x ≡ note_of before x = same_note before (e ∷ before) (e ∷ [], refl) run in
           let was : key_of (note_of before p) ≡ key = ap key_of (same_note known before after.0 run.1 p at) ∙ is in
-          let others : (k : ℕ) → k ≢ key → map_of (e ∷ before) c k ≡ map_of before c k = λ k apart. value_kept (note_of before) (note_of (e ∷ before)) (chain_in before) now k (each_falls qsbr before c run.1) (each_falls qsbr (e ∷ before) c run)
+          let others : (k : ℕ) → k ≢ key → map_of (e ∷ before) c k ≡ map_of before c k = λ k apart. value_kept (note_of before) (note_of (e ∷ before)) (chain_in before) now k (maps.falls before c run.1) (maps.falls (e ∷ before) c run)
           (λ x h key_is. (subst (λ (l : List ObjectId). In l x) (sym left) (has_replaced p o (chain_in before) x h (λ same. apart (sym key_is ∙ (ap (λ (z : ObjectId). key_of (note_of before z)) same ∙ was)))), stay x h))
           (λ x h key_is. ⊎_elim (λ (new : x ≡ o). absurd (apart (sym key_is ∙ (ap (λ (z : ObjectId). key_of (note_of (e ∷ before) z)) new ∙ ap key_of here)))) (λ (k : In (chain_in before) x × (x ≢ p)). (k.0, stay x k.0))
           (replaced_has p o (chain_in before) x (subst (λ (l : List ObjectId). In l x) left h))) in
-          let own : map_of (e ∷ before) c key ≡ Some value = value_at (note_of (e ∷ before)) now o key (each_falls qsbr (e ∷ before) c run) (subst (λ (l : List ObjectId). In l o) (sym left) (replaced_there p o (chain_in before) has)) (ap key_of here) ∙ ap (λ (x : ℕ × List ℕ). Some (value_of x)) here in
+          let own : map_of (e ∷ before) c key ≡ Some value = value_at (note_of (e ∷ before)) now o key (maps.falls (e ∷ before) c run) (subst (λ (l : List ObjectId). In l o) (sym left) (replaced_there p o (chain_in before) has)) (ap key_of here) ∙ ap (λ (x : ℕ × List ℕ). Some (value_of x)) here in
           record {
             object = o;
             cell = cell;
@@ -115,7 +116,7 @@ module _ (qsbr : Bool) (c : ℕ) where
           }
 
   module _ (known seen heard before : Log) (after : Begins known before × Begins seen before × Begins heard before) (key : ℕ) (p : ObjectId) (at : In ((state_of known).chain c) p) (is : key_of (note_of known p) ≡ key) where
-    pub removes : IsLiveRun qsbr keyed (Object (Cut c p) ∷ before) → (state_of (Object (Cut c p) ∷ before)).chain c ≡ without_object p ((state_of known).chain c) → Removes qsbr c known seen heard key p (Object (Cut c p) ∷ before)
+    pub removes : IsLiveRun qsbr allows (Object (Cut c p) ∷ before) → (state_of (Object (Cut c p) ∷ before)).chain c ≡ without_object p ((state_of known).chain c) → Removes qsbr allows c known seen heard key p (Object (Cut c p) ∷ before)
     removes run list =
         let e : LiveEvent = Object (Cut c p) in
         let now : List ObjectId = chain_in (e ∷ before) in
@@ -129,11 +130,11 @@ module _ (qsbr : Bool) (c : ℕ) where
         (λ other. (without_object_has p (chain_in known) x (subst (λ (l : List ObjectId). In l x) (sym left ∙ list) (has_without_object p (chain_in before) x h other))).0) in
         let kept : (k : ℕ) → map_of before c k ≡ map_of known c k = same_map known before after.0 run.1 to from in
         let was : key_of (note_of before p) ≡ key = ap key_of (same_note known before after.0 run.1 p at) ∙ is in
-        let others : (k : ℕ) → k ≢ key → map_of (e ∷ before) c k ≡ map_of before c k = λ k apart. value_kept (note_of before) (note_of before) (chain_in before) now k (each_falls qsbr before c run.1) (each_falls qsbr (e ∷ before) c run)
+        let others : (k : ℕ) → k ≢ key → map_of (e ∷ before) c k ≡ map_of before c k = λ k apart. value_kept (note_of before) (note_of before) (chain_in before) now k (maps.falls before c run.1) (maps.falls (e ∷ before) c run)
         (λ x h key_is. (subst (λ (l : List ObjectId). In l x) (sym left) (has_without_object p (chain_in before) x h (λ same. apart (sym key_is ∙ (ap (λ (z : ObjectId). key_of (note_of before z)) same ∙ was)))), refl))
         (λ x h key_is. ((without_object_has p (chain_in before) x (subst (λ (l : List ObjectId). In l x) left h)).0, refl)) in
         let own : map_of (e ∷ before) c key ≡ None = value_absent (note_of before) now key (λ x h key_is. let k = without_object_has p (chain_in before) x (subst (λ (l : List ObjectId). In l x) left h) in
-        k.1 (one_key (note_of before) (chain_in before) x p (each_falls qsbr before c run.1) k.0 has (key_is ∙ sym was))) in
+        k.1 (one_key (note_of before) (chain_in before) x p (maps.falls before c run.1) k.0 has (key_is ∙ sym was))) in
         record {
           had = value_of (note_of known p);
           changes = record {

@@ -1,5 +1,9 @@
+pub mod Allowing
 pub mod Changing
+pub mod Going
+pub mod Lemmas
 pub mod Looking
 pub mod Values
+pub mod Walking
 pub mod Windows
 pub mod Writing

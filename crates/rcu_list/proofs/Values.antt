@@ -124,3 +124,8 @@ last_below note (x ∷ xs) o q falls h next k low = by (object_tells x o) h k (�
     by (inr n) (inl e) k on = n.1 e
     by (inr n) (inr m) (inl e) on = let above = (falls.0 o m).1 in let same : rank_of (note x) ≡ rank_of (note q) = ap (λ (z : ObjectId). rank_of (note z)) e in omega arith
     by (inr n) (inr m) (inr l) on = on m (sym (ap (λ (b : Bool). if b then first_of xs else next_of xs o) n.0) ∙ next) l
+
+-- where no object is linked, no key has a value
+pub empty_map : (note : ObjectId → ℕ × List ℕ) (os : List ObjectId) (key : ℕ) → first_of os ≡ None → value_in note os key ≡ None
+empty_map note [] key none = refl
+empty_map note (o ∷ os) key none = absurd (none_some o (sym none))

@@ -1,18 +1,22 @@
 -- A lookup along a keyed chain answers by some moment of its window.
 use Rattle.std.proofs.Common.{◌≡◌, ◌≢◌, ◌⊎◌, ℕ, ◌<◌, Bool, List, [], ◌∷◌, ◌++◌, Option, Some, None, refl, sym, ap, ◌∙◌, subst, inl, inr, ⊎_elim, arith}
+use mathlib.Core.Logic.{dite}
+use native.Mathlib.Decide.{ℕ_discrete}
 use Rattle.rcu_model.specs.declared.event.ObjectId.{ObjectId}
 use Rattle.rcu_model.specs.Sets.{In, first_of, next_of, replaced, without_object}
-use Rattle.rcu_model.proofs.Lemmas.{StaysOrLeaves, StaysCut, at_number_same, at_object_same, in_objects, replaced_there, stays_cut, stays_or_leaves, without_object_has}
+use Rattle.rcu_model.proofs.Lemmas.{StaysOrLeaves, StaysCut, at_number_same, at_object_same, in_objects, replaced_has, replaced_there, stays_cut, stays_or_leaves, without_object_has}
 use Rattle.live_log.specs.declared.event.LiveEvent.{LiveEvent}
 use Rattle.live_log.specs.declared.event.LiveEvent.TheVariants.{Open, Close, SeqOdd, SeqEven, Present, ChainNote, CloseQueue, Object}
 use Rattle.live_log.specs.declared.event.ObjectEvent.TheVariants.{Push, Replace, Cut, Retire, Queue, Run}
-use Rattle.live_log.specs.Keys.{key_of, rank_of, keyed}
+use Rattle.live_log.specs.Keys.{key_of, rank_of}
 use Rattle.live_log.specs.Log.{Log, Begins, Follows, IsLiveRun, event_of, note_of, objects_of, state_of}
-use Rattle.live_log.proofs.Lemmas.{begins_trans, chain_used, each_falls, kept_log, note_stays, run_of}
+use Rattle.live_log.proofs.Lemmas.{begins_trans, chain_used, kept_log, note_stays, run_of}
+use Rattle.live_log.specs.Maps.{HasMaps}
 use Rattle.rcu_list.specs.Maps.{AnswersBetween, map_of, value_of}
 use Rattle.rcu_list.proofs.Values.{Found, find_key, first_above, last_below, next_below, one_key, value_absent, value_at}
 
-module _ (qsbr : Bool) (c : ℕ) where
+-- a chain
+module _ (c : ℕ) where
   abbrev chain_in : Log → List ObjectId
   chain_in log = (state_of log).chain c
 
@@ -43,9 +47,41 @@ module _ (qsbr : Bool) (c : ℕ) where
   pub met_later : (start now later : Log) (o : ObjectId) → Begins now later → Met start now o → Met start later o
   met_later start now later o b m = record { at = m.at; after = m.after; before = begins_trans m.at now later m.before b; has = m.has }
 
+  -- where an object that was linked is: it is linked, or it was cut, with what followed it then
+  pub record Left (start now : Log) (o : ObjectId) : Type 0 where
+    pub at : Log
+    pub after : Begins start at
+    pub before : Begins at now
+    pub has : In (chain_in at) o
+    pub next : next_of (chain_in at) o ≡ (state_of now).successor o
+    pub cut : In (state_of now).cut o
+
+  -- what follows an object that was met followed it in the chain at some moment
+  pub record Follower (start now : Log) (o : ObjectId) (found : Option ObjectId) : Type 0 where
+    pub at : Log
+    pub after : Begins start at
+    pub before : Begins at now
+    pub has : In (chain_in at) o
+    pub next : next_of (chain_in at) o ≡ found
+
+  -- the key was absent at some moment, or when the lookup began it had a rank below this one
+  abbrev pub Past : Log → Log → ℕ → ℕ → Type 0
+  Past start now key rank = Lacked start now key ⊎ ((r : ℕ) × Ranked start key r × (r < rank))
+
+  -- a lookup comes to an object behind one with this rank
+  pub record Reaches (start now : Log) (key rank : ℕ) (o : ObjectId) : Type 0 where
+    pub met : Met start now o
+    pub lower : rank_of (note_of now o) < rank
+    pub past : key_of (note_of now o) ≢ key → Past start now key (rank_of (note_of now o))
+
+  pub past_later : (start now later : Log) (key rank : ℕ) → Begins now later → Past start now key rank → Past start later key rank
+  past_later start now later key rank b (inl l) = inl (lacked_later start now later key b l)
+  past_later start now later key rank b (inr r) = inr r
+
+module _ (qsbr : Bool) (allows : Log → LiveEvent → Type 0) (maps : HasMaps qsbr allows) (c : ℕ) where
   -- an event leaves an object linked, or cuts it, with what followed it
-  one_step : (e : LiveEvent) (log : Log) (o : ObjectId) → IsLiveRun qsbr keyed (e ∷ log) → In (chain_in log) o → StaysOrLeaves (state_of log) (state_of (e ∷ log)) c o
-  one_step (Object d) log o run h = stays_or_leaves (state_of log) (event_of d) c o (kept_log qsbr keyed log run.1) run.0.0 h
+  one_step : (e : LiveEvent) (log : Log) (o : ObjectId) → IsLiveRun qsbr allows (e ∷ log) → In (chain_in c log) o → StaysOrLeaves (state_of log) (state_of (e ∷ log)) c o
+  one_step (Object d) log o run h = stays_or_leaves (state_of log) (event_of d) c o (kept_log qsbr allows log run.1) run.0.0 h
   one_step (Open r n m) log o run h = inl h
   one_step (Close r n) log o run h = inl h
   one_step SeqOdd log o run h = inl h
@@ -54,8 +90,8 @@ module _ (qsbr : Bool) (c : ℕ) where
   one_step (ChainNote d x) log o run h = inl h
   one_step (CloseQueue q) log o run h = inl h
 
-  cut_step : (e : LiveEvent) (log : Log) (o : ObjectId) → IsLiveRun qsbr keyed (e ∷ log) → In (state_of log).cut o → StaysCut (state_of log) (state_of (e ∷ log)) o
-  cut_step (Object d) log o run h = stays_cut (state_of log) (event_of d) o (kept_log qsbr keyed log run.1) run.0.0 h
+  cut_step : (e : LiveEvent) (log : Log) (o : ObjectId) → IsLiveRun qsbr allows (e ∷ log) → In (state_of log).cut o → StaysCut (state_of log) (state_of (e ∷ log)) o
+  cut_step (Object d) log o run h = stays_cut (state_of log) (event_of d) o (kept_log qsbr allows log run.1) run.0.0 h
   cut_step (Open r n m) log o run h = (h, refl)
   cut_step (Close r n) log o run h = (h, refl)
   cut_step SeqOdd log o run h = (h, refl)
@@ -65,24 +101,24 @@ module _ (qsbr : Bool) (c : ℕ) where
   cut_step (CloseQueue q) log o run h = (h, refl)
 
   -- a key keeps its rank as long as it is there
-  stays_ranked : (e : LiveEvent) (log : Log) (key rank : ℕ) → IsLiveRun qsbr keyed (e ∷ log) → (r : Ranked log key rank) → In (chain_in (e ∷ log)) r.object → Ranked (e ∷ log) key rank
-  stays_ranked e log key rank run r h = let note = note_stays qsbr keyed log (e ∷ log) r.object (e ∷ [], refl) run (chain_used qsbr keyed log c r.object run.1 r.has) in
+  stays_ranked : (e : LiveEvent) (log : Log) (key rank : ℕ) → IsLiveRun qsbr allows (e ∷ log) → (r : Ranked c log key rank) → In (chain_in c (e ∷ log)) r.object → Ranked c (e ∷ log) key rank
+  stays_ranked e log key rank run r h = let note = note_stays qsbr allows log (e ∷ log) r.object (e ∷ [], refl) run (chain_used qsbr allows log c r.object run.1 r.has) in
       record { object = r.object; has = h; key_is = ap key_of note ∙ r.key_is; rank_is = ap rank_of note ∙ r.rank_is }
 
   abbrev GoesOn : LiveEvent → Log → ℕ → ℕ → Type 0
-  GoesOn e log key rank = Ranked (e ∷ log) key rank ⊎ (map_of (e ∷ log) c key ≡ None)
+  GoesOn e log key rank = Ranked c (e ∷ log) key rank ⊎ (map_of (e ∷ log) c key ≡ None)
 
   -- it is linked still, or the event cut it
-  by_cut : (e : LiveEvent) (log : Log) (key rank : ℕ) → IsLiveRun qsbr keyed (e ∷ log) → (r : Ranked log key rank) → (In (state_of (e ∷ log)).cut r.object → GoesOn e log key rank) → GoesOn e log key rank
+  by_cut : (e : LiveEvent) (log : Log) (key rank : ℕ) → IsLiveRun qsbr allows (e ∷ log) → (r : Ranked c log key rank) → (In (state_of (e ∷ log)).cut r.object → GoesOn e log key rank) → GoesOn e log key rank
   by_cut e log key rank run r gone = ⊎_elim
-      (λ (h : In (chain_in (e ∷ log)) r.object). inl (stays_ranked e log key rank run r h))
-      (λ (h : In (state_of (e ∷ log)).cut r.object × ((state_of (e ∷ log)).successor r.object ≡ next_of (chain_in log) r.object)). gone h.0)
+      (λ (h : In (chain_in c (e ∷ log)) r.object). inl (stays_ranked e log key rank run r h))
+      (λ (h : In (state_of (e ∷ log)).cut r.object × ((state_of (e ∷ log)).successor r.object ≡ next_of (chain_in c log) r.object)). gone h.0)
       (one_step e log r.object run r.has)
 
-  not_cut : (log : Log) (o : ObjectId) → IsLiveRun qsbr keyed log → In (chain_in log) o → ¬ In (state_of log).cut o
-  not_cut log o run h = (kept_log qsbr keyed log run).linking.linked_not_cut c o h
+  not_cut : (log : Log) (o : ObjectId) → IsLiveRun qsbr allows log → In (chain_in c log) o → ¬ In (state_of log).cut o
+  not_cut log o run h = (kept_log qsbr allows log run).linking.linked_not_cut c o h
 
-  ranked_step : (e : LiveEvent) (log : Log) (key rank : ℕ) → IsLiveRun qsbr keyed (e ∷ log) → Ranked log key rank → GoesOn e log key rank
+  ranked_step : (e : LiveEvent) (log : Log) (key rank : ℕ) → IsLiveRun qsbr allows (e ∷ log) → Ranked c log key rank → GoesOn e log key rank
   ranked_step (Open q n m) log key rank run r = inl (stays_ranked (Open q n m) log key rank run r r.has)
   ranked_step (Close q n) log key rank run r = inl (stays_ranked (Close q n) log key rank run r r.has)
   ranked_step SeqOdd log key rank run r = inl (stays_ranked SeqOdd log key rank run r r.has)
@@ -95,126 +131,140 @@ module _ (qsbr : Bool) (c : ℕ) where
   ranked_step (Object (Queue p q)) log key rank run r = inl (stays_ranked (Object (Queue p q)) log key rank run r r.has)
   ranked_step (Object (Run p)) log key rank run r = inl (stays_ranked (Object (Run p)) log key rank run r r.has)
   ranked_step (Object (Replace d p m i w)) log key rank run r = by_cut (Object (Replace d p m i w)) log key rank run r
-      (⊎_elim (λ (e : p ≡ r.object). inl (there e)) (λ (h : In (state_of log).cut r.object). absurd (not_cut log r.object run.1 r.has h)))
+      (⊎_elim (λ (e : p ≡ r.object). came e) (λ (h : In (state_of log).cut r.object). absurd (not_cut log r.object run.1 r.has h)))
     where
-      there : p ≡ r.object → Ranked (Object (Replace d p m i w) ∷ log) key rank
-      there e =
-          let at : In ((state_of log).chain d) p = in_objects ((state_of log).chain d) p run.0.0.0 in
-          let same : c ≡ d = (kept_log qsbr keyed log run.1).linking.one_chain c d p (subst (In (chain_in log)) (sym e) r.has) at in
-          let here : note_of (Object (Replace d p m i w) ∷ log) m ≡ (i, w) = at_object_same m (i, w) (note_of log) in
-          let now : List ObjectId = (state_of (Object (Replace d p m i w) ∷ log)).chain d in
-          record {
-            object = m;
-            has = subst (λ (n : ℕ). In ((state_of (Object (Replace d p m i w) ∷ log)).chain n) m) (sym same)
-                (subst (λ (l : List ObjectId). In l m) (sym (at_number_same d (replaced p m ((state_of log).chain d)) (state_of log).chain)) (replaced_there p m ((state_of log).chain d) at));
-            key_is = ap key_of here ∙ (run.0.1.1 ∙ (ap (λ (z : ObjectId). key_of (note_of log z)) e ∙ r.key_is));
-            rank_is = ap rank_of here ∙ (run.0.1.2 ∙ (ap (λ (z : ObjectId). rank_of (note_of log z)) e ∙ r.rank_is));
-          }
+      after : Log
+      after = Object (Replace d p m i w) ∷ log
+
+      at : In ((state_of log).chain d) p
+      at = in_objects ((state_of log).chain d) p run.0.0.0
+
+      list : (state_of after).chain d ≡ replaced p m ((state_of log).chain d)
+      list = at_number_same d (replaced p m ((state_of log).chain d)) (state_of log).chain
+
+      here : note_of after m ≡ (i, w)
+      here = at_object_same m (i, w) (note_of log)
+
+      one : p ≡ r.object → c ≡ d
+      one e = (kept_log qsbr allows log run.1).linking.one_chain c d p (subst (In (chain_in c log)) (sym e) r.has) at
+
+      there : p ≡ r.object → key_of (i, w) ≡ key → Ranked c after key rank
+      there e is = record {
+        object = m;
+        has = subst (λ (n : ℕ). In ((state_of after).chain n) m) (sym (one e)) (subst (λ (l : List ObjectId). In l m) (sym list) (replaced_there p m ((state_of log).chain d) at));
+        key_is = ap key_of here ∙ is;
+        rank_is = ap rank_of here ∙ ((maps.alike log d p m i w run).0 ∙ (ap (λ (z : ObjectId). rank_of (note_of log z)) e ∙ r.rank_is));
+      }
+
+      gone : p ≡ r.object → key_of (i, w) ≢ key → (state_of log).chain d ≡ p ∷ [] → map_of after c key ≡ None
+      gone e other alone = value_absent (note_of after) (chain_in c after) key (λ o h key_is.
+          let now : In (replaced p m (p ∷ [])) o = subst (λ (l : List ObjectId). In l o) (ap (state_of after).chain (one e) ∙ (list ∙ ap (replaced p m) alone)) h in
+          ⊎_elim
+          (λ (is : o ≡ m). other (sym (ap key_of here) ∙ (ap (λ (z : ObjectId). key_of (note_of after z)) (sym is) ∙ key_is)))
+          (λ (k : In (p ∷ []) o × (o ≢ p)). ⊎_elim (λ (is : p ≡ o). k.1 (sym is)) (λ (h : In [] o). absurd h) k.0)
+          (replaced_has p m (p ∷ []) o now))
+
+      came : p ≡ r.object → GoesOn (Object (Replace d p m i w)) log key rank
+      came e = dite (ℕ_discrete (key_of (i, w)) key)
+          (λ is. inl (there e is))
+          (λ other. ⊎_elim
+          (λ (same : key_of (i, w) ≡ key_of (note_of log p)). absurd (other (same ∙ (ap (λ (z : ObjectId). key_of (note_of log z)) e ∙ r.key_is))))
+          (λ (alone : (state_of log).chain d ≡ p ∷ []). inr (gone e other alone))
+          (maps.alike log d p m i w run).1)
   ranked_step (Object (Cut d p)) log key rank run r = by_cut (Object (Cut d p)) log key rank run r
       (⊎_elim (λ (e : p ≡ r.object). inr (gone e)) (λ (h : In (state_of log).cut r.object). absurd (not_cut log r.object run.1 r.has h)))
     where
       gone : p ≡ r.object → map_of (Object (Cut d p) ∷ log) c key ≡ None
       gone e =
           let at : In ((state_of log).chain d) p = in_objects ((state_of log).chain d) p run.0.0 in
-          let same : d ≡ c = (kept_log qsbr keyed log run.1).linking.one_chain d c p at (subst (In (chain_in log)) (sym e) r.has) in
-          let left : chain_in (Object (Cut d p) ∷ log) ≡ without_object p (chain_in log) = ap (λ (n : ℕ). (state_of (Object (Cut d p) ∷ log)).chain n) (sym same)
+          let same : d ≡ c = (kept_log qsbr allows log run.1).linking.one_chain d c p at (subst (In (chain_in c log)) (sym e) r.has) in
+          let left : chain_in c (Object (Cut d p) ∷ log) ≡ without_object p (chain_in c log) = ap (λ (n : ℕ). (state_of (Object (Cut d p) ∷ log)).chain n) (sym same)
           ∙ (at_number_same d (without_object p ((state_of log).chain d)) (state_of log).chain ∙ ap (λ (n : ℕ). without_object p ((state_of log).chain n)) same) in
-          value_absent (note_of log) (chain_in (Object (Cut d p) ∷ log)) key (λ o h key_is. let k = without_object_has p (chain_in log) o (subst (λ (l : List ObjectId). In l o) left h) in
-          k.1 (one_key (note_of log) (chain_in log) o p (each_falls qsbr log c run.1) k.0 (subst (In (chain_in log)) (sym e) r.has) (key_is ∙ (sym r.key_is ∙ ap (λ (z : ObjectId). key_of (note_of log z)) (sym e)))))
+          value_absent (note_of log) (chain_in c (Object (Cut d p) ∷ log)) key (λ o h key_is. let k = without_object_has p (chain_in c log) o (subst (λ (l : List ObjectId). In l o) left h) in
+          k.1 (one_key (note_of log) (chain_in c log) o p (maps.falls log c run.1) k.0 (subst (In (chain_in c log)) (sym e) r.has) (key_is ∙ (sym r.key_is ∙ ap (λ (z : ObjectId). key_of (note_of log z)) (sym e)))))
 
-  ranked_since : (since start : Log) (key rank : ℕ) → IsLiveRun qsbr keyed (since ++ start) → Ranked start key rank → Lacked start (since ++ start) key ⊎ Ranked (since ++ start) key rank
+  ranked_since : (since start : Log) (key rank : ℕ) → IsLiveRun qsbr allows (since ++ start) → Ranked c start key rank → Lacked c start (since ++ start) key ⊎ Ranked c (since ++ start) key rank
   ranked_since [] start key rank run r = inr r
   ranked_since (e ∷ es) start key rank run r = ⊎_elim
-      (λ (l : Lacked start (es ++ start) key). inl (lacked_later start (es ++ start) (e ∷ (es ++ start)) key (e ∷ [], refl) l))
-      (λ (s : Ranked (es ++ start) key rank). ⊎_elim
-      (λ (t : Ranked (e ∷ (es ++ start)) key rank). inr t)
+      (λ (l : Lacked c start (es ++ start) key). inl (lacked_later c start (es ++ start) (e ∷ (es ++ start)) key (e ∷ [], refl) l))
+      (λ (s : Ranked c (es ++ start) key rank). ⊎_elim
+      (λ (t : Ranked c (e ∷ (es ++ start)) key rank). inr t)
       (λ (none : map_of (e ∷ (es ++ start)) c key ≡ None). inl (record { at = e ∷ (es ++ start); after = (e ∷ es, refl); before = ([], refl); is = none }))
       (ranked_step e (es ++ start) key rank run s))
       (ranked_since es start key rank run.1 r)
 
-  pub ranked_later : (start now : Log) (key rank : ℕ) → Begins start now → IsLiveRun qsbr keyed now → Ranked start key rank → Lacked start now key ⊎ Ranked now key rank
-  ranked_later start now key rank b run r = subst (λ (l : Log). Lacked start l key ⊎ Ranked l key rank) (sym b.1) (ranked_since b.0 start key rank (subst (IsLiveRun qsbr keyed) b.1 run) r)
+  pub ranked_later : (start now : Log) (key rank : ℕ) → Begins start now → IsLiveRun qsbr allows now → Ranked c start key rank → Lacked c start now key ⊎ Ranked c now key rank
+  ranked_later start now key rank b run r = subst (λ (l : Log). Lacked c start l key ⊎ Ranked c l key rank) (sym b.1) (ranked_since b.0 start key rank (subst (IsLiveRun qsbr allows) b.1 run) r)
 
-  -- where an object that was linked is: it is linked, or it was cut, with what followed it then
-  pub record Left (start now : Log) (o : ObjectId) : Type 0 where
-    pub at : Log
-    pub after : Begins start at
-    pub before : Begins at now
-    pub has : In (chain_in at) o
-    pub next : next_of (chain_in at) o ≡ (state_of now).successor o
-    pub cut : In (state_of now).cut o
-
-  left_since : (since start : Log) (o : ObjectId) → IsLiveRun qsbr keyed (since ++ start) → In (chain_in start) o → In (chain_in (since ++ start)) o ⊎ Left start (since ++ start) o
+  left_since : (since start : Log) (o : ObjectId) → IsLiveRun qsbr allows (since ++ start) → In (chain_in c start) o → In (chain_in c (since ++ start)) o ⊎ Left c start (since ++ start) o
   left_since [] start o run h = inl h
   left_since (e ∷ es) start o run h = let log : Log = es ++ start in ⊎_elim
-      (λ (there : In (chain_in log) o). ⊎_elim
-      (λ (k : In (chain_in (e ∷ log)) o). inl k)
-      (λ (gone : In (state_of (e ∷ log)).cut o × ((state_of (e ∷ log)).successor o ≡ next_of (chain_in log) o)). inr (record { at = log; after = (es, refl); before = (e ∷ [], refl); has = there; next = sym gone.1; cut = gone.0 }))
+      (λ (there : In (chain_in c log) o). ⊎_elim
+      (λ (k : In (chain_in c (e ∷ log)) o). inl k)
+      (λ (gone : In (state_of (e ∷ log)).cut o × ((state_of (e ∷ log)).successor o ≡ next_of (chain_in c log) o)). inr (record { at = log; after = (es, refl); before = (e ∷ [], refl); has = there; next = sym gone.1; cut = gone.0 }))
       (one_step e log o run there))
-      (λ (l : Left start log o). let s = cut_step e log o run l.cut in inr (record { at = l.at; after = l.after; before = begins_trans l.at log (e ∷ log) l.before (e ∷ [], refl); has = l.has; next = l.next ∙ sym s.1; cut = s.0 }))
+      (λ (l : Left c start log o). let s = cut_step e log o run l.cut in inr (record { at = l.at; after = l.after; before = begins_trans l.at log (e ∷ log) l.before (e ∷ [], refl); has = l.has; next = l.next ∙ sym s.1; cut = s.0 }))
       (left_since es start o run.1 h)
 
-  -- what follows an object that was met followed it in the chain at some moment
-  pub record Follower (start now : Log) (o : ObjectId) (found : Option ObjectId) : Type 0 where
-    pub at : Log
-    pub after : Begins start at
-    pub before : Begins at now
-    pub has : In (chain_in at) o
-    pub next : next_of (chain_in at) o ≡ found
-
-  pub follower : (start now : Log) (o : ObjectId) (found : Option ObjectId) → IsLiveRun qsbr keyed now → Met start now o → Follows (objects_of now) o found → Follower start now o found
-  follower start now o found run m f = by (subst (λ (l : Log). In (chain_in l) o ⊎ Left m.at l o) (sym m.before.1) (left_since m.before.0 m.at o (subst (IsLiveRun qsbr keyed) m.before.1 run) m.has)) f
+  pub follower : (start now : Log) (o : ObjectId) (found : Option ObjectId) → IsLiveRun qsbr allows now → Met c start now o → Follows (objects_of now) o found → Follower c start now o found
+  follower start now o found run m f = by (subst (λ (l : Log). In (chain_in c l) o ⊎ Left c m.at l o) (sym m.before.1) (left_since m.before.0 m.at o (subst (IsLiveRun qsbr allows) m.before.1 run) m.has)) f
     where
-      by : In (chain_in now) o ⊎ Left m.at now o → Follows (objects_of now) o found → Follower start now o found
-      by (inl h) (inl l) = record { at = now; after = begins_trans start m.at now m.after m.before; before = ([], refl); has = h; next = ap (λ (n : ℕ). next_of ((state_of now).chain n) o) ((kept_log qsbr keyed now run).linking.one_chain c l.0 o h l.1) ∙ l.2 }
+      by : In (chain_in c now) o ⊎ Left c m.at now o → Follows (objects_of now) o found → Follower c start now o found
+      by (inl h) (inl l) = record { at = now; after = begins_trans start m.at now m.after m.before; before = ([], refl); has = h; next = ap (λ (n : ℕ). next_of ((state_of now).chain n) o) ((kept_log qsbr allows now run).linking.one_chain c l.0 o h l.1) ∙ l.2 }
       by (inl h) (inr k) = absurd (not_cut now o run h k.0)
-      by (inr g) (inl l) = absurd ((kept_log qsbr keyed now run).linking.linked_not_cut l.0 o l.1 g.cut)
+      by (inr g) (inl l) = absurd ((kept_log qsbr allows now run).linking.linked_not_cut l.0 o l.1 g.cut)
       by (inr g) (inr k) = record { at = g.at; after = begins_trans start m.at g.at m.after g.after; before = g.before; has = g.has; next = g.next ∙ k.1 }
 
-  -- the key was absent at some moment, or when the lookup began it had a rank below this one
-  abbrev pub Past : Log → Log → ℕ → ℕ → Type 0
-  Past start now key rank = Lacked start now key ⊎ ((r : ℕ) × Ranked start key r × (r < rank))
+  note_at : (at now : Log) (o : ObjectId) → Begins at now → IsLiveRun qsbr allows now → In (chain_in c at) o → note_of now o ≡ note_of at o
+  note_at at now o b run h = note_stays qsbr allows at now o b run (chain_used qsbr allows at c o (run_of qsbr allows at now b run) h)
 
-  -- a lookup comes to an object behind one with this rank
-  pub record Reaches (start now : Log) (key rank : ℕ) (o : ObjectId) : Type 0 where
-    pub met : Met start now o
-    pub lower : rank_of (note_of now o) < rank
-    pub past : key_of (note_of now o) ≢ key → Past start now key (rank_of (note_of now o))
+  -- what follows an object that was met was met, with a lower rank
+  pub advances : (start now : Log) (o p : ObjectId) → IsLiveRun qsbr allows now → Met c start now o → Follows (objects_of now) o (Some p) → Met c start now p × (rank_of (note_of now p) < rank_of (note_of now o))
+  advances start now o p run met follows =
+      let f = follower start now o (Some p) run met follows in
+      let b = next_below (note_of f.at) (chain_in c f.at) o p (maps.falls f.at c (run_of qsbr allows f.at now f.before run)) f.has f.next in
+      let here : rank_of (note_of now o) ≡ rank_of (note_of f.at o) = ap rank_of (note_at f.at now o f.before run f.has) in
+      let there : rank_of (note_of now p) ≡ rank_of (note_of f.at p) = ap rank_of (note_at f.at now p f.before run b.has) in
+      let lower = b.lower in
+      (record { at = f.at; after = f.after; before = f.before; has = b.has }, omega arith)
 
-  note_at : (at now : Log) (o : ObjectId) → Begins at now → IsLiveRun qsbr keyed now → In (chain_in at) o → note_of now o ≡ note_of at o
-  note_at at now o b run h = note_stays qsbr keyed at now o b run (chain_used qsbr keyed at c o (run_of qsbr keyed at now b run) h)
-
-  pub past_later : (start now later : Log) (key rank : ℕ) → Begins now later → Past start now key rank → Past start later key rank
-  past_later start now later key rank b (inl l) = inl (lacked_later start now later key b l)
-  past_later start now later key rank b (inr r) = inr r
+  -- a key that was there when the lookup began, and was met, was met with the rank that it had then, or was absent
+  pub met_rank : (start now : Log) (key rank : ℕ) (o : ObjectId) → IsLiveRun qsbr allows now → Ranked c start key rank → Met c start now o → key_of (note_of now o) ≡ key → Lacked c start now key ⊎ (rank_of (note_of now o) ≡ rank)
+  met_rank start now key rank o run r m key_is =
+      let run_at = run_of qsbr allows m.at now m.before run in
+      let note = note_at m.at now o m.before run m.has in
+      ⊎_elim
+      (λ (l : Lacked c start m.at key). inl (lacked_later c start m.at now key m.before l))
+      (λ (k : Ranked c m.at key rank). inr (ap rank_of note ∙ (ap (λ (p : ObjectId). rank_of (note_of m.at p)) (one_key (note_of m.at) (chain_in c m.at) o k.object (maps.falls m.at c run_at) m.has k.has (ap key_of (sym note) ∙ (key_is ∙ sym k.key_is))) ∙ k.rank_is)))
+      (ranked_later start m.at key rank m.after run_at r)
 
   -- at the first object
-  pub past_first : (start : Log) (o : ObjectId) (key : ℕ) → IsLiveRun qsbr keyed start → first_of (chain_in start) ≡ Some o → key_of (note_of start o) ≢ key → Past start start key (rank_of (note_of start o))
+  pub past_first : (start : Log) (o : ObjectId) (key : ℕ) → IsLiveRun qsbr allows start → first_of (chain_in c start) ≡ Some o → key_of (note_of start o) ≢ key → Past c start start key (rank_of (note_of start o))
   past_first start o key run first other = ⊎_elim
-      (λ (f : Found (note_of start) (chain_in start) key). ⊎_elim
+      (λ (f : Found (note_of start) (chain_in c start) key). ⊎_elim
       (λ (same : o ≡ f.object). absurd (other (ap (λ (p : ObjectId). key_of (note_of start p)) same ∙ f.is)))
       (λ (low : rank_of (note_of start f.object) < rank_of (note_of start o)). inr (rank_of (note_of start f.object), record { object = f.object; has = f.has; key_is = f.is; rank_is = refl }, low))
-      (first_above (note_of start) (chain_in start) o f.object (each_falls qsbr start c run) first f.has))
-      (λ (none : (p : ObjectId) → In (chain_in start) p → key_of (note_of start p) ≢ key). inl (record { at = start; after = ([], refl); before = ([], refl); is = value_absent (note_of start) (chain_in start) key none }))
-      (find_key (note_of start) (chain_in start) key)
+      (first_above (note_of start) (chain_in c start) o f.object (maps.falls start c run) first f.has))
+      (λ (none : (p : ObjectId) → In (chain_in c start) p → key_of (note_of start p) ≢ key). inl (record { at = start; after = ([], refl); before = ([], refl); is = value_absent (note_of start) (chain_in c start) key none }))
+      (find_key (note_of start) (chain_in c start) key)
 
-  module _ (start now : Log) (key : ℕ) (o : ObjectId) (run : IsLiveRun qsbr keyed now) (met : Met start now o) (past : Past start now key (rank_of (note_of now o))) where
+  module _ (start now : Log) (key : ℕ) (o : ObjectId) (run : IsLiveRun qsbr allows now) (met : Met c start now o) (past : Past c start now key (rank_of (note_of now o))) where
     -- the key was absent, or stood below the object when this followed it
-    below : (found : Option ObjectId) → (f : Follower start now o found) → Lacked start now key ⊎ ((r : ℕ) × Ranked start key r × ((k : Ranked f.at key r) × (rank_of (note_of f.at k.object) < rank_of (note_of f.at o))))
+    below : (found : Option ObjectId) → (f : Follower c start now o found) → Lacked c start now key ⊎ ((r : ℕ) × Ranked c start key r × ((k : Ranked c f.at key r) × (rank_of (note_of f.at k.object) < rank_of (note_of f.at o))))
     below found f = ⊎_elim
-        (λ (l : Lacked start now key). inl l)
-        (λ (b : (r : ℕ) × Ranked start key r × (r < rank_of (note_of now o))). ⊎_elim
-        (λ (l : Lacked start f.at key). inl (lacked_later start f.at now key f.before l))
-        (λ (k : Ranked f.at key b.0). inr (b.0, b.1, (k, let here : rank_of (note_of now o) ≡ rank_of (note_of f.at o) = ap rank_of (note_at f.at now o f.before run f.has) in let is = k.rank_is in let low = b.2 in omega arith)))
-        (ranked_later start f.at key b.0 f.after (run_of qsbr keyed f.at now f.before run) b.1))
+        (λ (l : Lacked c start now key). inl l)
+        (λ (b : (r : ℕ) × Ranked c start key r × (r < rank_of (note_of now o))). ⊎_elim
+        (λ (l : Lacked c start f.at key). inl (lacked_later c start f.at now key f.before l))
+        (λ (k : Ranked c f.at key b.0). inr (b.0, b.1, (k, let here : rank_of (note_of now o) ≡ rank_of (note_of f.at o) = ap rank_of (note_at f.at now o f.before run f.has) in let is = k.rank_is in let low = b.2 in omega arith)))
+        (ranked_later start f.at key b.0 f.after (run_of qsbr allows f.at now f.before run) b.1))
         past
 
     -- what comes next
-    pub reaches : (p : ObjectId) → Follows (objects_of now) o (Some p) → Reaches start now key (rank_of (note_of now o)) p
+    pub reaches : (p : ObjectId) → Follows (objects_of now) o (Some p) → Reaches c start now key (rank_of (note_of now o)) p
     reaches p follows =
         let f = follower start now o (Some p) run met follows in
-        let run_at = run_of qsbr keyed f.at now f.before run in
-        let b = next_below (note_of f.at) (chain_in f.at) o p (each_falls qsbr f.at c run_at) f.has f.next in
+        let run_at = run_of qsbr allows f.at now f.before run in
+        let b = next_below (note_of f.at) (chain_in c f.at) o p (maps.falls f.at c run_at) f.has f.next in
         let here : rank_of (note_of now o) ≡ rank_of (note_of f.at o) = ap rank_of (note_at f.at now o f.before run f.has) in
         let there : note_of now p ≡ note_of f.at p = note_at f.at now p f.before run b.has in
         let rank : rank_of (note_of now p) ≡ rank_of (note_of f.at p) = ap rank_of there in
@@ -223,8 +273,8 @@ module _ (qsbr : Bool) (c : ℕ) where
           met = record { at = f.at; after = f.after; before = f.before; has = b.has };
           lower = omega arith;
           past = λ other. ⊎_elim
-              (λ (l : Lacked start now key). inl l)
-              (λ (s : (r : ℕ) × Ranked start key r × ((k : Ranked f.at key r) × (rank_of (note_of f.at k.object) < rank_of (note_of f.at o)))). ⊎_elim
+              (λ (l : Lacked c start now key). inl l)
+              (λ (s : (r : ℕ) × Ranked c start key r × ((k : Ranked c f.at key r) × (rank_of (note_of f.at k.object) < rank_of (note_of f.at o)))). ⊎_elim
               (λ (same : p ≡ s.2.0.object). absurd (other (ap key_of there ∙ (ap (λ (q : ObjectId). key_of (note_of f.at q)) same ∙ s.2.0.key_is))))
               (λ (low : rank_of (note_of f.at s.2.0.object) < rank_of (note_of f.at p)). inr (s.0, s.1, let is = s.2.0.rank_is in omega arith))
               (b.others s.2.0.object s.2.0.has s.2.1))
@@ -232,31 +282,24 @@ module _ (qsbr : Bool) (c : ℕ) where
         }
 
     -- nothing does
-    pub ends : Follows (objects_of now) o None → Lacked start now key
+    pub ends : Follows (objects_of now) o None → Lacked c start now key
     ends follows =
         let f = follower start now o None run met follows in
         ⊎_elim
-        (λ (l : Lacked start now key). l)
-        (λ (s : (r : ℕ) × Ranked start key r × ((k : Ranked f.at key r) × (rank_of (note_of f.at k.object) < rank_of (note_of f.at o)))).
-        absurd (last_below (note_of f.at) (chain_in f.at) o s.2.0.object (each_falls qsbr f.at c (run_of qsbr keyed f.at now f.before run)) f.has f.next s.2.0.has s.2.1))
+        (λ (l : Lacked c start now key). l)
+        (λ (s : (r : ℕ) × Ranked c start key r × ((k : Ranked c f.at key r) × (rank_of (note_of f.at k.object) < rank_of (note_of f.at o)))).
+        absurd (last_below (note_of f.at) (chain_in c f.at) o s.2.0.object (maps.falls f.at c (run_of qsbr allows f.at now f.before run)) f.has f.next s.2.0.has s.2.1))
         (below None f)
 
-    -- nothing can
-    pub ends_low : rank_of (note_of now o) ≡ 0 → Lacked start now key
-    ends_low low = ⊎_elim
-        (λ (l : Lacked start now key). l)
-        (λ (b : (r : ℕ) × Ranked start key r × (r < rank_of (note_of now o))). let below_it = b.2 in absurd (omega arith))
-        past
-
   -- the key was met
-  pub meets : (start now : Log) (key value : ℕ) (o : ObjectId) → IsLiveRun qsbr keyed now → Met start now o → key_of (note_of now o) ≡ key → value_of (note_of now o) ≡ value → AnswersBetween start start now c key (Some value)
+  pub meets : (start now : Log) (key value : ℕ) (o : ObjectId) → IsLiveRun qsbr allows now → Met c start now o → key_of (note_of now o) ≡ key → value_of (note_of now o) ≡ value → AnswersBetween start start now c key (Some value)
   meets start now key value o run m key_is value_is = let note = note_at m.at now o m.before run m.has in record {
     at = m.at;
     after_seen = m.after;
     after_heard = m.after;
     before = m.before;
-    is = value_at (note_of m.at) (chain_in m.at) o key (each_falls qsbr m.at c (run_of qsbr keyed m.at now m.before run)) m.has (ap key_of (sym note) ∙ key_is) ∙ ap Some (ap value_of (sym note) ∙ value_is);
+    is = value_at (note_of m.at) (chain_in c m.at) o key (maps.falls m.at c (run_of qsbr allows m.at now m.before run)) m.has (ap key_of (sym note) ∙ key_is) ∙ ap Some (ap value_of (sym note) ∙ value_is);
   }
 
-  pub misses : (start now : Log) (key : ℕ) → Lacked start now key → AnswersBetween start start now c key None
+  pub misses : (start now : Log) (key : ℕ) → Lacked c start now key → AnswersBetween start start now c key None
   misses start now key l = record { at = l.at; after_seen = l.after; after_heard = l.after; before = l.before; is = l.is }

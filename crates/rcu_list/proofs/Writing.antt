@@ -1,26 +1,30 @@
 -- What the writer of a list knows, and what its events tell of the map.
-use Rattle.std.proofs.Common.{◌≡◌, ◌≢◌, ◌⊎◌, ◌≤◌, ℕ, ◌+◌, ◌^◌, Bool, List, ◌∷◌, Option, Some, None, IsSome, refl, sym, ap, ◌∙◌, subst, inl, inr}
-use Rattle.std.specs.Prelude.{Result, Ok, Err, IfOk, IfErr}
+use Rattle.std.proofs.Common.{◌≡◌, ◌≢◌, ◌⊎◌, ◌≤◌, ◌<◌, ℕ, ◌+◌, ◌^◌, Bool, List, [], ◌∷◌, Option, Some, None, IsSome, refl, sym, ap, ◌∙◌, subst, inl, inr, ⊎_elim}
+use Rattle.std.specs.Prelude.{Result, Ok, Err, IfOk, IfErr, IfSome, IfNone}
 use Rattle.atomic_table.specs.Table.{Me}
 use Rattle.rcu_model.specs.declared.event.ObjectId.{ObjectId}
 use Rattle.rcu_model.specs.Sets.{In, first_of, replaced, without_object}
-use Rattle.rcu_model.proofs.Lemmas.{first_has}
+use Rattle.rcu_model.proofs.Lemmas.{at_object_same, first_has, replaced_has, without_object_has}
 use Rattle.live_log.specs.declared.event.LiveEvent.{LiveEvent}
 use Rattle.live_log.specs.declared.event.LiveEvent.TheVariants.{Object}
 use Rattle.live_log.specs.declared.event.ObjectEvent.TheVariants.{Push, Replace, Cut}
-use Rattle.live_log.specs.Keys.{key_of, rank_of, keyed}
+use Rattle.live_log.specs.Keys.{key_of, rank_of}
 use Rattle.live_log.specs.Log.{Log, Begins, IsLiveRun, note_of, state_of}
 use Rattle.live_rule.specs.declared.view.View.{View}
 use Rattle.live_rule.specs.declared.rights.ChainRight.{ChainRight}
-use Rattle.live_table.specs.Rights.{IsListed, cell_in, object_in, own_in, payload_in}
+use Rattle.live_table.specs.Rights.{AreAsKnown, IsAsKnown, IsListed, IsWriter, cell_in, object_in, own_in, payload_in}
 use Rattle.live_table.specs.Steps.{Went}
 use Rattle.live_chains.specs.Chains.{cut_of}
 use Rattle.live_read.specs.Hearing.{Stays}
 use Rattle.live_read.specs.declared.witness.Witness.{Ghosts}
-use Rattle.live_write.specs.Chains.{IsFirstWith, Publishes, list_in, push_by, replace_by}
+use Rattle.live_write.specs.Chains.{IsFirstWith, MayPublish, Publishes, list_in, push_by, replace_by}
 use Rattle.live_write.proofs.Lemmas.{index_has}
+use Rattle.live_log.specs.Maps.{HasMaps}
+use Rattle.live_log.specs.Tables.{HasKey}
+use Rattle.live_log.proofs.Lemmas.{begins_trans, not_has}
+use Rattle.rcu_list.proofs.Allowing.{may_cut, may_push, may_replace}
 use Rattle.rcu_list.specs.Calls.{Inserts, Replaces, Removes}
-use Rattle.rcu_list.specs.Maps.{HasLastRank, map_of, words_of}
+use Rattle.rcu_list.specs.Maps.{HasLastRank, map_of, value_of, words_of}
 use Rattle.rcu_list.proofs.Changing.{inserts, key_missing, key_there, removes, replaces, same_note}
 
 -- the chain of a log is the list that the writer knows
@@ -28,18 +32,21 @@ pub chain_known : (v : View) (c : ℕ) → IsListed v → (own_in v.chains).chai
 chain_known v c listed is = subst (λ (n : ℕ). (state_of v.seen).chain n ≡ list_in v) is listed.0
 
 -- after a walk
-module _ {S : Type 0} (qsbr : Bool) (c : ℕ) (m n : Me S View) (went : Went qsbr keyed m.0 m n) (listed : IsListed m.0) (is : (own_in m.0.chains).chain ≡ c) where
+module _ {S : Type 0} (qsbr : Bool) (allows : Log → LiveEvent → Type 0) (maps : HasMaps qsbr allows) (c : ℕ) (m n : Me S View) (went : Went qsbr allows m.0 m n) (listed : IsListed m.0) (is : (own_in m.0.chains).chain ≡ c) where
   walked_in : (o : ObjectId) → In (list_in m.0) o → In ((state_of m.0.seen).chain c) o
   walked_in o h = subst (λ (l : List ObjectId). In l o) (sym (chain_known m.0 c listed is)) h
 
   pub note_walked : (o : ObjectId) → In (list_in m.0) o → note_of n.0.seen o ≡ note_of m.0.seen o
-  note_walked o h = same_note qsbr c m.0.seen n.0.seen went.2.0 went.2.2 o (walked_in o h)
+  note_walked o h = same_note qsbr allows maps c m.0.seen n.0.seen went.2.0 went.2.2 o (walked_in o h)
+
+  pub walked_value : (o : ObjectId) (key : ℕ) → In (list_in m.0) o → key_of (note_of n.0.seen o) ≡ key → map_of m.0.seen c key ≡ Some (value_of (note_of m.0.seen o))
+  walked_value o key h key_is = key_there qsbr allows maps c m.0.seen n.0.seen went.2.0 went.2.2 o key (walked_in o h) key_is
 
   pub walked_there : (o : ObjectId) (key : ℕ) → In (list_in m.0) o → key_of (note_of n.0.seen o) ≡ key → IsSome (map_of m.0.seen c key)
-  walked_there o key h key_is = subst (λ (x : Option ℕ). IsSome x) (sym (key_there qsbr c m.0.seen n.0.seen went.2.0 went.2.2 o key (walked_in o h) key_is)) refl
+  walked_there o key h key_is = subst (λ (x : Option ℕ). IsSome x) (sym (walked_value o key h key_is)) refl
 
   pub walked_missing : (key : ℕ) → ((o : ObjectId) → In (list_in m.0) o → key_of (note_of n.0.seen o) ≢ key) → map_of m.0.seen c key ≡ None
-  walked_missing key none = key_missing qsbr c m.0.seen n.0.seen went.2.0 went.2.2 key (λ o h. none o (subst (λ (l : List ObjectId). In l o) (chain_known m.0 c listed is) h))
+  walked_missing key none = key_missing qsbr allows maps c m.0.seen n.0.seen went.2.0 went.2.2 key (λ o h. none o (subst (λ (l : List ObjectId). In l o) (chain_known m.0 c listed is) h))
 
   pub found_there : (key index : ℕ) → IsFirstWith n.0.seen (list_in m.0) key index → IsSome (map_of m.0.seen c key)
   found_there key index f = walked_there f.object key (index_has (list_in m.0) index f.object f.at) f.begins
@@ -54,35 +61,35 @@ module _ {S : Type 0} (qsbr : Bool) (c : ℕ) (m n : Me S View) (went : Went qsb
       (o, ap first_of (chain_known m.0 c listed is) ∙ here, subst (λ (x : ℕ × List ℕ). 2 ^ 62 ≤ rank_of x + 1) (note_walked o (first_has (list_in m.0) o here)) last)
 
 -- what an event of the writer tells of the map
-module _ (qsbr : Bool) (c : ℕ) (known seen heard : Log) (v w : View) (is_v : (own_in v.chains).chain ≡ c) (is_w : (own_in w.chains).chain ≡ c) (listed : IsListed w) (knows : (state_of known).chain c ≡ list_in v) (seen' heard' owner : Log) where
-  pub pushed_map : (u : View) (key value rank : ℕ) → payload_in u.object ≡ words_of key value rank → (p : Publishes qsbr keyed v seen' heard' owner (push_by v u) w.seen) → Begins known p.before × Begins seen p.before × Begins heard p.before → list_in w ≡ object_in u.object ∷ list_in v → map_of known c key ≡ None → Inserts qsbr c known seen heard key value w.seen
+module _ (qsbr : Bool) (allows : Log → LiveEvent → Type 0) (maps : HasMaps qsbr allows) (c : ℕ) (known seen heard : Log) (v w : View) (is_v : (own_in v.chains).chain ≡ c) (is_w : (own_in w.chains).chain ≡ c) (listed : IsListed w) (knows : (state_of known).chain c ≡ list_in v) (seen' heard' owner : Log) where
+  pub pushed_map : (u : View) (key value rank : ℕ) → payload_in u.object ≡ words_of key value rank → (p : Publishes qsbr allows v seen' heard' owner (push_by v u) w.seen) → Begins known p.before × Begins seen p.before × Begins heard p.before → list_in w ≡ object_in u.object ∷ list_in v → map_of known c key ≡ None → Inserts qsbr allows c known seen heard key value w.seen
   pushed_map u key value rank words p after list none =
       let o : ObjectId = object_in u.object in
       let e : LiveEvent = Object (Push c o (cell_in u.object) (words_of key value rank)) in
       let wrote : w.seen ≡ e ∷ p.before = p.wrote ∙ (λ i. Object (Push (is_v i) o (cell_in u.object) (words i)) ∷ p.before) in
-      subst (Inserts qsbr c known seen heard key value) (sym wrote)
-      (inserts qsbr c known seen heard p.before after key value rank (cell_in u.object) o (subst (IsLiveRun qsbr keyed) wrote p.run)
+      subst (Inserts qsbr allows c known seen heard key value) (sym wrote)
+      (inserts qsbr allows maps c known seen heard p.before after key value rank (cell_in u.object) o (subst (IsLiveRun qsbr allows) wrote p.run)
       (ap (λ (l : Log). (state_of l).chain c) (sym wrote) ∙ (chain_known w c listed is_w ∙ (list ∙ ap (λ (l : List ObjectId). o ∷ l) (sym knows)))) none)
 
   module _ (key : ℕ) (o : ObjectId) (at : In (list_in v) o) (key_is : key_of (note_of known o) ≡ key) where
     known_in : In ((state_of known).chain c) o
     known_in = subst (λ (l : List ObjectId). In l o) (sym knows) at
 
-    pub replaced_map : (u : View) (value rank : ℕ) → payload_in u.object ≡ words_of key value rank → (p : Publishes qsbr keyed v seen' heard' owner (replace_by o v u) w.seen) → Begins known p.before × Begins seen p.before × Begins heard p.before → list_in w ≡ replaced o (object_in u.object) (list_in v) → Replaces qsbr c known seen heard key value o w.seen
+    pub replaced_map : (u : View) (value rank : ℕ) → payload_in u.object ≡ words_of key value rank → (p : Publishes qsbr allows v seen' heard' owner (replace_by o v u) w.seen) → Begins known p.before × Begins seen p.before × Begins heard p.before → list_in w ≡ replaced o (object_in u.object) (list_in v) → Replaces qsbr allows c known seen heard key value o w.seen
     replaced_map u value rank words p after list =
         let new : ObjectId = object_in u.object in
         let e : LiveEvent = Object (Replace c o new (cell_in u.object) (words_of key value rank)) in
         let wrote : w.seen ≡ e ∷ p.before = p.wrote ∙ (λ i. Object (Replace (is_v i) o new (cell_in u.object) (words i)) ∷ p.before) in
-        subst (Replaces qsbr c known seen heard key value o) (sym wrote)
-        (replaces qsbr c known seen heard p.before after key value rank (cell_in u.object) new o known_in key_is (subst (IsLiveRun qsbr keyed) wrote p.run)
+        subst (Replaces qsbr allows c known seen heard key value o) (sym wrote)
+        (replaces qsbr allows maps c known seen heard p.before after key value rank (cell_in u.object) new o known_in key_is (subst (IsLiveRun qsbr allows) wrote p.run)
         (ap (λ (l : Log). (state_of l).chain c) (sym wrote) ∙ (chain_known w c listed is_w ∙ (list ∙ ap (replaced o new) (sym knows)))))
 
-    pub cut_map : (p : Publishes qsbr keyed v seen' heard' owner (cut_of o v) w.seen) → Begins known p.before × Begins seen p.before × Begins heard p.before → list_in w ≡ without_object o (list_in v) → Removes qsbr c known seen heard key o w.seen
+    pub cut_map : (p : Publishes qsbr allows v seen' heard' owner (cut_of o v) w.seen) → Begins known p.before × Begins seen p.before × Begins heard p.before → list_in w ≡ without_object o (list_in v) → Removes qsbr allows c known seen heard key o w.seen
     cut_map p after list =
         let e : LiveEvent = Object (Cut c o) in
         let wrote : w.seen ≡ e ∷ p.before = p.wrote ∙ (λ i. Object (Cut (is_v i) o) ∷ p.before) in
-        subst (Removes qsbr c known seen heard key o) (sym wrote)
-        (removes qsbr c known seen heard p.before after key o known_in key_is (subst (IsLiveRun qsbr keyed) wrote p.run)
+        subst (Removes qsbr allows c known seen heard key o) (sym wrote)
+        (removes qsbr allows maps c known seen heard p.before after key o known_in key_is (subst (IsLiveRun qsbr allows) wrote p.run)
         (ap (λ (l : Log). (state_of l).chain c) (sym wrote) ∙ (chain_known w c listed is_w ∙ (list ∙ ap (without_object o) (sym knows)))))
 
 -- what holds of a result in either case, by what else holds of it there
@@ -94,6 +101,14 @@ pub if_err : {A E : Type 0} (r : Result A E) (P Q R : E → Type 0) → ((e : E)
 if_err (Ok x) P Q R f p q = tt
 if_err (Err e) P Q R f p q = f e p q
 
+pub by_result : {A E C : Type 0} (r : Result A E) (P : A → Type 0) (Q : E → Type 0) → IfOk r P → IfErr r Q → ((x : A) → P x → C) → ((e : E) → Q e → C) → C
+by_result (Ok x) P Q p q f h = f x p
+by_result (Err e) P Q p q f h = h e q
+
+pub by_option : {A C : Type 0} (r : Option A) (P : A → Type 0) (Q : Type 0) → IfSome r P → IfNone r Q → ((x : A) → P x → C) → (Q → C) → C
+by_option (Some x) P Q p q f h = f x p
+by_option None P Q p q f h = h q
+
 pub by_second : {A B C : Type 0} → A ⊎ B → ¬ A → (B → C) → C
 by_second (inl a) none f = absurd (none a)
 by_second (inr b) none f = f b
@@ -101,3 +116,66 @@ by_second (inr b) none f = f b
 -- what stays of a witness over two calls
 pub stays_both : {W : Type 0} (w : Ghosts W) (a b c : W) → Stays w a b → Stays w b c → Stays w a c
 stays_both w a b c x y = (y.0 ∙ x.0, y.1 ∙ x.1, y.2 ∙ x.2, λ h. y.3 (x.3 h))
+
+-- what the writer of a list may publish, by the list and the notes that it knows
+module _ (qsbr : Bool) (allows : Log → LiveEvent → Type 0) (maps : HasMaps qsbr allows) (v : View) (seen heard owner : Log) (own : IsWriter v) (listed : IsListed v) (unnoted : (own_in v.chains).note ≡ 0) (keys : (o : ObjectId) → In (list_in v) o → HasKey (note_of v.seen o)) where
+  own_known : (log : Log) → AreAsKnown log v.chains → IsAsKnown log (own_in v.chains)
+  own_known log known = (subst (AreAsKnown log) own known).0
+
+  pub may_insert : (u : View) → HasKey (0, payload_in u.object) → ((p : ObjectId) → In (list_in v) p → (key_of (note_of v.seen p) ≢ key_of (0, payload_in u.object)) × (rank_of (note_of v.seen p) < rank_of (0, payload_in u.object))) → MayPublish qsbr allows v seen heard owner (push_by v u)
+  may_insert u key above log on run known made = let k = own_known log known in
+      may_push qsbr allows maps (own_in v.chains).chain v.seen log on.after_writer.0 run (list_in v) listed.0 k.0 (k.1 ∙ unnoted) keys
+      (object_in u.object) (cell_in u.object) (payload_in u.object) (not_has (state_of log).used (object_in u.object) made) key above
+
+  pub may_exchange : (u : View) (o : ObjectId) → In (list_in v) o → HasKey (0, payload_in u.object) → (key_of (0, payload_in u.object) ≡ key_of (note_of v.seen o)) × (rank_of (0, payload_in u.object) ≡ rank_of (note_of v.seen o)) → MayPublish qsbr allows v seen heard owner (replace_by o v u)
+  may_exchange u o at key kept log on run known made = let k = own_known log known in
+      may_replace qsbr allows maps (own_in v.chains).chain v.seen log on.after_writer.0 run (list_in v) listed.0 k.0 (k.1 ∙ unnoted) keys
+      o (object_in u.object) (cell_in u.object) (payload_in u.object) at (not_has (state_of log).used (object_in u.object) made.1) key kept
+
+  pub may_remove : (o : ObjectId) → In (list_in v) o → MayPublish qsbr allows v seen heard owner (cut_of o v)
+  may_remove o at log on run known made = let k = own_known log known in
+      may_cut qsbr allows maps (own_in v.chains).chain v.seen log on.after_writer.0 run (list_in v) listed.0 k.0 (k.1 ∙ unnoted) keys o at
+
+-- that the objects of the list have keys stays so
+abbrev pub KnowsKeys : View → Type 0
+KnowsKeys v = (o : ObjectId) → In (list_in v) o → HasKey (note_of v.seen o)
+
+-- after a walk
+module _ {S : Type 0} (qsbr : Bool) (allows : Log → LiveEvent → Type 0) (maps : HasMaps qsbr allows) (c : ℕ) (m n : Me S View) (went : Went qsbr allows m.0 m n) (listed : IsListed m.0) (is : (own_in m.0.chains).chain ≡ c) where
+  pub keys_walked : KnowsKeys m.0 → KnowsKeys n.0
+  keys_walked keys o h =
+      let had : In (list_in m.0) o = subst (λ (x : ChainRight). In x.objects o) (same_own qsbr allows maps c m n went listed is) h in
+      subst HasKey (sym (note_walked qsbr allows maps c m n went listed is o had)) (keys o had)
+
+  pub note_still : (own_in m.0.chains).note ≡ 0 → (own_in n.0.chains).note ≡ 0
+  note_still none = ap (λ (x : ChainRight). x.note) (same_own qsbr allows maps c m n went listed is) ∙ none
+
+-- after an event
+module _ (qsbr : Bool) (allows : Log → LiveEvent → Type 0) (maps : HasMaps qsbr allows) (v w : View) (listed : IsListed v) (keys : KnowsKeys v) (seen heard owner : Log) where
+  key_later : (e : LiveEvent) → Publishes qsbr allows v seen heard owner e w.seen → (o : ObjectId) → In (list_in v) o → HasKey (note_of w.seen o)
+  key_later e p o h =
+      let later : Begins v.seen w.seen = begins_trans v.seen p.before w.seen p.after.after_writer.0 (e ∷ [], p.wrote) in
+      subst HasKey (sym (same_note qsbr allows maps (own_in v.chains).chain v.seen w.seen later p.run o (subst (λ (l : List ObjectId). In l o) (sym listed.0) h))) (keys o h)
+
+  pub keys_pushed : (u : View) → Publishes qsbr allows v seen heard owner (push_by v u) w.seen → HasKey (0, payload_in u.object) → list_in w ≡ object_in u.object ∷ list_in v → KnowsKeys w
+  keys_pushed u p key list o h = ⊎_elim
+      (λ (is : object_in u.object ≡ o). subst (λ (q : ObjectId). HasKey (note_of w.seen q)) is
+      (subst (λ (l : Log). HasKey (note_of l (object_in u.object))) (sym p.wrote) (subst HasKey (sym (at_object_same (object_in u.object) (cell_in u.object, payload_in u.object) (note_of p.before))) key)))
+      (λ (was : In (list_in v) o). key_later (push_by v u) p o was)
+      (subst (λ (l : List ObjectId). In l o) list h)
+
+  pub keys_replaced : (u : View) (left : ObjectId) → Publishes qsbr allows v seen heard owner (replace_by left v u) w.seen → HasKey (0, payload_in u.object) → list_in w ≡ replaced left (object_in u.object) (list_in v) → KnowsKeys w
+  keys_replaced u left p key list o h = ⊎_elim
+      (λ (is : o ≡ object_in u.object). subst (λ (q : ObjectId). HasKey (note_of w.seen q)) (sym is)
+      (subst (λ (l : Log). HasKey (note_of l (object_in u.object))) (sym p.wrote) (subst HasKey (sym (at_object_same (object_in u.object) (cell_in u.object, payload_in u.object) (note_of p.before))) key)))
+      (λ (was : In (list_in v) o × (o ≢ left)). key_later (replace_by left v u) p o was.0)
+      (replaced_has left (object_in u.object) (list_in v) o (subst (λ (l : List ObjectId). In l o) list h))
+
+  pub keys_cut : (left : ObjectId) → Publishes qsbr allows v seen heard owner (cut_of left v) w.seen → list_in w ≡ without_object left (list_in v) → KnowsKeys w
+  keys_cut left p list o h = key_later (cut_of left v) p o (without_object_has left (list_in v) o (subst (λ (l : List ObjectId). In l o) list h)).0
+
+-- in a log that goes on from the one that was seen, with the same list
+pub keys_on : (qsbr : Bool) (allows : Log → LiveEvent → Type 0) (maps : HasMaps qsbr allows) (v w : View) → IsListed v → Begins v.seen w.seen → IsLiveRun qsbr allows w.seen → list_in w ≡ list_in v → KnowsKeys v → KnowsKeys w
+keys_on qsbr allows maps v w listed later run same keys o h =
+    let had : In (list_in v) o = subst (λ (l : List ObjectId). In l o) same h in
+    subst HasKey (sym (same_note qsbr allows maps (own_in v.chains).chain v.seen w.seen later run o (subst (λ (l : List ObjectId). In l o) (sym listed.0) had))) (keys o had)

@@ -2,7 +2,6 @@
 use Rattle.std.specs.Prelude.{◌≡◌, ◌+◌, ◌∷◌, Bool, ℕ, Option, Some, None}
 use Rattle.rcu_model.specs.declared.event.ObjectId.{ObjectId}
 use Rattle.rcu_model.specs.Sets.{at_number}
-use Rattle.live_log.specs.Keys.{keyed}
 use Rattle.live_log.specs.declared.event.LiveEvent.{LiveEvent}
 use Rattle.live_log.specs.declared.event.LiveEvent.TheVariants.{Object}
 use Rattle.live_log.specs.declared.event.ObjectEvent.TheVariants.{Push, Replace, Cut}
@@ -10,15 +9,15 @@ use Rattle.live_log.specs.Log.{Log, Begins, IsLiveRun}
 use Rattle.live_items.specs.Retiring.{Queues}
 use Rattle.rcu_list.specs.Maps.{map_of, words_of}
 
--- by the list's chain, what its writer knew, and what the caller had seen and heard of
-module _ (qsbr : Bool) (c : ℕ) (known seen heard : Log) where
+-- by the rule of chains, the list's chain, what its writer knew, and what the caller had seen and heard of
+module _ (qsbr : Bool) (allows : Log → LiveEvent → Type 0) (c : ℕ) (known seen heard : Log) where
   -- The event is the last one of the log, and came after all that was known. Before it the list's map was the one that
   -- its writer knew, and the key had this value or none; after it the key has that, and each other key what it had.
   pub record Changes (event : LiveEvent) (key : ℕ) (had has : Option ℕ) (log : Log) : Type 0 where
     pub before : Log
     pub wrote : log ≡ event ∷ before
     pub after : Begins known before × Begins seen before × Begins heard before
-    pub run : IsLiveRun qsbr keyed log
+    pub run : IsLiveRun qsbr allows log
     pub kept : (k : ℕ) → map_of before c k ≡ map_of known c k
     pub was : map_of before c key ≡ had
     pub map : (k : ℕ) → map_of log c k ≡ at_number key has (map_of before c) k
@@ -44,7 +43,7 @@ module _ (qsbr : Bool) (c : ℕ) (known seen heard : Log) where
     pub changes : Changes (Object (Cut c left)) key (Some had) None log
 
 -- the object that left the list in one log was retired after that, and queued with the ticket
-pub record HandsOver (qsbr : Bool) (left : ObjectId) (queue ticket : ℕ) (published log : Log) : Type 0 where
+pub record HandsOver (qsbr : Bool) (allows : Log → LiveEvent → Type 0) (left : ObjectId) (queue ticket : ℕ) (published log : Log) : Type 0 where
   pub given : ℕ
   pub turn : ticket ≡ given + 1
-  pub queued : Queues qsbr keyed (Begins published) left queue given log
+  pub queued : Queues qsbr allows (Begins published) left queue given log

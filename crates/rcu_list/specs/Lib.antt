@@ -1,3 +1,4 @@
 pub mod Calls
 pub mod Maps
 pub mod Refusing
+pub mod Walks

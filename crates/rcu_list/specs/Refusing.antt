@@ -2,7 +2,7 @@
 use Rattle.std.specs.Prelude.{◌≡◌, ◌≢◌, ◌⊎◌, ◌∷◌, ◌++◌, Bool, ℕ, List, None, IsSome}
 use Rattle.rcu_model.specs.declared.refusal.Refusal.{Refusal}
 use Rattle.rcu_model.specs.declared.refusal.Refusal.TheVariants.{Closed, Exists, Memory, Missing, PoolFull}
-use Rattle.live_log.specs.Keys.{keyed}
+use Rattle.live_log.specs.declared.event.LiveEvent.{LiveEvent}
 use Rattle.live_log.specs.Log.{Log, Begins, IsLiveRun, closed_of}
 use Rattle.live_rule.specs.Places.{cell_at, closed_at}
 use Rattle.live_rule.specs.declared.view.Sizes.{Sizes}
@@ -12,14 +12,14 @@ use Rattle.live_reclaim.specs.Refusing.{RefusesRetirement}
 use Rattle.live_write.specs.Searching.{AreTaken, IsUsedUp}
 use Rattle.rcu_list.specs.Maps.{HasLastRank, map_of}
 
-module _ {W : Type 0} (w : Ghosts W) (qsbr : Bool) (sizes : Sizes) (old new : W) (e : Refusal) where
+module _ {W : Type 0} (w : Ghosts W) (qsbr : Bool) (allows : Log → LiveEvent → Type 0) (sizes : Sizes) (old new : W) (e : Refusal) where
   -- no record was had, as the words tell that the search for one found
   pub record FindsNoRecord : Type 0 where
     pub is : e ≡ PoolFull
     pub found : List (ℕ × ℕ)
     pub looks : w.looks new ≡ found ++ w.looks old
     pub why : IsUsedUp sizes found ⊎ AreTaken sizes found
-    pub after : IsAfter qsbr keyed (w.seen old) (w.heard old) (w.heard new)
+    pub after : IsAfter qsbr allows (w.seen old) (w.heard old) (w.heard new)
     pub same : Stays w old new × (w.loads new ≡ w.loads old)
 
   -- a record was had; then the queue's closed word was loaded, by which the refusal goes; and the record was freed
@@ -30,7 +30,7 @@ module _ {W : Type 0} (w : Ghosts W) (qsbr : Bool) (sizes : Sizes) (old new : W)
     pub looks : w.looks new ≡ (cell_at sizes cell 0, 0) ∷ (closed_at sizes queue, closed) ∷ (found ++ w.looks old)
     pub at : Log
     pub told : closed ≡ closed_of queue at
-    pub within : IsAfter qsbr keyed (w.seen old) (w.heard old) at × Begins at (w.heard new) × IsLiveRun qsbr keyed (w.heard new)
+    pub within : IsAfter qsbr allows (w.seen old) (w.heard old) at × Begins at (w.heard new) × IsLiveRun qsbr allows (w.heard new)
     pub why : ((e ≡ Closed) × (closed ≡ 1)) ⊎ ((e ≡ Memory) × (closed ≢ 1))
     pub load : Log
     pub loads : w.loads new ≡ load ∷ w.loads old
@@ -47,4 +47,4 @@ module _ {W : Type 0} (w : Ghosts W) (qsbr : Bool) (sizes : Sizes) (old new : W)
 
     -- the key is not there; else its queue takes nothing
     abbrev pub RefusesRemoval : ℕ → Type 0
-    RefusesRemoval queue = ((e ≡ Missing) × (map_of known c key ≡ None) × (new ≡ old)) ⊎ (IsSome (map_of known c key) × RefusesRetirement w qsbr keyed sizes queue old new e)
+    RefusesRemoval queue = ((e ≡ Missing) × (map_of known c key ≡ None) × (new ≡ old)) ⊎ (IsSome (map_of known c key) × RefusesRetirement w qsbr allows sizes queue old new e)

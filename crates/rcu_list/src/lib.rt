@@ -3,7 +3,9 @@
 //! inserts, replaces in place and removes.
 
 mod list;
+mod rule;
 mod view;
 
 pub use list::RcuList;
+pub use rule::MapRule;
 pub use view::ListView;

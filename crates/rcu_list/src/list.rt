@@ -4,20 +4,21 @@ ghost use Rattle.std.specs.Prelude.{◌≡◌, ◌≢◌, ◌⊎◌, ◌∷◌, 
 ghost use Rattle.rcu_model.specs.Sets.{In};
 ghost use Rattle.rcu_model.specs.declared.event.ObjectId.{ObjectId};
 ghost use Rattle.rcu_model.specs.declared.refusal.Refusal.TheVariants.{BadConfig};
-ghost use Rattle.live_log.specs.Keys.{keyed, rank_of};
-ghost use Rattle.live_log.specs.Log.{chain_note, note_of};
+ghost use Rattle.live_log.specs.Keys.{rank_of};
+ghost use Rattle.live_log.specs.Log.{Begins, note_of};
+ghost use Rattle.live_log.specs.Tables.{HasKey};
 ghost use Rattle.live_table.specs.Rights.{own_in};
 ghost use Rattle.live_table.specs.Steps.{IsLater, Keeps, Went};
-ghost use Rattle.live_read.specs.Hearing.{OnlyHears, Stays};
+ghost use Rattle.live_read.specs.Hearing.{IsAfter, OnlyHears, Stays};
 ghost use Rattle.live_write.specs.Chains.{list_in};
 ghost use Rattle.rcu_list.specs.Calls.{HandsOver, Inserts, Removes, Replaces};
-ghost use Rattle.rcu_list.specs.Maps.{HasLastRank};
+ghost use Rattle.rcu_list.specs.Maps.{HasLastRank, map_of};
 ghost use Rattle.rcu_list.specs.Refusing.{RefusesInsertion, RefusesRemoval, RefusesReplacement};
 
+use crate::rule::MapRule;
 use crate::view::ListView;
-use domain::{Callback, Chain, Deleter, Domain, Site, Ticket, Witness};
+use domain::{Callback, Chain, Deleter, Site, Ticket, Witness};
 use gp_memb::GracePlan;
-use live_words::Keyed;
 use rcu_model::Refusal;
 use std::sync::Wait;
 
@@ -28,22 +29,25 @@ const LAST_RANK: u64 = 4_611_686_018_427_387_903;
 /// payload of a key is the key, its value, its rank, and 0. Ranks fall along the chain: a key is put in at the front,
 /// above all others, and keeps its place as its value is replaced. Dropping the list gives its chain back.
 #[derive(Drop)]
-pub struct RcuList<'d, P: GracePlan, B: Site, D: Deleter = Callback> {
+pub struct RcuList<'d, P: GracePlan, K: MapRule, B: Site, D: Deleter = Callback> {
     /// The chain's writer.
-    pub chain: Chain<'d, P, Keyed, B, D>,
+    pub chain: Chain<'d, P, K, B, D>,
+    // Its chain has no note, and its objects have keys.
+    pub(crate) ghost unnoted: { (own_in chain.seat.me.0.chains).note ≡ 0 },
+    pub(crate) ghost keys: { (o : ObjectId) → In (list_in chain.seat.me.0) o → HasKey (note_of chain.seat.me.0.seen o) },
 }
 
-impl<'d, P: GracePlan + Drop, B: Site, D: Deleter> RcuList<'d, P, B, D> {
+impl<'d, P: GracePlan + Drop, K: MapRule, B: Site, D: Deleter> RcuList<'d, P, K, B, D> {
     /// A list with no keys, over a chain.
     ///
     /// Refused with `BadConfig` exactly where the chain is not empty or has a note other than 0; then it comes back. It
     /// takes no memory and never waits.
     pub fn new(
-        mut chain: Chain<'d, P, Keyed, B, D>,
-    ) -> Result<RcuList<'d, P, B, D>, (Refusal, Chain<'d, P, Keyed, B, D>)>
-        ensures made { IfOk result (λ l. (list_in chain.entry.seat.me.0 ≡ []) × ((own_in chain.entry.seat.me.0.chains).note ≡ 0) × (l.chain.number ≡ chain.entry.number) × Keeps chain.entry.seat l.chain.seat × Went P.QSBR keyed chain.entry.seat.me.0 chain.entry.seat.me l.chain.seat.me) }
+        mut chain: Chain<'d, P, K, B, D>,
+    ) -> Result<RcuList<'d, P, K, B, D>, (Refusal, Chain<'d, P, K, B, D>)>
+        ensures made { IfOk result (λ l. (list_in chain.entry.seat.me.0 ≡ []) × ((own_in chain.entry.seat.me.0.chains).note ≡ 0) × (l.chain.number ≡ chain.entry.number) × Keeps chain.entry.seat l.chain.seat × Went P.QSBR K.allows chain.entry.seat.me.0 chain.entry.seat.me l.chain.seat.me) }
         ensures refused { IfErr result (λ e. (e.0 ≡ BadConfig) × ((list_in chain.entry.seat.me.0 ≢ []) ⊎ ((own_in chain.entry.seat.me.0.chains).note ≢ 0))) }
-        ensures back { IfErr result (λ e. (e.1.number ≡ chain.entry.number) × Keeps chain.entry.seat e.1.seat × Went P.QSBR keyed chain.entry.seat.me.0 chain.entry.seat.me e.1.seat.me) }
+        ensures back { IfErr result (λ e. (e.1.number ≡ chain.entry.number) × Keeps chain.entry.seat e.1.seat × Went P.QSBR K.allows chain.entry.seat.me.0 chain.entry.seat.me e.1.seat.me) }
     {
         let note = chain.note();
         if note != 0 || chain.len() != 0 {
@@ -59,12 +63,39 @@ impl<'d, P: GracePlan + Drop, B: Site, D: Deleter> RcuList<'d, P, B, D> {
         ListView::over(&self.chain)
     }
 
+    /// The writer sees all that the caller has seen and heard of, and the caller hears of what the writer has seen then. So
+    /// what the writer knows of the map is known of a log that comes after all that its caller knew. It takes no memory
+    /// and never waits.
+    pub fn hear<W: Witness>(&mut self, witness: &mut W)
+        requires { W.home witness.old ≡ (B.table, B.sizes) }
+        ensures chain { (self.new.chain.number ≡ self.old.chain.number) × (list_in self.new.chain.seat.me.0 ≡ list_in self.old.chain.seat.me.0) }
+        ensures told { IsAfter P.QSBR K.allows (W.seen witness.old) (W.heard witness.old) self.new.chain.seat.me.0.seen × Begins self.old.chain.seat.me.0.seen self.new.chain.seat.me.0.seen }
+        ensures heard { W.heard witness.new ≡ self.new.chain.seat.me.0.seen }
+        ensures same { OnlyHears W.Witness witness.old witness.new }
+    {
+        self.chain.hear(witness);
+    }
+
+    /// The value of a key, or none, by the map that the writer knows. It walks from the head, and never waits.
+    pub fn value(&mut self, key: u64) -> Option<u64>
+        ensures map { result ≡ map_of self.old.chain.seat.me.0.seen self.old.chain.number key }
+        ensures looked { Keeps self.old.chain.seat self.new.chain.seat × Went P.QSBR K.allows self.old.chain.seat.me.0 self.old.chain.seat.me self.new.chain.seat.me × (self.new.chain.number ≡ self.old.chain.number) }
+    {
+        let Some(index) = self.chain.index_of(key) else {
+            return None;
+        };
+        let Some(words) = self.chain.get(index) else {
+            unreachable!()
+        };
+        Some(words[1])
+    }
+
     /// A rank above those of all keys, unless one has the last.
     fn fresh_rank(&mut self) -> Option<u64>
-        requires { IsLater P.QSBR keyed self.old.chain.seat.me.0 self.old.chain.seat.me.0 }
+        requires { IsLater P.QSBR K.allows self.old.chain.seat.me.0 self.old.chain.seat.me.0 }
         ensures above { IfSome result (λ rank. (rank < 2 ^ 62) × ((o : ObjectId) → In (list_in self.old.chain.seat.me.0) o → rank_of (note_of self.new.chain.seat.me.0.seen o) < rank)) }
         ensures none { IfNone result (HasLastRank self.new.chain.seat.me.0.seen self.old.chain.number) }
-        ensures looked { Keeps self.old.chain.seat self.new.chain.seat × Went P.QSBR keyed self.old.chain.seat.me.0 self.old.chain.seat.me self.new.chain.seat.me × (self.new.chain.number ≡ self.old.chain.number) }
+        ensures looked { Keeps self.old.chain.seat self.new.chain.seat × Went P.QSBR K.allows self.old.chain.seat.me.0 self.old.chain.seat.me self.new.chain.seat.me × (self.new.chain.number ≡ self.old.chain.number) }
     {
         let Some(first) = self.chain.get(0) else {
             return Some(0);
@@ -84,16 +115,15 @@ impl<'d, P: GracePlan + Drop, B: Site, D: Deleter> RcuList<'d, P, B, D> {
     pub fn insert<W: Witness, R: Wait>(
         &mut self,
         rt: &R,
-        domain: &Domain<P, Keyed, B, D>,
         witness: &mut W,
         key: u64,
         value: u64,
     ) -> Result<(), Refusal>
         requires { W.home witness.old ≡ (B.table, B.sizes) }
-        ensures inserted { IfOk result (λ _. Inserts P.QSBR self.old.chain.number self.old.chain.seat.me.0.seen (W.seen witness.old) (W.heard witness.old) key value self.new.chain.seat.me.0.seen × (W.heard witness.new ≡ self.new.chain.seat.me.0.seen)) }
+        ensures inserted { IfOk result (λ _. Inserts P.QSBR K.allows self.old.chain.number self.old.chain.seat.me.0.seen (W.seen witness.old) (W.heard witness.old) key value self.new.chain.seat.me.0.seen × (W.heard witness.new ≡ self.new.chain.seat.me.0.seen)) }
         ensures same { IfOk result (λ _. (self.new.chain.number ≡ self.old.chain.number) × Stays W.Witness witness.old witness.new × (W.loads witness.new ≡ W.loads witness.old) × ((found : List (ℕ × ℕ)) × (W.looks witness.new ≡ found ++ W.looks witness.old))) }
-        ensures refused { IfErr result (λ e. RefusesInsertion W.Witness P.QSBR B.sizes witness.old witness.new e self.old.chain.seat.me.0.seen self.old.chain.number key) }
-        ensures kept { IfErr result (λ _. Keeps self.old.chain.seat self.new.chain.seat × Went P.QSBR keyed self.old.chain.seat.me.0 self.old.chain.seat.me self.new.chain.seat.me × (self.new.chain.number ≡ self.old.chain.number)) }
+        ensures refused { IfErr result (λ e. RefusesInsertion W.Witness P.QSBR K.allows B.sizes witness.old witness.new e self.old.chain.seat.me.0.seen self.old.chain.number key) }
+        ensures kept { IfErr result (λ _. Keeps self.old.chain.seat self.new.chain.seat × Went P.QSBR K.allows self.old.chain.seat.me.0 self.old.chain.seat.me self.new.chain.seat.me × (self.new.chain.number ≡ self.old.chain.number)) }
     {
         if self.chain.index_of(key).is_some() {
             return Err(Refusal::Exists);
@@ -101,7 +131,7 @@ impl<'d, P: GracePlan + Drop, B: Site, D: Deleter> RcuList<'d, P, B, D> {
         let Some(rank) = self.fresh_rank() else {
             return Err(Refusal::PoolFull);
         };
-        let owned = domain.alloc(rt, witness, [key, value, rank, 0])?;
+        let owned = self.chain.domain().alloc(rt, witness, [key, value, rank, 0])?;
         self.chain.push(witness, owned);
         Ok(())
     }
@@ -116,17 +146,16 @@ impl<'d, P: GracePlan + Drop, B: Site, D: Deleter> RcuList<'d, P, B, D> {
     pub fn replace<W: Witness, R: Wait>(
         &mut self,
         rt: &R,
-        domain: &Domain<P, Keyed, B, D>,
         witness: &mut W,
         key: u64,
         value: u64,
         callback: D,
     ) -> Result<Ticket, (Refusal, D)>
         requires { W.home witness.old ≡ (B.table, B.sizes) }
-        ensures replaced { IfOk result (λ t. (left : ObjectId) × Replaces P.QSBR self.old.chain.number self.old.chain.seat.me.0.seen (W.seen witness.old) (W.heard witness.old) key value left self.new.chain.seat.me.0.seen × HandsOver P.QSBR left (self.old.chain.number % B.sizes.queues) t.0 self.new.chain.seat.me.0.seen (W.heard witness.new)) }
+        ensures replaced { IfOk result (λ t. (left : ObjectId) × Replaces P.QSBR K.allows self.old.chain.number self.old.chain.seat.me.0.seen (W.seen witness.old) (W.heard witness.old) key value left self.new.chain.seat.me.0.seen × HandsOver P.QSBR K.allows left (self.old.chain.number % B.sizes.queues) t.0 self.new.chain.seat.me.0.seen (W.heard witness.new)) }
         ensures same { IfOk result (λ _. (self.new.chain.number ≡ self.old.chain.number) × Stays W.Witness witness.old witness.new × (W.loads witness.new ≡ W.loads witness.old) × ((found : List (ℕ × ℕ)) × (W.looks witness.new ≡ found ++ W.looks witness.old))) }
-        ensures refused { IfErr result (λ e. (e.1 ≡ callback) × RefusesReplacement W.Witness P.QSBR B.sizes witness.old witness.new e.0 self.old.chain.seat.me.0.seen self.old.chain.number key (self.old.chain.number % B.sizes.queues)) }
-        ensures kept { IfErr result (λ _. Keeps self.old.chain.seat self.new.chain.seat × Went P.QSBR keyed self.old.chain.seat.me.0 self.old.chain.seat.me self.new.chain.seat.me × (self.new.chain.number ≡ self.old.chain.number)) }
+        ensures refused { IfErr result (λ e. (e.1 ≡ callback) × RefusesReplacement W.Witness P.QSBR K.allows B.sizes witness.old witness.new e.0 self.old.chain.seat.me.0.seen self.old.chain.number key (self.old.chain.number % B.sizes.queues)) }
+        ensures kept { IfErr result (λ _. Keeps self.old.chain.seat self.new.chain.seat × Went P.QSBR K.allows self.old.chain.seat.me.0 self.old.chain.seat.me self.new.chain.seat.me × (self.new.chain.number ≡ self.old.chain.number)) }
     {
         let Some(index) = self.chain.index_of(key) else {
             return Err((Refusal::Missing, callback));
@@ -134,6 +163,7 @@ impl<'d, P: GracePlan + Drop, B: Site, D: Deleter> RcuList<'d, P, B, D> {
         let Some(words) = self.chain.get(index) else {
             unreachable!()
         };
+        let domain = self.chain.domain();
         let owned = match domain.alloc(rt, witness, [key, value, words[2], 0]) {
             Ok(owned) => owned,
             Err(refusal) => return Err((refusal, callback)),
@@ -155,20 +185,20 @@ impl<'d, P: GracePlan + Drop, B: Site, D: Deleter> RcuList<'d, P, B, D> {
     pub fn remove<W: Witness, R: Wait>(
         &mut self,
         rt: &R,
-        domain: &Domain<P, Keyed, B, D>,
         witness: &mut W,
         key: u64,
         callback: D,
     ) -> Result<Ticket, (Refusal, D)>
         requires { W.home witness.old ≡ (B.table, B.sizes) }
-        ensures removed { IfOk result (λ t. (left : ObjectId) × Removes P.QSBR self.old.chain.number self.old.chain.seat.me.0.seen (W.seen witness.old) (W.heard witness.old) key left self.new.chain.seat.me.0.seen × HandsOver P.QSBR left (self.old.chain.number % B.sizes.queues) t.0 self.new.chain.seat.me.0.seen (W.heard witness.new)) }
+        ensures removed { IfOk result (λ t. (left : ObjectId) × Removes P.QSBR K.allows self.old.chain.number self.old.chain.seat.me.0.seen (W.seen witness.old) (W.heard witness.old) key left self.new.chain.seat.me.0.seen × HandsOver P.QSBR K.allows left (self.old.chain.number % B.sizes.queues) t.0 self.new.chain.seat.me.0.seen (W.heard witness.new)) }
         ensures same { IfOk result (λ _. (self.new.chain.number ≡ self.old.chain.number) × OnlyHears W.Witness witness.old witness.new) }
-        ensures refused { IfErr result (λ e. (e.1 ≡ callback) × RefusesRemoval W.Witness P.QSBR B.sizes witness.old witness.new e.0 self.old.chain.seat.me.0.seen self.old.chain.number key (self.old.chain.number % B.sizes.queues)) }
-        ensures kept { IfErr result (λ _. Keeps self.old.chain.seat self.new.chain.seat × Went P.QSBR keyed self.old.chain.seat.me.0 self.old.chain.seat.me self.new.chain.seat.me × (self.new.chain.number ≡ self.old.chain.number)) }
+        ensures refused { IfErr result (λ e. (e.1 ≡ callback) × RefusesRemoval W.Witness P.QSBR K.allows B.sizes witness.old witness.new e.0 self.old.chain.seat.me.0.seen self.old.chain.number key (self.old.chain.number % B.sizes.queues)) }
+        ensures kept { IfErr result (λ _. Keeps self.old.chain.seat self.new.chain.seat × Went P.QSBR K.allows self.old.chain.seat.me.0 self.old.chain.seat.me self.new.chain.seat.me × (self.new.chain.number ≡ self.old.chain.number)) }
     {
         let Some(index) = self.chain.index_of(key) else {
             return Err((Refusal::Missing, callback));
         };
+        let domain = self.chain.domain();
         domain.cut_retire(rt, witness, &mut self.chain, index, callback)
     }
 }

@@ -1,15 +1,16 @@
 //! Lookups in a keyed list.
 
-ghost use Rattle.std.specs.Prelude.{◌≡◌, ◌≤◌, ◌<◌, IfErr, IfOk, IfSome};
+ghost use Rattle.std.specs.Prelude.{◌≡◌, ◌≤◌, ◌<◌, ◌%◌, ℕ, List, ⊤, IfErr, IfOk, IfSome};
+ghost use Rattle.std.specs.List.{FoldsTo};
 ghost use Rattle.rcu_model.specs.declared.refusal.Refusal.TheVariants.{NoPlace};
-ghost use Rattle.live_log.specs.Keys.{keyed};
 ghost use Rattle.live_read.specs.Holding.{log_of};
 ghost use Rattle.live_read.specs.Reads.{Looks};
 ghost use Rattle.rcu_list.specs.Maps.{AnswersBetween};
+ghost use Rattle.rcu_list.specs.Walks.{GoesThrough, Meets};
 
+use crate::rule::MapRule;
 use domain::{Chain, Deleter, Domain, Held, Section, Site};
 use gp_memb::GracePlan;
-use live_words::Keyed;
 use rcu_model::Refusal;
 use std::alloc::AllocError;
 use std::marker::PhantomData;
@@ -46,7 +47,9 @@ impl<B: Site> ListView<B> {
     ghost use Rattle.rcu_list.specs.Maps.{value_of};
 
     /// Of the list over a chain.
-    pub(crate) fn over<P: GracePlan, D: Deleter>(chain: &Chain<'_, P, Keyed, B, D>) -> ListView<B>
+    pub(crate) fn over<P: GracePlan, K: MapRule, D: Deleter>(
+        chain: &Chain<'_, P, K, B, D>,
+    ) -> ListView<B>
         ensures { result.chain ≡ chain.now.number }
     {
         ListView {
@@ -58,8 +61,8 @@ impl<B: Site> ListView<B> {
     /// Of the list over a chain of the domain, whoever writes it.
     ///
     /// Refused with `NoPlace` exactly where there is no such chain. It takes no memory and never waits.
-    pub fn of<P: GracePlan + Drop, D: Deleter>(
-        domain: &Domain<P, Keyed, B, D>,
+    pub fn of<P: GracePlan + Drop, K: MapRule, D: Deleter>(
+        domain: &Domain<P, K, B, D>,
         chain: usize,
     ) -> Result<ListView<B>, Refusal>
         ensures ok { IfOk result (λ v. (v.chain ≡ chain) × (chain < B.sizes.chains)) }
@@ -68,22 +71,30 @@ impl<B: Site> ListView<B> {
         if chain >= domain.chains() {
             return Err(Refusal::NoPlace);
         }
-        Ok(ListView {
+        Ok(ListView::at(chain))
+    }
+
+    /// Of the list over this chain, which is one of the domain's, whoever writes it. It takes no memory and never waits.
+    pub fn at(chain: usize) -> ListView<B>
+        requires { chain < B.sizes.chains }
+        ensures { result.chain ≡ chain }
+    {
+        ListView {
             chain,
             site: PhantomData,
-        })
+        }
     }
 
     // The value of an object, if it has the key: one load, and one more where it has.
-    fn value_at<P: GracePlan>(
-        section: &mut Section<'_, P, Keyed, B>,
+    fn value_at<P: GracePlan, K: MapRule>(
+        section: &mut Section<'_, P, K, B>,
         held: Held,
         key: u64,
     ) -> Option<u64>
         requires open_section { (P.QSBR ≡ B.qsbr) × (0 < section.old.reader.now.depth) }
         requires held { MayHoldIn section.old.reader.now held.cell }
         ensures reader { section.new.reader.ghost_name ≡ section.old.reader.ghost_name }
-        ensures looked { Looks P.QSBR keyed section.old.reader.now section.new.reader.now }
+        ensures looked { Looks P.QSBR K.allows section.old.reader.now section.new.reader.now }
         ensures some { IfSome result (λ value. (o : ObjectId) → MayHold section.old.reader.now o held.cell → (key_of (note_of (log_of section.old.reader.now) o) ≡ key) × (value_of (note_of (log_of section.old.reader.now) o) ≡ value)) }
         ensures none { IfNone result ((o : ObjectId) → MayHold section.old.reader.now o held.cell → key_of (note_of (log_of section.old.reader.now) o) ≢ key) }
     {
@@ -95,16 +106,16 @@ impl<B: Site> ListView<B> {
 
     // The value of the key, from the first object of the chain on. Ranks fall along the chain, so no more objects come
     // than the first one's rank tells.
-    fn search<P: GracePlan>(
+    fn search<P: GracePlan, K: MapRule>(
         self,
-        section: &mut Section<'_, P, Keyed, B>,
+        section: &mut Section<'_, P, K, B>,
         first: Held,
         key: u64,
     ) -> Option<u64>
         requires open_section { (P.QSBR ≡ B.qsbr) × (0 < section.old.reader.now.depth) }
         requires first { (o : ObjectId) × FindsFirst section.old.reader.now self.chain (Some o) × MayHold section.old.reader.now o first.cell }
         ensures reader { section.new.reader.ghost_name ≡ section.old.reader.ghost_name }
-        ensures looked { Looks P.QSBR keyed section.old.reader.now section.new.reader.now }
+        ensures looked { Looks P.QSBR K.allows section.old.reader.now section.new.reader.now }
         ensures window { AnswersBetween (log_of section.old.reader.now) (log_of section.old.reader.now) (log_of section.new.reader.now) self.chain key result }
     {
         if let Some(value) = Self::value_at(section, first, key) {
@@ -127,10 +138,14 @@ impl<B: Site> ListView<B> {
     ///
     /// It loads the key of each object that it passes, its link, and the rank of the first one. It returns, since ranks
     /// fall along the chain. It never waits and takes no memory.
-    pub fn get<P: GracePlan>(self, section: &mut Section<'_, P, Keyed, B>, key: u64) -> Option<u64>
+    pub fn get<P: GracePlan, K: MapRule>(
+        self,
+        section: &mut Section<'_, P, K, B>,
+        key: u64,
+    ) -> Option<u64>
         requires { (P.QSBR ≡ B.qsbr) × (0 < section.old.reader.now.depth) }
         ensures reader { section.new.reader.ghost_name ≡ section.old.reader.ghost_name }
-        ensures looked { Looks P.QSBR keyed section.old.reader.now section.new.reader.now }
+        ensures looked { Looks P.QSBR K.allows section.old.reader.now section.new.reader.now }
         ensures window { AnswersBetween (log_of section.old.reader.now) section.old.reader.now.seat.me.0.heard (log_of section.new.reader.now) self.chain key result }
     {
         match section.first(self.chain) {
@@ -138,5 +153,112 @@ impl<B: Site> ListView<B> {
             Ok(None) => None,
             Err(_) => unreachable!(),
         }
+    }
+
+    // The key and the value of an object.
+    fn entry_at<P: GracePlan, K: MapRule>(
+        section: &mut Section<'_, P, K, B>,
+        held: Held,
+    ) -> (u64, u64)
+        requires open_section { (P.QSBR ≡ B.qsbr) × (0 < section.old.reader.now.depth) }
+        requires held { MayHoldIn section.old.reader.now held.cell }
+        ensures reader { section.new.reader.ghost_name ≡ section.old.reader.ghost_name }
+        ensures looked { Looks P.QSBR K.allows section.old.reader.now section.new.reader.now }
+        ensures entry { (o : ObjectId) → MayHold section.old.reader.now o held.cell → (key_of (note_of (log_of section.old.reader.now) o) ≡ result.0) × (value_of (note_of (log_of section.old.reader.now) o) ≡ result.1) }
+    {
+        let key = section.read_word(held, 0);
+        let value = section.read_word(held, 1);
+        (key, value)
+    }
+
+    // Calls with an entry whose key is of the bucket.
+    fn meet<F: FnMut(u64, u64)>(entry: (u64, u64), buckets: u64, bucket: u64, visit: &mut F)
+        requires some { 0 < buckets }
+        requires callable { F.IsAlwaysCallable visit.old }
+        ensures callable { F.IsAlwaysCallable visit.new }
+        ensures met { Meets (λ key. key % buckets ≡ bucket) (λ f e g. F.step f e.0 e.1 tt g) entry visit.old visit.new }
+    {
+        if entry.0 % buckets == bucket {
+            visit(entry.0, entry.1);
+        }
+    }
+
+    // Goes through the objects of the bucket, from the first one of the chain on. Ranks fall along the chain, so no more
+    // objects come than the first one's rank tells.
+    fn walk<P: GracePlan, K: MapRule, F: FnMut(u64, u64)>(
+        self,
+        section: &mut Section<'_, P, K, B>,
+        first: Held,
+        buckets: u64,
+        bucket: u64,
+        visit: &mut F,
+    )
+        requires open_section { (P.QSBR ≡ B.qsbr) × (0 < section.old.reader.now.depth) }
+        requires first { (o : ObjectId) × FindsFirst section.old.reader.now self.chain (Some o) × MayHold section.old.reader.now o first.cell }
+        requires some { 0 < buckets }
+        requires callable { F.IsAlwaysCallable visit.old }
+        ensures reader { section.new.reader.ghost_name ≡ section.old.reader.ghost_name }
+        ensures looked { Looks P.QSBR K.allows section.old.reader.now section.new.reader.now }
+        ensures callable { F.IsAlwaysCallable visit.new }
+        ensures met { (met : List (ℕ × ℕ)) × GoesThrough (λ key. key % buckets ≡ bucket) (log_of section.old.reader.now) (log_of section.old.reader.now) (log_of section.new.reader.now) self.chain met × FoldsTo (λ f e g. F.step f e.0 e.1 tt g) visit.old met visit.new }
+    {
+        let entry = Self::entry_at(section, first);
+        let rank = section.read_word(first, 2);
+        Self::meet(entry, buckets, bucket, visit);
+        let mut held = first;
+        for _passed in 0..rank {
+            let Some(next) = section.next(held) else {
+                return;
+            };
+            held = next;
+            let entry = Self::entry_at(section, held);
+            Self::meet(entry, buckets, bucket, visit);
+        }
+    }
+
+    /// Goes through the keys of the list that lie in one bucket of a table, which are those with this remainder by the
+    /// number of buckets, as `for_each` does through all.
+    pub fn for_each_of<P: GracePlan, K: MapRule, F: FnMut(u64, u64)>(
+        self,
+        section: &mut Section<'_, P, K, B>,
+        buckets: u64,
+        bucket: u64,
+        visit: &mut F,
+    )
+        requires open_section { (P.QSBR ≡ B.qsbr) × (0 < section.old.reader.now.depth) }
+        requires some { 0 < buckets }
+        requires callable { F.IsAlwaysCallable visit.old }
+        ensures reader { section.new.reader.ghost_name ≡ section.old.reader.ghost_name }
+        ensures looked { Looks P.QSBR K.allows section.old.reader.now section.new.reader.now }
+        ensures callable { F.IsAlwaysCallable visit.new }
+        ensures met { (met : List (ℕ × ℕ)) × GoesThrough (λ key. key % buckets ≡ bucket) (log_of section.old.reader.now) section.old.reader.now.seat.me.0.heard (log_of section.new.reader.now) self.chain met × FoldsTo (λ f e g. F.step f e.0 e.1 tt g) visit.old met visit.new }
+    {
+        match section.first(self.chain) {
+            Ok(Some(first)) => self.walk(section, first, buckets, bucket, visit),
+            Ok(None) => (),
+            Err(_) => unreachable!(),
+        }
+    }
+
+    /// Goes through the list, liburcu's `cds_list_for_each_entry_rcu`: a call with the key and the value of each object
+    /// that it comes to, the key that was inserted last first. A key that is there all along, from the call to the
+    /// return, is met exactly once, also while its value is replaced; one that never is there is not met; and each value
+    /// is one that its key had meanwhile.
+    ///
+    /// It loads two words of each object that it passes, its link, and the rank of the first one. It returns where each
+    /// call does, since ranks fall along the chain. It never waits and takes no memory.
+    pub fn for_each<P: GracePlan, K: MapRule, F: FnMut(u64, u64)>(
+        self,
+        section: &mut Section<'_, P, K, B>,
+        visit: &mut F,
+    )
+        requires open_section { (P.QSBR ≡ B.qsbr) × (0 < section.old.reader.now.depth) }
+        requires callable { F.IsAlwaysCallable visit.old }
+        ensures reader { section.new.reader.ghost_name ≡ section.old.reader.ghost_name }
+        ensures looked { Looks P.QSBR K.allows section.old.reader.now section.new.reader.now }
+        ensures callable { F.IsAlwaysCallable visit.new }
+        ensures met { (met : List (ℕ × ℕ)) × GoesThrough (λ key. ⊤) (log_of section.old.reader.now) section.old.reader.now.seat.me.0.heard (log_of section.new.reader.now) self.chain met × FoldsTo (λ f e g. F.step f e.0 e.1 tt g) visit.old met visit.new }
+    {
+        self.for_each_of(section, 1, 0, visit);
     }
 }

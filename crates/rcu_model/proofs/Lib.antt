@@ -25,5 +25,6 @@ pub mod ObjectsLinking
 pub mod ObjectsStores
 pub mod ObjectsStages
 pub mod RunOrder
+pub mod ObjectsKept
 mod Sizes
 pub mod Lemmas

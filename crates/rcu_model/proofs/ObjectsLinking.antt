@@ -4,11 +4,11 @@ use Rattle.std.proofs.lemmas.Bool.Decides.{eqb_tells}
 use Rattle.std.specs.Option.{option_or}
 use Rattle.rcu_model.specs.declared.event.ObjectId.{ObjectId}
 use Rattle.rcu_model.specs.declared.object.Stage.{Stage}
-use Rattle.rcu_model.specs.declared.object.Stage.TheVariants.{Linked, Cut as IsCut, Retired, Queued, Reclaimed}
+use Rattle.rcu_model.specs.declared.object.Stage.TheVariants.{Linked, Cut as IsCut, Retired, Queued}
 use Rattle.rcu_model.specs.declared.object.ObjectState.{ObjectState}
 use Rattle.rcu_model.specs.declared.object.Splice.{Splice}
 use Rattle.rcu_model.specs.Sets.{has_object, HasObject}
-use Rattle.rcu_model.specs.Objects.{is_linked, is_cut, is_retired, is_queued, is_reclaimed, moment_of, ticket_of, says, number_in, says_linked, after_of, before_of, LeadsTo, Shows, stored, spliced_heads, linked_states, marked_states, left_states, entered, spliced_states}
+use Rattle.rcu_model.specs.Objects.{is_linked, is_cut, is_retired, is_queued, moment_of, ticket_of, says, number_in, says_linked, after_of, before_of, LeadsTo, Shows, stored, spliced_heads, linked_states, marked_states, left_states, entered, spliced_states}
 use Rattle.rcu_model.proofs.Members.{In, in_objects, has_object_in}
 use Rattle.rcu_model.proofs.SetLemmas.{at_number_same, at_number_other}
 use Rattle.rcu_model.proofs.Safety.{Linking}
@@ -67,7 +67,6 @@ stage_linked Linked e = refl
 stage_linked IsCut e = absurd (true≢false (sym e))
 stage_linked (Retired m) e = absurd (true≢false (sym e))
 stage_linked (Queued m t) e = absurd (true≢false (sym e))
-stage_linked Reclaimed e = absurd (true≢false (sym e))
 
 -- what a state that says so is
 pub linked_says : (c : ℕ) (x : Option ObjectState) → says_linked c x ≡ true → (t : ObjectState) × (x ≡ Some t) × (t.stage ≡ Linked) × (t.chain ≡ c)
@@ -357,7 +356,7 @@ module _ (head : ℕ → Option ObjectId) (state : ObjectId → Option ObjectSta
         was_cut = λ o. cut_now o (decide_place s.enters (Some o)) (decide_place s.leaves (Some o));
         was_retired = λ o. says_kept is_retired refl refl o ∙ k.was_retired o;
         was_queued = λ o. says_kept is_queued refl refl o ∙ k.was_queued o;
-        was_reclaimed = λ o. says_kept is_reclaimed refl refl o ∙ k.was_reclaimed o;
+        was_run = k.was_run;
         moment = λ o m e. k.moment o m (sym (number_kept moment_of refl refl o) ∙ e);
         ticket = λ o t e. k.ticket o t (sym (number_kept ticket_of refl refl o) ∙ e);
       }

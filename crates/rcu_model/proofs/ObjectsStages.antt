@@ -1,20 +1,17 @@
 -- What a retirement, a queueing and a run make of what is known of objects.
 use Rattle.std.proofs.Common.{◌≡◌, ◌≢◌, ◌⊎◌, inl, inr, ℕ, Bool, true, false, ◌&&◌, ◌==◌, ◌↔◌, List, ◌∷◌, is_some, Option, Some, None, refl, sym, ap, ◌∙◌, subst, true≢false}
 use Rattle.rcu_model.specs.declared.event.ObjectId.{ObjectId}
-use Rattle.rcu_model.specs.declared.event.Event.TheVariants.{Retire, Queue, Run}
+use Rattle.rcu_model.specs.declared.event.Event.TheVariants.{Retire, Queue}
 use Rattle.rcu_model.specs.declared.object.Stage.{Stage}
-use Rattle.rcu_model.specs.declared.object.Stage.TheVariants.{Linked, Cut as IsCut, Retired, Queued, Reclaimed}
+use Rattle.rcu_model.specs.declared.object.Stage.TheVariants.{Linked, Cut as IsCut, Retired, Queued}
 use Rattle.rcu_model.specs.declared.object.ObjectState.{ObjectState}
-use Rattle.rcu_model.specs.declared.event.SectionId.{SectionId}
-use Rattle.rcu_model.specs.declared.objects.Objects.{Objects}
-use Rattle.rcu_model.specs.Machine.{State, IsSuccessor, after, got, start}
+use Rattle.rcu_model.specs.Machine.{State, IsSuccessor, after, start}
 use Rattle.rcu_model.specs.Sets.{has_object, HasObject, at_object}
-use Rattle.rcu_model.specs.Objects.{is_linked, is_cut, is_retired, is_queued, is_reclaimed, moment_of, ticket_of, says, number_in, says_linked, after_of, before_of, LeadsTo, Shows, Knows, FindsWaiting, written}
+use Rattle.rcu_model.specs.Objects.{is_linked, is_cut, is_retired, is_queued, moment_of, ticket_of, says, number_in, says_linked, after_of, before_of, LeadsTo, Shows, FindsWaiting}
 use Rattle.rcu_model.proofs.SetLemmas.{at_object_same, at_object_other}
 use Rattle.rcu_model.proofs.Follows.{decide, some_is, none_some}
 use Rattle.rcu_model.proofs.ObjectsLinking.{number_same}
-use Rattle.rcu_model.proofs.ObjectsTables.{written_at}
-use Rattle.rcu_model.proofs.ObjectsStores.{has_first, has_past, shows_at}
+use Rattle.rcu_model.proofs.ObjectsStores.{has_first, has_past, has_more}
 
 cut_unlinked : (x y : Stage) → is_linked x ≡ false → is_linked y ≡ false → is_cut x ≡ is_cut y
 cut_unlinked x y a b = past x a ∙ sym (past y b)
@@ -24,7 +21,6 @@ cut_unlinked x y a b = past x a ∙ sym (past y b)
     past IsCut e = refl
     past (Retired m) e = refl
     past (Queued m t) e = refl
-    past Reclaimed e = refl
 
 module _ (head : ℕ → Option ObjectId) (state : ObjectId → Option ObjectState) (chain : ℕ → List ObjectId) (used cut : List ObjectId) (successor : ObjectId → Option ObjectId) (retired queued reclaimed : List ObjectId) (moments tickets : ObjectId → ℕ) (k : Shows head state chain used cut successor retired queued reclaimed moments tickets) (o : ObjectId) (t : ObjectState) (is : state o ≡ Some t) (unlinked : is_linked t.stage ≡ false) (stage : Stage) (stays : is_linked stage ≡ false) where
   abbrev next : ObjectState
@@ -62,14 +58,14 @@ module _ (head : ℕ → Option ObjectId) (state : ObjectId → Option ObjectSta
       by (inl e) = now m (sym (ap (number_in number) (here p e)) ∙ h) ∙ ap g (sym e)
       by (inr n) = was p m (sym (ap (number_in number) (there p n)) ∙ h) ∙ sym (else p n)
 
-  shows_staged : (retired' queued' reclaimed' : List ObjectId) (moments' tickets' : ObjectId → ℕ) →
+  shows_staged : (retired' queued' : List ObjectId) (moments' tickets' : ObjectId → ℕ) →
       is_retired stage ≡ has_object retired' o → ((p : ObjectId) → p ≢ o → has_object retired' p ≡ has_object retired p) →
       is_queued stage ≡ has_object queued' o → ((p : ObjectId) → p ≢ o → has_object queued' p ≡ has_object queued p) →
-      is_reclaimed stage ≡ has_object reclaimed' o → ((p : ObjectId) → p ≢ o → has_object reclaimed' p ≡ has_object reclaimed p) →
+      ((p : ObjectId) → HasObject reclaimed p → HasObject queued' p) →
       ((m : ℕ) → moment_of stage ≡ Some m → m ≡ moments' o) → ((p : ObjectId) → p ≢ o → moments' p ≡ moments p) →
       ((m : ℕ) → ticket_of stage ≡ Some m → m ≡ tickets' o) → ((p : ObjectId) → p ≢ o → tickets' p ≡ tickets p) →
-      Shows head state' chain used cut successor retired' queued' reclaimed' moments' tickets'
-  shows_staged retired' queued' reclaimed' moments' tickets' r r' q q' d d' m m' n n' = record {
+      Shows head state' chain used cut successor retired' queued' reclaimed moments' tickets'
+  shows_staged retired' queued' moments' tickets' r r' q q' run m m' n n' = record {
     firsts = k.firsts;
     nexts = λ c p h. keeps after_of refl p ∙ k.nexts c p h;
     befores = λ c p h. subst (λ (b : Option ObjectId). LeadsTo (chain c) b p) (sym (keeps before_of refl p)) (k.befores c p h);
@@ -79,7 +75,7 @@ module _ (head : ℕ → Option ObjectId) (state : ObjectId → Option ObjectSta
     was_cut = λ p. keeps (says is_cut) (cut_unlinked stage t.stage stays unlinked) p ∙ k.was_cut p;
     was_retired = listed is_retired retired retired' k.was_retired r r';
     was_queued = listed is_queued queued queued' k.was_queued q q';
-    was_reclaimed = listed is_reclaimed reclaimed reclaimed' k.was_reclaimed d d';
+    was_run = run;
     moment = numbered moment_of moments moments' k.moment m m';
     ticket = numbered ticket_of tickets tickets' k.ticket n n';
   }
@@ -102,10 +98,10 @@ module _ (head : ℕ → Option ObjectId) (state : ObjectId → Option ObjectSta
       let later : State = after now (Retire o) in Shows head (at_object o (Some (record t { stage = Retired moment })) state) later.chain later.used later.cut later.successor later.retired later.queued later.reclaimed (at_object o moment moments) tickets
   shows_retired moment e =
       shows_staged head state now.chain now.used now.cut now.successor now.retired now.queued now.reclaimed moments tickets k o t is (ap is_linked e) (Retired moment) refl
-      (o ∷ now.retired) now.queued now.reclaimed (at_object o moment moments) tickets
+      (o ∷ now.retired) now.queued (at_object o moment moments) tickets
       (first_true now.retired) (past now.retired)
       (sym (ap is_queued e) ∙ told is_queued now.queued k.was_queued) (λ p n. refl)
-      (sym (ap is_reclaimed e) ∙ told is_reclaimed now.reclaimed k.was_reclaimed) (λ p n. refl)
+      k.was_run
       (λ m f. sym (some_is moment m f) ∙ sym (at_object_same o moment moments)) (λ p n. at_object_other o p moment moments n)
       (λ m f. absurd (none_some m f)) (λ p n. refl)
 
@@ -116,41 +112,16 @@ module _ (head : ℕ → Option ObjectId) (state : ObjectId → Option ObjectSta
       let later : State = after now (Queue o queue) in Shows head (at_object o (Some (record t { stage = Queued moment ticket })) state) later.chain later.used later.cut later.successor later.retired later.queued later.reclaimed moments (at_object o ticket tickets)
   shows_queued moment ticket queue e =
       shows_staged head state now.chain now.used now.cut now.successor now.retired now.queued now.reclaimed moments tickets k o t is (ap is_linked e) (Queued moment ticket) refl
-      now.retired (o ∷ now.queued) now.reclaimed moments (at_object o ticket tickets)
+      now.retired (o ∷ now.queued) moments (at_object o ticket tickets)
       (sym (ap is_retired e) ∙ told is_retired now.retired k.was_retired) (λ p n. refl)
       (first_true now.queued) (past now.queued)
-      (sym (ap is_reclaimed e) ∙ told is_reclaimed now.reclaimed k.was_reclaimed) (λ p n. refl)
+      (λ p h. has_more now.queued o p (k.was_run p h))
       (λ m f. sym (some_is moment m f) ∙ k.moment o moment (ap (number_in moment_of) is ∙ ap moment_of e)) (λ p n. refl)
       (λ m f. sym (some_is ticket m f) ∙ sym (at_object_same o ticket tickets)) (λ p n. at_object_other o p ticket tickets n)
 
-  pub shows_run : is_queued t.stage ≡ true →
-      let later : State = after now (Run o) in Shows head (at_object o (Some (record t { stage = Reclaimed })) state) later.chain later.used later.cut later.successor later.retired later.queued later.reclaimed moments tickets
-  shows_run e =
-      shows_staged head state now.chain now.used now.cut now.successor now.retired now.queued now.reclaimed moments tickets k o t is (unlinked t.stage e) Reclaimed refl
-      now.retired now.queued (o ∷ now.reclaimed) moments tickets
-      (sym (waited t.stage e) ∙ told is_retired now.retired k.was_retired) (λ p n. refl)
-      (sym e ∙ told is_queued now.queued k.was_queued) (λ p n. refl)
-      (first_true now.reclaimed) (past now.reclaimed)
-      (λ m f. absurd (none_some m f)) (λ p n. refl)
-      (λ m f. absurd (none_some m f)) (λ p n. refl)
-    where
-      unlinked : (x : Stage) → is_queued x ≡ true → is_linked x ≡ false
-      unlinked Linked e = absurd (true≢false (sym e))
-      unlinked IsCut e = refl
-      unlinked (Retired m) e = refl
-      unlinked (Queued m n) e = refl
-      unlinked Reclaimed e = refl
-
-      waited : (x : Stage) → is_queued x ≡ true → is_retired x ≡ true
-      waited Linked e = absurd (true≢false (sym e))
-      waited IsCut e = absurd (true≢false (sym e))
-      waited (Retired m) e = refl
-      waited (Queued m n) e = refl
-      waited Reclaimed e = refl
-
-  pub found_waiting : (moment ticket : ℕ) → t.stage ≡ Queued moment ticket → FindsWaiting now moments tickets o (Some (record { moment = moment; ticket = ticket }))
-  found_waiting moment ticket e = record {
-    waits = (λ _. (sym (told is_queued now.queued k.was_queued) ∙ ap is_queued e, λ h. true≢false (sym h ∙ sym (told is_reclaimed now.reclaimed k.was_reclaimed) ∙ ap is_reclaimed e)), λ _. refl);
+  pub found_waiting : (moment ticket : ℕ) → t.stage ≡ Queued moment ticket → (¬ HasObject now.reclaimed o) → FindsWaiting now moments tickets o (Some (record { moment = moment; ticket = ticket }))
+  found_waiting moment ticket e not_run = record {
+    waits = (λ _. (sym (told is_queued now.queued k.was_queued) ∙ ap is_queued e, not_run), λ _. refl);
     is = (k.moment o moment (ap (number_in moment_of) is ∙ ap moment_of e), k.ticket o ticket (ap (number_in ticket_of) is ∙ ap ticket_of e));
   }
 
@@ -193,26 +164,30 @@ shows_nothing head state moments tickets no_head no_state = record {
   was_cut = λ o. ap (says is_cut) (no_state o);
   was_retired = λ o. ap (says is_retired) (no_state o);
   was_queued = λ o. ap (says is_queued) (no_state o);
-  was_reclaimed = λ o. ap (says is_reclaimed) (no_state o);
+  was_run = λ o h. absurd (true≢false (sym h));
   moment = λ o m e. absurd (none_some m (sym (ap (number_in moment_of) (no_state o)) ∙ e));
   ticket = λ o m e. absurd (none_some m (sym (ap (number_in ticket_of) (no_state o)) ∙ e));
 }
 
--- a section that gets an object changes nothing of it; the other events leave these lists by computation
-pub knows_got : (objects : Objects) (now : State) (s : SectionId) (found : Option ObjectId) (moments tickets : ObjectId → ℕ) → Knows objects now moments tickets → Knows objects (got now s found) moments tickets
-knows_got objects now s None moments tickets k = k
-knows_got objects now s (Some o) moments tickets k = k
-
--- the write of a run, which needs no look at the object before
-pub shows_run_written : (head : ℕ → Option ObjectId) (state state' : ObjectId → Option ObjectState) (now : State) (moments tickets : ObjectId → ℕ) (o : ObjectId) →
-    state' ≡ written state (Some o) (λ x. record x { stage = Reclaimed }) → HasObject now.queued o →
+-- a callback runs
+pub shows_run : (head : ℕ → Option ObjectId) (state : ObjectId → Option ObjectState) (now : State) (moments tickets : ObjectId → ℕ) (o : ObjectId) → HasObject now.queued o →
     Shows head state now.chain now.used now.cut now.successor now.retired now.queued now.reclaimed moments tickets →
-    let later : State = after now (Run o) in Shows head state' later.chain later.used later.cut later.successor later.retired later.queued later.reclaimed moments tickets
-shows_run_written head state state' now moments tickets o wrote queued k = by (state o) refl
+    Shows head state now.chain now.used now.cut now.successor now.retired now.queued (o ∷ now.reclaimed) moments tickets
+shows_run head state now moments tickets o queued k = record {
+  firsts = k.firsts;
+  nexts = k.nexts;
+  befores = k.befores;
+  successors = k.successors;
+  linked = k.linked;
+  known = k.known;
+  was_cut = k.was_cut;
+  was_retired = k.was_retired;
+  was_queued = k.was_queued;
+  was_run = λ p h. by p h (decide o p);
+  moment = k.moment;
+  ticket = k.ticket;
+}
   where
-    by : (x : Option ObjectState) → state o ≡ x → let later : State = after now (Run o) in Shows head state' later.chain later.used later.cut later.successor later.retired later.queued later.reclaimed moments tickets
-    by None is = absurd (true≢false (sym queued ∙ sym (k.was_queued o) ∙ ap (says is_queued) is))
-    by (Some t) is =
-        let waits : is_queued t.stage ≡ true = ap (says is_queued) (sym is) ∙ k.was_queued o ∙ queued in
-        shows_at head head (at_object o (Some (record t { stage = Reclaimed })) state) state' (after now (Run o)) moments tickets (λ i. head) (wrote ∙ written_at state o t (λ x. record x { stage = Reclaimed }) is)
-        (shows_run head state now moments tickets k o t is waits)
+    by : (p : ObjectId) → HasObject (o ∷ now.reclaimed) p → (o ≡ p) ⊎ (o ≢ p) → HasObject now.queued p
+    by p h (inl e) = subst (HasObject now.queued) e queued
+    by p h (inr n) = k.was_run p (sym (has_past now.reclaimed o p n) ∙ h)

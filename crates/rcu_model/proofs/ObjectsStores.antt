@@ -34,6 +34,9 @@ has_past xs o p apart = by (object_tells o p)
     by (inl y) = absurd (apart y.1)
     by (inr n) = rw n.0 refl
 
+pub has_more : (xs : List ObjectId) (o p : ObjectId) → HasObject xs p → HasObject (o ∷ xs) p
+has_more xs o p h = has_object_in (o ∷ xs) p (inr (in_objects xs p h))
+
 -- the state of a linked object
 pub linked_state_is : (c : ℕ) (x : Option ObjectState) (t : ObjectState) → linked_state c x ≡ Some t → (x ≡ Some t) × (says_linked c x ≡ true)
 linked_state_is c None t e = absurd (none_some t e)

@@ -17,7 +17,7 @@ use Rattle.rcu_model.specs.Waits.{IsPending, AreWaits, StayWaits}
 use Rattle.rcu_model.specs.Objects.{heads_of, states_of, IsSame}
 use Rattle.rcu_model.specs.Checker.{Follows, Keeps}
 pub use Rattle.rcu_model.proofs.ObjectsTables.{on_err}
-use Rattle.rcu_model.proofs.ObjectsStores.{shows_at}
+use Rattle.rcu_model.proofs.ObjectsKept.{knows_at}
 
 -- the same places
 module _ (old new : Sections) (same : StaySections old new) where
@@ -74,7 +74,7 @@ keeps_objects k o same now f = record {
   tickets = f.tickets;
   sections = f.sections;
   holdings = f.holdings;
-  objects = shows_at (heads_of k.objects.heads) (heads_of o.heads) (states_of k.objects.known) (states_of o.known) now f.moments f.tickets same.heads same.states f.objects;
+  objects = knows_at o now f.moments f.tickets (heads_of k.objects.heads) f.objects.state (states_of k.objects.known) k.objects.reclaimed same.heads same.states same.past f.objects.kept f.objects.past f.objects.shows;
   retired = f.retired;
   queued = f.queued;
   asks = f.asks;

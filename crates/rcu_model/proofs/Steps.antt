@@ -4,27 +4,25 @@ use Rattle.std.specs.Option.{option_eq}
 use Rattle.std.proofs.lemmas.List.{get_or_past}
 use Rattle.rcu_model.specs.declared.event.SectionId.{SectionId}
 use Rattle.rcu_model.specs.declared.event.ObjectId.{ObjectId}
-use Rattle.rcu_model.specs.declared.event.Event.TheVariants.{Open, Close, First, Next, Touch, Retire, Queue, Run, Ask, Answer, Bar, Clear}
+use Rattle.rcu_model.specs.declared.event.Event.{Event}
+use Rattle.rcu_model.specs.declared.event.Event.TheVariants.{Open, Close, First, Next, Touch, Push, Replace, Cut, Retire, Queue, Run, Ask, Answer, Bar, Clear}
 use Rattle.rcu_model.specs.declared.checker.Checker.{Checker}
 use Rattle.rcu_model.specs.declared.holdings.Holdings.{Holdings}
 use Rattle.rcu_model.specs.declared.objects.Objects.{Objects}
 use Rattle.rcu_model.specs.declared.sections.Sections.{Sections}
 use Rattle.rcu_model.specs.declared.waits.Waits.{Waits}
-use Rattle.rcu_model.specs.Sets.{same_section, same_object, has_object, HasSection, HasObject, HasNumber, without_section, without_object, at_number, at_section, at_object, first_of}
+use Rattle.rcu_model.specs.Sets.{same_section, same_object, has_object, HasSection, HasObject, HasNumber, without_section, without_object, at_number, at_section, at_object, first_of, next_of, replaced}
 use Rattle.rcu_model.specs.Machine.{State, start, IsAllowed, IsSuccessor, after, not_run, got}
 use Rattle.rcu_model.specs.Roster.{IsThere, HaveLeft, Rostered, Awaits}
 use Rattle.rcu_model.specs.Sections.{AreSections, AwaitsSections, Opens, Closes}
 use Rattle.rcu_model.specs.Holdings.{HasGot}
 use Rattle.rcu_model.specs.Waits.{AreWaits, IsPending, Begins, Ends}
-use Rattle.rcu_model.specs.declared.object.ObjectState.{ObjectState}
-use Rattle.rcu_model.specs.declared.object.Stage.{Stage}
-use Rattle.rcu_model.specs.declared.object.Stage.TheVariants.{Linked, Cut as IsCut, Retired, Queued, Reclaimed}
 use Rattle.rcu_model.specs.declared.object.Waiting.{Waiting}
-use Rattle.rcu_model.specs.Objects.{Knows, IsReached, FindsSuccessor, FindsWaiting, states_of, says, is_queued, is_reclaimed}
+use Rattle.rcu_model.specs.Objects.{Knows, IsReached, FindsSuccessor, FindsWaiting}
 use Rattle.rcu_model.specs.Checker.{AreHeld, Follows, Goes, Gets, GetsIn}
 use Rattle.rcu_model.proofs.Members.{In, Tells, section_tells, object_tells, in_sections, has_section_in, in_objects, has_object_in, empty_from}
 use Rattle.rcu_model.proofs.SetLemmas.{filter_has, has_filter, without_object_has, has_without_object, at_number_same, at_number_other, at_section_same, at_section_other, at_object_same, at_object_other}
-use Rattle.rcu_model.proofs.Safety.{Kept, kept_log, SafeIn, linked, cut_last, cut_before}
+use Rattle.rcu_model.proofs.Safety.{Kept, kept_log, SafeIn, linked, cut_last, cut_before, not_reclaimed}
 use Rattle.rcu_model.proofs.Rosters.{none_awaited, all_have_left, awaits_here, rostered_arrive, awaits_arrive, rostered_leave, awaits_leave}
 use Rattle.rcu_model.proofs.SectionLemmas.{has_last, has_without}
 
@@ -73,23 +71,24 @@ open_goes k new s opened does now r f = record {
     o = does now.seen now.sections f.sections
 
 -- a section closes
-close_held : (h : Holdings) (now : State) (s : SectionId) → AreHeld h now.seen now.sections now.held → AreHeld h now.seen (without_section s now.sections) (at_section s [] now.held)
-close_held h now s a = record {
-  opened = a.opened;
+close_held : (h new : Holdings) (now : State) (s : SectionId) → ((t : SectionId) (o : ObjectId) → HasGot new t o ↔ (HasGot h t o × (s ≢ t))) → AreHeld h now.seen now.sections now.held → AreHeld new now.seen (without_section s now.sections) (at_section s [] now.held)
+close_held h new now s forgets a = record {
+  opened = λ t o g. a.opened t o ((forgets t o).0 g).0;
   holds = λ t o i. let w = (has_without s now.sections t).0 i in
-      subst (λ (os : List ObjectId). HasGot h t o ↔ HasObject os o) (sym (at_section_other s t [] now.held w.1)) (a.holds t o w.0);
+      let b = a.holds t o w.0 in
+      subst (λ (os : List ObjectId). HasGot new t o ↔ HasObject os o) (sym (at_section_other s t [] now.held w.1)) ((λ g. b.0 ((forgets t o).0 g).0), (λ m. (forgets t o).1 (b.1 m, (λ e. w.1 (sym e)))));
 }
 
-pub close_goes : (k : Checker) (new : Sections) (s : SectionId) (closed : Bool) →
+pub close_goes : (k : Checker) (holdings : Holdings) (new : Sections) (s : SectionId) (closed : Bool) → ((t : SectionId) (o : ObjectId) → HasGot holdings t o ↔ (HasGot k.holdings t o × (s ≢ t))) →
     ((seen still : List SectionId) → AreSections k.sections seen still → Closes k.sections new seen still s closed) →
-    (now : State) → Follows k now → Goes (record k { sections = new }) now (Close s) closed
-close_goes k new s closed does now f = record {
+    (now : State) → Follows k now → Goes (record k { sections = new; holdings = holdings }) now (Close s) closed
+close_goes k holdings new s closed forgets does now f = record {
   allowed = c.was;
   follows = λ t. record {
     moments = f.moments;
     tickets = f.tickets;
     sections = c.closed_now t;
-    holdings = close_held k.holdings now s f.holdings;
+    holdings = close_held k.holdings holdings now s forgets f.holdings;
     objects = f.objects;
     retired = λ p h. c.awaits t (now.awaited p) (f.moments p) (f.retired p h);
     queued = f.queued;
@@ -184,21 +183,6 @@ has_without_object_is o os p = (
   (λ h. has_object_in (without_object o os) p (has_without_object o os p (in_objects os p h.0) h.1)),
 )
 
--- what ran was queued
-ran_queued : (k : Objects) (now : State) (moments tickets : ObjectId → ℕ) → Knows k now moments tickets → (o : ObjectId) → HasObject now.reclaimed o → HasObject now.queued o
-ran_queued k now moments tickets knows o h = sym (knows.was_queued o) ∙ by (states_of k.known o) (knows.was_reclaimed o ∙ h)
-  where
-    by : (state : Option ObjectState) → says is_reclaimed state ≡ true → says is_queued state ≡ true
-    by None e = e
-    by (Some state) e = by_stage state.stage e
-      where
-        by_stage : (stage : Stage) → is_reclaimed stage ≡ true → is_queued stage ≡ true
-        by_stage Linked e = absurd (true≢false (sym e))
-        by_stage IsCut e = absurd (true≢false (sym e))
-        by_stage (Retired m) e = absurd (true≢false (sym e))
-        by_stage (Queued m t) e = refl
-        by_stage Reclaimed e = refl
-
 pub queue_goes : (k : Checker) (objects : Objects) (present : List Bool) (o : ObjectId) (q ticket : ℕ) (done : Bool) →
     ticket ≡ length k.queued → present ≡ k.queued ++ true ∷ [] →
     ((now : State) (moments tickets : ObjectId → ℕ) (queue : ℕ) → Knows k.objects now moments tickets → (IsTrue done ↔ IsAllowed now (Queue o queue)) × (IsTrue done → Knows objects (after now (Queue o queue)) moments (at_object o ticket tickets))) →
@@ -228,7 +212,7 @@ queue_goes k objects present o q ticket done at came does now f = record {
     d = does now f.moments f.tickets q f.objects
 
     not_ran : IsTrue done → ¬ HasObject now.reclaimed o
-    not_ran t h = (d.0.0 t).1 (ran_queued k.objects now f.moments f.tickets f.objects o h)
+    not_ran t h = (d.0.0 t).1 (f.objects.shows.was_run o h)
 
     last : at_object o ticket f.tickets o ≡ length k.queued
     last = at_object_same o ticket f.tickets ∙ at
@@ -256,7 +240,7 @@ module _ (k : Checker) (o : ObjectId) (w : Waiting) (closed : Bool)
   }
 
   pub run_goes : (objects : Objects) (present : List Bool) (left : Bool) → closed ≡ true → present ≡ set k.queued w.ticket false → (IsTrue left ↔ IsThere k.queued w.ticket) →
-      ((now : State) (moments tickets : ObjectId → ℕ) → Knows k.objects now moments tickets → HasObject now.queued o → (¬ HasObject now.reclaimed o) → Knows objects (after now (Run o)) moments tickets) →
+      ((now : State) (moments tickets : ObjectId → ℕ) → Knows k.objects now moments tickets → HasObject now.queued o → Knows objects (after now (Run o)) moments tickets) →
       Goes (record k { objects = objects; queued = present }) now (Run o) left
   run_goes objects present left yes_closed gone was does = record {
     allowed = ((λ _. (q.0, q.1, awaits_nobody.0 yes_closed)), (λ _. was.1 (subst (IsThere k.queued) (sym waits.is.1) there)));
@@ -265,7 +249,7 @@ module _ (k : Checker) (o : ObjectId) (w : Waiting) (closed : Bool)
       tickets = f.tickets;
       sections = f.sections;
       holdings = f.holdings;
-      objects = does now f.moments f.tickets f.objects q.0 q.1;
+      objects = does now f.moments f.tickets f.objects q.0;
       retired = f.retired;
       queued = subst (Rostered (HasObject now.queued) (HasObject (not_run (after now (Run o)))) f.tickets) (sym at)
           (rostered_leave (HasObject now.queued) (HasObject (not_run now)) f.tickets k.queued o (HasObject (not_run (after now (Run o)))) is_here (reclaimed_here now o) f.queued);
@@ -355,8 +339,11 @@ module _ (k : Checker) (s : SectionId) (from : ObjectId) (found : Option ObjectI
     follows = λ t. absurd (true≢false (sym t));
   }
     where
+      kept : Kept now
+      kept = kept_reached now r
+
       by : (after : Option (Option ObjectId)) → FindsSuccessor now from after → after ≢ Some found → ¬ (HasSection now.sections s × HasObject (now.held s) from × IsSuccessor now from found)
-      by None absent apart a = absent (holds_used now s from (kept_reached now r) a.1)
+      by None absent apart a = ⊎_elim (λ (n : ¬ HasObject now.used from). n (holds_used now s from kept a.1)) (λ (h : HasObject now.reclaimed from). not_reclaimed now s from kept (kept.safe s from (in_objects (now.held s) from a.1)) (in_objects now.reclaimed from h)) absent
       by (Some next) finds apart a = apart (ap (λ (x : Option ObjectId). Some x) ((finds.1 found).1 a.2))
 
 -- a wait is over
@@ -582,3 +569,52 @@ follows_start sections holdings objects queued asks barriers are none knows empt
   where
     nobody : (i : ℕ) → ¬ IsThere [] i
     nobody i there = true≢false (sym there ∙ get_or_past [] i false (omega arith))
+
+-- a store into a chain
+stored : (k : Checker) (objects : Objects) (now : State) (f : Follows k now) (chain : ℕ → List ObjectId) (used cut : List ObjectId) (successor : ObjectId → Option ObjectId) →
+    Knows objects (record now { chain = chain; used = used; cut = cut; successor = successor }) f.moments f.tickets →
+    Follows (record k { objects = objects }) (record now { chain = chain; used = used; cut = cut; successor = successor })
+stored k objects now f chain used cut successor knows = record {
+  moments = f.moments;
+  tickets = f.tickets;
+  sections = f.sections;
+  holdings = f.holdings;
+  objects = knows;
+  retired = f.retired;
+  queued = f.queued;
+  asks = f.asks;
+  asked = f.asked;
+  barriers = f.barriers;
+  noted = f.noted;
+}
+
+abbrev pub Stores : Objects → Objects → Event → Bool → Type 0
+Stores old new e done = (now : State) (moments tickets : ObjectId → ℕ) → IsReached now → Knows old now moments tickets → (IsTrue done ↔ IsAllowed now e) × (IsTrue done → Knows new (after now e) moments tickets)
+
+pub push_goes : (k : Checker) (objects : Objects) (c : ℕ) (o : ObjectId) (done : Bool) → Stores k.objects objects (Push c o) done → (now : State) → IsReached now → Follows k now → Goes (record k { objects = objects }) now (Push c o) done
+push_goes k objects c o done does now r f =
+    let d = does now f.moments f.tickets r f.objects in
+    record { allowed = d.0; follows = λ t. stored k objects now f (at_number c (o ∷ now.chain c) now.chain) (o ∷ now.used) now.cut now.successor (d.1 t) }
+
+pub replace_goes : (k : Checker) (objects : Objects) (c : ℕ) (old new : ObjectId) (done : Bool) → Stores k.objects objects (Replace c old new) done → (now : State) → IsReached now → Follows k now → Goes (record k { objects = objects }) now (Replace c old new) done
+replace_goes k objects c old new done does now r f =
+    let d = does now f.moments f.tickets r f.objects in
+    record {
+      allowed = d.0;
+      follows = λ t. stored k objects now f (at_number c (replaced old new (now.chain c)) now.chain) (new ∷ now.used) (old ∷ now.cut) (at_object old (next_of (now.chain c) old) now.successor) (d.1 t);
+    }
+
+pub cut_goes : (k : Checker) (objects : Objects) (c : ℕ) (o : ObjectId) (done : Bool) → Stores k.objects objects (Cut c o) done → (now : State) → IsReached now → Follows k now → Goes (record k { objects = objects }) now (Cut c o) done
+cut_goes k objects c o done does now r f =
+    let d = does now f.moments f.tickets r f.objects in
+    record {
+      allowed = d.0;
+      follows = λ t. stored k objects now f (at_number c (without_object o (now.chain c)) now.chain) now.used (o ∷ now.cut) (at_object o (next_of (now.chain c) o) now.successor) (d.1 t);
+    }
+
+-- a callback that does not wait
+pub run_none : (k : Checker) (o : ObjectId) → ((now : State) (moments tickets : ObjectId → ℕ) → Knows k.objects now moments tickets → FindsWaiting now moments tickets o None) → (now : State) → Follows k now → Goes k now (Run o) false
+run_none k o finds now f = record {
+  allowed = ((λ t. absurd (true≢false (sym t))), (λ a. absurd (true≢false (sym ((finds now f.moments f.tickets f.objects).waits.1 (a.0, a.1))))));
+  follows = λ t. absurd (true≢false (sym t));
+}

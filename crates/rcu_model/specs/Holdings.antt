@@ -1,15 +1,18 @@
 -- Which section got which object, as the checker keeps it.
-use Rattle.std.specs.Prelude.{Bool, ◌&&◌, IsTrue}
-use Rattle.std.specs.HashSet.{contains}
+use Rattle.std.specs.Prelude.{IsTrue, List, [], Option, Some, None}
+use Rattle.std.specs.List.{list_any}
+use Rattle.std.specs.HashMap.{get}
+use Rattle.std.specs.HashSet.{HashSet}
 use Rattle.rcu_model.specs.declared.event.SectionId.{SectionId}
 use Rattle.rcu_model.specs.declared.event.ObjectId.{ObjectId}
-use Rattle.rcu_model.specs.declared.holdings.Holding.{Holding}
 use Rattle.rcu_model.specs.declared.holdings.Holdings.{Holdings}
 use Rattle.rcu_model.specs.Sets.{same_section, same_object}
 
-abbrev pub same_holding : Holding → Holding → Bool
-same_holding h k = same_section h.section k.section && same_object h.object k.object
+-- the objects of a set, where there is one
+abbrev pub objects_in : {S : Type 0} → Option (HashSet ObjectId S) → List ObjectId
+objects_in None = []
+objects_in (Some set) = set.keys
 
 -- the section got the object since it was opened
 abbrev pub HasGot : Holdings → SectionId → ObjectId → Type 0
-HasGot h s o = IsTrue (contains same_holding h.pairs (record { section = s; object = o }))
+HasGot h s o = IsTrue (list_any (same_object o) (objects_in (get same_section h.got s)))

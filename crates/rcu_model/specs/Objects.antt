@@ -1,11 +1,12 @@
 -- What the checker knows of objects and chains, and what a store into a chain makes of it.
-use Rattle.std.specs.Prelude.{◌≡◌, ◌↔◌, ℕ, ◌==◌, nat_eq, Bool, true, false, ◌&&◌, if◌then◌else◌, List, is_some, IsSome, IfSome, Option, Some, None}
+use Rattle.std.specs.Prelude.{◌≡◌, ◌⊎◌, ◌↔◌, ℕ, ◌==◌, nat_eq, Bool, true, false, ◌&&◌, if◌then◌else◌, List, is_some, IsSome, IfSome, Option, Some, None}
 use Rattle.std.specs.Option.{option_or}
 use Rattle.std.specs.HashMap.{HashMap, get}
+use Rattle.number_runs.specs.Runs.{Has}
 use Rattle.rcu_model.specs.declared.event.ObjectId.{ObjectId}
 use Rattle.rcu_model.specs.declared.event.Event.{Event}
 use Rattle.rcu_model.specs.declared.object.Stage.{Stage}
-use Rattle.rcu_model.specs.declared.object.Stage.TheVariants.{Linked, Cut as IsCut, Retired, Queued, Reclaimed}
+use Rattle.rcu_model.specs.declared.object.Stage.TheVariants.{Linked, Cut as IsCut, Retired, Queued}
 use Rattle.rcu_model.specs.declared.object.ObjectState.{ObjectState}
 use Rattle.rcu_model.specs.declared.object.Splice.{Splice}
 use Rattle.rcu_model.specs.declared.object.Waiting.{Waiting}
@@ -26,50 +27,37 @@ is_linked Linked = true
 is_linked IsCut = false
 is_linked (Retired m) = false
 is_linked (Queued m t) = false
-is_linked Reclaimed = false
 
 abbrev pub is_cut : Stage → Bool
 is_cut Linked = false
 is_cut IsCut = true
 is_cut (Retired m) = true
 is_cut (Queued m t) = true
-is_cut Reclaimed = true
 
 abbrev pub is_retired : Stage → Bool
 is_retired Linked = false
 is_retired IsCut = false
 is_retired (Retired m) = true
 is_retired (Queued m t) = true
-is_retired Reclaimed = true
 
 abbrev pub is_queued : Stage → Bool
 is_queued Linked = false
 is_queued IsCut = false
 is_queued (Retired m) = false
 is_queued (Queued m t) = true
-is_queued Reclaimed = true
 
-abbrev pub is_reclaimed : Stage → Bool
-is_reclaimed Linked = false
-is_reclaimed IsCut = false
-is_reclaimed (Retired m) = false
-is_reclaimed (Queued m t) = false
-is_reclaimed Reclaimed = true
-
--- when it was retired, and its place in the queue, until its callback runs
+-- when it was retired, and its place in the queue
 abbrev pub moment_of : Stage → Option ℕ
 moment_of Linked = None
 moment_of IsCut = None
 moment_of (Retired m) = Some m
 moment_of (Queued m t) = Some m
-moment_of Reclaimed = None
 
 abbrev pub ticket_of : Stage → Option ℕ
 ticket_of Linked = None
 ticket_of IsCut = None
 ticket_of (Retired m) = None
 ticket_of (Queued m t) = Some t
-ticket_of Reclaimed = None
 
 -- what a state says, if there is one
 abbrev pub says : (Stage → Bool) → Option ObjectState → Bool
@@ -101,7 +89,7 @@ abbrev pub LeadsTo : List ObjectId → Option ObjectId → ObjectId → Type 0
 LeadsTo xs None o = first_of xs ≡ Some o
 LeadsTo xs (Some p) o = HasObject xs p × (next_of xs p ≡ Some o)
 
--- what is known is what the lists of the machine say
+-- what is known of each object, and was known of one whose callback has run, is what the lists of the machine say
 pub record Shows (head : ℕ → Option ObjectId) (state : ObjectId → Option ObjectState) (chain : ℕ → List ObjectId) (used cut : List ObjectId) (successor : ObjectId → Option ObjectId) (retired queued reclaimed : List ObjectId) (moments tickets : ObjectId → ℕ) : Type 0 where
   pub firsts : (c : ℕ) → head c ≡ first_of (chain c)
   pub nexts : (c : ℕ) (o : ObjectId) → HasObject (chain c) o → after_of (state o) ≡ next_of (chain c) o
@@ -112,17 +100,30 @@ pub record Shows (head : ℕ → Option ObjectId) (state : ObjectId → Option O
   pub was_cut : (o : ObjectId) → says is_cut (state o) ≡ has_object cut o
   pub was_retired : (o : ObjectId) → says is_retired (state o) ≡ has_object retired o
   pub was_queued : (o : ObjectId) → says is_queued (state o) ≡ has_object queued o
-  pub was_reclaimed : (o : ObjectId) → says is_reclaimed (state o) ≡ has_object reclaimed o
+  pub was_run : (o : ObjectId) → HasObject reclaimed o → HasObject queued o
   pub moment : (o : ObjectId) (m : ℕ) → number_in moment_of (state o) ≡ Some m → m ≡ moments o
   pub ticket : (o : ObjectId) (t : ℕ) → number_in ticket_of (state o) ≡ Some t → t ≡ tickets o
 
+-- of the objects' states these are kept: those of the objects whose callbacks have not run
+pub record AreKept (state : ObjectId → Option ObjectState) (reclaimed : List ObjectId) (kept : ObjectId → Option ObjectState) : Type 0 where
+  pub here : (o : ObjectId) → (¬ HasObject reclaimed o) → kept o ≡ state o
+  pub gone : (o : ObjectId) → HasObject reclaimed o → kept o ≡ None
+
+-- what is known, and the numbers of the objects whose callbacks have run
+pub record Remembers (objects : Objects) (chain : ℕ → List ObjectId) (used cut : List ObjectId) (successor : ObjectId → Option ObjectId) (retired queued reclaimed : List ObjectId) (moments tickets : ObjectId → ℕ) : Type 0 where
+  pub state : ObjectId → Option ObjectState
+  pub kept : AreKept state reclaimed (states_of objects.known)
+  pub past : (o : ObjectId) → HasObject reclaimed o ↔ Has objects.reclaimed o.0
+  pub shows : Shows (heads_of objects.heads) state chain used cut successor retired queued reclaimed moments tickets
+
 abbrev pub Knows : Objects → State → (ObjectId → ℕ) → (ObjectId → ℕ) → Type 0
-Knows objects now moments tickets = Shows (heads_of objects.heads) (states_of objects.known) now.chain now.used now.cut now.successor now.retired now.queued now.reclaimed moments tickets
+Knows objects now moments tickets = Remembers objects now.chain now.used now.cut now.successor now.retired now.queued now.reclaimed moments tickets
 
 -- the same is known of objects and chains
 pub record IsSame (old new : Objects) : Type 0 where
   pub heads : heads_of new.heads ≡ heads_of old.heads
   pub states : states_of new.known ≡ states_of old.known
+  pub past : new.reclaimed ≡ old.reclaimed
 
 -- a run leads to the state
 pub record IsReached (now : State) : Type 0 where
@@ -130,9 +131,9 @@ pub record IsReached (now : State) : Type 0 where
   pub run : IsRun log
   pub leads : state_after log ≡ now
 
--- none for an object that was never used, else its one successor
+-- none for an object that was never used, or whose callback has run, else its one successor
 abbrev pub FindsSuccessor : State → ObjectId → Option (Option ObjectId) → Type 0
-FindsSuccessor now o None = ¬ HasObject now.used o
+FindsSuccessor now o None = (¬ HasObject now.used o) ⊎ HasObject now.reclaimed o
 FindsSuccessor now o (Some found) = HasObject now.used o × ((other : Option ObjectId) → (found ≡ other) ↔ IsSuccessor now o other)
 
 -- what a queued object that was not run waits with

@@ -67,7 +67,7 @@ impl Checker {
             Event::Cut { chain, object } => self.cut(chain, object),
             Event::Retire(object) => Ok(self.retire(object)),
             Event::Queue { object, .. } => self.queue(object),
-            Event::Run(object) => Ok(self.run(object)),
+            Event::Run(object) => self.run(object),
             Event::Ask(ask) => self.ask(ask),
             Event::Answer(ask) => Ok(self.answer(ask)),
             Event::Bar(barrier) => self.bar(barrier),
@@ -86,6 +86,7 @@ impl Checker {
     fn close(&mut self, section: SectionId) -> bool
         ensures { Answers self.old self.new (Close section) result }
     {
+        self.holdings.forget(section);
         self.sections.close(section)
     }
 
@@ -182,17 +183,18 @@ impl Checker {
         Ok(self.objects.queue(object, ticket))
     }
 
-    fn run(&mut self, object: ObjectId) -> bool
-        ensures { Answers self.old self.new (Run object) result }
+    fn run(&mut self, object: ObjectId) -> Result<bool, AllocError>
+        ensures answered { IfOk result (Answers self.old self.new (Run object)) }
+        ensures refused { OnErr result (Keeps self.old self.new) }
     {
         let Some(waiting) = self.objects.queued(object) else {
-            return false;
+            return Ok(false);
         };
         if !self.sections.all_closed(waiting.moment) {
-            return false;
+            return Ok(false);
         }
-        self.objects.reclaim(object);
-        self.queued.leave(waiting.ticket)
+        self.objects.reclaim(object)?;
+        Ok(self.queued.leave(waiting.ticket))
     }
 
     fn ask(&mut self, ask: u64) -> Result<bool, AllocError>

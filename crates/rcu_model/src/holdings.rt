@@ -1,25 +1,19 @@
 //! Which section got which object.
 
-ghost use Rattle.std.specs.Prelude.{◌≡◌, ◌⊎◌, ◌↔◌, IsTrue, OnOk, OnErr};
+ghost use Rattle.std.specs.Prelude.{◌≡◌, ◌≢◌, ◌⊎◌, ◌↔◌, IsTrue, OnOk, OnErr};
 ghost use Rattle.rcu_model.specs.declared.event.SectionId.{SectionId};
 ghost use Rattle.rcu_model.specs.declared.event.ObjectId.{ObjectId};
 ghost use Rattle.rcu_model.specs.Holdings.{HasGot};
 
 use crate::event::{ObjectId, SectionId};
 use std::alloc::{AllocError, Global};
-use std::collections::HashSet;
+use std::collections::{HashMap, HashSet};
 
-/// That a section got an object.
-#[derive(Clone, Copy, PartialEq, Eq, Hash, Drop)]
-struct Holding {
-    section: SectionId,
-    object: ObjectId,
-}
-
-/// What each section got since it was opened. A section never opens again, so what it got may stay once it is closed.
+/// What each section got since it was opened, until it closes.
 #[derive(Drop)]
 pub(crate) struct Holdings {
-    pairs: HashSet<Holding>,
+    alloc: Global,
+    got: HashMap<SectionId, HashSet<ObjectId>>,
 }
 
 impl Holdings {
@@ -28,7 +22,8 @@ impl Holdings {
         ensures { (s : SectionId) (o : ObjectId) → ¬ HasGot result s o }
     {
         Holdings {
-            pairs: HashSet::new(alloc),
+            alloc,
+            got: HashMap::new(alloc),
         }
     }
 
@@ -40,14 +35,30 @@ impl Holdings {
         ensures got { OnOk result ((s : SectionId) (o : ObjectId) → HasGot self.new s o ↔ (HasGot self.old s o ⊎ ((section ≡ s) × (object ≡ o)))) }
         ensures refused { OnErr result ((s : SectionId) (o : ObjectId) → HasGot self.new s o ↔ HasGot self.old s o) }
     {
-        self.pairs.insert(Holding { section, object })?;
+        if let Some(objects) = self.got.get_mut(&section) {
+            objects.insert(object)?;
+            return Ok(());
+        }
+        let mut objects = HashSet::new(self.alloc);
+        objects.insert(object)?;
+        self.got.insert(section, objects)?;
         Ok(())
+    }
+
+    /// The section closes: what it got is forgotten.
+    pub(crate) fn forget(&mut self, section: SectionId)
+        ensures { (s : SectionId) (o : ObjectId) → HasGot self.new s o ↔ (HasGot self.old s o × (section ≢ s)) }
+    {
+        self.got.remove(&section);
     }
 
     /// Whether the section got the object.
     pub(crate) fn has(&self, section: SectionId, object: ObjectId) -> bool
         ensures { IsTrue result ↔ HasGot self.now section object }
     {
-        self.pairs.contains(&Holding { section, object })
+        match self.got.get(&section) {
+            Some(objects) => objects.contains(&object),
+            None => false,
+        }
     }
 }

@@ -5,15 +5,14 @@ ghost use Rattle.std.specs.Option.{option_or};
 
 use crate::event::ObjectId;
 
-/// How far an object has come. A moment and a ticket are the numbers that the checker gives at the retirement and at
-/// the queueing.
+/// How far an object has come, until its callback has run. A moment and a ticket are the numbers that the checker gives
+/// at the retirement and at the queueing.
 #[derive(Clone, Copy, Debug, PartialEq, Eq, Drop)]
 pub(crate) enum Stage {
     Linked,
     Cut,
     Retired { moment: usize },
     Queued { moment: usize, ticket: usize },
-    Reclaimed,
 }
 
 /// What the checker knows of an object.

@@ -5,18 +5,23 @@ use crate::object::{ObjectState, Splice, Stage, Waiting};
 use crate::states::{
     Heads, States, enter, leave, make_room, put_after, put_before, put_stage, state_of, store_head,
 };
+use number_runs::NumberRuns;
 use std::alloc::{AllocError, Global};
 use std::collections::HashMap;
 
-/// What is known of objects and chains. Each call takes constant time, amortized.
+/// What is known of objects and chains. An object whose callback has run takes next to no memory where numbers count up:
+/// of it only the number is kept. Beside a look-up among the runs of these numbers a call takes constant time, amortized.
 #[derive(Drop)]
 pub(crate) struct Objects {
+    // The objects whose callbacks have not run.
     known: States,
     heads: Heads,
+    // The numbers of those whose callbacks have run.
+    reclaimed: NumberRuns,
 }
 
 impl Objects {
-    ghost use Rattle.std.specs.Prelude.{◌≡◌, ◌↔◌, ℕ, IsTrue, IfOk, OnOk, OnErr, is_some};
+    ghost use Rattle.std.specs.Prelude.{◌≡◌, ◌↔◌, ℕ, IsTrue, IfOk, OnOk, OnErr};
     ghost use Rattle.rcu_model.specs.declared.event.Event.TheVariants.{Push, Replace, Cut, Retire, Queue, Run};
     ghost use Rattle.rcu_model.specs.Machine.{State, IsAllowed, after, start};
     ghost use Rattle.rcu_model.specs.Sets.{HasObject, first_of, at_object};
@@ -29,6 +34,7 @@ impl Objects {
         Objects {
             known: HashMap::new(alloc),
             heads: HashMap::new(alloc),
+            reclaimed: NumberRuns::new(alloc),
         }
     }
 
@@ -40,7 +46,7 @@ impl Objects {
         self.heads.get(&chain).copied()
     }
 
-    /// An object's successor, or none where it was never put into a chain.
+    /// An object's successor, or none where it was never put into a chain, or its callback has run.
     pub(crate) fn after(&self, object: ObjectId) -> Option<Option<ObjectId>>
         ensures { (now : State) (moments tickets : ObjectId → ℕ) → Knows self.now now moments tickets → FindsSuccessor now object result }
     {
@@ -49,9 +55,12 @@ impl Objects {
 
     /// Whether an object was put into a chain.
     fn is_used(&self, object: ObjectId) -> bool
-        ensures { result ≡ is_some (states_of self.now.known object) }
+        ensures { (now : State) (moments tickets : ObjectId → ℕ) → Knows self.now now moments tickets → (IsTrue result ↔ HasObject now.used object) }
     {
-        state_of(&self.known, object).is_some()
+        match state_of(&self.known, object) {
+            Some(_) => true,
+            None => self.reclaimed.contains(object.0),
+        }
     }
 
     /// The state of an object that is linked in a chain.
@@ -70,6 +79,7 @@ impl Objects {
     fn splice(&mut self, splice: Splice) -> Result<(), AllocError>
         ensures heads { OnOk result (heads_of self.new.heads ≡ spliced_heads (heads_of self.old.heads) splice) }
         ensures states { OnOk result (states_of self.new.known ≡ spliced_states (states_of self.old.known) splice) }
+        ensures rest { self.new.reclaimed ≡ self.old.reclaimed }
         ensures refused { OnErr result (IsSame self.old self.new) }
     {
         make_room(&mut self.known)?;
@@ -198,9 +208,15 @@ impl Objects {
     }
 
     /// Runs the callback of an object that is queued and was not run.
-    pub(crate) fn reclaim(&mut self, object: ObjectId)
-        ensures { (now : State) (moments tickets : ObjectId → ℕ) → Knows self.old now moments tickets → HasObject now.queued object → (¬ HasObject now.reclaimed object) → Knows self.new (after now (Run object)) moments tickets }
+    ///
+    /// # Errors
+    /// Where memory was refused; then what is known of the objects stays.
+    pub(crate) fn reclaim(&mut self, object: ObjectId) -> Result<(), AllocError>
+        ensures run { OnOk result ((now : State) (moments tickets : ObjectId → ℕ) → Knows self.old now moments tickets → HasObject now.queued object → Knows self.new (after now (Run object)) moments tickets) }
+        ensures refused { OnErr result (IsSame self.old self.new) }
     {
-        put_stage(&mut self.known, object, Stage::Reclaimed);
+        self.reclaimed.insert(object.0)?;
+        self.known.remove(&object);
+        Ok(())
     }
 }

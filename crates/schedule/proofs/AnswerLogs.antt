@@ -7,18 +7,11 @@ use Rattle.std.proofs.lemmas.List.Elements.{All-nil, All-push, All-head, All-tai
 use Rattle.rcu_model.specs.declared.event.Event.{Event}
 use Rattle.schedule.specs.declared.answer_line.AnswerLine.{AnswerLine}
 use Rattle.schedule.specs.AnswerLines.{IsAnswerLine, spelled, AnswerLineText, told_by, TellsLog, BreaksOffAnswers}
+use Rattle.schedule.specs.AnswerPieces.{ReadSoFar}
 use Rattle.schedule.specs.AnswerGrammar.{answer_line_at}
 use Rattle.schedule.proofs.Exact.{ok_is, not_both}
 use Rattle.schedule.proofs.More.{bad_at}
 use Rattle.schedule.proofs.AnswerTexts.{answer_reads, no_answer}
-
--- lines were read, and the rest is to come
-pub record ReadSoFar (text rest : List ℕ) (log : List Event) (at : ℕ) : Type 0 where
-  pub lines : List AnswerLine
-  pub each : All IsAnswerLine lines
-  pub parts : text ≡ flat_map spelled lines ++ rest
-  pub events : log ≡ flat_map told_by lines
-  pub number : at ≡ min (length lines + 1) (2 ^ 64 - 1)
 
 pub none_read : (text : List ℕ) → ReadSoFar text text [] 1
 none_read text = record { lines = []; each = All-nil IsAnswerLine; parts = refl; events = refl; number = omega arith }

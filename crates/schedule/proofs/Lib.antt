@@ -10,6 +10,7 @@ pub mod EventPieces
 pub mod Events
 pub mod AnswerTexts
 pub mod AnswerLogs
+pub mod AnswerPieces
 pub mod Headers
 pub mod More
 pub mod Short

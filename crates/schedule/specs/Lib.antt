@@ -12,5 +12,6 @@ pub mod Play
 pub mod Ports
 pub mod Whole
 pub mod AnswerLines
+pub mod AnswerPieces
 pub mod AnswerGrammar
 pub mod RoundTrip

@@ -1,10 +1,11 @@
 //! Lines of answers as the events that they tell.
 
-ghost use Rattle.std.specs.Prelude.{◌≡◌, ◌++◌, List, Err, OnOk, OnErr, IfOk, IfErr};
+ghost use Rattle.std.specs.Prelude.{◌≡◌, ◌++◌, ℕ, List, Err, OnOk, OnErr, IfOk, IfErr};
 ghost use Rattle.rcu_model.specs.declared.event.Event.{Event};
 ghost use Rattle.schedule.specs.Reading.{Gives};
 ghost use Rattle.schedule.specs.AnswerGrammar.{event_word_at, answer_word_at, second_at, events_at, end_at, refused_at, answer_line_at};
 ghost use Rattle.schedule.specs.AnswerLines.{TellsLog, IsNoAnswers, told_by};
+ghost use Rattle.schedule.specs.AnswerPieces.{ReadSoFar, ReadsOn};
 ghost use Rattle.schedule.specs.declared.fault.AnswersFault.TheVariants.{Memory};
 
 use crate::answer_line::AnswerLine;
@@ -112,6 +113,37 @@ fn note(line: AnswerLine, log: &mut Vec<Event>) -> Result<(), AnswersFault>
     Ok(())
 }
 
+/// Puts the events of the lines at the front of the text at the end of the log, and counts the lines: answers what comes
+/// after them, which goes on to a line or is empty.
+pub fn front_answers<'a>(
+    text: &'a [u8],
+    line: &mut u64,
+    log: &mut Vec<Event>,
+) -> Result<&'a [u8], AnswersFault>
+    ensures { (all : List ℕ) (earlier : List Event) → ReadSoFar all text.now (earlier ++ log.old.items) line.old → ReadsOn all (earlier ++ log.new.items) line.new result }
+{
+    let mut rest = text;
+    loop {
+        match front_answer(rest) {
+            Ok((answer, after)) => {
+                note(answer, log)?;
+                *line = line.saturating_add(1);
+                rest = after;
+            }
+            Err(bad) => {
+                if bad.is_empty() {
+                    return Ok(rest);
+                }
+                let column = column_of(rest, bad);
+                return Err(AnswersFault::BadText {
+                    line: *line,
+                    column,
+                });
+            }
+        }
+    }
+}
+
 /// The log that the text tells: the events of its lines of answers, in order. An empty text tells a log of no events.
 ///
 /// # Errors
@@ -124,19 +156,10 @@ pub fn read_answers(alloc: Global, text: &[u8]) -> Result<Vec<Event>, AnswersFau
 {
     let mut log = Vec::new(alloc);
     let mut line = 1u64;
-    let mut rest = text;
-    while !rest.is_empty() {
-        match front_answer(rest) {
-            Ok((answer, after)) => {
-                note(answer, &mut log)?;
-                line = line.saturating_add(1);
-                rest = after;
-            }
-            Err(bad) => {
-                let column = column_of(rest, bad);
-                return Err(AnswersFault::BadText { line, column });
-            }
-        }
+    let rest = front_answers(text, &mut line, &mut log)?;
+    if !rest.is_empty() {
+        let column = rest.len() + 1;
+        return Err(AnswersFault::BadText { line, column });
     }
     Ok(log)
 }

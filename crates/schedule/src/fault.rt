@@ -76,3 +76,11 @@ impl<T: Drop> From<AllocFailed<T>> for AnswersFault {
         AnswersFault::Memory
     }
 }
+
+impl From<AllocError> for AnswersFault {
+    ghost from_gives = { λ _ e. e ≡ answers_faults.Memory };
+
+    fn from(_e: AllocError) -> AnswersFault {
+        AnswersFault::Memory
+    }
+}

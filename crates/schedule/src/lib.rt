@@ -2,6 +2,7 @@
 //! The text of schedules and of their answers, and replay.
 
 mod answer_line;
+mod answer_pieces;
 mod answer_reading;
 mod answer_words;
 mod answers;
@@ -23,6 +24,7 @@ mod stream;
 mod whole;
 mod words;
 
+pub use answer_pieces::AnswerReader;
 pub use answer_reading::read_answers;
 pub use answers::print_event;
 pub use counts::Counts;

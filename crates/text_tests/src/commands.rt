@@ -133,6 +133,59 @@ fn a_check_ends_by_its_verdict(rt: HostRuntime) {
 }
 
 #[test]
+fn a_follow_ends_at_the_first_wrong_event(rt: HostRuntime) {
+    let rows: [Row; 6] = [
+        (b"", b"yes events=0\n", b"", 0),
+        (
+            b".\nopen r0.1\nwait\nclose r0.1; open r0.2\nrefused E99\n",
+            b"yes events=3\n",
+            b"",
+            0,
+        ),
+        (
+            b"ask a1\nanswer a1\nopen r0.1\nask a2\nanswer a2\nask a2\n",
+            b"no event=5 rule=D8\n",
+            b"",
+            1,
+        ),
+        // What follows the event is not looked at.
+        (b"close r0.1\nx", b"no event=1 rule=D3\n", b"", 1),
+        // A bad line before it is a fault.
+        (
+            b"open r0.1\nx\nclose r0.2\n",
+            b"",
+            b"line 2 column 1: bad text\n",
+            2,
+        ),
+        (b"idle", b"", b"line 1 column 5: bad text\n", 2),
+    ];
+    for row in rows {
+        check_row(&rt, rt.alloc(), Command::Follow, row);
+    }
+}
+
+#[test]
+fn a_follow_reads_no_more_after_a_wrong_event(rt: HostRuntime) {
+    let text = b"open r0.1\nopen r0.1\nclose r0.1\n";
+    let mut reader = Pieces {
+        before: Some(20),
+        ..Pieces::new(text, 1)
+    };
+    let mut out: Vec<u8> = Vec::new(rt.alloc());
+    let mut faults: Vec<u8> = Vec::new(rt.alloc());
+    let status = execute(
+        rt.alloc(),
+        Command::Follow,
+        &mut reader,
+        &mut out,
+        &mut faults,
+    );
+    assert_eq!(rt; status, 1);
+    assert_eq!(rt; out.as_slice(), b"no event=2 rule=D3\n".as_slice());
+    assert!(rt; faults.is_empty());
+}
+
+#[test]
 fn a_walk_of_no_lines_is_a_run(rt: HostRuntime) {
     let walk = Walk {
         lines: 0,
@@ -206,9 +259,10 @@ fn who_stops_gets_no_line(rt: HostRuntime) {
 }
 
 /// The commands that write, each with a text that it is read.
-const WRITERS: [(Command, &[u8]); 4] = [
+const WRITERS: [(Command, &[u8]); 5] = [
     (Command::Replay, b"schedule 1 memb 1 1 1 1\n"),
     (Command::Check, b".\n"),
+    (Command::Follow, b"wait\n"),
     (Command::Walk(DEFAULT), b""),
     (
         Command::Walk(Walk {
@@ -226,9 +280,10 @@ const SHORT: Walk = Walk {
 };
 
 /// The same, which write short texts.
-const SHORT_WRITERS: [(Command, &[u8]); 4] = [
+const SHORT_WRITERS: [(Command, &[u8]); 5] = [
     (Command::Replay, b"schedule 1 memb 1 1 1 1\nr0 lock\nr0 .\n"),
     (Command::Check, b"open r0.1\n"),
+    (Command::Follow, b"close r0.1\n"),
     (Command::Walk(SHORT), b""),
     (
         Command::Walk(Walk {
@@ -339,13 +394,14 @@ fn check_each_cut(rt: &impl Abort, alloc: Global, command: Command, text: &[u8],
 
 #[test]
 fn readers_that_fail_end_with_three(rt: HostRuntime) {
-    let rows: [(Command, &[u8], &[u8]); 2] = [
+    let rows: [(Command, &[u8], &[u8]); 3] = [
         (
             Command::Replay,
             b"schedule 1 memb 1 1 1 1\nr0 lock\n",
             b".\n",
         ),
         (Command::Check, b"open r0.1\nclose r0.1\n", b""),
+        (Command::Follow, b"open r0.1\nclose r0.1\n", b""),
     ];
     for (command, text, printed) in rows {
         check_each_cut(&rt, rt.alloc(), command, text, printed);

@@ -10,6 +10,7 @@ use Rattle.reader_word.specs.declared.layout.Layout.TheVariants.{Narrow, Wide}
 use Rattle.world_state.specs.declared.config.Config.{Config}
 use Rattle.world_state.specs.declared.config.Flavour.{Flavour}
 use Rattle.world_state.specs.declared.config.Flavour.TheVariants.{Memb, Qsbr}
+use Rattle.torture_commands.specs.declared.command.Command.{Command}
 use Rattle.torture_commands.specs.declared.command.Command.TheVariants as command
 use Rattle.torture_commands.specs.declared.command.Walk.{Walk}
 use Rattle.live_stress.specs.declared.load.Load.{Load}
@@ -58,6 +59,9 @@ walk_said rows = record {
   stop = option_map (λ actor. record { actor = actor; from = number_or 32 rows (codes "from") 1 }) (number_of 32 rows (codes "stop"));
 }
 
+abbrev pub check_said : List Row → Command
+check_said rows = if flag_of rows (codes "follow") then command.Follow else command.Check
+
 -- where a time alone ends the run, there are as many rounds as can be
 abbrev pub rounds_beside : Option ℕ → ℕ
 rounds_beside None = 1000
@@ -78,7 +82,7 @@ run_said rows = record { flavour = flavour_said (first_of (codes "flavour") rows
 -- the command of that name, with its options
 abbrev pub asked_by_name : Text → List Row → Asked
 asked_by_name name rows =
-    if bytes_eq name (codes "check") then asked.Command command.Check
+    if bytes_eq name (codes "check") then asked.Command (check_said rows)
     else if bytes_eq name (codes "walk") then asked.Command (command.Walk (walk_said rows))
     else if bytes_eq name (codes "run") then asked.Run (run_said rows)
     else asked.Command command.Replay

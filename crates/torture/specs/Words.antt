@@ -31,8 +31,9 @@ flavour_rule names = record (new_rule (codes "flavour")) { long = Some (codes "f
 abbrev pub IsFlavourRule : Rule → Type 0
 IsFlavourRule rule = (flavours : Bor (List (Bor (List ℕ)))) × AreFlavours flavours × (rule ≡ or_else (codes "memb") (flavour_rule flavours))
 
-abbrev pub schedule_rule : Rule
-schedule_rule = record (new_rule (codes "schedule")) { long = Some (codes "schedule"); action = Some SetTrue }
+-- an option that takes no value
+abbrev pub flag_rule : Text → Rule
+flag_rule name = record (new_rule name) { long = Some name; action = Some SetTrue }
 
 -- the options of `walk`: in which world, and how
 abbrev pub with_world : Bor (List (Bor (List ℕ))) → App → App
@@ -50,7 +51,7 @@ with_course app =
     with_rule (with_rule (with_rule (with_rule (with_rule app
     (or_else (codes "1000") (number_rule (codes "lines") 0 1000000)))
     (or_else (codes "1") (number_rule (codes "seed") 0 (2 ^ 64 - 1))))
-    schedule_rule)
+    (flag_rule (codes "schedule")))
     (number_rule (codes "stop") 0 87))
     (or_else (codes "1") (number_rule (codes "from") 1 1000000))
 
@@ -69,6 +70,13 @@ with_load flavours app =
 abbrev pub IsPlain : Text → Command → Type 0
 IsPlain name c = (app_of c ≡ new_app name) × ((fields_of c).has_globals ≡ false)
 
+-- `check`, which may end at the first wrong event
+abbrev pub check_app : App
+check_app = with_rule (new_app (codes "check")) (flag_rule (codes "follow"))
+
+abbrev pub IsCheck : Command → Type 0
+IsCheck c = (app_of c ≡ check_app) × ((fields_of c).has_globals ≡ false)
+
 abbrev pub walk_app : Bor (List (Bor (List ℕ))) → App
 walk_app flavours = with_course (with_world flavours (new_app (codes "walk")))
 
@@ -86,7 +94,7 @@ abbrev pub bare_app : App
 bare_app = let app = new_app (codes "torture") in record app { top = record (app.top) { has_version = true; subcommand_required = true; arg_required_else_help = true } }
 
 abbrev pub torture_app : Bor (List (Bor (List ℕ))) → Bor (List (Bor (List ℕ))) → App
-torture_app of_walk of_run = with_subcommand (with_subcommand (with_subcommand (with_subcommand bare_app ((new_app (codes "replay")).top)) ((new_app (codes "check")).top)) ((walk_app of_walk).top)) ((run_app of_run).top)
+torture_app of_walk of_run = with_subcommand (with_subcommand (with_subcommand (with_subcommand bare_app ((new_app (codes "replay")).top)) (check_app.top)) ((walk_app of_walk).top)) ((run_app of_run).top)
 
 -- what the program is to `clap`
 abbrev pub IsTorture : App → Type 0

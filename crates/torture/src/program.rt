@@ -2,7 +2,7 @@
 
 ghost use Rattle.std.specs.Prelude.{◌≡◌, Some, IfOk, codes, false};
 ghost use Rattle.clap.specs.Words.{app_of, rule_of};
-ghost use Rattle.torture.specs.Words.{IsPlain, IsWalk, IsRun, IsTorture, bare_app, number_rule, IsFlavourRule, AddsWorld, AddsCourse, AddsLoad};
+ghost use Rattle.torture.specs.Words.{IsPlain, IsCheck, IsWalk, IsRun, IsTorture, bare_app, number_rule, flag_rule, IsFlavourRule, AddsWorld, AddsCourse, AddsLoad};
 
 use clap::builder::ValueParser;
 use clap::{Arg, ArgAction, Command as Program};
@@ -59,7 +59,7 @@ Example: printf 'schedule 1 memb 1 1 1 1\\nr0 lock\\nr0 .\\n' | torture replay
 
 Exit status: 0 good, 2 a bad schedule or bad words, 3 a fault of reading, writing or memory.";
 
-const CHECK_USAGE: &str = "torture check < ANSWERS";
+const CHECK_USAGE: &str = "torture check [--follow] < ANSWERS";
 
 const CHECK_ABOUT: &str = "Reads answers and judges the log that they tell";
 
@@ -75,7 +75,9 @@ It writes `yes events=N` where the log, of N events, is a run of read-copy-updat
   D7   a retired record is queued once, and its callback runs once, when no section that it awaits is left
   D8   a grace period or a barrier is over once, when nothing that it awaits is left
 
-Lines without events and end lines are passed over.
+Lines without events and end lines are passed over. The answers are judged as they come, in memory for what is open, linked or awaited, and not for what is past where numbers count up.
+
+The verdict is written at the end: a text that is bad has none, even after a wrong event. With `--follow` the first wrong event ends the command at once, with its verdict and status 1, and what follows it is not looked at. So it can stand beside a program that runs.
 
 Example: torture replay < SCHEDULE | torture check
 
@@ -112,6 +114,10 @@ const SECONDS_HELP: &str = "End after so many seconds at the latest, 1 to 86,400
 
 const FORMAT_HELP: &str = "The version of the schedule: 1 has narrow reader words, 2 wide ones";
 
+const SCHEDULE_HELP: &str = "Write the schedule, in place of what became of it";
+
+const FOLLOW_HELP: &str = "End at the first wrong event, whatever follows it";
+
 const STOP_HELP: &str = "An actor that stops for good: readers from 0, then updaters, then workers";
 
 const FROM_HELP: &str = "The first line that the actor of --stop does not get, 1 to 1,000,000";
@@ -129,6 +135,17 @@ fn number<'a>(alloc: Global, name: &'a str, least: u64, most: u64, help: &'a str
         .long(name)
         .value_name("N")
         .value_parser(ValueParser::unsigned(least, most))
+        .help(help)
+}
+
+/// An option that takes no value.
+fn flag<'a>(alloc: Global, name: &'a str, help: &'a str) -> Arg<'a>
+    ensures rule { rule_of result ≡ flag_rule name.entry.now }
+    ensures own { result.global ≡ false }
+{
+    Arg::new(alloc, name)
+        .long(name)
+        .action(ArgAction::SetTrue)
         .help(help)
 }
 
@@ -162,10 +179,6 @@ fn with_world<'a>(alloc: Global, program: Program<'a>) -> Result<Program<'a>, Al
 fn with_course<'a>(alloc: Global, program: Program<'a>) -> Result<Program<'a>, AllocError>
     ensures { IfOk result (λ c. AddsCourse program.entry c) }
 {
-    let schedule = Arg::new(alloc, "schedule")
-        .long("schedule")
-        .action(ArgAction::SetTrue)
-        .help("Write the schedule, in place of what became of it");
     program
         .arg(number(
             alloc,
@@ -183,7 +196,7 @@ fn with_course<'a>(alloc: Global, program: Program<'a>) -> Result<Program<'a>, A
             "What to draw them by, any number below 2^64",
         )
         .default_value("1"))?
-        .arg(schedule)?
+        .arg(flag(alloc, "schedule", SCHEDULE_HELP))?
         .arg(number(alloc, "stop", 0, 87, STOP_HELP))?
         .arg(number(alloc, "from", 1, 1_000_000, FROM_HELP).default_value("1"))
 }
@@ -211,14 +224,15 @@ fn replay_command<'a>(alloc: Global) -> Program<'a>
         .long_about(REPLAY_HELP)
 }
 
-/// The command `check`.
-fn check_command<'a>(alloc: Global) -> Program<'a>
-    ensures { IsPlain (codes "check") result }
+/// The command `check`, with its option.
+fn check_command<'a>(alloc: Global) -> Result<Program<'a>, AllocError>
+    ensures { IfOk result IsCheck }
 {
-    Program::new(alloc, "check")
+    let check = Program::new(alloc, "check")
         .override_usage(CHECK_USAGE)
         .about(CHECK_ABOUT)
-        .long_about(CHECK_HELP)
+        .long_about(CHECK_HELP);
+    check.arg(flag(alloc, "follow", FOLLOW_HELP))
 }
 
 /// The command `walk`, with its options.
@@ -257,11 +271,12 @@ fn without_commands<'a>(alloc: Global) -> Program<'a>
 pub fn program<'a>(alloc: Global) -> Result<Program<'a>, AllocError>
     ensures { IfOk result (λ c. IsTorture (app_of c)) }
 {
+    let check = check_command(alloc)?;
     let walk = walk_command(alloc)?;
     let run = run_command(alloc)?;
     without_commands(alloc)
         .subcommand(replay_command(alloc))?
-        .subcommand(check_command(alloc))?
+        .subcommand(check)?
         .subcommand(walk)?
         .subcommand(run)
 }

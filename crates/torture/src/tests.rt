@@ -76,9 +76,13 @@ const TIMED: Load = Load {
     ..QUIET
 };
 
-const COMMANDS: [(&[&str], Asked); 8] = [
+const COMMANDS: [(&[&str], Asked); 9] = [
     (&["torture", "replay"], Asked::Command(Command::Replay)),
     (&["torture", "check"], Asked::Command(Command::Check)),
+    (
+        &["torture", "check", "--follow"],
+        Asked::Command(Command::Follow),
+    ),
     (&["torture", "walk"], Asked::Command(Command::Walk(DEFAULT))),
     (
         &["torture", "run"],

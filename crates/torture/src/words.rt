@@ -4,7 +4,7 @@ ghost use Rattle.std.specs.Prelude.{◌≡◌, codes, map, IfOk, IfErr};
 ghost use Rattle.clap.specs.Words.{first_of, found_of, kind_of, rows_of, subcommand_rows_of};
 ghost use Rattle.clap.specs.declared.error.kind.ErrorKind.TheVariants.{ValueValidation};
 ghost use Rattle.torture_run.specs.Limits.{IsAskedWithin};
-ghost use Rattle.torture.specs.Said.{number_of, number_or, flag_of, layout_said, flavour_said, config_said, walk_said, rounds_beside, load_said, run_said, asked_said};
+ghost use Rattle.torture.specs.Said.{number_of, number_or, flag_of, layout_said, flavour_said, check_said, config_said, walk_said, rounds_beside, load_said, run_said, asked_said};
 ghost use Rattle.torture.specs.Words.{status_of_kind, text_of_kind, IsTaken, IsRefused, SayAsked};
 
 use crate::program::program;
@@ -104,11 +104,11 @@ fn seed_of(matches: &ArgMatches) -> u64
     matches.get_one("seed").unwrap_or(1)
 }
 
-/// Whether `--schedule` stands there.
-fn schedule_of(matches: &ArgMatches) -> bool
-    ensures { result ≡ flag_of (rows_of (found_of matches.now)) (codes "schedule") }
+/// Whether an option that takes no value stands there.
+fn flag_of(matches: &ArgMatches, name: &str) -> bool
+    ensures { result ≡ flag_of (rows_of (found_of matches.now)) name.now }
 {
-    matches.get_one("schedule").unwrap_or(false)
+    matches.get_one(name).unwrap_or(false)
 }
 
 /// The walk that the options of `walk` say.
@@ -120,8 +120,19 @@ fn walk_of(matches: &ArgMatches) -> Walk
         config: config_of(matches),
         lines: number_or(matches, "lines", 1000),
         seed: seed_of(matches),
-        schedule: schedule_of(matches),
+        schedule: flag_of(matches, "schedule"),
         stop: number_of(matches, "stop").map(|actor| Stop { actor, from }),
+    }
+}
+
+/// What the options of `check` say.
+fn check_of(matches: &ArgMatches) -> Command
+    ensures { result ≡ check_said (rows_of (found_of matches.now)) }
+{
+    if flag_of(matches, "follow") {
+        Command::Follow
+    } else {
+        Command::Check
     }
 }
 
@@ -164,7 +175,7 @@ fn asked_of(matches: &ArgMatches) -> Asked
     ensures { result ≡ asked_said (subcommand_rows_of matches.now) }
 {
     match matches.subcommand() {
-        Some(("check", _)) => Asked::Command(Command::Check),
+        Some(("check", options)) => Asked::Command(check_of(options)),
         Some(("walk", options)) => Asked::Command(Command::Walk(walk_of(options))),
         Some(("run", options)) => Asked::Run(run_of(options)),
         _ => Asked::Command(Command::Replay),

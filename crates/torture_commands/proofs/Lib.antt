@@ -1,2 +1,3 @@
+pub mod Judgings
 pub mod Verdicts
 pub mod Courses

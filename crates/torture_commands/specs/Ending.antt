@@ -8,7 +8,7 @@ use Rattle.schedule.specs.Ports.{Replays}
 use Rattle.torture_commands.specs.declared.command.Command.{Command}
 use Rattle.torture_commands.specs.declared.command.Command.TheVariants as command
 use Rattle.torture_commands.specs.declared.command.Walk.{Walk}
-use Rattle.torture_commands.specs.Checking.{Checks}
+use Rattle.torture_commands.specs.Checking.{Checks, ChecksAlong}
 use Rattle.torture_commands.specs.Walking.{Walks, Schedules}
 
 abbrev pub status_of_fault : ReplayFault → ℕ
@@ -42,4 +42,5 @@ ExecutesWalk false walk before after status = EndsAs status_of_verdict (Walks wa
 abbrev pub Executes : Command → Option (List ℕ) → Option (List ℕ) → Option (List ℕ) → Option (List ℕ) → ℕ → Type 0
 Executes command.Replay given left before after status = EndsAs (λ _. 0) (Replays given left before after) status
 Executes command.Check given left before after status = EndsAs status_of_verdict (Checks given left before after) status
+Executes command.Follow given left before after status = EndsAs status_of_verdict (ChecksAlong given left before after) status
 Executes (command.Walk walk) given left before after status = ExecutesWalk walk.schedule walk before after status

@@ -4,7 +4,7 @@ use Rattle.std.specs.Option.{option_map_or}
 use Rattle.world_state.specs.declared.config.Config.{Config}
 use Rattle.world_state.specs.Limits.{is_in, is_within_limits}
 use Rattle.torture_commands.specs.declared.command.Command.{Command}
-use Rattle.torture_commands.specs.declared.command.Command.TheVariants.{Replay, Check, Walk as WalkOf}
+use Rattle.torture_commands.specs.declared.command.Command.TheVariants.{Replay, Check, Follow, Walk as WalkOf}
 use Rattle.torture_commands.specs.declared.command.Walk.{Walk}
 use Rattle.torture_commands.specs.declared.command.Stop.{Stop}
 
@@ -18,6 +18,7 @@ is_walk_within walk = is_within_limits walk.config && nat_le walk.lines 1000000 
 abbrev pub is_within : Command → Bool
 is_within Replay = true
 is_within Check = true
+is_within Follow = true
 is_within (WalkOf walk) = is_walk_within walk
 
 abbrev pub IsWithin : Command → Type 0

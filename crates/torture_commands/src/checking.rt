@@ -1,30 +1,19 @@
 //! Logs of answers, judged.
 
-ghost use Rattle.std.specs.Prelude.{◌≡◌, ◌↔◌, Some, IfOk, IfErr};
+ghost use Rattle.std.specs.Prelude.{◌≡◌, ◌↔◌, ℕ, List, Some, IfOk, IfErr};
 ghost use Rattle.rcu_model.specs.declared.verdict.Verdict.TheVariants.{Yes};
 ghost use Rattle.rcu_model.specs.Machine.{IsRun};
 ghost use Rattle.rcu_model.specs.Verdict.{Judges};
 ghost use Rattle.schedule.specs.declared.fault.ReplayFault.TheVariants.{Memory};
-ghost use Rattle.schedule.specs.AnswerLines.{TellsLog};
-ghost use Rattle.torture_commands.specs.Checking.{verdict_line, TellsNoLog, Checks};
+ghost use Rattle.torture_commands.specs.Judging.{HasJudged};
+ghost use Rattle.torture_commands.specs.Checking.{verdict_line, Prints, Closes, Checks, ChecksAlong};
 
+use crate::judging::Judging;
 use rcu_model::{Event, LogFault, Verdict, check_log};
-use schedule::{AnswersFault, ReplayFault, read_answers, read_whole, write_whole};
+use schedule::{PIECE, ReplayFault, write_whole};
 use std::alloc::Global;
 use std::fmt;
 use std::io::{Read, Write};
-
-/// The log that the text tells. `BadText` and `Memory`.
-fn read_log(alloc: Global, text: &[u8]) -> Result<Vec<Event>, ReplayFault>
-    ensures told { IfOk result (λ log. TellsLog text.now log.items) }
-    ensures fault { IfErr result (λ fault. TellsNoLog text.now fault) }
-{
-    match read_answers(alloc, text) {
-        Ok(log) => Ok(log),
-        Err(AnswersFault::BadText { line, column }) => Err(ReplayFault::BadText { line, column }),
-        Err(AnswersFault::Memory) => Err(ReplayFault::Memory),
-    }
-}
 
 /// What the log is. `Memory`.
 pub fn judge(alloc: Global, log: &[Event]) -> Result<Verdict, ReplayFault>
@@ -56,9 +45,31 @@ impl fmt::Display for VerdictLine {
     }
 }
 
-/// Reads lines of answers to their end, judges the log that they tell, and writes one line: whether it is a run of the
-/// abstract machine, or else the first event that breaks its rule. `BadText`, `Read` and `Memory` write nothing, and
-/// `Write` a beginning of that line.
+/// Writes the line of a verdict. `Memory` writes nothing, and `Write` a beginning of that line.
+fn tell<W: Write>(
+    alloc: Global,
+    verdict: Verdict,
+    events: usize,
+    writer: &mut W,
+) -> Result<Verdict, ReplayFault>
+    ensures { Prints verdict events (W.contents writer.old) (W.contents writer.new) result }
+{
+    let line = VerdictLine { verdict, events }.to_string(alloc)?;
+    write_whole(writer, line.as_bytes())?;
+    Ok(verdict)
+}
+
+/// Ends the input, and writes the line of the verdict.
+fn close<W: Write>(alloc: Global, judging: &Judging, writer: &mut W) -> Result<Verdict, ReplayFault>
+    ensures { (fed : List ℕ) (judged : HasJudged judging.now fed) → Closes fed judged.log (W.contents writer.old) (W.contents writer.new) result }
+{
+    let (verdict, events) = judging.finish()?;
+    tell(alloc, verdict, events, writer)
+}
+
+/// Reads lines of answers to their end in pieces, judges the log that they tell as they come, and writes one line: whether
+/// it is a run of the abstract machine, or else the first event that breaks its rule. `BadText`, `Read` and `Memory` write
+/// nothing, and `Write` a beginning of that line. Nothing is read after a fault.
 pub fn check<R: Read, W: Write>(
     alloc: Global,
     reader: &mut R,
@@ -66,11 +77,43 @@ pub fn check<R: Read, W: Write>(
 ) -> Result<Verdict, ReplayFault>
     ensures { Checks (R.remaining reader.old) (R.remaining reader.new) (W.contents writer.old) (W.contents writer.new) result }
 {
-    let text = read_whole(alloc, reader)?;
-    let log = read_log(alloc, &text)?;
-    let verdict = judge(alloc, &log)?;
-    let events = log.len();
-    let line = VerdictLine { verdict, events }.to_string(alloc)?;
-    write_whole(writer, line.as_bytes())?;
-    Ok(verdict)
+    let mut judging = Judging::new(alloc);
+    let mut buffer = [0u8; PIECE];
+    // The language wants a bound for each loop. No input has so many pieces.
+    for _ in 0..u64::MAX {
+        match reader.read(&mut buffer) {
+            Ok(0) => return close(alloc, &judging, writer),
+            Ok(len) => judging.feed(&buffer[..len])?,
+            Err(_) => return Err(ReplayFault::Read),
+        }
+    }
+    Err(ReplayFault::Read)
+}
+
+/// Reads lines of answers as `check` does, up to the first wrong event: its verdict is written at once, and nothing more is
+/// read. So what follows that event in its piece, and after it, is not looked at. A text with no wrong event has the
+/// answers that it has of `check`.
+pub fn follow<R: Read, W: Write>(
+    alloc: Global,
+    reader: &mut R,
+    writer: &mut W,
+) -> Result<Verdict, ReplayFault>
+    ensures { ChecksAlong (R.remaining reader.old) (R.remaining reader.new) (W.contents writer.old) (W.contents writer.new) result }
+{
+    let mut judging = Judging::new(alloc);
+    let mut buffer = [0u8; PIECE];
+    // The language wants a bound for each loop. No input has so many pieces.
+    for _ in 0..u64::MAX {
+        match reader.read(&mut buffer) {
+            Ok(0) => return close(alloc, &judging, writer),
+            Ok(len) => {
+                let verdict = judging.follow(&buffer[..len])?;
+                if let Verdict::No { .. } = verdict {
+                    return tell(alloc, verdict, 0, writer);
+                }
+            }
+            Err(_) => return Err(ReplayFault::Read),
+        }
+    }
+    Err(ReplayFault::Read)
 }

@@ -15,6 +15,8 @@ pub enum Command {
     Replay,
     /// Judges the log that answers tell.
     Check,
+    /// Judges the log that answers tell, up to the first wrong event.
+    Follow,
     /// Draws a schedule, steps it and judges its log.
     Walk(Walk),
 }
@@ -88,7 +90,7 @@ impl Command {
         ensures { result ≡ is_within self.now }
     {
         match self {
-            Command::Replay | Command::Check => true,
+            Command::Replay | Command::Check | Command::Follow => true,
             Command::Walk(walk) => walk.is_within_limits(),
         }
     }

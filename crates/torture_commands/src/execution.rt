@@ -4,7 +4,7 @@ ghost use Rattle.std.specs.Prelude.{◌≡◌, ◌⊎◌};
 ghost use Rattle.torture_commands.specs.Limits.{IsWithin};
 ghost use Rattle.torture_commands.specs.Ending.{status_of_fault, status_of_verdict, ended_with, Executes};
 
-use crate::checking::check;
+use crate::checking::{check, follow};
 use crate::command::Command;
 use crate::walking::{print_schedule, walk};
 use rcu_model::Verdict;
@@ -63,6 +63,7 @@ pub fn execute<R: Read, W: Write, F: Write>(
     let ended = match command {
         Command::Replay => replay(alloc, reader, writer).map(|_| 0),
         Command::Check => check(alloc, reader, writer).map(status_of_verdict),
+        Command::Follow => follow(alloc, reader, writer).map(status_of_verdict),
         Command::Walk(asked) if asked.schedule => {
             print_schedule(alloc, &asked, writer).map(|()| 0)
         }

@@ -1,36 +1,42 @@
-use Rattle.std.proofs.Common.{◌<◌, length, rules}
-use Rattle.schedule.specs.AnswerLines.{AnswerLineText}
-use Rattle.schedule.specs.AnswerGrammar.{answer_line_at}
-use Rattle.schedule.proofs.Bytes.{some_read}
-use Rattle.schedule.proofs.Columns.{bad_within}
-use Rattle.schedule.proofs.AnswerTexts.{answer_reads, no_answer}
-use Rattle.schedule.proofs.AnswerLogs.{none_read, read_more, read_all, breaks_off, tells_once, broken_tells_none}
+use Rattle.std.proofs.Common.{◌<◌, List, [], length, sym, subst, rules}
+use Rattle.std.proofs.lemmas.Result.{err_from_is_err_and}
+use Rattle.rcu_model.specs.declared.event.Event.{Event}
+use Rattle.schedule.specs.AnswerPieces.{ReadSoFar}
+use Rattle.schedule.proofs.AnswerLogs.{none_read, read_all, tells_once, broken_tells_none}
+use Rattle.schedule.proofs.AnswerPieces.{ends, no_answers, only_memory}
 use Rattle.schedule.proofs.answer_reading.read_answers.Goals as goal
 
-pub loop-rest-init : goal.loop-rest-init
-loop-rest-init c = rw c.new-log.ensures.items (none_read c.args.text.now)
+pub returns-in_err-rest-clause-fault : goal.returns-in_err-rest-clause-fault
+returns-in_err-rest-clause-fault c =
+    let text = c.args.text.now in
+    let start = subst (λ (es : List Event). ReadSoFar text text es 1) (sym c.new-log.ensures.items) (none_read text) in
+    let p = err_from_is_err_and c.from_residual.result c.from_residual.ensures.1 in
+    rw (p.1, p.2) (no_answers text c.front_answers.new.log.items c.front_answers.new.line c.in_err-rest.field-0.0 (c.in_err-rest.ensures text [] start))
 
-pub loop-rest-smaller : goal.loop-rest-smaller
-loop-rest-smaller c = some_read AnswerLineText answer_line_at answer_reads no_answer c.loop-rest.rest.now c.in-Ok.answer c.in-Ok.after.now c.in-Ok.ensures
+pub returns-in_err-rest-clause-only : goal.returns-in_err-rest-clause-only
+returns-in_err-rest-clause-only c = λ log t.
+    let text = c.args.text.now in
+    let start = subst (λ (es : List Event). ReadSoFar text text es 1) (sym c.new-log.ensures.items) (none_read text) in
+    let p = err_from_is_err_and c.from_residual.result c.from_residual.ensures.1 in
+    rw (p.1, p.2) (tt, only_memory text c.front_answers.new.log.items c.front_answers.new.line c.in_err-rest.field-0.0 (c.in_err-rest.ensures text [] start) log t)
 
-pub loop-rest-preserved : goal.loop-rest-preserved
-loop-rest-preserved c =
-    rw c.in_ok-note-in-Ok.ensures.noted
-    (read_more c.args.text.now c.loop-rest.rest.now c.in-Ok.after.now c.loop-rest.log.items c.loop-rest.line c.saturating_add-line.result c.in-Ok.answer c.loop-rest.invariant c.in-Ok.ensures c.saturating_add-line.ensures)
+pub returns-then-not-is_empty-clause-fault : goal.returns-then-not-is_empty-clause-fault
+returns-then-not-is_empty-clause-fault c =
+    let text = c.args.text.now in
+    let start = subst (λ (es : List Event). ReadSoFar text text es 1) (sym c.new-log.ensures.items) (none_read text) in
+    let on = c.in_ok-rest.ensures text [] start in
+    let some : 0 < length c.in_ok-rest.rest.now = search rules in
+    ends text c.in_ok-rest.rest.now c.front_answers.new.log.items c.front_answers.new.line on.0 on.1 some
 
-pub column_of-column-requires : goal.column_of-column-requires
-column_of-column-requires c = bad_within AnswerLineText answer_line_at answer_reads c.loop-rest.rest.now c.in-Err.bad.now c.in-Err.ensures
-
-pub returns-in-Err-clause-fault : goal.returns-in-Err-clause-fault
-returns-in-Err-clause-fault c =
-    let some : 0 < length c.loop-rest.rest.now = search rules in
-    breaks_off c.args.text.now c.loop-rest.rest.now c.in-Err.bad.now c.loop-rest.log.items c.loop-rest.line c.column_of-column.result c.loop-rest.invariant some c.in-Err.ensures c.column_of-column.ensures
-
-pub returns-in-Err-clause-only : goal.returns-in-Err-clause-only
-returns-in-Err-clause-only c = λ log t. absurd (broken_tells_none c.args.text.now c.loop-rest.line c.column_of-column.result log (returns-in-Err-clause-fault c) t)
+pub returns-then-not-is_empty-clause-only : goal.returns-then-not-is_empty-clause-only
+returns-then-not-is_empty-clause-only c = λ log t. absurd (broken_tells_none c.args.text.now c.front_answers.new.line _ log (returns-then-not-is_empty-clause-fault c) t)
 
 pub returns-clause-found : goal.returns-clause-found
-returns-clause-found c = read_all c.args.text.now c.loop-rest.log.items c.loop-rest.line c.loop-rest.rest.now c.loop-rest.invariant (search rules)
+returns-clause-found c =
+    let text = c.args.text.now in
+    let start = subst (λ (es : List Event). ReadSoFar text text es 1) (sym c.new-log.ensures.items) (none_read text) in
+    let on = c.in_ok-rest.ensures text [] start in
+    read_all text c.front_answers.new.log.items c.front_answers.new.line c.in_ok-rest.rest.now on.0 (search rules)
 
 pub returns-clause-only : goal.returns-clause-only
-returns-clause-only c = λ log t. (tells_once c.args.text.now c.loop-rest.log.items log (returns-clause-found c) t, tt)
+returns-clause-only c = λ log t. (tells_once c.args.text.now c.front_answers.new.log.items log (returns-clause-found c) t, tt)

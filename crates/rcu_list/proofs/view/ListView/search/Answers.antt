@@ -1,5 +1,5 @@
 use Rattle.std.proofs.Common.{◌≡◌, sym, ap, ◌∙◌, subst, arith}
-use Rattle.live_log.specs.Keys.{keyed, rank_of}
+use Rattle.live_log.specs.Keys.{rank_of}
 use Rattle.live_log.specs.Log.{note_of}
 use Rattle.live_read.specs.Holding.{log_of}
 use Rattle.live_read.proofs.Lemmas.{looks_twice}
@@ -13,41 +13,41 @@ read_word-most-requires-clause-held g c = let f = c.requires.first in record { o
 pub loop-passed-init : goal.loop-passed-init
 loop-passed-init g c =
     let f = c.requires.first in let start = c.args.section.now.reader.now in let mid = c.value_at.new.section.reader.now in let now = c.read_word-most.new.self.reader.now in let e = c.in_default.ensures in let m = c.read_word-most.ensures in
-    let looked = looks_twice g.P.GracePlan.QSBR keyed start mid now e.looked m.looked in
+    let looked = looks_twice g.P.GracePlan.QSBR g.K.ChainRule.allows start mid now e.looked m.looked in
     let held = e.looked.keeps.held f.0 c.args.first.cell f.2 in
     record {
       reader = m.reader ∙ e.reader;
       object = f.0;
-      stands = stands_first g.P.GracePlan.QSBR c.args.self.chain c.args.key start now f.0 c.args.first.cell looked f.1 f.2 (e.none f.0 f.2);
+      stands = stands_first g.P.GracePlan.QSBR g.K.ChainRule.allows c.args.self.chain c.args.key start (g.met.K.MapRule.maps g.P.GracePlan.QSBR) now f.0 c.args.first.cell looked f.1 f.2 (e.none f.0 f.2);
       low = let most : c.read_word-most.result ≡ rank_of (note_of (log_of mid) f.0) = m.word f.0 held in
           let same : rank_of (note_of (log_of now) f.0) ≡ rank_of (note_of (log_of mid) f.0) = ap rank_of (m.looked.keeps.notes f.0 c.args.first.cell held) in omega arith;
     }
 
 pub returns-in_err-held-clause-looked : goal.returns-in_err-held-clause-looked
-returns-in_err-held-clause-looked g c = looks_twice g.P.GracePlan.QSBR keyed c.args.section.now.reader.now c.loop-passed.section.reader.now c.next.new.self.reader.now c.loop-passed.invariant.stands.looked c.next.ensures.looked
+returns-in_err-held-clause-looked g c = looks_twice g.P.GracePlan.QSBR g.K.ChainRule.allows c.args.section.now.reader.now c.loop-passed.section.reader.now c.next.new.self.reader.now c.loop-passed.invariant.stands.looked c.next.ensures.looked
 
 pub returns-in_err-held-clause-window : goal.returns-in_err-held-clause-window
 returns-in_err-held-clause-window g c =
     let i = c.loop-passed.invariant in let start = c.args.section.now.reader.now in let now = c.next.new.self.reader.now in
     subst (AnswersBetween (log_of start) (log_of start) (log_of now) c.args.self.chain c.args.key) (sym c.from_residual.ensures)
-    (answers_none g.P.GracePlan.QSBR c.args.self.chain c.args.key start c.loop-passed.section.reader.now now i.object c.loop-passed.held.cell i.stands c.next.ensures.looked (c.in_err-held.ensures.none i.object i.stands.holds))
+    (answers_none g.P.GracePlan.QSBR g.K.ChainRule.allows c.args.self.chain c.args.key start (g.met.K.MapRule.maps g.P.GracePlan.QSBR) c.loop-passed.section.reader.now now i.object c.loop-passed.held.cell i.stands c.next.ensures.looked (c.in_err-held.ensures.none i.object i.stands.holds))
 
 pub returns-in-Some-value_at-clause-looked : goal.returns-in-Some-value_at-clause-looked
 returns-in-Some-value_at-clause-looked g c =
     let start = c.args.section.now.reader.now in let mid = c.next.new.self.reader.now in
-    looks_twice g.P.GracePlan.QSBR keyed start mid c.value_at-in-loop-passed.new.section.reader.now
-    (looks_twice g.P.GracePlan.QSBR keyed start c.loop-passed.section.reader.now mid c.loop-passed.invariant.stands.looked c.next.ensures.looked) c.value_at-in-loop-passed.ensures.looked
+    looks_twice g.P.GracePlan.QSBR g.K.ChainRule.allows start mid c.value_at-in-loop-passed.new.section.reader.now
+    (looks_twice g.P.GracePlan.QSBR g.K.ChainRule.allows start c.loop-passed.section.reader.now mid c.loop-passed.invariant.stands.looked c.next.ensures.looked) c.value_at-in-loop-passed.ensures.looked
 
 pub returns-in-Some-value_at-clause-window : goal.returns-in-Some-value_at-clause-window
 returns-in-Some-value_at-clause-window g c =
     let i = c.loop-passed.invariant in let e = c.in-Some-value_at.ensures in let n = c.in_ok-held.ensures.some i.object i.stands.holds in let is = e.some n.0 n.2 in
-    answers_next g.P.GracePlan.QSBR c.args.self.chain c.args.key c.args.section.now.reader.now c.loop-passed.section.reader.now c.next.new.self.reader.now i.object c.loop-passed.held.cell i.stands c.next.ensures.looked n.0 n.1
+    answers_next g.P.GracePlan.QSBR g.K.ChainRule.allows c.args.self.chain c.args.key c.args.section.now.reader.now (g.met.K.MapRule.maps g.P.GracePlan.QSBR) c.loop-passed.section.reader.now c.next.new.self.reader.now i.object c.loop-passed.held.cell i.stands c.next.ensures.looked n.0 n.1
     c.value_at-in-loop-passed.new.section.reader.now c.in-Some-value_at.value e.looked is.0 is.1
 
 pub loop-passed-preserved : goal.loop-passed-preserved
 loop-passed-preserved g c =
     let i = c.loop-passed.invariant in let e = c.in_default-value_at.ensures in let n = c.in_ok-held.ensures.some i.object i.stands.holds in
-    let next = stands_next g.P.GracePlan.QSBR c.args.self.chain c.args.key c.args.section.now.reader.now c.loop-passed.section.reader.now c.next.new.self.reader.now i.object c.loop-passed.held.cell i.stands c.next.ensures.looked n.0 n.1
+    let next = stands_next g.P.GracePlan.QSBR g.K.ChainRule.allows c.args.self.chain c.args.key c.args.section.now.reader.now (g.met.K.MapRule.maps g.P.GracePlan.QSBR) c.loop-passed.section.reader.now c.next.new.self.reader.now i.object c.loop-passed.held.cell i.stands c.next.ensures.looked n.0 n.1
     c.value_at-in-loop-passed.new.section.reader.now c.in_ok-held.held.cell n.2 e.looked (e.none n.0 n.2) in
     record {
       reader = e.reader ∙ (c.next.ensures.reader ∙ i.reader);

@@ -10,4 +10,4 @@ pub returns-clause-head : goal.returns-clause-head
 returns-clause-head c = head_is c
 
 pub returns-clause-first : goal.returns-clause-first
-returns-clause-first c now moments tickets k = head_is c ∙ k.firsts c.args.chain
+returns-clause-first c now moments tickets k = head_is c ∙ k.shows.firsts c.args.chain

@@ -1,22 +1,27 @@
-use Rattle.std.proofs.Common.{◌≡◌, Some, None, sym, ◌∙◌}
+use Rattle.std.proofs.Common.{Some, None, sym, true≢false, subst, ◌∙◌}
 use Rattle.rcu_model.specs.declared.event.Event.TheVariants.{Push}
 use Rattle.rcu_model.specs.declared.object.Splice.{Splice}
 use Rattle.rcu_model.specs.Machine.{after}
+use Rattle.rcu_model.specs.Sets.{HasObject}
 use Rattle.rcu_model.specs.Objects.{heads_of, states_of, spliced_heads, spliced_states}
-use Rattle.rcu_model.proofs.ObjectsStores.{kept_reached, refused, done, not_there, unused, shows_at, shows_pushed}
+use Rattle.rcu_model.proofs.Follows.{some_is}
+use Rattle.rcu_model.proofs.ObjectsStores.{kept_reached, refused, done, shows_pushed}
+use Rattle.rcu_model.proofs.ObjectsKept.{new_is, kept_spliced, knows_at}
 use Rattle.rcu_model.proofs.objects.Objects.push.Goals as goal
 
 pub returns-then-is_used-clause-done : goal.returns-then-is_used-clause-done
-returns-then-is_used-clause-done c now moments tickets reached k = refused (λ new. new (sym (k.known c.args.object) ∙ sym c.if-is_used.ensures))
+returns-then-is_used-clause-done c now moments tickets reached k = refused (λ new. new ((c.is_used.ensures now moments tickets k).0 c.if-is_used.true))
 
 pub returns-clause-done : goal.returns-clause-done
 returns-clause-done c now moments tickets reached k =
-    let head = heads_of c.args.self.now.heads in
-    let state = states_of c.args.self.now.known in
+    let old = c.args.self.now in
+    let o = c.args.object in
     let kept = kept_reached now reached in
-    let new : state c.args.object ≡ None = not_there (state c.args.object) (sym c.if-is_used.ensures) in
-    let s : Splice = record { chain = c.args.chain; before = None; after = c.first-after.result; leaves = None; enters = Some c.args.object } in
-    done (unused head state now moments tickets kept k c.args.object new)
-    (shows_at (spliced_heads head s) (heads_of c.splice.new.self.heads) (spliced_states state s) (states_of c.splice.new.self.known) (after now (Push c.args.chain c.args.object)) moments tickets
-    c.in_ok-splice.ensures.heads c.in_ok-splice.ensures.states
-    (shows_pushed head state now moments tickets kept k c.args.chain c.args.object c.first-after.result c.first-after.ensures.head new))
+    let unused : ¬ HasObject now.used o = λ u. true≢false (sym ((c.is_used.ensures now moments tickets k).1 u) ∙ c.if-is_used.false) in
+    let new = new_is old now moments tickets k o unused in
+    let s : Splice = record { chain = c.args.chain; before = None; after = c.first-after.result; leaves = None; enters = Some o } in
+    done unused
+    (knows_at c.splice.new.self (after now (Push c.args.chain o)) moments tickets (spliced_heads (heads_of old.heads) s) (spliced_states k.state s) (spliced_states (states_of old.known) s) old.reclaimed
+    c.in_ok-splice.ensures.heads c.in_ok-splice.ensures.states c.splice.ensures.rest
+    (kept_spliced now.reclaimed k.state (states_of old.known) s (λ p e. subst (λ q. ¬ HasObject now.reclaimed q) (some_is o p e) new.1) k.kept) k.past
+    (shows_pushed (heads_of old.heads) k.state now moments tickets kept k.shows c.args.chain o c.first-after.result c.first-after.ensures.head new.0))

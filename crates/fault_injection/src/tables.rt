@@ -1,0 +1,160 @@
+//! Hash tables, whose making and whose calls that retire may be refused memory: then chains, map and pool are as they
+//! were, and the callback comes back.
+
+ghost use Rattle.std.specs.Prelude.{◌≡◌};
+
+use crate::domains::open;
+use crate::ledger::{Call, Finding, Ledger};
+use crate::retiring::Says;
+use domain::{Domain, Opened, Record, Site, Ticket};
+use gp_memb::{GracePlan, MembPlan};
+use gp_qsbr::QsbrPlan;
+use live_words::Tabled;
+use rcu_hash::RcuHash;
+use rcu_model::Refusal;
+use std::alloc::Global;
+use std::marker::Brand;
+use std::sync::Wait;
+
+/// A table of three buckets, made again where memory was refused: its chains are free then.
+fn tabled<'d, P: GracePlan + Drop, B: Site>(
+    alloc: Global,
+    domain: &'d Domain<P, Tabled, B, Says>,
+    record: &mut Record<B>,
+    ledger: &mut Ledger,
+) -> Result<RcuHash<'d, P, Tabled, B, Says>, Finding> {
+    let before = domain.counts(record);
+    match RcuHash::new(alloc, domain, record, 0, 3) {
+        Ok(table) => Ok(table),
+        Err(Refusal::Memory) => {
+            ledger.note(Call::NewTable);
+            if domain.counts(record) != before {
+                return Err(Finding::Changed(Call::NewTable));
+            }
+            RcuHash::new(alloc, domain, record, 0, 3).map_err(|_| Finding::RefusedAgain(
+                Call::NewTable,
+            ))
+        }
+        Err(_) => Err(Finding::Wrong(Call::NewTable)),
+    }
+}
+
+/// The ticket of a value that is replaced, again where memory was refused.
+fn replace<P: GracePlan + Drop, B: Site, R: Wait>(
+    rt: &R,
+    domain: &Domain<P, Tabled, B, Says>,
+    table: &RcuHash<'_, P, Tabled, B, Says>,
+    record: &mut Record<B>,
+    ledger: &mut Ledger,
+) -> Result<Ticket, Finding> {
+    let before = domain.counts(record);
+    match table.replace(rt, record, 7, 71, Says(1)) {
+        Ok(ticket) => Ok(ticket),
+        Err((Refusal::Memory, callback)) => {
+            ledger.note(Call::TableReplace);
+            if domain.counts(record) != before {
+                return Err(Finding::Changed(Call::TableReplace));
+            }
+            table
+                .replace(rt, record, 7, 71, callback)
+                .map_err(|_| Finding::RefusedAgain(Call::TableReplace))
+        }
+        Err(_) => Err(Finding::Wrong(Call::TableReplace)),
+    }
+}
+
+/// The ticket of a key that is removed, again where memory was refused.
+fn remove<P: GracePlan + Drop, B: Site, R: Wait>(
+    rt: &R,
+    domain: &Domain<P, Tabled, B, Says>,
+    table: &RcuHash<'_, P, Tabled, B, Says>,
+    record: &mut Record<B>,
+    ledger: &mut Ledger,
+) -> Result<Ticket, Finding> {
+    let before = domain.counts(record);
+    match table.remove(rt, record, 8, Says(2)) {
+        Ok(ticket) => Ok(ticket),
+        Err((Refusal::Memory, callback)) => {
+            ledger.note(Call::TableRemove);
+            if domain.counts(record) != before {
+                return Err(Finding::Changed(Call::TableRemove));
+            }
+            table
+                .remove(rt, record, 8, callback)
+                .map_err(|_| Finding::RefusedAgain(Call::TableRemove))
+        }
+        Err(_) => Err(Finding::Wrong(Call::TableRemove)),
+    }
+}
+
+/// The value that a table has for a key, as a new reader looks it up.
+fn look<P: GracePlan + Drop, B: Site, R: Wait>(
+    rt: &R,
+    domain: &Domain<P, Tabled, B, Says>,
+    table: &RcuHash<'_, P, Tabled, B, Says>,
+    record: &mut Record<B>,
+    key: u64,
+) -> Result<Option<u64>, Refusal>
+    requires { P.QSBR ≡ B.qsbr }
+{
+    let mut reader = domain.register(rt, record)?;
+    if P::QSBR {
+        reader.online()?;
+    }
+    let mut section = reader.section()?;
+    Ok(table.get(&mut section, key))
+}
+
+/// Names a domain. Whether a replaced value and a removed key have the first tickets of their queues, and a lookup finds
+/// what was replaced; `None` where naming was refused memory.
+fn name<P: GracePlan + Drop, B: Site, R: Wait>(
+    rt: &R,
+    alloc: Global,
+    opened: Opened<P, Tabled>,
+    ledger: &mut Ledger,
+) -> Result<Option<bool>, Finding>
+    requires { (P.QSBR ≡ B.qsbr) × (opened.table.words.shared.table_id ≡ B.table) × (opened.table.words.shared.key ≡ B.sizes) }
+{
+    let (domain, mut record) = match opened.named::<B, Says>(alloc) {
+        Ok(named) => named,
+        Err(Refusal::Memory) => return Ok(None),
+        Err(_) => return Err(Finding::Wrong(Call::NameDomain)),
+    };
+    let table = tabled(alloc, &domain, &mut record, ledger)?;
+    let wrong = Finding::Wrong(Call::NewTable);
+    table
+        .insert(rt, &mut record, 7, 70)
+        .map_err(|_| wrong)?;
+    table
+        .insert(rt, &mut record, 8, 80)
+        .map_err(|_| wrong)?;
+    let replaced = replace(rt, &domain, &table, &mut record, ledger)?;
+    let removed = remove(rt, &domain, &table, &mut record, ledger)?;
+    let found = look(rt, &domain, &table, &mut record, 7);
+    Ok(Some(replaced.0 == 1 && removed.0 == 1 && matches!(found, Ok(Some(71)))))
+}
+
+/// Makes a domain, again where memory was refused. Whether its table serves.
+fn make<P: GracePlan + Drop, R: Wait>(
+    rt: &R,
+    alloc: Global,
+    ledger: &mut Ledger,
+) -> Result<bool, Finding> {
+    let first = open::<P, Tabled>(alloc, ledger)?;
+    if let Some(good) = name::<P, Brand, R>(rt, alloc, first, ledger)? {
+        return Ok(good);
+    }
+    ledger.note(Call::NameDomain);
+    let second = open::<P, Tabled>(alloc, ledger)?;
+    let again = name::<P, Brand, R>(rt, alloc, second, ledger)?;
+    again.ok_or(Finding::RefusedAgain(Call::NameDomain))
+}
+
+/// Makes a table in each flavour, and replaces and removes a key.
+pub fn make_tables<R: Wait>(rt: &R, alloc: Global, ledger: &mut Ledger) -> Result<u64, Finding> {
+    if make::<MembPlan, R>(rt, alloc, ledger)? && make::<QsbrPlan, R>(rt, alloc, ledger)? {
+        Ok(2)
+    } else {
+        Err(Finding::Wrong(Call::NewTable))
+    }
+}

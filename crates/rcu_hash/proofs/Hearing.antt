@@ -1,0 +1,101 @@
+-- What a call of a bucket's list tells once its writer has heard the caller.
+use Rattle.std.proofs.Common.{Bool, ◌≡◌, ℕ, ◌%◌, List, [], ◌∷◌, ◌++◌, None, IsSome, refl, sym, ap, ◌∙◌, subst, inl, inr}
+use Rattle.rcu_model.specs.declared.refusal.Refusal.{Refusal}
+use Rattle.live_log.specs.declared.event.LiveEvent.{LiveEvent}
+use Rattle.live_log.specs.Log.{Log, Begins}
+use Rattle.live_log.proofs.Lemmas.{begins_trans}
+use Rattle.live_rule.specs.declared.view.Sizes.{Sizes}
+use Rattle.live_rule.specs.Places.{cell_at, closed_at}
+use Rattle.live_read.specs.Hearing.{IsAfter, OnlyHears}
+use Rattle.live_read.specs.declared.witness.Witness.{Ghosts}
+use Rattle.live_reclaim.specs.Refusing.{RefusesRetirement}
+use Rattle.rcu_list.specs.Maps.{HasLastRank, map_of}
+use Rattle.rcu_list.specs.Refusing as list
+use Rattle.rcu_list.specs.Refusing.{FindsNoRecord, GivesBack}
+use Rattle.rcu_list.proofs.Lemmas.{stays_both}
+use Rattle.rcu_hash.specs.Refusing.{During, RefusesInsertion, RefusesRemoval, RefusesReplacement}
+use Rattle.rcu_hash.specs.Tables.{bucket_of}
+
+-- a log after one that comes after all that was known
+pub after_both : (qsbr : Bool) (allows : Log → LiveEvent → Type 0) (seen heard seen' middle log : Log) → seen' ≡ seen → IsAfter qsbr allows seen heard middle → IsAfter qsbr allows seen' middle log → IsAfter qsbr allows seen heard log
+after_both qsbr allows seen heard seen' middle log is a b = record {
+  after_seen = subst (λ (l : Log). Begins l log) is b.after_seen;
+  after_heard = begins_trans heard middle log a.after_heard b.after_heard;
+  run = b.run;
+}
+
+-- the caller before the call, once the list's writer heard it, and at the end
+module _ {W : Type 0} (w : Ghosts W) (qsbr : Bool) (allows : Log → LiveEvent → Type 0) (sizes : Sizes) (w0 w1 w2 : W) (hears : OnlyHears w w0 w1) (after : IsAfter qsbr allows (w.seen w0) (w.heard w0) (w.heard w1)) where
+  later : (log : Log) → IsAfter qsbr allows (w.seen w1) (w.heard w1) log → IsAfter qsbr allows (w.seen w0) (w.heard w0) log
+  later log a = record {
+    after_seen = subst (λ (l : Log). Begins l log) hears.0.0.0 a.after_seen;
+    after_heard = begins_trans (w.heard w0) (w.heard w1) log after.after_heard a.after_heard;
+    run = a.run;
+  }
+
+  -- what comes after all that the caller knew then comes after all that it knew before
+  pub knew : (log : Log) → Begins (w.seen w1) log → Begins (w.heard w1) log → Begins (w.seen w0) log × Begins (w.heard w0) log
+  knew log saw heard_of = (subst (λ (l : Log). Begins l log) hears.0.0.0 saw, begins_trans (w.heard w0) (w.heard w1) log after.after_heard heard_of)
+
+  module _ (e : Refusal) where
+    no_record : FindsNoRecord w qsbr allows sizes w1 w2 e → FindsNoRecord w qsbr allows sizes w0 w2 e
+    no_record f = record {
+      is = f.is;
+      found = f.found;
+      looks = f.looks ∙ ap (λ (l : List (ℕ × ℕ)). f.found ++ l) hears.0.1;
+      why = f.why;
+      after = later (w.heard w2) f.after;
+      same = (stays_both w w0 w1 w2 hears.0.0 f.same.0, f.same.1 ∙ hears.1);
+    }
+
+    gives_back : (queue : ℕ) → GivesBack w qsbr allows sizes w1 w2 e queue → GivesBack w qsbr allows sizes w0 w2 e queue
+    gives_back queue r = record {
+      found = r.found;
+      closed = r.closed;
+      cell = r.cell;
+      looks = r.looks ∙ ap (λ (l : List (ℕ × ℕ)). (cell_at sizes r.cell 0, 0) ∷ (closed_at sizes queue, r.closed) ∷ (r.found ++ l)) hears.0.1;
+      at = r.at;
+      told = r.told;
+      within = (later r.at r.within.0, r.within.1, r.within.2);
+      why = r.why;
+      load = r.load;
+      loads = r.loads ∙ ap (λ (l : List Log). r.load ∷ l) hears.1;
+      same = stays_both w w0 w1 w2 hears.0.0 r.same;
+    }
+
+    retirement : (queue : ℕ) → RefusesRetirement w qsbr allows sizes queue w1 w2 e → RefusesRetirement w qsbr allows sizes queue w0 w2 e
+    retirement queue r = record {
+      closed = r.closed;
+      looked = r.looked ∙ ap (λ (l : List (ℕ × ℕ)). (closed_at sizes queue, r.closed) ∷ l) hears.0.1;
+      told = r.told;
+      after = later (w.heard w2) r.after;
+      why = r.why;
+      same = (stays_both w w0 w1 w2 hears.0.0 r.same.0, r.same.1 ∙ hears.1);
+    }
+
+    module _ (known : Log) (is : w.heard w1 ≡ known) (first buckets key : ℕ) where
+      abbrev bucket : ℕ
+      bucket = bucket_of first buckets key
+
+      met : (so : Log → Type 0) → so known → Begins (w.heard w1) (w.heard w2) → During w qsbr allows w0 w2 so
+      met so holds b = record { at = w.heard w1; after = after; before = b; so = subst so (sym is) holds }
+
+      unmoved : w2 ≡ w1 → Begins (w.heard w1) (w.heard w2)
+      unmoved same = subst (λ (x : W). Begins (w.heard w1) (w.heard x)) (sym same) ([], refl)
+
+      only_hears : w2 ≡ w1 → OnlyHears w w0 w2
+      only_hears same = subst (λ (x : W). OnlyHears w w0 x) (sym same) hears
+
+      pub insertion : list.RefusesInsertion w qsbr allows sizes w1 w2 e known bucket key → RefusesInsertion w qsbr allows sizes w0 w2 e first buckets key
+      insertion (inl (x, some, same)) = inl (x, met (λ log. IsSome (map_of log bucket key)) some (unmoved same), only_hears same)
+      insertion (inr (none, inl (x, last, same))) = inr (met (λ log. map_of log bucket key ≡ None) none (unmoved same), inl (x, met (λ log. HasLastRank log bucket) last (unmoved same), only_hears same))
+      insertion (inr (none, inr f)) = inr (met (λ log. map_of log bucket key ≡ None) none f.after.after_heard, inr (no_record f))
+
+      pub replacement : list.RefusesReplacement w qsbr allows sizes w1 w2 e known bucket key (bucket % sizes.queues) → RefusesReplacement w qsbr allows sizes w0 w2 e first buckets key
+      replacement (inl (x, none, same)) = inl (x, met (λ log. map_of log bucket key ≡ None) none (unmoved same), only_hears same)
+      replacement (inr (some, inl f)) = inr (met (λ log. IsSome (map_of log bucket key)) some f.after.after_heard, inl (no_record f))
+      replacement (inr (some, inr r)) = inr (met (λ log. IsSome (map_of log bucket key)) some (begins_trans (w.heard w1) r.at (w.heard w2) r.within.0.after_heard r.within.1), inr (gives_back (bucket % sizes.queues) r))
+
+      pub removal : list.RefusesRemoval w qsbr allows sizes w1 w2 e known bucket key (bucket % sizes.queues) → RefusesRemoval w qsbr allows sizes w0 w2 e first buckets key
+      removal (inl (x, none, same)) = inl (x, met (λ log. map_of log bucket key ≡ None) none (unmoved same), only_hears same)
+      removal (inr (some, r)) = inr (met (λ log. IsSome (map_of log bucket key)) some r.after.after_heard, retirement (bucket % sizes.queues) r)

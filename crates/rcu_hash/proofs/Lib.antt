@@ -1,0 +1,4 @@
+pub mod Changing
+pub mod Going
+pub mod Hearing
+pub mod Making

@@ -1,0 +1,4 @@
+pub mod Calls
+pub mod Refusing
+pub mod Tables
+pub mod Walks

@@ -1,7 +1,0 @@
-use Rattle.std.proofs.Common.{◌∙◌, codes}
-use Rattle.clap.specs.Words.{found_of}
-use Rattle.torture.proofs.Readings.{flag_read}
-use Rattle.torture.proofs.words.schedule_of.Goals as goal
-
-pub returns : goal.returns
-returns c = c.unwrap_or.ensures ∙ flag_read _ (found_of c.args.matches.now) (codes "schedule") c.get_one.result c.get_one.ensures.none c.get_one.ensures.value

@@ -1,0 +1,5 @@
+use Rattle.torture_commands.specs.Checking.{Checking}
+use Rattle.torture_commands.proofs.checking.check.Given as goal
+
+abbrev pub invariant-loop : goal.invariant-loop
+invariant-loop g l = Checking (g.R.Read.remaining l.initial.reader) (g.R.Read.remaining l.reader) (g.W.Write.contents l.initial.writer) (g.W.Write.contents l.writer) l.judging
