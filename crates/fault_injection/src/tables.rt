@@ -122,12 +122,8 @@ fn name<P: GracePlan + Drop, B: Site, R: Wait>(
     };
     let table = tabled(alloc, &domain, &mut record, ledger)?;
     let wrong = Finding::Wrong(Call::NewTable);
-    table
-        .insert(rt, &mut record, 7, 70)
-        .map_err(|_| wrong)?;
-    table
-        .insert(rt, &mut record, 8, 80)
-        .map_err(|_| wrong)?;
+    table.insert(rt, &mut record, 7, 70).map_err(|_| wrong)?;
+    table.insert(rt, &mut record, 8, 80).map_err(|_| wrong)?;
     let replaced = replace(rt, &domain, &table, &mut record, ledger)?;
     let removed = remove(rt, &domain, &table, &mut record, ledger)?;
     let found = look(rt, &domain, &table, &mut record, 7);

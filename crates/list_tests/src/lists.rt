@@ -237,7 +237,9 @@ fn refused_calls_give_all_back(rt: HostRuntime) {
 }
 
 /// The number of a chain over which no list is made, and how many objects it has.
-fn refused<P: GracePlan + Drop, B: Site>(chain: Chain<'_, P, Keyed, B, Adds>) -> Option<(usize, usize)> {
+fn refused<P: GracePlan + Drop, B: Site>(
+    chain: Chain<'_, P, Keyed, B, Adds>,
+) -> Option<(usize, usize)> {
     match RcuList::new(chain) {
         Ok(_list) => None,
         Err((Refusal::BadConfig, chain)) => Some((chain.number(), chain.len())),

@@ -131,7 +131,10 @@ impl<'d, P: GracePlan + Drop, K: MapRule, B: Site, D: Deleter> RcuList<'d, P, K,
         let Some(rank) = self.fresh_rank() else {
             return Err(Refusal::PoolFull);
         };
-        let owned = self.chain.domain().alloc(rt, witness, [key, value, rank, 0])?;
+        let owned = self
+            .chain
+            .domain()
+            .alloc(rt, witness, [key, value, rank, 0])?;
         self.chain.push(witness, owned);
         Ok(())
     }
