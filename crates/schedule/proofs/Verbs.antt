@@ -76,16 +76,19 @@ whole_reader verb is v u s = (subst IsReaderVerb s.0 is, rw s.1 (append-nil (rea
 
 reader_rows : EachRow reader_row reader_words_of
 reader_rows = (
-  whole_reader reader.Lock tt,
+  whole_reader reader.GoOn tt,
   (
-    whole_reader reader.Unlock tt,
+    whole_reader reader.Lock tt,
     (
-      whole_reader reader.Online tt,
+      whole_reader reader.Unlock tt,
       (
-        whole_reader reader.Quiescent tt,
+        whole_reader reader.Online tt,
         (
-          whole_reader reader.Offline tt,
-          (after_argument reader.First IsReaderVerb reader_verb (codes "first c") (λ n h. (h, refl)), (whole_reader reader.Next tt, (whole_reader reader.Touch tt, (whole_reader reader.GoOn tt, tt)))),
+          whole_reader reader.Quiescent tt,
+          (
+            whole_reader reader.Offline tt,
+            (after_argument reader.First IsReaderVerb reader_verb (codes "first c") (λ n h. (h, refl)), (whole_reader reader.Next tt, (whole_reader reader.Touch tt, tt))),
+          ),
         ),
       ),
     ),
@@ -101,20 +104,20 @@ reader_whole : (verb : ReaderVerb) (text : List ℕ) → InTable reader_words_of
 reader_whole verb text i e = (reader_words.Whole verb, reader_verb verb, [], i, (refl, refl), e ∙ sym (append-nil (reader_verb verb)))
 
 reader_unspelled : (verb : ReaderVerb) (text : List ℕ) → ReaderText verb text → Then (InTable reader_words_of) ReaderRest verb text
-reader_unspelled reader.Lock text s = reader_whole reader.Lock text (inl (refl, refl)) s.1
-reader_unspelled reader.Unlock text s = reader_whole reader.Unlock text (inr (inl (refl, refl))) s.1
-reader_unspelled reader.Online text s = reader_whole reader.Online text (inr (inr (inl (refl, refl)))) s.1
-reader_unspelled reader.Quiescent text s = reader_whole reader.Quiescent text (inr (inr (inr (inl (refl, refl))))) s.1
-reader_unspelled reader.Offline text s = reader_whole reader.Offline text (inr (inr (inr (inr (inl (refl, refl)))))) s.1
-reader_unspelled (reader.First n) text s = (reader_words.FirstOf, codes "first c", decimal n ++ 10 ∷ [], inr (inr (inr (inr (inr (inl (refl, refl)))))), argument_is reader.First n s.0, s.1)
-reader_unspelled reader.Next text s = reader_whole reader.Next text (inr (inr (inr (inr (inr (inr (inl (refl, refl)))))))) s.1
-reader_unspelled reader.Touch text s = reader_whole reader.Touch text (inr (inr (inr (inr (inr (inr (inr (inl (refl, refl))))))))) s.1
-reader_unspelled reader.GoOn text s = reader_whole reader.GoOn text (inr (inr (inr (inr (inr (inr (inr (inr (inl (refl, refl)))))))))) s.1
+reader_unspelled reader.Lock text s = reader_whole reader.Lock text (inr (inl (refl, refl))) s.1
+reader_unspelled reader.Unlock text s = reader_whole reader.Unlock text (inr (inr (inl (refl, refl)))) s.1
+reader_unspelled reader.Online text s = reader_whole reader.Online text (inr (inr (inr (inl (refl, refl))))) s.1
+reader_unspelled reader.Quiescent text s = reader_whole reader.Quiescent text (inr (inr (inr (inr (inl (refl, refl)))))) s.1
+reader_unspelled reader.Offline text s = reader_whole reader.Offline text (inr (inr (inr (inr (inr (inl (refl, refl))))))) s.1
+reader_unspelled (reader.First n) text s = (reader_words.FirstOf, codes "first c", decimal n ++ 10 ∷ [], inr (inr (inr (inr (inr (inr (inl (refl, refl))))))), argument_is reader.First n s.0, s.1)
+reader_unspelled reader.Next text s = reader_whole reader.Next text (inr (inr (inr (inr (inr (inr (inr (inl (refl, refl))))))))) s.1
+reader_unspelled reader.Touch text s = reader_whole reader.Touch text (inr (inr (inr (inr (inr (inr (inr (inr (inl (refl, refl)))))))))) s.1
+reader_unspelled reader.GoOn text s = reader_whole reader.GoOn text (inl (refl, refl)) s.1
 
 pub reader_verb_reads : Reads ReaderText reader_verb_at
 unfolding reader_verb_at
 reader_verb_reads =
-    reads_as (then_reads (InTable reader_words_of) ReaderRest (word_at reader_words_of) reader_rest (table_reads reader_words_of refl (reader_words.Whole reader.Lock, codes "lock\n", inl (refl, refl))) reader_rest_reads reader_rest_some)
+    reads_as (then_reads (InTable reader_words_of) ReaderRest (word_at reader_words_of) reader_rest (table_reads reader_words_of refl (reader_words.Whole reader.GoOn, codes ".\n", inl (refl, refl))) reader_rest_reads reader_rest_some)
     reader_spelled reader_unspelled
 
 -- ---- updaters
@@ -160,14 +163,17 @@ whole_updater verb is v u s = (subst IsUpdaterVerb s.0 is, rw s.1 (append-nil (u
 
 updater_rows : EachRow updater_row updater_words_of
 updater_rows = (
-  after_argument updater.Push IsUpdaterVerb updater_verb (codes "push c") (λ n h. (h, refl)),
+  whole_updater updater.GoOn tt,
   (
-    after_argument replace_of IsUpdaterVerb updater_verb (codes "replace o") (λ n h. (h, refl)),
+    after_argument updater.Push IsUpdaterVerb updater_verb (codes "push c") (λ n h. (h, refl)),
     (
-      after_argument cut_of IsUpdaterVerb updater_verb (codes "cut o") (λ n h. (h, refl)),
+      after_argument replace_of IsUpdaterVerb updater_verb (codes "replace o") (λ n h. (h, refl)),
       (
-        after_argument retire_of IsUpdaterVerb updater_verb (codes "retire o") (λ n h. (h, refl)),
-        (whole_updater updater.Sync tt, (whole_updater updater.Start tt, (whole_updater updater.Poll tt, (whole_updater updater.Barrier tt, (whole_updater updater.GoOn tt, tt))))),
+        after_argument cut_of IsUpdaterVerb updater_verb (codes "cut o") (λ n h. (h, refl)),
+        (
+          after_argument retire_of IsUpdaterVerb updater_verb (codes "retire o") (λ n h. (h, refl)),
+          (whole_updater updater.Sync tt, (whole_updater updater.Start tt, (whole_updater updater.Poll tt, (whole_updater updater.Barrier tt, tt)))),
+        ),
       ),
     ),
   ),
@@ -182,20 +188,20 @@ updater_whole : (verb : UpdaterVerb) (text : List ℕ) → InTable updater_words
 updater_whole verb text i e = (updater_words.Whole verb, updater_verb verb, [], i, (refl, refl), e ∙ sym (append-nil (updater_verb verb)))
 
 updater_unspelled : (verb : UpdaterVerb) (text : List ℕ) → UpdaterText verb text → Then (InTable updater_words_of) UpdaterRest verb text
-updater_unspelled (updater.Push n) text s = (updater_words.PushTo, codes "push c", decimal n ++ 10 ∷ [], inl (refl, refl), argument_is updater.Push n s.0, s.1)
-updater_unspelled (updater.Replace o) text s = (updater_words.ReplaceOf, codes "replace o", decimal o.0 ++ 10 ∷ [], inr (inl (refl, refl)), argument_is replace_of o.0 s.0, s.1)
-updater_unspelled (updater.Cut o) text s = (updater_words.CutOf, codes "cut o", decimal o.0 ++ 10 ∷ [], inr (inr (inl (refl, refl))), argument_is cut_of o.0 s.0, s.1)
-updater_unspelled (updater.Retire o) text s = (updater_words.RetireOf, codes "retire o", decimal o.0 ++ 10 ∷ [], inr (inr (inr (inl (refl, refl)))), argument_is retire_of o.0 s.0, s.1)
-updater_unspelled updater.Sync text s = updater_whole updater.Sync text (inr (inr (inr (inr (inl (refl, refl)))))) s.1
-updater_unspelled updater.Start text s = updater_whole updater.Start text (inr (inr (inr (inr (inr (inl (refl, refl))))))) s.1
-updater_unspelled updater.Poll text s = updater_whole updater.Poll text (inr (inr (inr (inr (inr (inr (inl (refl, refl)))))))) s.1
-updater_unspelled updater.Barrier text s = updater_whole updater.Barrier text (inr (inr (inr (inr (inr (inr (inr (inl (refl, refl))))))))) s.1
-updater_unspelled updater.GoOn text s = updater_whole updater.GoOn text (inr (inr (inr (inr (inr (inr (inr (inr (inl (refl, refl)))))))))) s.1
+updater_unspelled (updater.Push n) text s = (updater_words.PushTo, codes "push c", decimal n ++ 10 ∷ [], inr (inl (refl, refl)), argument_is updater.Push n s.0, s.1)
+updater_unspelled (updater.Replace o) text s = (updater_words.ReplaceOf, codes "replace o", decimal o.0 ++ 10 ∷ [], inr (inr (inl (refl, refl))), argument_is replace_of o.0 s.0, s.1)
+updater_unspelled (updater.Cut o) text s = (updater_words.CutOf, codes "cut o", decimal o.0 ++ 10 ∷ [], inr (inr (inr (inl (refl, refl)))), argument_is cut_of o.0 s.0, s.1)
+updater_unspelled (updater.Retire o) text s = (updater_words.RetireOf, codes "retire o", decimal o.0 ++ 10 ∷ [], inr (inr (inr (inr (inl (refl, refl))))), argument_is retire_of o.0 s.0, s.1)
+updater_unspelled updater.Sync text s = updater_whole updater.Sync text (inr (inr (inr (inr (inr (inl (refl, refl))))))) s.1
+updater_unspelled updater.Start text s = updater_whole updater.Start text (inr (inr (inr (inr (inr (inr (inl (refl, refl)))))))) s.1
+updater_unspelled updater.Poll text s = updater_whole updater.Poll text (inr (inr (inr (inr (inr (inr (inr (inl (refl, refl))))))))) s.1
+updater_unspelled updater.Barrier text s = updater_whole updater.Barrier text (inr (inr (inr (inr (inr (inr (inr (inr (inl (refl, refl)))))))))) s.1
+updater_unspelled updater.GoOn text s = updater_whole updater.GoOn text (inl (refl, refl)) s.1
 
 pub updater_verb_reads : Reads UpdaterText updater_verb_at
 unfolding updater_verb_at
 updater_verb_reads =
-    reads_as (then_reads (InTable updater_words_of) UpdaterRest (word_at updater_words_of) updater_rest (table_reads updater_words_of refl (updater_words.PushTo, codes "push c", inl (refl, refl))) updater_rest_reads updater_rest_some)
+    reads_as (then_reads (InTable updater_words_of) UpdaterRest (word_at updater_words_of) updater_rest (table_reads updater_words_of refl (updater_words.Whole updater.GoOn, codes ".\n", inl (refl, refl))) updater_rest_reads updater_rest_some)
     updater_spelled updater_unspelled
 
 -- ---- workers
@@ -207,9 +213,9 @@ worker_spelled : (verb : WorkerVerb) (text : List ℕ) → InTable worker_words 
 worker_spelled verb text i = each_row (λ w v. w ≡ worker_verb v) worker_words verb text (refl, (refl, tt)) i
 
 worker_unspelled : (verb : WorkerVerb) (text : List ℕ) → WorkerText verb text → InTable worker_words verb text
-worker_unspelled worker.Take text e = inl (sym e, refl)
-worker_unspelled worker.GoOn text e = inr (inl (sym e, refl))
+worker_unspelled worker.Take text e = inr (inl (sym e, refl))
+worker_unspelled worker.GoOn text e = inl (sym e, refl)
 
 pub worker_verb_reads : Reads WorkerText worker_verb_at
 unfolding worker_verb_at
-worker_verb_reads = reads_as (table_reads worker_words refl (worker.Take, codes "take\n", inl (refl, refl))) worker_spelled worker_unspelled
+worker_verb_reads = reads_as (table_reads worker_words refl (worker.GoOn, codes ".\n", inl (refl, refl))) worker_spelled worker_unspelled

@@ -20,40 +20,42 @@ pub fn print_event(alloc: Global, event: &Event, out: &mut String) -> Result<(),
     out.push_str(&text)
 }
 
-/// The text of two events, with its line feed.
-fn both_text(alloc: Global, first: Event, second: Event) -> Result<String, AllocError>
-    ensures { IfOk result (λ text. string_bytes text ≡ answer_line (Ok (Events first (Some second)))) }
+/// Writes two events at the end, a line.
+fn write_both(first: Event, second: Event, text: &mut String) -> Result<(), AllocError>
+    ensures { OnOk result (string_bytes text.new ≡ string_bytes text.old ++ answer_line (Ok (Events first (Some second)))) }
 {
-    format!(in alloc; "{first}; {second}\n")
+    writeln!(text, "{first}; {second}")
 }
 
-/// The text of what a step answered, with its line feed.
-fn answer_text(alloc: Global, answer: Result<Answer, StepError>) -> Result<String, AllocError>
-    ensures { IfOk result (λ text. string_bytes text ≡ answer_line answer) }
+/// Writes what a step answered at the end, a line.
+fn write_answer(answer: Result<Answer, StepError>, text: &mut String) -> Result<(), AllocError>
+    ensures { OnOk result (string_bytes text.new ≡ string_bytes text.old ++ answer_line answer) }
 {
     match answer {
         Ok(Answer::Events { first, second }) => match second {
-            None => format!(in alloc; "{first}\n"),
-            Some(second) => both_text(alloc, first, second),
+            None => writeln!(text, "{first}"),
+            Some(second) => write_both(first, second, text),
         },
-        Ok(Answer::Quiet) => String::from_str(alloc, ".\n"),
-        Ok(Answer::Wait) => String::from_str(alloc, "wait\n"),
-        Ok(Answer::Blocked) => String::from_str(alloc, "blocked\n"),
-        Ok(Answer::Idle) => String::from_str(alloc, "idle\n"),
-        Err(refusal) => format!(in alloc; "refused E{}\n", refusal.number()),
+        Ok(Answer::Quiet) => text.push_str(".\n"),
+        Ok(Answer::Wait) => text.push_str("wait\n"),
+        Ok(Answer::Blocked) => text.push_str("blocked\n"),
+        Ok(Answer::Idle) => text.push_str("idle\n"),
+        Err(refusal) => writeln!(text, "refused E{}", refusal.number()),
     }
 }
 
-/// Writes what a step answered at the end, a line. `AllocError` changes nothing.
+/// Writes what a step answered at the end, a line. What is in `text` is lost: it is made use of, so that not each
+/// answer takes memory of its own. `AllocError` changes nothing.
 pub fn print_answer(
-    alloc: Global,
     answer: Result<Answer, StepError>,
+    text: &mut String,
     out: &mut Vec<u8>,
 ) -> Result<(), AllocError>
     ensures ok { OnOk result (out.new.items ≡ out.old.items ++ answer_line answer) }
     ensures err { OnErr result (out.new.items ≡ out.old.items) }
 {
-    let text = answer_text(alloc, answer)?;
+    text.clear();
+    write_answer(answer, text)?;
     out.extend_from_slice(text.as_bytes())
 }
 

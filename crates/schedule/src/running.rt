@@ -44,7 +44,12 @@ impl Running {
     }
 
     /// Steps the line, and writes its answer at the end. `Memory` writes nothing.
-    fn answer(&mut self, alloc: Global, line: &Line, out: &mut Vec<u8>) -> Result<(), ReplayFault>
+    fn answer(
+        &mut self,
+        line: &Line,
+        text: &mut String,
+        out: &mut Vec<u8>,
+    ) -> Result<(), ReplayFault>
         ensures world { OnOk result (self.new.world ≡ (step_of self.old.world line.now).world) }
         ensures line { OnOk result (self.new.line ≡ number_on self.old.line 1) }
         ensures held { self.new.held ≡ self.old.held }
@@ -55,7 +60,7 @@ impl Running {
         if let Err(Refusal::Memory) = answer {
             return Err(ReplayFault::Memory);
         }
-        print_answer(alloc, answer, out)?;
+        print_answer(answer, text, out)?;
         self.line = self.line.saturating_add(1);
         Ok(())
     }
@@ -70,10 +75,11 @@ impl Running {
         ensures { line_at self.old.held ≡ Err [] → PlaysAll (point self.old.world self.old.line (self.old.held ++ piece.now) out.old.items) (point self.new.world self.new.line self.new.held out.new.items) result }
     {
         let mut rest = piece;
+        let mut text = String::new(alloc);
         loop {
             match self.held.next_line(rest) {
                 Ok(Some((line, after))) => {
-                    self.answer(alloc, &line, out)?;
+                    self.answer(&line, &mut text, out)?;
                     rest = after;
                 }
                 Ok(None) => return Ok(()),

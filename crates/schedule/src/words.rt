@@ -1,5 +1,5 @@
 //! The words of a schedule, each with what it stands for.
-//! In no table does one word begin another.
+//! In no table does one word begin another. What comes most often stands first.
 
 use world::{Flavour, Layout, ReaderVerb, UpdaterVerb, WorkerVerb};
 
@@ -56,6 +56,7 @@ pub const ACTORS: [(&[u8], ActorWord); 3] = [
 
 /// What a reader does.
 pub const READER_WORDS: [(&[u8], ReaderWord); 9] = [
+    (b".\n", ReaderWord::Whole(ReaderVerb::GoOn)),
     (b"lock\n", ReaderWord::Whole(ReaderVerb::Lock)),
     (b"unlock\n", ReaderWord::Whole(ReaderVerb::Unlock)),
     (b"online\n", ReaderWord::Whole(ReaderVerb::Online)),
@@ -64,11 +65,11 @@ pub const READER_WORDS: [(&[u8], ReaderWord); 9] = [
     (b"first c", ReaderWord::FirstOf),
     (b"next\n", ReaderWord::Whole(ReaderVerb::Next)),
     (b"touch\n", ReaderWord::Whole(ReaderVerb::Touch)),
-    (b".\n", ReaderWord::Whole(ReaderVerb::GoOn)),
 ];
 
 /// What an updater does.
 pub const UPDATER_WORDS: [(&[u8], UpdaterWord); 9] = [
+    (b".\n", UpdaterWord::Whole(UpdaterVerb::GoOn)),
     (b"push c", UpdaterWord::PushTo),
     (b"replace o", UpdaterWord::ReplaceOf),
     (b"cut o", UpdaterWord::CutOf),
@@ -77,11 +78,10 @@ pub const UPDATER_WORDS: [(&[u8], UpdaterWord); 9] = [
     (b"start\n", UpdaterWord::Whole(UpdaterVerb::Start)),
     (b"poll\n", UpdaterWord::Whole(UpdaterVerb::Poll)),
     (b"barrier\n", UpdaterWord::Whole(UpdaterVerb::Barrier)),
-    (b".\n", UpdaterWord::Whole(UpdaterVerb::GoOn)),
 ];
 
 /// What a worker does.
 pub const WORKER_WORDS: [(&[u8], WorkerVerb); 2] = [
-    (b"take\n", WorkerVerb::Take),
     (b".\n", WorkerVerb::GoOn),
+    (b"take\n", WorkerVerb::Take),
 ];
