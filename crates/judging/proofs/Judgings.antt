@@ -12,8 +12,8 @@ use Rattle.schedule.specs.declared.fault.AnswersFault.TheVariants.{BadText, Memo
 use Rattle.schedule.specs.declared.fault.ReplayFault.{ReplayFault}
 use Rattle.schedule.specs.declared.fault.ReplayFault.TheVariants as faults
 use Rattle.schedule.specs.AnswerPieces.{HasRead, Takes, EndsAnswers}
-use Rattle.torture_commands.specs.declared.judging.Judging.{Judging}
-use Rattle.torture_commands.specs.Judging.{HasJudged, JudgesOn, JudgesAlong, JudgedAs, IsRunSoFar, Ends, replay_fault, so_far}
+use Rattle.judging.specs.declared.judging.Judging.{Judging}
+use Rattle.judging.specs.Judging.{HasJudged, JudgesOn, JudgesAlong, JudgedAs, IsRunSoFar, Ends, replay_fault, so_far}
 
 -- a piece: its lines are read, and their events are taken
 module _ (old new : Judging) (fed piece : List ℕ) (before events : List Event) (came : HasJudged old fed) (none : before ≡ [])

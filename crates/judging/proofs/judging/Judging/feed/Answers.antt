@@ -2,10 +2,10 @@ use Rattle.std.proofs.Common.{List, ◌++◌, Err, sym, subst}
 use Rattle.rcu_model.specs.declared.event.Event.{Event}
 use Rattle.rcu_model.specs.Judge.{HasTaken}
 use Rattle.schedule.specs.declared.fault.ReplayFault.{ReplayFault}
-use Rattle.torture_commands.specs.declared.judging.Judging.{Judging}
-use Rattle.torture_commands.specs.Judging.{JudgesOn}
-use Rattle.torture_commands.proofs.Judgings.{judged_on, judged_stop}
-use Rattle.torture_commands.proofs.judging.Judging.feed.Goals as goal
+use Rattle.judging.specs.declared.judging.Judging.{Judging}
+use Rattle.judging.specs.Judging.{JudgesOn}
+use Rattle.judging.proofs.Judgings.{judged_on, judged_stop}
+use Rattle.judging.proofs.judging.Judging.feed.Goals as goal
 
 pub returns-in-Ok : goal.returns-in-Ok
 returns-in-Ok c = λ fed j.

@@ -13,7 +13,7 @@ use Rattle.schedule.specs.declared.fault.ReplayFault.TheVariants.{BadText, BadCo
 use Rattle.schedule.specs.AnswerLines.{IsAnswerText, TellsLog, BreaksOffAnswers}
 use Rattle.schedule.specs.AnswerPieces.{ReadSoFar, HasRead, StopsAnswers}
 use Rattle.schedule.specs.Printed.{IsPartial}
-use Rattle.torture_commands.specs.declared.judging.Judging.{Judging}
+use Rattle.judging.specs.declared.judging.Judging.{Judging}
 
 abbrev pub replay_fault : AnswersFault → ReplayFault
 replay_fault (answers_faults.BadText line column) = BadText line column

@@ -1,10 +1,11 @@
 //! Lines of answers that come in pieces, judged as they come.
 
-ghost use Rattle.std.specs.Prelude.{◌≡◌, ◌++◌, ℕ, List, OnOk, IfErr};
+ghost use Rattle.std.specs.Prelude.{◌≡◌, ◌++◌, ℕ, List, length, OnOk, IfErr};
 ghost use Rattle.rcu_model.specs.declared.event.Event.{Event};
+ghost use Rattle.rcu_model.specs.Machine.{IsRun};
 ghost use Rattle.rcu_model.specs.Judge.{HasTaken};
 ghost use Rattle.schedule.specs.declared.fault.ReplayFault.TheVariants.{Memory};
-ghost use Rattle.torture_commands.specs.Judging.{HasBegun, HasJudged, JudgesOn, JudgesAlong, Ends, is_bad_text, replay_fault, so_far};
+ghost use Rattle.judging.specs.Judging.{HasBegun, HasJudged, JudgesOn, JudgesAlong, Ends, is_bad_text, replay_fault, so_far};
 
 use rcu_model::{Event, Judge, Verdict};
 use schedule::{AnswerReader, AnswersFault, ReplayFault};
@@ -102,6 +103,13 @@ impl Judging {
     {
         let fed = self.feed(piece);
         so_far(fed, self.judge.verdict())
+    }
+
+    /// How many events there were, where they are a run.
+    pub fn taken(&self) -> usize
+        ensures { (fed : List ℕ) (judged : HasJudged self.now fed) → IsRun judged.log → result ≡ length judged.log }
+    {
+        self.judge.taken()
     }
 
     /// Ends the input: the verdict, and how many events there were where they are a run. `BadText` after a line that has
