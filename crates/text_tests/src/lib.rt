@@ -6,4 +6,6 @@ mod chains;
 #[cfg(test)]
 mod commands;
 #[cfg(test)]
+mod judges;
+#[cfg(test)]
 mod schedules;

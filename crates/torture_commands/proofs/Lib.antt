@@ -1,3 +1,2 @@
-pub mod Judgings
 pub mod Verdicts
 pub mod Courses

@@ -13,10 +13,10 @@ use Rattle.schedule.specs.declared.fault.ReplayFault.{ReplayFault}
 use Rattle.schedule.specs.declared.fault.ReplayFault.TheVariants.{BadText, BadConfig, Read, Write, Memory}
 use Rattle.schedule.specs.Ports.{Tells, Writes}
 use Rattle.schedule.proofs.Lemmas.{appends_none, consumes_more, tells_more, tells_all, more_text}
-use Rattle.torture_commands.specs.declared.judging.Judging.{Judging}
-use Rattle.torture_commands.specs.Judging.{HasJudged, JudgesOn, JudgesAlong, JudgedAs, IsJudgedSoFar, IsRunSoFar, Ends}
+use Rattle.judging.specs.declared.judging.Judging.{Judging}
+use Rattle.judging.specs.Judging.{HasJudged, JudgesOn, JudgesAlong, JudgedAs, IsJudgedSoFar, IsRunSoFar, Ends}
 use Rattle.torture_commands.specs.Checking.{verdict_line, Printed, Prints, TellsVerdict, Closed, Closes, Checked, Checks, EndsWrong, CheckedAlong, ChecksAlong}
-use Rattle.torture_commands.proofs.Judgings.{right_so_far}
+use Rattle.judging.proofs.Lemmas.{right_so_far}
 
 -- the number of events is printed of runs alone
 counted_line : (verdict : Verdict) (events n : ℕ) → (verdict ≡ Yes → events ≡ n) → verdict_line verdict events ≡ verdict_line verdict n

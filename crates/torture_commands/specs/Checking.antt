@@ -11,8 +11,8 @@ use Rattle.schedule.specs.declared.fault.ReplayFault.{ReplayFault}
 use Rattle.schedule.specs.declared.fault.ReplayFault.TheVariants.{BadText, BadConfig, Read, Write, Memory}
 use Rattle.schedule.specs.AnswerLines.{TellsLog, BreaksOffAnswers}
 use Rattle.schedule.specs.Ports.{Tells}
-use Rattle.torture_commands.specs.declared.judging.Judging.{Judging}
-use Rattle.torture_commands.specs.Judging.{HasJudged, IsJudgedSoFar, IsRunSoFar}
+use Rattle.judging.specs.declared.judging.Judging.{Judging}
+use Rattle.judging.specs.Judging.{HasJudged, IsJudgedSoFar, IsRunSoFar}
 
 -- the line of a verdict on a log of so many events
 abbrev pub verdict_line : Verdict → ℕ → List ℕ

@@ -5,10 +5,10 @@ ghost use Rattle.rcu_model.specs.declared.verdict.Verdict.TheVariants.{Yes};
 ghost use Rattle.rcu_model.specs.Machine.{IsRun};
 ghost use Rattle.rcu_model.specs.Verdict.{Judges};
 ghost use Rattle.schedule.specs.declared.fault.ReplayFault.TheVariants.{Memory};
-ghost use Rattle.torture_commands.specs.Judging.{HasJudged};
+ghost use Rattle.judging.specs.Judging.{HasJudged};
 ghost use Rattle.torture_commands.specs.Checking.{verdict_line, Prints, Closes, Checks, ChecksAlong};
 
-use crate::judging::Judging;
+use judging::Judging;
 use rcu_model::{Event, LogFault, Verdict, check_log};
 use schedule::{PIECE, ReplayFault, write_whole};
 use std::alloc::Global;

@@ -5,7 +5,6 @@ mod checking;
 mod command;
 mod drawing;
 mod execution;
-mod judging;
 mod walking;
 
 pub use command::{Command, MOST_LINES, Stop, Walk};

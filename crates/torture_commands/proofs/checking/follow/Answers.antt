@@ -6,9 +6,9 @@ use Rattle.rcu_model.specs.declared.verdict.Verdict.{Verdict}
 use Rattle.rcu_model.specs.Machine.{IsRun}
 use Rattle.schedule.specs.declared.fault.ReplayFault.TheVariants.{Read}
 use Rattle.schedule.proofs.Lemmas.{consumes_more, consumes_kept}
-use Rattle.torture_commands.specs.Judging.{JudgesAlong}
+use Rattle.judging.specs.Judging.{JudgesAlong}
 use Rattle.torture_commands.specs.Checking.{ChecksAlong}
-use Rattle.torture_commands.proofs.Judgings.{right_so_far}
+use Rattle.judging.proofs.Lemmas.{right_so_far}
 use Rattle.torture_commands.proofs.Verdicts.{along_end, along_fault, along_no, along_unread}
 use Rattle.torture_commands.proofs.checking.follow.Goals as goal
 

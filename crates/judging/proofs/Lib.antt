@@ -1,0 +1,3 @@
+pub mod Judgings
+pub mod Findings
+pub mod Lemmas

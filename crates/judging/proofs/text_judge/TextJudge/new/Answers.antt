@@ -1,0 +1,11 @@
+use Rattle.std.proofs.Common.{List, length, sym, ap, subst}
+use Rattle.rcu_model.specs.declared.event.Event.{Event}
+use Rattle.rcu_model.specs.Machine.{IsRun}
+use Rattle.judging.proofs.text_judge.TextJudge.new.Goals as goal
+
+pub returns : goal.returns
+returns c = record {
+  judged = c.new.ensures.judged;
+  run = subst IsRun (sym c.new.ensures.none) tt;
+  counted = ap (λ (es : List Event). length es) (sym c.new.ensures.none);
+}

@@ -1,0 +1,96 @@
+-- Lines of answers that come in pieces, judged as they come.
+use Rattle.std.specs.Prelude.{◌≡◌, ℕ, List, [], length, Result, Ok, Err, Bool, true, false, if◌then◌else◌}
+use Rattle.rcu_model.specs.declared.event.Event.{Event}
+use Rattle.rcu_model.specs.declared.verdict.Verdict.{Verdict}
+use Rattle.rcu_model.specs.declared.verdict.Verdict.TheVariants.{Yes, No}
+use Rattle.rcu_model.specs.Machine.{IsRun}
+use Rattle.rcu_model.specs.Judge.{HasTaken}
+use Rattle.rcu_model.specs.Verdict.{Judges}
+use Rattle.schedule.specs.declared.fault.AnswersFault.{AnswersFault}
+use Rattle.schedule.specs.declared.fault.AnswersFault.TheVariants as answers_faults
+use Rattle.schedule.specs.declared.fault.ReplayFault.{ReplayFault}
+use Rattle.schedule.specs.declared.fault.ReplayFault.TheVariants.{BadText, BadConfig, Read, Write, Memory}
+use Rattle.schedule.specs.AnswerLines.{IsAnswerText, TellsLog, BreaksOffAnswers}
+use Rattle.schedule.specs.AnswerPieces.{ReadSoFar, HasRead, StopsAnswers}
+use Rattle.schedule.specs.Printed.{IsPartial}
+use Rattle.judging.specs.declared.judging.Judging.{Judging}
+
+abbrev pub replay_fault : AnswersFault → ReplayFault
+replay_fault (answers_faults.BadText line column) = BadText line column
+replay_fault answers_faults.Memory = Memory
+
+-- this text came, and the events of its lines were judged
+pub record HasJudged (judging : Judging) (fed : List ℕ) : Type 0 where
+  pub log : List Event
+  pub read : HasRead judging.answers fed log
+  pub taken : HasTaken judging.judge log
+
+-- nothing has come
+pub record HasBegun (judging : Judging) : Type 0 where
+  pub judged : HasJudged judging []
+  pub none : judged.log ≡ []
+
+-- no line goes on so, whatever follows, and the events of the lines before were judged
+pub record StopsJudging (judging : Judging) (fed : List ℕ) (line column : ℕ) : Type 0 where
+  pub log : List Event
+  pub stops : StopsAnswers fed log line column
+  pub taken : HasTaken judging.judge log
+
+-- what a piece comes to
+abbrev pub JudgesOn : Judging → List ℕ → Result (Unit {0}) ReplayFault → Type 0
+JudgesOn judging fed (Ok _) = HasJudged judging fed
+JudgesOn judging fed (Err (BadText line column)) = StopsJudging judging fed line column
+JudgesOn judging fed (Err Memory) = Unit {0}
+JudgesOn judging fed (Err _) = ⊥
+
+-- the text tells the log, of which this verdict is so, and which has so many events, if it is a run
+pub record JudgedAs (text : List ℕ) (log : List Event) (verdict : Verdict) (events : ℕ) : Type 0 where
+  pub told : TellsLog text log
+  pub judged : Judges verdict log
+  pub counted : verdict ≡ Yes → events ≡ length log
+
+-- what the end of the input comes to
+abbrev pub Ends : List ℕ → List Event → Result (Verdict × ℕ) ReplayFault → Type 0
+Ends fed log (Ok judged) = JudgedAs fed log judged.0 judged.1
+Ends fed log (Err (BadText line column)) = BreaksOffAnswers fed line column
+Ends fed log (Err _) = ⊥
+
+-- ---- a text that is followed
+
+abbrev pub is_bad_text : ReplayFault → Bool
+is_bad_text (BadText line column) = true
+is_bad_text BadConfig = false
+is_bad_text Read = false
+is_bad_text Write = false
+is_bad_text Memory = false
+
+-- a wrong event counts before a bad text that follows it
+abbrev pub so_far : Result (Unit {0}) ReplayFault → Verdict → Result Verdict ReplayFault
+so_far (Ok _) verdict = Ok verdict
+so_far (Err fault) Yes = Err fault
+so_far (Err fault) (No at rule) = if is_bad_text fault then Ok (No at rule) else Err fault
+
+-- the lines of answers at the front of the text tell a log, of which this verdict is so
+pub record IsJudgedSoFar (text : List ℕ) (verdict : Verdict) : Type 0 where
+  pub log : List Event
+  pub rest : List ℕ
+  pub line : ℕ
+  pub read : ReadSoFar text rest log line
+  pub judged : Judges verdict log
+
+-- the text is lines of answers, whose log is a run, and less than a line after them
+pub record IsRunSoFar (text : List ℕ) : Type 0 where
+  pub log : List Event
+  pub rest : List ℕ
+  pub line : ℕ
+  pub read : ReadSoFar text rest log line
+  pub partial : IsPartial IsAnswerText rest
+  pub run : IsRun log
+
+-- what a piece comes to where a wrong event ends it
+abbrev pub JudgesAlong : Judging → List ℕ → Result Verdict ReplayFault → Type 0
+JudgesAlong judging fed (Ok Yes) = (judged : HasJudged judging fed) × IsRun judged.log
+JudgesAlong judging fed (Ok (No at rule)) = IsJudgedSoFar fed (No at rule)
+JudgesAlong judging fed (Err (BadText line column)) = (stops : StopsJudging judging fed line column) × IsRun stops.log
+JudgesAlong judging fed (Err Memory) = Unit {0}
+JudgesAlong judging fed (Err _) = ⊥

@@ -1,0 +1,2 @@
+pub mod KeptValues
+pub mod Handles

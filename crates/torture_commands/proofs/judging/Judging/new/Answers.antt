@@ -1,5 +1,0 @@
-use Rattle.std.proofs.Common.{[], refl}
-use Rattle.torture_commands.proofs.judging.Judging.new.Goals as goal
-
-pub returns : goal.returns
-returns c = record { judged = record { log = []; read = c.new.ensures; taken = c.new-3.ensures }; none = refl }
