@@ -105,8 +105,28 @@ fn look<P: GracePlan + Drop, B: Site, R: Wait>(
     Ok(table.get(&mut section, key))
 }
 
-/// Names a domain. Whether a replaced value and a removed key have the first tickets of their queues, and a lookup finds
-/// what was replaced; `None` where naming was refused memory.
+/// Whether a replaced value and a removed key of a new table have the first tickets of their queues, and a lookup finds
+/// what was replaced.
+fn serves<P: GracePlan + Drop, B: Site, R: Wait>(
+    rt: &R,
+    alloc: Global,
+    domain: &Domain<P, Tabled, B, Says>,
+    record: &mut Record<B>,
+    ledger: &mut Ledger,
+) -> Result<bool, Finding>
+    requires { P.QSBR ≡ B.qsbr }
+{
+    let table = tabled(alloc, domain, record, ledger)?;
+    let wrong = Finding::Wrong(Call::NewTable);
+    table.insert(rt, record, 7, 70).map_err(|_| wrong)?;
+    table.insert(rt, record, 8, 80).map_err(|_| wrong)?;
+    let replaced = replace(rt, domain, &table, record, ledger)?;
+    let removed = remove(rt, domain, &table, record, ledger)?;
+    let found = look(rt, domain, &table, record, 7);
+    Ok(replaced.0 == 1 && removed.0 == 1 && matches!(found, Ok(Some(71))))
+}
+
+/// Names a domain. Whether its table serves; `None` where naming was refused memory.
 fn name<P: GracePlan + Drop, B: Site, R: Wait>(
     rt: &R,
     alloc: Global,
@@ -120,14 +140,8 @@ fn name<P: GracePlan + Drop, B: Site, R: Wait>(
         Err(Refusal::Memory) => return Ok(None),
         Err(_) => return Err(Finding::Wrong(Call::NameDomain)),
     };
-    let table = tabled(alloc, &domain, &mut record, ledger)?;
-    let wrong = Finding::Wrong(Call::NewTable);
-    table.insert(rt, &mut record, 7, 70).map_err(|_| wrong)?;
-    table.insert(rt, &mut record, 8, 80).map_err(|_| wrong)?;
-    let replaced = replace(rt, &domain, &table, &mut record, ledger)?;
-    let removed = remove(rt, &domain, &table, &mut record, ledger)?;
-    let found = look(rt, &domain, &table, &mut record, 7);
-    Ok(Some(replaced.0 == 1 && removed.0 == 1 && matches!(found, Ok(Some(71)))))
+    let good = serves(rt, alloc, &domain, &mut record, ledger)?;
+    Ok(Some(good))
 }
 
 /// Makes a domain, again where memory was refused. Whether its table serves.

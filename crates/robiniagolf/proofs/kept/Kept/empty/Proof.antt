@@ -1,10 +1,9 @@
 -- `empty` keeps nothing, at null.
-use Rattle.std.proofs.Common.{◌≡◌, List, [], ◌∷◌, refl, w64, lit<}
+use Rattle.std.proofs.Common.{◌≡◌, [], ◌∷◌, refl, lit<}
 use Rattle.std.specs.Prelude.{None}
-use mir.Val.{Val, vint}
+use mir.Val.{Val}
 use base.Logic.{SProp, emp}
-use prog.Wp.{WpFn}
-use types.Kit.{‵, raw, ◌⊛◌, ◌$◌, ◌∵◌, !, qed, by, move, keep, split, fjoin, use0}
+use types.Kit.{‵, raw, ◌⊛◌, ◌$◌, ◌∵◌, !, qed, by, keep, split, use0}
 use types.Run.{no_more, and_then, returns, enter, lit}
 use types.ByLocal.{alloc_all, pass_all, free_all, look_at, sets}
 use types.Part.{agg}

@@ -1,21 +1,20 @@
 -- `into_loose` gives up what it keeps.
-use Rattle.std.proofs.Common.{◌≡◌, List, [], ◌∷◌, ◌++◌, refl, sym, ap, subst}
-use Rattle.std.specs.Prelude.{Option, Some, None}
+use Rattle.std.proofs.Common.{◌≡◌, List, [], ◌∷◌, ◌++◌, refl, sym, subst}
+use Rattle.std.specs.Prelude.{Some, None}
 use mir.Syntax.{impl, tnil, dnil}
 use mir.Val.{Val, vptr}
 use base.Logic.{SProp, ent, id⊢, emp}
-use base.Fml.{ftrue}
 use prog.Wp.{WpFn}
-use types.Kit.{‵, raw, ◌⊛◌, ◌$◌, ◌∵◌, !, qed, by, move, keep, drop, split, fsplit, fjoin, suffices, use0, use1}
+use types.Kit.{‵, raw, ◌⊛◌, ◌$◌, ◌∵◌, !, qed, by, move, keep, split, fsplit, fjoin, suffices, use0, use1}
 use types.Run.{stop, fld, of_opd, no_more, and_then, returns, enter}
 use types.ByLocal.{alloc_all, pass_all, free_all, look_at, get, get_in, sets}
 use types.Part.{agg, sub, whole}
 use contract.Monad.{fact, fact_i}
 use contract.Running.{tables}
-use denote.Exit.{yes, no}
+use denote.Exit.{yes}
 use denote.RattleType.{RattleType, owns}
 use denote.Signature.{types_at, plain}
-use denote.RawPtr.{block_ptr, ptr_val}
+use denote.RawPtr.{block_ptr}
 use denote.Steps.{nothing, heard}
 use denote.Triple.Entry.{alive}
 use denote.Triple.Walked.{Stays, stay_dropped, walk_of, Goes-dropped}
@@ -25,9 +24,8 @@ use Rattle.std_alloc.specs.Box.Ownership.{box_owns}
 use Rattle.std.specs.contracts.alloc.Global as heap
 use Rattle.std.proofs.alloc.Global.TheLaws as heap_laws
 use Rattle.std_heap.specs.contracts.GlobalAllocator.TheImpl.{ghosts}
-use Rattle.loose_box.proofs.Lemmas.{both, Loose, loose_good, loose_in}
+use Rattle.loose_box.proofs.Lemmas.{both, loose_good, loose_in}
 use Rattle.judging.specs.contracts.text_judge.TextJudge.{the_row as R}
-use Rattle.robiniagolf.specs.Owned.{heap_token, owned_at}
 use Rattle.robiniagolf.specs.contracts.kept.Kept as kept
 use Rattle.robiniagolf.proofs.KeptValues.{kept_out, lone_val, some_of}
 use Rattle.robiniagolf.specs.contracts.kept.Kept.into_loose.{ended, clauses}
