@@ -1,6 +1,7 @@
 -- What a call of a bucket's list tells once its writer has heard the caller.
-use Rattle.std.proofs.Common.{Bool, ◌≡◌, ℕ, ◌%◌, List, [], ◌∷◌, ◌++◌, None, IsSome, refl, sym, ap, ◌∙◌, subst, inl, inr}
+use Rattle.std.proofs.Common.{Bool, ◌≡◌, ℕ, ◌%◌, List, [], ◌∷◌, ◌++◌, Option, None, IsSome, refl, sym, ap, ◌∙◌, subst, inl, inr}
 use Rattle.rcu_model.specs.declared.refusal.Refusal.{Refusal}
+use Rattle.rcu_model.specs.declared.refusal.Refusal.TheVariants.{Missing}
 use Rattle.live_log.specs.declared.event.LiveEvent.{LiveEvent}
 use Rattle.live_log.specs.Log.{Log, Begins}
 use Rattle.live_log.proofs.Lemmas.{begins_trans}
@@ -13,7 +14,8 @@ use Rattle.rcu_list.specs.Maps.{HasLastRank, map_of}
 use Rattle.rcu_list.specs.Refusing as list
 use Rattle.rcu_list.specs.Refusing.{FindsNoRecord, GivesBack}
 use Rattle.rcu_list.proofs.Lemmas.{stays_both}
-use Rattle.rcu_hash.specs.Refusing.{During, RefusesInsertion, RefusesRemoval, RefusesReplacement}
+use Rattle.rcu_hash.specs.Directories.{directed_map}
+use Rattle.rcu_hash.specs.Refusing.{During, RefusesInsertion, RefusesInsertionThrough, RefusesRemoval, RefusesRemovalThrough, RefusesReplacement}
 use Rattle.rcu_hash.specs.Tables.{bucket_of}
 
 -- a log after one that comes after all that was known
@@ -99,3 +101,22 @@ module _ {W : Type 0} (w : Ghosts W) (qsbr : Bool) (allows : Log → LiveEvent �
       pub removal : list.RefusesRemoval w qsbr allows sizes w1 w2 e known bucket key (bucket % sizes.queues) → RefusesRemoval w qsbr allows sizes w0 w2 e first buckets key
       removal (inl (x, none, same)) = inl (x, met (λ log. map_of log bucket key ≡ None) none (unmoved same), only_hears same)
       removal (inr (some, r)) = inr (met (λ log. IsSome (map_of log bucket key)) some r.after.after_heard, retirement (bucket % sizes.queues) r)
+
+      -- of a table that a directory leads, which is as its bucket where the caller was heard
+      module _ (d : ℕ) (map_is : directed_map sizes.chains d known key ≡ map_of known bucket key) where
+        had_through : IsSome (map_of known bucket key) → Begins (w.heard w1) (w.heard w2) → During w qsbr allows w0 w2 (λ log. IsSome (directed_map sizes.chains d log key))
+        had_through has b = met (λ log. IsSome (directed_map sizes.chains d log key)) (subst (λ (x : Option ℕ). IsSome x) (sym map_is) has) b
+
+        lacked_through : map_of known bucket key ≡ None → Begins (w.heard w1) (w.heard w2) → During w qsbr allows w0 w2 (λ log. directed_map sizes.chains d log key ≡ None)
+        lacked_through none b = met (λ log. directed_map sizes.chains d log key ≡ None) (map_is ∙ none) b
+
+        pub insertion_through : list.RefusesInsertion w qsbr allows sizes w1 w2 e known bucket key → RefusesInsertionThrough w qsbr allows sizes w0 w2 e d bucket key
+        insertion_through (inl (x, has, same)) = inl (x, had_through has (unmoved same), only_hears same)
+        insertion_through (inr (none, inl (x, last, same))) = inr (lacked_through none (unmoved same), inl (x, met (λ log. HasLastRank log bucket) last (unmoved same), only_hears same))
+        insertion_through (inr (none, inr f)) = inr (lacked_through none f.after.after_heard, inr (no_record f))
+
+        pub removal_missing : e ≡ Missing → map_of known bucket key ≡ None → w2 ≡ w1 → RefusesRemovalThrough w qsbr allows sizes w0 w2 e d bucket key
+        removal_missing x none same = inl (x, lacked_through none (unmoved same), only_hears same)
+
+        pub removal_refused : IsSome (map_of known bucket key) → RefusesRetirement w qsbr allows sizes (bucket % sizes.queues) w1 w2 e → RefusesRemovalThrough w qsbr allows sizes w0 w2 e d bucket key
+        removal_refused has r = inr (had_through has r.after.after_heard, retirement (bucket % sizes.queues) r)

@@ -4,3 +4,4 @@ pub mod Going
 pub mod Hearing
 pub mod Looking
 pub mod Making
+pub mod Named

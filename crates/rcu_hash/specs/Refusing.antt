@@ -10,6 +10,7 @@ use Rattle.live_read.specs.declared.witness.Witness.{Ghosts}
 use Rattle.live_reclaim.specs.Refusing.{RefusesRetirement}
 use Rattle.rcu_list.specs.Maps.{HasLastRank}
 use Rattle.rcu_list.specs.Refusing.{FindsNoRecord, GivesBack}
+use Rattle.rcu_hash.specs.Directories.{directed_map}
 use Rattle.rcu_hash.specs.Tables.{bucket_of, table_of}
 
 module _ {W : Type 0} (w : Ghosts W) (qsbr : Bool) (allows : Log → LiveEvent → Type 0) (old new : W) where
@@ -39,3 +40,20 @@ module _ {W : Type 0} (w : Ghosts W) (qsbr : Bool) (allows : Log → LiveEvent �
   -- the key had none; else its queue takes nothing
   abbrev pub RefusesRemoval : Type 0
   RefusesRemoval = ((e ≡ Missing) × Lacked w qsbr allows old new first buckets key × OnlyHears w old new) ⊎ (Had w qsbr allows old new first buckets key × RefusesRetirement w qsbr allows sizes (bucket_of first buckets key % sizes.queues) old new e)
+
+-- the same of a table that a directory leads, with the chain of the key's bucket
+module _ {W : Type 0} (w : Ghosts W) (qsbr : Bool) (allows : Log → LiveEvent → Type 0) (sizes : Sizes) (old new : W) (e : Refusal) (d c key : ℕ) where
+  -- the key had a value in the table, or none
+  abbrev pub HadThrough : Type 0
+  HadThrough = During w qsbr allows old new (λ log. IsSome (directed_map sizes.chains d log key))
+
+  abbrev pub LackedThrough : Type 0
+  LackedThrough = During w qsbr allows old new (λ log. directed_map sizes.chains d log key ≡ None)
+
+  -- the key had a value; else there was no rank for it, or no record
+  abbrev pub RefusesInsertionThrough : Type 0
+  RefusesInsertionThrough = ((e ≡ Exists) × HadThrough × OnlyHears w old new) ⊎ (LackedThrough × (((e ≡ PoolFull) × During w qsbr allows old new (λ log. HasLastRank log c) × OnlyHears w old new) ⊎ FindsNoRecord w qsbr allows sizes old new e))
+
+  -- the key had none; else its queue takes nothing
+  abbrev pub RefusesRemovalThrough : Type 0
+  RefusesRemovalThrough = ((e ≡ Missing) × LackedThrough × OnlyHears w old new) ⊎ (HadThrough × RefusesRetirement w qsbr allows sizes (c % sizes.queues) old new e)

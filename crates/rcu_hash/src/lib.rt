@@ -2,6 +2,8 @@
 //! Hash tables over the chains of a domain: lookups in read-side sections, which take no lock, beside writers, who take
 //! the lock of one bucket each.
 
+mod bucket;
+mod directory;
 mod laws;
 mod table;
 mod view;
