@@ -5,9 +5,8 @@ use Rattle.live_log.specs.Keys.{Falls, rank_of}
 use Rattle.live_log.specs.Log.{Log, note_of}
 use Rattle.live_write.specs.Chains.{list_in}
 use Rattle.rcu_list.proofs.Values.{first_above, first_at}
-use Rattle.rcu_list.proofs.Writing.{chain_known, same_own, KnowsKeys, by_option, keys_walked, note_still}
-use Rattle.live_table.specs.Rights.{own_in}
-use Rattle.rcu_list.proofs.list.RcuList.fresh_rank.Goals as goal
+use Rattle.rcu_list.proofs.Writing.{chain_known, same_own}
+use Rattle.rcu_list.proofs.preparing.fresh_rank.Goals as goal
 
 -- no object has a rank above that of the first one
 below : (note : ObjectId → ℕ × List ℕ) (os : List ObjectId) (first : ObjectId) (rank : ℕ) → Falls note os → slice_get os 0 ≡ Some first → rank ≡ rank_of (note first) → (o : ObjectId) → In os o → rank_of (note o) < rank + 1
@@ -19,20 +18,9 @@ below note os first rank falls at is o h = ⊎_elim
 pub returns-clause-above : goal.returns-clause-above
 returns-clause-above g c =
     let s = c.in-Some.ensures.some in let w = c.in-Some.ensures.walked in let low = c.if-first-ge-LAST_RANK.false in
-    let old = c.args.self.now.chain in let new = c.get.new.self in
+    let old = c.args.chain.now in let new = c.get.new.self in
     let seen : Log = new.seat.me.0.seen in
     let list = chain_known new.seat.me.0 new.number new.owns.1 new.owns.2 in
     let same : list_in new.seat.me.0 ≡ list_in old.seat.me.0 = ap (λ x. x.objects) (same_own g.P.GracePlan.QSBR g.K.ChainRule.allows (g.met.K.MapRule.maps g.P.GracePlan.QSBR) old.number old.seat.me new.seat.me w.1 old.owns.1 old.owns.2) in
     let falls : Falls (note_of seen) (list_in old.seat.me.0) = subst (Falls (note_of seen)) (list ∙ same) ((g.met.K.MapRule.maps g.P.GracePlan.QSBR).falls seen new.number w.1.2.2) in
     (omega arith, below (note_of seen) (list_in old.seat.me.0) s.0 (slice_index_or c.in-Some.first 2 0) falls s.1 (ap (λ (l : List ℕ). slice_index_or l 2 0) s.2))
-
-pub invariant_of-self : goal.invariant_of-self
-invariant_of-self g c =
-    let qsbr = g.P.GracePlan.QSBR in let allows = g.K.ChainRule.allows in let maps = g.met.K.MapRule.maps qsbr in let old = c.args.self.now.chain in let note = c.args.self.now.unnoted in let keys = c.args.self.now.keys in let new = c.get.new.self in record {
-      unnoted = by_option c.get.result _ _ c.get.ensures.walked c.get.ensures.none
-          (λ w f. note_still qsbr allows maps old.number old.seat.me new.seat.me f.1 old.owns.1 old.owns.2 note)
-          (λ n. ap (λ z. (own_in z.seat.me.0.chains).note) n.1 ∙ note);
-      keys = by_option c.get.result _ _ c.get.ensures.walked c.get.ensures.none
-          (λ w f. keys_walked qsbr allows maps old.number old.seat.me new.seat.me f.1 old.owns.1 old.owns.2 keys)
-          (λ n. subst (λ z. KnowsKeys z.seat.me.0) (sym n.1) keys);
-    }
