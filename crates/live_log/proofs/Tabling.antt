@@ -228,17 +228,17 @@ module _ (qsbr : Bool) where
 
     -- its note stays, or the sections of then have ended
     abbrev Waits : Log → Type 0
-    Waits log = (chain_note c log ≢ 0) ⊎ HaveEnded before log
+    Waits log = (chain_note c log ≡ d + 1) ⊎ HaveEnded before log
 
     still_waits : (e : LiveEvent) (log : Log) → chain_note c (e ∷ log) ≡ chain_note c log → Waits log → Waits (e ∷ log)
-    still_waits e log same (inl noted) = inl (λ z. noted (sym same ∙ z))
+    still_waits e log same (inl noted) = inl (same ∙ noted)
     still_waits e log same (inr ended) = inr (λ r n m opened. inr (ended r n m opened))
 
     waits_on : (e : LiveEvent) (es : Log) → IsLiveRun qsbr tabled (e ∷ (es ++ left)) → Waits (es ++ left) → Waits (e ∷ (es ++ left))
     waits_on (ChainNote b x) es run waits = dite (ℕ_discrete b c)
         (λ is. ⊎_elim
-        (λ (noted : chain_note c (es ++ left) ≢ 0). ⊎_elim
-        (λ (none : chain_note b (es ++ left) ≡ 0). absurd (noted (ap (λ (n : ℕ). chain_note n (es ++ left)) (sym is) ∙ none)))
+        (λ (noted : chain_note c (es ++ left) ≡ d + 1). ⊎_elim
+        (λ (none : chain_note b (es ++ left) ≡ 0). let z : chain_note c (es ++ left) ≡ 0 = ap (λ (n : ℕ). chain_note n (es ++ left)) (sym is) ∙ none in absurd (omega arith))
         (λ (k : (x ≡ 0) × IsFree (es ++ left) b × (chain_in (es ++ left) b ≡ []) × ¬ IsNamed (es ++ left) b). inr (λ r n m opened. inr (k.1 es before d old new cell payload refl directory (subst (Names (note_of before old)) (sym is) names) r n m opened)))
         run.0)
         (λ (ended : HaveEnded before (es ++ left)). inr (λ r n m opened. inr (ended r n m opened)))
@@ -253,7 +253,7 @@ module _ (qsbr : Bool) where
     waits_on (Object a) es run waits = still_waits (Object a) (es ++ left) refl waits
 
     waits_since : (since : Log) → IsLiveRun qsbr tabled (since ++ left) → Waits (since ++ left)
-    waits_since [] run = let y = (named_then run).1 in inl (λ (z : chain_note c before ≡ 0). absurd (omega arith))
+    waits_since [] run = inl (named_then run).1
     waits_since (e ∷ es) run = waits_on e es run (waits_since es run.1)
 
     -- while a section of then is open the chain stays as it was
@@ -291,9 +291,16 @@ module _ (qsbr : Bool) where
   unnoted_free log c run none since before d old new cell payload is directory names =
       let after : Log = since ++ Object (Replace d old new cell payload) ∷ before in subst (HaveEnded before) (sym is)
       (⊎_elim
-      (λ (noted : chain_note c after ≢ 0). absurd (noted (ap (chain_note c) (sym is) ∙ none)))
+      (λ (noted : chain_note c after ≡ d + 1). let z : chain_note c after ≡ 0 = ap (chain_note c) (sym is) ∙ none in absurd (omega arith))
       (λ (ended : HaveEnded before after). ended)
       (waits_since before c d old new cell payload directory names since (subst (IsLiveRun qsbr tabled) is run)))
+
+  -- once a directory that named the chain was replaced its note is the directory's chain's number and 1 still, or the
+  -- sections of then have ended
+  pub noted_or_ended : (log since before : Log) (c d : ℕ) (old new : ObjectId) (cell : ℕ) (payload : List ℕ) → IsLiveRun qsbr tabled log → log ≡ since ++ Object (Replace d old new cell payload) ∷ before → IsDirectory (note_of before old) → Names (note_of before old) c → (chain_note c log ≡ d + 1) ⊎ HaveEnded before log
+  noted_or_ended log since before c d old new cell payload run is directory names =
+      subst (λ (l : Log). (chain_note c l ≡ d + 1) ⊎ HaveEnded before l) (sym is)
+      (waits_since before c d old new cell payload directory names since (subst (IsLiveRun qsbr tabled) is run))
 
   -- a chain that a replaced directory named has what it had
   pub left_stays : (log since before : Log) (c d : ℕ) (old new : ObjectId) (cell : ℕ) (payload : List ℕ) (r n m : ℕ) → IsLiveRun qsbr tabled log → log ≡ since ++ Object (Replace d old new cell payload) ∷ before → IsDirectory (note_of before old) → Names (note_of before old) c → open_of r before ≡ some (n, m) → ¬ Has (Close r n) log → chain_in log c ≡ chain_in before c

@@ -1,13 +1,30 @@
 -- The chains of a seat that took in another's, and of one that cut it off.
-use Rattle.std.proofs.Common.{◌≡◌, List, [], ◌∷◌, ◌++◌, sym, ap, ◌∙◌}
+use Rattle.std.proofs.Common.{◌≡◌, List, [], ◌∷◌, ◌++◌, refl, sym, ap, ◌∙◌}
 use Rattle.live_rule.specs.declared.rights.ChainRight.{ChainRight}
-use Rattle.live_rule.specs.Seats.{lent_chains}
-use Rattle.live_table.specs.Rights.{own_in}
+use Rattle.live_rule.specs.Seats.{lent_chains, own_chain}
+use Rattle.live_table.specs.Rights.{no_chain, own_in}
 
--- one chain behind another
-pub behind : (xs ys zs : List ChainRight) → zs ≡ xs → xs ≡ own_in xs ∷ [] → ys ≡ own_in ys ∷ [] → zs ++ ys ≡ own_in xs ∷ own_in ys ∷ []
-behind xs ys zs same one other = ap (λ (l : List ChainRight). l ++ ys) (same ∙ one) ∙ ap (λ (l : List ChainRight). own_in xs ∷ l) other
+-- the seat has a chain of its own
+abbrev pub HasOwn : List ChainRight → Type 0
+HasOwn xs = xs ≡ own_in xs ∷ lent_chains xs
 
--- the first of the chains is the seat's own
-pub is_own : (xs ys : List ChainRight) (x : ChainRight) → xs ≡ x ∷ ys → xs ≡ own_in xs ∷ lent_chains xs
-is_own xs ys x is = is ∙ (λ i. own_in (sym is i) ∷ lent_chains (sym is i))
+-- what is behind its own comes behind it
+pub behind : (xs ys : List ChainRight) → HasOwn xs → own_chain xs ++ ys ≡ own_in xs ∷ ys
+behind [] ys has = cc
+behind (x ∷ xs) ys has = refl
+
+pub own_alone : (xs : List ChainRight) → HasOwn xs → own_chain xs ≡ own_in xs ∷ []
+own_alone [] has = cc
+own_alone (x ∷ xs) has = refl
+
+-- it has it still with more behind it
+pub has_more : (xs ys : List ChainRight) → HasOwn xs → HasOwn (xs ++ ys)
+has_more [] ys has = cc
+has_more (x ∷ xs) ys has = refl
+
+pub has_own : (xs ys : List ChainRight) (x : ChainRight) → xs ≡ x ∷ ys → HasOwn xs
+has_own xs ys x is = is ∙ (λ i. own_in (sym is i) ∷ lent_chains (sym is i))
+
+pub own_more : (xs ys : List ChainRight) → HasOwn xs → own_in (xs ++ ys) ≡ own_in xs
+own_more [] ys has = cc
+own_more (x ∷ xs) ys has = refl

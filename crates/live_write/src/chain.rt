@@ -8,7 +8,7 @@ ghost use Rattle.live_log.specs.declared.event.LiveEvent.TheVariants.{ChainNote}
 ghost use Rattle.live_log.specs.Log.{Begins, IsLiveRun, chain_note, payload_of};
 ghost use Rattle.live_rule.specs.Places.{hold_at};
 ghost use Rattle.live_rule.specs.Seats.{lent_chains};
-ghost use Rattle.live_table.specs.Rights.{IsListed, IsWriter, object_in, own_in};
+ghost use Rattle.live_table.specs.Rights.{AreAsKnown, IsListed, IsWriter, object_in, own_in};
 ghost use Rattle.live_table.specs.Steps.{Keeps, Went};
 ghost use Rattle.live_chains.specs.Chains.{cut_of};
 ghost use Rattle.live_read.specs.Hearing.{IsAfter, OnlyHears, Stays};
@@ -226,6 +226,7 @@ impl<'d, P: GracePlan, K: ChainRule, B: Site, H> Chain<'d, P, K, B, H> {
         requires { W.home witness.old ≡ (B.table, B.sizes) }
         ensures chains { (self.new.seat.me.0.chains ≡ self.old.seat.me.0.chains) × (self.new.number ≡ self.old.number) × (self.new.home.now ≡ self.old.home.now) }
         ensures told { IsAfter P.QSBR K.allows (W.seen witness.old) (W.heard witness.old) self.new.seat.me.0.seen × Begins self.old.seat.me.0.seen self.new.seat.me.0.seen × Begins self.old.seat.me.0.heard self.new.seat.me.0.seen }
+        ensures known { AreAsKnown self.new.seat.me.0.seen self.new.seat.me.0.chains }
         ensures heard { W.heard witness.new ≡ self.new.seat.me.0.seen }
         ensures same { OnlyHears W.Witness witness.old witness.new }
     {

@@ -1,9 +1,9 @@
 //! A chain's writer that lends its right to another chain's, so that what the rule of chains asks of both chains is known
 //! where the other one publishes.
 
-ghost use Rattle.std.specs.Prelude.{◌≡◌, ◌<◌, ◌∷◌, [], length};
+ghost use Rattle.std.specs.Prelude.{◌≡◌, ◌<◌, ◌∷◌, ◌++◌, [], length};
 ghost use Rattle.live_log.specs.Log.{Begins, IsLiveRun};
-ghost use Rattle.live_rule.specs.Seats.{but_lent, lent_chains};
+ghost use Rattle.live_rule.specs.Seats.{lent_chains};
 ghost use Rattle.live_table.specs.Rights.{AreAsKnown, IsListed, IsWriter, own_in};
 ghost use Rattle.live_table.specs.Steps.{Keeps};
 ghost use Rattle.live_write.specs.Chains.{list_in};
@@ -29,18 +29,17 @@ pub struct Lent<'d, P: GracePlan, K: ChainRule, B: Site, H> {
     pub(crate) ghost low: { number < table.now.chains },
 }
 
-/// The seat, which has a chain of its own alone, takes in the right to another's, behind that.
+/// The seat, which has a chain of its own, takes in the right to another's, behind all that it has.
 fn take_right<P: GracePlan, K: ChainRule>(
     table: &LiveTable<P, K>,
     seat: &mut LiveSeat,
     chain: usize,
     other: LiveSeat,
 )
-    requires seat { (seat.old.table_id ≡ table.now.words.shared.table_id) × (seat.old.me.0.sizes ≡ table.now.words.shared.key) × (chain < table.now.chains) }
+    requires seat { (seat.old.table_id ≡ table.now.words.shared.table_id) × (seat.old.me.0.sizes ≡ table.now.words.shared.key) × (chain < table.now.chains) × IsWriter seat.old.me.0 }
     requires other { (other.table_id ≡ table.now.words.shared.table_id) × (other.me.1 ≡ []) }
-    requires rights { (seat.old.me.0.chains ≡ own_in seat.old.me.0.chains ∷ []) × (other.me.0.chains ≡ own_in other.me.0.chains ∷ []) }
     ensures seat { Keeps seat.old seat.new × (seat.new.me.1 ≡ seat.old.me.1) × (seat.new.me.0.sizes ≡ seat.old.me.0.sizes) × IsListed seat.new.me.0 }
-    ensures chains { seat.new.me.0.chains ≡ own_in seat.old.me.0.chains ∷ own_in other.me.0.chains ∷ [] }
+    ensures chains { seat.new.me.0.chains ≡ seat.old.me.0.chains ++ other.me.0.chains }
     ensures known { AreAsKnown seat.new.me.0.seen seat.new.me.0.chains }
     ensures later { Begins seat.old.me.0.seen seat.new.me.0.seen × Begins other.me.0.seen seat.new.me.0.seen × IsLiveRun P.QSBR K.allows seat.new.me.0.seen }
 {
@@ -49,30 +48,35 @@ fn take_right<P: GracePlan, K: ChainRule>(
     load_note(table, seat, chain);
 }
 
-/// The seat with the right to the chain that was taken in, which it cuts off.
+/// The seat with the right to the first chain that was taken in, which it cuts off.
 fn cut_right<P: GracePlan, K: ChainRule>(
     table: &LiveTable<P, K>,
     seat: &mut LiveSeat,
     chain: usize,
 ) -> LiveSeat
     requires seat { (seat.old.table_id ≡ table.now.words.shared.table_id) × (seat.old.me.0.sizes ≡ table.now.words.shared.key) × (chain < table.now.chains) }
-    requires right { lent_chains seat.old.me.0.chains ≡ own_in (lent_chains seat.old.me.0.chains) ∷ [] }
-    ensures seat { Keeps seat.old seat.new × (seat.new.me ≡ (but_lent seat.old.me.0, seat.old.me.1)) }
+    requires own { IsWriter seat.old.me.0 × IsListed seat.old.me.0 }
+    requires right { lent_chains seat.old.me.0.chains ≡ own_in (lent_chains seat.old.me.0.chains) ∷ lent_chains (lent_chains seat.old.me.0.chains) }
+    ensures seat { Keeps seat.old seat.new × (seat.new.me.1 ≡ seat.old.me.1) × (seat.new.me.0.sizes ≡ seat.old.me.0.sizes) × IsListed seat.new.me.0 × (seat.new.me.0.seen ≡ seat.old.me.0.seen) }
+    ensures chains { seat.new.me.0.chains ≡ own_in seat.old.me.0.chains ∷ lent_chains (lent_chains seat.old.me.0.chains) }
     ensures right { (result.table_id ≡ seat.old.table_id) × (result.me.1 ≡ []) × (result.me.0.sizes ≡ seat.old.me.0.sizes) × IsListed result.me.0 × (result.me.0.chains ≡ own_in (lent_chains seat.old.me.0.chains) ∷ []) }
     ensures later { Begins seat.old.me.0.seen result.me.0.seen × IsLiveRun P.QSBR K.allows result.me.0.seen }
 {
     let mut right = table.cut_lent_chains(seat);
+    let others = table.cut_lent_chains(&mut right);
     load_note(table, &mut right, chain);
+    table.join(seat, others);
     right
 }
 
 impl<'d, P: GracePlan, K: ChainRule, B: Site, H> Chain<'d, P, K, B, H> {
-    /// Lends the chain's right to another chain's writer, which has seen then all that this one had, and knows this
-    /// chain's list and note in each log in which it publishes until they are taken back. It never waits.
+    /// Lends the chain's right to another chain's writer, behind those that were lent to that before. That writer has
+    /// seen then all that this one had, and knows this chain's list and note in each log in which it publishes until
+    /// they are taken back. It never waits.
     pub fn lend(self, to: &mut Chain<'_, P, K, B, H>) -> Lent<'d, P, K, B, H>
-        requires { (lent_chains self.entry.seat.me.0.chains ≡ []) × (lent_chains to.old.seat.me.0.chains ≡ []) }
+        requires { lent_chains self.entry.seat.me.0.chains ≡ [] }
         ensures lent { (result.number ≡ self.entry.number) × (result.linked ≡ length (list_in self.entry.seat.me.0)) × (result.home.now ≡ self.entry.home.now) }
-        ensures chains { (to.new.seat.me.0.chains ≡ own_in to.old.seat.me.0.chains ∷ own_in self.entry.seat.me.0.chains ∷ []) × (to.new.number ≡ to.old.number) × (to.new.home.now ≡ to.old.home.now) }
+        ensures chains { (to.new.seat.me.0.chains ≡ to.old.seat.me.0.chains ++ own_in self.entry.seat.me.0.chains ∷ []) × (to.new.number ≡ to.old.number) × (to.new.home.now ≡ to.old.home.now) }
         ensures known { AreAsKnown to.new.seat.me.0.seen to.new.seat.me.0.chains }
         ensures later { Begins to.old.seat.me.0.seen to.new.seat.me.0.seen × Begins self.entry.seat.me.0.seen to.new.seat.me.0.seen × IsLiveRun P.QSBR K.allows to.new.seat.me.0.seen }
     {
@@ -96,13 +100,13 @@ impl<'d, P: GracePlan, K: ChainRule, B: Site, H> Chain<'d, P, K, B, H> {
 }
 
 impl<'d, P: GracePlan, K: ChainRule, B: Site, H> Lent<'d, P, K, B, H> {
-    /// Takes the chain's right back from the writer that has it, which knows its own chain alone then. This one has seen
-    /// all that that one had. It never waits.
+    /// Takes the chain's right back from the writer that has it, to which it was lent before all others that this has
+    /// still. This writer has seen then all that that one had. It never waits.
     pub fn take_back(self, from: &mut Chain<'_, P, K, B, H>) -> Chain<'d, P, K, B, H>
-        requires right { lent_chains from.old.seat.me.0.chains ≡ own_in (lent_chains from.old.seat.me.0.chains) ∷ [] }
+        requires right { lent_chains from.old.seat.me.0.chains ≡ own_in (lent_chains from.old.seat.me.0.chains) ∷ lent_chains (lent_chains from.old.seat.me.0.chains) }
         requires its { ((own_in (lent_chains from.old.seat.me.0.chains)).chain ≡ self.entry.number) × (length (own_in (lent_chains from.old.seat.me.0.chains)).objects ≡ self.entry.linked) }
         ensures chain { (result.seat.me.0.chains ≡ own_in (lent_chains from.old.seat.me.0.chains) ∷ []) × (result.number ≡ self.entry.number) × (result.home.now ≡ self.entry.home.now) }
-        ensures from { (from.new.seat.me ≡ (but_lent from.old.seat.me.0, from.old.seat.me.1)) × (from.new.number ≡ from.old.number) × (from.new.home.now ≡ from.old.home.now) }
+        ensures from { (from.new.seat.me.0.chains ≡ own_in from.old.seat.me.0.chains ∷ lent_chains (lent_chains from.old.seat.me.0.chains)) × (from.new.seat.me.0.seen ≡ from.old.seat.me.0.seen) × (from.new.number ≡ from.old.number) × (from.new.home.now ≡ from.old.home.now) }
         ensures later { Begins from.old.seat.me.0.seen result.seat.me.0.seen × IsLiveRun P.QSBR K.allows result.seat.me.0.seen }
     {
         let Lent {
