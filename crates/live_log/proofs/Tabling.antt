@@ -118,6 +118,13 @@ module _ (qsbr : Bool) where
   pub directory_alone : (log : Log) (d : ℕ) (o : ObjectId) → IsLiveRun qsbr tabled log → In (chain_in log d) o → IsDirectory (note_of log o) → chain_in log d ≡ o ∷ []
   directory_alone log d o run h directory = alone_there log d o (each_sorted log d run) h directory
 
+  -- a linked object of that kind is a directory
+  pub directory_there : (log : Log) (d : ℕ) (o : ObjectId) → IsLiveRun qsbr tabled log → In (chain_in log d) o → kind_of (note_of log o) ≡ 1 → IsDirectory (note_of log o)
+  directory_there log d o run h kind = ⊎_elim
+      (λ (keys : HasKeys log d). let a : kind_of (note_of log o) ≡ 0 = keys o h in absurd (omega arith))
+      (λ (alone : IsAlone log d). subst (λ (q : ObjectId). IsDirectory (note_of log q)) (only alone.0 o (subst (λ (l : List ObjectId). In l o) alone.1 h)) alone.2)
+      (each_sorted log d run)
+
   -- a directory takes the place of one that was alone
   pub was_alone : (log : Log) (d : ℕ) (p o : ObjectId) (i : ℕ) (w : List ℕ) → IsLiveRun qsbr tabled (Object (Replace d p o i w) ∷ log) → IsDirectory (note_of log p) → chain_in log d ≡ p ∷ []
   was_alone log d p o i w run directory = alone_there log d p (each_sorted log d run.1) (in_objects (chain_in log d) p run.0.0.0) directory

@@ -1,4 +1,5 @@
 pub mod Changing
+pub mod Directing
 pub mod Going
 pub mod Hearing
 pub mod Making

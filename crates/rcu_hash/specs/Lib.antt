@@ -1,4 +1,5 @@
 pub mod Calls
+pub mod Directories
 pub mod Refusing
 pub mod Tables
 pub mod Walks

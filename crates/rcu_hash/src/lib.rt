@@ -2,6 +2,8 @@
 //! Hash tables over the chains of a domain: lookups in read-side sections, which take no lock, beside writers, who take
 //! the lock of one bucket each.
 
+mod laws;
 mod table;
 
+pub use laws::buckets_answer_for_their_table;
 pub use table::RcuHash;

@@ -4,7 +4,7 @@ use Rattle.live_rule.specs.Seats.{lent_chains, own_chain}
 use Rattle.live_rule.specs.declared.rights.ChainRight.{ChainRight}
 use Rattle.live_rule.specs.declared.view.View.{View}
 use Rattle.live_table.specs.Rights.{IsListed, own_in}
-use Rattle.live_write.proofs.Lending.{behind, has_own, own_alone}
+use Rattle.live_write.proofs.Lending.{behind, has_own, listed_same, own_alone}
 use Rattle.live_write.proofs.lending.cut_right.Goals as goal
 
 pub returns-clause-chains : goal.returns-clause-chains
@@ -27,3 +27,15 @@ pub returns-clause-later : goal.returns-clause-later
 returns-clause-later g c =
     let a = c.load_note.ensures.looked.2 in
     (subst (λ (l : Log). Begins l c.load_note.new.right.me.0.seen) (ap (λ z. z.0.seen) c.cut_lent_chains-others.ensures.2 ∙ ap (λ z. z.0.seen) c.cut_lent_chains-right.ensures.4) a.0, a.2)
+
+pub returns-clause-seat : goal.returns-clause-seat
+returns-clause-seat g c =
+    let xs : List ChainRight = c.args.seat.now.me.0.chains in let one = c.cut_lent_chains-right.ensures in let two = c.cut_lent_chains-others.ensures in let j = c.join.ensures in
+    let chains = ap (λ z. z.0.chains) j.2 ∙ ((λ i. (one.2 i).0.chains ++ (two.4 i).0.chains) ∙ (ap (λ z. own_chain xs ++ lent_chains z.0.chains) one.4 ∙ behind xs (lent_chains (lent_chains xs)) c.requires.own.0)) in
+    let seen = ap (λ z. z.0.seen) j.2 ∙ ap (λ z. z.0.seen) one.2 in (
+      (j.0 ∙ one.0, j.1 ∙ one.1),
+      ap (λ z. z.1) j.2 ∙ ap (λ z. z.1) one.2,
+      ap (λ z. z.0.sizes) j.2 ∙ ap (λ z. z.0.sizes) one.2,
+      listed_same c.args.seat.now.me.0 c.join.new.seat.me.0 seen (ap own_in chains) c.requires.own.1,
+      seen,
+    )

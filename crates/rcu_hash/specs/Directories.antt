@@ -1,0 +1,35 @@
+-- The map of a table whose buckets a directory names: the one record of a chain, which a lookup reads first.
+use Rattle.std.specs.Prelude.{◌≡◌, ℕ, ◌<◌, ◌==◌, ◌&&◌, Bool, if◌then◌else◌, nat_lt, List, Option, Some, None, slice_index_or}
+use Rattle.rcu_model.specs.declared.event.ObjectId.{ObjectId}
+use Rattle.rcu_model.specs.Sets.{first_of}
+use Rattle.live_log.specs.Log.{Log, Begins, note_of, state_of}
+use Rattle.live_log.specs.Tables.{kind_of}
+use Rattle.rcu_list.specs.Maps.{map_of}
+use Rattle.rcu_hash.specs.Tables.{bucket_of}
+
+-- of a directory's payload: the chain of a key's bucket
+abbrev pub buckets_in : ℕ × List ℕ → ℕ
+buckets_in x = slice_index_or x.1 1 0
+
+abbrev pub bucket_in : ℕ × List ℕ → ℕ → ℕ
+bucket_in x key = bucket_of (slice_index_or x.1 0 0) (buckets_in x) key
+
+-- it is a directory's, with a bucket for the key among so many chains
+abbrev pub leads : ℕ → ℕ × List ℕ → ℕ → Bool
+leads chains x key = (kind_of x == 1) && (nat_lt 0 (buckets_in x) && nat_lt (bucket_in x key) chains)
+
+-- the value of a key by the first object of the directory's chain, where there is one
+abbrev pub value_through : ℕ → Log → Option ObjectId → ℕ → Option ℕ
+value_through chains log None key = None
+value_through chains log (Some o) key = if leads chains (note_of log o) key then map_of log (bucket_in (note_of log o) key) key else None
+
+-- the map of the table whose directory is in chain d, over a domain of so many chains
+abbrev pub directed_map : ℕ → ℕ → Log → ℕ → Option ℕ
+directed_map chains d log = value_through chains log (first_of ((state_of log).chain d))
+
+-- a log between two, in which the key had this value in the table, or none
+pub record Directs (start log : Log) (chains d key : ℕ) (answer : Option ℕ) : Type 0 where
+  pub at : Log
+  pub after : Begins start at
+  pub before : Begins at log
+  pub is : directed_map chains d at key ≡ answer
