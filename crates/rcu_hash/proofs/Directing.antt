@@ -15,7 +15,7 @@ use Rattle.live_log.specs.Tables.{IsDirectory, IsReplaced, Names, kind_of, table
 use Rattle.live_log.proofs.Lemmas.{begins_trans, chain_used, directory_alone, directory_there, has_later, left_stays, linked_or_replaced, note_stays, run_of, still}
 use Rattle.rcu_list.specs.Maps.{map_of, value_in}
 use Rattle.rcu_list.proofs.Lemmas.{value_same}
-use Rattle.rcu_hash.specs.Directories.{Directs, bucket_in, buckets_in, directed_map, leads, value_through}
+use Rattle.rcu_hash.specs.Directories.{AnswersThrough, bucket_in, buckets_in, directed_map, leads, value_through}
 
 -- both of two facts
 both : (a b : Bool) → (a && b) ≡ true → (a ≡ true) × (b ≡ true)
@@ -59,16 +59,17 @@ module _ (qsbr : Bool) where
     note_later now b here = note_stays qsbr tabled start now o b here (chain_used qsbr tabled start d o (run_of qsbr tabled start now b here) linked)
 
     -- the directory is linked in a log, where the bucket has this answer
-    by_linked : (now : Log) → Begins start now → Begins now log → In ((state_of now).chain d) o → map_of now (bucket_in words key) key ≡ map_of at (bucket_in words key) key → Directs start log chains d key (map_of at (bucket_in words key) key)
+    by_linked : (now : Log) → Begins start now → Begins now log → In ((state_of now).chain d) o → map_of now (bucket_in words key) key ≡ map_of at (bucket_in words key) key → AnswersThrough start start log chains d key (map_of at (bucket_in words key) key)
     by_linked now b goes still_there same =
         let here = run_of qsbr tabled now log goes run in let note = note_later now b here in record {
           at = now;
-          after = b;
+          after_seen = b;
+          after_heard = b;
           before = goes;
           is = directed_is chains key words led now d o (directory_alone qsbr now d o here still_there (subst IsDirectory (sym note) directory)) note ∙ same;
         }
 
-    by_replaced : IsReplaced start at d o → Directs start log chains d key (map_of at (bucket_in words key) key)
+    by_replaced : IsReplaced start at d o → AnswersThrough start start log chains d key (map_of at (bucket_in words key) key)
     by_replaced r =
         let e : LiveEvent = Object (Replace d o r.new r.cell r.payload) in
         let before : Begins r.before at = (r.since ++ e ∷ [], r.is ∙ sym (append_assoc r.since (e ∷ []) r.before)) in
@@ -83,7 +84,7 @@ module _ (qsbr : Bool) where
         (λ closed. inside (subst (Has (Close slot ordinal)) (sym later.1) (has_later (Close slot ordinal) later.0 at closed))) in
         by_linked r.before r.after goes r.linked (sym (map_same r.before at (bucket_in words key) key before run_at stays))
 
-    pub answers_for_table : Directs start log chains d key (map_of at (bucket_in words key) key)
+    pub answers_for_table : AnswersThrough start start log chains d key (map_of at (bucket_in words key) key)
     answers_for_table = ⊎_elim
         (λ (h : In ((state_of at).chain d) o). by_linked at since later h refl)
         (λ (r : IsReplaced start at d o). by_replaced r)

@@ -14,9 +14,12 @@ buckets_in x = slice_index_or x.1 1 0
 abbrev pub bucket_in : ℕ × List ℕ → ℕ → ℕ
 bucket_in x key = bucket_of (slice_index_or x.1 0 0) (buckets_in x) key
 
--- it is a directory's, with a bucket for the key among so many chains
+-- a directory's words, with a bucket for the key among so many chains
+abbrev pub leads_to : (chains kind first buckets key : ℕ) → Bool
+leads_to chains kind first buckets key = (kind == 1) && (nat_lt 0 buckets && nat_lt (bucket_of first buckets key) chains)
+
 abbrev pub leads : ℕ → ℕ × List ℕ → ℕ → Bool
-leads chains x key = (kind_of x == 1) && (nat_lt 0 (buckets_in x) && nat_lt (bucket_in x key) chains)
+leads chains x key = leads_to chains (kind_of x) (slice_index_or x.1 0 0) (buckets_in x) key
 
 -- the value of a key by the first object of the directory's chain, where there is one
 abbrev pub value_through : ℕ → Log → Option ObjectId → ℕ → Option ℕ
@@ -27,9 +30,11 @@ value_through chains log (Some o) key = if leads chains (note_of log o) key then
 abbrev pub directed_map : ℕ → ℕ → Log → ℕ → Option ℕ
 directed_map chains d log = value_through chains log (first_of ((state_of log).chain d))
 
--- a log between two, in which the key had this value in the table, or none
-pub record Directs (start log : Log) (chains d key : ℕ) (answer : Option ℕ) : Type 0 where
+-- A lookup that had seen and heard of these logs, and has seen the new one at its end, answers by the table's map in some
+-- log between: the key had the value there, or none.
+pub record AnswersThrough (seen heard new : Log) (chains d key : ℕ) (answer : Option ℕ) : Type 0 where
   pub at : Log
-  pub after : Begins start at
-  pub before : Begins at log
+  pub after_seen : Begins seen at
+  pub after_heard : Begins heard at
+  pub before : Begins at new
   pub is : directed_map chains d at key ≡ answer

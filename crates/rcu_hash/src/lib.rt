@@ -4,6 +4,8 @@
 
 mod laws;
 mod table;
+mod view;
 
 pub use laws::buckets_answer_for_their_table;
 pub use table::RcuHash;
+pub use view::TableView;
