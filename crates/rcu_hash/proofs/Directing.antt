@@ -18,7 +18,7 @@ use Rattle.rcu_list.proofs.Lemmas.{value_same}
 use Rattle.rcu_hash.specs.Directories.{AnswersThrough, bucket_in, buckets_in, directed_map, leads, value_through}
 
 -- both of two facts
-both : (a b : Bool) → (a && b) ≡ true → (a ≡ true) × (b ≡ true)
+pub both : (a b : Bool) → (a && b) ≡ true → (a ≡ true) × (b ≡ true)
 both true b is = (refl, is)
 both false b is = cc
 

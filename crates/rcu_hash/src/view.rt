@@ -1,11 +1,12 @@
 //! Lookups in a table by its directory, which may change meanwhile.
 
-ghost use Rattle.std.specs.Prelude.{◌≡◌, ◌<◌, ◌≤◌, IfErr, IfNone, IfOk, IfSome, true, false};
+ghost use Rattle.std.specs.Prelude.{◌≡◌, ◌<◌, ◌≤◌, ℕ, List, IfErr, IfNone, IfOk, IfSome, true, false};
+ghost use Rattle.std.specs.List.{FoldsTo};
 ghost use Rattle.rcu_model.specs.declared.refusal.Refusal.TheVariants.{NoPlace};
 ghost use Rattle.live_log.specs.Tables.{tabled};
 ghost use Rattle.live_read.specs.Holding.{log_of};
 ghost use Rattle.live_read.specs.Reads.{Looks};
-ghost use Rattle.rcu_hash.specs.Directories.{AnswersThrough, leads_to};
+ghost use Rattle.rcu_hash.specs.Directories.{AnswersThrough, WalksThrough, leads_to};
 ghost use Rattle.rcu_hash.specs.Tables.{bucket_of};
 
 use domain::{Deleter, Domain, Held, Section, Site};
@@ -67,7 +68,8 @@ impl<B: Site> TableView<B> {
     ghost use Rattle.live_read.specs.Holding.{MayHold, MayHoldIn};
     ghost use Rattle.live_read.specs.Reads.{FindsFirst};
     ghost use Rattle.live_read.specs.Sections.{IsIn};
-    ghost use Rattle.rcu_hash.specs.Directories.{bucket_in, leads};
+    ghost use Rattle.live_log.specs.Tables.{kind_of};
+    ghost use Rattle.rcu_hash.specs.Directories.{buckets_in, first_in};
 
     /// Of the table whose directory is in a chain of the domain.
     ///
@@ -90,27 +92,18 @@ impl<B: Site> TableView<B> {
         })
     }
 
-    // The list of a key's bucket by a directory, if the object is one that has a bucket for it.
-    fn bucket<P: GracePlan>(
-        self,
-        section: &mut Section<'_, P, Tabled, B>,
-        held: Held,
-        key: u64,
-    ) -> Option<ListView<B>>
+    // Three words of an object: a directory's kind, the first chain that it names, and how many.
+    fn words<P: GracePlan>(section: &mut Section<'_, P, Tabled, B>, held: Held) -> (u64, u64, u64)
         requires open_section { (P.QSBR ≡ B.qsbr) × (0 < section.old.reader.now.depth) }
         requires held { MayHoldIn section.old.reader.now held.cell }
         ensures reader { section.new.reader.ghost_name ≡ section.old.reader.ghost_name }
         ensures looked { Looks P.QSBR tabled section.old.reader.now section.new.reader.now }
-        ensures some { IfSome result (λ list. (o : ObjectId) → MayHold section.old.reader.now o held.cell → (leads self.chains (note_of (log_of section.old.reader.now) o) key ≡ true) × (list.chain ≡ bucket_in (note_of (log_of section.old.reader.now) o) key)) }
-        ensures none { IfNone result ((o : ObjectId) → MayHold section.old.reader.now o held.cell → leads self.chains (note_of (log_of section.old.reader.now) o) key ≡ false) }
+        ensures words { (o : ObjectId) → MayHold section.old.reader.now o held.cell → (result.0 ≡ kind_of (note_of (log_of section.old.reader.now) o)) × (result.1 ≡ first_in (note_of (log_of section.old.reader.now) o)) × (result.2 ≡ buckets_in (note_of (log_of section.old.reader.now) o)) }
     {
         let kind = section.read_word(held, 3);
         let first = section.read_word(held, 0);
         let buckets = section.read_word(held, 1);
-        let Some(chain) = bucket_by(kind, first, buckets, key, self.chains) else {
-            return None;
-        };
-        Some(ListView::at(chain))
+        (kind, first, buckets)
     }
 
     // The value of the key, by the first object of the directory's chain.
@@ -127,10 +120,11 @@ impl<B: Site> TableView<B> {
         ensures looked { Looks P.QSBR tabled section.old.reader.now section.new.reader.now }
         ensures window { AnswersThrough (log_of section.old.reader.now) (log_of section.old.reader.now) (log_of section.new.reader.now) B.sizes.chains self.directory key result }
     {
-        let Some(list) = self.bucket(section, held, key) else {
+        let (kind, first, buckets) = Self::words(section, held);
+        let Some(chain) = bucket_by(kind, first, buckets, key, self.chains) else {
             return None;
         };
-        list.get(section, key)
+        ListView::at(chain).get(section, key)
     }
 
     /// The value of a key, or none; liburcu's `cds_lfht_lookup`. It is what the table has for the key at some moment
@@ -149,6 +143,56 @@ impl<B: Site> TableView<B> {
         match section.first(self.directory) {
             Ok(Some(held)) => self.look(section, held, key),
             Ok(None) => None,
+            Err(_) => unreachable!(),
+        }
+    }
+
+    // Goes through the buckets of a directory, by the first object of its chain.
+    fn walk<P: GracePlan, F: FnMut(u64, u64)>(
+        self,
+        section: &mut Section<'_, P, Tabled, B>,
+        held: Held,
+        visit: &mut F,
+    )
+        requires open_section { (P.QSBR ≡ B.qsbr) × (0 < section.old.reader.now.depth) }
+        requires inside { IsIn section.old.reader.now }
+        requires first { (o : ObjectId) × FindsFirst section.old.reader.now self.directory (Some o) × MayHold section.old.reader.now o held.cell }
+        requires callable { F.IsAlwaysCallable visit.old }
+        ensures reader { section.new.reader.ghost_name ≡ section.old.reader.ghost_name }
+        ensures looked { Looks P.QSBR tabled section.old.reader.now section.new.reader.now }
+        ensures callable { F.IsAlwaysCallable visit.new }
+        ensures met { (met : List (ℕ × ℕ)) × WalksThrough (log_of section.old.reader.now) (log_of section.old.reader.now) (log_of section.new.reader.now) B.sizes.chains self.directory met × FoldsTo (λ f e g. F.step f e.0 e.1 tt g) visit.old met visit.new }
+    {
+        let (kind, first, buckets) = Self::words(section, held);
+        for number in 0..buckets {
+            let Some(chain) = bucket_by(kind, first, buckets, number, self.chains) else {
+                return;
+            };
+            ListView::at(chain).for_each_of(section, buckets, number, visit);
+        }
+    }
+
+    /// Goes through the table, liburcu's `cds_lfht_for_each`: a call with the key and the value of each entry that it comes
+    /// to, bucket by bucket. A key that is there all along, from the call to the return, is met exactly once, also while
+    /// its value is replaced and while the table grows; one that never is there is not met; and each value is one that
+    /// its key had meanwhile.
+    ///
+    /// It returns where each call does, since ranks fall along each chain. It never waits and takes no memory.
+    pub fn for_each<P: GracePlan, F: FnMut(u64, u64)>(
+        self,
+        section: &mut Section<'_, P, Tabled, B>,
+        visit: &mut F,
+    )
+        requires open_section { (P.QSBR ≡ B.qsbr) × (0 < section.old.reader.now.depth) }
+        requires callable { F.IsAlwaysCallable visit.old }
+        ensures reader { section.new.reader.ghost_name ≡ section.old.reader.ghost_name }
+        ensures looked { Looks P.QSBR tabled section.old.reader.now section.new.reader.now }
+        ensures callable { F.IsAlwaysCallable visit.new }
+        ensures met { (met : List (ℕ × ℕ)) × WalksThrough (log_of section.old.reader.now) section.old.reader.now.seat.me.0.heard (log_of section.new.reader.now) B.sizes.chains self.directory met × FoldsTo (λ f e g. F.step f e.0 e.1 tt g) visit.old met visit.new }
+    {
+        match section.first(self.directory) {
+            Ok(Some(held)) => self.walk(section, held, visit),
+            Ok(None) => (),
             Err(_) => unreachable!(),
         }
     }

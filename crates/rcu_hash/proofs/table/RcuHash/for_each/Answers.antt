@@ -1,11 +1,11 @@
-use Rattle.std.proofs.Common.{◌≡◌, ◌%◌, ◌++◌, ℕ, [], refl, ◌∙◌, subst, inl, inr, ⊎_elim, arith}
+use Rattle.std.proofs.Common.{◌≡◌, ◌+◌, ◌%◌, ◌++◌, ℕ, [], refl, ◌∙◌, subst, inl, inr, ⊎_elim, arith}
 use Rattle.live_log.specs.Log.{Log, Begins}
 use Rattle.live_log.proofs.Lemmas.{begins_trans}
 use Rattle.live_read.specs.Holding.{log_of}
 use Rattle.live_read.specs.Reads.{Looks}
 use Rattle.live_read.proofs.Lemmas.{looks_twice}
 use Rattle.rcu_list.specs.Walks as list
-use Rattle.rcu_hash.proofs.Going.{WentThrough, folds_both, went_all, went_nowhere, went_on}
+use Rattle.rcu_hash.proofs.Going.{HadIn, WentThrough, answers_later, answers_own, folds_both, went_all, went_nowhere, went_on}
 use Rattle.rcu_hash.proofs.table.RcuHash.for_each.Goals as goal
 
 pub loop-number-init : goal.loop-number-init
@@ -14,7 +14,7 @@ loop-number-init g c = let old = c.args.section.now.reader.now in record {
   looked = inl (refl, refl);
   callable = c.requires.callable;
   met = [];
-  went = went_nowhere c.args.self.now.first c.args.self.now.buckets (log_of old) old.seat.me.0.heard (log_of old);
+  went = went_nowhere c.args.self.now.buckets (HadIn c.args.self.now.first c.args.self.now.buckets (log_of old) old.seat.me.0.heard) (log_of old);
   ran = refl;
 }
 
@@ -31,7 +31,8 @@ loop-number-preserved g c =
       looked = inr (⊎_elim (λ x. subst (λ r. Looks qsbr allows r new) x.1 e.looked) (λ l. looks_twice qsbr allows old mid new l e.looked) i.looked);
       callable = e.callable;
       met = i.met ++ m.0;
-      went = went_on first buckets (log_of old) old.seat.me.0.heard (log_of mid) mid.seat.me.0.heard (log_of new) number i.met m.0 knew e.looked.later.after_seen i.went
+      went = went_on buckets (HadIn first buckets (log_of old) old.seat.me.0.heard) (answers_later first buckets (log_of old) old.seat.me.0.heard) (log_of mid) mid.seat.me.0.heard (log_of new) number (first + number) i.met m.0
+          (answers_own first buckets (log_of old) old.seat.me.0.heard (log_of mid) mid.seat.me.0.heard (log_of new) number knew) e.looked.later.after_seen i.went
           (subst (λ (n : ℕ). list.GoesThrough (λ key. key % buckets ≡ number) (log_of mid) mid.seat.me.0.heard (log_of new) n m.0) c.at.ensures m.1);
       ran = folds_both (λ f y h. goal.F-step g f y.0 y.1 tt h) c.args.visit.now c.loop-number.visit c.for_each_of.new.visit i.met m.0 i.ran m.2;
     }
@@ -47,6 +48,6 @@ returns-clause-met g c =
     let is : c.loop-number.number ≡ c.args.self.now.buckets = omega arith in (
       i.met,
       went_all c.args.self.now.first c.args.self.now.buckets (log_of old) old.seat.me.0.heard (log_of new) i.met c.args.self.now.fits.0
-          (subst (λ (n : ℕ). WentThrough c.args.self.now.first c.args.self.now.buckets (log_of old) old.seat.me.0.heard (log_of new) n i.met) is i.went),
+          (subst (λ (n : ℕ). WentThrough c.args.self.now.buckets (HadIn c.args.self.now.first c.args.self.now.buckets (log_of old) old.seat.me.0.heard) (log_of new) n i.met) is i.went),
       i.ran,
     )
