@@ -52,6 +52,14 @@ module _ (chains kind first buckets : ℕ) where
         let y = leads_all key led in let m : number % buckets ≡ number = mod-eq_of_lt low in
         let yes = leads_yes number y.0 y.1 (let z = y.2 in omega arith) in cc)
 
+-- what was answered since a later log was answered since an earlier one
+module _ (seen heard start new : Log) (chains d : ℕ) where
+  pub through_from : (key : ℕ) (answer : Option ℕ) → Begins seen start → Begins heard start → AnswersThrough start start new chains d key answer → AnswersThrough seen heard new chains d key answer
+  through_from key answer a b x = record { at = x.at; after_seen = begins_trans seen start x.at a x.after_seen; after_heard = begins_trans heard start x.at b x.after_seen; before = x.before; is = x.is }
+
+  pub walks_from : (met : List (ℕ × ℕ)) → Begins seen start → Begins heard start → WalksThrough start start new chains d met → WalksThrough seen heard new chains d met
+  walks_from met a b w = record { had = λ key value h. through_from key (Some value) a b (w.had key value h); lacked = λ key n. through_from key None a b (w.lacked key n) }
+
 -- a lookup by a reader in a section
 module _ {P K B : Type 0} {g : Ghosts B} (qsbr : Bool) (chains d : ℕ) (r s t : Reader P K B g) (o : ObjectId) (first : FindsFirst r d (Some o)) where
   -- the object is no directory that leads the key
