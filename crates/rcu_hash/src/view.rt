@@ -118,7 +118,7 @@ impl<B: Site> TableView<B> {
         requires first { (o : ObjectId) × FindsFirst section.old.reader.now self.directory (Some o) × MayHold section.old.reader.now o held.cell }
         ensures reader { section.new.reader.ghost_name ≡ section.old.reader.ghost_name }
         ensures looked { Looks P.QSBR tabled section.old.reader.now section.new.reader.now }
-        ensures window { AnswersThrough (log_of section.old.reader.now) (log_of section.old.reader.now) (log_of section.new.reader.now) B.sizes.chains self.directory key result }
+        ensures window { AnswersThrough (log_of section.old.reader.now) (log_of section.old.reader.now) (log_of section.new.reader.now) self.chains self.directory key result }
     {
         let (kind, first, buckets) = Self::words(section, held);
         let Some(chain) = bucket_by(kind, first, buckets, key, self.chains) else {
@@ -161,7 +161,7 @@ impl<B: Site> TableView<B> {
         ensures reader { section.new.reader.ghost_name ≡ section.old.reader.ghost_name }
         ensures looked { Looks P.QSBR tabled section.old.reader.now section.new.reader.now }
         ensures callable { F.IsAlwaysCallable visit.new }
-        ensures met { (met : List (ℕ × ℕ)) × WalksThrough (log_of section.old.reader.now) (log_of section.old.reader.now) (log_of section.new.reader.now) B.sizes.chains self.directory met × FoldsTo (λ f e g. F.step f e.0 e.1 tt g) visit.old met visit.new }
+        ensures met { (met : List (ℕ × ℕ)) × WalksThrough (log_of section.old.reader.now) (log_of section.old.reader.now) (log_of section.new.reader.now) self.chains self.directory met × FoldsTo (λ f e g. F.step f e.0 e.1 tt g) visit.old met visit.new }
     {
         let (kind, first, buckets) = Self::words(section, held);
         for number in 0..buckets {

@@ -1,10 +1,10 @@
-use Rattle.std.proofs.Common.{◌≡◌, ℕ, List, [], Option, None, refl, ap}
+use Rattle.std.proofs.Common.{◌≡◌, ℕ, List, [], Option, None, refl, ap, subst}
 use Rattle.rcu_model.specs.declared.event.ObjectId.{ObjectId}
 use Rattle.live_log.specs.Log.{Log}
 use Rattle.live_log.specs.Tables.{tabled}
 use Rattle.live_read.specs.Holding.{log_of}
 use Rattle.live_read.proofs.Lemmas.{looks_twice}
-use Rattle.rcu_hash.specs.Directories.{value_through}
+use Rattle.rcu_hash.specs.Directories.{WalksThrough, value_through}
 use Rattle.rcu_hash.proofs.Looking.{walks_from}
 use Rattle.rcu_hash.proofs.view.TableView.for_each.Goals as goal
 
@@ -13,8 +13,12 @@ returns-in-Ok-Some-clause-looked g c = looks_twice g.P.GracePlan.QSBR tabled c.a
 
 pub returns-in-Ok-Some-clause-met : goal.returns-in-Ok-Some-clause-met
 returns-in-Ok-Some-clause-met g c =
-    let l = c.in-Ok-Some.ensures.looked.1.later in let m = c.walk.ensures.met in let old = c.args.section.now.reader.now in
-    (m.0, walks_from (log_of old) old.seat.me.0.heard (log_of c.first.new.self.reader.now) (log_of c.walk.new.section.reader.now) g.B.Site.sizes.chains c.args.self.directory m.0 l.after_seen l.after_heard m.1, m.2)
+    let l = c.in-Ok-Some.ensures.looked.1.later in let m = c.walk.ensures.met in let old = c.args.section.now.reader.now in (
+      m.0,
+      subst (λ (n : ℕ). WalksThrough (log_of old) old.seat.me.0.heard (log_of c.walk.new.section.reader.now) n c.args.self.directory m.0) c.args.self.low.1
+          (walks_from (log_of old) old.seat.me.0.heard (log_of c.first.new.self.reader.now) (log_of c.walk.new.section.reader.now) c.args.self.chains c.args.self.directory m.0 l.after_seen l.after_heard m.1),
+      m.2,
+    )
 
 pub returns-in-Ok-None-clause-met : goal.returns-in-Ok-None-clause-met
 returns-in-Ok-None-clause-met g c =

@@ -1,11 +1,11 @@
-use Rattle.std.proofs.Common.{◌≡◌, ℕ, List, [], Option, None, refl, ap}
+use Rattle.std.proofs.Common.{◌≡◌, ℕ, List, [], Option, None, refl, ap, subst}
 use Rattle.rcu_model.specs.declared.event.ObjectId.{ObjectId}
 use Rattle.live_log.specs.Log.{Log}
 use Rattle.live_log.specs.Tables.{tabled}
-use Rattle.live_log.proofs.Lemmas.{begins_trans}
 use Rattle.live_read.specs.Holding.{log_of}
 use Rattle.live_read.proofs.Lemmas.{looks_twice}
-use Rattle.rcu_hash.specs.Directories.{value_through}
+use Rattle.rcu_hash.specs.Directories.{AnswersThrough, value_through}
+use Rattle.rcu_hash.proofs.Looking.{through_from}
 use Rattle.rcu_hash.proofs.view.TableView.get.Goals as goal
 
 pub returns-in-Ok-Some-clause-looked : goal.returns-in-Ok-Some-clause-looked
@@ -13,8 +13,9 @@ returns-in-Ok-Some-clause-looked g c = looks_twice g.P.GracePlan.QSBR tabled c.a
 
 pub returns-in-Ok-Some-clause-window : goal.returns-in-Ok-Some-clause-window
 returns-in-Ok-Some-clause-window g c =
-    let l = c.in-Ok-Some.ensures.looked.1.later in let a = c.look.ensures.window in let old = c.args.section.now.reader.now in let start : Log = log_of c.first.new.self.reader.now in
-    record { at = a.at; after_seen = begins_trans (log_of old) start a.at l.after_seen a.after_seen; after_heard = begins_trans old.seat.me.0.heard start a.at l.after_heard a.after_seen; before = a.before; is = a.is }
+    let l = c.in-Ok-Some.ensures.looked.1.later in let old = c.args.section.now.reader.now in
+    subst (λ (n : ℕ). AnswersThrough (log_of old) old.seat.me.0.heard (log_of c.look.new.section.reader.now) n c.args.self.directory c.args.key c.look.result) c.args.self.low.1
+    (through_from (log_of old) old.seat.me.0.heard (log_of c.first.new.self.reader.now) (log_of c.look.new.section.reader.now) c.args.self.chains c.args.self.directory c.args.key c.look.result l.after_seen l.after_heard c.look.ensures.window)
 
 pub returns-in-Ok-None-clause-window : goal.returns-in-Ok-None-clause-window
 returns-in-Ok-None-clause-window g c =
