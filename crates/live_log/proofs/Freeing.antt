@@ -3,7 +3,6 @@
 use Rattle.std.proofs.Common.{Bool, ◌≡◌, ◌≢◌, ◌⊎◌, ℕ, ◌+◌, List, [], ◌∷◌, ◌++◌, refl, sym, ap, ◌∙◌, subst, inl, inr, ⊎_elim, append_assoc, arith}
 use Rattle.std.proofs.Math.Logic.{∥∥₁_elim}
 use mathlib.Core.Logic.{dite}
-use mathlib.Core.Option.{some}
 use native.Mathlib.Decide.{ℕ_discrete}
 use Rattle.rcu_model.specs.declared.event.ObjectId.{ObjectId}
 use Rattle.rcu_model.specs.Sets.{In}
@@ -11,7 +10,7 @@ use Rattle.rcu_model.proofs.Lemmas.{in_objects}
 use Rattle.live_log.specs.declared.event.ObjectEvent.TheVariants.{Replace}
 use Rattle.live_log.specs.declared.event.LiveEvent.{LiveEvent}
 use Rattle.live_log.specs.declared.event.LiveEvent.TheVariants.{Open, Close, SeqOdd, SeqEven, Present, ChainNote, CloseQueue, Object}
-use Rattle.live_log.specs.Log.{Log, Begins, Has, HaveEnded, IsLiveRun, chain_note, note_of, open_of, state_of}
+use Rattle.live_log.specs.Log.{Log, Begins, Has, HaveEnded, IsLiveRun, chain_note, note_of, state_of}
 use Rattle.live_log.specs.Tables.{IsDirectory, IsFree, IsReplaced, Names, tabled}
 use Rattle.live_log.proofs.Machine.{begins_trans, grows_log, kept_log, run_of}
 use Rattle.live_log.proofs.Notes.{note_stays}
@@ -41,7 +40,7 @@ module _ (qsbr : Bool) where
       (kept_log qsbr tabled log run).linking.linked_not_cut c old at ((grows_log left log b).cut old (inl refl))
 
   -- a directory that is linked at both ends was linked between
-  linked_between : (known before log : Log) (d : ℕ) (o : ObjectId) → Begins known before → Begins before log → IsLiveRun qsbr tabled log → In ((state_of known).chain d) o → IsDirectory (note_of known o) → In ((state_of log).chain d) o → In ((state_of before).chain d) o
+  pub linked_between : (known before log : Log) (d : ℕ) (o : ObjectId) → Begins known before → Begins before log → IsLiveRun qsbr tabled log → In ((state_of known).chain d) o → IsDirectory (note_of known o) → In ((state_of log).chain d) o → In ((state_of before).chain d) o
   linked_between known before log d o b later run at directory still = ⊎_elim
       (λ (h : In ((state_of before).chain d) o). h)
       (λ (r : IsReplaced known before d o). absurd (gone r.before log d d o r.new r.cell r.payload (begins_trans (Object (Replace d o r.new r.cell r.payload) ∷ r.before) before log (r.since, r.is) later) run still))

@@ -1,6 +1,5 @@
 -- Chains are maps under the rule of keyed chains, and under that of tables.
-use Rattle.std.proofs.Common.{Bool, ◌≡◌, ℕ, List, [], ◌∷◌, sym, ◌∙◌, inl, inr, ⊎_elim}
-use Rattle.rcu_model.specs.declared.event.ObjectId.{ObjectId}
+use Rattle.std.proofs.Common.{Bool, ℕ, sym, ◌∙◌, inl, inr, ⊎_elim}
 use Rattle.live_log.specs.declared.event.ObjectEvent.TheVariants.{Replace}
 use Rattle.live_log.specs.Keys.{keyed, keyed_event}
 use Rattle.live_log.specs.Log.{Log, note_of}

@@ -1,6 +1,6 @@
 -- Under the rule of tables a chain has keys or one directory, a named chain has its directory's note, a chain with no
 -- note is free, and one that a replaced directory named stays as it was while a section of then is open.
-use Rattle.std.proofs.Common.{Bool, ◌≡◌, ◌≢◌, ◌⊎◌, ℕ, ◌+◌, List, [], ◌∷◌, ◌++◌, cond, true, false, refl, sym, ap, ◌∙◌, subst, inl, inr, ⊎_elim, arith, eq-eqb, ne_eqb}
+use Rattle.std.proofs.Common.{Bool, ◌≡◌, ◌≢◌, ◌⊎◌, ℕ, ◌+◌, List, [], ◌∷◌, ◌++◌, cond, true, false, refl, sym, ap, ◌∙◌, subst, inl, inr, ⊎_elim, arith, ne_eqb}
 use mathlib.Core.Logic.{dite}
 use mathlib.Core.Option.{some}
 use native.Mathlib.Decide.{ℕ_discrete}
@@ -10,7 +10,7 @@ use Rattle.rcu_model.proofs.Lemmas.{at_number_other, at_number_same, at_object_s
 use Rattle.live_log.specs.declared.event.ObjectEvent.TheVariants.{Push, Replace, Cut, Retire, Queue, Run}
 use Rattle.live_log.specs.declared.event.LiveEvent.{LiveEvent}
 use Rattle.live_log.specs.declared.event.LiveEvent.TheVariants.{Open, Close, SeqOdd, SeqEven, Present, ChainNote, CloseQueue, Object}
-use Rattle.live_log.specs.Keys.{Falls, IsKeyed, key_of, keyed_event, rank_of}
+use Rattle.live_log.specs.Keys.{Falls, IsKeyed, keyed_event}
 use Rattle.live_log.specs.Log.{Log, Begins, Has, HaveEnded, IsLiveRun, chain_note, note_of, open_of, state_of}
 use Rattle.live_log.specs.Tables.{HasKey, HasKeys, IsDirectory, IsFree, IsNamed, IsReplaced, MayDirect, Names, kind_of, tabled}
 use Rattle.live_log.proofs.Falling.{LeavesFalling, all_fall}

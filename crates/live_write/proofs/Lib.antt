@@ -3,5 +3,5 @@ pub mod Publishing
 pub mod Searching
 pub mod Walking
 pub mod Keyed
-pub mod Lending
+pub mod Behind
 pub mod Lemmas

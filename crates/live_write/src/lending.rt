@@ -30,7 +30,7 @@ pub struct Lent<'d, P: GracePlan, K: ChainRule, B: Site, H> {
 }
 
 /// The seat, which has a chain of its own, takes in the right to another's, behind all that it has.
-fn take_right<P: GracePlan, K: ChainRule>(
+pub(crate) fn take_right<P: GracePlan, K: ChainRule>(
     table: &LiveTable<P, K>,
     seat: &mut LiveSeat,
     chain: usize,
@@ -69,42 +69,12 @@ fn cut_right<P: GracePlan, K: ChainRule>(
     right
 }
 
-impl<'d, P: GracePlan, K: ChainRule, B: Site, H> Chain<'d, P, K, B, H> {
-    /// Lends the chain's right to another chain's writer, behind those that were lent to that before. That writer has
-    /// seen then all that this one had, and knows this chain's list and note in each log in which it publishes until
-    /// they are taken back. It never waits.
-    pub fn lend(self, to: &mut Chain<'_, P, K, B, H>) -> Lent<'d, P, K, B, H>
-        requires { lent_chains self.entry.seat.me.0.chains ≡ [] }
-        ensures lent { (result.number ≡ self.entry.number) × (result.linked ≡ length (list_in self.entry.seat.me.0)) × (result.home.now ≡ self.entry.home.now) }
-        ensures chains { (to.new.seat.me.0.chains ≡ to.old.seat.me.0.chains ++ own_in self.entry.seat.me.0.chains ∷ []) × (to.new.number ≡ to.old.number) × (to.new.home.now ≡ to.old.home.now) }
-        ensures known { AreAsKnown to.new.seat.me.0.seen to.new.seat.me.0.chains }
-        ensures later { Begins to.old.seat.me.0.seen to.new.seat.me.0.seen × Begins self.entry.seat.me.0.seen to.new.seat.me.0.seen × IsLiveRun P.QSBR K.allows to.new.seat.me.0.seen }
-    {
-        let Chain {
-            home,
-            table,
-            seat,
-            number,
-            linked,
-            site,
-        } = self;
-        take_right(to.table, &mut to.seat, to.number, seat);
-        Lent {
-            home,
-            table,
-            number,
-            linked,
-            site,
-        }
-    }
-}
-
 impl<'d, P: GracePlan, K: ChainRule, B: Site, H> Lent<'d, P, K, B, H> {
     /// Takes the chain's right back from the writer that has it, to which it was lent before all others that this has
     /// still. This writer has seen then all that that one had. It never waits.
     pub fn take_back(self, from: &mut Chain<'_, P, K, B, H>) -> Chain<'d, P, K, B, H>
         requires right { lent_chains from.old.seat.me.0.chains ≡ own_in (lent_chains from.old.seat.me.0.chains) ∷ lent_chains (lent_chains from.old.seat.me.0.chains) }
-        requires its { ((own_in (lent_chains from.old.seat.me.0.chains)).chain ≡ self.entry.number) × (length (own_in (lent_chains from.old.seat.me.0.chains)).objects ≡ self.entry.linked) }
+        requires its { ((own_in (lent_chains from.old.seat.me.0.chains)).chain ≡ self.number) × (length (own_in (lent_chains from.old.seat.me.0.chains)).objects ≡ self.linked) }
         ensures chain { (result.seat.me.0.chains ≡ own_in (lent_chains from.old.seat.me.0.chains) ∷ []) × (result.number ≡ self.entry.number) × (result.home.now ≡ self.entry.home.now) }
         ensures from { (from.new.seat.me.0.chains ≡ own_in from.old.seat.me.0.chains ∷ lent_chains (lent_chains from.old.seat.me.0.chains)) × (from.new.seat.me.0.seen ≡ from.old.seat.me.0.seen) × (from.new.number ≡ from.old.number) × (from.new.home.now ≡ from.old.home.now) }
         ensures later { Begins from.old.seat.me.0.seen result.seat.me.0.seen × IsLiveRun P.QSBR K.allows result.seat.me.0.seen }

@@ -4,7 +4,7 @@ use Rattle.live_rule.specs.Seats.{lent_chains, own_chain}
 use Rattle.live_rule.specs.declared.rights.ChainRight.{ChainRight}
 use Rattle.live_rule.specs.declared.view.View.{View}
 use Rattle.live_table.specs.Rights.{IsListed, own_in}
-use Rattle.live_write.proofs.Lending.{behind, has_own, listed_same, own_alone}
+use Rattle.live_write.proofs.Behind.{behind, has_own, listed_same, own_alone}
 use Rattle.live_write.proofs.lending.cut_right.Goals as goal
 
 pub returns-clause-chains : goal.returns-clause-chains
@@ -19,14 +19,14 @@ returns-clause-right g c =
       a.seat.0 ∙ (two.0 ∙ one.3),
       a.looked.0 ∙ (ap (λ z. z.1) two.2 ∙ ap (λ z. z.1) one.4),
       ap (λ (v : View). v.sizes) a.looked.1 ∙ (ap (λ z. z.0.sizes) two.2 ∙ ap (λ z. z.0.sizes) one.4),
-      (a.known.0.1 (has_own c.cut_lent_chains-others.new.right.me.0.chains [] (own_in (lent_chains xs)) chains)).0,
+      (a.known.0.1 (has_own c.cut_lent_chains-others.new.seat.me.0.chains [] (own_in (lent_chains xs)) chains)).0,
       ap (λ (v : View). v.chains) a.looked.1 ∙ chains,
     )
 
 pub returns-clause-later : goal.returns-clause-later
 returns-clause-later g c =
     let a = c.load_note.ensures.looked.2 in
-    (subst (λ (l : Log). Begins l c.load_note.new.right.me.0.seen) (ap (λ z. z.0.seen) c.cut_lent_chains-others.ensures.2 ∙ ap (λ z. z.0.seen) c.cut_lent_chains-right.ensures.4) a.0, a.2)
+    (subst (λ (l : Log). Begins l c.load_note.new.seat.me.0.seen) (ap (λ z. z.0.seen) c.cut_lent_chains-others.ensures.2 ∙ ap (λ z. z.0.seen) c.cut_lent_chains-right.ensures.4) a.0, a.2)
 
 pub returns-clause-seat : goal.returns-clause-seat
 returns-clause-seat g c =

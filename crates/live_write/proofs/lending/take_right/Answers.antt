@@ -4,7 +4,7 @@ use Rattle.live_log.proofs.Lemmas.{begins_trans}
 use Rattle.live_rule.specs.declared.rights.ChainRight.{ChainRight}
 use Rattle.live_rule.specs.declared.view.View.{View}
 use Rattle.live_table.specs.Rights.{AreAsKnown}
-use Rattle.live_write.proofs.Lending.{HasOwn, has_more}
+use Rattle.live_write.proofs.Behind.{HasOwn, has_more}
 use Rattle.live_write.proofs.lending.take_right.Goals as goal
 
 pub returns-clause-chains : goal.returns-clause-chains
