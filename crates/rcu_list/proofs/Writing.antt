@@ -13,7 +13,7 @@ use Rattle.live_log.specs.Log.{Log, Begins, IsLiveRun, chain_note, note_of, stat
 use Rattle.live_rule.specs.declared.view.View.{View}
 use Rattle.live_rule.specs.Seats.{lent_chains}
 use Rattle.live_rule.specs.declared.rights.ChainRight.{ChainRight}
-use Rattle.live_table.specs.Rights.{AreAsKnown, IsAsKnown, IsListed, IsWriter, cell_in, object_in, own_in, payload_in}
+use Rattle.live_table.specs.Rights.{AreAsKnown, IsListed, IsWriter, cell_in, object_in, own_in, payload_in}
 use Rattle.live_table.specs.Steps.{Went}
 use Rattle.live_chains.specs.Chains.{cut_of}
 use Rattle.live_read.specs.Hearing.{Stays}

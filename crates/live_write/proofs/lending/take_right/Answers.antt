@@ -1,4 +1,4 @@
-use Rattle.std.proofs.Common.{◌≡◌, List, ◌++◌, ap, sym, ◌∙◌, subst}
+use Rattle.std.proofs.Common.{List, ◌++◌, ap, sym, ◌∙◌, subst}
 use Rattle.live_log.specs.Log.{Log, Begins}
 use Rattle.live_log.proofs.Lemmas.{begins_trans}
 use Rattle.live_rule.specs.declared.rights.ChainRight.{ChainRight}

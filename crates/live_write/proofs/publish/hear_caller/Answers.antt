@@ -1,5 +1,4 @@
-use Rattle.std.proofs.Common.{Bool, ◌≡◌, ℕ, [], ap, sym, ◌∙◌, subst}
-use Rattle.atomic_table.specs.Table.{Me}
+use Rattle.std.proofs.Common.{ap, sym, ◌∙◌, subst}
 use Rattle.live_log.specs.Log.{Log, Begins}
 use Rattle.live_log.proofs.Lemmas.{begins_trans}
 use Rattle.live_rule.specs.declared.view.View.{View}

@@ -1,7 +1,6 @@
-use Rattle.std.proofs.Common.{◌≡◌, ◌<◌, ℕ, ◌∷◌, List, Option, Some, None, true, false, IfNone, IfSome, is_some, inl, inr, refl, ap, sym, ◌∙◌, subst, slice_index_or}
-use Rattle.rcu_model.specs.declared.event.ObjectId.{ObjectId}
+use Rattle.std.proofs.Common.{◌≡◌, ℕ, Option, Some, None, true, false, IfNone, IfSome, is_some, inl, inr, refl, ap, sym, ◌∙◌, subst}
 use Rattle.rcu_model.specs.Sets.{In}
-use Rattle.live_log.specs.Keys.{key_of, rank_of}
+use Rattle.live_log.specs.Keys.{key_of}
 use Rattle.live_log.specs.Log.{Log, note_of}
 use Rattle.live_rule.specs.declared.rights.ChainRight.{ChainRight}
 use Rattle.live_write.specs.Chains.{list_in}

@@ -12,7 +12,6 @@ use Rattle.live_table.specs.Rights.{cell_in, own_in}
 use Rattle.live_items.specs.Retiring.{Queues}
 use Rattle.live_write.specs.Chains.{list_in}
 use Rattle.live_write.proofs.Lemmas.{index_has}
-use Rattle.rcu_list.specs.Refusing.{FindsNoRecord}
 use Rattle.rcu_list.proofs.Writing.{by_no_note, by_second, chain_known, keys_walked, note_still, note_walked, replaced_map, same_own, stays_both, takes_over, KnowsKeys, by_result, keys_replaced}
 use Rattle.rcu_list.proofs.list.RcuList.replace.Goals as goal
 
@@ -25,16 +24,16 @@ returns-in-Err-clause-kept g c = let p = c.in-Err.ensures.looked in (p.0, p.1, p
 pub replace_retire-requires-clause-rule : goal.replace_retire-requires-clause-rule
 replace_retire-requires-clause-rule g c o at =
     let qsbr = g.P.GracePlan.QSBR in let allows = g.K.ChainRule.allows in let maps = g.met.K.MapRule.maps qsbr in let old = c.args.self.now.chain in let new = c.prepare_replacement.new.chain in let p = c.in-Ok.ensures in let went = p.looked.1 in
-    takes_over qsbr allows maps IsUnnoted maps.takes new.seat.me.0 (g.W.Witness.seen c.prepare_replacement.new.witness) (g.W.Witness.heard c.prepare_replacement.new.witness) c.in-Ok.owned.seat.me.0.seen new.owns.0 new.owns.1
+    takes_over qsbr allows maps IsUnnoted maps.takes new.seat.me.0 (g.W.Witness.seen c.prepare_replacement.new.witness) (g.W.Witness.heard c.prepare_replacement.new.witness) c.in-Ok.ready.1.seat.me.0.seen new.owns.0 new.owns.1
     (by_no_note qsbr allows new.seat.me.0 (note_still qsbr allows maps old.number old.seat.me new.seat.me went old.owns.1 old.owns.2 c.args.self.now.unnoted))
     (keys_walked qsbr allows maps old.number old.seat.me new.seat.me went old.owns.1 old.owns.2 c.args.self.now.keys)
-    c.in-Ok.owned.seat.me.0 c.args.key c.args.value c.in-Ok.index p.ready.0 o at
+    c.in-Ok.ready.1.seat.me.0 c.args.key c.args.value c.in-Ok.ready.0 p.ready.0 o at
 
 pub returns-in-Ok-replace_retire-clause-replaced : goal.returns-in-Ok-replace_retire-clause-replaced
 returns-in-Ok-replace_retire-clause-replaced g c =
     let a = c.in-Ok.ensures in let r = c.in-Ok-replace_retire.ensures.retired in let s = c.in-Ok-replace_retire.ensures.same in let ready = a.ready.0 in
     let old = c.args.self.now.chain in let new = c.prepare_replacement.new.chain in let done = c.replace_retire.new.chain in
-    let qsbr = g.P.GracePlan.QSBR in let allows = g.K.ChainRule.allows in let maps = g.met.K.MapRule.maps qsbr in let index = c.in-Ok.index in let owned = c.in-Ok.owned in let known : Log = old.seat.me.0.seen in let before : Log = r.published.before in
+    let qsbr = g.P.GracePlan.QSBR in let allows = g.K.ChainRule.allows in let maps = g.met.K.MapRule.maps qsbr in let index = c.in-Ok.ready.0 in let owned = c.in-Ok.ready.1 in let known : Log = old.seat.me.0.seen in let before : Log = r.published.before in
     let same = same_own qsbr allows maps old.number old.seat.me new.seat.me a.looked.1 old.owns.1 old.owns.2 in
     let list : list_in new.seat.me.0 ≡ list_in old.seat.me.0 = ap (λ (x : ChainRight). x.objects) same in
     let number : new.number ≡ old.number = a.looked.2 in
@@ -59,13 +58,13 @@ returns-in-Err-replace_retire-clause-refused g c =
     let old = c.args.self.now.chain in let new = c.prepare_replacement.new.chain in
     let w = g.W.Witness in let sizes = g.B.Site.sizes in
     let w0 = c.args.witness.now in let w1 = c.prepare_replacement.new.witness in let w2 = c.replace_retire.new.witness in let w3 = c.discard.new.witness in
-    let within = slice_get_within (list_in new.seat.me.0) c.in-Ok.index ready.found.object ready.found.at in
+    let within = slice_get_within (list_in new.seat.me.0) c.in-Ok.ready.0 ready.found.object ready.found.at in
     let number : new.number ≡ old.number = a.looked.2 in (
       c.in-Err-replace_retire.ensures.back.1,
       inr (
         a.ready.1,
         inr (by_second c.in-Err-replace_retire.ensures.refused
-            (λ n. let few : length (list_in new.seat.me.0) ≤ c.in-Ok.index = n.1 in omega arith)
+            (λ n. let few : length (list_in new.seat.me.0) ≤ c.in-Ok.ready.0 = n.1 in omega arith)
             (λ k. let r = k.1 in record {
               found = a.same.2.0;
               closed = r.closed;
@@ -102,7 +101,7 @@ invariant_of-self g c =
 
 pub invariant_of-self-2 : goal.invariant_of-self-2
 invariant_of-self-2 g c =
-    let qsbr = g.P.GracePlan.QSBR in let allows = g.K.ChainRule.allows in let maps = g.met.K.MapRule.maps qsbr in let old = c.args.self.now.chain in let new = c.prepare_replacement.new.chain in let went = c.prepare_replacement.ensures.looked.1 in let done = c.replace_retire.new.chain in let r = c.replace_retire.ensures in let owned = c.in-Ok.owned in
+    let qsbr = g.P.GracePlan.QSBR in let allows = g.K.ChainRule.allows in let maps = g.met.K.MapRule.maps qsbr in let old = c.args.self.now.chain in let new = c.prepare_replacement.new.chain in let went = c.prepare_replacement.ensures.looked.1 in let done = c.replace_retire.new.chain in let r = c.replace_retire.ensures in let owned = c.in-Ok.ready.1 in
     let note = note_still qsbr allows maps old.number old.seat.me new.seat.me went old.owns.1 old.owns.2 c.args.self.now.unnoted in
     let keys = keys_walked qsbr allows maps old.number old.seat.me new.seat.me went old.owns.1 old.owns.2 c.args.self.now.keys in record {
       unnoted = by_result c.replace_retire.result _ _ r.retired r.back (λ t k. k.note ∙ note) (λ x b. ap (λ z. (own_in z.seat.me.0.chains).note) b.2 ∙ note);
