@@ -26,13 +26,13 @@ use Rattle.rcu_hash.proofs.Directing.{answers_for_table, both}
 
 -- a test that does not hold is false
 pub fails : (b : Bool) → (b ≡ true → ⊥) → b ≡ false
-fails true no = absurd (no refl)
-fails false no = refl
+fails true never = absurd (never refl)
+fails false never = refl
 
 -- the words lead, or do not
 module _ (chains kind first buckets : ℕ) where
   pub leads_yes : (key : ℕ) → kind ≡ 1 → 0 < buckets → bucket_of first buckets key < chains → leads_to chains kind first buckets key ≡ true
-  leads_yes key is some low = (λ i. eq-eqb kind 1 is i && (lt-ltb 0 buckets some i && lt-ltb (bucket_of first buckets key) chains low i))
+  leads_yes key is many low = (λ i. eq-eqb kind 1 is i && (lt-ltb 0 buckets many i && lt-ltb (bucket_of first buckets key) chains low i))
 
   pub leads_all : (key : ℕ) → leads_to chains kind first buckets key ≡ true → (kind ≡ 1) × (0 < buckets) × (bucket_of first buckets key < chains)
   leads_all key led = let p = both (kind == 1) (nat_lt 0 buckets && nat_lt (bucket_of first buckets key) chains) led in let q = both (nat_lt 0 buckets) (nat_lt (bucket_of first buckets key) chains) p.1 in
@@ -48,7 +48,7 @@ module _ (chains kind first buckets : ℕ) where
 
     -- no bucket of a number above has a chain where this one has none
     pub leads_no_more : leads_to chains kind first buckets number ≡ false → (key : ℕ) → number ≤ key % buckets → leads_to chains kind first buckets key ≡ false
-    leads_no_more no key above = fails (leads_to chains kind first buckets key) (λ led.
+    leads_no_more none key above = fails (leads_to chains kind first buckets key) (λ led.
         let y = leads_all key led in let m : number % buckets ≡ number = mod-eq_of_lt low in
         let yes = leads_yes number y.0 y.1 (let z = y.2 in omega arith) in cc)
 
@@ -64,12 +64,12 @@ module _ (seen heard start new : Log) (chains d : ℕ) where
 module _ {P K B : Type 0} {g : Ghosts B} (qsbr : Bool) (chains d : ℕ) (r s t : Reader P K B g) (o : ObjectId) (first : FindsFirst r d (Some o)) where
   -- the object is no directory that leads the key
   pub answers_nowhere : (key : ℕ) → leads chains (note_of (log_of r) o) key ≡ false → Begins (log_of r) (log_of s) → AnswersThrough (log_of r) (log_of r) (log_of s) chains d key None
-  answers_nowhere key no b = record {
+  answers_nowhere key nowhere b = record {
     at = log_of r;
     after_seen = ([], refl);
     after_heard = ([], refl);
     before = b;
-    is = ap (λ (f : Option ObjectId). value_through chains (log_of r) f key) first ∙ ap (λ (y : Bool). cond y (map_of (log_of r) (bucket_in (note_of (log_of r) o) key) key) None) no;
+    is = ap (λ (f : Option ObjectId). value_through chains (log_of r) f key) first ∙ ap (λ (y : Bool). cond y (map_of (log_of r) (bucket_in (note_of (log_of r) o) key) key) None) nowhere;
   }
 
   -- it is one, and the bucket answers
@@ -119,7 +119,7 @@ module _ {P K B : Type 0} {g : Ghosts B} (qsbr : Bool) (chains d : ℕ) (r : Rea
     }
 
     pub walk_stops : number < many → leads_to chains kind low many number ≡ false → WalksThrough (log_of r) (log_of r) new chains d met
-    walk_stops below no = ends_with (leads_no_more chains kind low many number below no)
+    walk_stops below none = ends_with (leads_no_more chains kind low many number below none)
 
     pub walk_ends : number ≡ many → WalksThrough (log_of r) (log_of r) new chains d met
     walk_ends all = ends_with (λ key above. fails (leads_to chains kind low many key) (λ led. let m = mod_below key many (leads_all chains kind low many key led).1 in absurd (omega arith)))

@@ -11,7 +11,7 @@ ghost use Rattle.rcu_hash.specs.Tables.{bucket_of};
 
 use domain::{Deleter, Domain, Held, Section, Site};
 use gp_memb::GracePlan;
-use live_words::Tabled;
+use live_log::Tabled;
 use rcu_list::ListView;
 use rcu_model::Refusal;
 use std::alloc::AllocError;
