@@ -4,13 +4,14 @@ ghost use Rattle.std.specs.Prelude.{◌≡◌, ◌+◌, ◌≤◌, ◌<◌, ◌^
 ghost use Rattle.std.specs.Option.{option_copied};
 ghost use Rattle.rcu_model.specs.declared.refusal.Refusal.TheVariants as refusal;
 ghost use Rattle.world_state.specs.Queues.{empty_queue_state};
+ghost use Rattle.world_state.specs.declared.line.Line.TheVariants.{Reader, Updater, Worker};
 
 use rcu_model::{Event, ObjectId, Refusal};
 use std::alloc::Global;
 use world_state::{
     Answer, Change, Config, GraceState, Layout, Line, Mark, ObjectState, QueueAct, QueueState,
-    ReaderState, Splice, StepError, UpdaterState, WorkerState, WorldPlan, act_on, hold_queue,
-    mark_object, put, splice_heads, splice_objects,
+    ReaderState, ReaderVerb, Splice, StepError, UpdaterState, UpdaterVerb, WorkerState, WorkerVerb,
+    WorldPlan, act_on, hold_queue, mark_object, put, splice_heads, splice_objects,
 };
 
 /// The words, the bookkeeping beside them, and the log.
@@ -101,8 +102,31 @@ impl<P: WorldPlan + Drop> Board<P> {
         requires { IsInRange (plans_of P.QSBR P.made P.action P.turn P.taken) (shown self.old) }
         ensures { Meets (outcome_of (plans_of P.QSBR P.made P.action P.turn P.taken) (shown self.old) line.now) (shown self.old) (shown self.new) result }
     {
-        let change = self.change(line)?;
-        self.commit(change)
+        match *line {
+            Line::Reader(reader, verb) => self.read(reader, verb),
+            Line::Updater(updater, verb) => {
+                let change = self.updater_change(updater, verb)?;
+                self.commit(change)
+            }
+            Line::Worker(worker, verb) => {
+                let change = self.worker_change(worker, verb)?;
+                self.commit(change)
+            }
+        }
+    }
+
+    /// One step of a reader.
+    fn read(&mut self, reader: u32, verb: ReaderVerb) -> Result<Answer, StepError>
+        requires { IsInRange (plans_of P.QSBR P.made P.action P.turn P.taken) (shown self.old) }
+        ensures { Meets (outcome_of (plans_of P.QSBR P.made P.action P.turn P.taken) (shown self.old) (Reader reader verb)) (shown self.old) (shown self.new) result }
+    {
+        let Some(state) = at(&self.readers, reader as usize) else {
+            return Err(Refusal::NoActor);
+        };
+        let step = self.reader_line(reader, state, verb)?;
+        self.tell(step.answer)?;
+        put(&mut self.readers, reader as usize, step.state);
+        Ok(step.answer)
     }
 
     /// What the steps told.
@@ -112,32 +136,26 @@ impl<P: WorldPlan + Drop> Board<P> {
         &self.log
     }
 
-    /// What a line makes of the world.
-    pub(crate) fn change(&self, line: &Line) -> Result<Change<P>, Refusal>
+    /// What an updater's line makes of the world.
+    fn updater_change(&self, updater: u32, verb: UpdaterVerb) -> Result<Change<P>, Refusal>
         requires { IsInRange (plans_of P.QSBR P.made P.action P.turn P.taken) (shown self.now) }
-        ensures { result ≡ change_of (plans_of P.QSBR P.made P.action P.turn P.taken) (shown self.now) line.now }
+        ensures { result ≡ change_of (plans_of P.QSBR P.made P.action P.turn P.taken) (shown self.now) (Updater updater verb) }
     {
-        match *line {
-            Line::Reader(reader, verb) => {
-                let Some(state) = at(&self.readers, reader as usize) else {
-                    return Err(Refusal::NoActor);
-                };
-                let step = self.reader_line(reader, state, verb)?;
-                Ok(Change::Read { reader, step })
-            }
-            Line::Updater(updater, verb) => {
-                let Some(state) = at(&self.updaters, updater as usize) else {
-                    return Err(Refusal::NoActor);
-                };
-                self.updater_line(updater, state, verb)
-            }
-            Line::Worker(worker, verb) => {
-                let Some(state) = at(&self.workers, worker as usize) else {
-                    return Err(Refusal::NoActor);
-                };
-                self.worker_line(worker, state, verb)
-            }
-        }
+        let Some(state) = at(&self.updaters, updater as usize) else {
+            return Err(Refusal::NoActor);
+        };
+        self.updater_line(updater, state, verb)
+    }
+
+    /// What a worker's line makes of the world.
+    pub(crate) fn worker_change(&self, worker: u32, verb: WorkerVerb) -> Result<Change<P>, Refusal>
+        requires { IsInRange (plans_of P.QSBR P.made P.action P.turn P.taken) (shown self.now) }
+        ensures { result ≡ change_of (plans_of P.QSBR P.made P.action P.turn P.taken) (shown self.now) (Worker worker verb) }
+    {
+        let Some(state) = at(&self.workers, worker as usize) else {
+            return Err(Refusal::NoActor);
+        };
+        self.worker_line(worker, state, verb)
     }
 
     /// A change, unless there is no memory for what it adds. That comes first, so a refusal leaves all as it was.

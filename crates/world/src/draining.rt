@@ -125,7 +125,7 @@ impl<P: WorldPlan + Drop> Board<P> {
         ensures world { shown self.new ≡ (outcome_of (plans_of P.QSBR P.made P.action P.turn P.taken) (shown self.old) (WorkerLine worker verb)).world }
         ensures room { vec_capacity self.new.log ≡ vec_capacity self.old.log }
     {
-        if let Ok(change) = self.change(&Line::Worker(worker, verb)) {
+        if let Ok(change) = self.worker_change(worker, verb) {
             self.commit_work(change);
         }
     }
