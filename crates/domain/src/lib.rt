@@ -28,4 +28,4 @@ pub use live_status::Counts;
 pub use live_write::{Owned, Unlinked};
 pub use opened::Opened;
 pub use worker_end::{Stop, WorkerEnd};
-pub use writing::Chain;
+pub use writing::{Chain, Lent};

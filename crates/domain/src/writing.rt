@@ -23,6 +23,9 @@ use std::sync::Wait;
 /// The one writer of a chain of a domain.
 pub type Chain<'d, P, K, B, D = Callback> = live_write::Chain<'d, P, K, B, Domain<P, K, B, D>>;
 
+/// What is left of a chain's writer while another one has its right.
+pub type Lent<'d, P, K, B, D = Callback> = live_write::Lent<'d, P, K, B, Domain<P, K, B, D>>;
+
 impl<P: GracePlan + Drop, K: ChainRule, B: Site, D: Deleter> Domain<P, K, B, D> {
     /// A record with these four words, which no chain links yet. The caller hears of what was seen at that.
     ///

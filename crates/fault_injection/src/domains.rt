@@ -18,8 +18,8 @@ use std::sync::Wait;
 const SMALL: LiveConfig = LiveConfig {
     slots: 2,
     queues: 3,
-    chains: 3,
-    pool: 5,
+    chains: 5,
+    pool: 8,
 };
 
 /// The words of a domain, made again where memory was refused.

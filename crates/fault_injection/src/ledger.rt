@@ -54,6 +54,10 @@ pub enum Call {
     TableReplace,
     /// `rcu_hash::RcuHash::remove`.
     TableRemove,
+    /// `rcu_hash::RcuHash::grow`.
+    TableGrow,
+    /// `rcu_hash::RcuHash::tidy`.
+    TableTidy,
     /// `rcu_model::check_log`.
     CheckLog,
     /// `schedule::read_line`.
@@ -98,6 +102,8 @@ impl fmt::Display for Call {
             Call::NewTable => "new_table",
             Call::TableReplace => "table_replace",
             Call::TableRemove => "table_remove",
+            Call::TableGrow => "table_grow",
+            Call::TableTidy => "table_tidy",
             Call::CheckLog => "check_log",
             Call::ReadLine => "read_line",
             Call::ReadSchedule => "read_schedule",

@@ -30,7 +30,7 @@ pub enum Scenario {
     Domain,
     /// A list is made in each flavour, and a key of it replaced and removed.
     List,
-    /// A table is made in each flavour, and keys of it replaced and removed.
+    /// A table is made in each flavour, keys of it are replaced and removed, and it grows and is tidied.
     Table,
     /// The logs of the worked schedules are judged, and broken ones.
     CheckLog,

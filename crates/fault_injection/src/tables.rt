@@ -1,5 +1,5 @@
-//! Hash tables, whose making and whose calls that retire may be refused memory: then chains, map and pool are as they
-//! were, and the callback comes back.
+//! Hash tables, whose making, whose growth and whose calls that retire may be refused memory: then chains, map and pool are
+//! as they were, and the callback comes back.
 
 ghost use Rattle.std.specs.Prelude.{◌≡◌};
 
@@ -16,22 +16,23 @@ use std::alloc::Global;
 use std::marker::Brand;
 use std::sync::Wait;
 
-/// A table of three buckets, made again where memory was refused: its chains are free then.
-fn tabled<'d, P: GracePlan + Drop, B: Site>(
+/// A table of two buckets, made again where memory was refused: its chains are free then.
+fn tabled<'d, P: GracePlan + Drop, B: Site, R: Wait>(
+    rt: &R,
     alloc: Global,
     domain: &'d Domain<P, Tabled, B, Says>,
     record: &mut Record<B>,
     ledger: &mut Ledger,
-) -> Result<RcuHash<'d, P, Tabled, B, Says>, Finding> {
+) -> Result<RcuHash<'d, P, B, Says>, Finding> {
     let before = domain.counts(record);
-    match RcuHash::new(alloc, domain, record, 0, 3) {
+    match RcuHash::new(rt, alloc, domain, record, 0, 1, 2) {
         Ok(table) => Ok(table),
         Err(Refusal::Memory) => {
             ledger.note(Call::NewTable);
             if domain.counts(record) != before {
                 return Err(Finding::Changed(Call::NewTable));
             }
-            RcuHash::new(alloc, domain, record, 0, 3).map_err(|_| Finding::RefusedAgain(
+            RcuHash::new(rt, alloc, domain, record, 0, 1, 2).map_err(|_| Finding::RefusedAgain(
                 Call::NewTable,
             ))
         }
@@ -43,7 +44,7 @@ fn tabled<'d, P: GracePlan + Drop, B: Site>(
 fn replace<P: GracePlan + Drop, B: Site, R: Wait>(
     rt: &R,
     domain: &Domain<P, Tabled, B, Says>,
-    table: &RcuHash<'_, P, Tabled, B, Says>,
+    table: &RcuHash<'_, P, B, Says>,
     record: &mut Record<B>,
     ledger: &mut Ledger,
 ) -> Result<Ticket, Finding> {
@@ -67,7 +68,7 @@ fn replace<P: GracePlan + Drop, B: Site, R: Wait>(
 fn remove<P: GracePlan + Drop, B: Site, R: Wait>(
     rt: &R,
     domain: &Domain<P, Tabled, B, Says>,
-    table: &RcuHash<'_, P, Tabled, B, Says>,
+    table: &RcuHash<'_, P, B, Says>,
     record: &mut Record<B>,
     ledger: &mut Ledger,
 ) -> Result<Ticket, Finding> {
@@ -87,11 +88,79 @@ fn remove<P: GracePlan + Drop, B: Site, R: Wait>(
     }
 }
 
+/// How many records are left where a table grows, again where memory was refused.
+fn grow<P: GracePlan + Drop, B: Site, R: Wait>(
+    rt: &R,
+    alloc: Global,
+    domain: &Domain<P, Tabled, B, Says>,
+    table: &RcuHash<'_, P, B, Says>,
+    record: &mut Record<B>,
+    ledger: &mut Ledger,
+) -> Result<usize, Finding> {
+    let before = domain.counts(record);
+    match table.grow(rt, alloc, record, 3, 2) {
+        Ok(left) => Ok(left),
+        Err(Refusal::Memory) => {
+            ledger.note(Call::TableGrow);
+            if domain.counts(record) != before {
+                return Err(Finding::Changed(Call::TableGrow));
+            }
+            table
+                .grow(rt, alloc, record, 3, 2)
+                .map_err(|_| Finding::RefusedAgain(Call::TableGrow))
+        }
+        Err(_) => Err(Finding::Wrong(Call::TableGrow)),
+    }
+}
+
+/// Two callbacks, unless memory is refused.
+fn two(alloc: Global) -> Option<Vec<Says>> {
+    let mut jobs = Vec::new(alloc);
+    if jobs.push(Says(3)).is_err() || jobs.push(Says(4)).is_err() {
+        return None;
+    }
+    Some(jobs)
+}
+
+/// Two callbacks, made again where memory was refused.
+fn callbacks(alloc: Global, ledger: &mut Ledger) -> Result<Vec<Says>, Finding> {
+    match two(alloc) {
+        Some(jobs) => Ok(jobs),
+        None => {
+            ledger.note(Call::Own);
+            two(alloc).ok_or(Finding::RefusedAgain(Call::Own))
+        }
+    }
+}
+
+/// Whether a table is tidied with these callbacks, the rest of them again where memory was refused.
+fn tidy<P: GracePlan + Drop, B: Site, R: Wait>(
+    rt: &R,
+    table: &RcuHash<'_, P, B, Says>,
+    record: &mut Record<B>,
+    jobs: Vec<Says>,
+    ledger: &mut Ledger,
+) -> Result<bool, Finding> {
+    let end = table.tidy(rt, record, jobs);
+    match end.stop {
+        None => Ok(end.retired == 2 && end.left == 0 && end.jobs.is_empty()),
+        Some(Refusal::Memory) => {
+            ledger.note(Call::TableTidy);
+            if end.retired.wrapping_add(end.left) != 2 || end.jobs.len() != end.left {
+                return Err(Finding::Changed(Call::TableTidy));
+            }
+            let again = table.tidy(rt, record, end.jobs);
+            Ok(again.retired == end.left && again.left == 0)
+        }
+        Some(_) => Err(Finding::Wrong(Call::TableTidy)),
+    }
+}
+
 /// The value that a table has for a key, as a new reader looks it up.
 fn look<P: GracePlan + Drop, B: Site, R: Wait>(
     rt: &R,
     domain: &Domain<P, Tabled, B, Says>,
-    table: &RcuHash<'_, P, Tabled, B, Says>,
+    table: &RcuHash<'_, P, B, Says>,
     record: &mut Record<B>,
     key: u64,
 ) -> Result<Option<u64>, Refusal>
@@ -105,8 +174,8 @@ fn look<P: GracePlan + Drop, B: Site, R: Wait>(
     Ok(table.get(&mut section, key))
 }
 
-/// Whether a replaced value and a removed key of a new table have the first tickets of their queues, and a lookup finds
-/// what was replaced.
+/// Whether a replaced value and a removed key of a new table have the first tickets of their queues, the table grows and is
+/// tidied, and a lookup finds what was replaced.
 fn serves<P: GracePlan + Drop, B: Site, R: Wait>(
     rt: &R,
     alloc: Global,
@@ -116,14 +185,17 @@ fn serves<P: GracePlan + Drop, B: Site, R: Wait>(
 ) -> Result<bool, Finding>
     requires { P.QSBR ≡ B.qsbr }
 {
-    let table = tabled(alloc, domain, record, ledger)?;
+    let table = tabled(rt, alloc, domain, record, ledger)?;
     let wrong = Finding::Wrong(Call::NewTable);
     table.insert(rt, record, 7, 70).map_err(|_| wrong)?;
     table.insert(rt, record, 8, 80).map_err(|_| wrong)?;
     let replaced = replace(rt, domain, &table, record, ledger)?;
     let removed = remove(rt, domain, &table, record, ledger)?;
+    let left = grow(rt, alloc, domain, &table, record, ledger)?;
+    let tidied = tidy(rt, &table, record, callbacks(alloc, ledger)?, ledger)?;
     let found = look(rt, domain, &table, record, 7);
-    Ok(replaced.0 == 1 && removed.0 == 1 && matches!(found, Ok(Some(71))))
+    let good = replaced.0 == 1 && removed.0 == 1 && left == 2 && tidied;
+    Ok(good && matches!(found, Ok(Some(71))))
 }
 
 /// Names a domain. Whether its table serves; `None` where naming was refused memory.

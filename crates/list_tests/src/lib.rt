@@ -4,6 +4,10 @@
 #[cfg(test)]
 mod deleter;
 #[cfg(test)]
+mod growing;
+#[cfg(test)]
+mod growths;
+#[cfg(test)]
 mod lists;
 #[cfg(test)]
 mod lookups;

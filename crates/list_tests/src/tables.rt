@@ -1,5 +1,4 @@
-//! Hash tables, in both flavours and under both rules of maps: what their calls answer, and what stays where they are
-//! refused.
+//! Hash tables, in both flavours: what their calls answer, and what stays where they are refused.
 
 ghost use Rattle.std.specs.Prelude.{◌≡◌, IfOk};
 
@@ -7,9 +6,8 @@ use crate::deleter::Adds;
 use domain::{Domain, LiveConfig, Opened, Reader, Record, Site, Ticket};
 use gp_memb::{GracePlan, MembPlan};
 use gp_qsbr::QsbrPlan;
-use live_words::{Keyed, Tabled};
+use live_words::Tabled;
 use rcu_hash::RcuHash;
-use rcu_list::MapRule;
 use rcu_model::Refusal;
 use std::alloc::Global;
 use std::marker::Brand;
@@ -26,9 +24,9 @@ fn of_sizes(chains: usize, pool: usize) -> LiveConfig {
 }
 
 /// What a lookup in a section of its own answers; the reader has none open before and after.
-fn look<P: GracePlan + Drop, K: MapRule, B: Site>(
-    reader: &mut Reader<P, K, B>,
-    table: &RcuHash<'_, P, K, B, Adds>,
+fn look<P: GracePlan + Drop, B: Site>(
+    reader: &mut Reader<P, Tabled, B>,
+    table: &RcuHash<'_, P, B, Adds>,
     key: u64,
 ) -> Result<Option<u64>, Refusal>
     requires { (P.QSBR ≡ B.qsbr) × (reader.old.depth ≡ 0) × (reader.old.locks ≡ 0) }
@@ -41,11 +39,11 @@ fn look<P: GracePlan + Drop, K: MapRule, B: Site>(
 }
 
 /// A reader, which is online in the quiescent-state flavour.
-fn registered<P: GracePlan + Drop, K: MapRule, B: Site, R: Wait>(
+fn registered<P: GracePlan + Drop, B: Site, R: Wait>(
     rt: &R,
-    domain: &Domain<P, K, B, Adds>,
+    domain: &Domain<P, Tabled, B, Adds>,
     record: &mut Record<B>,
-) -> Result<Reader<P, K, B>, Refusal>
+) -> Result<Reader<P, Tabled, B>, Refusal>
     requires { P.QSBR ≡ B.qsbr }
     ensures { IfOk result (λ r. (r.depth ≡ 0) × (r.locks ≡ 0)) }
 {
@@ -57,31 +55,32 @@ fn registered<P: GracePlan + Drop, K: MapRule, B: Site, R: Wait>(
 }
 
 /// Whether no table is made over these chains.
-fn refuses<P: GracePlan + Drop, K: MapRule, B: Site>(
+fn refuses<P: GracePlan + Drop, B: Site, R: Wait>(
+    rt: &R,
     alloc: Global,
-    domain: &Domain<P, K, B, Adds>,
+    domain: &Domain<P, Tabled, B, Adds>,
     record: &mut Record<B>,
-    first: usize,
-    buckets: usize,
+    chains: (usize, usize, usize),
 ) -> bool {
+    let (directory, first, buckets) = chains;
     matches!(
-        RcuHash::new(alloc, domain, record, first, buckets),
+        RcuHash::new(rt, alloc, domain, record, directory, first, buckets),
         Err(Refusal::BadConfig)
     )
 }
 
 /// Two keys of one bucket are inserted, and one of them inserted again, replaced and removed, and another one removed
 /// that is not there; lookups beside, and tables that are refused.
-fn calls<P: GracePlan + Drop, K: MapRule, B: Site, R: Wait>(
+fn calls<P: GracePlan + Drop, B: Site, R: Wait>(
     rt: &R,
     alloc: Global,
-    domain: &Domain<P, K, B, Adds>,
+    domain: &Domain<P, Tabled, B, Adds>,
     record: &mut Record<B>,
 ) -> Result<([bool; 10], [Option<u64>; 4]), Refusal>
     requires { P.QSBR ≡ B.qsbr }
 {
     let mut reader = registered(rt, domain, record)?;
-    let table = RcuHash::new(alloc, domain, record, 0, 4)?;
+    let table = RcuHash::new(rt, alloc, domain, record, 4, 0, 4)?;
     let empty = look(&mut reader, &table, 3)?;
     let inserted = table.insert(rt, record, 3, 30);
     let beside = table.insert(rt, record, 7, 70);
@@ -92,12 +91,14 @@ fn calls<P: GracePlan + Drop, K: MapRule, B: Site, R: Wait>(
     let removed = table.remove(rt, record, 3, Adds(2));
     let gone = look(&mut reader, &table, 3)?;
     let kept = look(&mut reader, &table, 7)?;
-    let held = refuses(alloc, domain, record, 0, 1);
+    let held = refuses(rt, alloc, domain, record, (5, 0, 1));
     drop(table);
-    let full = refuses(alloc, domain, record, 3, 1);
-    let none = refuses(alloc, domain, record, 0, 0);
-    let past = refuses(alloc, domain, record, 2, 3);
-    let behind = refuses(alloc, domain, record, 5, 1);
+    let full = refuses(rt, alloc, domain, record, (5, 3, 1));
+    let noted = refuses(rt, alloc, domain, record, (5, 0, 1));
+    let none = refuses(rt, alloc, domain, record, (5, 0, 0));
+    let past = refuses(rt, alloc, domain, record, (5, 2, 5));
+    let behind = refuses(rt, alloc, domain, record, (6, 0, 1));
+    let inside = refuses(rt, alloc, domain, record, (5, 5, 1));
     Ok((
         [
             inserted.is_ok(),
@@ -107,19 +108,19 @@ fn calls<P: GracePlan + Drop, K: MapRule, B: Site, R: Wait>(
             matches!(missing, Err((Refusal::Missing, Adds(5)))),
             matches!(removed, Ok(Ticket(2))),
             held,
-            full,
+            full && noted,
             none,
-            past && behind,
+            past && behind && inside,
         ],
         [empty, found, gone, kept],
     ))
 }
 
 /// The same, in a domain of its own.
-fn calls_in<P: GracePlan + Drop, K: MapRule, B: Site, R: Wait>(
+fn calls_in<P: GracePlan + Drop, B: Site, R: Wait>(
     rt: &R,
     alloc: Global,
-    opened: Opened<P, K>,
+    opened: Opened<P, Tabled>,
 ) -> Result<([bool; 10], [Option<u64>; 4]), Refusal>
     requires { (P.QSBR ≡ B.qsbr) × (opened.table.words.shared.table_id ≡ B.table) × (opened.table.words.shared.key ≡ B.sizes) }
 {
@@ -130,33 +131,33 @@ fn calls_in<P: GracePlan + Drop, K: MapRule, B: Site, R: Wait>(
 #[test]
 fn tables_answer_by_the_map(rt: HostRuntime) {
     let answers = ([true; 10], [None, Some(32), None, Some(70)]);
-    let general = Opened::<MembPlan, Keyed>::new(rt.alloc(), of_sizes(4, 4)).expect(&rt, "memory");
-    let did = calls_in::<_, _, Brand, _>(&rt, rt.alloc(), general).expect(&rt, "not refused");
+    let general = Opened::<MembPlan, Tabled>::new(rt.alloc(), of_sizes(6, 5)).expect(&rt, "memory");
+    let did = calls_in::<_, Brand, _>(&rt, rt.alloc(), general).expect(&rt, "not refused");
     assert_eq!(rt; did, answers);
-    let quiescent = Opened::<QsbrPlan, Tabled>::new(rt.alloc(), of_sizes(4, 4)).expect(
+    let quiescent = Opened::<QsbrPlan, Tabled>::new(rt.alloc(), of_sizes(6, 5)).expect(
         &rt, "memory",
     );
-    let did = calls_in::<_, _, Brand, _>(&rt, rt.alloc(), quiescent).expect(&rt, "not refused");
+    let did = calls_in::<_, Brand, _>(&rt, rt.alloc(), quiescent).expect(&rt, "not refused");
     assert_eq!(rt; did, answers);
 }
 
-/// With a pool of two: where no record is left, and where the queues are closed, the callback comes back, the map is as
+/// With a pool of three, of which the directory has one: where no record is left, and where the queues are closed, the callback comes back, the map is as
 /// it was, and so is the pool.
-fn refusals<P: GracePlan + Drop, K: MapRule, B: Site, R: Wait>(
+fn refusals<P: GracePlan + Drop, B: Site, R: Wait>(
     rt: &R,
     alloc: Global,
-    domain: &Domain<P, K, B, Adds>,
+    domain: &Domain<P, Tabled, B, Adds>,
     record: &mut Record<B>,
 ) -> Result<([bool; 6], [Option<u64>; 2]), Refusal>
     requires { P.QSBR ≡ B.qsbr }
 {
     let mut reader = registered(rt, domain, record)?;
-    let table = RcuHash::new(alloc, domain, record, 1, 2)?;
+    let table = RcuHash::new(rt, alloc, domain, record, 0, 1, 2)?;
     table.insert(rt, record, 3, 30)?;
     domain.close(rt, record);
     let closed = table.replace(rt, record, 3, 31, Adds(5));
     let kept = table.remove(rt, record, 3, Adds(6));
-    let unused = domain.counts(record).records == 1;
+    let unused = domain.counts(record).records == 2;
     let last = table.insert(rt, record, 4, 40);
     let full = table.insert(rt, record, 5, 50);
     let no_room = table.replace(rt, record, 4, 41, Adds(7));
@@ -176,10 +177,10 @@ fn refusals<P: GracePlan + Drop, K: MapRule, B: Site, R: Wait>(
 }
 
 /// The same, in a domain of its own.
-fn refusals_in<P: GracePlan + Drop, K: MapRule, B: Site, R: Wait>(
+fn refusals_in<P: GracePlan + Drop, B: Site, R: Wait>(
     rt: &R,
     alloc: Global,
-    opened: Opened<P, K>,
+    opened: Opened<P, Tabled>,
 ) -> Result<([bool; 6], [Option<u64>; 2]), Refusal>
     requires { (P.QSBR ≡ B.qsbr) × (opened.table.words.shared.table_id ≡ B.table) × (opened.table.words.shared.key ≡ B.sizes) }
 {
@@ -190,12 +191,12 @@ fn refusals_in<P: GracePlan + Drop, K: MapRule, B: Site, R: Wait>(
 #[test]
 fn refused_calls_of_tables_give_all_back(rt: HostRuntime) {
     let answers = ([true; 6], [Some(30), Some(40)]);
-    let general = Opened::<MembPlan, Tabled>::new(rt.alloc(), of_sizes(3, 2)).expect(&rt, "memory");
-    let did = refusals_in::<_, _, Brand, _>(&rt, rt.alloc(), general).expect(&rt, "not refused");
+    let general = Opened::<MembPlan, Tabled>::new(rt.alloc(), of_sizes(4, 3)).expect(&rt, "memory");
+    let did = refusals_in::<_, Brand, _>(&rt, rt.alloc(), general).expect(&rt, "not refused");
     assert_eq!(rt; did, answers);
-    let quiescent = Opened::<QsbrPlan, Keyed>::new(rt.alloc(), of_sizes(3, 2)).expect(
+    let quiescent = Opened::<QsbrPlan, Tabled>::new(rt.alloc(), of_sizes(4, 3)).expect(
         &rt, "memory",
     );
-    let did = refusals_in::<_, _, Brand, _>(&rt, rt.alloc(), quiescent).expect(&rt, "not refused");
+    let did = refusals_in::<_, Brand, _>(&rt, rt.alloc(), quiescent).expect(&rt, "not refused");
     assert_eq!(rt; did, answers);
 }

@@ -6,26 +6,26 @@ use crate::deleter::Adds;
 use domain::{Domain, LiveConfig, Opened, Reader, Record, Site};
 use gp_memb::{GracePlan, MembPlan};
 use gp_qsbr::QsbrPlan;
-use live_words::{Keyed, Tabled};
+use live_words::Tabled;
 use rcu_hash::RcuHash;
-use rcu_list::{ListView, MapRule, RcuList};
+use rcu_list::{ListView, RcuList};
 use rcu_model::Refusal;
 use std::alloc::Global;
 use std::marker::Brand;
 use std::sync::Wait;
 
-/// A domain of one slot and one queue, four chains and eight records.
+/// A domain of one slot and one queue, five chains and eight records.
 const SMALL: LiveConfig = LiveConfig {
     slots: 1,
     queues: 1,
-    chains: 4,
+    chains: 5,
     pool: 8,
 };
 
 /// How many keys a walk through a list met, and the sum of their keys times their values; the reader has no section open
 /// before and after.
-fn through_list<P: GracePlan + Drop, K: MapRule, B: Site>(
-    reader: &mut Reader<P, K, B>,
+fn through_list<P: GracePlan + Drop, B: Site>(
+    reader: &mut Reader<P, Tabled, B>,
     view: ListView<B>,
 ) -> Result<(u64, u64), Refusal>
     requires { (P.QSBR ≡ B.qsbr) × (reader.old.depth ≡ 0) × (reader.old.locks ≡ 0) }
@@ -44,9 +44,9 @@ fn through_list<P: GracePlan + Drop, K: MapRule, B: Site>(
 }
 
 /// The same of a table.
-fn through_table<P: GracePlan + Drop, K: MapRule, B: Site>(
-    reader: &mut Reader<P, K, B>,
-    table: &RcuHash<'_, P, K, B, Adds>,
+fn through_table<P: GracePlan + Drop, B: Site>(
+    reader: &mut Reader<P, Tabled, B>,
+    table: &RcuHash<'_, P, B, Adds>,
 ) -> Result<(u64, u64), Refusal>
     requires { (P.QSBR ≡ B.qsbr) × (reader.old.depth ≡ 0) × (reader.old.locks ≡ 0) }
     ensures { IfOk result (λ _. (reader.new.depth ≡ 0) × (reader.new.locks ≡ 0)) }
@@ -65,10 +65,10 @@ fn through_table<P: GracePlan + Drop, K: MapRule, B: Site>(
 
 /// A list of three keys over chain 3, one of which was replaced and one removed, and a table of three buckets with three
 /// keys, two of them in one bucket: what walks meet, before and after.
-fn walks<P: GracePlan + Drop, K: MapRule, B: Site, R: Wait>(
+fn walks<P: GracePlan + Drop, B: Site, R: Wait>(
     rt: &R,
     alloc: Global,
-    domain: &Domain<P, K, B, Adds>,
+    domain: &Domain<P, Tabled, B, Adds>,
     record: &mut Record<B>,
 ) -> Result<[(u64, u64); 4], Refusal>
     requires { P.QSBR ≡ B.qsbr }
@@ -92,7 +92,7 @@ fn walks<P: GracePlan + Drop, K: MapRule, B: Site, R: Wait>(
         return Err(Refusal::BadConfig);
     }
     let listed = through_list(&mut reader, list.view())?;
-    let table = RcuHash::new(alloc, domain, record, 0, 3)?;
+    let table = RcuHash::new(rt, alloc, domain, record, 4, 0, 3)?;
     let none = through_table(&mut reader, &table)?;
     table.insert(rt, record, 4, 1)?;
     table.insert(rt, record, 7, 10)?;
@@ -102,10 +102,10 @@ fn walks<P: GracePlan + Drop, K: MapRule, B: Site, R: Wait>(
 }
 
 /// The same, in a domain of its own.
-fn walks_in<P: GracePlan + Drop, K: MapRule, B: Site, R: Wait>(
+fn walks_in<P: GracePlan + Drop, B: Site, R: Wait>(
     rt: &R,
     alloc: Global,
-    opened: Opened<P, K>,
+    opened: Opened<P, Tabled>,
 ) -> Result<[(u64, u64); 4], Refusal>
     requires { (P.QSBR ≡ B.qsbr) × (opened.table.words.shared.table_id ≡ B.table) × (opened.table.words.shared.key ≡ B.sizes) }
 {
@@ -116,10 +116,10 @@ fn walks_in<P: GracePlan + Drop, K: MapRule, B: Site, R: Wait>(
 #[test]
 fn each_key_is_met_once(rt: HostRuntime) {
     let answers = [(0, 0), (2, 41), (0, 0), (3, 274)];
-    let general = Opened::<MembPlan, Keyed>::new(rt.alloc(), SMALL).expect(&rt, "memory");
-    let did = walks_in::<_, _, Brand, _>(&rt, rt.alloc(), general).expect(&rt, "not refused");
+    let general = Opened::<MembPlan, Tabled>::new(rt.alloc(), SMALL).expect(&rt, "memory");
+    let did = walks_in::<_, Brand, _>(&rt, rt.alloc(), general).expect(&rt, "not refused");
     assert_eq!(rt; did, answers);
     let quiescent = Opened::<QsbrPlan, Tabled>::new(rt.alloc(), SMALL).expect(&rt, "memory");
-    let did = walks_in::<_, _, Brand, _>(&rt, rt.alloc(), quiescent).expect(&rt, "not refused");
+    let did = walks_in::<_, Brand, _>(&rt, rt.alloc(), quiescent).expect(&rt, "not refused");
     assert_eq!(rt; did, answers);
 }

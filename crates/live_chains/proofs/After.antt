@@ -13,9 +13,9 @@ use Rattle.live_rule.specs.declared.rights.RecordRight.TheVariants.{Unlinked}
 use Rattle.live_rule.specs.Objects.{ref}
 use Rattle.live_rule.proofs.Lemmas.{ref_same}
 use Rattle.live_table.specs.Rights.{own_in, IsWriter, IsListed, AreAsKnown, link_in}
-use Rattle.live_table.specs.Steps.{Went, Did}
+use Rattle.live_table.specs.Steps.{Went}
 use Rattle.live_records.specs.Records.{linked_view}
-use Rattle.live_chains.specs.Chains.{MayWrite, MayRead, IsThere, IsBefore, IsNext, push_of, pushed_view, replace_of, replaced_view, cut_of, cut_view}
+use Rattle.live_chains.specs.Chains.{MayWrite, Writes, MayRead, IsThere, IsBefore, IsNext, push_of, pushed_view, replace_of, replaced_view, cut_of, cut_view}
 
 module _ {S : Type 0} (qsbr : Bool) (allows : Log → LiveEvent → Type 0) (a : View) (m n : Me S View) (went : Went qsbr allows a m n) where
   -- what might be written may be still
@@ -24,9 +24,13 @@ module _ {S : Type 0} (qsbr : Bool) (allows : Log → LiveEvent → Type 0) (a :
       (λ log seen heard run known allowed. may log (begins_trans m.0.seen n.0.seen log went.2.0 seen) (subst (λ (l : Log). Begins l log) hears heard) run (subst (AreAsKnown log) chains known) allowed)
 
   -- what is done after it is done after what was before
-  pub did_after : a.heard ≡ m.0.heard → (b : View) (e : LiveEvent) (p : Me S View) → Did qsbr allows b e n p → Did qsbr allows b e m p
-  did_after hears b e p did = let wrote = did.2 in
-      (did.0 ∙ went.0, did.1, (wrote.0, wrote.1, begins_trans m.0.seen n.0.seen wrote.0 went.2.0 wrote.2, subst (λ (l : Log). Begins l wrote.0) (ap (λ (u : View). u.heard) went.1 ∙ hears) wrote.3, wrote.4))
+  pub did_after : a.chains ≡ m.0.chains → a.heard ≡ m.0.heard → (b : View) (e : LiveEvent) (p : Me S View) → Writes qsbr allows b e n p → Writes qsbr allows b e m p
+  did_after chains hears b e p did = let wrote = did.2 in (
+    did.0 ∙ went.0,
+    did.1,
+    (wrote.0, wrote.1, begins_trans m.0.seen n.0.seen wrote.0 went.2.0 wrote.2, subst (λ (l : Log). Begins l wrote.0) (ap (λ (u : View). u.heard) went.1 ∙ hears) wrote.3, wrote.4),
+    subst (AreAsKnown wrote.0) (ap (λ (u : View). u.chains) went.1 ∙ chains) did.3,
+  )
 
   module _ (listed : IsListed m.0) where
     -- the objects of the writer's chain have the notes that they had
@@ -55,8 +59,8 @@ module _ {S : Type 0} (qsbr : Bool) (allows : Log → LiveEvent → Type 0) (lin
   pub may_push : MayWrite qsbr allows m.0 (push_of m.0) → MayWrite qsbr allows n.0 (push_of n.0)
   may_push may = subst (λ (e : LiveEvent). MayWrite qsbr allows n.0 e) (ap push_of (sym went.1)) (may_still qsbr allows now m n went refl refl (push_of m.0) may)
 
-  pub pushed_after : (x : ℕ) (p : Me S View) → Did qsbr allows (pushed_view x n.0) (push_of n.0) n p → Did qsbr allows (pushed_view x m.0) (push_of m.0) m p
-  pushed_after x p did = did_after qsbr allows now m n went refl (pushed_view x m.0) (push_of m.0) p (subst (λ (u : View). Did qsbr allows (pushed_view x u) (push_of u) n p) went.1 did)
+  pub pushed_after : (x : ℕ) (p : Me S View) → Writes qsbr allows (pushed_view x n.0) (push_of n.0) n p → Writes qsbr allows (pushed_view x m.0) (push_of m.0) m p
+  pushed_after x p did = did_after qsbr allows now m n went refl refl (pushed_view x m.0) (push_of m.0) p (subst (λ (u : View). Writes qsbr allows (pushed_view x u) (push_of u) n p) went.1 did)
 
   module _ (listed : IsListed m.0) where
     pub link_after : (o : ObjectId) → link ≡ ref (objects_of m.0.seen) (next_of (own_in m.0.chains).objects o) → link_in n.0.object ≡ ref (objects_of n.0.seen) (next_of (own_in n.0.chains).objects o)
@@ -65,10 +69,10 @@ module _ {S : Type 0} (qsbr : Bool) (allows : Log → LiveEvent → Type 0) (lin
     pub may_replace : (o : ObjectId) → MayWrite qsbr allows m.0 (replace_of o m.0) → MayWrite qsbr allows n.0 (replace_of o n.0)
     may_replace o may = subst (λ (e : LiveEvent). MayWrite qsbr allows n.0 e) (ap (replace_of o) (sym went.1)) (may_still qsbr allows now m n went refl refl (replace_of o m.0) may)
 
-    pub replaced_after : (p : Option ObjectId) (o : ObjectId) (x : ℕ) (q : Me S View) → IsBefore m.0 p o → Did qsbr allows (replaced_view p o x n.0) (replace_of o n.0) n q → Did qsbr allows (replaced_view p o x m.0) (replace_of o m.0) m q
-    replaced_after p o x q at did = did_after qsbr allows now m n went refl (replaced_view p o x m.0) (replace_of o m.0) q
-        (subst (λ (z : ℕ × List ℕ). Did qsbr allows (record (replaced_view p o x m.0) { object = Unlinked z.0 o }) (replace_of o m.0) n q) (note_same qsbr allows now m n went listed o (follows_has (own_in m.0.chains).objects p o at.1))
-        (subst (λ (u : View). Did qsbr allows (replaced_view p o x u) (replace_of o u) n q) went.1 did))
+    pub replaced_after : (p : Option ObjectId) (o : ObjectId) (x : ℕ) (q : Me S View) → IsBefore m.0 p o → Writes qsbr allows (replaced_view p o x n.0) (replace_of o n.0) n q → Writes qsbr allows (replaced_view p o x m.0) (replace_of o m.0) m q
+    replaced_after p o x q at did = did_after qsbr allows now m n went refl refl (replaced_view p o x m.0) (replace_of o m.0) q
+        (subst (λ (z : ℕ × List ℕ). Writes qsbr allows (record (replaced_view p o x m.0) { object = Unlinked z.0 o }) (replace_of o m.0) n q) (note_same qsbr allows now m n went listed o (follows_has (own_in m.0.chains).objects p o at.1))
+        (subst (λ (u : View). Writes qsbr allows (replaced_view p o x u) (replace_of o u) n q) went.1 did))
 
 -- a cut after the load of the link of what is cut
 module _ {S : Type 0} (qsbr : Bool) (allows : Log → LiveEvent → Type 0) (m n : Me S View) (went : Went qsbr allows m.0 m n) (listed : IsListed m.0) (own : IsWriter m.0) (o : ObjectId) where
@@ -88,8 +92,8 @@ module _ {S : Type 0} (qsbr : Bool) (allows : Log → LiveEvent → Type 0) (m n
   pub may_cut : MayWrite qsbr allows m.0 (cut_of o m.0) → MayWrite qsbr allows n.0 (cut_of o n.0)
   may_cut may = subst (λ (e : LiveEvent). MayWrite qsbr allows n.0 e) (ap (cut_of o) (sym went.1)) (may_still qsbr allows m.0 m n went refl refl (cut_of o m.0) may)
 
-  pub cut_after : (p : Option ObjectId) (x : ℕ) (q : Me S View) → IsBefore m.0 p o → x ≡ next → Did qsbr allows (cut_view p o x n.0) (cut_of o n.0) n q → Did qsbr allows (cut_view p o next m.0) (cut_of o m.0) m q
-  cut_after p x q at is did = did_after qsbr allows m.0 m n went refl (cut_view p o next m.0) (cut_of o m.0) q
-      (subst (λ (z : ℕ × List ℕ). Did qsbr allows (record (cut_view p o next m.0) { object = Unlinked z.0 o }) (cut_of o m.0) n q) (note_same qsbr allows m.0 m n went listed o (follows_has (own_in m.0.chains).objects p o at.1))
-      (subst (λ (y : ℕ). Did qsbr allows (record (cut_view p o y m.0) { object = Unlinked (note_of n.0.seen o).0 o }) (cut_of o m.0) n q) is
-      (subst (λ (u : View). Did qsbr allows (cut_view p o x u) (cut_of o u) n q) went.1 did)))
+  pub cut_after : (p : Option ObjectId) (x : ℕ) (q : Me S View) → IsBefore m.0 p o → x ≡ next → Writes qsbr allows (cut_view p o x n.0) (cut_of o n.0) n q → Writes qsbr allows (cut_view p o next m.0) (cut_of o m.0) m q
+  cut_after p x q at is did = did_after qsbr allows m.0 m n went refl refl (cut_view p o next m.0) (cut_of o m.0) q
+      (subst (λ (z : ℕ × List ℕ). Writes qsbr allows (record (cut_view p o next m.0) { object = Unlinked z.0 o }) (cut_of o m.0) n q) (note_same qsbr allows m.0 m n went listed o (follows_has (own_in m.0.chains).objects p o at.1))
+      (subst (λ (y : ℕ). Writes qsbr allows (record (cut_view p o y m.0) { object = Unlinked (note_of n.0.seen o).0 o }) (cut_of o m.0) n q) is
+      (subst (λ (u : View). Writes qsbr allows (cut_view p o x u) (cut_of o u) n q) went.1 did)))

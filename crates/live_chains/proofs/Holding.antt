@@ -24,7 +24,7 @@ use Rattle.live_rule.proofs.Lemmas.{Unclaimed, looks}
 use Rattle.live_rule.proofs.Lemmas.{Calm, calm_same, calm_note, chain_part, lines_far, guards_far}
 use Rattle.live_rule.proofs.Lemmas.{queues_kept, works_kept, stores_beside, look_all}
 use Rattle.live_table.specs.Steps.{looked_view}
-use Rattle.live_table.specs.Rights.{own_in, IsWriter}
+use Rattle.live_table.specs.Rights.{AreAsKnown, own_in, IsWriter}
 use Rattle.live_chains.specs.Chains.{MayWrite, held_view, noted_view, freed_view, noted, held, freed}
 use Rattle.live_table.proofs.Lemmas.{unclaimed, all_known, claims_own, knows_first, knows_own}
 use Rattle.live_chains.proofs.Writers.{own_changes}
@@ -148,7 +148,8 @@ module _ {S : Type 0} (qsbr : Bool) (allows : Log → LiveEvent → Type 0) (key
       let kc = knows_own qsbr allows key s r id v at own in
       let b = r.seen id v at in
       let log : Log = ChainNote c x ∷ r.log in
-      let run : IsLiveRun qsbr allows log = (may r.log b.0 b.1 r.run (all_known qsbr key r.log s.words v.chains (λ d. r.knows (chain d) id v at)) tt, r.run) in
+      let known : AreAsKnown r.log v.chains = all_known qsbr key r.log s.words v.chains (λ d. r.knows (chain d) id v at) in
+      let run : IsLiveRun qsbr allows log = (may r.log b.0 b.1 r.run known tt, r.run) in
       let w : View = record (noted_view x v) { seen = log } in
       let wide = r.wide in
       let low = kc.0 in
@@ -175,5 +176,5 @@ module _ {S : Type 0} (qsbr : Bool) (allows : Log → LiveEvent → Type 0) (key
             (λ e claim. let m = own_changes qsbr allows key s r id v at own log (set s.words (note_at key c) x) (record (own_in v.chains) { note = x }) refl
             (kc.0, far (hold_at key c) (λ z. omega arith) ∙ kc.1, far (head_at key c) (λ z. omega arith) ∙ kc.2, kc.3, now)
             (λ d l ne. (far (hold_at key d) (λ z. omega arith), far (head_at key d) (λ z. omega arith), refl, else d ne)) e claim in (m.0, inl m.1))),
-        ((refl, refl, (r.log, refl, b.0, b.1, run)), (kc.3, sym kc.2 ∙ (r.agree.heap.leads (head c) kc.0 (first_of ((objects_of r.log).chain c)) refl ∙ ap (λ (l : List ObjectId). ref (objects_of r.log) (first_of l)) kc.3), now)),
+        ((refl, refl, (r.log, refl, b.0, b.1, run), known), (kc.3, sym kc.2 ∙ (r.agree.heap.leads (head c) kc.0 (first_of ((objects_of r.log).chain c)) refl ∙ ap (λ (l : List ObjectId). ref (objects_of r.log) (first_of l)) kc.3), now)),
       )

@@ -26,9 +26,8 @@ use Rattle.live_rule.specs.Rule.{KeepsRule}
 use Rattle.live_rule.proofs.Lemmas.{Unclaimed}
 use Rattle.live_rule.proofs.Lemmas.{ref_same}
 use Rattle.live_rule.proofs.Lemmas.{Enters}
-use Rattle.live_table.specs.Rights.{own_in, IsWriter, IsListed, cell_in, object_in, link_in, payload_in, IsFresh}
-use Rattle.live_table.specs.Steps.{Did}
-use Rattle.live_chains.specs.Chains.{IsAllowedBy, MayWrite, IsBefore, place_at, head_after, pushed_view, push_of, replaced_view, replace_of, cut_view, cut_of, pushed, replaces, cuts}
+use Rattle.live_table.specs.Rights.{AreAsKnown, own_in, IsWriter, IsListed, cell_in, object_in, link_in, payload_in, IsFresh}
+use Rattle.live_chains.specs.Chains.{IsAllowedBy, MayWrite, Writes, IsBefore, place_at, head_after, pushed_view, push_of, replaced_view, replace_of, cut_view, cut_of, pushed, replaces, cuts}
 use Rattle.live_table.proofs.Lemmas.{all_known, knows_own, here}
 use Rattle.live_chains.proofs.Writers.{linked_free, seen_used, place_now, one_place, enters_fresh, head_stored, spliced}
 
@@ -54,8 +53,9 @@ module _ {S : Type 0} (qsbr : Bool) (allows : Log → LiveEvent → Type 0) (key
       let kc = knows_own qsbr allows key s r id v at own in
       let ko = knows_fresh s r id v at fresh in
       let b = r.seen id v at in
+      let known : AreAsKnown r.log v.chains = all_known qsbr key r.log s.words v.chains (λ d. r.knows (chain d) id v at) in
       let made : IsAllowedBy r.log (push_of v) = (λ h. ko.0 (in_objects was.used o h)) in
-      let ok : MayFollow qsbr allows r.log (push_of v) = (made, may r.log b.0 b.1 r.run (all_known qsbr key r.log s.words v.chains (λ d. r.knows (chain d) id v at)) made) in
+      let ok : MayFollow qsbr allows r.log (push_of v) = (made, may r.log b.0 b.1 r.run known made) in
       let run : IsLiveRun qsbr allows (push_of v ∷ r.log) = (ok, r.run) in
       let now : Objects = objects_of (push_of v ∷ r.log) in
       let next : Option ObjectId = first_of (was.chain c) in
@@ -72,7 +72,7 @@ module _ {S : Type 0} (qsbr : Bool) (allows : Log → LiveEvent → Type 0) (key
         keeps,
         tt,
         subst (λ (n : ℕ). Rule record { words = set s.words n x; homes = s.homes; views = set s.views id w }) (sym a_is) done.0,
-        ((refl, refl, (r.log, refl, b.0, b.1, run)), (list, done.1, kc.4)),
+        ((refl, refl, (r.log, refl, b.0, b.1, run), known), (list, done.1, kc.4)),
       )
 
   -- what follows an object in the writer's chain has the note that the writer has seen
@@ -108,8 +108,9 @@ module _ {S : Type 0} (qsbr : Bool) (allows : Log → LiveEvent → Type 0) (key
       let b = r.seen id v at in
       let has : In os o = follows_has os p o before.1 in
       let has_now = here qsbr allows key s r id v at own o has in
+      let known : AreAsKnown r.log v.chains = all_known qsbr key r.log s.words v.chains (λ d. r.knows (chain d) id v at) in
       let made : IsAllowedBy r.log (replace_of o v) = (has_object_in (was.chain c) o has_now, λ h. ko.0 (in_objects was.used m h)) in
-      let ok : MayFollow qsbr allows r.log (replace_of o v) = (made, may r.log b.0 b.1 r.run (all_known qsbr key r.log s.words v.chains (λ d. r.knows (chain d) id v at)) made) in
+      let ok : MayFollow qsbr allows r.log (replace_of o v) = (made, may r.log b.0 b.1 r.run known made) in
       let run : IsLiveRun qsbr allows (replace_of o v ∷ r.log) = (ok, r.run) in
       let now : Objects = objects_of (replace_of o v ∷ r.log) in
       let next : Option ObjectId = next_of (was.chain c) o in
@@ -133,7 +134,7 @@ module _ {S : Type 0} (qsbr : Bool) (allows : Log → LiveEvent → Type 0) (key
           (list, done.1, kc.4),
           λ q u b_is then. let e : p ≡ q = one_place qsbr allows key s r id v at own listed sizes p q before.0 then.0 (sym a_is ∙ b_is) in
               let f : o ≡ u = some_is o u (sym before.1 ∙ (ap (follows os) e ∙ then.1)) in
-              subst (λ (z : Option ObjectId × ObjectId). Did qsbr allows (replaced_view z.0 z.1 x v) (replace_of z.1 v) me (w, me.1)) (λ j. (e j, f j)) (refl, refl, (r.log, refl, b.0, b.1, run)),
+              subst (λ (z : Option ObjectId × ObjectId). Writes qsbr allows (replaced_view z.0 z.1 x v) (replace_of z.1 v) me (w, me.1)) (λ j. (e j, f j)) (refl, refl, (r.log, refl, b.0, b.1, run), known),
         ),
       )
     where
@@ -151,8 +152,9 @@ module _ {S : Type 0} (qsbr : Bool) (allows : Log → LiveEvent → Type 0) (key
       let b = r.seen id v at in
       let has : In os o = follows_has os p o before.1 in
       let has_now = here qsbr allows key s r id v at own o has in
+      let known : AreAsKnown r.log v.chains = all_known qsbr key r.log s.words v.chains (λ d. r.knows (chain d) id v at) in
       let made : IsAllowedBy r.log (cut_of o v) = has_object_in (was.chain c) o has_now in
-      let ok : MayFollow qsbr allows r.log (cut_of o v) = (made, may r.log b.0 b.1 r.run (all_known qsbr key r.log s.words v.chains (λ d. r.knows (chain d) id v at)) made) in
+      let ok : MayFollow qsbr allows r.log (cut_of o v) = (made, may r.log b.0 b.1 r.run known made) in
       let run : IsLiveRun qsbr allows (cut_of o v ∷ r.log) = (ok, r.run) in
       let now : Objects = objects_of (cut_of o v ∷ r.log) in
       let next : Option ObjectId = next_of (was.chain c) o in
@@ -174,7 +176,7 @@ module _ {S : Type 0} (qsbr : Bool) (allows : Log → LiveEvent → Type 0) (key
           (list, done.1, kc.4),
           λ q u b_is then. let e : p ≡ q = one_place qsbr allows key s r id v at own listed sizes p q before.0 then.0 (sym a_is ∙ b_is) in
               let f : o ≡ u = some_is o u (sym before.1 ∙ (ap (follows os) e ∙ then.1)) in
-              subst (λ (z : Option ObjectId × ObjectId). Did qsbr allows (cut_view z.0 z.1 x v) (cut_of z.1 v) me (w, me.1)) (λ j. (e j, f j)) (refl, refl, (r.log, refl, b.0, b.1, run)),
+              subst (λ (z : Option ObjectId × ObjectId). Writes qsbr allows (cut_view z.0 z.1 x v) (cut_of z.1 v) me (w, me.1)) (λ j. (e j, f j)) (refl, refl, (r.log, refl, b.0, b.1, run), known),
         ),
       )
     where

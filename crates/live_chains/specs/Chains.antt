@@ -17,7 +17,7 @@ use Rattle.live_rule.specs.Objects.{ref, spot_at}
 use Rattle.live_rule.specs.Readers.{IsClosed}
 use Rattle.live_rule.specs.Seats.{lent_chains}
 use Rattle.live_table.specs.Rights.{IsOwner, word_in, count_in, own_in, IsWriter, IsListed, AreAsKnown, KnowsChains, cell_in, object_in, payload_in}
-use Rattle.live_table.specs.Steps.{Went, Did, looked_view}
+use Rattle.live_table.specs.Steps.{Adds, IsNow, Went, looked_view}
 
 -- the abstract machine may go on from the log with the event
 abbrev pub IsAllowedBy : Log → LiveEvent → Type 0
@@ -112,20 +112,24 @@ abbrev pub IsHeld : View → ℕ → Type 0
 IsHeld v c = IsWriter v × ((own_in v.chains).chain ≡ c) × IsListed v
 
 module _ {S : Type 0} (qsbr : Bool) (allows : Log → LiveEvent → Type 0) where
+  -- a step that writes this event at a log in which the seat's chains are as it knows them, after which the view is this one
+  abbrev pub Writes : View → LiveEvent → Me S View → Me S View → Type 0
+  Writes v e m m' = (m'.1 ≡ m.1) × IsNow v m'.0 × (adds : Adds qsbr allows m.0 e m'.0) × AreAsKnown adds.0 m.0.chains
+
   -- the head was stored, and the object is the first one
   abbrev pub pushed : Step S → Me S View → ℕ → Me S View → Type 0
-  pushed st m n m' = Did qsbr allows (pushed_view st.first m.0) (push_of m.0) m m' × IsListed m'.0
+  pushed st m n m' = Writes (pushed_view st.first m.0) (push_of m.0) m m' × IsListed m'.0
 
   -- the step tells of the object that stood at the place of the word
   abbrev pub replaces : Step S → Me S View → ℕ → Me S View → Type 0
-  replaces st m n m' = IsListed m'.0 × ((p : Option ObjectId) (o : ObjectId) → st.word ≡ place_at m.0 p → IsBefore m.0 p o → Did qsbr allows (replaced_view p o st.first m.0) (replace_of o m.0) m m')
+  replaces st m n m' = IsListed m'.0 × ((p : Option ObjectId) (o : ObjectId) → st.word ≡ place_at m.0 p → IsBefore m.0 p o → Writes (replaced_view p o st.first m.0) (replace_of o m.0) m m')
 
   abbrev pub cuts : Step S → Me S View → ℕ → Me S View → Type 0
-  cuts st m n m' = IsListed m'.0 × ((p : Option ObjectId) (o : ObjectId) → st.word ≡ place_at m.0 p → IsBefore m.0 p o → Did qsbr allows (cut_view p o st.first m.0) (cut_of o m.0) m m')
+  cuts st m n m' = IsListed m'.0 × ((p : Option ObjectId) (o : ObjectId) → st.word ≡ place_at m.0 p → IsBefore m.0 p o → Writes (cut_view p o st.first m.0) (cut_of o m.0) m m')
 
   -- the note was stored
   abbrev pub noted : Step S → Me S View → ℕ → Me S View → Type 0
-  noted st m n m' = Did qsbr allows (noted_view st.first m.0) (ChainNote (own_in m.0.chains).chain st.first) m m' × IsListed m'.0
+  noted st m n m' = Writes (noted_view st.first m.0) (ChainNote (own_in m.0.chains).chain st.first) m m' × IsListed m'.0
 
   -- the hold word was 0, and so the chain is the seat's; or it was 1, and another has it
   abbrev pub held : Step S → Me S View → ℕ → Me S View → Type 0

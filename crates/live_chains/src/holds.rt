@@ -3,8 +3,8 @@ ghost use Rattle.std.specs.Prelude.{◌≡◌, ◌≢◌, ◌<◌, ◌≤◌};
 ghost use Rattle.live_log.specs.declared.event.LiveEvent.TheVariants.{ChainNote};
 ghost use Rattle.live_rule.specs.Places.{hold_at};
 ghost use Rattle.live_table.specs.Rights.{IsListed, IsWriter, own_in};
-ghost use Rattle.live_table.specs.Steps.{Did, Keeps, Went, looked_view};
-ghost use Rattle.live_chains.specs.Chains.{IsHeld, MayWrite, freed_view, held_view, noted_view};
+ghost use Rattle.live_table.specs.Steps.{Keeps, Went, looked_view};
+ghost use Rattle.live_chains.specs.Chains.{IsHeld, MayWrite, Writes, freed_view, held_view, noted_view};
 
 use crate::plays::{Frees, Holds, StoresNote};
 use gp_memb::GracePlan;
@@ -60,7 +60,7 @@ pub fn store_note<P: GracePlan, K: ChainRule>(
     requires right { IsWriter seat.old.me.0 × ((own_in seat.old.me.0.chains).chain ≡ chain) }
     requires rule { MayWrite P.QSBR K.allows seat.old.me.0 (ChainNote (own_in seat.old.me.0.chains).chain note) }
     ensures seat { Keeps seat.old seat.new }
-    ensures noted { Did P.QSBR K.allows (noted_view note seat.old.me.0) (ChainNote (own_in seat.old.me.0.chains).chain note) seat.old.me seat.new.me × IsListed seat.new.me.0 }
+    ensures noted { Writes P.QSBR K.allows (noted_view note seat.old.me.0) (ChainNote (own_in seat.old.me.0.chains).chain note) seat.old.me seat.new.me × IsListed seat.new.me.0 }
 {
     let place = table.note_place(chain);
     table

@@ -6,8 +6,8 @@ ghost use Rattle.rcu_model.specs.declared.event.ObjectId.{ObjectId};
 ghost use Rattle.live_log.specs.Log.{note_of, objects_of};
 ghost use Rattle.live_rule.specs.Objects.{ref};
 ghost use Rattle.live_table.specs.Rights.{IsFresh, IsListed, IsWriter, cell_in, own_in};
-ghost use Rattle.live_table.specs.Steps.{Did, Keeps};
-ghost use Rattle.live_chains.specs.Chains.{IsBefore, IsThere, MayWrite, cut_of, cut_view, push_of, pushed_view, replace_of, replaced_view};
+ghost use Rattle.live_table.specs.Steps.{Keeps};
+ghost use Rattle.live_chains.specs.Chains.{IsBefore, IsThere, MayWrite, Writes, cut_of, cut_view, push_of, pushed_view, replace_of, replaced_view};
 
 use crate::loads::load_link;
 use crate::steps::{store_cut, store_push, store_replace};
@@ -30,7 +30,7 @@ pub fn push<P: GracePlan, K: ChainRule>(
     requires right { IsWriter seat.old.me.0 × ((own_in seat.old.me.0.chains).chain ≡ chain) × ((own_in seat.old.me.0.chains).head ≡ head) × IsFresh seat.old.me.0 × (cell_in seat.old.me.0.object ≡ cell) }
     requires rule { MayWrite P.QSBR K.allows seat.old.me.0 (push_of seat.old.me.0) }
     ensures seat { Keeps seat.old seat.new }
-    ensures pushed { Did P.QSBR K.allows (pushed_view (cell + 1) seat.old.me.0) (push_of seat.old.me.0) seat.old.me seat.new.me × IsListed seat.new.me.0 }
+    ensures pushed { Writes P.QSBR K.allows (pushed_view (cell + 1) seat.old.me.0) (push_of seat.old.me.0) seat.old.me seat.new.me × IsListed seat.new.me.0 }
 {
     store_link(table, seat, cell, head);
     store_push(table, seat, chain, cell);
@@ -52,7 +52,7 @@ pub fn replace<P: GracePlan, K: ChainRule>(
     requires object { (p : Option ObjectId) × (o : ObjectId) × IsThere seat.old.me.0 before p × IsBefore seat.old.me.0 p o × (next ≡ ref (objects_of seat.old.me.0.seen) (next_of (own_in seat.old.me.0.chains).objects o)) × MayWrite P.QSBR K.allows seat.old.me.0 (replace_of o seat.old.me.0) }
     ensures seat { Keeps seat.old seat.new }
     ensures listed { IsListed seat.new.me.0 }
-    ensures replaced { (p : Option ObjectId) (o : ObjectId) → IsThere seat.old.me.0 before p → IsBefore seat.old.me.0 p o → Did P.QSBR K.allows (replaced_view p o (cell + 1) seat.old.me.0) (replace_of o seat.old.me.0) seat.old.me seat.new.me }
+    ensures replaced { (p : Option ObjectId) (o : ObjectId) → IsThere seat.old.me.0 before p → IsBefore seat.old.me.0 p o → Writes P.QSBR K.allows (replaced_view p o (cell + 1) seat.old.me.0) (replace_of o seat.old.me.0) seat.old.me seat.new.me }
 {
     store_link(table, seat, cell, next);
     store_replace(table, seat, chain, before, cell);
@@ -74,7 +74,7 @@ pub fn cut<P: GracePlan, K: ChainRule>(
     requires object { (p : Option ObjectId) × (o : ObjectId) × IsThere seat.old.me.0 before p × IsBefore seat.old.me.0 p o × ((note_of seat.old.me.0.seen o).0 ≡ cell) × MayWrite P.QSBR K.allows seat.old.me.0 (cut_of o seat.old.me.0) }
     ensures seat { Keeps seat.old seat.new }
     ensures listed { IsListed seat.new.me.0 }
-    ensures cut { (p : Option ObjectId) (o : ObjectId) → IsThere seat.old.me.0 before p → IsBefore seat.old.me.0 p o → (note_of seat.old.me.0.seen o).0 ≡ cell → Did P.QSBR K.allows (cut_view p o (ref (objects_of seat.old.me.0.seen) (next_of (own_in seat.old.me.0.chains).objects o)) seat.old.me.0) (cut_of o seat.old.me.0) seat.old.me seat.new.me }
+    ensures cut { (p : Option ObjectId) (o : ObjectId) → IsThere seat.old.me.0 before p → IsBefore seat.old.me.0 p o → (note_of seat.old.me.0.seen o).0 ≡ cell → Writes P.QSBR K.allows (cut_view p o (ref (objects_of seat.old.me.0.seen) (next_of (own_in seat.old.me.0.chains).objects o)) seat.old.me.0) (cut_of o seat.old.me.0) seat.old.me seat.new.me }
 {
     let next = load_link(table, seat, cell);
     store_cut(table, seat, chain, before, next);

@@ -5,8 +5,8 @@ ghost use Rattle.rcu_model.specs.declared.event.ObjectId.{ObjectId};
 ghost use Rattle.live_log.specs.Log.{objects_of};
 ghost use Rattle.live_rule.specs.Objects.{ref};
 ghost use Rattle.live_table.specs.Rights.{IsFresh, IsListed, IsWriter, cell_in, link_in, own_in};
-ghost use Rattle.live_table.specs.Steps.{Did, Keeps};
-ghost use Rattle.live_chains.specs.Chains.{IsBefore, IsThere, MayWrite, cut_of, cut_view, place_index, push_of, pushed_view, replace_of, replaced_view};
+ghost use Rattle.live_table.specs.Steps.{Keeps};
+ghost use Rattle.live_chains.specs.Chains.{IsBefore, IsThere, MayWrite, Writes, cut_of, cut_view, place_index, push_of, pushed_view, replace_of, replaced_view};
 
 use crate::plays::{Cuts, Pushes, Replaces};
 use gp_memb::GracePlan;
@@ -41,7 +41,7 @@ pub fn store_push<P: GracePlan, K: ChainRule>(
     requires right { IsWriter seat.old.me.0 × ((own_in seat.old.me.0.chains).chain ≡ chain) × IsFresh seat.old.me.0 × (cell_in seat.old.me.0.object ≡ cell) × (link_in seat.old.me.0.object ≡ (own_in seat.old.me.0.chains).head) }
     requires rule { MayWrite P.QSBR K.allows seat.old.me.0 (push_of seat.old.me.0) }
     ensures seat { Keeps seat.old seat.new }
-    ensures pushed { Did P.QSBR K.allows (pushed_view (cell + 1) seat.old.me.0) (push_of seat.old.me.0) seat.old.me seat.new.me × IsListed seat.new.me.0 }
+    ensures pushed { Writes P.QSBR K.allows (pushed_view (cell + 1) seat.old.me.0) (push_of seat.old.me.0) seat.old.me seat.new.me × IsListed seat.new.me.0 }
 {
     let place = table.head_place(chain);
     table
@@ -65,7 +65,7 @@ pub fn store_replace<P: GracePlan, K: ChainRule>(
     requires object { (p : Option ObjectId) × (o : ObjectId) × IsThere seat.old.me.0 before p × IsBefore seat.old.me.0 p o × (link_in seat.old.me.0.object ≡ ref (objects_of seat.old.me.0.seen) (next_of (own_in seat.old.me.0.chains).objects o)) × MayWrite P.QSBR K.allows seat.old.me.0 (replace_of o seat.old.me.0) }
     ensures seat { Keeps seat.old seat.new }
     ensures listed { IsListed seat.new.me.0 }
-    ensures replaced { (p : Option ObjectId) (o : ObjectId) → IsThere seat.old.me.0 before p → IsBefore seat.old.me.0 p o → Did P.QSBR K.allows (replaced_view p o (cell + 1) seat.old.me.0) (replace_of o seat.old.me.0) seat.old.me seat.new.me }
+    ensures replaced { (p : Option ObjectId) (o : ObjectId) → IsThere seat.old.me.0 before p → IsBefore seat.old.me.0 p o → Writes P.QSBR K.allows (replaced_view p o (cell + 1) seat.old.me.0) (replace_of o seat.old.me.0) seat.old.me seat.new.me }
 {
     let place = spot_place(table, chain, before);
     table
@@ -89,7 +89,7 @@ pub fn store_cut<P: GracePlan, K: ChainRule>(
     requires object { (p : Option ObjectId) × (o : ObjectId) × IsThere seat.old.me.0 before p × IsBefore seat.old.me.0 p o × (next ≡ ref (objects_of seat.old.me.0.seen) (next_of (own_in seat.old.me.0.chains).objects o)) × MayWrite P.QSBR K.allows seat.old.me.0 (cut_of o seat.old.me.0) }
     ensures seat { Keeps seat.old seat.new }
     ensures listed { IsListed seat.new.me.0 }
-    ensures cut { (p : Option ObjectId) (o : ObjectId) → IsThere seat.old.me.0 before p → IsBefore seat.old.me.0 p o → Did P.QSBR K.allows (cut_view p o next seat.old.me.0) (cut_of o seat.old.me.0) seat.old.me seat.new.me }
+    ensures cut { (p : Option ObjectId) (o : ObjectId) → IsThere seat.old.me.0 before p → IsBefore seat.old.me.0 p o → Writes P.QSBR K.allows (cut_view p o next seat.old.me.0) (cut_of o seat.old.me.0) seat.old.me seat.new.me }
 {
     let place = spot_place(table, chain, before);
     table.words.shared.store::<Cuts<P, K>>(seat, place, next);

@@ -40,7 +40,7 @@ fn open<P: GracePlan + Drop>(alloc: Global) -> Result<Opened<P, AnyChain>, Refus
 #[derive(Drop)]
 struct Found {
     version: u64,
-    hops: (u64, u64),
+    hops: (u64, u64, u64),
     turns: u64,
     codes: u64,
     polls: u64,
@@ -51,7 +51,7 @@ struct Found {
 fn show<R: Threads + Wait + Sync>(rt: &R, alloc: Global) -> Result<Found, Refusal> {
     let first = open::<MembPlan>(alloc)?;
     let version = configuration::serve::<Brand, R>(rt, alloc, first)?;
-    let second = open::<MembPlan>(alloc)?;
+    let second = routes::open(alloc)?;
     let hops = routes::look_up::<Brand, R>(rt, alloc, second)?;
     let third = open::<QsbrPlan>(alloc)?;
     let turns = event_loop::run::<Brand, R>(rt, alloc, third)?;
@@ -76,8 +76,8 @@ fn main(rt: HostRuntime) -> io::Result<ExitCode> {
         Ok(found) => {
             println!(rt; "configuration: version {} was read last", found.version)?;
             println!(rt;
-                "routes: the next hop was {}, and then {}",
-                found.hops.0, found.hops.1
+                "routes: the next hop was {}, {} when the table had grown, and then {}",
+                found.hops.0, found.hops.1, found.hops.2
             )?;
             println!(rt; "event loop: {} turns found the record", found.turns)?;
             println!(rt; "callbacks: {} in all", found.codes)?;

@@ -12,5 +12,6 @@ pub use Rattle.live_log.proofs.Closed.{closed_stays, closed_low}
 pub use Rattle.live_log.proofs.Splices.{link_is, head_is, head_no_link, push_moves, cut_moves, replace_moves, Still, leads_still, Moved}
 pub use Rattle.live_log.proofs.Keying.{falls_same, falls_push, falls_cut, falls_replaced}
 pub use Rattle.live_log.proofs.Falling.{each_falls}
-pub use Rattle.live_log.proofs.Mapping.{keyed_maps, tabled_maps}
-pub use Rattle.live_log.proofs.Tabling.{is_noted, unnoted_free, left_stays, linked_or_replaced, directory_alone}
+pub use Rattle.live_log.proofs.Mapping.{free_takes, keyed_maps, tabled_maps}
+pub use Rattle.live_log.proofs.Tabling.{is_noted, unnoted_free, noted_or_ended, left_stays, linked_or_replaced, directory_alone, directory_there}
+pub use Rattle.live_log.proofs.Freeing.{free_told, left_is_freed, linked_between, named_stays_free, stays_free}

@@ -1,21 +1,46 @@
 -- Chains are maps under the rule of keyed chains, and under that of tables.
-use Rattle.std.proofs.Common.{Bool, ◌≡◌, ℕ, List, [], ◌∷◌, sym, ◌∙◌, inl, inr, ⊎_elim}
-use Rattle.rcu_model.specs.declared.event.ObjectId.{ObjectId}
+use Rattle.std.proofs.Common.{Bool, ℕ, sym, ◌∙◌, inl, inr, ⊎_elim}
 use Rattle.live_log.specs.declared.event.ObjectEvent.TheVariants.{Replace}
 use Rattle.live_log.specs.Keys.{keyed, keyed_event}
-use Rattle.live_log.specs.Log.{note_of}
-use Rattle.live_log.specs.Maps.{HasMaps}
-use Rattle.live_log.specs.Tables.{HasKey, IsDirectory, MayDirect, tabled}
+use Rattle.live_log.specs.Log.{Log, note_of}
+use Rattle.live_log.specs.Maps.{HasMaps, IsPlain, IsUnnoted, TakesKeys}
+use Rattle.live_log.specs.Tables.{HasKey, IsDirectory, IsFree, MayDirect, tabled}
 use Rattle.live_log.proofs.Falling as keys
 use Rattle.live_log.proofs.Tabling as tables
+
+-- under the rule of keyed chains each chain takes keys so
+pub keyed_takes : (qsbr : Bool) (free : Log → ℕ → Type 0) → TakesKeys qsbr keyed free
+keyed_takes qsbr free = record {
+  pushes = λ log c o cell payload plain key allowed. allowed;
+  replaces = λ log c old new cell payload plain at key allowed. allowed;
+  cuts = λ log c o plain at allowed. allowed;
+}
+
+-- under that of tables the free ones do
+pub free_takes : (qsbr : Bool) → TakesKeys qsbr tabled IsFree
+free_takes qsbr = record {
+  pushes = λ log c o cell payload plain key allowed. (plain.is_free, inl (key, plain.keys, allowed));
+  replaces = λ log c old new cell payload plain at key allowed. (plain.is_free, inl (key, plain.keys old at, allowed));
+  cuts = λ log c o plain at allowed. (plain.is_free, plain.keys o at, allowed);
+}
+
+-- so those with no note
+module _ (qsbr : Bool) where
+  free_one : (log : Log) (c : ℕ) → IsPlain qsbr tabled IsUnnoted log c → IsPlain qsbr tabled IsFree log c
+  free_one log c plain = record { run = plain.run; is_free = tables.unnoted_free qsbr log c plain.run plain.is_free; keys = plain.keys }
+
+  unnoted_takes : TakesKeys qsbr tabled IsUnnoted
+  unnoted_takes = let free = free_takes qsbr in record {
+    pushes = λ log c o cell payload plain key allowed. free.pushes log c o cell payload (free_one log c plain) key allowed;
+    replaces = λ log c old new cell payload plain at key allowed. free.replaces log c old new cell payload (free_one log c plain) at key allowed;
+    cuts = λ log c o plain at allowed. free.cuts log c o (free_one log c plain) at allowed;
+  }
 
 pub keyed_maps : (qsbr : Bool) → HasMaps qsbr keyed
 keyed_maps qsbr = record {
   falls = keys.each_falls qsbr;
   alike = λ log c old new cell payload run. (run.0.1.2, inl run.0.1.1);
-  pushes = λ log c o cell payload plain key allowed. allowed;
-  replaces = λ log c old new cell payload plain at key allowed. allowed;
-  cuts = λ log c o plain at allowed. allowed;
+  takes = keyed_takes qsbr IsUnnoted;
 }
 
 pub tabled_maps : (qsbr : Bool) → HasMaps qsbr tabled
@@ -25,7 +50,5 @@ tabled_maps qsbr = record {
       (λ (k : HasKey (cell, payload) × HasKey (note_of log old) × keyed_event log (Replace c old new cell payload)). (k.2.2, inl k.2.1))
       (λ (k : IsDirectory (cell, payload) × IsDirectory (note_of log old) × MayDirect log c (cell, payload)). (k.0.1 ∙ sym k.1.1, inr (tables.was_alone qsbr log c old new cell payload run k.1)))
       run.0.1.1;
-  pushes = λ log c o cell payload plain key allowed. (tables.unnoted_free qsbr log c plain.run plain.unnoted, inl (key, plain.keys, allowed));
-  replaces = λ log c old new cell payload plain at key allowed. (tables.unnoted_free qsbr log c plain.run plain.unnoted, inl (key, plain.keys old at, allowed));
-  cuts = λ log c o plain at allowed. (tables.unnoted_free qsbr log c plain.run plain.unnoted, plain.keys o at, allowed);
+  takes = unnoted_takes qsbr;
 }

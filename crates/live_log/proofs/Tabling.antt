@@ -1,6 +1,6 @@
 -- Under the rule of tables a chain has keys or one directory, a named chain has its directory's note, a chain with no
 -- note is free, and one that a replaced directory named stays as it was while a section of then is open.
-use Rattle.std.proofs.Common.{Bool, ◌≡◌, ◌≢◌, ◌⊎◌, ℕ, ◌+◌, List, [], ◌∷◌, ◌++◌, cond, true, false, refl, sym, ap, ◌∙◌, subst, inl, inr, ⊎_elim, arith, eq-eqb, ne_eqb}
+use Rattle.std.proofs.Common.{Bool, ◌≡◌, ◌≢◌, ◌⊎◌, ℕ, ◌+◌, List, [], ◌∷◌, ◌++◌, cond, true, false, refl, sym, ap, ◌∙◌, subst, inl, inr, ⊎_elim, arith, ne_eqb}
 use mathlib.Core.Logic.{dite}
 use mathlib.Core.Option.{some}
 use native.Mathlib.Decide.{ℕ_discrete}
@@ -10,7 +10,7 @@ use Rattle.rcu_model.proofs.Lemmas.{at_number_other, at_number_same, at_object_s
 use Rattle.live_log.specs.declared.event.ObjectEvent.TheVariants.{Push, Replace, Cut, Retire, Queue, Run}
 use Rattle.live_log.specs.declared.event.LiveEvent.{LiveEvent}
 use Rattle.live_log.specs.declared.event.LiveEvent.TheVariants.{Open, Close, SeqOdd, SeqEven, Present, ChainNote, CloseQueue, Object}
-use Rattle.live_log.specs.Keys.{Falls, IsKeyed, key_of, keyed_event, rank_of}
+use Rattle.live_log.specs.Keys.{Falls, IsKeyed, keyed_event}
 use Rattle.live_log.specs.Log.{Log, Begins, Has, HaveEnded, IsLiveRun, chain_note, note_of, open_of, state_of}
 use Rattle.live_log.specs.Tables.{HasKey, HasKeys, IsDirectory, IsFree, IsNamed, IsReplaced, MayDirect, Names, kind_of, tabled}
 use Rattle.live_log.proofs.Falling.{LeavesFalling, all_fall}
@@ -117,6 +117,13 @@ module _ (qsbr : Bool) where
 
   pub directory_alone : (log : Log) (d : ℕ) (o : ObjectId) → IsLiveRun qsbr tabled log → In (chain_in log d) o → IsDirectory (note_of log o) → chain_in log d ≡ o ∷ []
   directory_alone log d o run h directory = alone_there log d o (each_sorted log d run) h directory
+
+  -- a linked object of that kind is a directory
+  pub directory_there : (log : Log) (d : ℕ) (o : ObjectId) → IsLiveRun qsbr tabled log → In (chain_in log d) o → kind_of (note_of log o) ≡ 1 → IsDirectory (note_of log o)
+  directory_there log d o run h kind = ⊎_elim
+      (λ (keys : HasKeys log d). let a : kind_of (note_of log o) ≡ 0 = keys o h in absurd (omega arith))
+      (λ (alone : IsAlone log d). subst (λ (q : ObjectId). IsDirectory (note_of log q)) (only alone.0 o (subst (λ (l : List ObjectId). In l o) alone.1 h)) alone.2)
+      (each_sorted log d run)
 
   -- a directory takes the place of one that was alone
   pub was_alone : (log : Log) (d : ℕ) (p o : ObjectId) (i : ℕ) (w : List ℕ) → IsLiveRun qsbr tabled (Object (Replace d p o i w) ∷ log) → IsDirectory (note_of log p) → chain_in log d ≡ p ∷ []
@@ -228,17 +235,17 @@ module _ (qsbr : Bool) where
 
     -- its note stays, or the sections of then have ended
     abbrev Waits : Log → Type 0
-    Waits log = (chain_note c log ≢ 0) ⊎ HaveEnded before log
+    Waits log = (chain_note c log ≡ d + 1) ⊎ HaveEnded before log
 
     still_waits : (e : LiveEvent) (log : Log) → chain_note c (e ∷ log) ≡ chain_note c log → Waits log → Waits (e ∷ log)
-    still_waits e log same (inl noted) = inl (λ z. noted (sym same ∙ z))
+    still_waits e log same (inl noted) = inl (same ∙ noted)
     still_waits e log same (inr ended) = inr (λ r n m opened. inr (ended r n m opened))
 
     waits_on : (e : LiveEvent) (es : Log) → IsLiveRun qsbr tabled (e ∷ (es ++ left)) → Waits (es ++ left) → Waits (e ∷ (es ++ left))
     waits_on (ChainNote b x) es run waits = dite (ℕ_discrete b c)
         (λ is. ⊎_elim
-        (λ (noted : chain_note c (es ++ left) ≢ 0). ⊎_elim
-        (λ (none : chain_note b (es ++ left) ≡ 0). absurd (noted (ap (λ (n : ℕ). chain_note n (es ++ left)) (sym is) ∙ none)))
+        (λ (noted : chain_note c (es ++ left) ≡ d + 1). ⊎_elim
+        (λ (none : chain_note b (es ++ left) ≡ 0). let z : chain_note c (es ++ left) ≡ 0 = ap (λ (n : ℕ). chain_note n (es ++ left)) (sym is) ∙ none in absurd (omega arith))
         (λ (k : (x ≡ 0) × IsFree (es ++ left) b × (chain_in (es ++ left) b ≡ []) × ¬ IsNamed (es ++ left) b). inr (λ r n m opened. inr (k.1 es before d old new cell payload refl directory (subst (Names (note_of before old)) (sym is) names) r n m opened)))
         run.0)
         (λ (ended : HaveEnded before (es ++ left)). inr (λ r n m opened. inr (ended r n m opened)))
@@ -253,7 +260,7 @@ module _ (qsbr : Bool) where
     waits_on (Object a) es run waits = still_waits (Object a) (es ++ left) refl waits
 
     waits_since : (since : Log) → IsLiveRun qsbr tabled (since ++ left) → Waits (since ++ left)
-    waits_since [] run = let y = (named_then run).1 in inl (λ (z : chain_note c before ≡ 0). absurd (omega arith))
+    waits_since [] run = inl (named_then run).1
     waits_since (e ∷ es) run = waits_on e es run (waits_since es run.1)
 
     -- while a section of then is open the chain stays as it was
@@ -291,9 +298,16 @@ module _ (qsbr : Bool) where
   unnoted_free log c run none since before d old new cell payload is directory names =
       let after : Log = since ++ Object (Replace d old new cell payload) ∷ before in subst (HaveEnded before) (sym is)
       (⊎_elim
-      (λ (noted : chain_note c after ≢ 0). absurd (noted (ap (chain_note c) (sym is) ∙ none)))
+      (λ (noted : chain_note c after ≡ d + 1). let z : chain_note c after ≡ 0 = ap (chain_note c) (sym is) ∙ none in absurd (omega arith))
       (λ (ended : HaveEnded before after). ended)
       (waits_since before c d old new cell payload directory names since (subst (IsLiveRun qsbr tabled) is run)))
+
+  -- once a directory that named the chain was replaced its note is the directory's chain's number and 1 still, or the
+  -- sections of then have ended
+  pub noted_or_ended : (log since before : Log) (c d : ℕ) (old new : ObjectId) (cell : ℕ) (payload : List ℕ) → IsLiveRun qsbr tabled log → log ≡ since ++ Object (Replace d old new cell payload) ∷ before → IsDirectory (note_of before old) → Names (note_of before old) c → (chain_note c log ≡ d + 1) ⊎ HaveEnded before log
+  noted_or_ended log since before c d old new cell payload run is directory names =
+      subst (λ (l : Log). (chain_note c l ≡ d + 1) ⊎ HaveEnded before l) (sym is)
+      (waits_since before c d old new cell payload directory names since (subst (IsLiveRun qsbr tabled) is run))
 
   -- a chain that a replaced directory named has what it had
   pub left_stays : (log since before : Log) (c d : ℕ) (old new : ObjectId) (cell : ℕ) (payload : List ℕ) (r n m : ℕ) → IsLiveRun qsbr tabled log → log ≡ since ++ Object (Replace d old new cell payload) ∷ before → IsDirectory (note_of before old) → Names (note_of before old) c → open_of r before ≡ some (n, m) → ¬ Has (Close r n) log → chain_in log c ≡ chain_in before c

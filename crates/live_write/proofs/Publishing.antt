@@ -18,9 +18,9 @@ use Rattle.live_rule.specs.Objects.{ref}
 use Rattle.live_rule.specs.Steps.{Wrote}
 use Rattle.live_rule.proofs.Lemmas.{begins_nothing}
 use Rattle.live_table.specs.Rights.{AreAsKnown, IsListed, IsUnlinked, IsWriter, own_in, object_in, cell_in, payload_in}
-use Rattle.live_table.specs.Steps.{Did, IsNow, Went}
+use Rattle.live_table.specs.Steps.{IsNow, Went}
 use Rattle.live_words.specs.Periods.{LoadedSeq}
-use Rattle.live_chains.specs.Chains.{MayWrite, IsBefore, IsThere, push_of, cut_of, cut_view, replace_of, replaced_view, head_after}
+use Rattle.live_chains.specs.Chains.{MayWrite, Writes, IsBefore, IsThere, push_of, cut_of, cut_view, replace_of, replaced_view, head_after}
 use Rattle.live_chains.proofs.Lemmas.{note_same, there_after}
 use Rattle.live_read.specs.Hearing.{IsAfter}
 use Rattle.live_write.specs.Chains.{GoesOn, MayPublish, Publishes, list_in, push_by, replace_by}
@@ -47,11 +47,12 @@ module _ (qsbr : Bool) (allows : Log → LiveEvent → Type 0) (v w : View) (see
       (λ log saw heard_of run known allowed. may log (goes_on log saw heard_of) run (subst (AreAsKnown log) h.chains known) allowed)
 
   -- and what it wrote is published
-  pub published : (e f : LiveEvent) (log : Log) → e ≡ f → Wrote qsbr allows w (f ∷ []) log → Publishes qsbr allows v seen heard owner e log
-  published e f log same wrote = record {
+  pub published : (e f : LiveEvent) (log : Log) → e ≡ f → (wrote : Wrote qsbr allows w (f ∷ []) log) → AreAsKnown wrote.0 w.chains → Publishes qsbr allows v seen heard owner e log
+  published e f log same wrote known = record {
     before = wrote.0;
     wrote = wrote.1 ∙ ap (λ (x : LiveEvent). x ∷ wrote.0) (sym same);
     after = goes_on wrote.0 wrote.2 wrote.3;
+    known = subst (AreAsKnown wrote.0) h.chains known;
     run = wrote.4;
   }
 
@@ -174,7 +175,7 @@ module _ {S : Type 0} (qsbr : Bool) (allows : Log → LiveEvent → Type 0) (m f
   pub cut_chains : w.0.chains ≡ m.0.chains
   cut_chains = ap (λ (y : Me S View). y.0.chains) heard ∙ ap (λ (y : View). y.chains) walked.1
 
-  pub cut_leaves : (x z u : Me S View) → ((p : Option ObjectId) (o : ObjectId) → IsThere w.0 before p → IsBefore w.0 p o → (note_of w.0.seen o).0 ≡ cell → Did qsbr allows (cut_view p o (ref (objects_of w.0.seen) (next_of (own_in w.0.chains).objects o)) w.0) (cut_of o w.0) w x)
+  pub cut_leaves : (x z u : Me S View) → ((p : Option ObjectId) (o : ObjectId) → IsThere w.0 before p → IsBefore w.0 p o → (note_of w.0.seen o).0 ≡ cell → Writes qsbr allows (cut_view p o (ref (objects_of w.0.seen) (next_of (own_in w.0.chains).objects o)) w.0) (cut_of o w.0) w x)
       → u ≡ (object_alone x.0, []) → z ≡ (but_object x.0, x.1) → Leaves m x z u cell found.1 (λ q. without_object q (list_in m.0))
   cut_leaves x z u cut job rest =
       let p = found.0 in let o = found.1 in let s = cut_stands in
@@ -193,7 +194,7 @@ module _ {S : Type 0} (qsbr : Bool) (allows : Log → LiveEvent → Type 0) (m f
   pub replace_chains : w.0.chains ≡ m.0.chains
   replace_chains = ap (λ (y : Me S View). y.0.chains) took ∙ (ap (λ (y : View). y.chains) went.1 ∙ ap (λ (y : View). y.chains) walked.1)
 
-  pub replace_leaves : (x z u : Me S View) (owned : View) (head : ℕ) → w.0.object ≡ owned.object → ((p : Option ObjectId) (o : ObjectId) → IsThere w.0 before p → IsBefore w.0 p o → Did qsbr allows (replaced_view p o head w.0) (replace_of o w.0) w x)
+  pub replace_leaves : (x z u : Me S View) (owned : View) (head : ℕ) → w.0.object ≡ owned.object → ((p : Option ObjectId) (o : ObjectId) → IsThere w.0 before p → IsBefore w.0 p o → Writes qsbr allows (replaced_view p o head w.0) (replace_of o w.0) w x)
       → u ≡ (object_alone x.0, []) → z ≡ (but_object x.0, x.1) → Leaves m x z u cell found.1 (λ q. replaced q (object_in owned.object) (list_in m.0))
   replace_leaves x z u owned head object replace job rest =
       let p = found.0 in let o = found.1 in let s = replace_stands in

@@ -44,9 +44,10 @@ module _ (qsbr : Bool) (allows : Log → LiveEvent → Type 0) (writer : View) (
   abbrev pub MayPublish : Type 0
   MayPublish = (log : Log) → GoesOn writer seen heard owner log → IsLiveRun qsbr allows log → AreAsKnown log writer.chains → IsAllowedBy log e → allows log e
 
-  -- the event is the last one of the log, and came after such a log
+  -- the event is the last one of the log, and came after such a log, in which the writer's chains were as it knew them
   pub record Publishes (log : Log) : Type 0 where
     pub before : Log
     pub wrote : log ≡ e ∷ before
     pub after : GoesOn writer seen heard owner before
+    pub known : AreAsKnown before writer.chains
     pub run : IsLiveRun qsbr allows log

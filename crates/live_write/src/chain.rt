@@ -1,6 +1,6 @@
 //! The one writer of a chain.
 
-ghost use Rattle.std.specs.Prelude.{◌≡◌, ◌≢◌, ◌⊎◌, ◌<◌, ◌≤◌, ◌∷◌, [], Some, length, slice_get, IfErr, IfNone, IfOk, IfSome};
+ghost use Rattle.std.specs.Prelude.{◌≡◌, ◌≢◌, ◌⊎◌, ◌<◌, ◌≤◌, ◌∷◌, ◌++◌, [], Some, length, slice_get, IfErr, IfNone, IfOk, IfSome};
 ghost use Rattle.rcu_model.specs.declared.refusal.Refusal.TheVariants.{Busy, NoPlace};
 ghost use Rattle.rcu_model.specs.Sets.{In, replaced, without_object};
 ghost use Rattle.rcu_model.specs.declared.event.ObjectId.{ObjectId};
@@ -8,12 +8,13 @@ ghost use Rattle.live_log.specs.declared.event.LiveEvent.TheVariants.{ChainNote}
 ghost use Rattle.live_log.specs.Log.{Begins, IsLiveRun, chain_note, payload_of};
 ghost use Rattle.live_rule.specs.Places.{hold_at};
 ghost use Rattle.live_rule.specs.Seats.{lent_chains};
-ghost use Rattle.live_table.specs.Rights.{IsListed, IsWriter, object_in, own_in};
+ghost use Rattle.live_table.specs.Rights.{AreAsKnown, IsListed, IsWriter, object_in, own_in};
 ghost use Rattle.live_table.specs.Steps.{Keeps, Went};
 ghost use Rattle.live_chains.specs.Chains.{cut_of};
 ghost use Rattle.live_read.specs.Hearing.{IsAfter, OnlyHears, Stays};
 ghost use Rattle.live_write.specs.Chains.{IsFirstWith, MayPublish, Publishes, first_word, list_in, push_by, replace_by};
 
+use crate::lending::{Lent, take_right};
 use crate::publish::{cut_record, hear_caller, push_record, replace_record, write_note};
 use crate::records::{Owned, Unlinked};
 use crate::walk::{count, read, seek};
@@ -226,6 +227,7 @@ impl<'d, P: GracePlan, K: ChainRule, B: Site, H> Chain<'d, P, K, B, H> {
         requires { W.home witness.old ≡ (B.table, B.sizes) }
         ensures chains { (self.new.seat.me.0.chains ≡ self.old.seat.me.0.chains) × (self.new.number ≡ self.old.number) × (self.new.home.now ≡ self.old.home.now) }
         ensures told { IsAfter P.QSBR K.allows (W.seen witness.old) (W.heard witness.old) self.new.seat.me.0.seen × Begins self.old.seat.me.0.seen self.new.seat.me.0.seen × Begins self.old.seat.me.0.heard self.new.seat.me.0.seen }
+        ensures known { AreAsKnown self.new.seat.me.0.seen self.new.seat.me.0.chains }
         ensures heard { W.heard witness.new ≡ self.new.seat.me.0.seen }
         ensures same { OnlyHears W.Witness witness.old witness.new }
     {
@@ -243,6 +245,34 @@ impl<'d, P: GracePlan, K: ChainRule, B: Site, H> Chain<'d, P, K, B, H> {
         ensures same { OnlyHears W.Witness witness.old witness.new }
     {
         write_note(self.table, &mut self.seat, self.number, witness, note);
+    }
+
+    /// Lends the chain's right to another chain's writer, behind those that were lent to that before. That writer has
+    /// seen then all that this one had, and knows this chain's list and note in each log in which it publishes until
+    /// they are taken back. It never waits.
+    pub fn lend(self, to: &mut Chain<'_, P, K, B, H>) -> Lent<'d, P, K, B, H>
+        requires { lent_chains self.seat.me.0.chains ≡ [] }
+        ensures lent { (result.number ≡ self.entry.number) × (result.linked ≡ length (list_in self.entry.seat.me.0)) × (result.home.now ≡ self.entry.home.now) }
+        ensures chains { (to.new.seat.me.0.chains ≡ to.old.seat.me.0.chains ++ own_in self.entry.seat.me.0.chains ∷ []) × (to.new.number ≡ to.old.number) × (to.new.home.now ≡ to.old.home.now) }
+        ensures known { AreAsKnown to.new.seat.me.0.seen to.new.seat.me.0.chains }
+        ensures later { Begins to.old.seat.me.0.seen to.new.seat.me.0.seen × Begins self.entry.seat.me.0.seen to.new.seat.me.0.seen × IsLiveRun P.QSBR K.allows to.new.seat.me.0.seen }
+    {
+        let Chain {
+            home,
+            table,
+            seat,
+            number,
+            linked,
+            site,
+        } = self;
+        take_right(to.table, &mut to.seat, to.number, seat);
+        Lent {
+            home,
+            table,
+            number,
+            linked,
+            site,
+        }
     }
 }
 

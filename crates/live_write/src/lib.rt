@@ -3,6 +3,7 @@
 
 mod allocation;
 mod chain;
+mod lending;
 mod publish;
 mod records;
 mod search;
@@ -10,4 +11,5 @@ mod walk;
 
 pub use allocation::{alloc, discard};
 pub use chain::Chain;
+pub use lending::Lent;
 pub use records::{Owned, Unlinked};

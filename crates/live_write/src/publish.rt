@@ -6,7 +6,7 @@ ghost use Rattle.rcu_model.specs.declared.event.ObjectId.{ObjectId};
 ghost use Rattle.live_log.specs.declared.event.LiveEvent.TheVariants.{ChainNote};
 ghost use Rattle.live_log.specs.Log.{Begins};
 ghost use Rattle.live_rule.specs.Seats.{lent_chains};
-ghost use Rattle.live_table.specs.Rights.{IsFresh, IsListed, IsUnlinked, IsWriter, cell_in, object_in, own_in};
+ghost use Rattle.live_table.specs.Rights.{AreAsKnown, IsFresh, IsListed, IsUnlinked, IsWriter, cell_in, object_in, own_in};
 ghost use Rattle.live_table.specs.Steps.{Keeps};
 ghost use Rattle.live_chains.specs.Chains.{cut_of};
 ghost use Rattle.live_read.specs.Hearing.{IsAfter, OnlyHears};
@@ -158,6 +158,7 @@ pub(crate) fn hear_caller<P: GracePlan, K: ChainRule, W: Witness>(
     ensures seat { Keeps seat.old seat.new × (seat.new.me.1 ≡ seat.old.me.1) × (seat.new.me.0.sizes ≡ seat.old.me.0.sizes) × IsListed seat.new.me.0 }
     ensures chains { seat.new.me.0.chains ≡ seat.old.me.0.chains }
     ensures told { IsAfter P.QSBR K.allows (W.seen witness.old) (W.heard witness.old) seat.new.me.0.seen × Begins seat.old.me.0.seen seat.new.me.0.seen × Begins seat.old.me.0.heard seat.new.me.0.seen }
+    ensures known { AreAsKnown seat.new.me.0.seen seat.new.me.0.chains }
     ensures heard { W.heard witness.new ≡ seat.new.me.0.seen }
     ensures same { OnlyHears W.Witness witness.old witness.new }
 {

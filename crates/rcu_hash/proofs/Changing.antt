@@ -17,7 +17,7 @@ use Rattle.rcu_hash.specs.Calls.{Changes, Inserts, Removes, Replaces}
 use Rattle.rcu_hash.specs.Tables.{bucket_of, table_of}
 
 -- two maps that agree on a key do so once another key is changed in both
-changed_same : (key : ℕ) (has : Option ℕ) (f g : ℕ → Option ℕ) (k : ℕ) → f k ≡ g k → at_number key has f k ≡ at_number key has g k
+pub changed_same : (key : ℕ) (has : Option ℕ) (f g : ℕ → Option ℕ) (k : ℕ) → f k ≡ g k → at_number key has f k ≡ at_number key has g k
 changed_same key has f g k same = dite (ℕ_discrete k key)
     (λ is. ap (at_number key has f) is ∙ (at_number_same key has f ∙ (sym (at_number_same key has g) ∙ ap (at_number key has g) (sym is))))
     (λ apart. at_number_other key k has f apart ∙ (same ∙ sym (at_number_other key k has g apart)))

@@ -1,18 +1,14 @@
 -- A walk through a table goes through each of its buckets.
 use Rattle.std.proofs.Common.{◌≡◌, ◌≢◌, ℕ, ◌+◌, ◌%◌, ◌<◌, ◌==◌, if◌then◌else◌, Bool, true, false, List, [], ◌∷◌, ◌++◌, Option, Some, None, refl, sym, ap, ◌∙◌, subst, inl, inr, ⊎_elim, arith, ne_eqb}
 use Rattle.std.specs.List.{FoldsTo}
-use Rattle.std.proofs.lemmas.Nat.{mod_below}
 use mathlib.Core.Logic.{dite}
 use native.Mathlib.Decide.{ℕ_discrete}
 use Rattle.rcu_model.specs.Sets.{In}
 use Rattle.rcu_model.proofs.Lemmas.{in_append}
 use Rattle.live_log.specs.Log.{Log, Begins}
-use Rattle.live_log.proofs.Lemmas.{begins_trans}
 use Rattle.rcu_list.specs.Maps.{AnswersBetween}
 use Rattle.rcu_list.specs.Walks.{times}
 use Rattle.rcu_list.specs.Walks as list
-use Rattle.rcu_hash.specs.Tables.{Answers}
-use Rattle.rcu_hash.specs.Walks.{GoesThrough}
 
 if_sum : (b : Bool) (m n k : ℕ) → m ≡ n + k → (if b then m + 1 else m) ≡ (if b then n + 1 else n) + k
 if_sum true m n k e = omega arith
@@ -33,25 +29,19 @@ pub folds_both : {F A : Type 0} (R : F → A → F → Type 0) (f g h : F) (xs y
 folds_both R f g h [] ys a b = subst (λ (x : _). FoldsTo R x ys h) (sym a) b
 folds_both R f g h (x ∷ xs) ys a b = (a.0, a.1, folds_both R a.0 g h xs ys a.2 b)
 
-module _ (first buckets : ℕ) (seen heard : Log) where
+-- by how many buckets there are, and what it is that a key had a value in the table, or none, in some log of the walk
+module _ (buckets : ℕ) (had_in : Log → ℕ → Option ℕ → Type 0) where
   -- the walk went through the buckets below this number
   pub record WentThrough (new : Log) (number : ℕ) (met : List (ℕ × ℕ)) : Type 0 where
     pub below : (key value : ℕ) → In met (key, value) → key % buckets < number
-    pub had : (key value : ℕ) → In met (key, value) → Answers seen heard new first buckets key (Some value)
-    pub lacked : (key : ℕ) → key % buckets < number → times key met ≢ 1 → Answers seen heard new first buckets key None
+    pub had : (key value : ℕ) → In met (key, value) → had_in new key (Some value)
+    pub lacked : (key : ℕ) → key % buckets < number → times key met ≢ 1 → had_in new key None
 
   pub went_nowhere : (new : Log) → WentThrough new 0 []
   went_nowhere new = record { below = λ key value h. absurd h; had = λ key value h. absurd h; lacked = λ key low n. absurd (omega arith) }
 
-  later : (mid new : Log) (key : ℕ) (answer : Option ℕ) → Begins mid new → Answers seen heard mid first buckets key answer → Answers seen heard new first buckets key answer
-  later mid new key answer b a = record { at = a.at; after_seen = a.after_seen; after_heard = a.after_heard; before = begins_trans a.at mid new a.before b; is = a.is }
-
   -- and through one more, by a walk that began later
-  module _ (mid heard' new : Log) (number : ℕ) (met more : List (ℕ × ℕ)) (knew : (log : Log) → Begins mid log → Begins heard' log → Begins seen log × Begins heard log) (b : Begins mid new) (w : WentThrough mid number met) (l : list.GoesThrough (λ key. key % buckets ≡ number) mid heard' new (first + number) more) where
-    own : (key : ℕ) (answer : Option ℕ) → key % buckets ≡ number → AnswersBetween mid heard' new (first + number) key answer → Answers seen heard new first buckets key answer
-    own key answer is = subst (λ (n : ℕ). AnswersBetween mid heard' new (first + n) key answer → Answers seen heard new first buckets key answer) is
-        (λ a. let k = knew a.at a.after_seen a.after_heard in record { at = a.at; after_seen = k.0; after_heard = k.1; before = a.before; is = a.is })
-
+  module _ (later : (mid new : Log) (key : ℕ) (answer : Option ℕ) → Begins mid new → had_in mid key answer → had_in new key answer) (mid heard new : Log) (number c : ℕ) (met more : List (ℕ × ℕ)) (own : (key : ℕ) (answer : Option ℕ) → key % buckets ≡ number → AnswersBetween mid heard new c key answer → had_in new key answer) (b : Begins mid new) (w : WentThrough mid number met) (l : list.GoesThrough (λ key. key % buckets ≡ number) mid heard new c more) where
     not_met : (key : ℕ) → key % buckets ≡ number → times key met ≡ 0
     not_met key is = times_none key met (λ value h. let low = w.below key value h in absurd (omega arith))
 
@@ -72,6 +62,3 @@ module _ (first buckets : ℕ) (seen heard : Log) where
           (λ is. let none = not_met key is in own key None is (l.lacked key is (λ one. n (omega arith))))
           (λ other. let none = not_more key other in later mid new key None b (w.lacked key (omega arith) (λ one. n (omega arith))));
     }
-
-  pub went_all : (new : Log) (met : List (ℕ × ℕ)) → 0 < buckets → WentThrough new buckets met → GoesThrough seen heard new first buckets met
-  went_all new met some w = record { had = w.had; lacked = λ key n. w.lacked key (mod_below key buckets some) n }

@@ -1,6 +1,7 @@
 -- What a call of a bucket's list tells once its writer has heard the caller.
-use Rattle.std.proofs.Common.{Bool, ◌≡◌, ℕ, ◌%◌, List, [], ◌∷◌, ◌++◌, None, IsSome, refl, sym, ap, ◌∙◌, subst, inl, inr}
+use Rattle.std.proofs.Common.{Bool, ◌≡◌, ℕ, ◌%◌, List, [], ◌∷◌, ◌++◌, Option, None, IsSome, refl, sym, ap, ◌∙◌, subst, inl, inr}
 use Rattle.rcu_model.specs.declared.refusal.Refusal.{Refusal}
+use Rattle.rcu_model.specs.declared.refusal.Refusal.TheVariants.{Missing}
 use Rattle.live_log.specs.declared.event.LiveEvent.{LiveEvent}
 use Rattle.live_log.specs.Log.{Log, Begins}
 use Rattle.live_log.proofs.Lemmas.{begins_trans}
@@ -13,7 +14,8 @@ use Rattle.rcu_list.specs.Maps.{HasLastRank, map_of}
 use Rattle.rcu_list.specs.Refusing as list
 use Rattle.rcu_list.specs.Refusing.{FindsNoRecord, GivesBack}
 use Rattle.rcu_list.proofs.Lemmas.{stays_both}
-use Rattle.rcu_hash.specs.Refusing.{During, RefusesInsertion, RefusesRemoval, RefusesReplacement}
+use Rattle.rcu_hash.specs.Directories.{LeadsTo, directed_map}
+use Rattle.rcu_hash.specs.Refusing.{During, HadIn, LackedThrough, RefusesInsertionThrough, RefusesRemovalThrough, RefusesReplacementThrough}
 use Rattle.rcu_hash.specs.Tables.{bucket_of}
 
 -- a log after one that comes after all that was known
@@ -86,16 +88,28 @@ module _ {W : Type 0} (w : Ghosts W) (qsbr : Bool) (allows : Log → LiveEvent �
       only_hears : w2 ≡ w1 → OnlyHears w w0 w2
       only_hears same = subst (λ (x : W). OnlyHears w w0 x) (sym same) hears
 
-      pub insertion : list.RefusesInsertion w qsbr allows sizes w1 w2 e known bucket key → RefusesInsertion w qsbr allows sizes w0 w2 e first buckets key
-      insertion (inl (x, some, same)) = inl (x, met (λ log. IsSome (map_of log bucket key)) some (unmoved same), only_hears same)
-      insertion (inr (none, inl (x, last, same))) = inr (met (λ log. map_of log bucket key ≡ None) none (unmoved same), inl (x, met (λ log. HasLastRank log bucket) last (unmoved same), only_hears same))
-      insertion (inr (none, inr f)) = inr (met (λ log. map_of log bucket key ≡ None) none f.after.after_heard, inr (no_record f))
+      -- of a table that a directory leads, which is as its bucket where the caller was heard
+      module _ (d : ℕ) (map_is : directed_map sizes.chains d known key ≡ map_of known bucket key) (leads : LeadsTo d known key bucket) where
+        had_in : IsSome (map_of known bucket key) → Begins (w.heard w1) (w.heard w2) → HadIn w qsbr allows sizes w0 w2 e d key bucket
+        had_in has b = met (λ log. IsSome (directed_map sizes.chains d log key) × LeadsTo d log key bucket) (subst (λ (x : Option ℕ). IsSome x) (sym map_is) has, leads) b
 
-      pub replacement : list.RefusesReplacement w qsbr allows sizes w1 w2 e known bucket key (bucket % sizes.queues) → RefusesReplacement w qsbr allows sizes w0 w2 e first buckets key
-      replacement (inl (x, none, same)) = inl (x, met (λ log. map_of log bucket key ≡ None) none (unmoved same), only_hears same)
-      replacement (inr (some, inl f)) = inr (met (λ log. IsSome (map_of log bucket key)) some f.after.after_heard, inl (no_record f))
-      replacement (inr (some, inr r)) = inr (met (λ log. IsSome (map_of log bucket key)) some (begins_trans (w.heard w1) r.at (w.heard w2) r.within.0.after_heard r.within.1), inr (gives_back (bucket % sizes.queues) r))
+        lacked : map_of known bucket key ≡ None → Begins (w.heard w1) (w.heard w2) → LackedThrough w qsbr allows sizes w0 w2 e d key
+        lacked none b = met (λ log. directed_map sizes.chains d log key ≡ None) (map_is ∙ none) b
 
-      pub removal : list.RefusesRemoval w qsbr allows sizes w1 w2 e known bucket key (bucket % sizes.queues) → RefusesRemoval w qsbr allows sizes w0 w2 e first buckets key
-      removal (inl (x, none, same)) = inl (x, met (λ log. map_of log bucket key ≡ None) none (unmoved same), only_hears same)
-      removal (inr (some, r)) = inr (met (λ log. IsSome (map_of log bucket key)) some r.after.after_heard, retirement (bucket % sizes.queues) r)
+        pub insertion_through : list.RefusesInsertion w qsbr allows sizes w1 w2 e known bucket key → RefusesInsertionThrough w qsbr allows sizes w0 w2 e d key
+        insertion_through (inl (x, has, same)) = inl (x, (bucket, had_in has (unmoved same)), only_hears same)
+        insertion_through (inr (none, inl (x, last, same))) = inr (lacked none (unmoved same), inl (x, met (λ log. (c : ℕ) × LeadsTo d log key c × HasLastRank log c) (bucket, leads, last) (unmoved same), only_hears same))
+        insertion_through (inr (none, inr f)) = inr (lacked none f.after.after_heard, inr (no_record f))
+
+        pub successor_through : list.RefusesSuccessor w qsbr allows sizes w1 w2 e known bucket key → RefusesReplacementThrough w qsbr allows sizes w0 w2 e d key
+        successor_through (inl (x, none, same)) = inl (x, lacked none (unmoved same), only_hears same)
+        successor_through (inr (has, f)) = inr (bucket, had_in has f.after.after_heard, inl (no_record f))
+
+        pub exchange_through : IsSome (map_of known bucket key) → GivesBack w qsbr allows sizes w1 w2 e (bucket % sizes.queues) → RefusesReplacementThrough w qsbr allows sizes w0 w2 e d key
+        exchange_through has r = inr (bucket, had_in has (begins_trans (w.heard w1) r.at (w.heard w2) r.within.0.after_heard r.within.1), inr (gives_back (bucket % sizes.queues) r))
+
+        pub removal_missing : e ≡ Missing → map_of known bucket key ≡ None → w2 ≡ w1 → RefusesRemovalThrough w qsbr allows sizes w0 w2 e d key
+        removal_missing x none same = inl (x, lacked none (unmoved same), only_hears same)
+
+        pub removal_refused : IsSome (map_of known bucket key) → RefusesRetirement w qsbr allows sizes (bucket % sizes.queues) w1 w2 e → RefusesRemovalThrough w qsbr allows sizes w0 w2 e d key
+        removal_refused has r = inr (bucket, had_in has r.after.after_heard, retirement (bucket % sizes.queues) r)

@@ -1,4 +1,14 @@
 pub mod Changing
+pub mod Copies
+pub mod Directing
+pub mod Emptying
+pub mod Exchanging
 pub mod Going
+pub mod Held
 pub mod Hearing
-pub mod Making
+pub mod Lending
+pub mod Looking
+pub mod Named
+pub mod Regrown
+pub mod Relinking
+pub mod Taking

@@ -1,4 +1,10 @@
 pub mod Calls
+pub mod Copies
+pub mod Directories
+pub mod Growing
+pub mod Naming
+pub mod Publishing
 pub mod Refusing
 pub mod Tables
-pub mod Walks
+pub mod Tidying
+pub mod Writers

@@ -10,7 +10,7 @@ use Rattle.live_read.specs.declared.witness.Witness.{Ghosts}
 use Rattle.live_reclaim.specs.Refusing.{RefusesRetirement}
 use Rattle.rcu_list.specs.Maps.{HasLastRank}
 use Rattle.rcu_list.specs.Refusing.{FindsNoRecord, GivesBack}
-use Rattle.rcu_hash.specs.Tables.{bucket_of, table_of}
+use Rattle.rcu_hash.specs.Directories.{LeadsTo, directed_map}
 
 module _ {W : Type 0} (w : Ghosts W) (qsbr : Bool) (allows : Log → LiveEvent → Type 0) (old new : W) where
   -- it is so of some log of the call: one that comes after all that the caller knew, and that it has heard of at the end
@@ -20,22 +20,27 @@ module _ {W : Type 0} (w : Ghosts W) (qsbr : Bool) (allows : Log → LiveEvent �
     pub before : Begins at (w.heard new)
     pub so : is_so at
 
-  -- the key had a value in the table, or none
-  abbrev pub Had : ℕ → ℕ → ℕ → Type 0
-  Had first buckets key = During (λ log. IsSome (table_of first buckets log key))
+-- of a table that a directory leads
+module _ {W : Type 0} (w : Ghosts W) (qsbr : Bool) (allows : Log → LiveEvent → Type 0) (sizes : Sizes) (old new : W) (e : Refusal) (d key : ℕ) where
+  -- the key had a value in the table, in this chain; or it had none
+  abbrev pub HadIn : ℕ → Type 0
+  HadIn c = During w qsbr allows old new (λ log. IsSome (directed_map sizes.chains d log key) × LeadsTo d log key c)
 
-  abbrev pub Lacked : ℕ → ℕ → ℕ → Type 0
-  Lacked first buckets key = During (λ log. table_of first buckets log key ≡ None)
+  abbrev pub LackedThrough : Type 0
+  LackedThrough = During w qsbr allows old new (λ log. directed_map sizes.chains d log key ≡ None)
 
-module _ {W : Type 0} (w : Ghosts W) (qsbr : Bool) (allows : Log → LiveEvent → Type 0) (sizes : Sizes) (old new : W) (e : Refusal) (first buckets key : ℕ) where
+  -- the chain to which the directory led had the last rank
+  abbrev pub HadLastRank : Type 0
+  HadLastRank = During w qsbr allows old new (λ log. (c : ℕ) × LeadsTo d log key c × HasLastRank log c)
+
   -- the key had a value; else there was no rank for it, or no record
-  abbrev pub RefusesInsertion : Type 0
-  RefusesInsertion = ((e ≡ Exists) × Had w qsbr allows old new first buckets key × OnlyHears w old new) ⊎ (Lacked w qsbr allows old new first buckets key × (((e ≡ PoolFull) × During w qsbr allows old new (λ log. HasLastRank log (bucket_of first buckets key)) × OnlyHears w old new) ⊎ FindsNoRecord w qsbr allows sizes old new e))
+  abbrev pub RefusesInsertionThrough : Type 0
+  RefusesInsertionThrough = ((e ≡ Exists) × ((c : ℕ) × HadIn c) × OnlyHears w old new) ⊎ (LackedThrough × (((e ≡ PoolFull) × HadLastRank × OnlyHears w old new) ⊎ FindsNoRecord w qsbr allows sizes old new e))
 
   -- the key had none; else there was no record, or its queue takes nothing
-  abbrev pub RefusesReplacement : Type 0
-  RefusesReplacement = ((e ≡ Missing) × Lacked w qsbr allows old new first buckets key × OnlyHears w old new) ⊎ (Had w qsbr allows old new first buckets key × (FindsNoRecord w qsbr allows sizes old new e ⊎ GivesBack w qsbr allows sizes old new e (bucket_of first buckets key % sizes.queues)))
+  abbrev pub RefusesReplacementThrough : Type 0
+  RefusesReplacementThrough = ((e ≡ Missing) × LackedThrough × OnlyHears w old new) ⊎ ((c : ℕ) × HadIn c × (FindsNoRecord w qsbr allows sizes old new e ⊎ GivesBack w qsbr allows sizes old new e (c % sizes.queues)))
 
   -- the key had none; else its queue takes nothing
-  abbrev pub RefusesRemoval : Type 0
-  RefusesRemoval = ((e ≡ Missing) × Lacked w qsbr allows old new first buckets key × OnlyHears w old new) ⊎ (Had w qsbr allows old new first buckets key × RefusesRetirement w qsbr allows sizes (bucket_of first buckets key % sizes.queues) old new e)
+  abbrev pub RefusesRemovalThrough : Type 0
+  RefusesRemovalThrough = ((e ≡ Missing) × LackedThrough × OnlyHears w old new) ⊎ ((c : ℕ) × HadIn c × RefusesRetirement w qsbr allows sizes (c % sizes.queues) old new e)

@@ -1,25 +1,20 @@
--- The map of a table, and what a lookup may answer.
-use Rattle.std.specs.Prelude.{◌≡◌, ℕ, ◌+◌, ◌%◌, Option, []}
-use Rattle.live_log.specs.Log.{Log, Begins, state_of}
+-- The map of a table over chains that follow one another.
+use Rattle.std.specs.Prelude.{◌≡◌, ℕ, ◌+◌, ◌%◌, ◌&&◌, ◌||◌, Bool, nat_le, nat_lt, Option}
+use Rattle.live_log.specs.Log.{Log}
 use Rattle.rcu_list.specs.Maps.{map_of}
 
 -- the chain of a key's bucket, in a table over as many chains as it has buckets, from the first one on
 abbrev pub bucket_of : ℕ → ℕ → ℕ → ℕ
 bucket_of first buckets key = first + key % buckets
 
+-- a table may have its directory in this chain, of so many, and so many buckets from the first one on
+abbrev pub fits : (chains directory first buckets : ℕ) → Bool
+fits chains directory first buckets = (nat_lt 0 buckets && nat_le buckets 4096) && (nat_lt directory chains && (nat_le (first + buckets) chains && (nat_lt directory first || nat_le (first + buckets) directory)))
+
+-- two ranges of chains have none in common
+abbrev pub are_apart : (first buckets other many : ℕ) → Bool
+are_apart first buckets other many = nat_le (first + buckets) other || nat_le (other + many) first
+
 -- the map of a table: a key counts in the chain of its own bucket alone
 abbrev pub table_of : ℕ → ℕ → Log → ℕ → Option ℕ
 table_of first buckets log key = map_of log (bucket_of first buckets key) key
-
--- A lookup that had seen and heard of these logs, and has seen the new one at its end, answers by the map in some log
--- between: the key had the value there, or none.
-pub record Answers (seen heard new : Log) (first buckets key : ℕ) (answer : Option ℕ) : Type 0 where
-  pub at : Log
-  pub after_seen : Begins seen at
-  pub after_heard : Begins heard at
-  pub before : Begins at new
-  pub is : table_of first buckets at key ≡ answer
-
--- the chain had no objects in the log
-abbrev pub WasEmpty : Log → ℕ → Type 0
-WasEmpty log c = (state_of log).chain c ≡ []

@@ -2,6 +2,22 @@
 //! Hash tables over the chains of a domain: lookups in read-side sections, which take no lock, beside writers, who take
 //! the lock of one bucket each.
 
+mod bucket;
+mod copying;
+mod directory;
+mod grow;
+mod growing;
+mod growth;
+mod laws;
+mod left;
+mod making;
+mod rights;
+mod shelf;
 mod table;
+mod tidying;
+mod view;
 
+pub use laws::buckets_answer_for_their_table;
 pub use table::RcuHash;
+pub use tidying::TidyEnd;
+pub use view::TableView;

@@ -1,165 +1,162 @@
 //! A hash table.
 
-ghost use Rattle.std.specs.Prelude.{◌≡◌, ◌⊎◌, ◌+◌, ◌%◌, ◌<◌, ◌≤◌, ◌++◌, ℕ, List, None, IfErr, IfOk, vec_len};
+ghost use Rattle.std.specs.Prelude.{◌≡◌, ◌⊎◌, ◌+◌, ◌%◌, ◌<◌, ◌≤◌, ◌++◌, ℕ, List, None, IfErr, IfOk, true};
 ghost use Rattle.std.specs.List.{FoldsTo};
-ghost use Rattle.std.specs.Sync.Mutex.{mutex_guard_value};
+ghost use Rattle.std.specs.Sync.RwLock.{read_guard_value};
 ghost use Rattle.rcu_model.specs.declared.event.ObjectId.{ObjectId};
-ghost use Rattle.rcu_model.specs.declared.refusal.Refusal.TheVariants.{BadConfig, Memory};
+ghost use Rattle.rcu_model.specs.declared.refusal.Refusal.TheVariants.{BadConfig, Memory, PoolFull};
 ghost use Rattle.live_log.specs.Log.{Log};
+ghost use Rattle.live_log.specs.Tables.{tabled};
 ghost use Rattle.live_read.specs.Hearing.{IsAfter, OnlyHears, Stays};
 ghost use Rattle.live_read.specs.Holding.{log_of};
 ghost use Rattle.live_read.specs.Reads.{Looks};
+ghost use Rattle.live_write.specs.Searching.{AreTaken, IsUsedUp};
 ghost use Rattle.rcu_list.specs.Calls.{HandsOver};
-ghost use Rattle.rcu_hash.specs.Calls.{Inserts, Removes, Replaces};
-ghost use Rattle.rcu_hash.specs.Refusing.{RefusesInsertion, RefusesRemoval, RefusesReplacement};
-ghost use Rattle.rcu_hash.specs.Tables.{Answers, WasEmpty, bucket_of};
-ghost use Rattle.rcu_hash.specs.Walks.{GoesThrough};
+ghost use Rattle.rcu_hash.specs.Directories.{AnswersThrough, LeadsTo, WalksThrough, directed_map};
+ghost use Rattle.rcu_hash.specs.Publishing.{InsertsThrough, RemovesThrough, ReplacesThrough};
+ghost use Rattle.rcu_hash.specs.Refusing.{RefusesInsertionThrough, RefusesRemovalThrough, RefusesReplacementThrough};
+ghost use Rattle.rcu_hash.specs.Tables.{bucket_of, fits};
 
+use crate::directory::Desk;
+use crate::left::Left;
+use crate::making::{direct, hold_all, hold_empty, note_all, room, shelve};
+use crate::shelf::Shelf;
+use crate::view::TableView;
 use domain::{Callback, Deleter, Domain, Section, Site, Ticket, Witness};
 use gp_memb::GracePlan;
-use rcu_list::{ListView, MapRule, RcuList};
+use live_log::Tabled;
 use rcu_model::Refusal;
 use std::alloc::Global;
-use std::sync::{Mutex, MutexGuard, Wait};
+use std::sync::{Mutex, RwLock, RwLockReadGuard, Wait};
 
 /// The most buckets that a table has.
-const MOST_BUCKETS: usize = 4096;
+pub(crate) const MOST_BUCKETS: usize = 4096;
 
-/// A map from keys to values over chains that follow one another, a bucket each; liburcu's `cds_lfht` of a size that
-/// stays. A key lies in the bucket of its number modulo the number of buckets. Each bucket is a keyed list under a lock
-/// of its own for its writers; lookups take none. Dropping the table gives its chains back.
-#[derive(Drop)]
-pub struct RcuHash<'d, P: GracePlan, K: MapRule, B: Site, D: Deleter = Callback> {
-    /// The chain of the first bucket.
-    pub first: usize,
-    /// How many buckets it has.
-    pub buckets: usize,
-    lists: Vec<Mutex<RcuList<'d, P, K, B, D>>>,
-    pub ghost fits: { (0 < buckets) × (first + buckets ≤ B.sizes.chains) },
-    pub(crate) ghost many: { vec_len lists ≡ buckets },
-}
-
-/// A list over a chain that is free, empty and has no note; the caller hears of what was seen then.
-fn listed<'d, P: GracePlan + Drop, K: MapRule, B: Site, D: Deleter, W: Witness>(
-    domain: &'d Domain<P, K, B, D>,
-    witness: &mut W,
-    chain: usize,
-) -> Result<RcuList<'d, P, K, B, D>, Refusal>
-    requires { (W.home witness.old ≡ (B.table, B.sizes)) × (chain < B.sizes.chains) }
-    ensures made { IfOk result (λ _. WasEmpty (W.heard witness.new) chain) }
-    ensures refused { IfErr result (λ e. e ≡ BadConfig) }
-    ensures heard { IsAfter P.QSBR K.allows (W.seen witness.old) (W.heard witness.old) (W.heard witness.new) }
-    ensures same { Stays W.Witness witness.old witness.new × (W.loads witness.new ≡ W.loads witness.old) }
+/// Whether a table whose directory is in this chain may have so many buckets, over the chains from the first one on.
+pub(crate) fn fits(chains: usize, directory: usize, first: usize, buckets: usize) -> bool
+    ensures { result ≡ fits chains directory first buckets }
 {
-    let Ok(writer) = domain.chain(witness, chain) else {
-        return Err(Refusal::BadConfig);
-    };
-    match RcuList::new(writer) {
-        Ok(mut list) => {
-            list.hear(witness);
-            Ok(list)
-        }
-        Err(_) => Err(Refusal::BadConfig),
+    if buckets == 0 || buckets > MOST_BUCKETS || directory >= chains {
+        return false;
     }
+    if first > chains || chains - first < buckets {
+        return false;
+    }
+    directory < first || directory >= first + buckets
 }
 
-impl<'d, P: GracePlan + Drop, K: MapRule, B: Site, D: Deleter> RcuHash<'d, P, K, B, D> {
-    /// A table with no keys, over as many chains as it has buckets, from the first one on. The caller hears of a log in
-    /// which each of them was empty.
+/// A map from keys to values over the chains of a domain; liburcu's `cds_lfht`. One chain has a directory, which names as
+/// many chains that follow one another as there are buckets. A key lies in the bucket of its number modulo the number of
+/// buckets. Each bucket has a lock for its writers; lookups take none. `grow` puts another directory in the place of this
+/// one while the table is read. Dropping the table gives its chains back.
+#[derive(Drop)]
+pub struct RcuHash<'d, P: GracePlan, B: Site, D: Deleter = Callback> {
+    /// The chain of its directory.
+    pub directory: usize,
+    pub(crate) domain: &'d Domain<P, Tabled, B, D>,
+    view: TableView<B>,
+    pub(crate) desk: Desk<'d, P, B, D>,
+    pub(crate) shelf: RwLock<Shelf<'d, P, B, D>>,
+    pub(crate) left: Mutex<Option<Left<'d, P, B, D>>>,
+    pub(crate) ghost at: { view.directory ≡ directory },
+}
+
+impl<'d, P: GracePlan + Drop, B: Site, D: Deleter> RcuHash<'d, P, B, D> {
+    /// A table with no keys: one record, which becomes the directory, and as many chains as it has buckets, from the first
+    /// one on. The caller hears of the log in which the directory came: no key has a value in it.
     ///
-    /// Refused with `BadConfig` where the number of buckets is not 1 to 4,096 or a chain is not there, else with `Memory`
-    /// where memory is, else with `BadConfig` where a chain has a writer, is not empty or has a note other than 0. It
-    /// never waits.
-    pub fn new<W: Witness>(
+    /// Refused with `BadConfig` where the number of buckets is not 1 to 4,096, a chain is not there or the directory's
+    /// chain is one of the buckets', else with `Memory` where memory is, with `BadConfig` where a chain has a writer, is
+    /// not empty or has a note other than 0, or with `PoolFull` where there is no record. It waits for nobody, but tries
+    /// again where other threads draw object numbers meanwhile.
+    pub fn new<W: Witness, R: Wait>(
+        rt: &R,
         alloc: Global,
-        domain: &'d Domain<P, K, B, D>,
+        domain: &'d Domain<P, Tabled, B, D>,
         witness: &mut W,
+        directory: usize,
         first: usize,
         buckets: usize,
-    ) -> Result<RcuHash<'d, P, K, B, D>, Refusal>
+    ) -> Result<RcuHash<'d, P, B, D>, Refusal>
         requires { W.home witness.old ≡ (B.table, B.sizes) }
-        ensures made { IfOk result (λ t. (t.first ≡ first) × (t.buckets ≡ buckets) × (buckets ≤ 4096)) }
-        ensures empty { IfOk result (λ _. (key : ℕ) → Answers (W.seen witness.old) (W.heard witness.old) (W.heard witness.new) first buckets key None) }
-        ensures refused { IfErr result (λ e. (e ≡ BadConfig) ⊎ ((e ≡ Memory) × (0 < buckets) × (buckets ≤ 4096) × (first + buckets ≤ B.sizes.chains))) }
+        ensures made { IfOk result (λ t. (t.directory ≡ directory) × (fits B.sizes.chains directory first buckets ≡ true)) }
+        ensures map { IfOk result (λ _. (key : ℕ) → (directed_map B.sizes.chains directory (W.heard witness.new) key ≡ None) × LeadsTo directory (W.heard witness.new) key (bucket_of first buckets key)) }
+        ensures heard { IfOk result (λ _. IsAfter P.QSBR tabled (W.seen witness.old) (W.heard witness.old) (W.heard witness.new)) }
+        ensures refused { IfErr result (λ e. (e ≡ BadConfig) ⊎ ((fits B.sizes.chains directory first buckets ≡ true) × ((e ≡ Memory) ⊎ (e ≡ PoolFull)))) }
+        ensures looks { (found : List (ℕ × ℕ)) × (W.looks witness.new ≡ found ++ W.looks witness.old) × IfErr result (λ e. (e ≡ PoolFull) → IsUsedUp B.sizes found ⊎ AreTaken B.sizes found) }
         ensures same { Stays W.Witness witness.old witness.new × (W.loads witness.new ≡ W.loads witness.old) }
     {
-        let chains = domain.chains();
-        if buckets == 0 || buckets > MOST_BUCKETS || first > chains || chains - first < buckets {
+        if !fits(domain.chains(), directory, first, buckets) {
             return Err(Refusal::BadConfig);
         }
-        let Ok(mut lists) = Vec::with_capacity(alloc, buckets) else {
-            return Err(Refusal::Memory);
+        let view = TableView::of(domain, directory)?;
+        let chains = room(alloc, buckets)?;
+        let noted = room(alloc, buckets)?;
+        let back = room(alloc, buckets)?;
+        let places = room(alloc, buckets)?;
+        let own = hold_empty(domain, witness, directory)?;
+        let chains = hold_all(domain, witness, chains, first, buckets)?;
+        let lents = room(alloc, buckets)?;
+        let owned = match domain.alloc(rt, witness, [first as u64, buckets as u64, 0, 1]) {
+            Ok(owned) => owned,
+            Err(refusal) => {
+                lents.destroy_empty();
+                return Err(refusal);
+            }
         };
-        for number in 0..buckets {
-            lists.push_reserved(Mutex::new(listed(domain, witness, first + number)?));
-        }
+        let chains = note_all(chains, noted, witness, directory as u64 + 1);
+        let (writer, chains) = direct(own, chains, lents, back, witness, owned, first);
+        let naming = writer.naming;
+        let buckets = shelve(chains, places, naming);
         Ok(RcuHash {
-            first,
-            buckets,
-            lists,
+            directory,
+            domain,
+            view,
+            desk: Desk {
+                writer: Mutex::new(Some(writer)),
+            },
+            shelf: RwLock::new(Shelf { naming, buckets }),
+            left: Mutex::new(None),
         })
     }
 
-    /// The bucket of a key.
-    fn bucket(&self, key: u64) -> usize
-        ensures { (result ≡ key % self.now.buckets) × (result < self.now.buckets) }
+    /// What readers look its keys up by. It never waits.
+    pub fn view(&self) -> TableView<B>
+        ensures { result.directory ≡ self.now.directory }
     {
-        (key % self.buckets as u64) as usize
+        self.view
     }
 
-    /// The list of a bucket, under its lock. Which chain an unlocked one is over is not known before it is looked at, so
-    /// that is looked at; it never is another.
-    fn lock<'t, R: Wait>(&'t self, rt: &R, bucket: usize) -> MutexGuard<'t, RcuList<'d, P, K, B, D>>
-        requires { bucket < self.now.buckets }
-        ensures { (mutex_guard_value result).chain.number ≡ self.now.first + bucket }
+    /// The shelf of its buckets, which writers of buckets read. Whose shelf it is is not known before it is looked at, so
+    /// that is looked at; it never is another's.
+    fn shelf<'t, R: Wait>(&'t self, rt: &R) -> RwLockReadGuard<'t, Shelf<'d, P, B, D>>
+        ensures { (read_guard_value result).naming.directory ≡ self.now.directory }
     {
         for _ in rt.forever() {
-            let list = self.lists[bucket].lock(rt);
-            if list.view().chain == self.first + bucket {
-                return list;
+            let shelf = self.shelf.read(rt);
+            if shelf.naming.directory == self.directory {
+                return shelf;
             }
         }
         unreachable!()
     }
 
-    /// The list of a key's bucket, under its lock, whose writer has heard the caller.
-    fn writer<'t, W: Witness, R: Wait>(
-        &'t self,
-        rt: &R,
-        witness: &mut W,
-        key: u64,
-    ) -> MutexGuard<'t, RcuList<'d, P, K, B, D>>
-        requires { W.home witness.old ≡ (B.table, B.sizes) }
-        ensures chain { (mutex_guard_value result).chain.number ≡ bucket_of self.now.first self.now.buckets key }
-        ensures heard { (W.heard witness.new ≡ (mutex_guard_value result).chain.seat.me.0.seen) × IsAfter P.QSBR K.allows (W.seen witness.old) (W.heard witness.old) (W.heard witness.new) }
-        ensures same { OnlyHears W.Witness witness.old witness.new }
-    {
-        let mut list = self.lock(rt, self.bucket(key));
-        list.hear(witness);
-        list
-    }
-
-    /// The value of a key, or none; liburcu's `cds_lfht_lookup`. It is what the table has for the key at some moment
-    /// between the call and the return: in a log that begins with all that the reader had seen and heard of. So a key
-    /// that is there all along is found, also while its value is replaced.
-    ///
-    /// It reads its bucket alone, and returns, since ranks fall along the bucket's chain. It never waits and takes no
-    /// memory.
-    pub fn get(&self, section: &mut Section<'_, P, K, B>, key: u64) -> Option<u64>
+    /// The value of a key, or none; liburcu's `cds_lfht_lookup`: as `TableView::get`. It never waits and takes no memory.
+    pub fn get(&self, section: &mut Section<'_, P, Tabled, B>, key: u64) -> Option<u64>
         requires { (P.QSBR ≡ B.qsbr) × (0 < section.old.reader.now.depth) }
         ensures reader { section.new.reader.ghost_name ≡ section.old.reader.ghost_name }
-        ensures looked { Looks P.QSBR K.allows section.old.reader.now section.new.reader.now }
-        ensures window { Answers (log_of section.old.reader.now) section.old.reader.now.seat.me.0.heard (log_of section.new.reader.now) self.now.first self.now.buckets key result }
+        ensures looked { Looks P.QSBR tabled section.old.reader.now section.new.reader.now }
+        ensures window { AnswersThrough (log_of section.old.reader.now) section.old.reader.now.seat.me.0.heard (log_of section.new.reader.now) B.sizes.chains self.now.directory key result }
     {
-        ListView::at(self.first + self.bucket(key)).get(section, key)
+        self.view.get(section, key)
     }
 
     /// Gives a key a value that had none: one push, liburcu's `cds_lfht_add_unique`. It comes after all that the caller
     /// had seen and heard of, and the caller hears of it.
     ///
     /// Refused with `Exists` exactly where the key had a value in some log of the call, else with `PoolFull` where its
-    /// bucket's ranks are used up, or as `alloc`; then the map is as it was. It takes no memory, and waits for the bucket's
-    /// lock alone, but tries again where other threads draw object numbers meanwhile.
+    /// bucket's ranks are used up, or as `alloc`; then the map is as it was. It takes no memory, and waits for the locks of
+    /// the table alone, but tries again where other threads draw object numbers meanwhile.
     pub fn insert<W: Witness, R: Wait>(
         &self,
         rt: &R,
@@ -168,12 +165,15 @@ impl<'d, P: GracePlan + Drop, K: MapRule, B: Site, D: Deleter> RcuHash<'d, P, K,
         value: u64,
     ) -> Result<(), Refusal>
         requires { W.home witness.old ≡ (B.table, B.sizes) }
-        ensures inserted { IfOk result (λ _. Inserts P.QSBR K.allows self.now.first self.now.buckets (W.seen witness.old) (W.heard witness.old) key value (W.heard witness.new)) }
+        ensures inserted { IfOk result (λ _. (chain : ℕ) × InsertsThrough P.QSBR tabled B.sizes.chains self.now.directory (W.seen witness.old) (W.heard witness.old) key value chain (W.heard witness.new)) }
         ensures same { IfOk result (λ _. Stays W.Witness witness.old witness.new × (W.loads witness.new ≡ W.loads witness.old) × ((found : List (ℕ × ℕ)) × (W.looks witness.new ≡ found ++ W.looks witness.old))) }
-        ensures refused { IfErr result (λ e. RefusesInsertion W.Witness P.QSBR K.allows B.sizes witness.old witness.new e self.now.first self.now.buckets key) }
+        ensures refused { IfErr result (λ e. RefusesInsertionThrough W.Witness P.QSBR tabled B.sizes witness.old witness.new e self.now.directory key) }
     {
-        let mut list = self.writer(rt, witness, key);
-        list.insert(rt, witness, key, value)
+        let shelf = self.shelf(rt);
+        let (mut place, mut bucket) = shelf.take(rt, shelf.bucket(key));
+        let answer = bucket.insert(rt, &self.desk, witness, key, value);
+        *place = Some(bucket);
+        answer
     }
 
     /// Gives a key that has a value this one: one replacement in its place, liburcu's `cds_lfht_replace`, so that no
@@ -182,7 +182,7 @@ impl<'d, P: GracePlan + Drop, K: MapRule, B: Site, D: Deleter> RcuHash<'d, P, K,
     ///
     /// Refused with `Missing` exactly where the key had no value in some log of the call, else as `alloc`, else as
     /// `retire`; then the map is as it was, the callback comes back, and the new record is back in the pool. It waits for
-    /// the locks of the bucket and of the queue, and tries again where other threads draw object numbers meanwhile.
+    /// the locks of the table and of the queue, and tries again where other threads draw object numbers meanwhile.
     pub fn replace<W: Witness, R: Wait>(
         &self,
         rt: &R,
@@ -192,19 +192,22 @@ impl<'d, P: GracePlan + Drop, K: MapRule, B: Site, D: Deleter> RcuHash<'d, P, K,
         callback: D,
     ) -> Result<Ticket, (Refusal, D)>
         requires { W.home witness.old ≡ (B.table, B.sizes) }
-        ensures replaced { IfOk result (λ t. (left : ObjectId) × (published : Log) × Replaces P.QSBR K.allows self.now.first self.now.buckets (W.seen witness.old) (W.heard witness.old) key value left published × HandsOver P.QSBR K.allows left (bucket_of self.now.first self.now.buckets key % B.sizes.queues) t.0 published (W.heard witness.new)) }
+        ensures replaced { IfOk result (λ t. (chain : ℕ) × (left : ObjectId) × (published : Log) × ReplacesThrough P.QSBR tabled B.sizes.chains self.now.directory (W.seen witness.old) (W.heard witness.old) key value chain left published × HandsOver P.QSBR tabled left (chain % B.sizes.queues) t.0 published (W.heard witness.new)) }
         ensures same { IfOk result (λ _. Stays W.Witness witness.old witness.new × (W.loads witness.new ≡ W.loads witness.old) × ((found : List (ℕ × ℕ)) × (W.looks witness.new ≡ found ++ W.looks witness.old))) }
-        ensures refused { IfErr result (λ e. (e.1 ≡ callback) × RefusesReplacement W.Witness P.QSBR K.allows B.sizes witness.old witness.new e.0 self.now.first self.now.buckets key) }
+        ensures refused { IfErr result (λ e. (e.1 ≡ callback) × RefusesReplacementThrough W.Witness P.QSBR tabled B.sizes witness.old witness.new e.0 self.now.directory key) }
     {
-        let mut list = self.writer(rt, witness, key);
-        list.replace(rt, witness, key, value, callback)
+        let shelf = self.shelf(rt);
+        let (mut place, mut bucket) = shelf.take(rt, shelf.bucket(key));
+        let answer = bucket.replace(rt, &self.desk, witness, key, value, callback);
+        *place = Some(bucket);
+        answer
     }
 
     /// Takes a key that has a value out of the map: one cut, liburcu's `cds_lfht_del`. Its record is retired with the
     /// callback, `call_rcu`. Both come after all that the caller had seen and heard of, and the caller hears of them.
     ///
     /// Refused with `Missing` exactly where the key had no value in some log of the call, else as `retire`; then the map
-    /// is as it was, and the callback comes back. It waits for the locks of the bucket and of the queue alone.
+    /// is as it was, and the callback comes back. It waits for the locks of the table and of the queue alone.
     pub fn remove<W: Witness, R: Wait>(
         &self,
         rt: &R,
@@ -213,34 +216,30 @@ impl<'d, P: GracePlan + Drop, K: MapRule, B: Site, D: Deleter> RcuHash<'d, P, K,
         callback: D,
     ) -> Result<Ticket, (Refusal, D)>
         requires { W.home witness.old ≡ (B.table, B.sizes) }
-        ensures removed { IfOk result (λ t. (left : ObjectId) × (published : Log) × Removes P.QSBR K.allows self.now.first self.now.buckets (W.seen witness.old) (W.heard witness.old) key left published × HandsOver P.QSBR K.allows left (bucket_of self.now.first self.now.buckets key % B.sizes.queues) t.0 published (W.heard witness.new)) }
-        ensures same { IfOk result (λ _. Stays W.Witness witness.old witness.new × (W.loads witness.new ≡ W.loads witness.old) × (W.looks witness.new ≡ W.looks witness.old)) }
-        ensures refused { IfErr result (λ e. (e.1 ≡ callback) × RefusesRemoval W.Witness P.QSBR K.allows B.sizes witness.old witness.new e.0 self.now.first self.now.buckets key) }
+        ensures removed { IfOk result (λ t. (chain : ℕ) × (left : ObjectId) × (published : Log) × RemovesThrough P.QSBR tabled B.sizes.chains self.now.directory (W.seen witness.old) (W.heard witness.old) key chain left published × HandsOver P.QSBR tabled left (chain % B.sizes.queues) t.0 published (W.heard witness.new)) }
+        ensures same { IfOk result (λ _. OnlyHears W.Witness witness.old witness.new) }
+        ensures refused { IfErr result (λ e. (e.1 ≡ callback) × RefusesRemovalThrough W.Witness P.QSBR tabled B.sizes witness.old witness.new e.0 self.now.directory key) }
     {
-        let mut list = self.writer(rt, witness, key);
-        list.remove(rt, witness, key, callback)
+        let shelf = self.shelf(rt);
+        let (mut place, mut bucket) = shelf.take(rt, shelf.bucket(key));
+        let answer = bucket.remove(rt, &self.desk, witness, key, callback);
+        *place = Some(bucket);
+        answer
     }
 
-    /// Goes through the table, liburcu's `cds_lfht_for_each`: a call with the key and the value of each entry that it comes
-    /// to, bucket by bucket. A key that is there all along, from the call to the return, is met exactly once, also while
-    /// its value is replaced; one that never is there is not met; and each value is one that its key had meanwhile.
-    ///
-    /// It returns where each call does, since ranks fall along each chain. It never waits and takes no memory.
-    pub fn for_each<F: FnMut(u64, u64)>(&self, section: &mut Section<'_, P, K, B>, visit: &mut F)
+    /// Goes through the table, liburcu's `cds_lfht_for_each`: as `TableView::for_each`. It never waits and takes no memory.
+    pub fn for_each<F: FnMut(u64, u64)>(
+        &self,
+        section: &mut Section<'_, P, Tabled, B>,
+        visit: &mut F,
+    )
         requires open_section { (P.QSBR ≡ B.qsbr) × (0 < section.old.reader.now.depth) }
         requires callable { F.IsAlwaysCallable visit.old }
         ensures reader { section.new.reader.ghost_name ≡ section.old.reader.ghost_name }
-        ensures looked { Looks P.QSBR K.allows section.old.reader.now section.new.reader.now }
+        ensures looked { Looks P.QSBR tabled section.old.reader.now section.new.reader.now }
         ensures callable { F.IsAlwaysCallable visit.new }
-        ensures met { (met : List (ℕ × ℕ)) × GoesThrough (log_of section.old.reader.now) section.old.reader.now.seat.me.0.heard (log_of section.new.reader.now) self.now.first self.now.buckets met × FoldsTo (λ f e g. F.step f e.0 e.1 tt g) visit.old met visit.new }
+        ensures met { (met : List (ℕ × ℕ)) × WalksThrough (log_of section.old.reader.now) section.old.reader.now.seat.me.0.heard (log_of section.new.reader.now) B.sizes.chains self.now.directory met × FoldsTo (λ f e g. F.step f e.0 e.1 tt g) visit.old met visit.new }
     {
-        for number in 0..self.buckets {
-            ListView::at(self.first + number).for_each_of(
-                section,
-                self.buckets as u64,
-                number as u64,
-                visit,
-            );
-        }
+        self.view.for_each(section, visit);
     }
 }

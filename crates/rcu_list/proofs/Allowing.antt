@@ -1,4 +1,4 @@
--- What a writer of a plain chain may write, by the list and the notes that it knows.
+-- What a writer of a free chain may write, by the list and the notes that it knows.
 use Rattle.std.proofs.Common.{Bool, ◌≡◌, ◌≢◌, ℕ, ◌<◌, List, ◌∷◌, sym, ap, ◌∙◌, subst}
 use Rattle.rcu_model.specs.declared.event.ObjectId.{ObjectId}
 use Rattle.rcu_model.specs.Sets.{In, at_object, replaced, without_object}
@@ -7,12 +7,12 @@ use Rattle.live_log.specs.declared.event.LiveEvent.{LiveEvent}
 use Rattle.live_log.specs.declared.event.LiveEvent.TheVariants.{Object}
 use Rattle.live_log.specs.declared.event.ObjectEvent.TheVariants.{Push, Replace, Cut}
 use Rattle.live_log.specs.Keys.{Falls, key_of, rank_of}
-use Rattle.live_log.specs.Log.{Log, Begins, IsLiveRun, chain_note, note_of, state_of}
-use Rattle.live_log.specs.Maps.{HasMaps, IsPlain}
+use Rattle.live_log.specs.Log.{Log, Begins, IsLiveRun, note_of, state_of}
+use Rattle.live_log.specs.Maps.{HasMaps, IsPlain, TakesKeys}
 use Rattle.live_log.specs.Tables.{HasKey}
 use Rattle.live_log.proofs.Lemmas.{chain_used, falls_cut, falls_push, falls_replaced, falls_same, note_stays, run_of}
 
-module _ (qsbr : Bool) (allows : Log → LiveEvent → Type 0) (maps : HasMaps qsbr allows) (c : ℕ) (known log : Log) (begins : Begins known log) (run : IsLiveRun qsbr allows log) (os : List ObjectId) (was : (state_of known).chain c ≡ os) (is : (state_of log).chain c ≡ os) (unnoted : chain_note c log ≡ 0) (keys : (o : ObjectId) → In os o → HasKey (note_of known o)) where
+module _ (qsbr : Bool) (allows : Log → LiveEvent → Type 0) (maps : HasMaps qsbr allows) (free : Log → ℕ → Type 0) (takes : TakesKeys qsbr allows free) (c : ℕ) (known log : Log) (begins : Begins known log) (run : IsLiveRun qsbr allows log) (os : List ObjectId) (was : (state_of known).chain c ≡ os) (is : (state_of log).chain c ≡ os) (is_free : free log c) (keys : (o : ObjectId) → In os o → HasKey (note_of known o)) where
   -- the objects of the list have the notes that they had
   note_then : (p : ObjectId) → In os p → note_of log p ≡ note_of known p
   note_then p h = note_stays qsbr allows known log p begins run (chain_used qsbr allows known c p (run_of qsbr allows known log begins run) (subst (λ (l : List ObjectId). In l p) (sym was) h))
@@ -20,10 +20,10 @@ module _ (qsbr : Bool) (allows : Log → LiveEvent → Type 0) (maps : HasMaps q
   falls : Falls (note_of known) os
   falls = subst (Falls (note_of known)) was (maps.falls known c (run_of qsbr allows known log begins run))
 
-  plain : IsPlain qsbr allows log c
+  plain : IsPlain qsbr allows free log c
   plain = record {
     run = run;
-    unnoted = unnoted;
+    is_free = is_free;
     keys = λ o h. let at : In os o = subst (λ (l : List ObjectId). In l o) is h in subst HasKey (sym (note_then o at)) (keys o at);
   }
 
@@ -38,7 +38,7 @@ module _ (qsbr : Bool) (allows : Log → LiveEvent → Type 0) (maps : HasMaps q
       let now : ObjectId → ℕ × List ℕ = at_object o x (note_of log) in
       let past = note_past o x fresh in
       let here : now o ≡ x = at_object_same o x (note_of log) in
-      maps.pushes log c o cell payload plain key
+      takes.pushes log c o cell payload plain key
       (subst (Falls now) (sym (at_number_same c (o ∷ (state_of log).chain c) (state_of log).chain ∙ ap (λ (l : List ObjectId). o ∷ l) is))
       (falls_push now os o
       (λ p h. subst (λ (z : (ℕ × List ℕ) × (ℕ × List ℕ)). (key_of z.0 ≢ key_of z.1) × (rank_of z.0 < rank_of z.1)) (λ i. (sym (past p h) i, sym here i)) (above p h))
@@ -51,7 +51,7 @@ module _ (qsbr : Bool) (allows : Log → LiveEvent → Type 0) (maps : HasMaps q
       let now : ObjectId → ℕ × List ℕ = at_object new x (note_of log) in
       let here : now new ≡ x = at_object_same new x (note_of log) in
       let then = note_then old at in
-      maps.replaces log c old new cell payload plain (subst (λ (l : List ObjectId). In l old) (sym is) at) key (
+      takes.replaces log c old new cell payload plain (subst (λ (l : List ObjectId). In l old) (sym is) at) key (
         subst (Falls now) (sym (at_number_same c (replaced old new ((state_of log).chain c)) (state_of log).chain ∙ ap (replaced old new) is))
             (falls_replaced (note_of known) now os old new (note_past new x fresh) (ap key_of here ∙ kept.0, ap rank_of here ∙ kept.1) at falls),
         kept.0 ∙ ap key_of (sym then),
@@ -59,6 +59,6 @@ module _ (qsbr : Bool) (allows : Log → LiveEvent → Type 0) (maps : HasMaps q
       )
 
   pub may_cut : (o : ObjectId) → In os o → allows log (Object (Cut c o))
-  may_cut o at = maps.cuts log c o plain (subst (λ (l : List ObjectId). In l o) (sym is) at)
+  may_cut o at = takes.cuts log c o plain (subst (λ (l : List ObjectId). In l o) (sym is) at)
       (subst (Falls (note_of log)) (sym (at_number_same c (without_object o ((state_of log).chain c)) (state_of log).chain ∙ ap (without_object o) is))
       (falls_cut (note_of log) os o (falls_same (note_of known) (note_of log) os note_then falls)))

@@ -1,30 +1,32 @@
 -- What the writer of a list knows, and what its events tell of the map.
-use Rattle.std.proofs.Common.{◌≡◌, ◌≢◌, ◌⊎◌, ◌≤◌, ◌<◌, ℕ, ◌+◌, ◌^◌, Bool, List, [], ◌∷◌, Option, Some, None, IsSome, refl, sym, ap, ◌∙◌, subst, inl, inr, ⊎_elim}
+use Rattle.std.proofs.Common.{◌≡◌, ◌≢◌, ◌⊎◌, ◌≤◌, ◌<◌, ℕ, ◌+◌, ◌^◌, Bool, List, [], ◌∷◌, Option, Some, None, IsSome, slice_get, slice_index_or, refl, sym, ap, ◌∙◌, subst, inl, inr, ⊎_elim}
 use Rattle.std.specs.Prelude.{Result, Ok, Err, IfOk, IfErr, IfSome, IfNone}
 use Rattle.atomic_table.specs.Table.{Me}
 use Rattle.rcu_model.specs.declared.event.ObjectId.{ObjectId}
 use Rattle.rcu_model.specs.Sets.{In, first_of, replaced, without_object}
-use Rattle.rcu_model.proofs.Lemmas.{at_object_same, first_has, replaced_has, without_object_has}
+use Rattle.rcu_model.proofs.Lemmas.{at_object_same, first_has, replaced_has, some_is, without_object_has}
 use Rattle.live_log.specs.declared.event.LiveEvent.{LiveEvent}
 use Rattle.live_log.specs.declared.event.LiveEvent.TheVariants.{Object}
 use Rattle.live_log.specs.declared.event.ObjectEvent.TheVariants.{Push, Replace, Cut}
 use Rattle.live_log.specs.Keys.{key_of, rank_of}
-use Rattle.live_log.specs.Log.{Log, Begins, IsLiveRun, note_of, state_of}
+use Rattle.live_log.specs.Log.{Log, Begins, IsLiveRun, chain_note, note_of, state_of}
 use Rattle.live_rule.specs.declared.view.View.{View}
+use Rattle.live_rule.specs.Seats.{lent_chains}
 use Rattle.live_rule.specs.declared.rights.ChainRight.{ChainRight}
-use Rattle.live_table.specs.Rights.{AreAsKnown, IsAsKnown, IsListed, IsWriter, cell_in, object_in, own_in, payload_in}
+use Rattle.live_table.specs.Rights.{AreAsKnown, IsListed, IsWriter, cell_in, object_in, own_in, payload_in}
 use Rattle.live_table.specs.Steps.{Went}
 use Rattle.live_chains.specs.Chains.{cut_of}
 use Rattle.live_read.specs.Hearing.{Stays}
 use Rattle.live_read.specs.declared.witness.Witness.{Ghosts}
-use Rattle.live_write.specs.Chains.{IsFirstWith, MayPublish, Publishes, list_in, push_by, replace_by}
+use Rattle.live_write.specs.Chains.{GoesOn, IsFirstWith, MayPublish, Publishes, list_in, push_by, replace_by}
 use Rattle.live_write.proofs.Lemmas.{index_has}
-use Rattle.live_log.specs.Maps.{HasMaps}
+use Rattle.live_log.specs.Maps.{HasMaps, IsUnnoted, TakesKeys}
 use Rattle.live_log.specs.Tables.{HasKey}
 use Rattle.live_log.proofs.Lemmas.{begins_trans, not_has}
 use Rattle.rcu_list.proofs.Allowing.{may_cut, may_push, may_replace}
 use Rattle.rcu_list.specs.Calls.{Inserts, Replaces, Removes}
 use Rattle.rcu_list.specs.Maps.{HasLastRank, map_of, value_of, words_of}
+use Rattle.rcu_list.specs.Preparing.{MayComeIn, MayTakeOver}
 use Rattle.rcu_list.proofs.Changing.{inserts, key_missing, key_there, removes, replaces, same_note}
 
 -- the chain of a log is the list that the writer knows
@@ -117,24 +119,50 @@ by_second (inr b) none f = f b
 pub stays_both : {W : Type 0} (w : Ghosts W) (a b c : W) → Stays w a b → Stays w b c → Stays w a c
 stays_both w a b c x y = (y.0 ∙ x.0, y.1 ∙ x.1, y.2 ∙ x.2, λ h. y.3 (x.3 h))
 
--- what the writer of a list may publish, by the list and the notes that it knows
-module _ (qsbr : Bool) (allows : Log → LiveEvent → Type 0) (maps : HasMaps qsbr allows) (v : View) (seen heard owner : Log) (own : IsWriter v) (listed : IsListed v) (unnoted : (own_in v.chains).note ≡ 0) (keys : (o : ObjectId) → In (list_in v) o → HasKey (note_of v.seen o)) where
-  own_known : (log : Log) → AreAsKnown log v.chains → IsAsKnown log (own_in v.chains)
-  own_known log known = (subst (AreAsKnown log) own known).0
+-- the writer's chain is free in each log that goes on from what it has seen, in which the note of its chain and the
+-- chains that were lent to it are as it knows them
+abbrev pub MayWriteIn : (qsbr : Bool) (allows : Log → LiveEvent → Type 0) (free : Log → ℕ → Type 0) → View → Type 0
+MayWriteIn qsbr allows free v = (log : Log) → Begins v.seen log → IsLiveRun qsbr allows log → chain_note (own_in v.chains).chain log ≡ (own_in v.chains).note → AreAsKnown log (lent_chains v.chains) → free log (own_in v.chains).chain
+
+-- a chain with no note is
+pub by_no_note : (qsbr : Bool) (allows : Log → LiveEvent → Type 0) (v : View) → (own_in v.chains).note ≡ 0 → MayWriteIn qsbr allows IsUnnoted v
+by_no_note qsbr allows v none log begins run note lent = note ∙ none
+
+-- what the writer of a free chain may publish, by the list and the notes that it knows
+module _ (qsbr : Bool) (allows : Log → LiveEvent → Type 0) (maps : HasMaps qsbr allows) (free : Log → ℕ → Type 0) (takes : TakesKeys qsbr allows free) (v : View) (seen heard owner : Log) (own : IsWriter v) (listed : IsListed v) (may : MayWriteIn qsbr allows free v) (keys : (o : ObjectId) → In (list_in v) o → HasKey (note_of v.seen o)) where
+  all_known : (log : Log) → AreAsKnown log v.chains → AreAsKnown log (own_in v.chains ∷ lent_chains v.chains)
+  all_known log known = subst (AreAsKnown log) own known
+
+  is_free : (log : Log) → GoesOn v seen heard owner log → IsLiveRun qsbr allows log → AreAsKnown log v.chains → free log (own_in v.chains).chain
+  is_free log on run known = let k = all_known log known in may log on.after_writer.0 run k.0.1 k.1
 
   pub may_insert : (u : View) → HasKey (0, payload_in u.object) → ((p : ObjectId) → In (list_in v) p → (key_of (note_of v.seen p) ≢ key_of (0, payload_in u.object)) × (rank_of (note_of v.seen p) < rank_of (0, payload_in u.object))) → MayPublish qsbr allows v seen heard owner (push_by v u)
-  may_insert u key above log on run known made = let k = own_known log known in
-      may_push qsbr allows maps (own_in v.chains).chain v.seen log on.after_writer.0 run (list_in v) listed.0 k.0 (k.1 ∙ unnoted) keys
+  may_insert u key above log on run known made =
+      may_push qsbr allows maps free takes (own_in v.chains).chain v.seen log on.after_writer.0 run (list_in v) listed.0 (all_known log known).0.0 (is_free log on run known) keys
       (object_in u.object) (cell_in u.object) (payload_in u.object) (not_has (state_of log).used (object_in u.object) made) key above
 
   pub may_exchange : (u : View) (o : ObjectId) → In (list_in v) o → HasKey (0, payload_in u.object) → (key_of (0, payload_in u.object) ≡ key_of (note_of v.seen o)) × (rank_of (0, payload_in u.object) ≡ rank_of (note_of v.seen o)) → MayPublish qsbr allows v seen heard owner (replace_by o v u)
-  may_exchange u o at key kept log on run known made = let k = own_known log known in
-      may_replace qsbr allows maps (own_in v.chains).chain v.seen log on.after_writer.0 run (list_in v) listed.0 k.0 (k.1 ∙ unnoted) keys
+  may_exchange u o at key kept log on run known made =
+      may_replace qsbr allows maps free takes (own_in v.chains).chain v.seen log on.after_writer.0 run (list_in v) listed.0 (all_known log known).0.0 (is_free log on run known) keys
       o (object_in u.object) (cell_in u.object) (payload_in u.object) at (not_has (state_of log).used (object_in u.object) made.1) key kept
 
   pub may_remove : (o : ObjectId) → In (list_in v) o → MayPublish qsbr allows v seen heard owner (cut_of o v)
-  may_remove o at log on run known made = let k = own_known log known in
-      may_cut qsbr allows maps (own_in v.chains).chain v.seen log on.after_writer.0 run (list_in v) listed.0 k.0 (k.1 ∙ unnoted) keys o at
+  may_remove o at log on run known made =
+      may_cut qsbr allows maps free takes (own_in v.chains).chain v.seen log on.after_writer.0 run (list_in v) listed.0 (all_known log known).0.0 (is_free log on run known) keys o at
+
+  -- by a record that was made ready
+  pub comes_in : (u : View) (key value : ℕ) → MayComeIn v u key value → MayPublish qsbr allows v seen heard owner (push_by v u)
+  comes_in u key value ready = may_insert u (ap (λ (l : List ℕ). slice_index_or l 3 0) ready.words) (λ p h.
+      let x = ready.others p h in
+      (λ same. x.0 (same ∙ ap (λ (l : List ℕ). slice_index_or l 0 0) ready.words), subst (λ (l : List ℕ). rank_of (note_of v.seen p) < slice_index_or l 2 0) (sym ready.words) x.1))
+
+  pub takes_over : (u : View) (key value index : ℕ) → MayTakeOver v u key value index → (o : ObjectId) → slice_get (list_in v) index ≡ Some o → MayPublish qsbr allows v seen heard owner (replace_by o v u)
+  takes_over u key value index ready o at =
+      let is : ready.found.object ≡ o = some_is ready.found.object o (sym ready.found.at ∙ at) in
+      may_exchange u o (index_has (list_in v) index o at) (ap (λ (l : List ℕ). slice_index_or l 3 0) ready.words) (
+        ap (λ (l : List ℕ). slice_index_or l 0 0) ready.words ∙ sym (ap (λ (p : ObjectId). key_of (note_of v.seen p)) (sym is) ∙ ready.found.begins),
+        ap (λ (l : List ℕ). slice_index_or l 2 0) ready.words ∙ (ready.same ∙ ap (λ (p : ObjectId). rank_of (note_of v.seen p)) is),
+      )
 
 -- that the objects of the list have keys stays so
 abbrev pub KnowsKeys : View → Type 0

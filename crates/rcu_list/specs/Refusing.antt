@@ -41,6 +41,10 @@ module _ {W : Type 0} (w : Ghosts W) (qsbr : Bool) (allows : Log → LiveEvent �
     abbrev pub RefusesInsertion : Type 0
     RefusesInsertion = ((e ≡ Exists) × IsSome (map_of known c key) × (new ≡ old)) ⊎ ((map_of known c key ≡ None) × (((e ≡ PoolFull) × HasLastRank known c × (new ≡ old)) ⊎ FindsNoRecord))
 
+    -- the key is not there; else there is no record
+    abbrev pub RefusesSuccessor : Type 0
+    RefusesSuccessor = ((e ≡ Missing) × (map_of known c key ≡ None) × (new ≡ old)) ⊎ (IsSome (map_of known c key) × FindsNoRecord)
+
     -- the key is not there; else there is no record, or its queue takes nothing
     abbrev pub RefusesReplacement : ℕ → Type 0
     RefusesReplacement queue = ((e ≡ Missing) × (map_of known c key ≡ None) × (new ≡ old)) ⊎ (IsSome (map_of known c key) × (FindsNoRecord ⊎ GivesBack queue))

@@ -3,9 +3,11 @@
 //! inserts, replaces in place and removes.
 
 mod list;
+mod preparing;
 mod rule;
 mod view;
 
 pub use list::RcuList;
+pub use preparing::{prepare_insertion, prepare_replacement};
 pub use rule::MapRule;
 pub use view::ListView;

@@ -4,26 +4,23 @@ ghost use Rattle.std.specs.Prelude.{◌≡◌, ◌≢◌, ◌⊎◌, ◌∷◌, 
 ghost use Rattle.rcu_model.specs.Sets.{In};
 ghost use Rattle.rcu_model.specs.declared.event.ObjectId.{ObjectId};
 ghost use Rattle.rcu_model.specs.declared.refusal.Refusal.TheVariants.{BadConfig};
-ghost use Rattle.live_log.specs.Keys.{rank_of};
 ghost use Rattle.live_log.specs.Log.{Begins, note_of};
 ghost use Rattle.live_log.specs.Tables.{HasKey};
 ghost use Rattle.live_table.specs.Rights.{own_in};
-ghost use Rattle.live_table.specs.Steps.{IsLater, Keeps, Went};
+ghost use Rattle.live_table.specs.Steps.{Keeps, Went};
 ghost use Rattle.live_read.specs.Hearing.{IsAfter, OnlyHears, Stays};
 ghost use Rattle.live_write.specs.Chains.{list_in};
 ghost use Rattle.rcu_list.specs.Calls.{HandsOver, Inserts, Removes, Replaces};
-ghost use Rattle.rcu_list.specs.Maps.{HasLastRank, map_of};
+ghost use Rattle.rcu_list.specs.Maps.{map_of};
 ghost use Rattle.rcu_list.specs.Refusing.{RefusesInsertion, RefusesRemoval, RefusesReplacement};
 
+use crate::preparing::{prepare_insertion, prepare_replacement};
 use crate::rule::MapRule;
 use crate::view::ListView;
 use domain::{Callback, Chain, Deleter, Site, Ticket, Witness};
 use gp_memb::GracePlan;
 use rcu_model::Refusal;
 use std::sync::Wait;
-
-/// No key has a rank above this.
-const LAST_RANK: u64 = 4_611_686_018_427_387_903;
 
 /// A map from keys to values over a chain, and its one writer; liburcu's `cds_list_head` with a key in each node. The
 /// payload of a key is the key, its value, its rank, and 0. Ranks fall along the chain: a key is put in at the front,
@@ -90,22 +87,6 @@ impl<'d, P: GracePlan + Drop, K: MapRule, B: Site, D: Deleter> RcuList<'d, P, K,
         Some(words[1])
     }
 
-    /// A rank above those of all keys, unless one has the last.
-    fn fresh_rank(&mut self) -> Option<u64>
-        requires { IsLater P.QSBR K.allows self.old.chain.seat.me.0 self.old.chain.seat.me.0 }
-        ensures above { IfSome result (λ rank. (rank < 2 ^ 62) × ((o : ObjectId) → In (list_in self.old.chain.seat.me.0) o → rank_of (note_of self.new.chain.seat.me.0.seen o) < rank)) }
-        ensures none { IfNone result (HasLastRank self.new.chain.seat.me.0.seen self.old.chain.number) }
-        ensures looked { Keeps self.old.chain.seat self.new.chain.seat × Went P.QSBR K.allows self.old.chain.seat.me.0 self.old.chain.seat.me self.new.chain.seat.me × (self.new.chain.number ≡ self.old.chain.number) }
-    {
-        let Some(first) = self.chain.get(0) else {
-            return Some(0);
-        };
-        if first[2] >= LAST_RANK {
-            return None;
-        }
-        Some(first[2] + 1)
-    }
-
     /// Gives a key a value that had none: one push at the front, liburcu's `cds_list_add_rcu`. It comes after all that
     /// the caller had seen and heard of, and the caller hears of it.
     ///
@@ -125,16 +106,7 @@ impl<'d, P: GracePlan + Drop, K: MapRule, B: Site, D: Deleter> RcuList<'d, P, K,
         ensures refused { IfErr result (λ e. RefusesInsertion W.Witness P.QSBR K.allows B.sizes witness.old witness.new e self.old.chain.seat.me.0.seen self.old.chain.number key) }
         ensures kept { IfErr result (λ _. Keeps self.old.chain.seat self.new.chain.seat × Went P.QSBR K.allows self.old.chain.seat.me.0 self.old.chain.seat.me self.new.chain.seat.me × (self.new.chain.number ≡ self.old.chain.number)) }
     {
-        if self.chain.index_of(key).is_some() {
-            return Err(Refusal::Exists);
-        }
-        let Some(rank) = self.fresh_rank() else {
-            return Err(Refusal::PoolFull);
-        };
-        let owned = self
-            .chain
-            .domain()
-            .alloc(rt, witness, [key, value, rank, 0])?;
+        let owned = prepare_insertion(rt, &mut self.chain, witness, key, value)?;
         self.chain.push(witness, owned);
         Ok(())
     }
@@ -160,17 +132,11 @@ impl<'d, P: GracePlan + Drop, K: MapRule, B: Site, D: Deleter> RcuList<'d, P, K,
         ensures refused { IfErr result (λ e. (e.1 ≡ callback) × RefusesReplacement W.Witness P.QSBR K.allows B.sizes witness.old witness.new e.0 self.old.chain.seat.me.0.seen self.old.chain.number key (self.old.chain.number % B.sizes.queues)) }
         ensures kept { IfErr result (λ _. Keeps self.old.chain.seat self.new.chain.seat × Went P.QSBR K.allows self.old.chain.seat.me.0 self.old.chain.seat.me self.new.chain.seat.me × (self.new.chain.number ≡ self.old.chain.number)) }
     {
-        let Some(index) = self.chain.index_of(key) else {
-            return Err((Refusal::Missing, callback));
-        };
-        let Some(words) = self.chain.get(index) else {
-            unreachable!()
-        };
-        let domain = self.chain.domain();
-        let owned = match domain.alloc(rt, witness, [key, value, words[2], 0]) {
-            Ok(owned) => owned,
+        let (index, owned) = match prepare_replacement(rt, &mut self.chain, witness, key, value) {
+            Ok(ready) => ready,
             Err(refusal) => return Err((refusal, callback)),
         };
+        let domain = self.chain.domain();
         match domain.replace_retire(rt, witness, &mut self.chain, index, owned, callback) {
             Ok(ticket) => Ok(ticket),
             Err((refusal, owned, callback)) => {

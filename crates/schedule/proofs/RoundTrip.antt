@@ -101,6 +101,7 @@ module _ (n : ℕ) (long : IsLong n) where
   number_long refusals.BadText = lit< tt
   number_long refusals.BadConfig = lit< tt
   number_long refusals.Memory = lit< tt
+  number_long refusals.FewJobs = lit< tt
 
   answer_long : (a : Result Answer Refusal) → Every (IsNumberedWithin n) (events_of a) → IsAnswerLine (answer_as a)
   unfolding answer_as

@@ -1,6 +1,6 @@
 -- The refusals that a step may answer.
 use Rattle.rcu_model.specs.declared.refusal.Refusal.{Refusal}
-use Rattle.rcu_model.specs.declared.refusal.Refusal.TheVariants.{NoSlot, NestFull, PoolFull, Closed, Exhausted, NotOpen, Busy, NoPlace, WrongFlavour, Exists, Missing, NoActor, BadText, BadConfig, Memory}
+use Rattle.rcu_model.specs.declared.refusal.Refusal.TheVariants.{NoSlot, NestFull, PoolFull, Closed, Exhausted, NotOpen, Busy, NoPlace, WrongFlavour, Exists, Missing, NoActor, BadText, BadConfig, Memory, FewJobs}
 
 abbrev pub IsStepError : Refusal → Type 0
 IsStepError NestFull = Unit {0}
@@ -19,3 +19,4 @@ IsStepError Exists = ⊥
 IsStepError Missing = ⊥
 IsStepError BadText = ⊥
 IsStepError BadConfig = ⊥
+IsStepError FewJobs = ⊥

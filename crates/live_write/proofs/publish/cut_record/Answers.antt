@@ -59,4 +59,4 @@ returns-clause-cut g c =
     let hears = hears_caller g.P.GracePlan.QSBR g.K.ChainRule.allows seen heard v c.find-before.new.seat.me w c.find-before.ensures.walked.0 c.tell_all-told.result.me.0 c.tell_all-told.ensures.told c.learn.ensures.2 in
     let found = c.find-before.ensures.found in let s = cut_stands g.P.GracePlan.QSBR g.K.ChainRule.allows c.args.seat.now.me c.find-before.new.seat.me c.learn.new.seat.me c.tell_all-told.result.me.0 c.args.index c.find-before.result.0 c.find-before.result.1 c.find-before.ensures.found c.find-before.ensures.walked.0 c.learn.ensures.2 in let did = c.cut.ensures.cut found.0 found.1 s.there s.at s.lies in let left = object_in c.cut_object-unlinked.result.me.0.object in
     subst (λ (l : Log). Publishes g.P.GracePlan.QSBR g.K.ChainRule.allows v.0 seen heard [] (cut_of left v.0) l) (sym t.seen.0)
-    (published g.P.GracePlan.QSBR g.K.ChainRule.allows v.0 w.0 seen heard [] hears (cut_of left v.0) (cut_of found.1 w.0) c.cut.new.seat.me.0.seen (cut_same v.0 w.0 found.1 left hears.chains t.object) did.2)
+    (published g.P.GracePlan.QSBR g.K.ChainRule.allows v.0 w.0 seen heard [] hears (cut_of left v.0) (cut_of found.1 w.0) c.cut.new.seat.me.0.seen (cut_same v.0 w.0 found.1 left hears.chains t.object) did.2 did.3)

@@ -1,8 +1,8 @@
-use Rattle.std.proofs.Common.{Bool, ◌≡◌, ℕ, [], ap, sym, ◌∙◌, subst}
-use Rattle.atomic_table.specs.Table.{Me}
+use Rattle.std.proofs.Common.{ap, sym, ◌∙◌, subst}
 use Rattle.live_log.specs.Log.{Log, Begins}
 use Rattle.live_log.proofs.Lemmas.{begins_trans}
 use Rattle.live_rule.specs.declared.view.View.{View}
+use Rattle.live_table.specs.Rights.{AreAsKnown}
 use Rattle.live_read.specs.Hearing.{IsAfter}
 use Rattle.live_write.proofs.Publishing.{hears_caller}
 use Rattle.live_write.proofs.publish.hear_caller.Goals as goal
@@ -27,3 +27,9 @@ returns-clause-told g c =
       begins_trans v.0.seen w.0.seen n.0.seen hears.of_writer.0 later.0,
       begins_trans v.0.heard w.0.seen n.0.seen hears.of_writer.1 later.0,
     )
+
+pub returns-clause-known : goal.returns-clause-known
+returns-clause-known g c =
+    let same = c.tell-heard.ensures.2 in
+    subst (λ (l : Log). AreAsKnown l c.tell-heard.new.seat.me.0.chains) (ap (λ z. z.0.seen) (sym same))
+    (subst (AreAsKnown c.load_note-2.new.seat.me.0.seen) (sym (ap (λ z. z.0.chains) same ∙ ap (λ (u : View). u.chains) c.load_note-2.ensures.looked.1)) c.load_note-2.ensures.known.0.0)

@@ -21,4 +21,4 @@ returns-clause-pushed g c =
     let object = has_record qsbr allows seen heard v f w went t u a b took c.load_seq.ensures.looked is in
     let x = c.push.new.seat.me.0.seen in
     subst (λ (l : Log). Publishes qsbr allows v.0 seen heard u.seen (push_by v.0 u) l) (ap (λ z. z.0.seen) (sym c.tell-heard.ensures.2))
-    (published qsbr allows v.0 w.0 seen heard u.seen hears (push_by v.0 u) (push_of w.0) x (push_same v.0 u w.0 hears.chains object) c.push.ensures.pushed.0.2)
+    (published qsbr allows v.0 w.0 seen heard u.seen hears (push_by v.0 u) (push_of w.0) x (push_same v.0 u w.0 hears.chains object) c.push.ensures.pushed.0.2 c.push.ensures.pushed.0.3)

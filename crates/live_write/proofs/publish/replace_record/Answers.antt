@@ -71,4 +71,4 @@ returns-clause-replaced g c =
     let hears = hears_owner g.P.GracePlan.QSBR g.K.ChainRule.allows seen heard v n w (went_both g.P.GracePlan.QSBR g.K.ChainRule.allows v f n c.find-before.ensures.walked.0 c.load_link-next.ensures.looked) c.tell_all-told.result.me.0 owned c.take_object.new.seat.me c.load_seq.new.seat.me c.tell_all-told.ensures.told (ap (λ q. q.0) c.take_object.ensures.2) c.load_seq.ensures.looked c.take_object-2.ensures.2 in
     let found = c.find-before.ensures.found in let s = replace_stands g.P.GracePlan.QSBR g.K.ChainRule.allows c.args.seat.now.me c.find-before.new.seat.me c.load_link-next.new.seat.me c.take_object-2.new.seat.me c.load_seq.new.seat.me.0 c.args.index c.find-before.result.0 c.find-before.result.1 c.find-before.ensures.found c.find-before.ensures.walked.0 c.find-before.ensures.walked.1 c.load_link-next.ensures.looked c.take_object-2.ensures.2 in let did = c.replace.ensures.replaced found.0 found.1 s.there s.at in let left = object_in c.cut_object-unlinked.result.me.0.object in
     subst (λ (l : Log). Publishes g.P.GracePlan.QSBR g.K.ChainRule.allows v.0 seen heard owned.seen (replace_by left v.0 owned) l) (sym t.seen.0)
-    (published g.P.GracePlan.QSBR g.K.ChainRule.allows v.0 w.0 seen heard owned.seen hears (replace_by left v.0 owned) (replace_of found.1 w.0) c.replace.new.seat.me.0.seen (replace_same v.0 owned w.0 found.1 left hears.chains object t.object) did.2)
+    (published g.P.GracePlan.QSBR g.K.ChainRule.allows v.0 w.0 seen heard owned.seen hears (replace_by left v.0 owned) (replace_of found.1 w.0) c.replace.new.seat.me.0.seen (replace_same v.0 owned w.0 found.1 left hears.chains object t.object) did.2 did.3)

@@ -19,4 +19,4 @@ returns-clause-noted g c =
     let hears = hears_caller qsbr allows seen heard v c.load_note.new.seat.me w c.load_note.ensures.looked c.tell_all-told.result.me.0 c.tell_all-told.ensures.told c.learn.ensures.2 in
     let chain = sym c.requires.right.1 ∙ ap (λ l. (own_in l).chain) (sym hears.chains) in
     subst (λ (l : Log). Publishes qsbr allows v.0 seen heard [] (ChainNote c.args.chain c.args.note) l) (ap (λ z. z.0.seen) (sym c.tell-heard.ensures.2))
-    (published qsbr allows v.0 w.0 seen heard [] hears (ChainNote c.args.chain c.args.note) (ChainNote (own_in w.0.chains).chain c.args.note) c.store_note.new.seat.me.0.seen (ap (λ (n : ℕ). ChainNote n c.args.note) chain) c.store_note.ensures.noted.0.2)
+    (published qsbr allows v.0 w.0 seen heard [] hears (ChainNote c.args.chain c.args.note) (ChainNote (own_in w.0.chains).chain c.args.note) c.store_note.new.seat.me.0.seen (ap (λ (n : ℕ). ChainNote n c.args.note) chain) c.store_note.ensures.noted.0.2 c.store_note.ensures.noted.0.3)

@@ -1,35 +1,79 @@
-use Rattle.std.proofs.Common.{ℕ, ◌+◌, [], refl, sym, ◌∙◌, subst, arith}
-use mathlib.Core.Logic.{dite}
-use native.Mathlib.Decide.{ℕ_discrete}
+use Rattle.std.proofs.Common.{◌≡◌, ◌⊎◌, ◌+◌, ◌++◌, ℕ, List, [], None, map, refl, sym, ap, ◌∙◌, subst, append_assoc}
+use Rattle.std.proofs.lemmas.Result.{err_from_is_err_and}
+use Rattle.rcu_model.specs.declared.refusal.Refusal.TheVariants.{BadConfig, Memory, PoolFull}
 use Rattle.live_log.specs.Log.{Log, Begins}
 use Rattle.live_log.proofs.Lemmas.{begins_trans}
-use Rattle.rcu_list.proofs.Lemmas.{stays_both}
-use Rattle.rcu_hash.specs.Tables.{WasEmpty}
-use Rattle.rcu_hash.proofs.Making.{answers_none, emptied_later}
+use Rattle.rcu_hash.specs.Directories.{LeadsTo, directed_map}
+use Rattle.rcu_hash.specs.Tables.{bucket_of}
+use Rattle.rcu_hash.specs.Writers.{Each, HasNoNote, HasNote, HasNothing, IsEmpty, Noted}
+use Rattle.rcu_hash.proofs.Copies.{found_more}
+use Rattle.rcu_hash.proofs.Held.{each_map, looks_both, not_full, pair_from, pair_nothing}
 use Rattle.rcu_hash.proofs.table.RcuHash.new.Goals as goal
 
-pub loop-number-preserved : goal.loop-number-preserved
-loop-number-preserved g c =
-    let w = g.W.Witness in let w0 = c.args.witness.now in let w1 = c.loop-number.witness in let w2 = c.listed.new.witness in
-    let i = c.loop-number.invariant in let e = c.in_ok-listed.ensures in let first = c.args.first in let number = c.loop-number.number in
-    let began = begins_trans (w.heard w0) (w.heard w1) (w.heard w2) i.4 e.heard.after_heard in (
-      let len = c.push_reserved.ensures.len in let was = i.0 in omega arith,
-      let same = c.push_reserved.ensures.capacity in let was = i.1 in omega arith,
-      stays_both w w0 w1 w2 i.2 e.same.0,
-      e.same.1 ∙ i.3,
-      began,
-      λ k low. dite (ℕ_discrete k number)
-          (λ is. record {
-            at = w.heard w2;
-            after_seen = subst (λ (l : Log). Begins l (w.heard w2)) i.2.0 e.heard.after_seen;
-            after_heard = began;
-            before = ([], refl);
-            empty = subst (λ (n : ℕ). WasEmpty (w.heard w2) (first + n)) (sym is) e.made;
-          })
-          (λ other. emptied_later (w.seen w0) (w.heard w0) (w.heard w1) (w.heard w2) (first + k) e.heard.after_heard (i.5 k (omega arith))),
+pub returns-in_err-chains-clause-looks : goal.returns-in_err-chains-clause-looks
+returns-in_err-chains-clause-looks g c = let p = err_from_is_err_and c.from_residual-in_err-chains.result c.from_residual-in_err-chains.ensures.1 in let m = c.in_err-chains.ensures.refused in
+    ([], refl, not_full g.B.Site.sizes [] c.from_residual-in_err-chains.result p.0 Memory p.1 (p.2 ∙ m) (λ z. cc))
+
+pub returns-in_err-noted-clause-looks : goal.returns-in_err-noted-clause-looks
+returns-in_err-noted-clause-looks g c = let p = err_from_is_err_and c.from_residual-in_err-noted.result c.from_residual-in_err-noted.ensures.1 in let m = c.in_err-noted.ensures.refused in
+    ([], refl, not_full g.B.Site.sizes [] c.from_residual-in_err-noted.result p.0 Memory p.1 (p.2 ∙ m) (λ z. cc))
+
+pub returns-in_err-back-clause-looks : goal.returns-in_err-back-clause-looks
+returns-in_err-back-clause-looks g c = let p = err_from_is_err_and c.from_residual-in_err-back.result c.from_residual-in_err-back.ensures.1 in let m = c.in_err-back.ensures.refused in
+    ([], refl, not_full g.B.Site.sizes [] c.from_residual-in_err-back.result p.0 Memory p.1 (p.2 ∙ m) (λ z. cc))
+
+pub returns-in_err-places-clause-looks : goal.returns-in_err-places-clause-looks
+returns-in_err-places-clause-looks g c = let p = err_from_is_err_and c.from_residual-in_err-places.result c.from_residual-in_err-places.ensures.1 in let m = c.in_err-places.ensures.refused in
+    ([], refl, not_full g.B.Site.sizes [] c.from_residual-in_err-places.result p.0 Memory p.1 (p.2 ∙ m) (λ z. cc))
+
+pub returns-in_err-chains-2-clause-looks : goal.returns-in_err-chains-2-clause-looks
+returns-in_err-chains-2-clause-looks g c =
+    let p = err_from_is_err_and c.from_residual-in_err-chains-2.result c.from_residual-in_err-chains-2.ensures.1 in let m = c.in_err-chains-2.ensures.refused in let w = g.W.Witness in
+    let one = c.hold_empty.ensures.same.2 in let two = c.hold_all.ensures.same.2 in
+    (two.0 ++ one.0, looks_both (w.looks c.args.witness.now) (w.looks c.hold_empty.new.witness) (w.looks c.hold_all.new.witness) one.0 two.0 one.1 two.1, not_full g.B.Site.sizes (two.0 ++ one.0) c.from_residual-in_err-chains-2.result p.0 BadConfig p.1 (p.2 ∙ m) (λ z. cc))
+
+pub returns-in_err-lents-clause-looks : goal.returns-in_err-lents-clause-looks
+returns-in_err-lents-clause-looks g c =
+    let p = err_from_is_err_and c.from_residual-in_err-lents.result c.from_residual-in_err-lents.ensures.1 in let m = c.in_err-lents.ensures.refused in let w = g.W.Witness in
+    let one = c.hold_empty.ensures.same.2 in let two = c.hold_all.ensures.same.2 in
+    (two.0 ++ one.0, looks_both (w.looks c.args.witness.now) (w.looks c.hold_empty.new.witness) (w.looks c.hold_all.new.witness) one.0 two.0 one.1 two.1, not_full g.B.Site.sizes (two.0 ++ one.0) c.from_residual-in_err-lents.result p.0 Memory p.1 (p.2 ∙ m) (λ z. cc))
+
+pub returns-in-Err-clause-looks : goal.returns-in-Err-clause-looks
+returns-in-Err-clause-looks g c =
+    let w = g.W.Witness in let one = c.hold_empty.ensures.same.2 in let two = c.hold_all.ensures.same.2 in let three = c.in-Err.ensures.looks in
+    let held = looks_both (w.looks c.args.witness.now) (w.looks c.hold_empty.new.witness) (w.looks c.hold_all.new.witness) one.0 two.0 one.1 two.1 in
+    (three.0 ++ (two.0 ++ one.0), looks_both (w.looks c.args.witness.now) (w.looks c.hold_all.new.witness) (w.looks c.alloc.new.witness) (two.0 ++ one.0) three.0 held three.1, λ full. found_more g.B.Site.sizes three.0 (two.0 ++ one.0) three.2.1)
+
+pub note_all-chains-requires-clause-chains : goal.note_all-chains-requires-clause-chains
+note_all-chains-requires-clause-chains g c = let h = c.in_ok-chains-2.ensures.held in (each_map IsEmpty HasNoNote (λ v e. e.1) _ h.2, h.3)
+
+pub direct-writer-requires-clause-chains : goal.direct-writer-requires-clause-chains
+direct-writer-requires-clause-chains g c =
+    let h = c.in_ok-chains-2.ensures.held in let n = c.note_all-chains.ensures.noted in let own = c.in_ok-own.ensures.held in let directory = c.args.directory in
+    let vs = map (λ x. x.seat.me.0) c.in_ok-chains-2.chains.items in let ws = map (λ x. x.seat.me.0) c.note_all-chains.result.items in (
+      pair_from c.args.first vs ws n.1 h.1,
+      pair_nothing vs ws n.1 (each_map IsEmpty HasNothing (λ v e. e.0) vs h.2),
+      subst (λ (d : ℕ). Each (HasNote (d + 1)) ws) (sym own.0) (each_map (Noted (g.W.Witness.heard c.alloc.new.witness) (directory + 1)) (HasNote (directory + 1)) (λ v z. z.is) ws n.2),
+      n.3,
     )
 
-pub returns-clause-empty : goal.returns-clause-empty
-returns-clause-empty g c =
-    let w = g.W.Witness in let w0 = c.args.witness.now in let i = c.loop-number.invariant in let some = c.if-buckets-eq0.false in let all = c.loop-number-test.false in
-    answers_none (w.seen w0) (w.heard w0) (w.heard c.loop-number.witness) c.args.first c.args.buckets (omega arith) (λ k low. i.5 k (omega arith))
+pub returns-clause-map : goal.returns-clause-map
+returns-clause-map g c key =
+    let h = c.in_ok-chains-2.ensures.held in let n = c.note_all-chains.ensures.noted in let own = c.in_ok-own.ensures.held in let chains = g.B.Site.sizes.chains in let log : Log = g.W.Witness.heard c.direct-writer.new.witness in
+    subst (λ (d : ℕ). (directed_map chains d log key ≡ None) × LeadsTo d log key (bucket_of c.args.first c.args.buckets key)) own.0
+    (subst (λ (k : ℕ). (directed_map chains c.in_ok-own.own.number log key ≡ None) × LeadsTo c.in_ok-own.own.number log key (bucket_of c.args.first k key)) (n.0 ∙ h.0) (c.direct-writer.ensures.map key))
+
+pub returns-clause-heard : goal.returns-clause-heard
+returns-clause-heard g c =
+    let w = g.W.Witness in let w0 = c.args.witness.now in let w1 = c.hold_empty.new.witness in let w2 = c.hold_all.new.witness in let w3 = c.alloc.new.witness in let w4 = c.note_all-chains.new.witness in let w5 = c.direct-writer.new.witness in
+    let a = c.hold_empty.ensures in let b = c.hold_all.ensures in let o = c.alloc.ensures in let n = c.note_all-chains.ensures in let d = c.direct-writer.ensures.heard in record {
+      after_seen = subst (λ (l : Log). Begins l (w.heard w5)) (n.same.0.0.0 ∙ (o.same.0.0 ∙ (b.same.0.0 ∙ a.same.0.0))) d.after_seen;
+      after_heard = begins_trans (w.heard w0) (w.heard w1) (w.heard w5) a.heard (begins_trans (w.heard w1) (w.heard w2) (w.heard w5) b.heard (begins_trans (w.heard w2) (w.heard w3) (w.heard w5) o.heard.after_heard (begins_trans (w.heard w3) (w.heard w4) (w.heard w5) n.heard d.after_heard)));
+      run = d.run;
+    }
+
+pub returns-clause-looks : goal.returns-clause-looks
+returns-clause-looks g c =
+    let w = g.W.Witness in let one = c.hold_empty.ensures.same.2 in let two = c.hold_all.ensures.same.2 in let three = c.alloc.ensures.looks in let n = c.note_all-chains.ensures.same in let d = c.direct-writer.ensures.same in
+    let held = looks_both (w.looks c.args.witness.now) (w.looks c.hold_empty.new.witness) (w.looks c.hold_all.new.witness) one.0 two.0 one.1 two.1 in
+    (three.0 ++ (two.0 ++ one.0), d.0.1 ∙ (n.0.1 ∙ looks_both (w.looks c.args.witness.now) (w.looks c.hold_all.new.witness) (w.looks c.alloc.new.witness) (two.0 ++ one.0) three.0 held three.1), tt)

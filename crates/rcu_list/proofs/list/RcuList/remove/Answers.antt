@@ -4,13 +4,14 @@ use Rattle.rcu_model.specs.declared.event.ObjectId.{ObjectId}
 use Rattle.rcu_model.proofs.Lemmas.{some_is}
 use Rattle.live_log.specs.Keys.{key_of}
 use Rattle.live_log.specs.Log.{Log, Begins, note_of}
+use Rattle.live_log.specs.Maps.{IsUnnoted}
 use Rattle.live_log.proofs.Lemmas.{begins_trans}
 use Rattle.live_rule.specs.declared.rights.ChainRight.{ChainRight}
 use Rattle.live_items.specs.Retiring.{Queues}
 use Rattle.live_reclaim.specs.Refusing.{RefusesRetirement}
 use Rattle.live_write.specs.Chains.{list_in}
 use Rattle.live_write.proofs.Lemmas.{index_has}
-use Rattle.rcu_list.proofs.Writing.{by_second, chain_known, cut_map, found_there, if_err, if_ok, keys_walked, may_remove, note_still, note_walked, same_own, walked_missing, KnowsKeys, by_result, keys_cut}
+use Rattle.rcu_list.proofs.Writing.{by_no_note, by_second, chain_known, cut_map, found_there, if_err, if_ok, keys_walked, may_remove, note_still, note_walked, same_own, walked_missing, KnowsKeys, by_result, keys_cut}
 use Rattle.live_table.specs.Rights.{own_in}
 use Rattle.rcu_list.proofs.list.RcuList.remove.Goals as goal
 
@@ -22,8 +23,8 @@ returns-in_default-clause-refused g c =
 pub cut_retire-requires-clause-rule : goal.cut_retire-requires-clause-rule
 cut_retire-requires-clause-rule g c o at =
     let e = c.in-Some.ensures in let old = c.args.self.now.chain in let mid = c.index_of.new.self in let qsbr = g.P.GracePlan.QSBR in let maps = g.met.K.MapRule.maps qsbr in
-    may_remove qsbr g.K.ChainRule.allows maps mid.seat.me.0 (g.W.Witness.seen c.args.witness.now) (g.W.Witness.heard c.args.witness.now) [] mid.owns.0 mid.owns.1
-    (note_still qsbr g.K.ChainRule.allows maps old.number old.seat.me mid.seat.me e.walked.1 old.owns.1 old.owns.2 c.args.self.now.unnoted)
+    may_remove qsbr g.K.ChainRule.allows maps IsUnnoted maps.takes mid.seat.me.0 (g.W.Witness.seen c.args.witness.now) (g.W.Witness.heard c.args.witness.now) [] mid.owns.0 mid.owns.1
+    (by_no_note qsbr g.K.ChainRule.allows mid.seat.me.0 (note_still qsbr g.K.ChainRule.allows maps old.number old.seat.me mid.seat.me e.walked.1 old.owns.1 old.owns.2 c.args.self.now.unnoted))
     (keys_walked qsbr g.K.ChainRule.allows maps old.number old.seat.me mid.seat.me e.walked.1 old.owns.1 old.owns.2 c.args.self.now.keys) o
     (index_has (list_in mid.seat.me.0) c.in-Some.index o at)
 

@@ -1,0 +1,249 @@
+//! Two readers look one key up while its table grows again and again, and a worker gives the records back: never is the
+//! key missing.
+
+ghost use Rattle.std.specs.Prelude.{◌≡◌};
+ghost use Rattle.std.specs.Thread.{IsSync};
+
+use crate::deleter::Adds;
+use crate::growths::callbacks;
+use crossbeam_utils::Backoff;
+use domain::{Domain, LiveConfig, Opened, Reader, Record, Site, Stop};
+use gp_memb::{GracePlan, MembPlan};
+use gp_qsbr::QsbrPlan;
+use live_words::Tabled;
+use rcu_hash::{RcuHash, TableView};
+use rcu_model::Refusal;
+use std::alloc::Global;
+use std::marker::Brand;
+use std::sync::Wait;
+use std::sync::atomic::{AtomicU64, Ordering};
+use std::thread::{Threads, join};
+
+/// The key that is there all along.
+const KEY: u64 = 7;
+
+/// How many keys the table has, of the numbers from 1 on.
+const KEYS: u64 = 8;
+
+/// How often it grows.
+const GROWTHS: usize = 100;
+
+/// A domain of two readers, with few records.
+fn of_two_readers() -> LiveConfig {
+    LiveConfig {
+        slots: 2,
+        queues: 1,
+        chains: 6,
+        pool: 64,
+    }
+}
+
+/// A reader with no section or lock open.
+#[derive(Drop)]
+struct Idle<P: GracePlan, B: Site> {
+    reader: Reader<P, Tabled, B>,
+    ghost idle: { (reader.depth ≡ 0) × (reader.locks ≡ 0) },
+}
+
+fn registered<P: GracePlan + Drop, B: Site, R: Wait>(
+    rt: &R,
+    domain: &Domain<P, Tabled, B, Adds>,
+    record: &mut Record<B>,
+) -> Result<Idle<P, B>, Refusal> {
+    let reader = domain.register(rt, record)?;
+    Ok(Idle { reader })
+}
+
+/// What a lookup in a section of its own answers, before which a reader of the quiescent-state flavour announces.
+fn look<P: GracePlan, B: Site>(
+    reader: &mut Reader<P, Tabled, B>,
+    view: TableView<B>,
+) -> Result<Option<u64>, Refusal>
+    requires { (P.QSBR ≡ B.qsbr) × (reader.old.depth ≡ 0) × (reader.old.locks ≡ 0) }
+    ensures { (reader.new.depth ≡ 0) × (reader.new.locks ≡ 0) }
+{
+    if P::QSBR {
+        reader.online()?;
+    }
+    let mut section = reader.section()?;
+    let found = view.get(&mut section, KEY);
+    section.close();
+    if P::QSBR {
+        reader.offline()?;
+    }
+    Ok(found)
+}
+
+/// Lookups until the writer is done. Whether each found the key with its value, once one had.
+fn looks<P: GracePlan, B: Site>(idle: Idle<P, B>, view: TableView<B>, done: &AtomicU64) -> bool
+    requires { P.QSBR ≡ B.qsbr }
+{
+    let Idle { mut reader } = idle;
+    let mut seen = false;
+    for _ in 0..u64::MAX {
+        match look(&mut reader, view) {
+            Ok(Some(70)) => seen = true,
+            Ok(None) if !seen => (),
+            _ => return false,
+        }
+        if done.load(Ordering::SeqCst) == 1 {
+            return true;
+        }
+    }
+    false
+}
+
+/// Two readers, in a thread each.
+fn two_look<P: GracePlan + Send + Sync, B: Site + Send + Sync, R: Threads + Sync>(
+    rt: &R,
+    one: Idle<P, B>,
+    two: Idle<P, B>,
+    view: TableView<B>,
+    done: &AtomicU64,
+) -> bool
+    requires { P.QSBR ≡ B.qsbr }
+{
+    let (first, second) = join(
+        rt,
+        move ||
+            requires { P.QSBR ≡ B.qsbr }
+        { looks(one, view, done) },
+        move ||
+            requires { P.QSBR ≡ B.qsbr }
+        { looks(two, view, done) },
+    );
+    first && second
+}
+
+/// The table grows, and waits for records while too few are free; then it is tidied. How many were retired.
+fn grows_once<P: GracePlan + Drop, B: Site, R: Wait>(
+    rt: &R,
+    alloc: Global,
+    table: &RcuHash<'_, P, B, Adds>,
+    record: &mut Record<B>,
+    chains: (usize, usize),
+) -> Result<usize, Refusal> {
+    let backoff = Backoff::new();
+    for _ in 0..1_000_000_000u64 {
+        match table.grow(rt, alloc, record, chains.0, chains.1) {
+            Ok(left) => return Ok(table.tidy(rt, record, callbacks(alloc, left)?).retired),
+            Err(Refusal::PoolFull) => backoff.snooze(),
+            Err(refusal) => return Err(refusal),
+        }
+    }
+    Err(Refusal::PoolFull)
+}
+
+/// How many records were retired in all growths, by turns to three buckets and to two; then the readers are told to end,
+/// and the queue is closed.
+fn grows<P: GracePlan + Drop, B: Site, R: Wait>(
+    rt: &R,
+    alloc: Global,
+    domain: &Domain<P, Tabled, B, Adds>,
+    record: &mut Record<B>,
+    done: &AtomicU64,
+) -> Result<usize, Refusal> {
+    let table = tabled(rt, alloc, domain, record)?;
+    let mut retired = 0usize;
+    for number in 0..GROWTHS {
+        let chains = if number % 2 == 0 { (3, 3) } else { (1, 2) };
+        retired = retired.wrapping_add(grows_once(rt, alloc, &table, record, chains)?);
+    }
+    done.store(1, Ordering::SeqCst);
+    domain.close(rt, record);
+    Ok(retired)
+}
+
+/// How many callbacks a worker ran, and why it stopped.
+fn works<P: GracePlan + Drop, B: Site, R: Wait>(
+    rt: &R,
+    alloc: Global,
+    domain: &Domain<P, Tabled, B, Adds>,
+    record: &mut Record<B>,
+) -> Result<(usize, Stop), Refusal> {
+    let end = domain.run_worker(rt, alloc, record, 0)?;
+    Ok((end.finished.len(), end.stop))
+}
+
+/// A table of two buckets in which each key has ten times its number.
+fn tabled<'d, P: GracePlan + Drop, B: Site, R: Wait>(
+    rt: &R,
+    alloc: Global,
+    domain: &'d Domain<P, Tabled, B, Adds>,
+    record: &mut Record<B>,
+) -> Result<RcuHash<'d, P, B, Adds>, Refusal> {
+    let table = RcuHash::new(rt, alloc, domain, record, 0, 1, 2)?;
+    for key in 1..=KEYS {
+        table.insert(rt, record, key, key.wrapping_mul(10))?;
+    }
+    Ok(table)
+}
+
+/// A writer and a worker, in a thread each: how many were retired, and what the worker ran.
+fn two_write<P: GracePlan + Drop + Send + Sync, B: Site + Send + Sync, R: Threads + Wait + Sync>(
+    rt: &R,
+    alloc: Global,
+    domain: &Domain<P, Tabled, B, Adds>,
+    one: Record<B>,
+    two: Record<B>,
+    done: &AtomicU64,
+) -> Result<(usize, (usize, Stop)), Refusal> {
+    let (grown, worked) = join(
+        rt,
+        move || {
+            let mut record = one;
+            grows(rt, alloc, domain, &mut record, done)
+        },
+        move || {
+            let mut record = two;
+            works(rt, alloc, domain, &mut record)
+        },
+    );
+    Ok((grown?, worked?))
+}
+
+/// Whether the readers always found the key; how many were retired, and what the worker ran.
+fn serves<P: GracePlan + Drop + Send + Sync, B: Site + Send + Sync, R: Threads + Wait + Sync>(
+    rt: &R,
+    alloc: Global,
+    opened: Opened<P, Tabled>,
+) -> Result<(bool, (usize, (usize, Stop))), Refusal>
+    requires { (P.QSBR ≡ B.qsbr) × (opened.table.words.shared.table_id ≡ B.table) × (opened.table.words.shared.key ≡ B.sizes) }
+{
+    let (domain, mut record) = opened.named::<B, Adds>(alloc)?;
+    let other = domain.split(&mut record);
+    let one = registered(rt, &domain, &mut record)?;
+    let two = registered(rt, &domain, &mut record)?;
+    let view = TableView::of(&domain, 0)?;
+    let flag = AtomicU64::new(0);
+    let home = &domain;
+    let done = &flag;
+    let (found, wrote) = join(
+        rt,
+        move ||
+            requires { IsSync R.row × (P.QSBR ≡ B.qsbr) }
+        { two_look(rt, one, two, view, done) },
+        move ||
+            requires { IsSync R.row }
+        { two_write(rt, alloc, home, record, other, done) },
+    );
+    Ok((found, wrote?))
+}
+
+#[test]
+fn a_key_is_never_missing_while_its_table_grows(rt: HostRuntime) {
+    let opened = Opened::<MembPlan, Tabled>::new(rt.alloc(), of_two_readers()).expect(
+        &rt, "memory",
+    );
+    let served = serves::<MembPlan, Brand, _>(&rt, rt.alloc(), opened).expect(&rt, "not refused");
+    assert_eq!(rt; served, (true, (900, (900, Stop::Closed))));
+}
+
+#[test]
+fn nor_is_it_in_the_quiescent_state_flavour(rt: HostRuntime) {
+    let opened = Opened::<QsbrPlan, Tabled>::new(rt.alloc(), of_two_readers()).expect(
+        &rt, "memory",
+    );
+    let served = serves::<QsbrPlan, Brand, _>(&rt, rt.alloc(), opened).expect(&rt, "not refused");
+    assert_eq!(rt; served, (true, (900, (900, Stop::Closed))));
+}

@@ -1,0 +1,121 @@
+-- A chain that a linked directory names stays free as long as that directory stays linked; and whether the sections of
+-- some log have ended can be told from a log, so that what is known to be so without saying how is so.
+use Rattle.std.proofs.Common.{Bool, ◌≡◌, ◌≢◌, ◌⊎◌, ℕ, ◌+◌, List, [], ◌∷◌, ◌++◌, refl, sym, ap, ◌∙◌, subst, inl, inr, ⊎_elim, append_assoc, arith}
+use Rattle.std.proofs.Math.Logic.{∥∥₁_elim}
+use mathlib.Core.Logic.{dite}
+use native.Mathlib.Decide.{ℕ_discrete}
+use Rattle.rcu_model.specs.declared.event.ObjectId.{ObjectId}
+use Rattle.rcu_model.specs.Sets.{In}
+use Rattle.rcu_model.proofs.Lemmas.{in_objects}
+use Rattle.live_log.specs.declared.event.ObjectEvent.TheVariants.{Replace}
+use Rattle.live_log.specs.declared.event.LiveEvent.{LiveEvent}
+use Rattle.live_log.specs.declared.event.LiveEvent.TheVariants.{Open, Close, SeqOdd, SeqEven, Present, ChainNote, CloseQueue, Object}
+use Rattle.live_log.specs.Log.{Log, Begins, Has, HaveEnded, IsLiveRun, chain_note, note_of, state_of}
+use Rattle.live_log.specs.Tables.{IsDirectory, IsFree, IsReplaced, Names, tabled}
+use Rattle.live_log.proofs.Machine.{begins_trans, grows_log, kept_log, run_of}
+use Rattle.live_log.proofs.Notes.{note_stays}
+use Rattle.live_log.proofs.Periods.{ended_before, has_later}
+use Rattle.live_log.proofs.Places.{chain_used}
+use Rattle.live_log.proofs.Tabling.{directory_alone, is_noted, linked_or_replaced, noted_or_ended}
+
+-- a list without its first entry
+abbrev rest : Log → Log
+rest [] = []
+rest (e ∷ es) = es
+
+-- of two beginnings of a log, one begins with the other
+beside : (t s : Log) (x : LiveEvent) (before known : Log) → s ++ x ∷ before ≡ t ++ known → Begins known before ⊎ Begins (x ∷ before) known
+beside [] s x before known is = inr (s, sym is)
+beside (z ∷ t) [] x before known is = inl (t, ap rest is)
+beside (z ∷ t) (y ∷ s) x before known is = beside t s x before known (ap rest is)
+
+ended_later : (before known log : Log) → Begins known log → HaveEnded before known → HaveEnded before log
+ended_later before known log b ended r n m opened = subst (Has (Close r n)) (sym b.1) (has_later (Close r n) b.0 known (ended r n m opened))
+
+module _ (qsbr : Bool) where
+  -- what was replaced is linked no more
+  gone : (before log : Log) (d c : ℕ) (old new : ObjectId) (cell : ℕ) (payload : List ℕ) → Begins (Object (Replace d old new cell payload) ∷ before) log → IsLiveRun qsbr tabled log → ¬ In ((state_of log).chain c) old
+  gone before log d c old new cell payload b run at =
+      let left : Log = Object (Replace d old new cell payload) ∷ before in
+      (kept_log qsbr tabled log run).linking.linked_not_cut c old at ((grows_log left log b).cut old (inl refl))
+
+  -- a directory that is linked at both ends was linked between
+  pub linked_between : (known before log : Log) (d : ℕ) (o : ObjectId) → Begins known before → Begins before log → IsLiveRun qsbr tabled log → In ((state_of known).chain d) o → IsDirectory (note_of known o) → In ((state_of log).chain d) o → In ((state_of before).chain d) o
+  linked_between known before log d o b later run at directory still = ⊎_elim
+      (λ (h : In ((state_of before).chain d) o). h)
+      (λ (r : IsReplaced known before d o). absurd (gone r.before log d d o r.new r.cell r.payload (begins_trans (Object (Replace d o r.new r.cell r.payload) ∷ r.before) before log (r.since, r.is) later) run still))
+      (linked_or_replaced qsbr known before d o b (run_of qsbr tabled before log later run) at directory)
+
+  -- no directory was replaced in the chain since then
+  unreplaced : {A : Type 0} (start before log : Log) (d e : ℕ) (o old new : ObjectId) (cell : ℕ) (payload : List ℕ) → Begins start before → Begins (Object (Replace e old new cell payload) ∷ before) log → IsLiveRun qsbr tabled log → In ((state_of start).chain d) o → In ((state_of log).chain d) o → IsDirectory (note_of start o) → IsDirectory (note_of before old) → e ≡ d → A
+  unreplaced start before log d e o old new cell payload b later run at still directory directory' z =
+      let left : Log = Object (Replace e old new cell payload) ∷ before in
+      let step : IsLiveRun qsbr tabled left = run_of qsbr tabled left log later run in
+      let goes : Begins before log = begins_trans before left log (Object (Replace e old new cell payload) ∷ [], refl) later in
+      let here : In ((state_of before).chain d) o = linked_between start before log d o b goes run at directory still in
+      let there : In ((state_of before).chain e) old = in_objects ((state_of before).chain e) old step.0.0.0 in
+      let same = note_stays qsbr tabled start before o b step.1 (chain_used qsbr tabled start d o (run_of qsbr tabled start before b step.1) at) in
+      let alone : (state_of before).chain d ≡ o ∷ [] = directory_alone qsbr before d o step.1 here (subst IsDirectory (sym same) directory) in
+      let is : old ≡ o = sym (one o old (subst (λ (l : List ObjectId). In l old) alone (subst (λ (k : ℕ). In ((state_of before).chain k) old) z there))) in
+      absurd (gone before log e d old new cell payload later run (subst (In ((state_of log).chain d)) (sym is) still))
+    where
+      one : (p q : ObjectId) → In (p ∷ []) q → p ≡ q
+      one p q (inl h) = h
+      one p q (inr h) = absurd h
+
+  -- Of the chains with the note of a directory that stays linked none is left by a later replacement: what freed it then
+  -- frees it now.
+  pub stays_free : (start log : Log) (c d : ℕ) (o : ObjectId) → Begins start log → IsLiveRun qsbr tabled log → In ((state_of start).chain d) o → In ((state_of log).chain d) o → IsDirectory (note_of start o) → chain_note c log ≡ d + 1 → ((since before : Log) (e : ℕ) (old new : ObjectId) (cell : ℕ) (payload : List ℕ) → start ≡ since ++ Object (Replace e old new cell payload) ∷ before → IsDirectory (note_of before old) → Names (note_of before old) c → HaveEnded before log) → IsFree log c
+  stays_free start log c d o b run at still directory noted earlier since before e old new cell payload is directory' names' = ⊎_elim
+      (λ (later : Begins start before). ⊎_elim
+      (λ (same : chain_note c log ≡ e + 1). let z : e ≡ d = omega arith in unreplaced start before log d e o old new cell payload later (since, is) run at still directory directory' z)
+      (λ (ended : HaveEnded before log). ended)
+      (noted_or_ended qsbr log since before c e old new cell payload run is directory' names'))
+      (λ (within : Begins (Object (Replace e old new cell payload) ∷ before) start). earlier within.0 before e old new cell payload within.1 directory' names')
+      (beside b.0 since (Object (Replace e old new cell payload)) before start (sym is ∙ b.1))
+
+  -- a chain that a directory names stays free while that is linked
+  pub named_stays_free : (known log : Log) (c d : ℕ) (o : ObjectId) → Begins known log → IsLiveRun qsbr tabled log → In ((state_of known).chain d) o → In ((state_of log).chain d) o → IsDirectory (note_of known o) → Names (note_of known o) c → IsFree known c → IsFree log c
+  named_stays_free known log c d o b run at still directory names free =
+      let same = note_stays qsbr tabled known log o b run (chain_used qsbr tabled known d o (run_of qsbr tabled known log b run) at) in
+      stays_free known log c d o b run at still directory
+      (is_noted qsbr log c d o run still (subst IsDirectory (sym same) directory) (subst (λ (x : ℕ × List ℕ). Names x c) (sym same) names)).1
+      (λ since before e old new cell payload is directory' names'. ended_later before known log b (free since before e old new cell payload is directory' names'))
+
+  -- and one that was left is free once the sections have ended that were open when another directory was linked
+  pub left_is_freed : (mark log : Log) (c d : ℕ) (o : ObjectId) → Begins mark log → IsLiveRun qsbr tabled log → In ((state_of mark).chain d) o → In ((state_of log).chain d) o → IsDirectory (note_of mark o) → chain_note c log ≡ d + 1 → HaveEnded mark log → IsFree log c
+  left_is_freed mark log c d o b run at still directory noted ended =
+      stays_free mark log c d o b run at still directory noted
+      (λ since before e old new cell payload is directory' names'. ended_before qsbr tabled before mark log (run_of qsbr tabled mark log b run) (since ++ Object (Replace e old new cell payload) ∷ [], is ∙ sym (append_assoc since (Object (Replace e old new cell payload) ∷ []) before)) b ended)
+
+-- what an event that ends a section tells
+abbrev ended_by : LiveEvent → ℕ × ℕ
+ended_by (Close q n) = (q, n)
+ended_by _ = (0, 0)
+
+-- a section's end is in a log, or is not
+past : (e : LiveEvent) (es : Log) (r n : ℕ) → e ≢ Close r n → Has (Close r n) es ⊎ (¬ Has (Close r n) es) → Has (Close r n) (e ∷ es) ⊎ (¬ Has (Close r n) (e ∷ es))
+past e es r n other (inl h) = inl (inr h)
+past e es r n other (inr none) = inr (⊎_elim other none)
+
+ended_or_not : (log : Log) (r n : ℕ) → Has (Close r n) log ⊎ (¬ Has (Close r n) log)
+ended_or_not [] r n = inr (λ h. h)
+ended_or_not (Close q i ∷ es) r n = dite (ℕ_discrete q r)
+    (λ slot. dite (ℕ_discrete i n)
+    (λ ordinal. inl (inl (λ k. Close (slot k) (ordinal k))))
+    (λ other. past (Close q i) es r n (λ e. other (ap (λ (x : LiveEvent). (ended_by x).1) e)) (ended_or_not es r n)))
+    (λ other. past (Close q i) es r n (λ e. other (ap (λ (x : LiveEvent). (ended_by x).0) e)) (ended_or_not es r n))
+ended_or_not (Open q i j ∷ es) r n = past (Open q i j) es r n (λ e. cc) (ended_or_not es r n)
+ended_or_not (SeqOdd ∷ es) r n = past SeqOdd es r n (λ e. cc) (ended_or_not es r n)
+ended_or_not (SeqEven ∷ es) r n = past SeqEven es r n (λ e. cc) (ended_or_not es r n)
+ended_or_not (Present p ∷ es) r n = past (Present p) es r n (λ e. cc) (ended_or_not es r n)
+ended_or_not (ChainNote c x ∷ es) r n = past (ChainNote c x) es r n (λ e. cc) (ended_or_not es r n)
+ended_or_not (CloseQueue q ∷ es) r n = past (CloseQueue q) es r n (λ e. cc) (ended_or_not es r n)
+ended_or_not (Object d ∷ es) r n = past (Object d) es r n (λ e. cc) (ended_or_not es r n)
+
+-- that a chain is free follows from what is known to be so, also where it is not known how
+pub free_told : {A : Type 0} (log : Log) (c : ℕ) → ∥ A ∥₁ → (A → IsFree log c) → IsFree log c
+free_told log c so frees since before d old new cell payload is directory names r n m opened = ⊎_elim
+    (λ h. h)
+    (λ none. absurd (∥∥₁_elim so (λ x y. absurd x) (λ a. none (frees a since before d old new cell payload is directory names r n m opened))))
+    (ended_or_not log r n)

@@ -1,0 +1,327 @@
+-- What copies of keys tell, on their way and once each one is in its chain.
+use Rattle.std.proofs.Common.{◌≡◌, ◌≢◌, ◌⊎◌, ℕ, zero, suc, ◌+◌, ◌%◌, ◌<◌, ◌==◌, Bool, true, false, if◌then◌else◌, List, [], ◌∷◌, ◌++◌, length, map, take, set, append_assoc, Option, Some, None, slice_get, slice_index_or, refl, sym, ap, ◌∙◌, subst, inl, inr, ⊎_elim, arith, eq-eqb, ne_eqb}
+use mathlib.Core.Logic.{dite}
+use native.Mathlib.Decide.{ℕ_discrete}
+use Rattle.atomic_table.specs.Table.{Me}
+use Rattle.rcu_model.specs.declared.event.ObjectId.{ObjectId}
+use Rattle.rcu_model.specs.Sets.{In}
+use Rattle.rcu_model.proofs.Lemmas.{at_object_same, in_left, none_some}
+use Rattle.live_log.specs.Keys.{key_of, rank_of, Falls}
+use Rattle.live_log.specs.Log.{Log, Begins, IsLiveRun, note_of, payload_of, words_in}
+use Rattle.live_log.specs.Maps.{IsUnnoted}
+use Rattle.live_log.specs.Tables.{tabled}
+use Rattle.live_log.proofs.Lemmas.{begins_trans, chain_used, note_stays, run_of, tabled_maps}
+use Rattle.live_rule.specs.Seats.{lent_chains}
+use Rattle.live_rule.specs.declared.rights.ChainRight.{ChainRight}
+use Rattle.live_rule.specs.declared.view.Sizes.{Sizes}
+use Rattle.live_rule.specs.declared.view.View.{View}
+use Rattle.live_table.specs.Rights.{IsListed, IsWriter, cell_in, object_in, own_in, payload_in}
+use Rattle.live_table.specs.Steps.{Went}
+use Rattle.live_write.specs.Chains.{MayPublish, Publishes, list_in, push_by}
+use Rattle.live_write.specs.Searching.{AreTaken, IsUsedUp}
+use Rattle.live_write.proofs.Lemmas.{index_has, went_both}
+use Rattle.rcu_list.specs.Maps.{value_in, value_of, words_of}
+use Rattle.rcu_list.proofs.Lemmas.{comes_in, keys_pushed, note_walked, same_own, value_same}
+use Rattle.rcu_hash.specs.Copies.{AreApart, AreRanked, value_among}
+use Rattle.rcu_hash.specs.Writers.{Each, HasKeysIn, HasNoNote, IsAlone, IsEmpty, value_at}
+
+-- the first of two answers, if there is one
+abbrev pub or_else : Option ℕ → Option ℕ → Option ℕ
+or_else None y = y
+or_else (Some x) y = Some x
+
+pub or_none : (x : Option ℕ) → or_else x None ≡ x
+or_none None = refl
+or_none (Some x) = refl
+
+if_first : (b : Bool) (x : ℕ) (y z : Option ℕ) → (if b then Some x else or_else y z) ≡ or_else (if b then Some x else y) z
+if_first true x y z = refl
+if_first false x y z = refl
+
+-- entries behind others
+pub among_both : (es fs : List (ℕ × ℕ)) (key : ℕ) → value_among (es ++ fs) key ≡ or_else (value_among es key) (value_among fs key)
+among_both [] fs key = refl
+among_both (e ∷ es) fs key = ap (λ (x : Option ℕ). if e.0 == key then Some e.1 else x) (among_both es fs key) ∙ if_first (e.0 == key) e.1 (value_among es key) (value_among fs key)
+
+pub in_both : (note : ObjectId → ℕ × List ℕ) (os ps : List ObjectId) (key : ℕ) → value_in note (os ++ ps) key ≡ or_else (value_in note os key) (value_in note ps key)
+in_both note [] ps key = refl
+in_both note (o ∷ os) ps key = ap (λ (x : Option ℕ). if key_of (note o) == key then Some (value_of (note o)) else x) (in_both note os ps key) ∙ if_first (key_of (note o) == key) (value_of (note o)) (value_in note os key) (value_in note ps key)
+
+-- what a test for a key's first place gave
+if_none : (b : Bool) (x : ℕ) (y : Option ℕ) → (if b then Some x else y) ≡ None → (b ≡ false) × (y ≡ None)
+if_none true x y e = absurd (none_some x (sym e))
+if_none false x y e = (refl, e)
+
+not_same : (m n : ℕ) → (m == n) ≡ false → m ≢ n
+not_same m n off same = let e : true ≡ false = sym (eq-eqb m n same) ∙ off in absurd (unlike e)
+  where
+    unlike : true ≡ false → ⊥
+    unlike e = cc
+
+pub other_key : (e : ℕ × ℕ) (es : List (ℕ × ℕ)) (key : ℕ) → value_among (e ∷ es) key ≡ None → (e.0 ≢ key) × (value_among es key ≡ None)
+other_key e es key none = let both = if_none (e.0 == key) e.1 (value_among es key) none in (not_same e.0 key both.0, both.1)
+
+-- an entry alone
+pub one_among : (e : ℕ × ℕ) (key : ℕ) → e.0 ≢ key → value_among (e ∷ []) key ≡ None
+one_among e key other = ap (λ (b : Bool). if b then Some e.1 else None) (ne_eqb e.0 key other)
+
+-- an entry of a key that was not there, behind the others or before them
+pub more_apart : (es : List (ℕ × ℕ)) (e : ℕ × ℕ) → AreApart es → value_among es e.0 ≡ None → AreApart (es ++ e ∷ [])
+more_apart [] e apart none = (refl, tt)
+more_apart (x ∷ xs) e apart none =
+    let other = other_key x xs e.0 none in (
+      among_both xs (e ∷ []) x.0 ∙ (ap (λ (y : Option ℕ). or_else y (value_among (e ∷ []) x.0)) apart.0 ∙ one_among e x.0 (λ same. other.0 (sym same))),
+      more_apart xs e apart.1 other.1,
+    )
+
+pub more_ranked : (n : ℕ) (rs : List ℕ) → AreRanked n rs → AreRanked n (rs ++ (n + length rs) ∷ [])
+more_ranked n [] ranked = (omega arith, tt)
+more_ranked n (r ∷ rs) ranked = (ranked.0, let next = more_ranked (n + 1) rs ranked.1 in subst (λ (k : ℕ). AreRanked (n + 1) (rs ++ k ∷ [])) (omega arith) next)
+
+-- of entries that are apart none before one has its key
+pub apart_before : (es fs : List (ℕ × ℕ)) (e : ℕ × ℕ) → AreApart (es ++ e ∷ fs) → value_among es e.0 ≡ None
+apart_before [] fs e apart = refl
+apart_before (x ∷ xs) fs e apart =
+    let none = sym (among_both xs (e ∷ fs) x.0) ∙ apart.0 in
+    let other : e.0 ≢ x.0 = (other_key e fs x.0 (second (value_among xs x.0) (value_among (e ∷ fs) x.0) none)).0 in
+    ap (λ (b : Bool). if b then Some x.1 else value_among xs e.0) (ne_eqb x.0 e.0 (λ same. other (sym same))) ∙ apart_before xs fs e apart.1
+  where
+    second : (y z : Option ℕ) → or_else y z ≡ None → z ≡ None
+    second None z e = e
+    second (Some a) z e = absurd (none_some a (sym e))
+
+-- no object has a key that has no value
+pub none_has : (note : ObjectId → ℕ × List ℕ) (os : List ObjectId) (key : ℕ) → value_in note os key ≡ None → (o : ObjectId) → In os o → key_of (note o) ≢ key
+none_has note [] key none o h = absurd h
+none_has note (x ∷ xs) key none o h =
+    let both = if_none (key_of (note x) == key) (value_of (note x)) (value_in note xs key) none in ⊎_elim
+    (λ (e : x ≡ o). subst (λ (p : ObjectId). key_of (note p) ≢ key) e (not_same (key_of (note x)) key both.0))
+    (λ (k : In xs o). none_has note xs key both.1 o k)
+    h
+
+-- the objects before an index, and the one there
+taken_after : {X : Type 0} (xs : List X) (index : ℕ) (x : X) → slice_get xs index ≡ Some x → take (suc index) xs ≡ take index xs ++ x ∷ []
+taken_after [] index x at = absurd (none_some x at)
+taken_after (y ∷ ys) zero x at = let e : y ≡ x = cc in ap (λ z. z ∷ []) e
+taken_after (y ∷ ys) (suc index) x at = ap (λ zs. y ∷ zs) (taken_after ys index x at)
+
+pub next_taken : {X : Type 0} (xs : List X) (index : ℕ) (x : X) → slice_get xs index ≡ Some x → take (index + 1) xs ≡ take index xs ++ x ∷ []
+next_taken xs index x at = let next : suc index ≡ index + 1 = omega arith in subst (λ n. take n xs ≡ take index xs ++ x ∷ []) next (taken_after xs index x at)
+
+pub taken_in : {X : Type 0} (xs : List X) (n : ℕ) (x : X) → In (take n xs) x → In xs x
+taken_in [] zero x h = h
+taken_in [] (suc n) x h = h
+taken_in (y ∷ ys) zero x h = absurd h
+taken_in (y ∷ ys) (suc n) x h = ⊎_elim (λ (e : y ≡ x). inl e) (λ (k : In (take n ys) x). inr (taken_in ys n x k)) h
+
+-- a key is not among those of the objects before the one that has it
+pub none_before : (note : ObjectId → ℕ × List ℕ) (os : List ObjectId) (index : ℕ) (o : ObjectId) → Falls note os → slice_get os index ≡ Some o → value_in note (take index os) (key_of (note o)) ≡ None
+none_before note [] index o falls at = absurd (none_some o at)
+none_before note (x ∷ xs) zero o falls at = refl
+none_before note (x ∷ xs) (suc index) o falls at =
+    ap (λ (b : Bool). if b then Some (value_of (note x)) else value_in note (take index xs) (key_of (note o))) (ne_eqb (key_of (note x)) (key_of (note o)) (λ same. (falls.0 o (found xs index o at)).0 (sym same)))
+    ∙ none_before note xs index o falls.1 at
+  where
+    found : (ys : List ObjectId) (k : ℕ) (p : ObjectId) → slice_get ys k ≡ Some p → In ys p
+    found [] k p at = absurd (none_some p at)
+    found (y ∷ ys) zero p at = inl cc
+    found (y ∷ ys) (suc k) p at = inr (found ys k p at)
+
+-- what is so of each one
+pub each_at : {X : Type 0} (is_so : X → Type 0) (xs : List X) (index : ℕ) (x : X) → Each is_so xs → slice_get xs index ≡ Some x → is_so x
+each_at is_so [] index x each at = absurd (none_some x at)
+each_at is_so (y ∷ ys) zero x each at = subst is_so ((λ (e : y ≡ x). e) cc) each.0
+each_at is_so (y ∷ ys) (suc index) x each at = each_at is_so ys index x each.1 at
+
+pub each_set : {X : Type 0} (is_so : X → Type 0) (xs : List X) (index : ℕ) (x : X) → Each is_so xs → is_so x → Each is_so (set xs index x)
+each_set is_so [] zero x each one = tt
+each_set is_so [] (suc index) x each one = tt
+each_set is_so (y ∷ ys) zero x each one = (one, each.1)
+each_set is_so (y ∷ ys) (suc index) x each one = (each.0, each_set is_so ys index x each.1 one)
+
+pub each_weaker : {X : Type 0} (is_so was_so : X → Type 0) (xs : List X) → ((x : X) → was_so x → is_so x) → Each was_so xs → Each is_so xs
+each_weaker is_so was_so [] weaker each = tt
+each_weaker is_so was_so (x ∷ xs) weaker each = (weaker x each.0, each_weaker is_so was_so xs weaker each.1)
+
+pub get_set_same : {X : Type 0} (xs : List X) (index : ℕ) (x : X) → index < length xs → slice_get (set xs index x) index ≡ Some x
+get_set_same [] index x low = absurd (omega arith)
+get_set_same (y ∷ ys) zero x low = refl
+get_set_same (y ∷ ys) (suc index) x low = get_set_same ys index x (omega arith)
+
+pub get_set_other : {X : Type 0} (xs : List X) (index k : ℕ) (x : X) → k ≢ index → slice_get (set xs index x) k ≡ slice_get xs k
+get_set_other [] zero k x other = refl
+get_set_other [] (suc index) k x other = refl
+get_set_other (y ∷ ys) zero zero x other = absurd (other refl)
+get_set_other (y ∷ ys) zero (suc k) x other = refl
+get_set_other (y ∷ ys) (suc index) zero x other = refl
+get_set_other (y ∷ ys) (suc index) (suc k) x other = get_set_other ys index k x (λ e. other (ap suc e))
+
+-- Entries that hold the keys, with this number modulo this one, of the objects before an index, behind those of others.
+module _ (note : ObjectId → ℕ × List ℕ) (os : List ObjectId) (buckets number : ℕ) (before : List (ℕ × ℕ)) where
+  abbrev pub IsCopied : ℕ → List (ℕ × ℕ) → Type 0
+  IsCopied index es = ((key : ℕ) → value_among es key ≡ (if key % buckets == number then value_in note (take index os) key else value_among before key)) × AreApart es
+
+  either : (key : ℕ) (x y z : Option ℕ) → (key % buckets ≡ number → z ≡ x) → (key % buckets ≢ number → z ≡ y) → z ≡ (if key % buckets == number then x else y)
+  either key x y z same other = dite (ℕ_discrete (key % buckets) number)
+      (λ is. same is ∙ ap (λ (b : Bool). if b then x else y) (sym (eq-eqb (key % buckets) number is)))
+      (λ is. other is ∙ ap (λ (b : Bool). if b then x else y) (sym (ne_eqb (key % buckets) number is)))
+
+  in_same : (key : ℕ) (x y z : Option ℕ) → key % buckets ≡ number → z ≡ (if key % buckets == number then x else y) → z ≡ x
+  in_same key x y z is e = e ∙ ap (λ (b : Bool). if b then x else y) (eq-eqb (key % buckets) number is)
+
+  in_other : (key : ℕ) (x y z : Option ℕ) → key % buckets ≢ number → z ≡ (if key % buckets == number then x else y) → z ≡ y
+  in_other key x y z is e = e ∙ ap (λ (b : Bool). if b then x else y) (ne_eqb (key % buckets) number is)
+
+  pub copied_none : ((key : ℕ) → key % buckets ≡ number → value_among before key ≡ None) → AreApart before → IsCopied 0 before
+  copied_none others apart = (λ key. either key None (value_among before key) (value_among before key) (others key) (λ is. refl), apart)
+
+  module _ (index : ℕ) (es : List (ℕ × ℕ)) (o : ObjectId) (at : slice_get os index ≡ Some o) (copied : IsCopied index es) where
+    abbrev key_at : ℕ
+    key_at = key_of (note o)
+
+    abbrev entry : ℕ × ℕ
+    entry = (key_at, value_of (note o))
+
+    one_more : (key : ℕ) → value_in note (take (index + 1) os) key ≡ or_else (value_in note (take index os) key) (value_among (entry ∷ []) key)
+    one_more key = ap (λ (l : List ObjectId). value_in note l key) (next_taken os index o at) ∙ in_both note (take index os) (o ∷ []) key
+
+    pub copied_skip : key_at % buckets ≢ number → IsCopied (index + 1) es
+    copied_skip apart = (
+      λ key. either key (value_in note (take (index + 1) os) key) (value_among before key) (value_among es key)
+          (λ is. in_same key (value_in note (take index os) key) (value_among before key) (value_among es key) is (copied.0 key)
+          ∙ sym (one_more key ∙ (ap (or_else (value_in note (take index os) key)) (one_among entry key (λ same. apart (ap (λ (n : ℕ). n % buckets) same ∙ is))) ∙ or_none (value_in note (take index os) key))))
+          (λ is. in_other key (value_in note (take index os) key) (value_among before key) (value_among es key) is (copied.0 key)),
+      copied.1,
+    )
+
+    pub copied_more : Falls note os → key_at % buckets ≡ number → IsCopied (index + 1) (es ++ entry ∷ [])
+    copied_more falls here = (
+      λ key. either key (value_in note (take (index + 1) os) key) (value_among before key) (value_among (es ++ entry ∷ []) key)
+          (λ is. among_both es (entry ∷ []) key ∙ (ap (λ (x : Option ℕ). or_else x (value_among (entry ∷ []) key)) (in_same key (value_in note (take index os) key) (value_among before key) (value_among es key) is (copied.0 key)) ∙ sym (one_more key)))
+          (λ is. among_both es (entry ∷ []) key ∙ (ap (or_else (value_among es key)) (one_among entry key (λ same. is (ap (λ (n : ℕ). n % buckets) (sym same) ∙ here)))
+          ∙ (or_none (value_among es key) ∙ in_other key (value_in note (take index os) key) (value_among before key) (value_among es key) is (copied.0 key)))),
+      more_apart es entry copied.1 (in_same key_at (value_in note (take index os) key_at) (value_among before key_at) (value_among es key_at) here (copied.0 key_at) ∙ none_before note os index o falls at),
+    )
+
+-- One more entry comes into the chain of its key, where `value` tells what a key has in a chain.
+module _ {X : Type 0} (value : Option X → ℕ → Option ℕ) (buckets : ℕ) (vs : List X) (done : List (ℕ × ℕ)) where
+  pub filled_more : (e : ℕ × ℕ) (v w : X) → slice_get vs (e.0 % buckets) ≡ Some v → value_among done e.0 ≡ None →
+      ((key : ℕ) → value (Some w) key ≡ (if e.0 == key then Some e.1 else value (Some v) key)) →
+      ((key : ℕ) → value (slice_get vs (key % buckets)) key ≡ value_among done key) →
+      (key : ℕ) → value (slice_get (set vs (e.0 % buckets) w) (key % buckets)) key ≡ value_among (done ++ e ∷ []) key
+  filled_more e v w at none first filled key =
+      let here : slice_get (set vs (e.0 % buckets) w) (e.0 % buckets) ≡ Some w = get_set_same vs (e.0 % buckets) w (get_low vs (e.0 % buckets) v at) in
+      dite (ℕ_discrete e.0 key)
+      (λ is. ap (λ (n : ℕ). value (slice_get (set vs (e.0 % buckets) w) (n % buckets)) key) (sym is)
+      ∙ (ap (λ (x : Option X). value x key) here ∙ (first key ∙ (ap (λ (b : Bool). if b then Some e.1 else value (Some v) key) (eq-eqb e.0 key is)
+      ∙ sym (among_both done (e ∷ []) key ∙ (ap (λ (x : Option ℕ). or_else x (value_among (e ∷ []) key)) (ap (value_among done) (sym is) ∙ none) ∙ ap (λ (b : Bool). if b then Some e.1 else None) (eq-eqb e.0 key is)))))))
+      (λ other. still here other ∙ (filled key ∙ sym (among_both done (e ∷ []) key ∙ (ap (or_else (value_among done key)) (one_among e key other) ∙ or_none (value_among done key)))))
+    where
+      get_low : (xs : List X) (k : ℕ) (x : X) → slice_get xs k ≡ Some x → k < length xs
+      get_low [] k x at = absurd (none_some x at)
+      get_low (y ∷ ys) zero x at = omega arith
+      get_low (y ∷ ys) (suc k) x at = let low = get_low ys k x at in omega arith
+
+      still : slice_get (set vs (e.0 % buckets) w) (e.0 % buckets) ≡ Some w → e.0 ≢ key → value (slice_get (set vs (e.0 % buckets) w) (key % buckets)) key ≡ value (slice_get vs (key % buckets)) key
+      still here other = dite (ℕ_discrete (key % buckets) (e.0 % buckets))
+          (λ same. ap (λ (n : ℕ). value (slice_get (set vs (e.0 % buckets) w) n) key) same
+          ∙ (ap (λ (x : Option X). value x key) here ∙ (first key ∙ (ap (λ (b : Bool). if b then Some e.1 else value (Some v) key) (ne_eqb e.0 key other)
+          ∙ (ap (λ (x : Option X). value x key) (sym at) ∙ ap (λ (n : ℕ). value (slice_get vs n) key) (sym same))))))
+          (λ apart. ap (λ (x : Option X). value x key) (get_set_other vs (e.0 % buckets) (key % buckets) w apart))
+
+-- more words that were found before these
+pub found_more : (sizes : Sizes) (found more : List (ℕ × ℕ)) → IsUsedUp sizes found ⊎ AreTaken sizes found → IsUsedUp sizes (found ++ more) ⊎ AreTaken sizes (found ++ more)
+found_more sizes found more = ⊎_elim
+    (λ (u : IsUsedUp sizes found). inl (u.0, in_left found more _ u.1, u.2))
+    (λ (t : AreTaken sizes found). inr (λ i low. let x = t i low in (x.0, in_left found more _ x.1, x.2)))
+
+-- the keys of the list that a writer knows differ
+pub falls_known : (qsbr : Bool) (v : View) → IsLiveRun qsbr tabled v.seen → IsListed v → Falls (note_of v.seen) (list_in v)
+falls_known qsbr v run listed = subst (Falls (note_of v.seen)) listed.0 ((tabled_maps qsbr).falls v.seen (own_in v.chains).chain run)
+
+-- after a walk each key has what it had
+pub value_walked : {S : Type 0} (qsbr : Bool) (c : ℕ) (m n : Me S View) → Went qsbr tabled m.0 m n → IsListed m.0 → (own_in m.0.chains).chain ≡ c → (key : ℕ) → value_at (Some n.0) key ≡ value_in (note_of m.0.seen) (list_in m.0) key
+value_walked qsbr c m n went listed is key =
+    ap (λ (x : ChainRight). value_in (note_of n.0.seen) x.objects key) (same_own qsbr tabled (tabled_maps qsbr) c m n went listed is)
+    ∙ value_same (note_of m.0.seen) (note_of n.0.seen) (list_in m.0) key (note_walked qsbr tabled (tabled_maps qsbr) c m n went listed is)
+
+-- what a writer got at an index after a walk
+module _ {S : Type 0} (qsbr : Bool) (c : ℕ) (m n p : Me S View) (went : Went qsbr tabled m.0 m n) (listed : IsListed m.0) (is : (own_in m.0.chains).chain ≡ c) (more : Went qsbr tabled n.0 n p) (index : ℕ) (o : ObjectId) (at : slice_get (list_in n.0) index ≡ Some o) where
+  pub got_at : slice_get (list_in m.0) index ≡ Some o
+  got_at = ap (λ (x : ChainRight). slice_get x.objects index) (sym (same_own qsbr tabled (tabled_maps qsbr) c m n went listed is)) ∙ at
+
+  pub got_words : (words : List ℕ) → words ≡ payload_of p.0.seen o → words ≡ words_in (note_of m.0.seen o).1
+  got_words words got = got ∙ ap (λ (x : ℕ × List ℕ). words_in x.1) (note_walked qsbr tabled (tabled_maps qsbr) c m p (went_both qsbr tabled m n p went more) listed is o (index_has (list_in m.0) index o got_at))
+
+-- A writer of a chain that holds copies: those of ranks below this one.
+pub record Holds (rank : ℕ) (v : View) : Type 0 where
+  pub keys : HasKeysIn v
+  pub unnoted : HasNoNote v
+  pub alone : IsAlone v
+  pub below : (o : ObjectId) → In (list_in v) o → rank_of (note_of v.seen o) < rank
+
+pub hold_nothing : (vs : List View) → Each IsEmpty vs → Each IsAlone vs → Each (Holds 0) vs
+hold_nothing [] empty alone = tt
+hold_nothing (v ∷ vs) empty alone = (
+  record {
+    keys = λ o h. absurd (subst (λ (l : List ObjectId). In l o) empty.0.0 h);
+    unnoted = empty.0.1;
+    alone = alone.0;
+    below = λ o h. absurd (subst (λ (l : List ObjectId). In l o) empty.0.0 h);
+  },
+  hold_nothing vs empty.1 alone.1,
+)
+
+pub no_value : (vs : List View) (index key : ℕ) → Each IsEmpty vs → value_at (slice_get vs index) key ≡ None
+no_value [] index key empty = refl
+no_value (v ∷ vs) zero key empty = ap (λ (l : List ObjectId). value_in (note_of v.seen) l key) empty.0.0
+no_value (v ∷ vs) (suc index) key empty = no_value vs index key empty.1
+
+-- the writer of a chain with no note puts in a copy with another key, and a rank above all others
+module _ (qsbr : Bool) (v : View) (seen heard owner : Log) (own : IsWriter v) (listed : IsListed v) (rank : ℕ) (holds : Holds rank v) (u : View) (key value : ℕ) (words : payload_in u.object ≡ words_of key value rank) where
+  pub may_put : value_at (Some v) key ≡ None → MayPublish qsbr tabled v seen heard owner (push_by v u)
+  may_put none = comes_in qsbr tabled (tabled_maps qsbr) IsUnnoted ((tabled_maps qsbr).takes) v seen heard owner own listed (λ log begins run note lent. note ∙ holds.unnoted) holds.keys u key value (record {
+    rank = rank;
+    words = words;
+    others = λ o h. (none_has (note_of v.seen) (list_in v) key none o h, holds.below o h);
+  })
+
+  module _ (w : View) (put : Publishes qsbr tabled v seen heard owner (push_by v u) w.seen) (list : list_in w ≡ object_in u.object ∷ list_in v) where
+    note_still : (o : ObjectId) → In (list_in v) o → note_of w.seen o ≡ note_of v.seen o
+    note_still o h =
+        let later : Begins v.seen w.seen = begins_trans v.seen put.before w.seen put.after.after_writer.0 (_ ∷ [], put.wrote) in
+        note_stays qsbr tabled v.seen w.seen o later put.run (chain_used qsbr tabled v.seen (own_in v.chains).chain o (run_of qsbr tabled v.seen w.seen later put.run) (subst (λ (l : List ObjectId). In l o) (sym listed.0) h))
+
+    note_put : note_of w.seen (object_in u.object) ≡ (cell_in u.object, words_of key value rank)
+    note_put = ap (λ (l : Log). note_of l (object_in u.object)) put.wrote ∙ (at_object_same (object_in u.object) (cell_in u.object, payload_in u.object) (note_of put.before) ∙ ap (λ (l : List ℕ). (cell_in u.object, l)) words)
+
+    pub put_value : (k : ℕ) → value_at (Some w) k ≡ (if key == k then Some value else value_at (Some v) k)
+    put_value k = ap (λ (l : List ObjectId). value_in (note_of w.seen) l k) list
+        ∙ (ap (λ (x : ℕ × List ℕ). if key_of x == k then Some (value_of x) else value_in (note_of w.seen) (list_in v) k) note_put
+        ∙ ap (λ (x : Option ℕ). if key == k then Some value else x) (value_same (note_of v.seen) (note_of w.seen) (list_in v) k note_still))
+
+    pub put_holds : (own_in w.chains).note ≡ (own_in v.chains).note → lent_chains w.chains ≡ lent_chains v.chains → Holds (rank + 1) w
+    put_holds note lent = record {
+      keys = keys_pushed qsbr tabled (tabled_maps qsbr) v w listed holds.keys seen heard owner u put (ap (λ (l : List ℕ). slice_index_or l 3 0) words) list;
+      unnoted = note ∙ holds.unnoted;
+      alone = lent ∙ holds.alone;
+      below = λ o h. ⊎_elim
+          (λ (is : object_in u.object ≡ o). let here : rank_of (note_of w.seen o) ≡ rank = ap (λ (p : ObjectId). rank_of (note_of w.seen p)) (sym is) ∙ ap rank_of note_put in omega arith)
+          (λ (was : In (list_in v) o). let low = holds.below o was in let same : rank_of (note_of w.seen o) ≡ rank_of (note_of v.seen o) = ap rank_of (note_still o was) in omega arith)
+          (subst (λ (l : List ObjectId). In l o) list h);
+    }
+
+-- the others hold copies of ranks below the next one too
+pub holds_next : (rank : ℕ) (v : View) → Holds rank v → Holds (rank + 1) v
+holds_next rank v holds = record { keys = holds.keys; unnoted = holds.unnoted; alone = holds.alone; below = λ o h. let low = holds.below o h in omega arith }
+
+-- the first of the entries that are left comes behind those that are done
+module _ {X : Type 0} (pair : X → ℕ × ℕ) (rank : X → ℕ) (all done : List (ℕ × ℕ)) (items rest : List X) (x : X) (is : items ≡ x ∷ rest) where
+  pub split_next : all ≡ done ++ map pair items → all ≡ (done ++ pair x ∷ []) ++ map pair rest
+  split_next split = split ∙ (ap (λ (l : List X). done ++ map pair l) is ∙ sym (append_assoc done (pair x ∷ []) (map pair rest)))
+
+  pub next_new : all ≡ done ++ map pair items → AreApart all → value_among done (pair x).0 ≡ None
+  next_new split apart = apart_before done (map pair rest) (pair x) (subst AreApart (split ∙ ap (λ (l : List X). done ++ map pair l) is) apart)
+
+  pub ranked_next : (n : ℕ) → AreRanked n (map rank items) → (rank x ≡ n) × AreRanked (n + 1) (map rank rest)
+  ranked_next n ranked = subst (λ (l : List X). AreRanked n (map rank l)) is ranked

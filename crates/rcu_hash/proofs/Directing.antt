@@ -1,0 +1,91 @@
+-- A bucket to which a directory led answers for the table: while the directory is linked, and afterwards by what the table
+-- had when another one took its place, since the bucket stays as long as a section of then is open.
+use Rattle.std.proofs.Common.{Bool, ◌≡◌, ℕ, ◌+◌, ◌<◌, ◌&&◌, List, [], ◌∷◌, ◌++◌, append_assoc, Option, Some, None, cond, true, false, refl, sym, ap, ◌∙◌, subst, inl, inr, ⊎_elim, arith}
+use Rattle.std.proofs.lemmas.Bool.{eqb-true, ltb-true}
+use Rattle.std.proofs.lemmas.Nat.{mod_below}
+use mathlib.Core.Option.{some}
+use Rattle.rcu_model.specs.declared.event.ObjectId.{ObjectId}
+use Rattle.rcu_model.specs.Sets.{In, first_of}
+use Rattle.rcu_model.proofs.Lemmas.{first_has}
+use Rattle.live_log.specs.declared.event.LiveEvent.{LiveEvent}
+use Rattle.live_log.specs.declared.event.LiveEvent.TheVariants.{Close, Object}
+use Rattle.live_log.specs.declared.event.ObjectEvent.TheVariants.{Replace}
+use Rattle.live_log.specs.Log.{Log, Begins, Has, IsLiveRun, note_of, open_of, state_of}
+use Rattle.live_log.specs.Tables.{IsDirectory, IsReplaced, Names, kind_of, tabled}
+use Rattle.live_log.proofs.Lemmas.{begins_trans, chain_used, directory_alone, directory_there, has_later, left_stays, linked_or_replaced, note_stays, run_of, still}
+use Rattle.rcu_list.specs.Maps.{map_of, value_in}
+use Rattle.rcu_list.proofs.Lemmas.{value_same}
+use Rattle.rcu_hash.specs.Directories.{AnswersThrough, bucket_in, buckets_in, directed_map, leads, value_through}
+
+-- both of two facts
+pub both : (a b : Bool) → (a && b) ≡ true → (a ≡ true) × (b ≡ true)
+both true b is = (refl, is)
+both false b is = cc
+
+module _ (chains key : ℕ) (x : ℕ × List ℕ) (led : leads chains x key ≡ true) where
+  leads_by : (kind_of x ≡ 1) × (0 < buckets_in x) × (bucket_in x key < chains)
+  leads_by = let p = both _ _ led in let q = both _ _ p.1 in (eqb-true (kind_of x) 1 p.0, ltb-true 0 (buckets_in x) q.0, ltb-true (bucket_in x key) chains q.1)
+
+  names : Names x (bucket_in x key)
+  names = let m = mod_below key (buckets_in x) leads_by.1 in (omega arith, omega arith)
+
+  -- where that directory is linked the table has what the bucket has
+  pub directed_is : (log : Log) (d : ℕ) (o : ObjectId) → (state_of log).chain d ≡ o ∷ [] → note_of log o ≡ x → directed_map chains d log key ≡ map_of log (bucket_in x key) key
+  directed_is log d o alone note =
+      ap (λ (l : List ObjectId). value_through chains log (first_of l) key) alone
+      ∙ (ap (λ (y : ℕ × List ℕ). cond (leads chains y key) (map_of log (bucket_in y key) key) None) note
+      ∙ ap (λ (b : Bool). cond b (map_of log (bucket_in x key) key) None) led)
+
+module _ (qsbr : Bool) where
+  -- of two logs in which a chain has the same objects
+  map_same : (old log : Log) (c key : ℕ) → Begins old log → IsLiveRun qsbr tabled log → (state_of log).chain c ≡ (state_of old).chain c → map_of log c key ≡ map_of old c key
+  map_same old log c key b run same = ap (λ (os : List ObjectId). value_in (note_of log) os key) same
+      ∙ value_same (note_of old) (note_of log) ((state_of old).chain c) key (λ o h. note_stays qsbr tabled old log o b run (chain_used qsbr tabled old c o (run_of qsbr tabled old log b run) h))
+
+  module _ (start at log : Log) (chains d key : ℕ) (o : ObjectId) (slot ordinal copied : ℕ) (since : Begins start at) (later : Begins at log) (run : IsLiveRun qsbr tabled log) (first : first_of ((state_of start).chain d) ≡ Some o) (led : leads chains (note_of start o) key ≡ true) (opened : open_of slot start ≡ some (ordinal, copied)) (inside : ¬ Has (Close slot ordinal) log) where
+    abbrev words : ℕ × List ℕ
+    words = note_of start o
+
+    run_at : IsLiveRun qsbr tabled at
+    run_at = run_of qsbr tabled at log later run
+
+    linked : In ((state_of start).chain d) o
+    linked = first_has ((state_of start).chain d) o first
+
+    directory : IsDirectory words
+    directory = directory_there qsbr start d o (run_of qsbr tabled start at since run_at) linked (leads_by chains key words led).0
+
+    note_later : (now : Log) → Begins start now → IsLiveRun qsbr tabled now → note_of now o ≡ words
+    note_later now b here = note_stays qsbr tabled start now o b here (chain_used qsbr tabled start d o (run_of qsbr tabled start now b here) linked)
+
+    -- the directory is linked in a log, where the bucket has this answer
+    by_linked : (now : Log) → Begins start now → Begins now log → In ((state_of now).chain d) o → map_of now (bucket_in words key) key ≡ map_of at (bucket_in words key) key → AnswersThrough start start log chains d key (map_of at (bucket_in words key) key)
+    by_linked now b goes still_there same =
+        let here = run_of qsbr tabled now log goes run in let note = note_later now b here in record {
+          at = now;
+          after_seen = b;
+          after_heard = b;
+          before = goes;
+          is = directed_is chains key words led now d o (directory_alone qsbr now d o here still_there (subst IsDirectory (sym note) directory)) note ∙ same;
+        }
+
+    by_replaced : IsReplaced start at d o → AnswersThrough start start log chains d key (map_of at (bucket_in words key) key)
+    by_replaced r =
+        let e : LiveEvent = Object (Replace d o r.new r.cell r.payload) in
+        let before : Begins r.before at = (r.since ++ e ∷ [], r.is ∙ sym (append_assoc r.since (e ∷ []) r.before)) in
+        let goes = begins_trans r.before at log before later in
+        let here = run_of qsbr tabled r.before log goes run in
+        let note = note_later r.before r.after here in
+        let open_then : open_of slot r.before ≡ some (ordinal, copied) = ⊎_elim
+        (λ (closed : Has (Close slot ordinal) (r.after.0 ++ start)). absurd (inside (subst (Has (Close slot ordinal)) (sym goes.1) (has_later (Close slot ordinal) goes.0 r.before (subst (Has (Close slot ordinal)) (sym r.after.1) closed)))))
+        (λ (h : open_of slot (r.after.0 ++ start) ≡ some (ordinal, copied)). ap (open_of slot) r.after.1 ∙ h)
+        (still qsbr tabled r.after.0 start slot ordinal copied (subst (IsLiveRun qsbr tabled) r.after.1 here) opened) in
+        let stays = left_stays qsbr at r.since r.before (bucket_in words key) d o r.new r.cell r.payload slot ordinal copied run_at r.is (subst IsDirectory (sym note) directory) (subst (λ (x : ℕ × List ℕ). Names x (bucket_in words key)) (sym note) (names chains key words led)) open_then
+        (λ closed. inside (subst (Has (Close slot ordinal)) (sym later.1) (has_later (Close slot ordinal) later.0 at closed))) in
+        by_linked r.before r.after goes r.linked (sym (map_same r.before at (bucket_in words key) key before run_at stays))
+
+    pub answers_for_table : AnswersThrough start start log chains d key (map_of at (bucket_in words key) key)
+    answers_for_table = ⊎_elim
+        (λ (h : In ((state_of at).chain d) o). by_linked at since later h refl)
+        (λ (r : IsReplaced start at d o). by_replaced r)
+        (linked_or_replaced qsbr start at d o since run_at linked directory)

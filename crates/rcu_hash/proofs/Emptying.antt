@@ -1,0 +1,284 @@
+-- What an earlier directory left is free once a grace period has been waited for, and no part of the table's map.
+use Rattle.std.proofs.Common.{Bool, ◌≡◌, ◌≢◌, ◌⊎◌, ℕ, ◌+◌, ◌%◌, ◌<◌, ◌≤◌, List, [], ◌∷◌, ◌++◌, append_assoc, Some, length, map, take, suc, zero, slice_get, slice_index_or, refl, sym, ap, ◌∙◌, subst, inl, inr, ⊎_elim, arith}
+use Rattle.std.specs.Prelude.{Result, Ok, Err, IfOk, IfErr}
+use Rattle.std.proofs.Math.Logic.{∥∥₁_elim, ∥∥₁_map, ∥∥₁_map₂}
+use Rattle.std.proofs.lemmas.List.{append-nil, length-append, map-append}
+use Rattle.std.proofs.lemmas.Nat.{mod_below}
+use Rattle.rcu_model.specs.declared.event.ObjectId.{ObjectId}
+use Rattle.rcu_model.specs.declared.refusal.Refusal.{Refusal}
+use Rattle.rcu_model.specs.Sets.{In, same_object, without_object}
+use Rattle.rcu_model.proofs.Lemmas.{Once, Tells, at_number_same, none_some, object_tells, some_is}
+use Rattle.live_log.specs.declared.event.LiveEvent.{LiveEvent}
+use Rattle.live_log.specs.declared.event.LiveEvent.TheVariants.{ChainNote, Close, Object}
+use Rattle.live_log.specs.declared.event.ObjectEvent.TheVariants.{Cut, Queue, Retire}
+use Rattle.live_log.specs.Keys.{Falls}
+use Rattle.live_log.specs.Log.{Log, Begins, Has, HaveEnded, IsLiveRun, chain_note, note_of, state_of}
+use Rattle.live_log.specs.Tables.{HasKey, IsDirectory, IsFree, IsNamed, tabled}
+use Rattle.live_log.proofs.Lemmas.{begins_trans, chain_used, falls_cut, has_later, is_noted, kept_log, left_is_freed, linked_between, note_stays, run_of, tabled_maps}
+use Rattle.live_rule.specs.declared.rights.ChainRight.{ChainRight}
+use Rattle.live_rule.specs.declared.view.Sizes.{Sizes}
+use Rattle.live_rule.specs.declared.view.View.{View}
+use Rattle.live_table.specs.Rights.{AreAsKnown, IsListed, IsWriter, own_in}
+use Rattle.live_items.specs.Retiring.{Queues}
+use Rattle.live_read.specs.Hearing.{OnlyHears}
+use Rattle.live_read.specs.declared.witness.Witness.{Ghosts}
+use Rattle.live_reclaim.specs.Refusing.{RefusesRetirement}
+use Rattle.live_write.specs.Chains.{MayPublish, list_in}
+use Rattle.rcu_list.specs.Maps.{map_of, value_in}
+use Rattle.rcu_list.proofs.Lemmas.{KnowsKeys, stays_both, value_same}
+use Rattle.rcu_hash.specs.Directories.{directed_map}
+use Rattle.rcu_hash.specs.Naming.{words_by}
+use Rattle.rcu_hash.specs.Tables.{bucket_of}
+use Rattle.rcu_hash.specs.Tidying.{ClearsNote, Cuts, Clears, Does, FindsMore, Follow, HasWaited, IsLeft, IsRefused, Kind, LeavesMap, Retires, Tidies, Uses, objects_in, retired_by, retired_in}
+use Rattle.rcu_hash.specs.Writers.{Each, HasKeysIn, HasNote, IsAlone, IsOutside}
+use Rattle.rcu_hash.proofs.Held.{each_last}
+use Rattle.rcu_hash.proofs.Named.{directed_between, lent_is, words_later}
+
+ended_later : (before known log : Log) → Begins known log → HaveEnded before known → HaveEnded before log
+ended_later before known log b ended r n m opened = subst (Has (Close r n)) (sym b.1) (has_later (Close r n) b.0 known (ended r n m opened))
+
+-- what was waited for was so in a later log
+pub waited_later : (d : ℕ) (o : ObjectId) (log later : Log) → Begins log later → HasWaited d o log → HasWaited d o later
+waited_later d o log later b w = record { known = w.known; mark = w.mark; after = w.after; before = begins_trans w.mark log later w.before b; linked = w.linked; directory = w.directory; ended = ended_later w.mark log later b w.ended }
+
+-- the words of a directory make it one
+pub by_words : (x : ℕ × List ℕ) (first buckets : ℕ) → x.1 ≡ words_by first buckets → IsDirectory x
+by_words x first buckets words = subst (λ (w : List ℕ). IsDirectory (x.0, w)) (sym words) (refl, refl)
+
+-- a list without its first object is one shorter
+without_absent : (xs : List ObjectId) (o : ObjectId) → ¬ In xs o → without_object o xs ≡ xs
+without_absent [] o none = refl
+without_absent (x ∷ xs) o none = by (without_absent xs o (λ h. none (inr h))) (object_tells x o)
+  where
+    by : without_object o xs ≡ xs → Tells (same_object x o) x o → without_object o (x ∷ xs) ≡ x ∷ xs
+    by same (inl y) = absurd (none (inl y.1))
+    by same (inr n) = rw n.0 (ap (λ (l : List ObjectId). x ∷ l) same)
+
+pub one_fewer : (xs : List ObjectId) (o : ObjectId) → Once xs → slice_get xs 0 ≡ Some o → length xs ≡ length (without_object o xs) + 1
+one_fewer [] o once at = absurd (none_some o at)
+one_fewer (x ∷ xs) o once at = by (object_tells x o)
+  where
+    is : x ≡ o
+    is = some_is x o at
+
+    by : Tells (same_object x o) x o → length (x ∷ xs) ≡ length (without_object o (x ∷ xs)) + 1
+    by (inl y) = rw y.0 (let same = ap length (without_absent xs o (λ h. once.0 (subst (In xs) (sym is) h))) in omega arith)
+    by (inr n) = absurd (n.1 is)
+
+-- the one object of a list
+only : (p o : ObjectId) → In (p ∷ []) o → p ≡ o
+only p o (inl is) = is
+only p o (inr h) = absurd h
+
+module _ (qsbr : Bool) where
+  -- each object of a writer's list is there once
+  pub listed_once : (v : View) → IsListed v → IsLiveRun qsbr tabled v.seen → Once (list_in v)
+  listed_once v listed run = subst Once listed.0 ((kept_log qsbr tabled v.seen run).linking.once (own_in v.chains).chain)
+
+  -- a chain with the note of the directory is free, where that is linked still
+  pub left_free : (d : ℕ) (o : ObjectId) (heard log : Log) (c : ℕ) → HasWaited d o heard → Begins heard log → IsLiveRun qsbr tabled log → (state_of log).chain d ≡ o ∷ [] → chain_note c log ≡ d + 1 → IsFree log c
+  left_free d o heard log c w b run is noted =
+      let goes : Begins w.mark log = begins_trans w.mark heard log w.before b in
+      let here : In ((state_of log).chain d) o = subst (λ (l : List ObjectId). In l o) (sym is) (inl refl) in
+      let at : In ((state_of w.mark).chain d) o = linked_between qsbr w.known w.mark log d o w.after goes run w.linked w.directory here in
+      let then = run_of qsbr tabled w.mark log goes run in
+      let same = note_stays qsbr tabled w.known w.mark o w.after then (chain_used qsbr tabled w.known d o (run_of qsbr tabled w.known w.mark w.after then) w.linked) in
+      left_is_freed qsbr w.mark log c d o goes run at here (subst IsDirectory (sym same) w.directory) noted (ended_later w.mark heard log b w.ended)
+
+  -- a chain that an event leaves has the map that it had
+  other_map : (e : LiveEvent) (before : Log) (c k : ℕ) → IsLiveRun qsbr tabled (e ∷ before) → (state_of (e ∷ before)).chain c ≡ (state_of before).chain c → map_of (e ∷ before) c k ≡ map_of before c k
+  other_map e before c k run same = ap (λ (os : List ObjectId). value_in (note_of (e ∷ before)) os k) same
+      ∙ value_same (note_of before) (note_of (e ∷ before)) ((state_of before).chain c) k (λ o h. note_stays qsbr tabled before (e ∷ before) o (e ∷ [], refl) run (chain_used qsbr tabled before c o run.1 h))
+
+  -- an event that leaves each other chain leaves the table's map
+  pub map_left : (chains first buckets d c : ℕ) (o : ObjectId) (e : LiveEvent) (before log : Log) → 0 < buckets → first + buckets ≤ chains → log ≡ e ∷ before → IsLiveRun qsbr tabled log → (state_of before).chain d ≡ o ∷ [] → (note_of before o).1 ≡ words_by first buckets → ((k : ℕ) → k ≢ c → (state_of (e ∷ before)).chain k ≡ (state_of before).chain k) → d ≢ c → ∥ (c < first) ⊎ (first + buckets ≤ c) ∥₁ → (key : ℕ) → directed_map chains d log key ≡ directed_map chains d before key
+  map_left chains first buckets d c o e before log many fits wrote run alone words others apart outside key =
+      let step : IsLiveRun qsbr tabled (e ∷ before) = subst (IsLiveRun qsbr tabled) wrote run in
+      let alone' : (state_of (e ∷ before)).chain d ≡ o ∷ [] = others d apart ∙ alone in
+      let used = chain_used qsbr tabled before d o step.1 (subst (λ (l : List ObjectId). In l o) (sym alone) (inl refl)) in
+      let words' = words_later qsbr before (e ∷ before) o (e ∷ [], refl) step first buckets used words in
+      let b : ℕ = bucket_of first buckets key in
+      let low = mod_below key buckets many in
+      let other : b ≢ c = λ is. ∥∥₁_elim outside (λ x y. absurd x) (λ out. ⊎_elim (λ under. absurd (omega (arith, is, under))) (λ over. absurd (omega (arith, is, over, low))) out) in
+      ap (λ (l : Log). directed_map chains d l key) wrote
+      ∙ (directed_between chains first buckets many fits qsbr d o (e ∷ before) (e ∷ before) (e ∷ before) ([], refl) ([], refl) step alone' alone' words' key
+      ∙ (other_map e before b key step (others b other)
+      ∙ sym (directed_between chains first buckets many fits qsbr d o before before before ([], refl) ([], refl) step.1 alone alone words key)))
+
+  -- the writer of such a chain, while the directory's right is lent to it
+  module _ (v : View) (d : ℕ) (o : ObjectId) (y x : ChainRight) (is : v.chains ≡ y ∷ x ∷ []) (lent : x.chain ≡ d) (alone : x.objects ≡ o ∷ []) (own : IsWriter v) (listed : IsListed v) (noted : (own_in v.chains).note ≡ d + 1) where
+    abbrev c : ℕ
+    c = (own_in v.chains).chain
+
+    pub directed_there : (log : Log) → AreAsKnown log v.chains → (state_of log).chain d ≡ o ∷ []
+    directed_there log known = lent_is log v.chains y x o d is known alone lent
+
+    noted_there : (log : Log) → AreAsKnown log v.chains → chain_note c log ≡ d + 1
+    noted_there log known = (subst (AreAsKnown log) own known).0.1 ∙ noted
+
+    -- the directory's chain has another note
+    pub apart_there : (log : Log) → AreAsKnown log v.chains → x.note ≡ 0 → d ≢ c
+    apart_there log known none same =
+        let one : chain_note d log ≡ 0 = ap (λ (k : ℕ). chain_note k log) (sym lent) ∙ ((subst (AreAsKnown log) is known).1.0.1 ∙ none) in
+        let two : chain_note d log ≡ d + 1 = ap (λ (k : ℕ). chain_note k log) same ∙ noted_there log known in
+        absurd (omega (arith, one, two))
+
+    module _ (seen heard : Log) (waited : HasWaited d o heard) where
+      pub may_cut_left : KnowsKeys v → (p : ObjectId) → In (list_in v) p → MayPublish qsbr tabled v seen heard [] (Object (Cut c p))
+      may_cut_left keys p at log on run known made =
+          let free = left_free d o heard log c waited on.after_caller.1 run (directed_there log known) (noted_there log known) in
+          let then = run_of qsbr tabled v.seen log on.after_writer.0 run in
+          let note = note_stays qsbr tabled v.seen log p on.after_writer.0 run (chain_used qsbr tabled v.seen c p then (subst (λ (l : List ObjectId). In l p) (sym listed.0) at)) in (
+            free,
+            subst HasKey (sym note) (keys p at),
+            subst (Falls (note_of log)) (sym (at_number_same c (without_object p ((state_of log).chain c)) (state_of log).chain)) (falls_cut (note_of log) ((state_of log).chain c) p ((tabled_maps qsbr).falls log c run)),
+          )
+
+      pub may_clear_left : (n first buckets : ℕ) → c ≡ n → list_in v ≡ [] → In (state_of v.seen).used o → (note_of v.seen o).1 ≡ words_by first buckets → ∥ (c < first) ⊎ (first + buckets ≤ c) ∥₁ → MayPublish qsbr tabled v seen heard [] (ChainNote n 0)
+      may_clear_left n first buckets number nothing used words outside log on run known made =
+          let free = left_free d o heard log c waited on.after_caller.1 run (directed_there log known) (noted_there log known) in
+          let none : (state_of log).chain c ≡ [] = (subst (AreAsKnown log) own known).0.0 ∙ nothing in
+          let then : (note_of log o).1 ≡ words_by first buckets = words_later qsbr v.seen log o on.after_writer.0 run first buckets used words in
+          let unnamed : ¬ IsNamed log c = λ m.
+          let its : chain_note c log ≡ m.chain + 1 = (is_noted qsbr log c m.chain m.object run m.linked m.directory m.names).1 in
+          let mine = noted_there log known in
+          let here : m.chain ≡ d = omega (arith, its, mine) in
+          let same : o ≡ m.object = only o m.object (subst (λ (l : List ObjectId). In l m.object) (ap (state_of log).chain here ∙ directed_there log known) m.linked) in
+          let its_words : (note_of log m.object).1 ≡ words_by first buckets = ap (λ (p : ObjectId). (note_of log p).1) (sym same) ∙ then in
+          let low : first ≤ c = subst (λ (w : List ℕ). slice_index_or w 0 0 ≤ c) its_words m.names.0 in
+          let high : c < first + buckets = subst (λ (w : List ℕ). c < slice_index_or w 0 0 + slice_index_or w 1 0) its_words m.names.1 in
+          ∥∥₁_elim outside (λ p q. absurd p) (λ out. ⊎_elim (λ under. absurd (omega (arith, low, under))) (λ over. absurd (omega (arith, high, over))) out) in
+          subst (λ (k : ℕ). tabled log (ChainNote k 0)) number (inr (refl, free, none, unnamed))
+
+-- what a refused retirement tells
+module _ {W : Type 0} (w : Ghosts W) (qsbr : Bool) (allows : Log → LiveEvent → Type 0) (sizes : Sizes) (q : ℕ) (old new : W) (e : Refusal) (r : RefusesRetirement w qsbr allows sizes q old new e) where
+  pub refused_why : IsRefused w old new e
+  refused_why = ⊎_elim (λ closed. inl (closed.0, (q, sym r.told ∙ closed.1))) (λ memory. inr memory.0) r.why
+
+  pub refused_finds : FindsMore w old new
+  refused_finds = (r.same.0, r.same.1, (_ ∷ [], r.looked))
+
+-- what goes on
+module _ {W : Type 0} (w : Ghosts W) where
+  pub only_finds : (a b : W) → OnlyHears w a b → FindsMore w a b
+  only_finds a b h = (h.0.0, h.1, ([], h.0.1))
+
+  pub finds_both : (a b c : W) → FindsMore w a b → FindsMore w b c → FindsMore w a c
+  finds_both a b c x y = (stays_both w a b c x.0 y.0, y.1 ∙ x.1, (y.2.0 ++ x.2.0, y.2.1 ∙ (ap (λ (l : List (ℕ × ℕ)). y.2.0 ++ l) x.2.1 ∙ sym (append_assoc y.2.0 x.2.0 (w.looks a)))))
+
+  pub finds_none : (a : W) → FindsMore w a a
+  finds_none a = ((refl, refl, refl, λ h. h), refl, ([], refl))
+
+-- a retirement is heard of after what came before it
+pub queued_later : (qsbr : Bool) (allows : Log → LiveEvent → Type 0) (at : Log → Type 0) (o : ObjectId) (queue given : ℕ) (known log : Log) (r : Queues qsbr allows at o queue given log) → Begins known r.before → Begins known log
+queued_later qsbr allows at o queue given known log r b =
+    begins_trans known r.within log (begins_trans known (Object (Retire o) ∷ r.before) r.within (begins_trans known r.before (Object (Retire o) ∷ r.before) b (Object (Retire o) ∷ [], refl)) r.retired) (Object (Queue o queue) ∷ [], r.wrote)
+
+module _ (qsbr : Bool) (allows : Log → LiveEvent → Type 0) (sizes : Sizes) (d : ℕ) (seen : Log) where
+  leaves_weaker : (known heard log : Log) (e : LiveEvent) → Begins known heard → LeavesMap qsbr allows sizes d seen heard e log → LeavesMap qsbr allows sizes d seen known e log
+  leaves_weaker known heard log e b l = record { before = l.before; wrote = l.wrote; after = (l.after.0, begins_trans known heard l.before b l.after.1); run = l.run; map = l.map }
+
+  does_weaker : (known heard log : Log) (k : Kind) → Begins known heard → Does qsbr allows sizes d seen heard k log → Does qsbr allows sizes d seen known k log
+  does_weaker known heard log Cuts b r = record { chain = r.chain; object = r.object; ticket = r.ticket; published = r.published; leaves = leaves_weaker known heard r.published (Object (Cut r.chain r.object)) b r.leaves; hands = r.hands }
+  does_weaker known heard log Retires b r = record { chain = r.chain; object = r.object; given = r.given; queued = let q = r.queued in record { before = q.before; at = (q.at.0, begins_trans known heard q.before b q.at.1); within = q.within; retired = q.retired; wrote = q.wrote; last = q.last; run = q.run } }
+  does_weaker known heard log Clears b r = record { chain = r.chain; leaves = leaves_weaker known heard log (ChainNote r.chain 0) b r.leaves }
+
+  follow_weaker : (known heard log : Log) (ss : List (Kind × Log)) → Begins known heard → Follow qsbr allows sizes d seen heard ss log → Follow qsbr allows sizes d seen known ss log
+  follow_weaker known heard log [] b f = begins_trans known heard log b f
+  follow_weaker known heard log (s ∷ ss) b f = (does_weaker known heard s.1 s.0 b f.0, f.1)
+
+  follow_both : (heard mid log : Log) (ss ts : List (Kind × Log)) → Follow qsbr allows sizes d seen heard ss mid → Follow qsbr allows sizes d seen mid ts log → Follow qsbr allows sizes d seen heard (ss ++ ts) log
+  follow_both heard mid log [] ts f g = follow_weaker heard mid log ts f g
+  follow_both heard mid log (s ∷ ss) ts f g = (f.0, follow_both s.1 mid log ss ts f.1 g)
+
+  many_both : (ss ts : List (Kind × Log)) → retired_in (ss ++ ts) ≡ retired_in ss + retired_in ts
+  many_both [] ts = omega arith
+  many_both (s ∷ ss) ts = let rest = many_both ss ts in omega arith
+
+  -- what was heard of at the end began with what was before
+  pub heard_on : (known heard log : Log) (ss : List (Kind × Log)) → Begins known heard → Follow qsbr allows sizes d seen heard ss log → Begins known log
+  heard_on known heard log [] b f = begins_trans known heard log b f
+  heard_on known heard log ((Cuts, at) ∷ ss) b f = let r = f.0 in let p = r.leaves in
+      heard_on known at log ss (queued_later qsbr allows (Begins r.published) r.object (r.chain % sizes.queues) r.hands.given known at r.hands.queued
+      (begins_trans known r.published r.hands.queued.before (begins_trans known p.before r.published (begins_trans known heard p.before b p.after.1) (_ ∷ [], p.wrote)) r.hands.queued.at)) f.1
+  heard_on known heard log ((Retires, at) ∷ ss) b f = let r = f.0 in
+      heard_on known at log ss (queued_later qsbr allows _ r.object (r.chain % sizes.queues) r.given known at r.queued (begins_trans known heard r.queued.before b r.queued.at.1)) f.1
+  heard_on known heard log ((Clears, at) ∷ ss) b f = let p = f.0.leaves in
+      heard_on known at log ss (begins_trans known p.before at (begins_trans known heard p.before b p.after.1) (_ ∷ [], p.wrote)) f.1
+
+  module _ {D : Type 0} where
+    pub uses_none : (jobs : List D) (heard log : Log) → Begins heard log → Uses qsbr allows sizes d seen jobs jobs heard log
+    uses_none jobs heard log b = record { used = []; are = sym (append-nil jobs); steps = []; follow = b; many = refl }
+
+    pub uses_both : (jobs mid left : List D) (heard then log : Log) → Uses qsbr allows sizes d seen jobs mid heard then → Uses qsbr allows sizes d seen mid left then log → Uses qsbr allows sizes d seen jobs left heard log
+    uses_both jobs mid left heard then log x y = record {
+      used = y.used ++ x.used;
+      are = x.are ∙ (ap (λ (l : List D). l ++ x.used) y.are ∙ append_assoc left y.used x.used);
+      steps = x.steps ++ y.steps;
+      follow = follow_both heard then log x.steps y.steps x.follow y.follow;
+      many = let a = many_both x.steps y.steps in let b = length-append y.used x.used in let c = x.many in let e = y.many in omega arith;
+    }
+
+    -- one callback for one step
+    pub uses_one : (jobs left : List D) (job : D) (heard log : Log) (k : Kind) → retired_by k ≡ 1 → jobs ≡ left ++ job ∷ [] → Does qsbr allows sizes d seen heard k log → Uses qsbr allows sizes d seen jobs left heard log
+    uses_one jobs left job heard log k one are does = record { used = job ∷ []; are = are; steps = (k, log) ∷ []; follow = (does, ([], refl)); many = omega (arith, one) }
+
+    pub uses_no : (jobs : List D) (heard log : Log) → ClearsNote qsbr allows sizes d seen heard log → Uses qsbr allows sizes d seen jobs jobs heard log
+    uses_no jobs heard log does = record { used = []; are = sym (append-nil jobs); steps = (Clears, log) ∷ []; follow = (does, ([], refl)); many = refl }
+
+-- what is so of a result in one case
+pub ok_on : {A E : Type 0} (r : Result A E) (P Q : A → Type 0) → ((x : A) → P x → Q x) → IfOk r P → IfOk r Q
+ok_on (Ok x) P Q f p = f x p
+ok_on (Err e) P Q f p = tt
+
+pub err_on : {A E : Type 0} (r : Result A E) (P Q : E → Type 0) → ((e : E) → P e → Q e) → IfErr r P → IfErr r Q
+err_on (Ok x) P Q f p = tt
+err_on (Err e) P Q f p = f e p
+
+pub err_both : {A E : Type 0} (r : Result A E) (P Q R : E → Type 0) → IfErr r P → IfErr r Q → ((e : E) → P e → Q e → R e) → IfErr r R
+err_both (Ok x) P Q R p q f = tt
+err_both (Err e) P Q R p q f = f e p q
+
+-- how many objects more chains have
+pub objects_both : (vs ws : List View) → objects_in (vs ++ ws) ≡ objects_in vs + objects_in ws
+objects_both [] ws = omega arith
+objects_both (v ∷ vs) ws = let rest = objects_both vs ws in omega arith
+
+-- the writers of what an earlier directory left, by what is known of each
+pub each_left : (d first buckets : ℕ) (vs : List View) → Each IsAlone vs → Each HasKeysIn vs → Each (HasNote (d + 1)) vs → ∥ Each (IsOutside first buckets) vs ∥₁ → Each (IsLeft d first buckets) vs
+each_left d first buckets [] alone keys notes outside = tt
+each_left d first buckets (v ∷ vs) alone keys notes outside = ((alone.0, keys.0, notes.0, ∥∥₁_map outside (λ h. h.0)), each_left d first buckets vs alone.1 keys.1 notes.1 (∥∥₁_map outside (λ h. h.1)))
+
+pub all_outside : (d first buckets : ℕ) (vs : List View) → Each (IsLeft d first buckets) vs → ∥ Each (IsOutside first buckets) vs ∥₁
+all_outside d first buckets [] all = ∣ tt ∣₁
+all_outside d first buckets (v ∷ vs) all = ∥∥₁_map₂ all.0.3 (all_outside d first buckets vs all.1) (λ h hs. (h, hs))
+
+-- all but the last one, and that one
+pub each_pop : {X : Type 0} (P : X → Type 0) (xs : List X) (x : X) → Each P (xs ++ x ∷ []) → Each P xs × P x
+each_pop P [] x all = (tt, all.0)
+each_pop P (y ∷ ys) x all = let rest = each_pop P ys x all.1 in ((all.0, rest.0), rest.1)
+
+-- of a list without its last entry
+pub each_popped : {X : Type 0} (xs all : List X) (x : X) (f : X → View) (P : View → Type 0) → all ≡ xs ++ x ∷ [] → Each P (map f all) → Each P (map f xs) × P (f x)
+each_popped xs all x f P is so = each_pop P (map f xs) (f x) (subst (λ vs. Each P vs) (ap (map f) is ∙ map-append f xs (x ∷ [])) so)
+
+-- and with another one behind it
+pub each_pushed : {X : Type 0} (xs all : List X) (x : X) (f : X → View) (P : View → Type 0) → all ≡ xs ++ x ∷ [] → Each P (map f xs) → P (f x) → Each P (map f all)
+each_pushed xs all x f P is so one = subst (λ vs. Each P vs) (sym (ap (map f) is ∙ map-append f xs (x ∷ []))) (each_last P (map f xs) (f x) so one)
+
+pub objects_pushed : {X : Type 0} (xs all : List X) (x : X) (f : X → View) → all ≡ xs ++ x ∷ [] → 0 < length (list_in (f x)) → 0 < objects_in (map f all)
+objects_pushed xs all x f is some = let sum = ap objects_in (ap (map f) is ∙ map-append f xs (x ∷ [])) ∙ objects_both (map f xs) (f x ∷ []) in omega (arith, sum, some)
+
+-- how many the first ones have, with one more
+pub objects_taken : {X : Type 0} (xs : List X) (i : ℕ) (x : X) (f : X → View) → slice_get xs i ≡ Some x → objects_in (map f (take (suc i) xs)) ≡ objects_in (map f (take i xs)) + length (list_in (f x))
+objects_taken [] i x f is = absurd (none_some x is)
+objects_taken (y ∷ ys) zero x f is = let same = ap (λ z. length (list_in (f z))) (some_is y x is) in omega (arith, same)
+objects_taken (y ∷ ys) (suc i) x f is = let rest = objects_taken ys i x f is in omega (arith, rest)
+
+pub objects_next : {X : Type 0} (xs : List X) (i : ℕ) (x : X) (f : X → View) → slice_get xs i ≡ Some x → objects_in (map f (take (i + 1) xs)) ≡ objects_in (map f (take i xs)) + length (list_in (f x))
+objects_next xs i x f is = let next : i + 1 ≡ suc i = omega arith in ap (λ (n : ℕ). objects_in (map f (take n xs))) next ∙ objects_taken xs i x f is
+
+-- what was used of the callbacks
+pub jobs_spent : {W D : Type 0} (w : Ghosts W) (qsbr : Bool) (allows : Log → LiveEvent → Type 0) (old new : W) (sizes : Sizes) (d : ℕ) (jobs left : List D) (Other : Type 0) → Tidies w qsbr allows old new sizes d jobs left ⊎ ((left ≡ jobs) × Other) → (used : List D) × (jobs ≡ left ++ used) × (length jobs ≡ length left + length used)
+jobs_spent w qsbr allows old new sizes d jobs left Other (inl t) = let u = t.uses in (u.used, u.are, ap length u.are ∙ length-append left u.used)
+jobs_spent w qsbr allows old new sizes d jobs left Other (inr k) = ([], sym k.0 ∙ sym (append-nil left), let same = ap length k.0 in omega (arith, same))

@@ -1,0 +1,165 @@
+-- What the directory's right tells a bucket's writer that has it: its chain is free, and the table's map is that of its
+-- buckets.
+use Rattle.std.proofs.Common.{Bool, ◌≡◌, ◌≢◌, ℕ, ◌+◌, ◌%◌, ◌<◌, ◌≤◌, ◌&&◌, List, [], ◌∷◌, ◌++◌, Option, None, Some, true, refl, sym, ap, ◌∙◌, subst, inl, arith, slice_get, slice_index_or}
+use Rattle.std.proofs.lemmas.Bool.{lt-ltb}
+use Rattle.std.proofs.lemmas.Nat.{mod_below}
+use Rattle.rcu_model.specs.declared.event.ObjectId.{ObjectId}
+use Rattle.rcu_model.specs.Sets.{In, first_of}
+use Rattle.live_log.specs.Log.{Log, Begins, IsLiveRun, chain_note, note_of, state_of}
+use Rattle.live_log.specs.declared.event.LiveEvent.{LiveEvent}
+use Rattle.live_log.specs.Keys.{key_of, rank_of}
+use Rattle.live_log.specs.Tables.{IsDirectory, IsFree, tabled}
+use Rattle.live_log.proofs.Lemmas.{begins_trans, chain_used, directory_alone, free_told, grows_log, linked_between, named_stays_free, note_stays, run_of}
+use Rattle.live_rule.specs.Seats.{lent_chains}
+use Rattle.live_rule.specs.declared.rights.ChainRight.{ChainRight}
+use Rattle.live_rule.specs.declared.view.View.{View}
+use Rattle.live_table.specs.Rights.{AreAsKnown, IsListed, own_in}
+use Rattle.live_write.specs.Chains.{list_in}
+use Rattle.live_write.proofs.Lemmas.{index_has}
+use Rattle.rcu_list.specs.Maps.{map_of}
+use Rattle.rcu_list.specs.Preparing.{MayComeIn, MayTakeOver}
+use Rattle.rcu_list.proofs.Lemmas.{MayWriteIn}
+use Rattle.rcu_hash.specs.Directories.{LeadsTo, directed_map, leads}
+use Rattle.rcu_hash.specs.Naming.{WasNamed, words_by}
+use Rattle.rcu_hash.specs.Calls.{Changes, Inserts, Removes, Replaces}
+use Rattle.rcu_hash.specs.Publishing.{ChangesThrough, InsertsThrough, RemovesThrough, ReplacesThrough}
+use Rattle.rcu_hash.specs.Tables.{bucket_of, table_of}
+use Rattle.rcu_hash.proofs.Changing.{changed_same}
+use Rattle.rcu_hash.proofs.Directing.{directed_is}
+
+-- a log without its last event
+abbrev pub rest : Log → Log
+rest [] = []
+rest (e ∷ es) = es
+
+-- what was so is so of a later log
+pub named_later : (d : ℕ) (o : ObjectId) (c : ℕ) (log later : Log) → Begins log later → WasNamed d o c log → WasNamed d o c later
+named_later d o c log later b n = record { known = n.known; before = begins_trans n.known log later n.before b; linked = n.linked; directory = n.directory; names = n.names; is_free = n.is_free }
+
+-- a writer of a bucket that has the directory's right may write
+pub may_write_named : (qsbr : Bool) (v : View) (known : Log) (d : ℕ) (o : ObjectId) (x : ChainRight) → Begins known v.seen → lent_chains v.chains ≡ x ∷ [] → x.chain ≡ d → x.objects ≡ o ∷ [] → ∥ WasNamed d o (own_in v.chains).chain known ∥₁ → MayWriteIn qsbr tabled IsFree v
+may_write_named qsbr v known d o x began lent is alone named log begins run note known_lent =
+    let right = (subst (AreAsKnown log) lent known_lent).0 in
+    let at : In ((state_of log).chain d) o = subst (λ (l : List ObjectId). In l o) (sym (ap (state_of log).chain (sym is) ∙ (right.0 ∙ alone))) (inl refl) in
+    free_told log (own_in v.chains).chain named
+    (λ n. named_stays_free qsbr n.known log (own_in v.chains).chain d o (begins_trans n.known known log n.before (begins_trans known v.seen log began begins)) run n.linked at n.directory n.names n.is_free)
+
+-- a record that was ready is so in a later log, in which the chain is the same
+pub ready_later : (qsbr : Bool) (v w u : View) (key value : ℕ) → IsListed v → Begins v.seen w.seen → IsLiveRun qsbr tabled w.seen → list_in w ≡ list_in v → MayComeIn v u key value → MayComeIn w u key value
+ready_later qsbr v w u key value listed later run same ready = record {
+  rank = ready.rank;
+  words = ready.words;
+  others = λ o h.
+      let had : In (list_in v) o = subst (λ (l : List ObjectId). In l o) same h in
+      let note = note_stays qsbr tabled v.seen w.seen o later run (chain_used qsbr tabled v.seen (own_in v.chains).chain o (run_of qsbr tabled v.seen w.seen later run) (subst (λ (l : List ObjectId). In l o) (sym listed.0) had)) in
+      subst (λ (x : ℕ × List ℕ). (key_of x ≢ key) × (rank_of x < ready.rank)) (sym note) (ready.others o had);
+}
+
+pub over_later : (qsbr : Bool) (v w u : View) (key value index : ℕ) → IsListed v → Begins v.seen w.seen → IsLiveRun qsbr tabled w.seen → list_in w ≡ list_in v → MayTakeOver v u key value index → MayTakeOver w u key value index
+over_later qsbr v w u key value index listed later run same ready =
+    let note : (o : ObjectId) → In (list_in v) o → note_of w.seen o ≡ note_of v.seen o = λ o had. note_stays qsbr tabled v.seen w.seen o later run (chain_used qsbr tabled v.seen (own_in v.chains).chain o (run_of qsbr tabled v.seen w.seen later run) (subst (λ (l : List ObjectId). In l o) (sym listed.0) had)) in
+    let f = ready.found in
+    let at : (k : ℕ) (o : ObjectId) → slice_get (list_in w) k ≡ Some o → slice_get (list_in v) k ≡ Some o = λ k o is. ap (λ (l : List ObjectId). slice_get l k) (sym same) ∙ is in record {
+      rank = ready.rank;
+      words = ready.words;
+      found = record {
+        object = f.object;
+        at = ap (λ (l : List ObjectId). slice_get l index) same ∙ f.at;
+        begins = ap key_of (note f.object (index_has (list_in v) index f.object f.at)) ∙ f.begins;
+        others = λ k o low is word. f.others k o low (at k o is) (ap key_of (sym (note o (index_has (list_in v) k o (at k o is)))) ∙ word);
+      };
+      same = ready.same ∙ ap rank_of (sym (note f.object (index_has (list_in v) index f.object f.at)));
+    }
+
+-- what a log says of an object that a seat knows it says still
+module _ (qsbr : Bool) (old later : Log) (o : ObjectId) (b : Begins old later) (run : IsLiveRun qsbr tabled later) where
+  pub used_later : In (state_of old).used o → In (state_of later).used o
+  used_later h = (grows_log old later b).used o h
+
+  pub words_later : (first buckets : ℕ) → In (state_of old).used o → (note_of old o).1 ≡ words_by first buckets → (note_of later o).1 ≡ words_by first buckets
+  words_later first buckets used words = ap (λ (x : ℕ × List ℕ). x.1) (note_stays qsbr tabled old later o b run used) ∙ words
+
+-- the one object of a writer's chain, and of a chain that was lent to it, was put into a chain
+pub own_used : (qsbr : Bool) (v : View) (o : ObjectId) → IsLiveRun qsbr tabled v.seen → IsListed v → list_in v ≡ o ∷ [] → In (state_of v.seen).used o
+own_used qsbr v o run listed alone = chain_used qsbr tabled v.seen (own_in v.chains).chain o run (subst (λ (l : List ObjectId). In l o) (sym (listed.0 ∙ alone)) (inl refl))
+
+pub lent_is : (log : Log) (xs : List ChainRight) (y x : ChainRight) (o : ObjectId) (d : ℕ) → xs ≡ y ∷ x ∷ [] → AreAsKnown log xs → x.objects ≡ o ∷ [] → x.chain ≡ d → (state_of log).chain d ≡ o ∷ []
+lent_is log xs y x o d is known alone chain = ap (state_of log).chain (sym chain) ∙ ((subst (AreAsKnown log) is known).1.0.0 ∙ alone)
+
+pub lent_used : (qsbr : Bool) (log : Log) (d : ℕ) (o : ObjectId) → IsLiveRun qsbr tabled log → (state_of log).chain d ≡ o ∷ [] → In (state_of log).used o
+lent_used qsbr log d o run alone = chain_used qsbr tabled log d o run (subst (λ (l : List ObjectId). In l o) (sym alone) (inl refl))
+
+-- where a directory is the one object of its chain it leads each key to its bucket
+pub leads_there : (log : Log) (d : ℕ) (o : ObjectId) (first buckets key : ℕ) → (state_of log).chain d ≡ o ∷ [] → (note_of log o).1 ≡ words_by first buckets → LeadsTo d log key (bucket_of first buckets key)
+leads_there log d o first buckets key alone words = (o, ap first_of alone, ap (λ (w : List ℕ). bucket_of (slice_index_or w 0 0) (slice_index_or w 1 0) key) words)
+
+-- a directory leads each key to its bucket
+module _ (chains first buckets : ℕ) (many : 0 < buckets) (fits : first + buckets ≤ chains) where
+  pub leads_all : (x : ℕ × List ℕ) → x.1 ≡ words_by first buckets → (key : ℕ) → leads chains x key ≡ true
+  leads_all (cell, words) is key =
+      subst (λ (w : List ℕ). leads chains (cell, w) key ≡ true) (sym is)
+      (let m = mod_below key buckets many in
+      let low : bucket_of first buckets key < chains = omega arith in
+      (λ i. (lt-ltb 0 buckets many i) && (lt-ltb (bucket_of first buckets key) chains low i)))
+
+  module _ (qsbr : Bool) (d : ℕ) (o : ObjectId) (old log new : Log) (b : Begins old log) (later : Begins log new) (run : IsLiveRun qsbr tabled new) (was : (state_of old).chain d ≡ o ∷ []) (is : (state_of new).chain d ≡ o ∷ []) (words : (note_of old o).1 ≡ words_by first buckets) where
+    here : IsLiveRun qsbr tabled log
+    here = run_of qsbr tabled log new later run
+
+    there : In ((state_of old).chain d) o
+    there = subst (λ (l : List ObjectId). In l o) (sym was) (inl refl)
+
+    directory : IsDirectory (note_of old o)
+    directory = subst (λ (w : List ℕ). IsDirectory ((note_of old o).0, w)) (sym words) (refl, refl)
+
+    note : note_of log o ≡ note_of old o
+    note = note_stays qsbr tabled old log o b here (chain_used qsbr tabled old d o (run_of qsbr tabled old log b here) there)
+
+    -- between two logs in which it is linked the directory is alone in its chain
+    pub alone_between : (state_of log).chain d ≡ o ∷ []
+    alone_between = directory_alone qsbr log d o here
+        (linked_between qsbr old log new d o b later run there directory (subst (λ (l : List ObjectId). In l o) (sym is) (inl refl)))
+        (subst IsDirectory (sym note) directory)
+
+    -- and the table's map is that of its buckets
+    pub directed_between : (key : ℕ) → directed_map chains d log key ≡ map_of log (bucket_of first buckets key) key
+    directed_between key =
+        directed_is chains key (note_of old o) (leads_all (note_of old o) words key) log d o alone_between note
+        ∙ ap (λ (w : List ℕ). map_of log (bucket_of (slice_index_or w 0 0) (slice_index_or w 1 0) key) key) words
+
+  -- so what changes a bucket changes the table
+  module _ (qsbr : Bool) (d : ℕ) (o : ObjectId) (old new : Log) (run : IsLiveRun qsbr tabled new) (was : (state_of old).chain d ≡ o ∷ []) (is : (state_of new).chain d ≡ o ∷ []) (words : (note_of old o).1 ≡ words_by first buckets) (seen heard : Log) (key : ℕ) (log : Log) (since : (before : Log) (e : LiveEvent) → log ≡ e ∷ before → Begins old before) (later : Begins log new) where
+    module _ (event : LiveEvent) (had has : Option ℕ) (c : Changes qsbr tabled first buckets seen heard event key had has log) where
+      abbrev before : Log
+      before = c.before
+
+      goes : Begins before log
+      goes = (event ∷ [], c.wrote)
+
+      b : Begins old before
+      b = since before event c.wrote
+
+      at_before : (k : ℕ) → directed_map chains d before k ≡ map_of before (bucket_of first buckets k) k
+      at_before = directed_between qsbr d o old before new b (begins_trans before log new goes later) run was is words
+
+      at_log : (k : ℕ) → directed_map chains d log k ≡ map_of log (bucket_of first buckets k) k
+      at_log = directed_between qsbr d o old log new (begins_trans old before log b goes) later run was is words
+
+      changes_through : ChangesThrough qsbr tabled chains d seen heard event key had has log
+      changes_through = record {
+        before = before;
+        wrote = c.wrote;
+        after = c.after;
+        run = c.run;
+        was = at_before key ∙ c.was;
+        map = λ k. at_log k ∙ (c.map k ∙ changed_same key has (table_of first buckets before) (directed_map chains d before) k (sym (at_before k)));
+      }
+
+    pub inserts_through : (value : ℕ) → Inserts qsbr tabled first buckets seen heard key value log → InsertsThrough qsbr tabled chains d seen heard key value (bucket_of first buckets key) log
+    inserts_through value i = record { object = i.object; cell = i.cell; rank = i.rank; changes = changes_through _ None (Some value) i.changes }
+
+    pub replaces_through : (value : ℕ) (left : ObjectId) → Replaces qsbr tabled first buckets seen heard key value left log → ReplacesThrough qsbr tabled chains d seen heard key value (bucket_of first buckets key) left log
+    replaces_through value left i = record { object = i.object; cell = i.cell; rank = i.rank; had = i.had; changes = changes_through _ (Some i.had) (Some value) i.changes }
+
+    pub removes_through : (left : ObjectId) → Removes qsbr tabled first buckets seen heard key left log → RemovesThrough qsbr tabled chains d seen heard key (bucket_of first buckets key) left log
+    removes_through left i = record { had = i.had; changes = changes_through _ (Some i.had) None i.changes }

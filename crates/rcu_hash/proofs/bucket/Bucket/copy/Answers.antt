@@ -1,0 +1,103 @@
+use Rattle.std.proofs.Common.{◌≡◌, ◌≤◌, ◌+◌, ◌%◌, ◌==◌, ◌++◌, ℕ, List, [], ◌∷◌, Option, None, Some, IfNone, IfSome, if◌then◌else◌, length, map, vec_len, slice_index_or, append_assoc, sym, ap, ◌∙◌, subst, arith}
+use Rattle.std.proofs.Math.Logic.{∥∥₁_map}
+use Rattle.std.proofs.lemmas.List.{length-map, take_all}
+use Rattle.std.proofs.lemmas.Result.{err_from_is_err_and}
+use Rattle.live_log.specs.Log.{note_of}
+use Rattle.live_log.specs.Tables.{tabled}
+use Rattle.live_log.proofs.Lemmas.{begins_trans, run_of, tabled_maps}
+use Rattle.live_rule.specs.Seats.{lent_chains}
+use Rattle.live_rule.specs.declared.rights.ChainRight.{ChainRight}
+use Rattle.live_rule.specs.declared.view.View.{View}
+use Rattle.live_write.specs.Chains.{list_in}
+use Rattle.live_write.proofs.Lemmas.{went_both}
+use Rattle.rcu_list.specs.Maps.{value_in}
+use Rattle.rcu_list.proofs.Lemmas.{KnowsKeys, keys_walked, same_own, stays_both}
+use Rattle.rcu_hash.specs.Copies.{AreRanked, value_among}
+use Rattle.rcu_hash.specs.Naming.{WasNamed}
+use Rattle.rcu_hash.proofs.Copies.{IsCopied, copied_more, copied_skip, falls_known, found_more, got_at, got_words, more_ranked, value_walked}
+use Rattle.rcu_hash.proofs.Named.{named_later}
+use Rattle.rcu_hash.proofs.bucket.Bucket.copy.Goals as goal
+use Rattle.rcu_hash.proofs.bucket.Bucket.copy.Goals.{then-words-buckets+in_ok-copy_key, else-words-buckets}
+
+by_option : {A C : Type 0} (r : Option A) (P : A → Type 0) (Q : Type 0) → IfSome r P → IfNone r Q → ((x : A) → P x → C) → (Q → C) → C
+by_option (Some x) P Q p q f h = f x p
+by_option None P Q p q f h = h q
+
+pub invariant_of-self : goal.invariant_of-self
+invariant_of-self g c =
+    let q = g.P.GracePlan.QSBR in let b = c.args.self.now in let one = b.chain in let two = c.note.new.self in let l = c.note.ensures.looked in record {
+      alone = ap (λ (v : View). lent_chains v.chains) l.1.1 ∙ b.alone;
+      keys = keys_walked q tabled (tabled_maps q) one.number one.seat.me two.seat.me l.1 one.owns.1 one.owns.2 b.keys;
+      named = ∥∥₁_map b.named (λ n. subst (λ (k : ℕ). WasNamed b.naming.directory b.naming.object k two.seat.me.0.seen) (sym l.2) (named_later b.naming.directory b.naming.object one.number one.seat.me.0.seen two.seat.me.0.seen l.1.2.0 n));
+    }
+
+pub invariant_of-self-in-loop-index : goal.invariant_of-self-in-loop-index
+invariant_of-self-in-loop-index g c =
+    let q = g.P.GracePlan.QSBR in let b = c.loop-index.self in let one = b.chain in let two = c.get.new.self in let e = c.get.ensures in record {
+      alone = by_option c.get.result _ _ e.walked e.none (λ x l. ap (λ (v : View). lent_chains v.chains) l.1.1 ∙ b.alone) (λ z. subst (λ y. lent_chains y.seat.me.0.chains ≡ []) (sym z.1) b.alone);
+      keys = by_option c.get.result _ _ e.walked e.none (λ x l. keys_walked q tabled (tabled_maps q) one.number one.seat.me two.seat.me l.1 one.owns.1 one.owns.2 b.keys) (λ z. subst (λ y. KnowsKeys y.seat.me.0) (sym z.1) b.keys);
+      named = by_option c.get.result _ _ e.walked e.none
+          (λ x l. ∥∥₁_map b.named (λ n. subst (λ (k : ℕ). WasNamed b.naming.directory b.naming.object k two.seat.me.0.seen) (sym l.2) (named_later b.naming.directory b.naming.object one.number one.seat.me.0.seen two.seat.me.0.seen l.1.2.0 n)))
+          (λ z. subst (λ y. ∥ WasNamed b.naming.directory b.naming.object y.number y.seat.me.0.seen ∥₁) (sym z.1) b.named);
+    }
+
+pub returns-in_err-copy_key-clause-looks : goal.returns-in_err-copy_key-clause-looks
+returns-in_err-copy_key-clause-looks g c =
+    let w = g.W.Witness in let i = c.loop-index.invariant in let e = c.in_err-copy_key.ensures in let p = err_from_is_err_and c.from_residual.result c.from_residual.ensures.1 in
+    let found = e.looks.0 in let before = i.looks.0 in (
+      found ++ before,
+      e.looks.1 ∙ (ap (λ (l : List (ℕ × ℕ)). found ++ l) i.looks.1 ∙ sym (append_assoc found before (w.looks c.args.witness.now))),
+      rw p.1 (λ is. found_more g.B.Site.sizes found before (e.looks.2 (sym p.2 ∙ is))),
+    )
+
+pub returns-in_err-copy_key-clause-heard : goal.returns-in_err-copy_key-clause-heard
+returns-in_err-copy_key-clause-heard g c =
+    let w = g.W.Witness in begins_trans (w.heard c.args.witness.now) (w.heard c.loop-index.witness) (w.heard c.copy_key.new.witness) c.loop-index.invariant.heard c.copy_key.ensures.heard
+
+pub returns-in_err-copy_key-clause-walked : goal.returns-in_err-copy_key-clause-walked
+returns-in_err-copy_key-clause-walked g c =
+    let i = c.loop-index.invariant.walked in let e = c.in-Some.ensures.walked in
+    (i.0, (e.0.0 ∙ i.1.0, e.0.1 ∙ i.1.1), went_both g.P.GracePlan.QSBR tabled c.args.self.now.chain.seat.me c.loop-index.self.chain.seat.me c.get.new.self.seat.me i.2 e.1, e.2 ∙ i.3, e.3 ∙ i.4)
+
+pub loop-index-preserved : goal.loop-index-preserved
+loop-index-preserved g c =
+    let q = g.P.GracePlan.QSBR in let w = g.W.Witness in let w0 = c.args.witness.now in let w1 = c.loop-index.witness in
+    let i = c.loop-index.invariant in let e = c.in-Some.ensures in let s = e.some in let index = c.loop-index.index in
+    let one = c.args.self.now.chain in let two = c.loop-index.self.chain in let three = c.get.new.self in let v = one.seat.me.0 in
+    let went = went_both q tabled one.seat.me two.seat.me three.seat.me i.walked.2 e.walked.1 in
+    let note = note_of v.seen in let os = list_in v in let buckets = c.args.self.now.naming.buckets in let number = c.args.number in
+    let before = map (λ x. (x.key, x.value)) c.args.copied.now.items in let es = map (λ x. (x.key, x.value)) c.loop-index.copied.items in let ranks = map (λ x. x.rank) c.loop-index.copied.items in
+    let many : 0 + length ranks ≡ vec_len c.loop-index.copied = let len = length-map c.loop-index.copied.items (λ x. x.rank) in let ok = c.loop-index.copied.ok.0 in omega arith in
+    let at = got_at q one.number one.seat.me two.seat.me three.seat.me i.walked.2 one.owns.1 one.owns.2 e.walked.1 index s.0 s.1 in
+    let words = got_words q one.number one.seat.me two.seat.me three.seat.me i.walked.2 one.owns.1 one.owns.2 e.walked.1 index s.0 s.1 c.in-Some.words s.2 in
+    let key = ap (λ (l : List ℕ). slice_index_or l 0 0) words in
+    elim c.if-words-buckets.branch [
+      | then-words-buckets+in_ok-copy_key z ↦
+          let k = z.in_ok-copy_key.ensures in let w2 = z.copy_key.new.witness in let falls = falls_known q v (run_of q tabled v.seen three.seat.me.0.seen went.2.0 went.2.2) one.owns.1 in
+          rw z.witness-is (rw z.copied-is (record {
+            copied = subst (IsCopied note os buckets number before (index + 1)) (sym (k.copied ∙ ap (λ (l : List ℕ). es ++ (slice_index_or l 0 0, slice_index_or l 1 0) ∷ []) words)) (copied_more note os buckets number before index es s.0 at i.copied falls (ap (λ (n : ℕ). n % buckets) (sym key) ∙ z.if-words-buckets.true));
+            ranked = subst (AreRanked 0) (sym k.ranks) (subst (λ (n : ℕ). AreRanked 0 (ranks ++ n ∷ [])) many (more_ranked 0 ranks i.ranked));
+            heard = begins_trans (w.heard w0) (w.heard w1) (w.heard w2) i.heard k.heard;
+            looks = (k.looks.0 ++ i.looks.0, k.looks.1 ∙ (ap (λ (l : List (ℕ × ℕ)). k.looks.0 ++ l) i.looks.1 ∙ sym (append_assoc k.looks.0 i.looks.0 (w.looks w0))));
+            same = (stays_both w w0 w1 w2 i.same.0 k.same.0, k.same.1 ∙ i.same.1);
+            walked = (i.walked.0, (e.walked.0.0 ∙ i.walked.1.0, e.walked.0.1 ∙ i.walked.1.1), went, e.walked.2 ∙ i.walked.3, e.walked.3 ∙ i.walked.4);
+          }))
+      | else-words-buckets z ↦
+          rw z.witness-is (rw z.copied-is (record {
+            copied = copied_skip note os buckets number before index es s.0 at i.copied (λ here. z.if-words-buckets.false (ap (λ (n : ℕ). n % buckets) key ∙ here));
+            ranked = i.ranked;
+            heard = i.heard;
+            looks = i.looks;
+            same = i.same;
+            walked = (i.walked.0, (e.walked.0.0 ∙ i.walked.1.0, e.walked.0.1 ∙ i.walked.1.1), went, e.walked.2 ∙ i.walked.3, e.walked.3 ∙ i.walked.4);
+          }))
+    ]
+
+pub returns-clause-copied : goal.returns-clause-copied
+returns-clause-copied g c key =
+    let q = g.P.GracePlan.QSBR in let i = c.loop-index.invariant in let one = c.args.self.now.chain in let two = c.loop-index.self.chain in let v = one.seat.me.0 in
+    let before = map (λ x. (x.key, x.value)) c.args.copied.now.items in
+    let same : length (list_in c.note.new.self.seat.me.0) ≡ length (list_in v) = ap (λ (x : ChainRight). length x.objects) (same_own q tabled (tabled_maps q) one.number one.seat.me c.note.new.self.seat.me c.note.ensures.looked.1 one.owns.1 one.owns.2) in
+    let all : length (list_in v) ≤ c.loop-index.index = let end = c.loop-index-test.false in let len = c.len-index-end.ensures in omega arith in
+    i.copied.0 key ∙ ap (λ (x : Option ℕ). if key % c.args.self.now.naming.buckets == c.args.number then x else value_among before key)
+    (ap (λ l. value_in (note_of v.seen) l key) (take_all c.loop-index.index (list_in v) all) ∙ sym (value_walked q one.number one.seat.me two.seat.me i.walked.2 one.owns.1 one.owns.2 key))

@@ -1,0 +1,89 @@
+use Rattle.std.proofs.Common.{◌≡◌, ◌<◌, ◌+◌, ◌%◌, ◌++◌, ℕ, [], ◌∷◌, Some, map, slice_get, option_map, vec_len, refl, sym, ap, ◌∙◌, subst, arith}
+use Rattle.std.proofs.Math.Seq.{map-set_same}
+use Rattle.std.proofs.lemmas.List.{append-nil, map-set, nil_from_length}
+use Rattle.std.proofs.lemmas.Nat.{mod_below}
+use Rattle.std.proofs.lemmas.Option.{slice_get-map, slice_get_read}
+use Rattle.live_log.specs.Log.{Begins}
+use Rattle.live_log.proofs.Lemmas.{begins_trans}
+use Rattle.live_write.specs.Chains.{list_in}
+use Rattle.rcu_list.proofs.Lemmas.{stays_both}
+use Rattle.rcu_list.specs.Maps.{words_of}
+use Rattle.rcu_hash.specs.Copies.{AreRanked, value_among}
+use Rattle.rcu_hash.specs.Writers.{Each, HasKeysIn, HasNoNote, IsAlone, value_at}
+use Rattle.rcu_hash.proofs.Copies.{Holds, each_at, each_set, each_weaker, filled_more, hold_nothing, holds_next, may_put, next_new, no_value, put_holds, put_value, ranked_next, split_next}
+use Rattle.rcu_hash.proofs.copying.fill.Goals as goal
+
+pub loop-init : goal.loop-init
+loop-init g c = let r = c.requires in let rest = c.into_iter-rest.ensures in record {
+  left = let len = rest.len in omega arith;
+  many = sym c.len-buckets.ensures;
+  done = [];
+  split = ap (map (λ x. (x.key, x.value))) (sym rest.rest);
+  ranked = subst (λ l. AreRanked 0 (map (λ x. x.rank) l)) (sym rest.rest) r.copied.1;
+  holds = hold_nothing (map (λ x. x.seat.me.0) c.args.chains.now.items) r.chains.1 r.chains.2;
+  values = λ key. no_value (map (λ x. x.seat.me.0) c.args.chains.now.items) (key % c.len-buckets.result) key r.chains.1;
+  numbers = refl;
+  heard = ([], refl);
+  same = (((refl, refl, refl, λ h. h), refl), refl);
+}
+
+pub push-requires-clause-rule : goal.push-requires-clause-rule
+push-requires-clause-rule g c =
+    let q = g.P.GracePlan.QSBR in let w = g.W.Witness in let i = c.loop.invariant in let x = c.in-Some.copied in let chain = c.index_mut.result.now in let n = c.len-buckets.result in
+    let items = c.loop.chains.items in let vs = map (λ c. c.seat.me.0) items in let v = chain.seat.me.0 in
+    let next = c.in-Some.ensures.cases.0 in
+    let low : x.key % n < n = mod_below x.key n (let some = c.requires.chains.0 in let len = c.len-buckets.ensures in omega arith) in
+    let at : slice_get vs (x.key % n) ≡ Some v = slice_get-map (λ c. c.seat.me.0) items (x.key % n) ∙ ap (option_map (λ c. c.seat.me.0)) (slice_get_read items (vec_len c.loop.chains) (x.key % n) chain c.loop.chains.ok.0 (let m = i.many in omega arith) c.index_mut.ensures.value) in
+    let all = map (λ c. (c.key, c.value)) c.args.copied.items in
+    let rank = ranked_next (λ c. (c.key, c.value)) (λ c. c.rank) all i.done c.loop.rest.rest.items c.next.new.self.rest.items x next c.loop.counter i.ranked in
+    let new = next_new (λ c. (c.key, c.value)) (λ c. c.rank) all i.done c.loop.rest.rest.items c.next.new.self.rest.items x next i.split c.requires.copied.0 in
+    may_put q v (w.seen c.loop.witness) (w.heard c.loop.witness) x.owned.seat.me.0.seen chain.owns.0 chain.owns.1 c.loop.counter (each_at (Holds c.loop.counter) vs (x.key % n) v i.holds at) x.owned.seat.me.0 x.key x.value
+    (x.words ∙ ap (words_of x.key x.value) rank.0)
+    (ap (λ z. value_at z x.key) (sym at) ∙ (i.values x.key ∙ new))
+
+pub loop-preserved : goal.loop-preserved
+loop-preserved g c =
+    let q = g.P.GracePlan.QSBR in let w = g.W.Witness in let i = c.loop.invariant in let x = c.in-Some.copied in let chain = c.index_mut.result.now in let now = c.push.new.self in let n = c.len-buckets.result in let p = c.push.ensures in
+    let w0 = c.args.witness.now in let w1 = c.loop.witness in let w2 = c.push.new.witness in
+    let items = c.loop.chains.items in let vs = map (λ c. c.seat.me.0) items in let v = chain.seat.me.0 in let k = x.key % n in
+    let next = c.in-Some.ensures.cases.0 in
+    let low : x.key % n < n = mod_below x.key n (let some = c.requires.chains.0 in let len = c.len-buckets.ensures in omega arith) in
+    let is = c.index_mut.ensures.value in
+    let at : slice_get vs k ≡ Some v = slice_get-map (λ c. c.seat.me.0) items k ∙ ap (option_map (λ c. c.seat.me.0)) (slice_get_read items (vec_len c.loop.chains) k chain c.loop.chains.ok.0 (let m = i.many in omega arith) is) in
+    let all = map (λ c. (c.key, c.value)) c.args.copied.items in
+    let rank = ranked_next (λ c. (c.key, c.value)) (λ c. c.rank) all i.done c.loop.rest.rest.items c.next.new.self.rest.items x next c.loop.counter i.ranked in
+    let new = next_new (λ c. (c.key, c.value)) (λ c. c.rank) all i.done c.loop.rest.rest.items c.next.new.self.rest.items x next i.split c.requires.copied.0 in
+    let words = x.words ∙ ap (words_of x.key x.value) rank.0 in
+    let holds = each_at (Holds c.loop.counter) vs k v i.holds at in
+    let list = p.list.0 ∙ ap (λ o. o ∷ list_in v) p.object in
+    let set_is = sym (map-set (λ c. c.seat.me.0) items k now) in record {
+      left = let more = c.in-Some.ensures.cases.1 in let was = i.left in omega arith;
+      many = i.many;
+      done = i.done ++ (x.key, x.value) ∷ [];
+      split = split_next (λ c. (c.key, c.value)) (λ c. c.rank) all i.done c.loop.rest.rest.items c.next.new.self.rest.items x next i.split;
+      ranked = rank.1;
+      holds = subst (Each (Holds (c.loop.counter + 1))) set_is (each_set (Holds (c.loop.counter + 1)) vs k now.seat.me.0 (each_weaker (Holds (c.loop.counter + 1)) (Holds c.loop.counter) vs (holds_next c.loop.counter) i.holds)
+          (put_holds q v (w.seen w1) (w.heard w1) x.owned.seat.me.0.seen chain.owns.0 chain.owns.1 c.loop.counter holds x.owned.seat.me.0 x.key x.value words now.seat.me.0 p.pushed list p.list.1 p.list.2));
+      values = subst (λ us. (key : ℕ) → value_at (slice_get us (key % n)) key ≡ value_among (i.done ++ (x.key, x.value) ∷ []) key) set_is
+          (filled_more value_at n vs i.done (x.key, x.value) v now.seat.me.0 at new
+          (put_value q v (w.seen w1) (w.heard w1) x.owned.seat.me.0.seen chain.owns.0 chain.owns.1 c.loop.counter holds x.owned.seat.me.0 x.key x.value words now.seat.me.0 p.pushed list)
+          i.values);
+      numbers = map-set_same (λ c. c.number) items k now chain (p.list.3 ∙ ap (λ c. c.number) is) ∙ i.numbers;
+      heard = subst (Begins (w.heard w0)) (sym p.heard) (begins_trans (w.heard w0) p.pushed.before now.seat.me.0.seen (begins_trans (w.heard w0) (w.heard w1) p.pushed.before i.heard p.pushed.after.after_caller.1) (_ ∷ [], p.pushed.wrote));
+      same = ((stays_both w w0 w1 w2 i.same.0.0 p.same.0.0, p.same.0.1 ∙ i.same.0.1), p.same.1 ∙ i.same.1);
+    }
+
+pub returns-clause-values : goal.returns-clause-values
+returns-clause-values g c key =
+    let i = c.loop.invariant in let vs = map (λ c. c.seat.me.0) c.loop.chains.items in
+    let none : c.loop.rest.rest.items ≡ [] = nil_from_length c.loop.rest.rest.items (let left = i.left in let end = c.loop-test.false in let most = c.loop.auto.counter-end in let ok = c.loop.rest.rest.ok.0 in omega arith) in
+    let all = i.split ∙ (ap (λ l. i.done ++ map (λ c. (c.key, c.value)) l) none ∙ append-nil i.done) in
+    ap (λ n. value_at (slice_get vs (key % n)) key) i.many ∙ (i.values key ∙ ap (λ es. value_among es key) (sym all))
+
+pub returns-clause-known : goal.returns-clause-known
+returns-clause-known g c =
+    let i = c.loop.invariant in let vs = map (λ c. c.seat.me.0) c.loop.chains.items in let k = c.loop.counter in (
+      each_weaker HasKeysIn (Holds k) vs (λ v h. h.keys) i.holds,
+      each_weaker HasNoNote (Holds k) vs (λ v h. h.unnoted) i.holds,
+      each_weaker IsAlone (Holds k) vs (λ v h. h.alone) i.holds,
+    )

@@ -1,0 +1,23 @@
+use Rattle.std.proofs.Common.{◌≡◌, ◌+◌, ◌%◌, ◌++◌, ℕ, List, map, slice_get, vec_len}
+use Rattle.std.specs.Vec.Iter.{into_iter_items, into_iter_len}
+use Rattle.live_log.specs.Log.{Begins}
+use Rattle.live_read.specs.Hearing.{OnlyHears}
+use Rattle.rcu_hash.specs.Copies.{AreRanked, value_among}
+use Rattle.rcu_hash.specs.Writers.{Each, value_at}
+use Rattle.rcu_hash.proofs.Copies.{Holds}
+use Rattle.rcu_hash.proofs.copying.fill.Given as goal
+
+-- some entries are in their chains, and the others follow
+abbrev pub invariant-loop : goal.invariant-loop
+invariant-loop g l = record {
+  left : into_iter_len l.rest + l.counter ≡ l.many;
+  many : vec_len l.chains ≡ l.buckets;
+  done : List (ℕ × ℕ);
+  split : map (λ c. (c.key, c.value)) l.fn.copied.items ≡ done ++ map (λ c. (c.key, c.value)) (into_iter_items l.rest);
+  ranked : AreRanked l.counter (map (λ c. c.rank) (into_iter_items l.rest));
+  holds : Each (Holds l.counter) (map (λ c. c.seat.me.0) l.chains.items);
+  values : (key : ℕ) → value_at (slice_get (map (λ c. c.seat.me.0) l.chains.items) (key % l.buckets)) key ≡ value_among done key;
+  numbers : map (λ c. c.number) l.chains.items ≡ map (λ c. c.number) l.fn.chains.items;
+  heard : Begins (g.W.Witness.heard l.fn.witness) (g.W.Witness.heard l.witness);
+  same : OnlyHears g.W.Witness l.fn.witness l.witness;
+}

@@ -1,0 +1,18 @@
+use Rattle.std.proofs.Common.{◌≡◌, ◌≤◌, ◌++◌, ℕ, List, map, vec_capacity, vec_len}
+use Rattle.live_log.specs.Log.{Begins}
+use Rattle.live_read.specs.Hearing.{Stays}
+use Rattle.rcu_hash.specs.Copies.{AreApart, AreRanked, value_among, value_in_bucket}
+use Rattle.rcu_hash.specs.Writers.{AreFrom}
+use Rattle.rcu_hash.proofs.growth.copy_all.Given as goal
+
+-- the buckets up to this number are taken, and their keys copied
+abbrev pub invariant-loop-number : goal.invariant-loop-number
+invariant-loop-number g l = record {
+  room : (vec_len l.taken ≡ l.number) × (l.fn.shelf.naming.buckets ≤ vec_capacity l.taken);
+  from : AreFrom l.fn.shelf.naming.first (map (λ b. b.chain.seat.me.0) l.taken.items);
+  copied : (key : ℕ) → value_among (map (λ c. (c.key, c.value)) l.copied.items) key ≡ value_in_bucket l.fn.shelf.naming.buckets (map (λ b. b.chain.seat.me.0) l.taken.items) key;
+  apart : AreApart (map (λ c. (c.key, c.value)) l.copied.items) × AreRanked 0 (map (λ c. c.rank) l.copied.items);
+  heard : Begins (g.W.Witness.heard l.fn.witness) (g.W.Witness.heard l.witness);
+  looks : (found : List (ℕ × ℕ)) × (g.W.Witness.looks l.witness ≡ found ++ g.W.Witness.looks l.fn.witness);
+  same : Stays g.W.Witness l.fn.witness l.witness × (g.W.Witness.loads l.witness ≡ g.W.Witness.loads l.fn.witness);
+}

@@ -1,0 +1,9 @@
+use Rattle.std.proofs.Common.{[], refl, ◌∙◌}
+use Rattle.std.proofs.lemmas.Result.{err_from_is_err_and}
+use Rattle.rcu_model.specs.declared.refusal.Refusal.TheVariants.{Memory}
+use Rattle.rcu_hash.proofs.Held.{not_full}
+use Rattle.rcu_hash.proofs.growth.provide.Goals as goal
+
+pub returns-in_err-old_lents-clause-looks : goal.returns-in_err-old_lents-clause-looks
+returns-in_err-old_lents-clause-looks g c = let p = err_from_is_err_and c.from_residual.result c.from_residual.ensures.1 in let m = c.in_err-old_lents.ensures.refused in
+    ([], refl, not_full g.B.Site.sizes [] c.from_residual.result p.0 Memory p.1 (p.2 ∙ m) (λ z. cc))

@@ -1,0 +1,71 @@
+use Rattle.std.proofs.Common.{◌≡◌, ◌++◌, ℕ, List, [], ◌∷◌, map, refl, sym, ap, ◌∙◌, subst, inl, length, arith}
+use Rattle.std.proofs.lemmas.List.{append-nil, map-append, nil_from_length}
+use Rattle.std.specs.Vec.Iter.{into_iter_items}
+use Rattle.live_log.specs.Log.{Log, Begins, chain_note}
+use Rattle.live_log.proofs.Lemmas.{begins_trans}
+use Rattle.live_rule.specs.declared.view.View.{View}
+use Rattle.live_table.specs.Rights.{AreAsKnown}
+use Rattle.rcu_list.proofs.Lemmas.{stays_both}
+use Rattle.rcu_hash.specs.Writers.{Each, HasNoNote, HasNote, IsAlone, IsRunIn, IsSame, Noted, Pairwise}
+use Rattle.rcu_hash.proofs.Held.{each_head, each_last, pair_same, pair_step}
+use Rattle.rcu_hash.proofs.making.note_all.Goals as goal
+
+pub loop-init : goal.loop-init
+loop-init g c =
+    let len = c.into_iter-rest.ensures.len in let many = c.len-many.ensures in let same = c.into_iter-rest.ensures.rest in let none = c.requires.room.0 in record {
+      left = omega arith;
+      room = (omega (arith, ap length none, c.args.noted.ok), let fits = c.requires.room.1 in omega arith);
+      wait = rw same c.requires.chains;
+      same = rw (same, none) (pair_same (map (λ x. x.seat.me.0) c.args.chains.items));
+      noted = rw none (tt, tt);
+      runs = rw none tt;
+      heard = ([], refl);
+      told = (((refl, refl, refl, λ h. h), refl), refl);
+    }
+
+pub set_note-requires-clause-rule : goal.set_note-requires-clause-rule
+set_note-requires-clause-rule g c log goes run known may =
+    let chain = c.in-Some.chain in
+    let none = (each_head HasNoNote (λ x. x.seat.me.0) (into_iter_items c.loop.rest) (into_iter_items c.next.new.self) chain c.in-Some.ensures.cases.0 c.loop.invariant.wait.0).0 in
+    inl (ap (λ (n : ℕ). chain_note n log) (sym chain.owns.2) ∙ ((subst (AreAsKnown log) chain.owns.0 known).0.1 ∙ none))
+
+pub loop-preserved : goal.loop-preserved
+loop-preserved g c =
+    let w = g.W.Witness in let w0 = c.args.witness.now in let w1 = c.loop.witness in let w2 = c.set_note.new.witness in
+    let i = c.loop.invariant in let first = c.in-Some.ensures.cases.0 in let left = into_iter_items c.loop.rest in let rest = into_iter_items c.next.new.self in
+    let chain = c.in-Some.chain in let one = c.set_note.new.self in let e = c.set_note.ensures in let p = c.push_reserved.ensures in let had = c.loop.noted.items in
+    let views : map (λ x. x.seat.me.0) c.push_reserved.new.self.items ≡ map (λ x. x.seat.me.0) had ++ one.seat.me.0 ∷ [] = ap (map (λ x. x.seat.me.0)) p.items ∙ map-append (λ x. x.seat.me.0) had (one ∷ []) in
+    let wait = each_head HasNoNote (λ x. x.seat.me.0) left rest chain first i.wait.0 in let alone = each_head IsAlone (λ x. x.seat.me.0) left rest chain first i.wait.1 in
+    let before : Log = e.noted.before in let last : Log = one.seat.me.0.seen in
+    let goes : Begins before last = (_ ∷ [], e.noted.wrote) in
+    let heard : Begins (w.heard w1) before = e.noted.after.after_caller.1 in record {
+      left = let shorter = c.in-Some.ensures.cases.1 in let was = i.left in omega arith;
+      room = let len = p.len in let same = p.capacity in let was = i.room in (omega arith, omega arith);
+      wait = (wait.1, alone.1);
+      same = subst (λ (vs : List View). Pairwise IsSame (map (λ x. x.seat.me.0) c.args.chains.items) (vs ++ map (λ x. x.seat.me.0) rest)) (sym views)
+          (pair_step (map (λ x. x.seat.me.0) c.args.chains.items) (map (λ x. x.seat.me.0) had) (map (λ x. x.seat.me.0) rest) chain.seat.me.0 one.seat.me.0
+          (subst (λ xs. Pairwise IsSame (map (λ x. x.seat.me.0) c.args.chains.items) (map (λ x. x.seat.me.0) had ++ map (λ x. x.seat.me.0) xs)) first i.same)
+          (one.owns.2 ∙ (e.note.3 ∙ sym chain.owns.2), e.note.1, begins_trans chain.seat.me.0.seen before last e.noted.after.after_writer.0 goes));
+      noted = (
+        subst (Each (Noted (w.heard w0) c.args.note)) (sym views) (each_last (Noted (w.heard w0) c.args.note) (map (λ x. x.seat.me.0) had) one.seat.me.0 i.noted.0 (record {
+          at = before;
+          after = begins_trans (w.heard w0) (w.heard w1) before i.heard heard;
+          before = goes;
+          was = ap (λ (n : ℕ). chain_note n before) (one.owns.2 ∙ (e.note.3 ∙ sym chain.owns.2)) ∙ ((subst (AreAsKnown before) chain.owns.0 e.noted.known).0.1 ∙ wait.0);
+          is = e.note.0;
+        })),
+        subst (Each IsAlone) (sym views) (each_last IsAlone (map (λ x. x.seat.me.0) had) one.seat.me.0 i.noted.1 (e.note.2 ∙ alone.0)),
+      );
+      runs = subst (Each (IsRunIn g.P.GracePlan.QSBR)) (sym views) (each_last (IsRunIn g.P.GracePlan.QSBR) (map (λ x. x.seat.me.0) had) one.seat.me.0 i.runs e.noted.run);
+      heard = begins_trans (w.heard w0) (w.heard w1) (w.heard w2) i.heard (subst (Begins (w.heard w1)) (sym e.heard) (begins_trans (w.heard w1) before last heard goes));
+      told = ((stays_both w w0 w1 w2 i.told.0.0 e.same.0.0, e.same.0.1 ∙ i.told.0.1), e.same.1 ∙ i.told.1);
+    }
+
+pub returns-clause-noted : goal.returns-clause-noted
+returns-clause-noted g c =
+    let left = into_iter_items c.loop.rest in let i = c.loop.invariant in let none : left ≡ [] = nil_from_length left (omega (arith, c.loop.rest.rest.ok, i.left)) in (
+      let room = i.room in let many = c.len-many.ensures in omega arith,
+      subst (Pairwise IsSame (map (λ x. x.seat.me.0) c.args.chains.items)) (ap (λ xs. map (λ x. x.seat.me.0) c.loop.noted.items ++ map (λ x. x.seat.me.0) xs) none ∙ append-nil (map (λ x. x.seat.me.0) c.loop.noted.items)) i.same,
+      i.noted.0,
+      i.noted.1,
+    )

@@ -1,0 +1,14 @@
+use Rattle.std.proofs.Common.{length, ap, arith}
+use Rattle.std.specs.Vec.Iter.{into_iter_items}
+use Rattle.rcu_hash.specs.Naming.{IsNamedBy}
+use Rattle.rcu_hash.specs.Writers.{HasKeysIn, IsAlone}
+use Rattle.rcu_hash.proofs.Held.{each_head}
+use Rattle.rcu_hash.proofs.making.shelve.Goals as goal
+
+pub loop-init : goal.loop-init
+loop-init g c =
+    let len = c.into_iter-rest.ensures.len in let many = c.len-many.ensures in let same = c.into_iter-rest.ensures.rest in let none = c.requires.room.0 in record {
+      left = omega arith;
+      room = (omega (arith, ap length none, c.args.buckets.ok), let fits = c.requires.room.1 in omega arith);
+      wait = rw same c.requires.chains;
+    }

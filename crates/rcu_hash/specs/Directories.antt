@@ -1,0 +1,54 @@
+-- The map of a table whose buckets a directory names: the one record of a chain, which a lookup reads first.
+use Rattle.std.specs.Prelude.{◌≡◌, ◌≢◌, ℕ, ◌<◌, ◌==◌, ◌&&◌, Bool, if◌then◌else◌, nat_lt, List, Option, Some, None, slice_index_or}
+use Rattle.rcu_model.specs.declared.event.ObjectId.{ObjectId}
+use Rattle.rcu_model.specs.Sets.{In, first_of}
+use Rattle.live_log.specs.Log.{Log, Begins, note_of, state_of}
+use Rattle.live_log.specs.Tables.{kind_of}
+use Rattle.rcu_list.specs.Maps.{map_of}
+use Rattle.rcu_list.specs.Walks.{times}
+use Rattle.rcu_hash.specs.Tables.{bucket_of}
+
+-- of a directory's payload: the first chain that it names, how many, and the chain of a key's bucket
+abbrev pub first_in : ℕ × List ℕ → ℕ
+first_in x = slice_index_or x.1 0 0
+
+abbrev pub buckets_in : ℕ × List ℕ → ℕ
+buckets_in x = slice_index_or x.1 1 0
+
+abbrev pub bucket_in : ℕ × List ℕ → ℕ → ℕ
+bucket_in x key = bucket_of (first_in x) (buckets_in x) key
+
+-- a directory's words, with a bucket for the key among so many chains
+abbrev pub leads_to : (chains kind first buckets key : ℕ) → Bool
+leads_to chains kind first buckets key = (kind == 1) && (nat_lt 0 buckets && nat_lt (bucket_of first buckets key) chains)
+
+abbrev pub leads : ℕ → ℕ × List ℕ → ℕ → Bool
+leads chains x key = leads_to chains (kind_of x) (first_in x) (buckets_in x) key
+
+-- the value of a key by the first object of the directory's chain, where there is one
+abbrev pub value_through : ℕ → Log → Option ObjectId → ℕ → Option ℕ
+value_through chains log None key = None
+value_through chains log (Some o) key = if leads chains (note_of log o) key then map_of log (bucket_in (note_of log o) key) key else None
+
+-- the directory's first object leads the key to the chain
+abbrev pub LeadsTo : ℕ → Log → ℕ → ℕ → Type 0
+LeadsTo d log key c = (o : ObjectId) × (first_of ((state_of log).chain d) ≡ Some o) × (bucket_in (note_of log o) key ≡ c)
+
+-- the map of the table whose directory is in chain d, over a domain of so many chains
+abbrev pub directed_map : ℕ → ℕ → Log → ℕ → Option ℕ
+directed_map chains d log = value_through chains log (first_of ((state_of log).chain d))
+
+-- A lookup that had seen and heard of these logs, and has seen the new one at its end, answers by the table's map in some
+-- log between: the key had the value there, or none.
+pub record AnswersThrough (seen heard new : Log) (chains d key : ℕ) (answer : Option ℕ) : Type 0 where
+  pub at : Log
+  pub after_seen : Begins seen at
+  pub after_heard : Begins heard at
+  pub before : Begins at new
+  pub is : directed_map chains d at key ≡ answer
+
+-- A walk that had seen and heard of these logs, and has seen the new one at its end, met these keys with their values. The
+-- key had each value in some log between; and a key that was not met exactly once had none in some log between.
+pub record WalksThrough (seen heard new : Log) (chains d : ℕ) (met : List (ℕ × ℕ)) : Type 0 where
+  pub had : (key value : ℕ) → In met (key, value) → AnswersThrough seen heard new chains d key (Some value)
+  pub lacked : (key : ℕ) → times key met ≢ 1 → AnswersThrough seen heard new chains d key None

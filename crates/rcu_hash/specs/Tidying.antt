@@ -1,0 +1,129 @@
+-- What a tidying tells of what earlier directories left.
+use Rattle.std.specs.Prelude.{◌≡◌, ◌⊎◌, ℕ, ◌+◌, ◌%◌, ◌^◌, ◌≤◌, ◌∷◌, ◌++◌, Bool, List, [], length}
+use Rattle.rcu_model.specs.declared.event.ObjectId.{ObjectId}
+use Rattle.rcu_model.specs.declared.refusal.Refusal.{Refusal}
+use Rattle.rcu_model.specs.declared.refusal.Refusal.TheVariants.{Closed, Exhausted, FewJobs, Memory}
+use Rattle.rcu_model.specs.Sets.{In}
+use Rattle.live_log.specs.declared.event.LiveEvent.{LiveEvent}
+use Rattle.live_log.specs.declared.event.LiveEvent.TheVariants.{ChainNote, Object}
+use Rattle.live_log.specs.declared.event.ObjectEvent.TheVariants.{Cut}
+use Rattle.live_log.specs.Log.{Log, Begins, HaveEnded, IsLiveRun, closed_of, note_of, seq_of, state_of}
+use Rattle.live_log.specs.Tables.{IsDirectory}
+use Rattle.live_rule.specs.declared.view.Sizes.{Sizes}
+use Rattle.live_rule.specs.declared.view.View.{View}
+use Rattle.live_items.specs.Retiring.{Queues}
+use Rattle.live_read.specs.Hearing.{Stays}
+use Rattle.live_read.specs.declared.witness.Witness.{Ghosts}
+use Rattle.live_write.specs.Chains.{list_in}
+use Rattle.domain.specs.Waiting.{LoadedOnce, Synchronized}
+use Rattle.rcu_list.specs.Calls.{HandsOver}
+use Rattle.rcu_hash.specs.Directories.{directed_map}
+use Rattle.rcu_hash.specs.Writers.{HasKeysIn, HasNote, IsAlone, IsOutside}
+
+-- Every section has ended that was open in some log; before that log the directory was linked.
+pub record HasWaited (d : ℕ) (o : ObjectId) (log : Log) : Type 0 where
+  pub known : Log
+  pub mark : Log
+  pub after : Begins known mark
+  pub before : Begins mark log
+  pub linked : In ((state_of known).chain d) o
+  pub directory : IsDirectory (note_of known o)
+  pub ended : HaveEnded mark log
+
+-- the writer of a chain of keys that an earlier directory named, and the present one does not
+abbrev pub IsLeft : ℕ → ℕ → ℕ → View → Type 0
+IsLeft d first buckets v = IsAlone v × HasKeysIn v × HasNote (d + 1) v × ∥ IsOutside first buckets v ∥₁
+
+-- how many objects their chains have
+abbrev pub objects_in : List View → ℕ
+objects_in [] = 0
+objects_in (v ∷ vs) = length (list_in v) + objects_in vs
+
+-- what a step does: it cuts and retires an object, or retires the record of an earlier directory, or takes a chain's note
+pub data Kind : Type 0 where
+  Cuts : Kind
+  Retires : Kind
+  Clears : Kind
+
+abbrev pub retired_by : Kind → ℕ
+retired_by Clears = 0
+retired_by _ = 1
+
+abbrev pub retired_in : List (Kind × Log) → ℕ
+retired_in [] = 0
+retired_in (s ∷ ss) = retired_by s.0 + retired_in ss
+
+-- by the rule of chains, the sizes of the domain, the directory's chain, and what the caller had seen
+module _ (qsbr : Bool) (allows : Log → LiveEvent → Type 0) (sizes : Sizes) (d : ℕ) (seen : Log) where
+  -- and by what it had heard of before the step
+  module _ (heard : Log) where
+    -- The event is the last one of the log, and came after all that the caller knew. The table's map is as it was.
+    pub record LeavesMap (event : LiveEvent) (log : Log) : Type 0 where
+      pub before : Log
+      pub wrote : log ≡ event ∷ before
+      pub after : Begins seen before × Begins heard before
+      pub run : IsLiveRun qsbr allows log
+      pub map : (key : ℕ) → directed_map sizes.chains d log key ≡ directed_map sizes.chains d before key
+
+    -- an object left a chain, and was retired after that
+    pub record RetiresObject (log : Log) : Type 0 where
+      pub chain : ℕ
+      pub object : ObjectId
+      pub ticket : ℕ
+      pub published : Log
+      pub leaves : LeavesMap (Object (Cut chain object)) published
+      pub hands : HandsOver qsbr allows object (chain % sizes.queues) ticket published log
+
+    -- the record of an earlier directory was retired
+    pub record RetiresRecord (log : Log) : Type 0 where
+      pub chain : ℕ
+      pub object : ObjectId
+      pub given : ℕ
+      pub queued : Queues qsbr allows (λ at. Begins seen at × Begins heard at) object (chain % sizes.queues) given log
+
+    -- a chain has no note any more
+    pub record ClearsNote (log : Log) : Type 0 where
+      pub chain : ℕ
+      pub leaves : LeavesMap (ChainNote chain 0) log
+
+  abbrev pub Does : Log → Kind → Log → Type 0
+  Does heard Cuts log = RetiresObject heard log
+  Does heard Retires log = RetiresRecord heard log
+  Does heard Clears log = ClearsNote heard log
+
+  -- the steps, the first one first, each after what the caller had heard of at the one before it
+  abbrev pub Follow : Log → List (Kind × Log) → Log → Type 0
+  Follow heard [] log = Begins heard log
+  Follow heard (s ∷ ss) log = Does heard s.0 s.1 × Follow s.1 ss log
+
+  -- steps that used these callbacks, from the back, one for each retirement
+  pub record Uses {D : Type 0} (jobs left : List D) (heard log : Log) : Type 0 where
+    pub used : List D
+    pub are : jobs ≡ left ++ used
+    pub steps : List (Kind × Log)
+    pub follow : Follow heard steps log
+    pub many : retired_in steps ≡ length used
+
+module _ {W : Type 0} (w : Ghosts W) (old new : W) where
+  -- the witness stands as it stood; it may have heard of more, and words may have been found for it
+  abbrev pub FindsMore : Type 0
+  FindsMore = Stays w old new × (w.loads new ≡ w.loads old) × ((found : List (ℕ × ℕ)) × (w.looks new ≡ found ++ w.looks old))
+
+  -- a queue was closed, or there was no memory
+  abbrev pub IsRefused : Refusal → Type 0
+  IsRefused e = ((e ≡ Closed) × ((q : ℕ) × (closed_of q (w.heard new) ≡ 1))) ⊎ (e ≡ Memory)
+
+  -- or no callback is left
+  abbrev pub IsStopped : {D : Type 0} → List D → Refusal → Type 0
+  IsStopped jobs e = ((e ≡ FewJobs) × (jobs ≡ [])) ⊎ IsRefused e
+
+module _ {W : Type 0} (w : Ghosts W) (qsbr : Bool) (allows : Log → LiveEvent → Type 0) (old new : W) where
+  -- the sequence number was at its end
+  abbrev pub IsExhausted : Refusal → Type 0
+  IsExhausted e = (e ≡ Exhausted) × LoadedOnce qsbr allows (w.seen old) (w.heard old) (w.loads old) (w.loads new) (w.heard new) × (2 ^ 62 ≤ seq_of (w.heard new))
+
+  -- a grace period was waited for, and only then something was retired
+  pub record Tidies (sizes : Sizes) (d : ℕ) {D : Type 0} (jobs left : List D) : Type 0 where
+    pub waited : Log
+    pub ended : Synchronized qsbr allows (w.seen old) (w.heard old) (w.loads old) (w.loads new) waited
+    pub uses : Uses qsbr allows sizes d (w.seen old) jobs left waited (w.heard new)

@@ -1,0 +1,113 @@
+-- The writers of several chains, by what each of them knows.
+use Rattle.std.specs.Prelude.{Bool, ◌≡◌, ◌⊎◌, ℕ, ◌+◌, ◌<◌, ◌≤◌, List, [], ◌∷◌, Option, Some, None, length}
+use Rattle.std.specs.Coded.{×_prop}
+use Rattle.std.proofs.Props.{props}
+use Rattle.rcu_model.specs.declared.event.ObjectId.{ObjectId}
+use Rattle.rcu_model.specs.Sets.{In}
+use Rattle.live_log.specs.Log.{Log, Begins, IsLiveRun, chain_note, note_of}
+use Rattle.live_log.specs.Tables.{HasKey, tabled}
+use Rattle.live_rule.specs.Seats.{lent_chains}
+use Rattle.live_rule.specs.declared.rights.ChainRight.{ChainRight}
+use Rattle.live_rule.specs.declared.view.View.{View}
+use Rattle.live_table.specs.Rights.{IsListed, IsWriter, own_in}
+use Rattle.live_write.specs.Chains.{list_in}
+use Rattle.rcu_list.specs.Maps.{value_in}
+
+-- it is so of each one
+abbrev pub Each : {X : Type 0} → (X → Type 0) → List X → Type 0
+Each is_so [] = Unit {0}
+Each is_so (x ∷ xs) = is_so x × Each is_so xs
+
+-- the right of each one
+abbrev pub rights_of : List View → List ChainRight
+rights_of [] = []
+rights_of (v ∷ vs) = own_in v.chains ∷ rights_of vs
+
+-- of each right the chain's number, and how many objects it links
+abbrev pub lengths_of : List ChainRight → List (ℕ × ℕ)
+lengths_of [] = []
+lengths_of (x ∷ xs) = (x.chain, length x.objects) ∷ lengths_of xs
+
+-- no chain was lent to it
+abbrev pub IsAlone : View → Type 0
+IsAlone v = lent_chains v.chains ≡ []
+
+-- it has seen no more than the log, or as much
+abbrev pub SawBefore : Log → View → Type 0
+SawBefore log v = Begins v.seen log
+
+abbrev pub HasSeen : Log → View → Type 0
+HasSeen log v = Begins log v.seen
+
+-- what it has seen is a run
+abbrev pub IsRunIn : Bool → View → Type 0
+IsRunIn qsbr v = IsLiveRun qsbr tabled v.seen
+
+-- it has a chain, whose list and note are those of what it has seen
+abbrev pub IsHolder : View → Type 0
+IsHolder v = IsWriter v × IsListed v
+
+-- its chain has no objects, or this note
+abbrev pub HasNothing : View → Type 0
+HasNothing v = list_in v ≡ []
+
+abbrev pub HasNote : ℕ → View → Type 0
+HasNote note v = (own_in v.chains).note ≡ note
+
+abbrev pub HasNoNote : View → Type 0
+HasNoNote = HasNote 0
+
+-- its chain is empty and has no note
+abbrev pub IsEmpty : View → Type 0
+IsEmpty v = HasNothing v × HasNoNote v
+
+-- the objects of its chain have keys
+abbrev pub HasKeysIn : View → Type 0
+HasKeysIn v = (o : ObjectId) → In (list_in v) o → HasKey (note_of v.seen o)
+
+-- its chain is none of these, so many from the first one on
+abbrev pub IsOutside : ℕ → ℕ → View → Type 0
+IsOutside first many v = ((own_in v.chains).chain < first) ⊎ (first + many ≤ (own_in v.chains).chain)
+
+-- it has the same list of the same chain, in a log that goes on
+abbrev pub IsSame : View → View → Type 0
+IsSame v w = ((own_in w.chains).chain ≡ (own_in v.chains).chain) × (list_in w ≡ list_in v) × Begins v.seen w.seen
+
+-- its chain got this note from none, after all that was in the log
+pub record Noted (heard : Log) (note : ℕ) (v : View) : Type 0 where
+  pub at : Log
+  pub after : Begins heard at
+  pub before : Begins at v.seen
+  pub was : chain_note (own_in v.chains).chain at ≡ 0
+  pub is : HasNote note v
+
+-- it is so of each pair
+abbrev pub Pairwise : {X : Type 0} → (X → X → Type 0) → List X → List X → Type 0
+Pairwise is_so [] [] = Unit {0}
+Pairwise is_so [] (y ∷ ys) = ⊥
+Pairwise is_so (x ∷ xs) [] = ⊥
+Pairwise is_so (x ∷ xs) (y ∷ ys) = is_so x y × Pairwise is_so xs ys
+
+-- their chains follow one another, from the first one on
+abbrev pub AreFrom : ℕ → List View → Type 0
+AreFrom first [] = Unit {0}
+AreFrom first (v ∷ vs) = ((own_in v.chains).chain ≡ first) × AreFrom (first + 1) vs
+
+-- what a key has in the list of one of them
+abbrev pub value_at : Option View → ℕ → Option ℕ
+value_at None key = None
+value_at (Some v) key = value_in (note_of v.seen) (list_in v) key
+
+-- that a fact is so of each is a fact
+pub each_prop : {X : Type 0} (P : X → Type 0) → ((x : X) → IsProp (P x)) → (xs : List X) → IsProp (Each P xs)
+each_prop P p [] = hlevel props
+each_prop P p (x ∷ xs) = ×_prop (p x) (each_prop P p xs)
+
+pub alone_prop : (v : View) → IsProp (IsAlone v)
+alone_prop v = hlevel props
+
+pub keys_prop : (v : View) → IsProp (HasKeysIn v)
+keys_prop v = hlevel props
+
+pub note_prop : (note : ℕ) (v : View) → IsProp (HasNote note v)
+note_prop note v = hlevel props

@@ -1,0 +1,148 @@
+//! A bucket of a table: a chain of keys, and which directory names it.
+
+ghost use Rattle.std.specs.Prelude.{◌≡◌, ◌%◌, ◌++◌, [], ℕ, List, IfErr, IfOk};
+ghost use Rattle.rcu_model.specs.Sets.{In};
+ghost use Rattle.rcu_model.specs.declared.event.ObjectId.{ObjectId};
+ghost use Rattle.live_log.specs.Log.{Begins, Log, note_of};
+ghost use Rattle.live_log.specs.Tables.{HasKey, tabled};
+ghost use Rattle.live_rule.specs.Seats.{lent_chains};
+ghost use Rattle.live_read.specs.Hearing.{IsAfter, OnlyHears, Stays};
+ghost use Rattle.live_write.specs.Chains.{list_in};
+ghost use Rattle.rcu_list.specs.Maps.{map_of};
+ghost use Rattle.rcu_list.specs.Calls.{HandsOver};
+ghost use Rattle.rcu_hash.specs.Directories.{LeadsTo, directed_map};
+ghost use Rattle.rcu_hash.specs.Naming.{WasNamed};
+ghost use Rattle.rcu_hash.specs.Publishing.{InsertsThrough, RemovesThrough, ReplacesThrough};
+ghost use Rattle.rcu_hash.specs.Refusing.{RefusesInsertionThrough, RefusesRemovalThrough, RefusesReplacementThrough};
+ghost use Rattle.rcu_hash.specs.Tables.{bucket_of};
+
+use crate::directory::{Desk, Naming};
+use domain::{Chain, Deleter, Site, Ticket, Witness};
+use gp_memb::GracePlan;
+use live_log::Tabled;
+use rcu_list::{prepare_insertion, prepare_replacement};
+use rcu_model::Refusal;
+use std::sync::Wait;
+
+/// A chain of keys, which its directory names.
+#[derive(Drop)]
+pub(crate) struct Bucket<'d, P: GracePlan, B: Site, D: Deleter> {
+    pub(crate) chain: Chain<'d, P, Tabled, B, D>,
+    pub(crate) naming: Naming,
+    pub(crate) ghost alone: { lent_chains chain.seat.me.0.chains ≡ [] },
+    pub(crate) ghost keys: { (o : ObjectId) → In (list_in chain.seat.me.0) o → HasKey (note_of chain.seat.me.0.seen o) },
+    pub(crate) ghost named: { ∥ WasNamed naming.directory naming.object chain.number chain.seat.me.0.seen ∥₁ },
+}
+
+impl<'d, P: GracePlan + Drop, B: Site, D: Deleter> Bucket<'d, P, B, D> {
+    /// The bucket's writer sees all that the caller has seen and heard of, and the caller hears of a log in which the
+    /// bucket and its directory are as their writers know them.
+    pub(crate) fn hear<W: Witness, R: Wait>(
+        &mut self,
+        rt: &R,
+        desk: &Desk<'d, P, B, D>,
+        witness: &mut W,
+    )
+        requires { W.home witness.old ≡ (B.table, B.sizes) }
+        ensures told { IsAfter P.QSBR tabled (W.seen witness.old) (W.heard witness.old) (W.heard witness.new) × Begins self.old.chain.seat.me.0.seen (W.heard witness.new) × (W.heard witness.new ≡ self.new.chain.seat.me.0.seen) }
+        ensures map { (key : ℕ) → directed_map B.sizes.chains self.old.naming.directory (W.heard witness.new) key ≡ map_of (W.heard witness.new) (bucket_of self.old.naming.first self.old.naming.buckets key) key }
+        ensures leads { (key : ℕ) → LeadsTo self.old.naming.directory (W.heard witness.new) key (bucket_of self.old.naming.first self.old.naming.buckets key) }
+        ensures same { OnlyHears W.Witness witness.old witness.new × (self.new.naming ≡ self.old.naming) × (self.new.chain.number ≡ self.old.chain.number) }
+    {
+        let (mut place, directory) = desk.take(rt, self.naming);
+        let lent = directory.lend(&mut self.chain);
+        self.chain.hear(witness);
+        *place = Some(lent.take_back(&mut self.chain));
+    }
+
+    /// As `RcuHash::insert`, of a key that the directory leads to this bucket.
+    pub(crate) fn insert<W: Witness, R: Wait>(
+        &mut self,
+        rt: &R,
+        desk: &Desk<'d, P, B, D>,
+        witness: &mut W,
+        key: u64,
+        value: u64,
+    ) -> Result<(), Refusal>
+        requires home { W.home witness.old ≡ (B.table, B.sizes) }
+        requires key { bucket_of self.old.naming.first self.old.naming.buckets key ≡ self.old.chain.number }
+        ensures inserted { IfOk result (λ _. InsertsThrough P.QSBR tabled B.sizes.chains self.old.naming.directory (W.seen witness.old) (W.heard witness.old) key value self.old.chain.number (W.heard witness.new)) }
+        ensures heard { IfOk result (λ _. Stays W.Witness witness.old witness.new × (W.loads witness.new ≡ W.loads witness.old) × ((found : List (ℕ × ℕ)) × (W.looks witness.new ≡ found ++ W.looks witness.old))) }
+        ensures refused { IfErr result (λ e. RefusesInsertionThrough W.Witness P.QSBR tabled B.sizes witness.old witness.new e self.old.naming.directory key) }
+        ensures same { (self.new.naming ≡ self.old.naming) × (self.new.chain.number ≡ self.old.chain.number) }
+    {
+        self.hear(rt, desk, witness);
+        let owned = prepare_insertion(rt, &mut self.chain, witness, key, value)?;
+        let (mut place, directory) = desk.take(rt, self.naming);
+        let lent = directory.lend(&mut self.chain);
+        self.chain.push(witness, owned);
+        *place = Some(lent.take_back(&mut self.chain));
+        Ok(())
+    }
+
+    /// As `RcuHash::replace`, of a key that the directory leads to this bucket.
+    pub(crate) fn replace<W: Witness, R: Wait>(
+        &mut self,
+        rt: &R,
+        desk: &Desk<'d, P, B, D>,
+        witness: &mut W,
+        key: u64,
+        value: u64,
+        callback: D,
+    ) -> Result<Ticket, (Refusal, D)>
+        requires home { W.home witness.old ≡ (B.table, B.sizes) }
+        requires key { bucket_of self.old.naming.first self.old.naming.buckets key ≡ self.old.chain.number }
+        ensures replaced { IfOk result (λ t. (left : ObjectId) × (published : Log) × ReplacesThrough P.QSBR tabled B.sizes.chains self.old.naming.directory (W.seen witness.old) (W.heard witness.old) key value self.old.chain.number left published × HandsOver P.QSBR tabled left (self.old.chain.number % B.sizes.queues) t.0 published (W.heard witness.new)) }
+        ensures heard { IfOk result (λ _. Stays W.Witness witness.old witness.new × (W.loads witness.new ≡ W.loads witness.old) × ((found : List (ℕ × ℕ)) × (W.looks witness.new ≡ found ++ W.looks witness.old))) }
+        ensures refused { IfErr result (λ e. RefusesReplacementThrough W.Witness P.QSBR tabled B.sizes witness.old witness.new e.0 self.old.naming.directory key) }
+        ensures back { IfErr result (λ e. e.1 ≡ callback) }
+        ensures same { (self.new.naming ≡ self.old.naming) × (self.new.chain.number ≡ self.old.chain.number) }
+    {
+        self.hear(rt, desk, witness);
+        let (index, owned) = match prepare_replacement(rt, &mut self.chain, witness, key, value) {
+            Ok(ready) => ready,
+            Err(refusal) => return Err((refusal, callback)),
+        };
+        let domain = self.chain.domain();
+        let (mut place, directory) = desk.take(rt, self.naming);
+        let lent = directory.lend(&mut self.chain);
+        let answer = domain.replace_retire(rt, witness, &mut self.chain, index, owned, callback);
+        *place = Some(lent.take_back(&mut self.chain));
+        match answer {
+            Ok(ticket) => Ok(ticket),
+            Err((refusal, owned, callback)) => {
+                domain.discard(witness, owned);
+                Err((refusal, callback))
+            }
+        }
+    }
+
+    /// As `RcuHash::remove`, of a key that the directory leads to this bucket.
+    pub(crate) fn remove<W: Witness, R: Wait>(
+        &mut self,
+        rt: &R,
+        desk: &Desk<'d, P, B, D>,
+        witness: &mut W,
+        key: u64,
+        callback: D,
+    ) -> Result<Ticket, (Refusal, D)>
+        requires home { W.home witness.old ≡ (B.table, B.sizes) }
+        requires key { bucket_of self.old.naming.first self.old.naming.buckets key ≡ self.old.chain.number }
+        ensures removed { IfOk result (λ t. (left : ObjectId) × (published : Log) × RemovesThrough P.QSBR tabled B.sizes.chains self.old.naming.directory (W.seen witness.old) (W.heard witness.old) key self.old.chain.number left published × HandsOver P.QSBR tabled left (self.old.chain.number % B.sizes.queues) t.0 published (W.heard witness.new)) }
+        ensures heard { IfOk result (λ _. OnlyHears W.Witness witness.old witness.new) }
+        ensures refused { IfErr result (λ e. RefusesRemovalThrough W.Witness P.QSBR tabled B.sizes witness.old witness.new e.0 self.old.naming.directory key) }
+        ensures back { IfErr result (λ e. e.1 ≡ callback) }
+        ensures same { (self.new.naming ≡ self.old.naming) × (self.new.chain.number ≡ self.old.chain.number) }
+    {
+        self.hear(rt, desk, witness);
+        let Some(index) = self.chain.index_of(key) else {
+            return Err((Refusal::Missing, callback));
+        };
+        let domain = self.chain.domain();
+        let (mut place, directory) = desk.take(rt, self.naming);
+        let lent = directory.lend(&mut self.chain);
+        let answer = domain.cut_retire(rt, witness, &mut self.chain, index, callback);
+        *place = Some(lent.take_back(&mut self.chain));
+        answer
+    }
+}

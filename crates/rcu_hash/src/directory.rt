@@ -1,0 +1,116 @@
+//! The writer of a table's directory, and its lock.
+
+ghost use Rattle.std.specs.Prelude.{◌≡◌, ◌+◌, ◌<◌, ◌≤◌, ◌∷◌, [], length};
+ghost use Rattle.rcu_model.specs.Sets.{In};
+ghost use Rattle.live_log.specs.Log.{Begins, IsLiveRun, note_of, state_of};
+ghost use Rattle.live_log.specs.Tables.{tabled};
+ghost use Rattle.live_rule.specs.Seats.{lent_chains};
+ghost use Rattle.live_table.specs.Rights.{AreAsKnown, own_in};
+ghost use Rattle.live_write.specs.Chains.{list_in};
+ghost use Rattle.rcu_hash.specs.Naming.{words_by};
+
+use domain::{Chain, Deleter, Lent, Site};
+use gp_memb::GracePlan;
+use live_log::Tabled;
+use rcu_model::ObjectId;
+use std::sync::{Mutex, MutexGuard, Wait};
+
+/// Which directory it is: its chain, its object, and the chains that it names.
+#[derive(Clone, Copy, PartialEq, Eq, Drop)]
+pub(crate) struct Naming {
+    /// The chain of the directory.
+    pub(crate) directory: usize,
+    /// Its object.
+    pub(crate) object: ObjectId,
+    /// The chain of the first bucket.
+    pub(crate) first: usize,
+    /// How many buckets there are.
+    pub(crate) buckets: usize,
+}
+
+/// The writer of a directory's chain, which links that one record.
+#[derive(Drop)]
+pub(crate) struct Directory<'d, P: GracePlan, B: Site, D: Deleter> {
+    pub(crate) chain: Chain<'d, P, Tabled, B, D>,
+    pub(crate) naming: Naming,
+    pub(crate) ghost own: { (chain.number ≡ naming.directory) × (lent_chains chain.seat.me.0.chains ≡ []) × ((own_in chain.seat.me.0.chains).note ≡ 0) },
+    pub(crate) ghost alone: { list_in chain.seat.me.0 ≡ naming.object ∷ [] },
+    pub(crate) ghost words: { (note_of chain.seat.me.0.seen naming.object).1 ≡ words_by naming.first naming.buckets },
+    pub(crate) ghost fits: { (0 < naming.buckets) × (naming.first + naming.buckets ≤ B.sizes.chains) },
+}
+
+/// The same while another writer has the right to the chain.
+pub(crate) struct LentDirectory<'d, P: GracePlan, B: Site, D: Deleter> {
+    pub(crate) lent: Lent<'d, P, Tabled, B, D>,
+    pub(crate) naming: Naming,
+    pub(crate) ghost own: { (lent.number ≡ naming.directory) × (lent.linked ≡ 1) },
+    pub(crate) ghost fits: { (0 < naming.buckets) × (naming.first + naming.buckets ≤ B.sizes.chains) },
+}
+
+impl<'d, P: GracePlan, B: Site, D: Deleter> Directory<'d, P, B, D> {
+    /// Lends its right to a bucket's writer, for one step. It never waits.
+    pub(crate) fn lend(self, to: &mut Chain<'_, P, Tabled, B, D>) -> LentDirectory<'d, P, B, D>
+        requires { lent_chains to.old.seat.me.0.chains ≡ [] }
+        ensures naming { result.naming ≡ self.entry.naming }
+        ensures chains { (to.new.seat.me.0.chains ≡ own_in to.old.seat.me.0.chains ∷ own_in self.entry.chain.seat.me.0.chains ∷ []) × (to.new.number ≡ to.old.number) × (to.new.home.now ≡ to.old.home.now) }
+        ensures known { AreAsKnown to.new.seat.me.0.seen to.new.seat.me.0.chains }
+        ensures later { Begins to.old.seat.me.0.seen to.new.seat.me.0.seen × Begins self.entry.chain.seat.me.0.seen to.new.seat.me.0.seen × IsLiveRun P.QSBR tabled to.new.seat.me.0.seen }
+        ensures words { (note_of to.new.seat.me.0.seen self.entry.naming.object).1 ≡ words_by self.entry.naming.first self.entry.naming.buckets }
+    {
+        let Directory { chain, naming } = self;
+        LentDirectory {
+            lent: chain.lend(to),
+            naming,
+        }
+    }
+}
+
+impl<'d, P: GracePlan, B: Site, D: Deleter> LentDirectory<'d, P, B, D> {
+    /// Takes its right back from a bucket's writer, which knows its own chain alone then. It never waits.
+    pub(crate) fn take_back(self, from: &mut Chain<'_, P, Tabled, B, D>) -> Directory<'d, P, B, D>
+        requires right { (lent_chains from.old.seat.me.0.chains ≡ own_in (lent_chains from.old.seat.me.0.chains) ∷ []) × ((own_in (lent_chains from.old.seat.me.0.chains)).chain ≡ self.naming.directory) × ((own_in (lent_chains from.old.seat.me.0.chains)).objects ≡ self.naming.object ∷ []) × ((own_in (lent_chains from.old.seat.me.0.chains)).note ≡ 0) }
+        requires words { (note_of from.old.seat.me.0.seen self.naming.object).1 ≡ words_by self.naming.first self.naming.buckets }
+        requires used { In (state_of from.old.seat.me.0.seen).used self.naming.object }
+        ensures naming { (result.naming ≡ self.entry.naming) × (result.chain.seat.me.0.chains ≡ lent_chains from.old.seat.me.0.chains) }
+        ensures from { (from.new.seat.me.0.chains ≡ own_in from.old.seat.me.0.chains ∷ []) × (from.new.seat.me.0.seen ≡ from.old.seat.me.0.seen) × (from.new.number ≡ from.old.number) × (from.new.home.now ≡ from.old.home.now) }
+        ensures later { Begins from.old.seat.me.0.seen result.chain.seat.me.0.seen × IsLiveRun P.QSBR tabled result.chain.seat.me.0.seen }
+    {
+        let LentDirectory { lent, naming } = self;
+        Directory {
+            chain: lent.take_back(from),
+            naming,
+        }
+    }
+}
+
+/// A directory's writer under its lock; none while another thread has lent it, which holds the lock then.
+#[derive(Drop)]
+pub(crate) struct Desk<'d, P: GracePlan, B: Site, D: Deleter> {
+    pub(crate) writer: Mutex<Option<Directory<'d, P, B, D>>>,
+}
+
+impl<'d, P: GracePlan + Drop, B: Site, D: Deleter> Desk<'d, P, B, D> {
+    /// The directory's writer out of its lock, to which it is to be given back. Which directory it is is not known before
+    /// it is looked at, so that is looked at; it never is another.
+    pub(crate) fn take<'t, R: Wait>(
+        &'t self,
+        rt: &R,
+        naming: Naming,
+    ) -> (
+        MutexGuard<'t, Option<Directory<'d, P, B, D>>>,
+        Directory<'d, P, B, D>,
+    )
+        ensures { result.1.naming ≡ naming }
+    {
+        for _ in rt.forever() {
+            let mut desk = self.writer.lock(rt);
+            if let Some(directory) = desk.take() {
+                if directory.naming == naming {
+                    return (desk, directory);
+                }
+                *desk = Some(directory);
+            }
+        }
+        unreachable!()
+    }
+}

@@ -1,0 +1,193 @@
+//! How a table grows while it is read.
+
+ghost use Rattle.std.specs.Prelude.{◌≡◌, ◌⊎◌, ◌+◌, ◌<◌, ◌≤◌, ◌^◌, ◌++◌, [], ℕ, List, None, Some, IfErr, IfOk, length, map, true, vec_capacity, vec_len};
+ghost use Rattle.std.specs.Sync.RwLock.{write_guard_value};
+ghost use Rattle.rcu_model.specs.declared.refusal.Refusal.TheVariants.{BadConfig, Busy, Memory, PoolFull};
+ghost use Rattle.live_log.specs.Log.{Begins, Log};
+ghost use Rattle.live_log.specs.Tables.{tabled};
+ghost use Rattle.live_table.specs.Rights.{payload_in};
+ghost use Rattle.live_read.specs.Hearing.{OnlyHears, Stays};
+ghost use Rattle.live_write.specs.Searching.{AreTaken, IsUsedUp};
+ghost use Rattle.rcu_hash.specs.Copies.{AreApart, AreRanked, value_among, value_in_bucket};
+ghost use Rattle.rcu_hash.specs.Growing.{Grows};
+ghost use Rattle.rcu_hash.specs.Naming.{words_by};
+ghost use Rattle.rcu_hash.specs.Tables.{are_apart, fits};
+ghost use Rattle.rcu_hash.specs.Writers.{AreFrom, Each, HasKeysIn, IsAlone, IsEmpty};
+
+use crate::bucket::Bucket;
+use crate::copying::fill;
+use crate::directory::{Desk, Naming};
+use crate::growing::{Lenders, exchange};
+use crate::growth::Growth;
+use crate::left::Left;
+use crate::making::{note_all, shelve};
+use crate::shelf::Shelf;
+use crate::table::{RcuHash, fits};
+use domain::{Chain, Deleter, Site, Witness};
+use gp_memb::GracePlan;
+use live_log::Tabled;
+use rcu_model::Refusal;
+use std::alloc::Global;
+use std::sync::{RwLockWriteGuard, Wait};
+
+/// Whether these chains, so many from the first one on, are none of those that the directory names.
+fn are_apart(naming: Naming, first: usize, buckets: usize) -> bool
+    requires { (first + buckets < 2 ^ 64) × (naming.first + naming.buckets < 2 ^ 64) }
+    ensures { result ≡ are_apart naming.first naming.buckets first buckets }
+{
+    naming.first + naming.buckets <= first || first + buckets <= naming.first
+}
+
+/// The writers of the buckets' chains. There is room for them.
+fn chains_of<'d, P: GracePlan + Drop, B: Site, D: Deleter>(
+    taken: Vec<Bucket<'d, P, B, D>>,
+    mut chains: Vec<Chain<'d, P, Tabled, B, D>>,
+) -> Vec<Chain<'d, P, Tabled, B, D>>
+    requires { (chains.items ≡ []) × (vec_len taken ≤ vec_capacity chains) }
+    ensures same { map (λ c. c.seat.me.0) result.items ≡ map (λ b. b.chain.seat.me.0) taken.entry.items }
+    ensures known { (vec_len result ≡ vec_len taken.entry) × Each IsAlone (map (λ c. c.seat.me.0) result.items) × Each HasKeysIn (map (λ c. c.seat.me.0) result.items) }
+{
+    let many = taken.len();
+    let mut rest = taken.into_iter();
+    for _ in 0..many {
+        let Some(bucket) = rest.next() else {
+            unreachable!()
+        };
+        let Bucket { chain, naming: _ } = bucket;
+        chains.push_reserved(chain);
+    }
+    chains
+}
+
+/// Fills the new chains, lets another directory take the place of the shelf's, and stocks the shelf with the new buckets.
+/// Answers what the old directory left. The caller hears of that.
+fn commit<'d, P: GracePlan + Drop, B: Site, D: Deleter, W: Witness, R: Wait>(
+    rt: &R,
+    desk: &Desk<'d, P, B, D>,
+    shelf: &mut Shelf<'d, P, B, D>,
+    witness: &mut W,
+    growth: Growth<'d, P, B, D>,
+    first: usize,
+) -> Left<'d, P, B, D>
+    requires home { W.home witness.old ≡ (B.table, B.sizes) }
+    requires rooms { (shelf.old.naming.buckets ≤ vec_capacity growth.rooms.olds) × (shelf.old.naming.buckets ≤ vec_capacity growth.rooms.returned) × (vec_len growth.chains ≤ vec_capacity growth.rooms.noted) × (vec_len growth.chains ≤ vec_capacity growth.rooms.named) × (vec_len growth.chains ≤ vec_capacity growth.rooms.places) }
+    requires taken { (vec_len growth.taken ≡ shelf.old.naming.buckets) × AreFrom shelf.old.naming.first (map (λ b. b.chain.seat.me.0) growth.taken.items) }
+    requires copied { ((key : ℕ) → value_among (map (λ c. (c.key, c.value)) growth.copied.items) key ≡ value_in_bucket shelf.old.naming.buckets (map (λ b. b.chain.seat.me.0) growth.taken.items) key) × AreApart (map (λ c. (c.key, c.value)) growth.copied.items) × AreRanked 0 (map (λ c. c.rank) growth.copied.items) }
+    requires chains { (0 < vec_len growth.chains) × (first + vec_len growth.chains ≤ B.sizes.chains) × AreFrom first (map (λ c. c.seat.me.0) growth.chains.items) × Each IsEmpty (map (λ c. c.seat.me.0) growth.chains.items) × Each IsAlone (map (λ c. c.seat.me.0) growth.chains.items) }
+    requires record { (payload_in growth.owned.seat.me.0.object ≡ words_by first (vec_len growth.chains)) × (growth.old_lents.items ≡ []) × (shelf.old.naming.buckets ≤ vec_capacity growth.old_lents) × (growth.new_lents.items ≡ []) × (vec_len growth.chains ≤ vec_capacity growth.new_lents) }
+    requires apart { ((shelf.old.naming.directory < first) ⊎ (first + vec_len growth.chains ≤ shelf.old.naming.directory)) × ((shelf.old.naming.first + shelf.old.naming.buckets ≤ first) ⊎ (first + vec_len growth.chains ≤ shelf.old.naming.first)) }
+    ensures grown { Grows P.QSBR tabled B.sizes.chains shelf.old.naming.directory (W.seen witness.old) (W.heard witness.old) first (vec_len growth.entry.chains) (map (λ c. (c.key, c.value)) growth.entry.copied.items) (W.heard witness.new) }
+    ensures left { result.naming.directory ≡ shelf.old.naming.directory }
+    ensures same { OnlyHears W.Witness witness.old witness.new }
+{
+    let Growth {
+        rooms,
+        taken,
+        copied,
+        owned,
+        mut chains,
+        old_lents,
+        new_lents,
+    } = growth;
+    let (mut place, mut directory) = desk.take(rt, shelf.naming);
+    directory.chain.hear(witness);
+    fill(&mut chains, witness, copied);
+    let olds = Lenders {
+        chains: chains_of(taken, rooms.olds),
+        lents: old_lents,
+        back: rooms.returned,
+    };
+    let news = Lenders {
+        chains: note_all(
+            chains,
+            rooms.noted,
+            witness,
+            shelf.naming.directory as u64 + 1,
+        ),
+        lents: new_lents,
+        back: rooms.named,
+    };
+    let (directory, unlinked, left, named) = exchange(directory, olds, news, witness, owned, first);
+    let naming = directory.naming;
+    *place = Some(directory);
+    *shelf = Shelf {
+        naming,
+        buckets: shelve(named, rooms.places, naming),
+    };
+    Left {
+        naming,
+        record: Some(unlinked),
+        chains: left,
+    }
+}
+
+/// Puts down what a growth left, where nothing is left from an earlier one: that would be lost.
+fn put_down<'d, P: GracePlan, B: Site, D: Deleter>(
+    place: &mut Option<Left<'d, P, B, D>>,
+    left: Left<'d, P, B, D>,
+)
+    requires { place.old ≡ None }
+    ensures { place.new ≡ Some left.entry }
+{
+    *place = Some(left);
+}
+
+impl<'d, P: GracePlan + Drop, B: Site, D: Deleter> RcuHash<'d, P, B, D> {
+    /// The shelf of its buckets, for their only user. Whose shelf it is is not known before it is looked at, so that is
+    /// looked at; it never is another's.
+    fn own_shelf<'t, R: Wait>(&'t self, rt: &R) -> RwLockWriteGuard<'t, Shelf<'d, P, B, D>>
+        ensures { (write_guard_value result).naming.directory ≡ self.now.directory }
+    {
+        for _ in rt.forever() {
+            let shelf = self.shelf.write(rt);
+            if shelf.naming.directory == self.directory {
+                return shelf;
+            }
+        }
+        unreachable!()
+    }
+
+    /// Another directory, which names as many chains as these, from the first one on, takes the place of this one: the
+    /// table has so many buckets from then on, and the same keys with the same values. Lookups go on meanwhile, and find
+    /// each key that is there; writers wait. What the old directory left, its record and a record for each key, stays
+    /// until `tidy` retires it: the answer is how many these are. The caller hears of the log in which the new directory
+    /// came. liburcu's `cds_lfht_resize`.
+    ///
+    /// Refused with `Busy` where something is left from an earlier growth, else with `BadConfig` where the number of
+    /// buckets is not 1 to 4,096 or a chain is not there, or is one of the table's, else with `Memory` where memory is,
+    /// with `BadConfig` where a chain has a writer, is not empty or has a note other than 0, or with `PoolFull` where
+    /// there is no record for a key or for the directory; then all is as it was. It waits for the table's locks, and for
+    /// no grace period.
+    pub fn grow<W: Witness, R: Wait>(
+        &self,
+        rt: &R,
+        alloc: Global,
+        witness: &mut W,
+        first: usize,
+        buckets: usize,
+    ) -> Result<usize, Refusal>
+        requires { W.home witness.old ≡ (B.table, B.sizes) }
+        ensures grown { IfOk result (λ left. (entries : List (ℕ × ℕ)) × Grows P.QSBR tabled B.sizes.chains self.now.directory (W.seen witness.old) (W.heard witness.old) first buckets entries (W.heard witness.new) × (left ≡ length entries + 1) × (fits B.sizes.chains self.now.directory first buckets ≡ true)) }
+        ensures refused { IfErr result (λ e. (e ≡ Busy) ⊎ ((e ≡ BadConfig) ⊎ ((fits B.sizes.chains self.now.directory first buckets ≡ true) × ((e ≡ Memory) ⊎ (e ≡ PoolFull))))) }
+        ensures heard { Begins (W.heard witness.old) (W.heard witness.new) }
+        ensures told { ((found : List (ℕ × ℕ)) × (W.looks witness.new ≡ found ++ W.looks witness.old)) × ((logs : List Log) × (W.loads witness.new ≡ logs ++ W.loads witness.old)) }
+        ensures same { Stays W.Witness witness.old witness.new }
+    {
+        let mut place = self.left.lock(rt);
+        if place.is_some() {
+            return Err(Refusal::Busy);
+        }
+        let mut shelf = self.own_shelf(rt);
+        let old = shelf.naming;
+        if !fits(self.domain.chains(), self.directory, first, buckets)
+            || !are_apart(old, first, buckets)
+        {
+            return Err(Refusal::BadConfig);
+        }
+        let growth = Growth::ready(rt, alloc, self.domain, &shelf, witness, first, buckets)?;
+        let left = growth.copied.len() + 1;
+        let rest = commit(rt, &self.desk, &mut shelf, witness, growth, first);
+        put_down(&mut place, rest);
+        Ok(left)
+    }
+}

@@ -1,0 +1,98 @@
+//! How another directory takes the place of a table's, while the table is read.
+
+ghost use Rattle.std.specs.Prelude.{◌≡◌, ◌⊎◌, ◌+◌, ◌<◌, ◌≤◌, ◌∷◌, ◌++◌, [], ℕ, List, IfErr, IfOk, length, map, true, vec_capacity, vec_len};
+ghost use Rattle.std.specs.Sync.RwLock.{write_guard_value};
+ghost use Rattle.rcu_model.specs.declared.refusal.Refusal.TheVariants.{BadConfig, Busy, Memory, PoolFull};
+ghost use Rattle.live_log.specs.Log.{Begins, Log, state_of};
+ghost use Rattle.live_log.specs.Tables.{tabled};
+ghost use Rattle.live_table.specs.Rights.{object_in, payload_in};
+ghost use Rattle.live_read.specs.Hearing.{OnlyHears, Stays};
+ghost use Rattle.live_write.specs.Searching.{AreTaken, IsUsedUp};
+ghost use Rattle.rcu_hash.specs.Copies.{AreApart, AreRanked, value_among, value_in_bucket};
+ghost use Rattle.rcu_hash.specs.Growing.{Grows};
+ghost use Rattle.rcu_hash.specs.Naming.{IsNamedBy, words_by};
+ghost use Rattle.rcu_hash.specs.Tables.{fits};
+ghost use Rattle.rcu_hash.specs.Writers.{AreFrom, Each, HasKeysIn, HasNote, IsAlone, IsOutside, Noted};
+
+use crate::bucket::Bucket;
+use crate::copying::{Copied, discard_all, fill};
+use crate::directory::{Directory, Naming};
+use crate::left::Left;
+use crate::making::{hold_all, note_all, shelve};
+use crate::rights::{lend_all, take_all_back};
+use crate::shelf::Shelf;
+use crate::table::{RcuHash, fits};
+use domain::{Chain, Deleter, Lent, Owned, Site, Unlinked, Witness};
+use gp_memb::GracePlan;
+use live_log::Tabled;
+use rcu_model::Refusal;
+use std::alloc::Global;
+use std::sync::{RwLockWriteGuard, Wait};
+
+/// The writers of chains that lend their rights to the directory's, with room for them when they have their rights again.
+pub(crate) struct Lenders<'d, P: GracePlan, B: Site, D: Deleter> {
+    pub(crate) chains: Vec<Chain<'d, P, Tabled, B, D>>,
+    pub(crate) lents: Vec<Lent<'d, P, Tabled, B, D>>,
+    pub(crate) back: Vec<Chain<'d, P, Tabled, B, D>>,
+    pub(crate) ghost room: { (lents.items ≡ []) × (vec_len chains ≤ vec_capacity lents) × (back.items ≡ []) × (vec_len chains ≤ vec_capacity back) },
+}
+
+/// Another directory, which names the second chains, takes the place of this one, which names the first ones; for that
+/// they all lend it their rights. Answers it, the record that it replaced, and the writers. The caller hears of that. It
+/// never waits.
+pub(crate) fn exchange<'d, P: GracePlan + Drop, B: Site, D: Deleter, W: Witness>(
+    directory: Directory<'d, P, B, D>,
+    olds: Lenders<'d, P, B, D>,
+    news: Lenders<'d, P, B, D>,
+    witness: &mut W,
+    owned: Owned<B>,
+    first: usize,
+) -> (
+    Directory<'d, P, B, D>,
+    Unlinked<B>,
+    Vec<Chain<'d, P, Tabled, B, D>>,
+    Vec<Chain<'d, P, Tabled, B, D>>,
+)
+    requires home { W.home witness.old ≡ (B.table, B.sizes) }
+    requires olds { (vec_len olds.chains ≡ directory.naming.buckets) × AreFrom directory.naming.first (map (λ c. c.seat.me.0) olds.chains.items) × Each IsAlone (map (λ c. c.seat.me.0) olds.chains.items) × Each HasKeysIn (map (λ c. c.seat.me.0) olds.chains.items) }
+    requires news { (0 < vec_len news.chains) × (first + vec_len news.chains ≤ B.sizes.chains) × AreFrom first (map (λ c. c.seat.me.0) news.chains.items) × Each IsAlone (map (λ c. c.seat.me.0) news.chains.items) × Each HasKeysIn (map (λ c. c.seat.me.0) news.chains.items) }
+    requires apart { ((directory.naming.directory < first) ⊎ (first + vec_len news.chains ≤ directory.naming.directory)) × ((directory.naming.first + directory.naming.buckets ≤ first) ⊎ (first + vec_len news.chains ≤ directory.naming.first)) }
+    requires noted { (heard : Log) × ((state_of heard).chain directory.naming.directory ≡ directory.naming.object ∷ []) × Each (Noted heard (directory.naming.directory + 1)) (map (λ c. c.seat.me.0) news.chains.items) }
+    requires record { payload_in owned.seat.me.0.object ≡ words_by first (vec_len news.chains) }
+    requires same { (key : ℕ) → value_in_bucket (vec_len news.chains) (map (λ c. c.seat.me.0) news.chains.items) key ≡ value_in_bucket (vec_len olds.chains) (map (λ c. c.seat.me.0) olds.chains.items) key }
+    ensures directory { result.0.naming ≡ record { directory = directory.entry.naming.directory; object = object_in owned.seat.me.0.object; first = first; buckets = vec_len news.entry.chains } }
+    ensures olds { (vec_len result.2 ≡ vec_len olds.entry.chains) × AreFrom directory.entry.naming.first (map (λ c. c.seat.me.0) result.2.items) × Each IsAlone (map (λ c. c.seat.me.0) result.2.items) × Each HasKeysIn (map (λ c. c.seat.me.0) result.2.items) × Each (HasNote (directory.entry.naming.directory + 1)) (map (λ c. c.seat.me.0) result.2.items) }
+    ensures news { (vec_len result.3 ≡ vec_len news.entry.chains) × AreFrom first (map (λ c. c.seat.me.0) result.3.items) × Each IsAlone (map (λ c. c.seat.me.0) result.3.items) × Each HasKeysIn (map (λ c. c.seat.me.0) result.3.items) × Each (IsNamedBy directory.entry.naming.directory (object_in owned.seat.me.0.object)) (map (λ c. c.seat.me.0) result.3.items) }
+    ensures grown { (entries : List (ℕ × ℕ)) → AreApart entries → ((key : ℕ) → value_in_bucket (vec_len olds.entry.chains) (map (λ c. c.seat.me.0) olds.entry.chains.items) key ≡ value_among entries key) → Grows P.QSBR tabled B.sizes.chains directory.entry.naming.directory (W.seen witness.old) (W.heard witness.old) first (vec_len news.entry.chains) entries (W.heard witness.new) }
+    ensures same { OnlyHears W.Witness witness.old witness.new }
+{
+    let Directory { mut chain, naming } = directory;
+    let Lenders {
+        chains: old_chains,
+        lents: old_lents,
+        back: old_back,
+    } = olds;
+    let Lenders {
+        chains: new_chains,
+        lents: new_lents,
+        back: new_back,
+    } = news;
+    // By this load the writer sees a run.
+    chain.note();
+    let buckets = new_chains.len();
+    let object = owned.object();
+    let old_lents = lend_all(old_chains, old_lents, &mut chain);
+    let new_lents = lend_all(new_chains, new_lents, &mut chain);
+    let Ok(unlinked) = chain.replace(witness, 0, owned) else {
+        unreachable!()
+    };
+    let left = take_all_back(old_lents, old_back, &mut chain);
+    let named = take_all_back(new_lents, new_back, &mut chain);
+    let naming = Naming {
+        directory: naming.directory,
+        object,
+        first,
+        buckets,
+    };
+    (Directory { chain, naming }, unlinked, left, named)
+}

@@ -1,0 +1,227 @@
+//! What a growth makes ready before its first event.
+
+ghost use Rattle.std.specs.Prelude.{◌≡◌, ◌⊎◌, ◌+◌, ◌<◌, ◌≤◌, ◌++◌, ◌||◌, [], ℕ, List, IfErr, IfOk, map, nat_le, vec_capacity, vec_len};
+ghost use Rattle.rcu_model.specs.declared.refusal.Refusal.TheVariants.{BadConfig, Memory, PoolFull};
+ghost use Rattle.live_log.specs.Log.{Begins, Log};
+ghost use Rattle.live_table.specs.Rights.{payload_in};
+ghost use Rattle.live_read.specs.Hearing.{Stays};
+ghost use Rattle.live_write.specs.Searching.{AreTaken, IsUsedUp};
+ghost use Rattle.rcu_hash.specs.Copies.{AreApart, AreRanked, value_among, value_in_bucket};
+ghost use Rattle.rcu_hash.specs.Naming.{words_by};
+ghost use Rattle.rcu_hash.specs.Writers.{AreFrom, Each, HasKeysIn, IsAlone, IsEmpty};
+
+use crate::bucket::Bucket;
+use crate::copying::{Copied, discard_all};
+use crate::making::{hold_all, room};
+use crate::shelf::{Place, Shelf};
+use domain::{Chain, Deleter, Domain, Lent, Owned, Site, Witness};
+use gp_memb::GracePlan;
+use live_log::Tabled;
+use rcu_model::Refusal;
+use std::alloc::Global;
+use std::sync::Wait;
+
+/// Room for the writers and the buckets while they change hands.
+#[derive(Drop)]
+pub(crate) struct Rooms<'d, P: GracePlan, B: Site, D: Deleter> {
+    pub(crate) olds: Vec<Chain<'d, P, Tabled, B, D>>,
+    pub(crate) returned: Vec<Chain<'d, P, Tabled, B, D>>,
+    pub(crate) noted: Vec<Chain<'d, P, Tabled, B, D>>,
+    pub(crate) named: Vec<Chain<'d, P, Tabled, B, D>>,
+    pub(crate) places: Vec<Place<'d, P, B, D>>,
+    pub(crate) ghost empty: { (olds.items ≡ []) × (returned.items ≡ []) × (noted.items ≡ []) × (named.items ≡ []) × (places.items ≡ []) },
+}
+
+impl<'d, P: GracePlan + Drop, B: Site, D: Deleter> Rooms<'d, P, B, D> {
+    /// Room for so many old ones and so many new ones.
+    ///
+    /// Refused with `Memory` where memory is.
+    fn new(alloc: Global, olds: usize, news: usize) -> Result<Rooms<'d, P, B, D>, Refusal>
+        ensures made { IfOk result (λ r. (olds ≤ vec_capacity r.olds) × (olds ≤ vec_capacity r.returned) × (news ≤ vec_capacity r.noted) × (news ≤ vec_capacity r.named) × (news ≤ vec_capacity r.places)) }
+        ensures refused { IfErr result (λ e. e ≡ Memory) }
+    {
+        Ok(Rooms {
+            olds: room(alloc, olds)?,
+            returned: room(alloc, olds)?,
+            noted: room(alloc, news)?,
+            named: room(alloc, news)?,
+            places: room(alloc, news)?,
+        })
+    }
+}
+
+/// What a growth needs before its first event.
+pub(crate) struct Growth<'d, P: GracePlan, B: Site, D: Deleter> {
+    pub(crate) rooms: Rooms<'d, P, B, D>,
+    /// The buckets of the table.
+    pub(crate) taken: Vec<Bucket<'d, P, B, D>>,
+    /// Records for their keys, and for the directory.
+    pub(crate) copied: Vec<Copied<B>>,
+    pub(crate) owned: Owned<B>,
+    /// The writers of the new chains.
+    pub(crate) chains: Vec<Chain<'d, P, Tabled, B, D>>,
+    pub(crate) old_lents: Vec<Lent<'d, P, Tabled, B, D>>,
+    pub(crate) new_lents: Vec<Lent<'d, P, Tabled, B, D>>,
+}
+
+/// The buckets of a shelf out of their locks, and records for their keys.
+///
+/// Refused at the first record that is, with `Memory` or `PoolFull`; what was taken and copied then is there all the same.
+fn copy_all<'d, P: GracePlan + Drop, B: Site, D: Deleter, W: Witness, R: Wait>(
+    rt: &R,
+    shelf: &Shelf<'d, P, B, D>,
+    witness: &mut W,
+    taken: &mut Vec<Bucket<'d, P, B, D>>,
+    copied: &mut Vec<Copied<B>>,
+) -> Result<(), Refusal>
+    requires home { W.home witness.old ≡ (B.table, B.sizes) }
+    requires room { (taken.old.items ≡ []) × (shelf.now.naming.buckets ≤ vec_capacity taken.old) × (copied.old.items ≡ []) }
+    ensures copied { IfOk result (λ _. ((key : ℕ) → value_among (map (λ c. (c.key, c.value)) copied.new.items) key ≡ value_in_bucket shelf.now.naming.buckets (map (λ b. b.chain.seat.me.0) taken.new.items) key) × AreApart (map (λ c. (c.key, c.value)) copied.new.items) × AreRanked 0 (map (λ c. c.rank) copied.new.items)) }
+    ensures taken { IfOk result (λ _. (vec_len taken.new ≡ shelf.now.naming.buckets) × AreFrom shelf.now.naming.first (map (λ b. b.chain.seat.me.0) taken.new.items)) }
+    ensures many { vec_len taken.new ≤ shelf.now.naming.buckets }
+    ensures refused { IfErr result (λ e. (e ≡ Memory) ⊎ (e ≡ PoolFull)) }
+    ensures looks { (found : List (ℕ × ℕ)) × (W.looks witness.new ≡ found ++ W.looks witness.old) × IfErr result (λ e. (e ≡ PoolFull) → IsUsedUp B.sizes found ⊎ AreTaken B.sizes found) }
+    ensures heard { Begins (W.heard witness.old) (W.heard witness.new) }
+    ensures same { Stays W.Witness witness.old witness.new × (W.loads witness.new ≡ W.loads witness.old) }
+{
+    for number in 0..shelf.naming.buckets {
+        let (_place, mut bucket) = shelf.take(rt, number);
+        let answer = bucket.copy(rt, witness, copied, number);
+        taken.push_reserved(bucket);
+        answer?;
+    }
+    Ok(())
+}
+
+/// The buckets of a shelf back into their locks.
+fn restock<'d, P: GracePlan + Drop, B: Site, D: Deleter, R: Wait>(
+    rt: &R,
+    shelf: &Shelf<'d, P, B, D>,
+    taken: Vec<Bucket<'d, P, B, D>>,
+)
+    requires { vec_len taken ≤ shelf.now.naming.buckets }
+{
+    let many = taken.len();
+    let mut rest = taken.into_iter();
+    for number in 0..many {
+        let Some(bucket) = rest.next() else {
+            unreachable!()
+        };
+        *shelf.buckets[number].lock(rt) = Some(bucket);
+    }
+}
+
+/// The record of a directory, and room for what is left of writers that lend it their rights.
+///
+/// Refused with `Memory` or `PoolFull`.
+fn provide<'d, P: GracePlan + Drop, B: Site, D: Deleter, W: Witness, R: Wait>(
+    rt: &R,
+    alloc: Global,
+    domain: &Domain<P, Tabled, B, D>,
+    witness: &mut W,
+    olds: usize,
+    first: usize,
+    buckets: usize,
+) -> Result<
+    (
+        Owned<B>,
+        Vec<Lent<'d, P, Tabled, B, D>>,
+        Vec<Lent<'d, P, Tabled, B, D>>,
+    ),
+    Refusal,
+>
+    requires home { W.home witness.old ≡ (B.table, B.sizes) }
+    ensures made { IfOk result (λ r. (payload_in r.0.seat.me.0.object ≡ words_by first buckets) × (r.1.items ≡ []) × (olds ≤ vec_capacity r.1) × (r.2.items ≡ []) × (buckets ≤ vec_capacity r.2)) }
+    ensures refused { IfErr result (λ e. (e ≡ Memory) ⊎ (e ≡ PoolFull)) }
+    ensures looks { (found : List (ℕ × ℕ)) × (W.looks witness.new ≡ found ++ W.looks witness.old) × IfErr result (λ e. (e ≡ PoolFull) → IsUsedUp B.sizes found ⊎ AreTaken B.sizes found) }
+    ensures heard { Begins (W.heard witness.old) (W.heard witness.new) }
+    ensures same { Stays W.Witness witness.old witness.new × (W.loads witness.new ≡ W.loads witness.old) }
+{
+    let old_lents = room(alloc, olds)?;
+    let new_lents = match room(alloc, buckets) {
+        Ok(lents) => lents,
+        Err(refusal) => {
+            old_lents.destroy_empty();
+            return Err(refusal);
+        }
+    };
+    match domain.alloc(rt, witness, [first as u64, buckets as u64, 0, 1]) {
+        Ok(owned) => Ok((owned, old_lents, new_lents)),
+        Err(refusal) => {
+            old_lents.destroy_empty();
+            new_lents.destroy_empty();
+            Err(refusal)
+        }
+    }
+}
+
+/// Takes back what was made ready for a growth that is refused. The caller hears of that.
+fn undo<'d, P: GracePlan + Drop, B: Site, D: Deleter, W: Witness, R: Wait>(
+    rt: &R,
+    domain: &Domain<P, Tabled, B, D>,
+    shelf: &Shelf<'d, P, B, D>,
+    witness: &mut W,
+    taken: Vec<Bucket<'d, P, B, D>>,
+    copied: Vec<Copied<B>>,
+)
+    requires home { W.home witness.old ≡ (B.table, B.sizes) }
+    requires many { vec_len taken ≤ shelf.now.naming.buckets }
+    ensures heard { Begins (W.heard witness.old) (W.heard witness.new) }
+    ensures told { ((found : List (ℕ × ℕ)) × (W.looks witness.new ≡ found ++ W.looks witness.old)) × ((logs : List Log) × (W.loads witness.new ≡ logs ++ W.loads witness.old)) }
+    ensures same { Stays W.Witness witness.old witness.new }
+{
+    restock(rt, shelf, taken);
+    discard_all(domain, witness, copied);
+}
+
+impl<'d, P: GracePlan + Drop, B: Site, D: Deleter> Growth<'d, P, B, D> {
+    /// All that a growth needs before its first event: room, the new chains, a record for each key, one for the directory.
+    ///
+    /// Refused with `Memory`, with `BadConfig` where a new chain is not free, empty and without a note, or with `PoolFull`;
+    /// then all is as it was.
+    pub(crate) fn ready<W: Witness, R: Wait>(
+        rt: &R,
+        alloc: Global,
+        domain: &'d Domain<P, Tabled, B, D>,
+        shelf: &Shelf<'d, P, B, D>,
+        witness: &mut W,
+        first: usize,
+        buckets: usize,
+    ) -> Result<Growth<'d, P, B, D>, Refusal>
+        requires home { (W.home witness.old ≡ (B.table, B.sizes)) × (first + buckets ≤ B.sizes.chains) }
+        ensures rooms { IfOk result (λ g. (shelf.now.naming.buckets ≤ vec_capacity g.rooms.olds) × (shelf.now.naming.buckets ≤ vec_capacity g.rooms.returned) × (buckets ≤ vec_capacity g.rooms.noted) × (buckets ≤ vec_capacity g.rooms.named) × (buckets ≤ vec_capacity g.rooms.places)) }
+        ensures taken { IfOk result (λ g. (vec_len g.taken ≡ shelf.now.naming.buckets) × AreFrom shelf.now.naming.first (map (λ b. b.chain.seat.me.0) g.taken.items)) }
+        ensures copied { IfOk result (λ g. ((key : ℕ) → value_among (map (λ c. (c.key, c.value)) g.copied.items) key ≡ value_in_bucket shelf.now.naming.buckets (map (λ b. b.chain.seat.me.0) g.taken.items) key) × AreApart (map (λ c. (c.key, c.value)) g.copied.items) × AreRanked 0 (map (λ c. c.rank) g.copied.items)) }
+        ensures chains { IfOk result (λ g. (vec_len g.chains ≡ buckets) × AreFrom first (map (λ c. c.seat.me.0) g.chains.items) × Each IsEmpty (map (λ c. c.seat.me.0) g.chains.items) × Each IsAlone (map (λ c. c.seat.me.0) g.chains.items)) }
+        ensures record { IfOk result (λ g. (payload_in g.owned.seat.me.0.object ≡ words_by first buckets) × (g.old_lents.items ≡ []) × (shelf.now.naming.buckets ≤ vec_capacity g.old_lents) × (g.new_lents.items ≡ []) × (buckets ≤ vec_capacity g.new_lents)) }
+        ensures refused { IfErr result (λ e. (e ≡ BadConfig) ⊎ ((e ≡ Memory) ⊎ (e ≡ PoolFull))) }
+        ensures heard { Begins (W.heard witness.old) (W.heard witness.new) }
+        ensures told { ((found : List (ℕ × ℕ)) × (W.looks witness.new ≡ found ++ W.looks witness.old)) × ((logs : List Log) × (W.loads witness.new ≡ logs ++ W.loads witness.old)) }
+        ensures same { Stays W.Witness witness.old witness.new }
+    {
+        let olds = shelf.naming.buckets;
+        let rooms = Rooms::new(alloc, olds, buckets)?;
+        let mut taken = room(alloc, olds)?;
+        let chains = hold_all(domain, witness, room(alloc, buckets)?, first, buckets)?;
+        let mut copied = Vec::new(alloc);
+        if let Err(refusal) = copy_all(rt, shelf, witness, &mut taken, &mut copied) {
+            undo(rt, domain, shelf, witness, taken, copied);
+            return Err(refusal);
+        }
+        match provide(rt, alloc, domain, witness, olds, first, buckets) {
+            Ok((owned, old_lents, new_lents)) => Ok(Growth {
+                rooms,
+                taken,
+                copied,
+                owned,
+                chains,
+                old_lents,
+                new_lents,
+            }),
+            Err(refusal) => {
+                undo(rt, domain, shelf, witness, taken, copied);
+                Err(refusal)
+            }
+        }
+    }
+}

@@ -1,0 +1,168 @@
+//! How a table takes its chains, and how a directory comes to name them.
+
+ghost use Rattle.std.specs.Prelude.{◌≡◌, ◌⊎◌, ◌+◌, ◌<◌, ◌≤◌, ◌++◌, [], ℕ, List, None, IfErr, IfOk, map, vec_capacity, vec_len};
+ghost use Rattle.rcu_model.specs.declared.refusal.Refusal.TheVariants.{BadConfig, Memory};
+ghost use Rattle.live_log.specs.Log.{Begins, IsLiveRun};
+ghost use Rattle.live_log.specs.Tables.{tabled};
+ghost use Rattle.live_table.specs.Rights.{object_in, payload_in};
+ghost use Rattle.live_read.specs.Hearing.{IsAfter, OnlyHears, Stays};
+ghost use Rattle.rcu_hash.specs.Directories.{LeadsTo, directed_map};
+ghost use Rattle.rcu_hash.specs.Naming.{IsNamedBy, words_by};
+ghost use Rattle.rcu_hash.specs.Tables.{bucket_of};
+ghost use Rattle.rcu_hash.specs.Writers.{AreFrom, Each, HasKeysIn, HasNoNote, HasNote, HasNothing, IsAlone, IsEmpty, IsRunIn, IsSame, Noted, Pairwise};
+
+use crate::bucket::Bucket;
+use crate::directory::{Directory, Naming};
+use crate::rights::{lend_all, take_all_back};
+use crate::shelf::Place;
+use domain::{Chain, Deleter, Domain, Lent, Owned, Site, Witness};
+use gp_memb::GracePlan;
+use live_log::Tabled;
+use rcu_model::Refusal;
+use std::alloc::Global;
+use std::sync::Mutex;
+
+/// Room for so many.
+///
+/// Refused with `Memory` where memory is.
+pub(crate) fn room<T>(alloc: Global, many: usize) -> Result<Vec<T>, Refusal>
+    ensures made { IfOk result (λ v. (v.items ≡ []) × (many ≤ vec_capacity v)) }
+    ensures refused { IfErr result (λ e. e ≡ Memory) }
+{
+    match Vec::with_capacity(alloc, many) {
+        Ok(room) => Ok(room),
+        Err(_) => Err(Refusal::Memory),
+    }
+}
+
+/// The writer of a chain that is free, empty and has no note.
+///
+/// Refused with `BadConfig` where it is not. The caller hears of what was seen. It never waits.
+pub(crate) fn hold_empty<'d, P: GracePlan + Drop, B: Site, D: Deleter, W: Witness>(
+    domain: &'d Domain<P, Tabled, B, D>,
+    witness: &mut W,
+    chain: usize,
+) -> Result<Chain<'d, P, Tabled, B, D>, Refusal>
+    requires { (W.home witness.old ≡ (B.table, B.sizes)) × (chain < B.sizes.chains) }
+    ensures held { IfOk result (λ c. (c.number ≡ chain) × IsEmpty c.seat.me.0 × IsAlone c.seat.me.0 × IsLiveRun P.QSBR tabled c.seat.me.0.seen) }
+    ensures refused { IfErr result (λ e. e ≡ BadConfig) }
+    ensures heard { Begins (W.heard witness.old) (W.heard witness.new) }
+    ensures same { Stays W.Witness witness.old witness.new × (W.loads witness.new ≡ W.loads witness.old) × ((found : List (ℕ × ℕ)) × (W.looks witness.new ≡ found ++ W.looks witness.old)) }
+{
+    let Ok(mut writer) = domain.chain(witness, chain) else {
+        return Err(Refusal::BadConfig);
+    };
+    if writer.note() != 0 || writer.len() != 0 {
+        return Err(Refusal::BadConfig);
+    }
+    Ok(writer)
+}
+
+/// The writers of chains that follow one another and are free, empty and have no note. There is room for them.
+///
+/// Refused with `BadConfig` where one is not; then all are given back. The caller hears of what was seen. It never waits.
+pub(crate) fn hold_all<'d, P: GracePlan + Drop, B: Site, D: Deleter, W: Witness>(
+    domain: &'d Domain<P, Tabled, B, D>,
+    witness: &mut W,
+    mut chains: Vec<Chain<'d, P, Tabled, B, D>>,
+    first: usize,
+    many: usize,
+) -> Result<Vec<Chain<'d, P, Tabled, B, D>>, Refusal>
+    requires home { (W.home witness.old ≡ (B.table, B.sizes)) × (first + many ≤ B.sizes.chains) }
+    requires room { (chains.items ≡ []) × (many ≤ vec_capacity chains) }
+    ensures held { IfOk result (λ cs. (vec_len cs ≡ many) × AreFrom first (map (λ c. c.seat.me.0) cs.items) × Each IsEmpty (map (λ c. c.seat.me.0) cs.items) × Each IsAlone (map (λ c. c.seat.me.0) cs.items)) }
+    ensures refused { IfErr result (λ e. e ≡ BadConfig) }
+    ensures heard { Begins (W.heard witness.old) (W.heard witness.new) }
+    ensures same { Stays W.Witness witness.old witness.new × (W.loads witness.new ≡ W.loads witness.old) × ((found : List (ℕ × ℕ)) × (W.looks witness.new ≡ found ++ W.looks witness.old)) }
+{
+    for number in 0..many {
+        chains.push_reserved(hold_empty(domain, witness, first + number)?);
+    }
+    Ok(chains)
+}
+
+/// The chains of these writers get this note, from none. There is room for the writers. The caller hears of that. It never
+/// waits.
+pub(crate) fn note_all<'d, P: GracePlan + Drop, B: Site, D: Deleter, W: Witness>(
+    chains: Vec<Chain<'d, P, Tabled, B, D>>,
+    mut noted: Vec<Chain<'d, P, Tabled, B, D>>,
+    witness: &mut W,
+    note: u64,
+) -> Vec<Chain<'d, P, Tabled, B, D>>
+    requires home { W.home witness.old ≡ (B.table, B.sizes) }
+    requires room { (noted.items ≡ []) × (vec_len chains ≤ vec_capacity noted) }
+    requires chains { Each HasNoNote (map (λ c. c.seat.me.0) chains.items) × Each IsAlone (map (λ c. c.seat.me.0) chains.items) }
+    ensures noted { (vec_len result ≡ vec_len chains.entry) × Pairwise IsSame (map (λ c. c.seat.me.0) chains.entry.items) (map (λ c. c.seat.me.0) result.items) × Each (Noted (W.heard witness.old) note) (map (λ c. c.seat.me.0) result.items) × Each IsAlone (map (λ c. c.seat.me.0) result.items) }
+    ensures runs { Each (IsRunIn P.QSBR) (map (λ c. c.seat.me.0) result.items) }
+    ensures heard { Begins (W.heard witness.old) (W.heard witness.new) }
+    ensures same { OnlyHears W.Witness witness.old witness.new }
+{
+    let many = chains.len();
+    let mut rest = chains.into_iter();
+    for _ in 0..many {
+        let Some(mut chain) = rest.next() else {
+            unreachable!()
+        };
+        chain.set_note(witness, note);
+        noted.push_reserved(chain);
+    }
+    noted
+}
+
+/// A directory of these chains: a push of its record into its own chain, for which they all lend their rights. There is
+/// room for what is left of the writers then, and for them when they have their rights again. The caller hears of the push.
+/// It never waits.
+pub(crate) fn direct<'d, P: GracePlan + Drop, B: Site, D: Deleter, W: Witness>(
+    mut chain: Chain<'d, P, Tabled, B, D>,
+    chains: Vec<Chain<'d, P, Tabled, B, D>>,
+    lents: Vec<Lent<'d, P, Tabled, B, D>>,
+    back: Vec<Chain<'d, P, Tabled, B, D>>,
+    witness: &mut W,
+    owned: Owned<B>,
+    first: usize,
+) -> (Directory<'d, P, B, D>, Vec<Chain<'d, P, Tabled, B, D>>)
+    requires home { W.home witness.old ≡ (B.table, B.sizes) }
+    requires room { (lents.items ≡ []) × (vec_len chains ≤ vec_capacity lents) × (back.items ≡ []) × (vec_len chains ≤ vec_capacity back) }
+    requires own { IsEmpty chain.seat.me.0 × IsAlone chain.seat.me.0 × IsLiveRun P.QSBR tabled chain.seat.me.0.seen }
+    requires range { (0 < vec_len chains) × (first + vec_len chains ≤ B.sizes.chains) × ((chain.number < first) ⊎ (first + vec_len chains ≤ chain.number)) }
+    requires chains { AreFrom first (map (λ c. c.seat.me.0) chains.items) × Each HasNothing (map (λ c. c.seat.me.0) chains.items) × Each (HasNote (chain.number + 1)) (map (λ c. c.seat.me.0) chains.items) × Each IsAlone (map (λ c. c.seat.me.0) chains.items) }
+    requires record { payload_in owned.seat.me.0.object ≡ words_by first (vec_len chains) }
+    ensures directory { result.0.naming ≡ record { directory = chain.entry.number; object = object_in owned.seat.me.0.object; first = first; buckets = vec_len chains.entry } }
+    ensures chains { (vec_len result.1 ≡ vec_len chains.entry) × AreFrom first (map (λ c. c.seat.me.0) result.1.items) × Each IsAlone (map (λ c. c.seat.me.0) result.1.items) × Each HasKeysIn (map (λ c. c.seat.me.0) result.1.items) × Each (IsNamedBy chain.entry.number (object_in owned.seat.me.0.object)) (map (λ c. c.seat.me.0) result.1.items) }
+    ensures map { (key : ℕ) → (directed_map B.sizes.chains chain.entry.number (W.heard witness.new) key ≡ None) × LeadsTo chain.entry.number (W.heard witness.new) key (bucket_of first (vec_len chains.entry) key) }
+    ensures heard { IsAfter P.QSBR tabled (W.seen witness.old) (W.heard witness.old) (W.heard witness.new) }
+    ensures same { OnlyHears W.Witness witness.old witness.new }
+{
+    let buckets = chains.len();
+    let lents = lend_all(chains, lents, &mut chain);
+    let object = chain.push(witness, owned);
+    let back = take_all_back(lents, back, &mut chain);
+    let naming = Naming {
+        directory: chain.number(),
+        object,
+        first,
+        buckets,
+    };
+    (Directory { chain, naming }, back)
+}
+
+/// The buckets of a directory, each under its lock. There is room for them. It never waits.
+pub(crate) fn shelve<'d, P: GracePlan + Drop, B: Site, D: Deleter>(
+    chains: Vec<Chain<'d, P, Tabled, B, D>>,
+    mut buckets: Vec<Place<'d, P, B, D>>,
+    naming: Naming,
+) -> Vec<Place<'d, P, B, D>>
+    requires room { (buckets.items ≡ []) × (vec_len chains ≤ vec_capacity buckets) }
+    requires chains { Each IsAlone (map (λ c. c.seat.me.0) chains.items) × Each HasKeysIn (map (λ c. c.seat.me.0) chains.items) × Each (IsNamedBy naming.directory naming.object) (map (λ c. c.seat.me.0) chains.items) }
+    ensures { vec_len result ≡ vec_len chains.entry }
+{
+    let many = chains.len();
+    let mut rest = chains.into_iter();
+    for _ in 0..many {
+        let Some(chain) = rest.next() else {
+            unreachable!()
+        };
+        buckets.push_reserved(Mutex::new(Some(Bucket { chain, naming })));
+    }
+    buckets
+}

@@ -1,0 +1,57 @@
+//! The buckets of a table.
+
+ghost use Rattle.std.specs.Prelude.{◌≡◌, ◌+◌, ◌%◌, ◌<◌, ◌≤◌, vec_len};
+
+use crate::bucket::Bucket;
+use crate::directory::Naming;
+use domain::{Deleter, Site};
+use gp_memb::GracePlan;
+use std::sync::{Mutex, MutexGuard, Wait};
+
+/// A bucket under the lock of its writers; none while one of them has it, which holds the lock then.
+pub(crate) type Place<'d, P, B, D> = Mutex<Option<Bucket<'d, P, B, D>>>;
+
+/// The buckets that a directory names, in order.
+#[derive(Drop)]
+pub(crate) struct Shelf<'d, P: GracePlan, B: Site, D: Deleter> {
+    pub(crate) naming: Naming,
+    pub(crate) buckets: Vec<Place<'d, P, B, D>>,
+    pub(crate) ghost many: { (0 < naming.buckets) × (vec_len buckets ≡ naming.buckets) },
+    pub(crate) ghost fits: { naming.first + naming.buckets ≤ B.sizes.chains },
+}
+
+impl<'d, P: GracePlan + Drop, B: Site, D: Deleter> Shelf<'d, P, B, D> {
+    /// The bucket of a key.
+    pub(crate) fn bucket(&self, key: u64) -> usize
+        ensures { (result ≡ key % self.now.naming.buckets) × (result < self.now.naming.buckets) }
+    {
+        (key % self.naming.buckets as u64) as usize
+    }
+
+    /// A bucket out of its lock, to which it is to be given back. Which bucket it is is not known before it is looked at,
+    /// so that is looked at; it never is another.
+    pub(crate) fn take<'t, R: Wait>(
+        &'t self,
+        rt: &R,
+        number: usize,
+    ) -> (
+        MutexGuard<'t, Option<Bucket<'d, P, B, D>>>,
+        Bucket<'d, P, B, D>,
+    )
+        requires { number < self.now.naming.buckets }
+        ensures { (result.1.naming ≡ self.now.naming) × (result.1.chain.number ≡ self.now.naming.first + number) }
+    {
+        for _ in rt.forever() {
+            let mut place = self.buckets[number].lock(rt);
+            if let Some(bucket) = place.take() {
+                if bucket.naming == self.naming
+                    && bucket.chain.number() == self.naming.first + number
+                {
+                    return (place, bucket);
+                }
+                *place = Some(bucket);
+            }
+        }
+        unreachable!()
+    }
+}

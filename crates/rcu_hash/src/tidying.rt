@@ -1,0 +1,340 @@
+//! How what earlier directories left is retired.
+
+ghost use Rattle.std.specs.Prelude.{◌≡◌, ◌⊎◌, ◌+◌, ◌^◌, ◌-◌, ◌<◌, ◌≤◌, ◌++◌, [], ℕ, List, None, IfErr, IfNone, IfOk, IfSome, IsSome, length, map, min};
+ghost use Rattle.rcu_model.specs.declared.refusal.Refusal.TheVariants.{Exhausted};
+ghost use Rattle.live_log.specs.Log.{Begins, seq_of};
+ghost use Rattle.live_log.specs.Tables.{tabled};
+ghost use Rattle.live_read.specs.Hearing.{FindsNothing, OnlyHears, Stays};
+ghost use Rattle.live_write.specs.Chains.{list_in};
+ghost use Rattle.domain.specs.Waiting.{Synchronized};
+ghost use Rattle.rcu_hash.specs.Tidying.{ClearsNote, FindsMore, HasWaited, IsExhausted, IsLeft, IsRefused, IsStopped, RetiresObject, Tidies, Uses, objects_in};
+ghost use Rattle.rcu_hash.specs.Writers.{Each, HasNothing};
+
+use crate::directory::{Desk, Naming};
+use crate::left::Left;
+use crate::table::RcuHash;
+use domain::{Callback, Chain, Deleter, Domain, Site, Ticket, Unlinked, Witness};
+use gp_memb::GracePlan;
+use live_log::Tabled;
+use rcu_model::Refusal;
+use std::sync::{MutexGuard, Wait};
+
+/// What a tidying came to.
+#[derive(Drop)]
+pub struct TidyEnd<D = Callback> {
+    /// How many objects it retired.
+    pub retired: usize,
+    /// How many objects are left that an earlier directory left.
+    pub left: usize,
+    /// The callbacks that it did not use.
+    pub jobs: Vec<D>,
+    /// Why it stopped, where objects are left.
+    pub stop: Option<Refusal>,
+}
+
+impl<D> TidyEnd<D> {
+    /// Nothing is left.
+    fn done(retired: usize, jobs: Vec<D>) -> TidyEnd<D>
+        ensures { (result.retired ≡ retired) × (result.left ≡ 0) × (result.jobs ≡ jobs) × (result.stop ≡ None) }
+    {
+        TidyEnd {
+            retired,
+            left: 0,
+            jobs,
+            stop: None,
+        }
+    }
+}
+
+impl<'d, P: GracePlan + Drop, B: Site, D: Deleter> Desk<'d, P, B, D> {
+    /// Waits for a grace period that begins while the directory is linked.
+    ///
+    /// Refused with `Exhausted` where no more of them can be counted.
+    fn settle<W: Witness, R: Wait>(
+        &self,
+        rt: &R,
+        domain: &Domain<P, Tabled, B, D>,
+        naming: Naming,
+        witness: &mut W,
+    ) -> Result<(), Refusal>
+        requires { W.home witness.old ≡ (B.table, B.sizes) }
+        ensures waited { IfOk result (λ _. HasWaited naming.directory naming.object (W.heard witness.new)) }
+        ensures ended { IfOk result (λ _. Synchronized P.QSBR tabled (W.seen witness.old) (W.heard witness.old) (W.loads witness.old) (W.loads witness.new) (W.heard witness.new)) }
+        ensures refused { IfErr result (λ e. IsExhausted W.Witness P.QSBR tabled witness.old witness.new e) }
+        ensures heard { Begins (W.heard witness.old) (W.heard witness.new) }
+        ensures same { FindsNothing W.Witness witness.old witness.new }
+    {
+        let (mut place, mut directory) = self.take(rt, naming);
+        directory.chain.hear(witness);
+        *place = Some(directory);
+        domain.synchronize(rt, witness)
+    }
+
+    /// Cuts the first object of a chain that an earlier directory named, and retires it. It waits for the locks of the
+    /// directory and of the queue.
+    ///
+    /// Refused as `retire`; then the callback comes back.
+    fn retire_first<W: Witness, R: Wait>(
+        &self,
+        rt: &R,
+        naming: Naming,
+        witness: &mut W,
+        chain: &mut Chain<'_, P, Tabled, B, D>,
+        job: D,
+    ) -> Result<Ticket, (Refusal, D)>
+        requires home { W.home witness.old ≡ (B.table, B.sizes) }
+        requires waited { HasWaited naming.directory naming.object (W.heard witness.old) }
+        requires chain { IsLeft naming.directory naming.first naming.buckets chain.old.seat.me.0 }
+        requires some { 0 < length (list_in chain.old.seat.me.0) }
+        ensures retired { IfOk result (λ _. RetiresObject P.QSBR tabled B.sizes naming.directory (W.seen witness.old) (W.heard witness.old) (W.heard witness.new) × (length (list_in chain.old.seat.me.0) ≡ length (list_in chain.new.seat.me.0) + 1)) }
+        ensures refused { IfErr result (λ e. (e.1 ≡ job) × IsRefused W.Witness witness.old witness.new e.0 × (list_in chain.new.seat.me.0 ≡ list_in chain.old.seat.me.0)) }
+        ensures chain { IsLeft naming.directory naming.first naming.buckets chain.new.seat.me.0 }
+        ensures heard { Begins (W.heard witness.old) (W.heard witness.new) }
+        ensures same { FindsMore W.Witness witness.old witness.new }
+    {
+        let domain = chain.domain();
+        let (mut place, directory) = self.take(rt, naming);
+        let lent = directory.lend(chain);
+        let answer = domain.cut_retire(rt, witness, chain, 0, job);
+        *place = Some(lent.take_back(chain));
+        answer
+    }
+
+    /// Retires all objects of a chain that an earlier directory named, as long as there are callbacks.
+    ///
+    /// Refused where those run out, else as `retire`.
+    fn retire_all<W: Witness, R: Wait>(
+        &self,
+        rt: &R,
+        naming: Naming,
+        witness: &mut W,
+        chain: &mut Chain<'_, P, Tabled, B, D>,
+        jobs: &mut Vec<D>,
+    ) -> Result<(), Refusal>
+        requires home { W.home witness.old ≡ (B.table, B.sizes) }
+        requires waited { HasWaited naming.directory naming.object (W.heard witness.old) }
+        requires chain { IsLeft naming.directory naming.first naming.buckets chain.old.seat.me.0 }
+        ensures uses { Uses P.QSBR tabled B.sizes naming.directory (W.seen witness.old) jobs.old.items jobs.new.items (W.heard witness.old) (W.heard witness.new) }
+        ensures emptied { IfOk result (λ _. HasNothing chain.new.seat.me.0) }
+        ensures stopped { IfErr result (λ e. (0 < length (list_in chain.new.seat.me.0)) × IsStopped W.Witness witness.old witness.new jobs.new.items e) }
+        ensures chain { IsLeft naming.directory naming.first naming.buckets chain.new.seat.me.0 }
+        ensures waited { HasWaited naming.directory naming.object (W.heard witness.new) }
+        ensures same { FindsMore W.Witness witness.old witness.new }
+    {
+        let many = chain.len();
+        for _ in 0..many {
+            let Some(job) = jobs.pop() else {
+                return Err(Refusal::FewJobs);
+            };
+            if let Err((refusal, job)) = self.retire_first(rt, naming, witness, chain, job) {
+                jobs.push_reserved(job);
+                return Err(refusal);
+            }
+        }
+        Ok(())
+    }
+
+    /// Gives back an empty chain that an earlier directory named, without its note. It waits for the directory's lock.
+    fn give_back<W: Witness, R: Wait>(
+        &self,
+        rt: &R,
+        naming: Naming,
+        witness: &mut W,
+        chain: Chain<'_, P, Tabled, B, D>,
+    )
+        requires home { W.home witness.old ≡ (B.table, B.sizes) }
+        requires waited { HasWaited naming.directory naming.object (W.heard witness.old) }
+        requires chain { IsLeft naming.directory naming.first naming.buckets chain.seat.me.0 }
+        requires nothing { HasNothing chain.seat.me.0 }
+        ensures cleared { ClearsNote P.QSBR tabled B.sizes naming.directory (W.seen witness.old) (W.heard witness.old) (W.heard witness.new) }
+        ensures same { OnlyHears W.Witness witness.old witness.new }
+    {
+        let mut chain = chain;
+        let (mut place, directory) = self.take(rt, naming);
+        let lent = directory.lend(&mut chain);
+        chain.set_note(witness, 0);
+        *place = Some(lent.take_back(&mut chain));
+    }
+
+    /// Retires all objects of these chains and gives them back, from the last one, as long as there are callbacks.
+    ///
+    /// Refused where those run out, else as `retire`; then the chains that are left have objects.
+    fn clear_all<W: Witness, R: Wait>(
+        &self,
+        rt: &R,
+        naming: Naming,
+        witness: &mut W,
+        chains: &mut Vec<Chain<'d, P, Tabled, B, D>>,
+        jobs: &mut Vec<D>,
+    ) -> Result<(), Refusal>
+        requires home { W.home witness.old ≡ (B.table, B.sizes) }
+        requires waited { HasWaited naming.directory naming.object (W.heard witness.old) }
+        requires chains { Each (IsLeft naming.directory naming.first naming.buckets) (map (λ c. c.seat.me.0) chains.old.items) }
+        ensures uses { Uses P.QSBR tabled B.sizes naming.directory (W.seen witness.old) jobs.old.items jobs.new.items (W.heard witness.old) (W.heard witness.new) }
+        ensures chains { Each (IsLeft naming.directory naming.first naming.buckets) (map (λ c. c.seat.me.0) chains.new.items) }
+        ensures emptied { IfOk result (λ _. chains.new.items ≡ []) }
+        ensures stopped { IfErr result (λ e. (0 < objects_in (map (λ c. c.seat.me.0) chains.new.items)) × IsStopped W.Witness witness.old witness.new jobs.new.items e) }
+        ensures same { FindsMore W.Witness witness.old witness.new }
+    {
+        let many = chains.len();
+        for _ in 0..many {
+            let Some(mut chain) = chains.pop() else {
+                unreachable!()
+            };
+            if let Err(refusal) = self.retire_all(rt, naming, witness, &mut chain, jobs) {
+                chains.push_reserved(chain);
+                return Err(refusal);
+            }
+            self.give_back(rt, naming, witness, chain);
+        }
+        Ok(())
+    }
+}
+
+/// Retires the record of an earlier directory, where it is not retired.
+///
+/// Refused where there is no callback for it, else as `retire`; then it is where it was.
+fn retire_record<P: GracePlan + Drop, B: Site, D: Deleter, W: Witness, R: Wait>(
+    rt: &R,
+    domain: &Domain<P, Tabled, B, D>,
+    witness: &mut W,
+    replaced: &mut Option<Unlinked<B>>,
+    jobs: &mut Vec<D>,
+) -> Result<(), Refusal>
+    requires home { W.home witness.old ≡ (B.table, B.sizes) }
+    ensures uses { (d : ℕ) → Uses P.QSBR tabled B.sizes d (W.seen witness.old) jobs.old.items jobs.new.items (W.heard witness.old) (W.heard witness.new) }
+    ensures retired { IfOk result (λ _. replaced.new ≡ None) }
+    ensures stopped { IfErr result (λ e. IsSome replaced.new × IsStopped W.Witness witness.old witness.new jobs.new.items e) }
+    ensures heard { Begins (W.heard witness.old) (W.heard witness.new) }
+    ensures same { FindsMore W.Witness witness.old witness.new }
+{
+    let Some(unlinked) = replaced.take() else {
+        return Ok(());
+    };
+    let Some(job) = jobs.pop() else {
+        *replaced = Some(unlinked);
+        return Err(Refusal::FewJobs);
+    };
+    match domain.retire(rt, witness, unlinked, job) {
+        Ok(_) => Ok(()),
+        Err((refusal, unlinked, job)) => {
+            *replaced = Some(unlinked);
+            jobs.push_reserved(job);
+            Err(refusal)
+        }
+    }
+}
+
+/// How many objects these chains have, with so many others; at most the greatest number.
+fn count<P: GracePlan, B: Site, D: Deleter>(
+    chains: &[Chain<'_, P, Tabled, B, D>],
+    others: usize,
+) -> usize
+    ensures { result ≡ min (others + objects_in (map (λ c. c.seat.me.0) chains.now)) (2 ^ 64 - 1) }
+{
+    let mut many = others;
+    for index in 0..chains.len() {
+        many = many.saturating_add(chains[index].len());
+    }
+    many
+}
+
+impl<'d, P: GracePlan + Drop, B: Site, D: Deleter> RcuHash<'d, P, B, D> {
+    /// What earlier directories left, out of its lock. Of which table it is is not known before it is looked at, so that is
+    /// looked at; it never is another's.
+    fn take_left<'t, R: Wait>(
+        &'t self,
+        rt: &R,
+    ) -> (
+        MutexGuard<'t, Option<Left<'d, P, B, D>>>,
+        Option<Left<'d, P, B, D>>,
+    )
+        ensures { IfSome result.1 (λ l. l.naming.directory ≡ self.now.directory) }
+    {
+        for _ in rt.forever() {
+            let mut place = self.left.lock(rt);
+            let Some(left) = place.take() else {
+                return (place, None);
+            };
+            if left.naming.directory == self.directory {
+                return (place, Some(left));
+            }
+            *place = Some(left);
+        }
+        unreachable!()
+    }
+
+    /// Retires these after a grace period: first the record, then the objects of the chains.
+    ///
+    /// Refused with `Exhausted` where no grace period can be waited for, where callbacks run out, else as `retire`.
+    fn retire_left<W: Witness, R: Wait>(
+        &self,
+        rt: &R,
+        witness: &mut W,
+        naming: Naming,
+        replaced: &mut Option<Unlinked<B>>,
+        chains: &mut Vec<Chain<'d, P, Tabled, B, D>>,
+        jobs: &mut Vec<D>,
+    ) -> Result<(), Refusal>
+        requires home { W.home witness.old ≡ (B.table, B.sizes) }
+        requires chains { Each (IsLeft naming.directory naming.first naming.buckets) (map (λ c. c.seat.me.0) chains.old.items) }
+        ensures chains { Each (IsLeft naming.directory naming.first naming.buckets) (map (λ c. c.seat.me.0) chains.new.items) }
+        ensures tidied { Tidies W.Witness P.QSBR tabled witness.old witness.new B.sizes naming.directory jobs.old.items jobs.new.items ⊎ ((jobs.new.items ≡ jobs.old.items) × IsExhausted W.Witness P.QSBR tabled witness.old witness.new Exhausted) }
+        ensures done { IfOk result (λ _. (replaced.new ≡ None) × (chains.new.items ≡ [])) }
+        ensures stopped { IfErr result (λ e. ((e ≡ Exhausted) × (jobs.new.items ≡ jobs.old.items) × (2 ^ 62 ≤ seq_of (W.heard witness.new))) ⊎ ((IsSome replaced.new ⊎ (0 < objects_in (map (λ c. c.seat.me.0) chains.new.items))) × IsStopped W.Witness witness.old witness.new jobs.new.items e)) }
+        ensures heard { Begins (W.heard witness.old) (W.heard witness.new) }
+        ensures same { Stays W.Witness witness.old witness.new × ((found : List (ℕ × ℕ)) × (W.looks witness.new ≡ found ++ W.looks witness.old)) }
+    {
+        self.desk.settle(rt, self.domain, naming, witness)?;
+        retire_record(rt, self.domain, witness, replaced, jobs)?;
+        self.desk.clear_all(rt, naming, witness, chains, jobs)
+    }
+
+    /// Retires what earlier directories left, one callback each, from the back. Where something is left it waits for a grace
+    /// period first, liburcu's `synchronize_rcu`, so a caller has no section or lock open, and is offline where its reader
+    /// is of the quiescent-state flavour. What callbacks it does not use come back. Where nothing is left the chains of
+    /// earlier directories have no note, and are given back.
+    ///
+    /// It stops with `FewJobs` where callbacks run out while objects are left, with `Exhausted` where the grace period is
+    /// refused, and with `Closed` or `Memory` as `retire`. It holds the lock that a growth takes; writers and readers go on.
+    pub fn tidy<W: Witness, R: Wait>(&self, rt: &R, witness: &mut W, jobs: Vec<D>) -> TidyEnd<D>
+        requires home { W.home witness.old ≡ (B.table, B.sizes) }
+        ensures jobs { (used : List D) × (jobs.items ≡ result.jobs.items ++ used) × (length used ≡ result.retired) }
+        ensures tidied { Tidies W.Witness P.QSBR tabled witness.old witness.new B.sizes self.now.directory jobs.items result.jobs.items ⊎ ((result.jobs.items ≡ jobs.items) × ((witness.new ≡ witness.old) ⊎ IsExhausted W.Witness P.QSBR tabled witness.old witness.new Exhausted)) }
+        ensures done { IfNone result.stop (result.left ≡ 0) }
+        ensures stopped { IfSome result.stop (λ e. (0 < result.left) × (((e ≡ Exhausted) × (result.retired ≡ 0) × (2 ^ 62 ≤ seq_of (W.heard witness.new))) ⊎ IsStopped W.Witness witness.old witness.new result.jobs.items e)) }
+        ensures heard { Begins (W.heard witness.old) (W.heard witness.new) }
+        ensures same { Stays W.Witness witness.old witness.new × ((found : List (ℕ × ℕ)) × (W.looks witness.new ≡ found ++ W.looks witness.old)) }
+    {
+        let (mut place, left) = self.take_left(rt);
+        let mut jobs = jobs;
+        let many = jobs.len();
+        let Some(left) = left else {
+            return TidyEnd::done(0, jobs);
+        };
+        let Left {
+            naming,
+            record: mut replaced,
+            mut chains,
+        } = left;
+        let answer = self.retire_left(rt, witness, naming, &mut replaced, &mut chains, &mut jobs);
+        let retired = many - jobs.len();
+        let Err(refusal) = answer else {
+            return TidyEnd::done(retired, jobs);
+        };
+        let left = count(&chains, replaced.is_some() as usize);
+        let stop = if left == 0 { None } else { Some(refusal) };
+        let rest = Left {
+            naming,
+            record: replaced,
+            chains,
+        };
+        *place = Some(rest);
+        TidyEnd {
+            retired,
+            left,
+            jobs,
+            stop,
+        }
+    }
+}

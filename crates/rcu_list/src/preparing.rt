@@ -1,0 +1,104 @@
+//! What a writer of a chain of keys makes ready before it publishes: how much of a call needs no more than the chain.
+
+ghost use Rattle.std.specs.Prelude.{◌≡◌, ◌∷◌, ◌+◌, ◌<◌, ◌^◌, ◌++◌, ℕ, List, None, IfErr, IfNone, IfOk, IfSome, IsSome};
+ghost use Rattle.rcu_model.specs.Sets.{In};
+ghost use Rattle.rcu_model.specs.declared.event.ObjectId.{ObjectId};
+ghost use Rattle.live_log.specs.Keys.{rank_of};
+ghost use Rattle.live_log.specs.Log.{note_of};
+ghost use Rattle.live_table.specs.Steps.{IsLater, Keeps, Went};
+ghost use Rattle.live_read.specs.Hearing.{IsAfter, Stays};
+ghost use Rattle.live_write.specs.Chains.{list_in};
+ghost use Rattle.rcu_list.specs.Maps.{HasLastRank, map_of};
+ghost use Rattle.rcu_list.specs.Preparing.{MayComeIn, MayTakeOver};
+ghost use Rattle.rcu_list.specs.Refusing.{RefusesInsertion, RefusesSuccessor};
+
+use crate::rule::MapRule;
+use domain::{Chain, Deleter, Owned, Site, Witness};
+use gp_memb::GracePlan;
+use rcu_model::Refusal;
+use std::sync::Wait;
+
+/// No key has a rank above this.
+const LAST_RANK: u64 = 4_611_686_018_427_387_903;
+
+/// A rank above those of all keys, unless one has the last.
+fn fresh_rank<P: GracePlan + Drop, K: MapRule, B: Site, D: Deleter>(
+    chain: &mut Chain<'_, P, K, B, D>,
+) -> Option<u64>
+    requires { IsLater P.QSBR K.allows chain.old.seat.me.0 chain.old.seat.me.0 }
+    ensures above { IfSome result (λ rank. (rank < 2 ^ 62) × ((o : ObjectId) → In (list_in chain.old.seat.me.0) o → rank_of (note_of chain.new.seat.me.0.seen o) < rank)) }
+    ensures none { IfNone result (HasLastRank chain.new.seat.me.0.seen chain.old.number) }
+    ensures looked { Keeps chain.old.seat chain.new.seat × Went P.QSBR K.allows chain.old.seat.me.0 chain.old.seat.me chain.new.seat.me × (chain.new.number ≡ chain.old.number) × (chain.new.home.now ≡ chain.old.home.now) }
+{
+    let Some(first) = chain.get(0) else {
+        return Some(0);
+    };
+    if first[2] >= LAST_RANK {
+        return None;
+    }
+    Some(first[2] + 1)
+}
+
+/// A record for a key that has no value, which a push makes the first of the chain: its rank is above all others.
+///
+/// Refused with `Exists` exactly where the key has a value, else with `PoolFull` where the ranks are used up, or as
+/// `alloc`. It takes no memory, and waits for nobody, but tries again where other threads draw object numbers meanwhile.
+pub fn prepare_insertion<P: GracePlan + Drop, K: MapRule, B: Site, D: Deleter, W: Witness, R: Wait>(
+    rt: &R,
+    chain: &mut Chain<'_, P, K, B, D>,
+    witness: &mut W,
+    key: u64,
+    value: u64,
+) -> Result<Owned<B>, Refusal>
+    requires { W.home witness.old ≡ (B.table, B.sizes) }
+    ensures ready { IfOk result (λ o. MayComeIn chain.new.seat.me.0 o.seat.me.0 key value × (map_of chain.old.seat.me.0.seen chain.old.number key ≡ None)) }
+    ensures heard { IfOk result (λ _. IsAfter P.QSBR K.allows (W.seen witness.old) (W.heard witness.old) (W.heard witness.new)) }
+    ensures same { IfOk result (λ _. Stays W.Witness witness.old witness.new × (W.loads witness.new ≡ W.loads witness.old) × ((found : List (ℕ × ℕ)) × (W.looks witness.new ≡ found ++ W.looks witness.old))) }
+    ensures refused { IfErr result (λ e. RefusesInsertion W.Witness P.QSBR K.allows B.sizes witness.old witness.new e chain.old.seat.me.0.seen chain.old.number key) }
+    ensures looked { Keeps chain.old.seat chain.new.seat × Went P.QSBR K.allows chain.old.seat.me.0 chain.old.seat.me chain.new.seat.me × (chain.new.number ≡ chain.old.number) × (chain.new.home.now ≡ chain.old.home.now) }
+{
+    if chain.index_of(key).is_some() {
+        return Err(Refusal::Exists);
+    }
+    let Some(rank) = fresh_rank(chain) else {
+        return Err(Refusal::PoolFull);
+    };
+    chain.domain().alloc(rt, witness, [key, value, rank, 0])
+}
+
+/// The index of a key that has a value, and a record that takes its place, with the key, its rank and this value.
+///
+/// Refused with `Missing` exactly where the key has no value, else as `alloc`. It takes no memory, and waits for nobody,
+/// but tries again where other threads draw object numbers meanwhile.
+pub fn prepare_replacement<
+    P: GracePlan + Drop,
+    K: MapRule,
+    B: Site,
+    D: Deleter,
+    W: Witness,
+    R: Wait,
+>(
+    rt: &R,
+    chain: &mut Chain<'_, P, K, B, D>,
+    witness: &mut W,
+    key: u64,
+    value: u64,
+) -> Result<(usize, Owned<B>), Refusal>
+    requires { W.home witness.old ≡ (B.table, B.sizes) }
+    ensures ready { IfOk result (λ r. MayTakeOver chain.new.seat.me.0 r.1.seat.me.0 key value r.0 × IsSome (map_of chain.old.seat.me.0.seen chain.old.number key)) }
+    ensures heard { IfOk result (λ _. IsAfter P.QSBR K.allows (W.seen witness.old) (W.heard witness.old) (W.heard witness.new)) }
+    ensures same { IfOk result (λ _. Stays W.Witness witness.old witness.new × (W.loads witness.new ≡ W.loads witness.old) × ((found : List (ℕ × ℕ)) × (W.looks witness.new ≡ found ++ W.looks witness.old))) }
+    ensures refused { IfErr result (λ e. RefusesSuccessor W.Witness P.QSBR K.allows B.sizes witness.old witness.new e chain.old.seat.me.0.seen chain.old.number key) }
+    ensures looked { Keeps chain.old.seat chain.new.seat × Went P.QSBR K.allows chain.old.seat.me.0 chain.old.seat.me chain.new.seat.me × (chain.new.number ≡ chain.old.number) × (chain.new.home.now ≡ chain.old.home.now) }
+{
+    let Some(index) = chain.index_of(key) else {
+        return Err(Refusal::Missing);
+    };
+    let Some(words) = chain.get(index) else {
+        unreachable!()
+    };
+    match chain.domain().alloc(rt, witness, [key, value, words[2], 0]) {
+        Ok(owned) => Ok((index, owned)),
+        Err(refusal) => Err(refusal),
+    }
+}
