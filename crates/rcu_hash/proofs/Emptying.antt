@@ -269,6 +269,11 @@ each_pushed xs all x f P is so one = subst (λ vs. Each P vs) (sym (ap (map f) i
 pub objects_pushed : {X : Type 0} (xs all : List X) (x : X) (f : X → View) → all ≡ xs ++ x ∷ [] → 0 < length (list_in (f x)) → 0 < objects_in (map f all)
 objects_pushed xs all x f is some = let sum = ap objects_in (ap (map f) is ∙ map-append f xs (x ∷ [])) ∙ objects_both (map f xs) (f x ∷ []) in omega (arith, sum, some)
 
+-- chains that have objects are some
+pub objects_some : {X : Type 0} (xs : List X) (f : X → View) → 0 < objects_in (map f xs) → 0 < length xs
+objects_some [] f some = some
+objects_some (x ∷ xs) f some = omega arith
+
 -- how many the first ones have, with one more
 pub objects_taken : {X : Type 0} (xs : List X) (i : ℕ) (x : X) (f : X → View) → slice_get xs i ≡ Some x → objects_in (map f (take (suc i) xs)) ≡ objects_in (map f (take i xs)) + length (list_in (f x))
 objects_taken [] i x f is = absurd (none_some x is)

@@ -1,14 +1,23 @@
 -- What a growth tells.
-use Rattle.std.specs.Prelude.{◌≡◌, ℕ, ◌+◌, ◌∷◌, Bool, List, length}
+use Rattle.std.specs.Prelude.{◌≡◌, ℕ, ◌+◌, ◌∷◌, [], Bool, List, length}
 use Rattle.rcu_model.specs.declared.event.ObjectId.{ObjectId}
 use Rattle.live_log.specs.declared.event.LiveEvent.{LiveEvent}
 use Rattle.live_log.specs.declared.event.LiveEvent.TheVariants.{Object}
 use Rattle.live_log.specs.declared.event.ObjectEvent.TheVariants.{Replace}
-use Rattle.live_log.specs.Log.{Log, Begins, IsLiveRun}
+use Rattle.live_log.specs.Log.{Log, Begins, IsLiveRun, chain_note, note_of, state_of}
+use Rattle.live_log.specs.Tables.{Names}
 use Rattle.rcu_hash.specs.Copies.{AreApart, value_among}
 use Rattle.rcu_hash.specs.Directories.{LeadsTo, directed_map}
 use Rattle.rcu_hash.specs.Naming.{words_by}
 use Rattle.rcu_hash.specs.Tables.{bucket_of}
+
+-- A chain has the note of the table whose directory is in chain d, and the directory does not name it.
+pub record HasLeft (d : ℕ) (log : Log) : Type 0 where
+  pub chain : ℕ
+  pub object : ObjectId
+  pub noted : chain_note chain log ≡ d + 1
+  pub present : (state_of log).chain d ≡ object ∷ []
+  pub unnamed : ¬ (Names (note_of log object) chain)
 
 -- by the rule of chains, the chains of the domain, the directory's chain, and what the caller had seen and heard of
 module _ (qsbr : Bool) (allows : Log → LiveEvent → Type 0) (chains d : ℕ) (seen heard : Log) where

@@ -9,7 +9,7 @@ ghost use Rattle.live_table.specs.Rights.{payload_in};
 ghost use Rattle.live_read.specs.Hearing.{OnlyHears, Stays};
 ghost use Rattle.live_write.specs.Searching.{AreTaken, IsUsedUp};
 ghost use Rattle.rcu_hash.specs.Copies.{AreApart, AreRanked, value_among, value_in_bucket};
-ghost use Rattle.rcu_hash.specs.Growing.{Grows};
+ghost use Rattle.rcu_hash.specs.Growing.{Grows, HasLeft};
 ghost use Rattle.rcu_hash.specs.Naming.{words_by};
 ghost use Rattle.rcu_hash.specs.Tables.{are_apart, fits};
 ghost use Rattle.rcu_hash.specs.Writers.{AreFrom, Each, HasKeysIn, IsAlone, IsEmpty};
@@ -153,7 +153,8 @@ impl<'d, P: GracePlan + Drop, B: Site, D: Deleter> RcuHash<'d, P, B, D> {
     /// until `tidy` retires it: the answer is how many these are. The caller hears of the log in which the new directory
     /// came. liburcu's `cds_lfht_resize`.
     ///
-    /// Refused with `Busy` where something is left from an earlier growth, else with `BadConfig` where the number of
+    /// Refused with `Busy` where something is left from an earlier growth, and then the caller hears of a log in which a
+    /// chain that the directory does not name has the table's note; else with `BadConfig` where the number of
     /// buckets is not 1 to 4,096 or a chain is not there, or is one of the table's, else with `Memory` where memory is,
     /// with `BadConfig` where a chain has a writer, is not empty or has a note other than 0, or with `PoolFull` where
     /// there is no record for a key or for the directory; then all is as it was. It waits for the table's locks, and for
@@ -168,13 +169,14 @@ impl<'d, P: GracePlan + Drop, B: Site, D: Deleter> RcuHash<'d, P, B, D> {
     ) -> Result<usize, Refusal>
         requires { W.home witness.old ≡ (B.table, B.sizes) }
         ensures grown { IfOk result (λ left. (entries : List (ℕ × ℕ)) × Grows P.QSBR tabled B.sizes.chains self.now.directory (W.seen witness.old) (W.heard witness.old) first buckets entries (W.heard witness.new) × (left ≡ length entries + 1) × (fits B.sizes.chains self.now.directory first buckets ≡ true)) }
-        ensures refused { IfErr result (λ e. (e ≡ Busy) ⊎ ((e ≡ BadConfig) ⊎ ((fits B.sizes.chains self.now.directory first buckets ≡ true) × ((e ≡ Memory) ⊎ (e ≡ PoolFull))))) }
+        ensures refused { IfErr result (λ e. ((e ≡ Busy) × HasLeft self.now.directory (W.heard witness.new)) ⊎ ((e ≡ BadConfig) ⊎ ((fits B.sizes.chains self.now.directory first buckets ≡ true) × ((e ≡ Memory) ⊎ (e ≡ PoolFull))))) }
         ensures heard { Begins (W.heard witness.old) (W.heard witness.new) }
         ensures told { ((found : List (ℕ × ℕ)) × (W.looks witness.new ≡ found ++ W.looks witness.old)) × ((logs : List Log) × (W.loads witness.new ≡ logs ++ W.loads witness.old)) }
         ensures same { Stays W.Witness witness.old witness.new }
     {
-        let mut place = self.left.lock(rt);
-        if place.is_some() {
+        let (mut place, left) = self.take_left(rt);
+        if let Some(left) = left {
+            *place = Some(left.hear(rt, &self.desk, witness));
             return Err(Refusal::Busy);
         }
         let mut shelf = self.own_shelf(rt);

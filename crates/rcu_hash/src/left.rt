@@ -1,12 +1,16 @@
 //! What an earlier directory left.
 
-ghost use Rattle.std.specs.Prelude.{◌+◌, map};
+ghost use Rattle.std.specs.Prelude.{◌≡◌, ◌+◌, ◌<◌, map, vec_len};
+ghost use Rattle.live_read.specs.Hearing.{OnlyHears};
+ghost use Rattle.rcu_hash.specs.Growing.{HasLeft};
+ghost use Rattle.rcu_hash.specs.Tidying.{IsLeft};
 ghost use Rattle.rcu_hash.specs.Writers.{Each, HasKeysIn, HasNote, IsAlone, IsOutside, alone_prop, each_prop, keys_prop, note_prop};
 
-use crate::directory::Naming;
-use domain::{Chain, Deleter, Site, Unlinked};
+use crate::directory::{Desk, Naming};
+use domain::{Chain, Deleter, Site, Unlinked, Witness};
 use gp_memb::GracePlan;
 use live_log::Tabled;
+use std::sync::Wait;
 
 /// What a directory left when another one took its place: its record, unless that is retired, and chains that it named,
 /// with the objects that are not retired yet.
@@ -16,8 +20,62 @@ pub(crate) struct Left<'d, P: GracePlan, B: Site, D: Deleter> {
     pub(crate) naming: Naming,
     pub(crate) record: Option<Unlinked<B>>,
     pub(crate) chains: Vec<Chain<'d, P, Tabled, B, D>>,
+    pub(crate) ghost some: { 0 < vec_len chains },
     pub(crate) ghost alone: { Each IsAlone (map (λ c. c.seat.me.0) chains.items) } by { each_prop IsAlone alone_prop _ },
     pub(crate) ghost keys: { Each HasKeysIn (map (λ c. c.seat.me.0) chains.items) } by { each_prop HasKeysIn keys_prop _ },
     pub(crate) ghost notes: { Each (HasNote (naming.directory + 1)) (map (λ c. c.seat.me.0) chains.items) } by { each_prop (HasNote (naming.directory + 1)) (note_prop (naming.directory + 1)) _ },
     pub(crate) ghost outside: { ∥ Each (IsOutside naming.first naming.buckets) (map (λ c. c.seat.me.0) chains.items) ∥₁ },
+}
+
+impl<'d, P: GracePlan + Drop, B: Site, D: Deleter> Desk<'d, P, B, D> {
+    /// The caller hears of a log in which a chain that an earlier directory named has its note still. It waits for the
+    /// directory's lock.
+    pub(crate) fn hear_left<W: Witness, R: Wait>(
+        &self,
+        rt: &R,
+        naming: Naming,
+        witness: &mut W,
+        chain: &mut Chain<'_, P, Tabled, B, D>,
+    )
+        requires home { W.home witness.old ≡ (B.table, B.sizes) }
+        requires chain { IsLeft naming.directory naming.first naming.buckets chain.old.seat.me.0 }
+        ensures left { HasLeft naming.directory (W.heard witness.new) }
+        ensures chain { IsLeft naming.directory naming.first naming.buckets chain.new.seat.me.0 }
+        ensures same { OnlyHears W.Witness witness.old witness.new }
+    {
+        let (mut place, directory) = self.take(rt, naming);
+        let lent = directory.lend(chain);
+        chain.hear(witness);
+        *place = Some(lent.take_back(chain));
+    }
+}
+
+impl<'d, P: GracePlan + Drop, B: Site, D: Deleter> Left<'d, P, B, D> {
+    /// The caller hears of a log in which this is left. It waits for the directory's lock.
+    pub(crate) fn hear<W: Witness, R: Wait>(
+        self,
+        rt: &R,
+        desk: &Desk<'d, P, B, D>,
+        witness: &mut W,
+    ) -> Left<'d, P, B, D>
+        requires { W.home witness.old ≡ (B.table, B.sizes) }
+        ensures left { HasLeft self.entry.naming.directory (W.heard witness.new) }
+        ensures same { OnlyHears W.Witness witness.old witness.new × (result.naming ≡ self.entry.naming) }
+    {
+        let Left {
+            naming,
+            record,
+            mut chains,
+        } = self;
+        let Some(mut chain) = chains.pop() else {
+            unreachable!()
+        };
+        desk.hear_left(rt, naming, witness, &mut chain);
+        chains.push_reserved(chain);
+        Left {
+            naming,
+            record,
+            chains,
+        }
+    }
 }

@@ -1,6 +1,7 @@
 //! How what earlier directories left is retired.
 
-ghost use Rattle.std.specs.Prelude.{◌≡◌, ◌⊎◌, ◌+◌, ◌^◌, ◌-◌, ◌<◌, ◌≤◌, ◌++◌, [], ℕ, List, None, IfErr, IfNone, IfOk, IfSome, IsSome, length, map, min};
+ghost use Rattle.std.specs.Prelude.{◌≡◌, ◌⊎◌, ◌+◌, ◌^◌, ◌-◌, ◌<◌, ◌≤◌, ◌++◌, [], ℕ, List, None, IfErr, IfNone, IfOk, IfSome, IsSome, length, map, min, vec_len};
+ghost use Rattle.std.specs.Sync.Mutex.{mutex_guard_value};
 ghost use Rattle.rcu_model.specs.declared.refusal.Refusal.TheVariants.{Exhausted};
 ghost use Rattle.live_log.specs.Log.{Begins, seq_of};
 ghost use Rattle.live_log.specs.Tables.{tabled};
@@ -242,14 +243,15 @@ fn count<P: GracePlan, B: Site, D: Deleter>(
 impl<'d, P: GracePlan + Drop, B: Site, D: Deleter> RcuHash<'d, P, B, D> {
     /// What earlier directories left, out of its lock. Of which table it is is not known before it is looked at, so that is
     /// looked at; it never is another's.
-    fn take_left<'t, R: Wait>(
+    pub(crate) fn take_left<'t, R: Wait>(
         &'t self,
         rt: &R,
     ) -> (
         MutexGuard<'t, Option<Left<'d, P, B, D>>>,
         Option<Left<'d, P, B, D>>,
     )
-        ensures { IfSome result.1 (λ l. l.naming.directory ≡ self.now.directory) }
+        ensures taken { IfSome result.1 (λ l. l.naming.directory ≡ self.now.directory) }
+        ensures place { IfNone result.1 (mutex_guard_value result.0 ≡ None) }
     {
         for _ in rt.forever() {
             let mut place = self.left.lock(rt);
@@ -277,8 +279,8 @@ impl<'d, P: GracePlan + Drop, B: Site, D: Deleter> RcuHash<'d, P, B, D> {
         jobs: &mut Vec<D>,
     ) -> Result<(), Refusal>
         requires home { W.home witness.old ≡ (B.table, B.sizes) }
-        requires chains { Each (IsLeft naming.directory naming.first naming.buckets) (map (λ c. c.seat.me.0) chains.old.items) }
-        ensures chains { Each (IsLeft naming.directory naming.first naming.buckets) (map (λ c. c.seat.me.0) chains.new.items) }
+        requires chains { (0 < vec_len chains.old) × Each (IsLeft naming.directory naming.first naming.buckets) (map (λ c. c.seat.me.0) chains.old.items) }
+        ensures chains { IfErr result (λ _. 0 < vec_len chains.new) × Each (IsLeft naming.directory naming.first naming.buckets) (map (λ c. c.seat.me.0) chains.new.items) }
         ensures tidied { Tidies W.Witness P.QSBR tabled witness.old witness.new B.sizes naming.directory jobs.old.items jobs.new.items ⊎ ((jobs.new.items ≡ jobs.old.items) × IsExhausted W.Witness P.QSBR tabled witness.old witness.new Exhausted) }
         ensures done { IfOk result (λ _. (replaced.new ≡ None) × (chains.new.items ≡ [])) }
         ensures stopped { IfErr result (λ e. ((e ≡ Exhausted) × (jobs.new.items ≡ jobs.old.items) × (2 ^ 62 ≤ seq_of (W.heard witness.new))) ⊎ ((IsSome replaced.new ⊎ (0 < objects_in (map (λ c. c.seat.me.0) chains.new.items))) × IsStopped W.Witness witness.old witness.new jobs.new.items e)) }

@@ -72,6 +72,7 @@ invariant_of-result g c =
     let many : length vs ≡ d.naming.buckets = length-map items (λ y. y.seat.me.0) ∙ (sym c.exchange-directory.result.2.ok.0 ∙ (x.olds.0 ∙ (o.known.0 ∙ (c.requires.taken.0 ∙ ap (λ (m : Naming). m.buckets) (sym is))))) in
     let apart : (d.naming.first + d.naming.buckets ≤ first) ⊎ (first + vec_len c.note_all.result ≤ d.naming.first) =
     subst (λ (m : Naming). (m.first + m.buckets ≤ first) ⊎ (first + vec_len c.note_all.result ≤ m.first)) (sym is) (subst (λ (k : ℕ). (old.first + old.buckets ≤ first) ⊎ (first + k ≤ old.first)) (sym size) c.requires.apart.1) in record {
+      some = let more = d.fits.0 in let has = length-map items (λ y. y.seat.me.0) in omega (arith, more, has, many, c.exchange-directory.result.2.ok);
       alone = x.olds.2;
       keys = x.olds.3;
       notes = subst (λ (m : Naming). Each (HasNote (m.directory + 1)) vs) (sym x.directory) x.olds.4;

@@ -1,11 +1,11 @@
-use Rattle.std.proofs.Common.{◌++◌, ℕ, List, ap, sym, ◌∙◌, subst, inl}
+use Rattle.std.proofs.Common.{◌++◌, ◌<◌, ℕ, List, vec_len, ap, arith, sym, ◌∙◌, subst, inl}
 use Rattle.live_log.specs.Log.{Log}
 use Rattle.live_log.specs.Tables.{tabled}
 use Rattle.live_log.proofs.Lemmas.{begins_trans}
 use Rattle.domain.specs.Waiting.{Synchronized}
 use Rattle.rcu_list.proofs.Lemmas.{stays_both}
 use Rattle.rcu_hash.specs.Tidying.{Uses}
-use Rattle.rcu_hash.proofs.Emptying.{finds_both, heard_on, uses_both, waited_later}
+use Rattle.rcu_hash.proofs.Emptying.{err_on, finds_both, heard_on, objects_some, uses_both, waited_later}
 use Rattle.rcu_hash.proofs.table.RcuHash.retire_left.Goals as goal
 
 pub returns-in_err-retire_record-clause-tidied : goal.returns-in_err-retire_record-clause-tidied
@@ -27,6 +27,11 @@ pub clear_all-requires-clause-waited : goal.clear_all-requires-clause-waited
 clear_all-requires-clause-waited g c =
     let w = g.W.Witness in let n = c.args.naming in
     waited_later n.directory n.object (w.heard c.settle.new.witness) (w.heard c.retire_record.new.witness) c.retire_record.ensures.heard c.in_ok-settle.ensures.waited
+
+pub returns-clause-chains : goal.returns-clause-chains
+returns-clause-chains g c =
+    let e = c.clear_all.ensures in let left = c.clear_all.new.chains in
+    (err_on c.clear_all.result _ (λ x. 0 < vec_len left) (λ x k. let some = objects_some left.items (λ y. y.seat.me.0) k.0 in omega (arith, some, left.ok)) e.stopped, e.chains)
 
 pub returns-clause-tidied : goal.returns-clause-tidied
 returns-clause-tidied g c =

@@ -9,7 +9,7 @@ use Rattle.rcu_hash.proofs.table.RcuHash.tidy.Goals as goal
 pub retire_left-answer-requires-clause-chains : goal.retire_left-answer-requires-clause-chains
 retire_left-answer-requires-clause-chains g c =
     let l = c.in-Some.left in let n = l.naming in
-    each_left n.directory n.first n.buckets (map (λ x. x.seat.me.0) l.chains.items) l.alone l.keys l.notes l.outside
+    (l.some, each_left n.directory n.first n.buckets (map (λ x. x.seat.me.0) l.chains.items) l.alone l.keys l.notes l.outside)
 
 pub overflow_sub-retired : goal.overflow_sub-retired
 overflow_sub-retired g c =
@@ -26,7 +26,8 @@ returns-in_default-answer-clause-jobs g c =
 
 pub invariant_of-rest : goal.invariant_of-rest
 invariant_of-rest g c =
-    let n = c.in-Some.left.naming in let vs = map (λ x. x.seat.me.0) c.retire_left-answer.new.chains.items in let all = c.retire_left-answer.ensures.chains in record {
+    let n = c.in-Some.left.naming in let vs = map (λ x. x.seat.me.0) c.retire_left-answer.new.chains.items in let all = c.retire_left-answer.ensures.chains.1 in record {
+      some = c.retire_left-answer.ensures.chains.0;
       alone = each_map (IsLeft n.directory n.first n.buckets) IsAlone (λ v h. h.0) vs all;
       keys = each_map (IsLeft n.directory n.first n.buckets) HasKeysIn (λ v h. h.1) vs all;
       notes = each_map (IsLeft n.directory n.first n.buckets) (HasNote (n.directory + 1)) (λ v h. h.2) vs all;

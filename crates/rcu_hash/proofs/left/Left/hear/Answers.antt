@@ -1,0 +1,27 @@
+use Rattle.std.proofs.Common.{◌+◌, map, arith}
+use Rattle.rcu_hash.specs.Tidying.{IsLeft}
+use Rattle.rcu_hash.specs.Writers.{Each, HasKeysIn, HasNote, IsAlone}
+use Rattle.rcu_hash.proofs.Emptying.{all_outside, each_left, each_popped, each_pushed}
+use Rattle.rcu_hash.proofs.Held.{each_map}
+use Rattle.rcu_hash.proofs.left.Left.hear.Goals as goal
+
+pub hear_left-requires-clause-chain : goal.hear_left-requires-clause-chain
+hear_left-requires-clause-chain g c =
+    let l = c.args.self in let n = l.naming in
+    (each_popped c.pop.new.self.items l.chains.items c.in-Some.chain (λ x. x.seat.me.0) (IsLeft n.directory n.first n.buckets) c.in-Some.ensures.items
+    (each_left n.directory n.first n.buckets (map (λ x. x.seat.me.0) l.chains.items) l.alone l.keys l.notes l.outside)).1
+
+pub invariant_of-result : goal.invariant_of-result
+invariant_of-result g c =
+    let l = c.args.self in let n = l.naming in let vs = map (λ x. x.seat.me.0) c.push_reserved.new.self.items in
+    let all : Each (IsLeft n.directory n.first n.buckets) vs =
+    each_pushed c.pop.new.self.items c.push_reserved.new.self.items c.hear_left.new.chain (λ x. x.seat.me.0) (IsLeft n.directory n.first n.buckets) c.push_reserved.ensures.items
+    (each_popped c.pop.new.self.items l.chains.items c.in-Some.chain (λ x. x.seat.me.0) (IsLeft n.directory n.first n.buckets) c.in-Some.ensures.items
+    (each_left n.directory n.first n.buckets (map (λ x. x.seat.me.0) l.chains.items) l.alone l.keys l.notes l.outside)).0
+    c.hear_left.ensures.chain in record {
+      some = omega (arith, c.push_reserved.ensures.len);
+      alone = each_map (IsLeft n.directory n.first n.buckets) IsAlone (λ v h. h.0) vs all;
+      keys = each_map (IsLeft n.directory n.first n.buckets) HasKeysIn (λ v h. h.1) vs all;
+      notes = each_map (IsLeft n.directory n.first n.buckets) (HasNote (n.directory + 1)) (λ v h. h.2) vs all;
+      outside = all_outside n.directory n.first n.buckets vs all;
+    }
