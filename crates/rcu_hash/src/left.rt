@@ -1,6 +1,7 @@
 //! What an earlier directory left.
 
 ghost use Rattle.std.specs.Prelude.{◌≡◌, ◌+◌, ◌<◌, map, vec_len};
+ghost use Rattle.live_log.specs.Log.{Begins};
 ghost use Rattle.live_read.specs.Hearing.{OnlyHears};
 ghost use Rattle.rcu_hash.specs.Growing.{HasLeft};
 ghost use Rattle.rcu_hash.specs.Tidying.{IsLeft};
@@ -40,6 +41,7 @@ impl<'d, P: GracePlan + Drop, B: Site, D: Deleter> Desk<'d, P, B, D> {
         requires home { W.home witness.old ≡ (B.table, B.sizes) }
         requires chain { IsLeft naming.directory naming.first naming.buckets chain.old.seat.me.0 }
         ensures left { HasLeft naming.directory (W.heard witness.new) }
+        ensures heard { Begins (W.heard witness.old) (W.heard witness.new) }
         ensures chain { IsLeft naming.directory naming.first naming.buckets chain.new.seat.me.0 }
         ensures same { OnlyHears W.Witness witness.old witness.new }
     {
@@ -60,6 +62,7 @@ impl<'d, P: GracePlan + Drop, B: Site, D: Deleter> Left<'d, P, B, D> {
     ) -> Left<'d, P, B, D>
         requires { W.home witness.old ≡ (B.table, B.sizes) }
         ensures left { HasLeft self.entry.naming.directory (W.heard witness.new) }
+        ensures heard { Begins (W.heard witness.old) (W.heard witness.new) }
         ensures same { OnlyHears W.Witness witness.old witness.new × (result.naming ≡ self.entry.naming) }
     {
         let Left {

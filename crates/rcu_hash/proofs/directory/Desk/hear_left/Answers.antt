@@ -50,6 +50,9 @@ returns-clause-left g c =
       unnamed = unnamed;
     }))
 
+pub returns-clause-heard : goal.returns-clause-heard
+returns-clause-heard g c = let w = g.W.Witness in subst (Begins (w.heard c.args.witness.now)) (sym c.hear.ensures.heard) c.hear.ensures.told.0.after_heard
+
 pub returns-clause-chain : goal.returns-clause-chain
 returns-clause-chain g c =
     let q = g.P.GracePlan.QSBR in let n = c.args.naming in let e = c.lend-lent.ensures in let h = c.hear.ensures in let b = c.take_back.ensures.from in let left = c.requires.chain in

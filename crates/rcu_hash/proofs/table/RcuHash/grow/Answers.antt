@@ -10,7 +10,7 @@ use Rattle.rcu_hash.proofs.table.RcuHash.grow.Goals as goal
 
 pub commit-rest-requires-clause-copied : goal.commit-rest-requires-clause-copied
 commit-rest-requires-clause-copied g c =
-    let e = c.in_ok-growth.ensures.copied in let same = c.deref-3.ensures ∙ sym c.deref_mut.ensures.value in
+    let e = c.in_ok-growth.ensures.copied in let same = c.deref-2.ensures ∙ sym c.deref_mut-2.ensures.value in
     (λ key. e.0 key ∙ (λ i. value_in_bucket (same i).naming.buckets (map (λ b. b.chain.seat.me.0) c.in_ok-growth.growth.taken.items) key), e.1, e.2)
 
 pub returns-clause-grown : goal.returns-clause-grown
@@ -18,11 +18,11 @@ returns-clause-grown g c =
     let q = g.P.GracePlan.QSBR in let w = g.W.Witness in let w0 = c.args.witness.now in let w1 = c.ready.new.witness in let log : Log = w.heard c.commit-rest.new.witness in
     let chains = g.B.Site.sizes.chains in let growth = c.in_ok-growth.growth in let e = c.in_ok-growth.ensures in let first = c.args.first in
     let entries : List (ℕ × ℕ) = map (λ y. (y.key, y.value)) growth.copied.items in
-    let directory : c.deref_mut.result.now.naming.directory ≡ c.args.self.now.directory = (λ i. (c.deref_mut.ensures.value i).naming.directory) ∙ c.own_shelf-shelf.ensures in (
+    let directory : c.deref_mut-2.result.now.naming.directory ≡ c.args.self.now.directory = (λ i. (c.deref_mut-2.ensures.value i).naming.directory) ∙ c.own_shelf-shelf.ensures in (
       entries,
       subst (λ (d : ℕ). Grows q tabled chains d (w.seen w0) (w.heard w0) first c.args.buckets entries log) directory
-          (subst (λ (k : ℕ). Grows q tabled chains c.deref_mut.result.now.naming.directory (w.seen w0) (w.heard w0) first k entries log) e.chains.0
-          (grows_since q tabled chains c.deref_mut.result.now.naming.directory (w.seen w0) (w.heard w0) (w.seen w1) (w.heard w1) first (vec_len growth.chains) entries log e.same.0 e.heard c.commit-rest.ensures.grown)),
+          (subst (λ (k : ℕ). Grows q tabled chains c.deref_mut-2.result.now.naming.directory (w.seen w0) (w.heard w0) first k entries log) e.chains.0
+          (grows_since q tabled chains c.deref_mut-2.result.now.naming.directory (w.seen w0) (w.heard w0) (w.seen w1) (w.heard w1) first (vec_len growth.chains) entries log e.same.0 e.heard c.commit-rest.ensures.grown)),
       ap (λ (n : ℕ). n + 1) (c.len-left.ensures ∙ (growth.copied.ok.0 ∙ sym (length-map growth.copied.items (λ y. (y.key, y.value))))),
       search rules,
     )

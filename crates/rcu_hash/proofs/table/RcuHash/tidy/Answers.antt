@@ -24,15 +24,25 @@ returns-in_default-answer-clause-jobs g c =
     let d = c.done-in_default-answer.ensures in
     (spent.0, spent.1 ∙ ap (λ (v : _). v.items ++ spent.0) (sym d.2), omega (arith, d.0, spent.2, jobs.ok, left.ok, c.len-many.ensures, c.len.ensures))
 
-pub invariant_of-rest : goal.invariant_of-rest
-invariant_of-rest g c =
-    let n = c.in-Some.left.naming in let vs = map (λ x. x.seat.me.0) c.retire_left-answer.new.chains.items in let all = c.retire_left-answer.ensures.chains.1 in record {
-      some = c.retire_left-answer.ensures.chains.0;
-      alone = each_map (IsLeft n.directory n.first n.buckets) IsAlone (λ v h. h.0) vs all;
-      keys = each_map (IsLeft n.directory n.first n.buckets) HasKeysIn (λ v h. h.1) vs all;
-      notes = each_map (IsLeft n.directory n.first n.buckets) (HasNote (n.directory + 1)) (λ v h. h.2) vs all;
-      outside = all_outside n.directory n.first n.buckets vs all;
-    }
+pub invariant_of-rest-clause-alone : goal.invariant_of-rest-clause-alone
+invariant_of-rest-clause-alone g c =
+    let n = c.in-Some.left.naming in
+    each_map (IsLeft n.directory n.first n.buckets) IsAlone (λ v h. h.0) (map (λ x. x.seat.me.0) c.retire_left-answer.new.chains.items) c.retire_left-answer.ensures.chains.1
+
+pub invariant_of-rest-clause-keys : goal.invariant_of-rest-clause-keys
+invariant_of-rest-clause-keys g c =
+    let n = c.in-Some.left.naming in
+    each_map (IsLeft n.directory n.first n.buckets) HasKeysIn (λ v h. h.1) (map (λ x. x.seat.me.0) c.retire_left-answer.new.chains.items) c.retire_left-answer.ensures.chains.1
+
+pub invariant_of-rest-clause-notes : goal.invariant_of-rest-clause-notes
+invariant_of-rest-clause-notes g c =
+    let n = c.in-Some.left.naming in
+    each_map (IsLeft n.directory n.first n.buckets) (HasNote (n.directory + 1)) (λ v h. h.2) (map (λ x. x.seat.me.0) c.retire_left-answer.new.chains.items) c.retire_left-answer.ensures.chains.1
+
+pub invariant_of-rest-clause-outside : goal.invariant_of-rest-clause-outside
+invariant_of-rest-clause-outside g c =
+    let n = c.in-Some.left.naming in
+    all_outside n.directory n.first n.buckets (map (λ x. x.seat.me.0) c.retire_left-answer.new.chains.items) c.retire_left-answer.ensures.chains.1
 
 pub returns-clause-jobs : goal.returns-clause-jobs
 returns-clause-jobs g c =
