@@ -5,7 +5,7 @@ use native.Mathlib.Decide.{ℕ_discrete}
 use Rattle.atomic_table.specs.Table.{Me}
 use Rattle.rcu_model.specs.declared.event.ObjectId.{ObjectId}
 use Rattle.rcu_model.specs.Sets.{In}
-use Rattle.rcu_model.proofs.Lemmas.{at_object_same, in_left, none_some}
+use Rattle.rcu_model.proofs.Lemmas.{at_object_same, in_left, in_right, none_some}
 use Rattle.live_log.specs.Keys.{key_of, rank_of, Falls}
 use Rattle.live_log.specs.Log.{Log, Begins, IsLiveRun, note_of, payload_of, words_in}
 use Rattle.live_log.specs.Maps.{IsUnnoted}
@@ -234,6 +234,11 @@ pub found_more : (sizes : Sizes) (found more : List (ℕ × ℕ)) → IsUsedUp s
 found_more sizes found more = ⊎_elim
     (λ (u : IsUsedUp sizes found). inl (u.0, in_left found more _ u.1, u.2))
     (λ (t : AreTaken sizes found). inr (λ i low. let x = t i low in (x.0, in_left found more _ x.1, x.2)))
+
+pub found_before : (sizes : Sizes) (more found : List (ℕ × ℕ)) → IsUsedUp sizes found ⊎ AreTaken sizes found → IsUsedUp sizes (more ++ found) ⊎ AreTaken sizes (more ++ found)
+found_before sizes more found = ⊎_elim
+    (λ (u : IsUsedUp sizes found). inl (u.0, in_right more found _ u.1, u.2))
+    (λ (t : AreTaken sizes found). inr (λ i low. let x = t i low in (x.0, in_right more found _ x.1, x.2)))
 
 -- the keys of the list that a writer knows differ
 pub falls_known : (qsbr : Bool) (v : View) → IsLiveRun qsbr tabled v.seen → IsListed v → Falls (note_of v.seen) (list_in v)

@@ -20,6 +20,10 @@ use Rattle.rcu_list.specs.Calls.{HandsOver}
 use Rattle.rcu_hash.specs.Directories.{directed_map}
 use Rattle.rcu_hash.specs.Writers.{HasKeysIn, HasNote, IsAlone, IsOutside}
 
+-- the directory is linked in its chain
+abbrev pub IsLinked : ℕ → ObjectId → Log → Type 0
+IsLinked d o log = In ((state_of log).chain d) o × IsDirectory (note_of log o)
+
 -- Every section has ended that was open in some log; before that log the directory was linked.
 pub record HasWaited (d : ℕ) (o : ObjectId) (log : Log) : Type 0 where
   pub known : Log

@@ -90,8 +90,31 @@ pub(crate) struct Desk<'d, P: GracePlan, B: Site, D: Deleter> {
 }
 
 impl<'d, P: GracePlan + Drop, B: Site, D: Deleter> Desk<'d, P, B, D> {
-    /// The directory's writer out of its lock, to which it is to be given back. Which directory it is is not known before
-    /// it is looked at, so that is looked at; it never is another.
+    /// The writer of the directory that is linked in this chain, out of its lock, to which it is to be given back. A lock
+    /// tells only the type of what it holds, so the chain is compared; it always is the right one.
+    pub(crate) fn take_present<'t, R: Wait>(
+        &'t self,
+        rt: &R,
+        chain: usize,
+    ) -> (
+        MutexGuard<'t, Option<Directory<'d, P, B, D>>>,
+        Directory<'d, P, B, D>,
+    )
+        ensures { result.1.naming.directory ≡ chain }
+    {
+        for _ in rt.forever() {
+            let mut desk = self.writer.lock(rt);
+            if let Some(directory) = desk.take() {
+                if directory.naming.directory == chain {
+                    return (desk, directory);
+                }
+                *desk = Some(directory);
+            }
+        }
+        unreachable!()
+    }
+
+    /// As `take_present`, of this directory, which no other has replaced.
     pub(crate) fn take<'t, R: Wait>(
         &'t self,
         rt: &R,

@@ -6,7 +6,7 @@ ghost use Rattle.rcu_model.specs.declared.refusal.Refusal.TheVariants.{BadConfig
 ghost use Rattle.live_log.specs.Log.{Begins, Log};
 ghost use Rattle.live_log.specs.Tables.{tabled};
 ghost use Rattle.live_table.specs.Rights.{payload_in};
-ghost use Rattle.live_read.specs.Hearing.{OnlyHears, Stays};
+ghost use Rattle.live_read.specs.Hearing.{IsAfter, OnlyHears, Stays};
 ghost use Rattle.live_write.specs.Searching.{AreTaken, IsUsedUp};
 ghost use Rattle.rcu_hash.specs.Copies.{AreApart, AreRanked, value_among, value_in_bucket};
 ghost use Rattle.rcu_hash.specs.Growing.{Grows, HasLeft};
@@ -133,8 +133,8 @@ fn put_down<'d, P: GracePlan, B: Site, D: Deleter>(
 }
 
 impl<'d, P: GracePlan + Drop, B: Site, D: Deleter> RcuHash<'d, P, B, D> {
-    /// The shelf of its buckets, for their only user. Whose shelf it is is not known before it is looked at, so that is
-    /// looked at; it never is another's.
+    /// The shelf of its buckets, for their only user. A lock tells only the type of what it holds, so the directory's chain
+    /// is compared; it always is the right one.
     fn own_shelf<'t, R: Wait>(&'t self, rt: &R) -> RwLockWriteGuard<'t, Shelf<'d, P, B, D>>
         ensures { (write_guard_value result).naming.directory ≡ self.now.directory }
     {
@@ -169,9 +169,10 @@ impl<'d, P: GracePlan + Drop, B: Site, D: Deleter> RcuHash<'d, P, B, D> {
     ) -> Result<usize, Refusal>
         requires { W.home witness.old ≡ (B.table, B.sizes) }
         ensures grown { IfOk result (λ left. (entries : List (ℕ × ℕ)) × Grows P.QSBR tabled B.sizes.chains self.now.directory (W.seen witness.old) (W.heard witness.old) first buckets entries (W.heard witness.new) × (left ≡ length entries + 1) × (fits B.sizes.chains self.now.directory first buckets ≡ true)) }
-        ensures refused { IfErr result (λ e. ((e ≡ Busy) × HasLeft self.now.directory (W.heard witness.new)) ⊎ ((e ≡ BadConfig) ⊎ ((fits B.sizes.chains self.now.directory first buckets ≡ true) × ((e ≡ Memory) ⊎ (e ≡ PoolFull))))) }
+        ensures refused { IfErr result (λ e. ((e ≡ Busy) × HasLeft self.now.directory (W.heard witness.new) × IsAfter P.QSBR tabled (W.seen witness.old) (W.heard witness.old) (W.heard witness.new)) ⊎ ((e ≡ BadConfig) ⊎ ((fits B.sizes.chains self.now.directory first buckets ≡ true) × ((e ≡ Memory) ⊎ (e ≡ PoolFull))))) }
         ensures heard { Begins (W.heard witness.old) (W.heard witness.new) }
-        ensures told { ((found : List (ℕ × ℕ)) × (W.looks witness.new ≡ found ++ W.looks witness.old)) × ((logs : List Log) × (W.loads witness.new ≡ logs ++ W.loads witness.old)) }
+        ensures looks { (found : List (ℕ × ℕ)) × (W.looks witness.new ≡ found ++ W.looks witness.old) × IfErr result (λ e. (e ≡ PoolFull) → IsUsedUp B.sizes found ⊎ AreTaken B.sizes found) }
+        ensures loads { ((logs : List Log) × (W.loads witness.new ≡ logs ++ W.loads witness.old)) × IfOk result (λ _. W.loads witness.new ≡ W.loads witness.old) }
         ensures same { Stays W.Witness witness.old witness.new }
     {
         let (mut place, left) = self.take_left(rt);

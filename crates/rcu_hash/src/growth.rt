@@ -196,7 +196,8 @@ impl<'d, P: GracePlan + Drop, B: Site, D: Deleter> Growth<'d, P, B, D> {
         ensures record { IfOk result (λ g. (payload_in g.owned.seat.me.0.object ≡ words_by first buckets) × (g.old_lents.items ≡ []) × (shelf.now.naming.buckets ≤ vec_capacity g.old_lents) × (g.new_lents.items ≡ []) × (buckets ≤ vec_capacity g.new_lents)) }
         ensures refused { IfErr result (λ e. (e ≡ BadConfig) ⊎ ((e ≡ Memory) ⊎ (e ≡ PoolFull))) }
         ensures heard { Begins (W.heard witness.old) (W.heard witness.new) }
-        ensures told { ((found : List (ℕ × ℕ)) × (W.looks witness.new ≡ found ++ W.looks witness.old)) × ((logs : List Log) × (W.loads witness.new ≡ logs ++ W.loads witness.old)) }
+        ensures looks { (found : List (ℕ × ℕ)) × (W.looks witness.new ≡ found ++ W.looks witness.old) × IfErr result (λ e. (e ≡ PoolFull) → IsUsedUp B.sizes found ⊎ AreTaken B.sizes found) }
+        ensures loads { ((logs : List Log) × (W.loads witness.new ≡ logs ++ W.loads witness.old)) × IfOk result (λ _. W.loads witness.new ≡ W.loads witness.old) }
         ensures same { Stays W.Witness witness.old witness.new }
     {
         let olds = shelf.naming.buckets;

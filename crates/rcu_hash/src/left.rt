@@ -1,8 +1,8 @@
 //! What an earlier directory left.
 
 ghost use Rattle.std.specs.Prelude.{◌≡◌, ◌+◌, ◌<◌, map, vec_len};
-ghost use Rattle.live_log.specs.Log.{Begins};
-ghost use Rattle.live_read.specs.Hearing.{OnlyHears};
+ghost use Rattle.live_log.specs.Tables.{tabled};
+ghost use Rattle.live_read.specs.Hearing.{IsAfter, OnlyHears};
 ghost use Rattle.rcu_hash.specs.Growing.{HasLeft};
 ghost use Rattle.rcu_hash.specs.Tidying.{IsLeft};
 ghost use Rattle.rcu_hash.specs.Writers.{Each, HasKeysIn, HasNote, IsAlone, IsOutside, alone_prop, each_prop, keys_prop, note_prop};
@@ -41,7 +41,7 @@ impl<'d, P: GracePlan + Drop, B: Site, D: Deleter> Desk<'d, P, B, D> {
         requires home { W.home witness.old ≡ (B.table, B.sizes) }
         requires chain { IsLeft naming.directory naming.first naming.buckets chain.old.seat.me.0 }
         ensures left { HasLeft naming.directory (W.heard witness.new) }
-        ensures heard { Begins (W.heard witness.old) (W.heard witness.new) }
+        ensures heard { IsAfter P.QSBR tabled (W.seen witness.old) (W.heard witness.old) (W.heard witness.new) }
         ensures chain { IsLeft naming.directory naming.first naming.buckets chain.new.seat.me.0 }
         ensures same { OnlyHears W.Witness witness.old witness.new }
     {
@@ -62,7 +62,7 @@ impl<'d, P: GracePlan + Drop, B: Site, D: Deleter> Left<'d, P, B, D> {
     ) -> Left<'d, P, B, D>
         requires { W.home witness.old ≡ (B.table, B.sizes) }
         ensures left { HasLeft self.entry.naming.directory (W.heard witness.new) }
-        ensures heard { Begins (W.heard witness.old) (W.heard witness.new) }
+        ensures heard { IsAfter P.QSBR tabled (W.seen witness.old) (W.heard witness.old) (W.heard witness.new) }
         ensures same { OnlyHears W.Witness witness.old witness.new × (result.naming ≡ self.entry.naming) }
     {
         let Left {

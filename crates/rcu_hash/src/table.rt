@@ -127,8 +127,8 @@ impl<'d, P: GracePlan + Drop, B: Site, D: Deleter> RcuHash<'d, P, B, D> {
         self.view
     }
 
-    /// The shelf of its buckets, which writers of buckets read. Whose shelf it is is not known before it is looked at, so
-    /// that is looked at; it never is another's.
+    /// The shelf of its buckets, which writers of buckets read. A lock tells only the type of what it holds, so the
+    /// directory's chain is compared; it always is the right one.
     fn shelf<'t, R: Wait>(&'t self, rt: &R) -> RwLockReadGuard<'t, Shelf<'d, P, B, D>>
         ensures { (read_guard_value result).naming.directory ≡ self.now.directory }
     {

@@ -5,10 +5,10 @@ ghost use Rattle.std.specs.Sync.Mutex.{mutex_guard_value};
 ghost use Rattle.rcu_model.specs.declared.refusal.Refusal.TheVariants.{Exhausted};
 ghost use Rattle.live_log.specs.Log.{Begins, seq_of};
 ghost use Rattle.live_log.specs.Tables.{tabled};
-ghost use Rattle.live_read.specs.Hearing.{FindsNothing, OnlyHears, Stays};
+ghost use Rattle.live_read.specs.Hearing.{FindsNothing, IsAfter, OnlyHears, Stays};
 ghost use Rattle.live_write.specs.Chains.{list_in};
 ghost use Rattle.domain.specs.Waiting.{Synchronized};
-ghost use Rattle.rcu_hash.specs.Tidying.{ClearsNote, FindsMore, HasWaited, IsExhausted, IsLeft, IsRefused, IsStopped, RetiresObject, Tidies, Uses, objects_in};
+ghost use Rattle.rcu_hash.specs.Tidying.{ClearsNote, FindsMore, HasWaited, IsExhausted, IsLeft, IsLinked, IsRefused, IsStopped, RetiresObject, Tidies, Uses, objects_in};
 ghost use Rattle.rcu_hash.specs.Writers.{Each, HasNothing};
 
 use crate::directory::{Desk, Naming};
@@ -45,30 +45,58 @@ impl<D> TidyEnd<D> {
             stop: None,
         }
     }
+
+    /// So many are left, for this reason; or none.
+    fn stopped(retired: usize, left: usize, jobs: Vec<D>, why: Refusal) -> TidyEnd<D>
+        ensures { (result.retired ≡ retired) × (result.left ≡ left) × (result.jobs ≡ jobs) × IfNone result.stop (left ≡ 0) × IfSome result.stop (λ e. (e ≡ why) × (0 < left)) }
+    {
+        TidyEnd {
+            retired,
+            left,
+            jobs,
+            stop: if left == 0 { None } else { Some(why) },
+        }
+    }
 }
 
 impl<'d, P: GracePlan + Drop, B: Site, D: Deleter> Desk<'d, P, B, D> {
-    /// Waits for a grace period that begins while the directory is linked.
+    /// Waits for a grace period that begins while a directory is linked, and answers which. It holds no lock of the table
+    /// meanwhile.
     ///
     /// Refused with `Exhausted` where no more of them can be counted.
     fn settle<W: Witness, R: Wait>(
         &self,
         rt: &R,
         domain: &Domain<P, Tabled, B, D>,
-        naming: Naming,
+        directory: usize,
         witness: &mut W,
-    ) -> Result<(), Refusal>
+    ) -> Result<Naming, Refusal>
         requires { W.home witness.old ≡ (B.table, B.sizes) }
-        ensures waited { IfOk result (λ _. HasWaited naming.directory naming.object (W.heard witness.new)) }
+        ensures waited { IfOk result (λ n. (n.directory ≡ directory) × HasWaited directory n.object (W.heard witness.new)) }
         ensures ended { IfOk result (λ _. Synchronized P.QSBR tabled (W.seen witness.old) (W.heard witness.old) (W.loads witness.old) (W.loads witness.new) (W.heard witness.new)) }
         ensures refused { IfErr result (λ e. IsExhausted W.Witness P.QSBR tabled witness.old witness.new e) }
         ensures heard { Begins (W.heard witness.old) (W.heard witness.new) }
         ensures same { FindsNothing W.Witness witness.old witness.new }
     {
-        let (mut place, mut directory) = self.take(rt, naming);
-        directory.chain.hear(witness);
-        *place = Some(directory);
-        domain.synchronize(rt, witness)
+        let naming = self.hear(rt, directory, witness);
+        match domain.synchronize(rt, witness) {
+            Ok(()) => Ok(naming),
+            Err(refusal) => Err(refusal),
+        }
+    }
+
+    /// The caller hears of a log in which a directory is linked: which one. It waits for the directory's lock.
+    fn hear<W: Witness, R: Wait>(&self, rt: &R, directory: usize, witness: &mut W) -> Naming
+        requires { W.home witness.old ≡ (B.table, B.sizes) }
+        ensures linked { (result.directory ≡ directory) × IsLinked directory result.object (W.heard witness.new) }
+        ensures heard { IsAfter P.QSBR tabled (W.seen witness.old) (W.heard witness.old) (W.heard witness.new) }
+        ensures same { OnlyHears W.Witness witness.old witness.new }
+    {
+        let (mut place, mut present) = self.take_present(rt, directory);
+        present.chain.hear(witness);
+        let naming = present.naming;
+        *place = Some(present);
+        naming
     }
 
     /// Cuts the first object of a chain that an earlier directory named, and retires it. It waits for the locks of the
@@ -241,8 +269,8 @@ fn count<P: GracePlan, B: Site, D: Deleter>(
 }
 
 impl<'d, P: GracePlan + Drop, B: Site, D: Deleter> RcuHash<'d, P, B, D> {
-    /// What earlier directories left, out of its lock. Of which table it is is not known before it is looked at, so that is
-    /// looked at; it never is another's.
+    /// What earlier directories left, out of its lock. A lock tells only the type of what it holds, so the directory's chain
+    /// is compared; it always is the right one.
     pub(crate) fn take_left<'t, R: Wait>(
         &'t self,
         rt: &R,
@@ -266,9 +294,9 @@ impl<'d, P: GracePlan + Drop, B: Site, D: Deleter> RcuHash<'d, P, B, D> {
         unreachable!()
     }
 
-    /// Retires these after a grace period: first the record, then the objects of the chains.
+    /// Retires these after the grace period that was waited for: first the record, then the objects of the chains.
     ///
-    /// Refused with `Exhausted` where no grace period can be waited for, where callbacks run out, else as `retire`.
+    /// Refused where callbacks run out, else as `retire`.
     fn retire_left<W: Witness, R: Wait>(
         &self,
         rt: &R,
@@ -279,34 +307,33 @@ impl<'d, P: GracePlan + Drop, B: Site, D: Deleter> RcuHash<'d, P, B, D> {
         jobs: &mut Vec<D>,
     ) -> Result<(), Refusal>
         requires home { W.home witness.old ≡ (B.table, B.sizes) }
+        requires waited { HasWaited naming.directory naming.object (W.heard witness.old) }
         requires chains { (0 < vec_len chains.old) × Each (IsLeft naming.directory naming.first naming.buckets) (map (λ c. c.seat.me.0) chains.old.items) }
         ensures chains { IfErr result (λ _. 0 < vec_len chains.new) × Each (IsLeft naming.directory naming.first naming.buckets) (map (λ c. c.seat.me.0) chains.new.items) }
-        ensures tidied { Tidies W.Witness P.QSBR tabled witness.old witness.new B.sizes naming.directory jobs.old.items jobs.new.items ⊎ ((jobs.new.items ≡ jobs.old.items) × IsExhausted W.Witness P.QSBR tabled witness.old witness.new Exhausted) }
-        ensures done { IfOk result (λ _. (replaced.new ≡ None) × (chains.new.items ≡ [])) }
-        ensures stopped { IfErr result (λ e. ((e ≡ Exhausted) × (jobs.new.items ≡ jobs.old.items) × (2 ^ 62 ≤ seq_of (W.heard witness.new))) ⊎ ((IsSome replaced.new ⊎ (0 < objects_in (map (λ c. c.seat.me.0) chains.new.items))) × IsStopped W.Witness witness.old witness.new jobs.new.items e)) }
-        ensures heard { Begins (W.heard witness.old) (W.heard witness.new) }
-        ensures same { Stays W.Witness witness.old witness.new × ((found : List (ℕ × ℕ)) × (W.looks witness.new ≡ found ++ W.looks witness.old)) }
+        ensures uses { Uses P.QSBR tabled B.sizes naming.directory (W.seen witness.old) jobs.old.items jobs.new.items (W.heard witness.old) (W.heard witness.new) }
+        ensures stopped { IfErr result (λ e. (IsSome replaced.new ⊎ (0 < objects_in (map (λ c. c.seat.me.0) chains.new.items))) × IsStopped W.Witness witness.old witness.new jobs.new.items e) }
+        ensures same { FindsMore W.Witness witness.old witness.new }
     {
-        self.desk.settle(rt, self.domain, naming, witness)?;
         retire_record(rt, self.domain, witness, replaced, jobs)?;
         self.desk.clear_all(rt, naming, witness, chains, jobs)
     }
 
-    /// Retires what earlier directories left, one callback each, from the back. Where something is left it waits for a grace
-    /// period first, liburcu's `synchronize_rcu`, so a caller has no section or lock open, and is offline where its reader
-    /// is of the quiescent-state flavour. What callbacks it does not use come back. Where nothing is left the chains of
-    /// earlier directories have no note, and are given back.
-    ///
-    /// It stops with `FewJobs` where callbacks run out while objects are left, with `Exhausted` where the grace period is
-    /// refused, and with `Closed` or `Memory` as `retire`. It holds the lock that a growth takes; writers and readers go on.
-    pub fn tidy<W: Witness, R: Wait>(&self, rt: &R, witness: &mut W, jobs: Vec<D>) -> TidyEnd<D>
+    /// Retires what the directories before this one left, after the grace period that was waited for while it was linked.
+    /// Where there is nothing of it left another thread has tidied since.
+    fn retire_behind<W: Witness, R: Wait>(
+        &self,
+        rt: &R,
+        witness: &mut W,
+        naming: Naming,
+        jobs: Vec<D>,
+    ) -> TidyEnd<D>
         requires home { W.home witness.old ≡ (B.table, B.sizes) }
+        requires waited { HasWaited naming.directory naming.object (W.heard witness.old) }
         ensures jobs { (used : List D) × (jobs.items ≡ result.jobs.items ++ used) × (length used ≡ result.retired) }
-        ensures tidied { Tidies W.Witness P.QSBR tabled witness.old witness.new B.sizes self.now.directory jobs.items result.jobs.items ⊎ ((result.jobs.items ≡ jobs.items) × ((witness.new ≡ witness.old) ⊎ IsExhausted W.Witness P.QSBR tabled witness.old witness.new Exhausted)) }
+        ensures uses { Uses P.QSBR tabled B.sizes naming.directory (W.seen witness.old) jobs.items result.jobs.items (W.heard witness.old) (W.heard witness.new) }
         ensures done { IfNone result.stop (result.left ≡ 0) }
-        ensures stopped { IfSome result.stop (λ e. (0 < result.left) × (((e ≡ Exhausted) × (result.retired ≡ 0) × (2 ^ 62 ≤ seq_of (W.heard witness.new))) ⊎ IsStopped W.Witness witness.old witness.new result.jobs.items e)) }
-        ensures heard { Begins (W.heard witness.old) (W.heard witness.new) }
-        ensures same { Stays W.Witness witness.old witness.new × ((found : List (ℕ × ℕ)) × (W.looks witness.new ≡ found ++ W.looks witness.old)) }
+        ensures stopped { IfSome result.stop (λ e. (0 < result.left) × IsStopped W.Witness witness.old witness.new result.jobs.items e) }
+        ensures same { FindsMore W.Witness witness.old witness.new }
     {
         let (mut place, left) = self.take_left(rt);
         let mut jobs = jobs;
@@ -314,8 +341,12 @@ impl<'d, P: GracePlan + Drop, B: Site, D: Deleter> RcuHash<'d, P, B, D> {
         let Some(left) = left else {
             return TidyEnd::done(0, jobs);
         };
+        if left.naming != naming {
+            *place = Some(left);
+            return TidyEnd::done(0, jobs);
+        }
         let Left {
-            naming,
+            naming: _,
             record: mut replaced,
             mut chains,
         } = left;
@@ -325,18 +356,51 @@ impl<'d, P: GracePlan + Drop, B: Site, D: Deleter> RcuHash<'d, P, B, D> {
             return TidyEnd::done(retired, jobs);
         };
         let left = count(&chains, replaced.is_some() as usize);
-        let stop = if left == 0 { None } else { Some(refusal) };
         let rest = Left {
             naming,
             record: replaced,
             chains,
         };
         *place = Some(rest);
-        TidyEnd {
-            retired,
-            left,
-            jobs,
-            stop,
+        TidyEnd::stopped(retired, left, jobs, refusal)
+    }
+
+    /// Where no grace period can be waited for, what is left stays.
+    fn keep_left<R: Wait>(&self, rt: &R, jobs: Vec<D>, refusal: Refusal) -> TidyEnd<D>
+        ensures { (result.retired ≡ 0) × (result.jobs ≡ jobs) × IfNone result.stop (result.left ≡ 0) × IfSome result.stop (λ e. (e ≡ refusal) × (0 < result.left)) }
+    {
+        let (mut place, left) = self.take_left(rt);
+        let Some(left) = left else {
+            return TidyEnd::done(0, jobs);
+        };
+        let many = count(&left.chains, left.record.is_some() as usize);
+        *place = Some(left);
+        TidyEnd::stopped(0, many, jobs, refusal)
+    }
+
+    /// Retires what earlier directories left, one callback each, from the back. Where something is left it waits for a grace
+    /// period first, liburcu's `synchronize_rcu`, so a caller has no section or lock open, and is offline where its reader
+    /// is of the quiescent-state flavour. What callbacks it does not use come back. Where nothing is left the chains of
+    /// earlier directories have no note, and are given back.
+    ///
+    /// It stops with `FewJobs` where callbacks run out while objects are left, with `Exhausted` where the grace period is
+    /// refused, and with `Closed` or `Memory` as `retire`. While it waits for the grace period it holds no lock: writers and
+    /// readers go on, and a growth is refused with `Busy`.
+    pub fn tidy<W: Witness, R: Wait>(&self, rt: &R, witness: &mut W, jobs: Vec<D>) -> TidyEnd<D>
+        requires home { W.home witness.old ≡ (B.table, B.sizes) }
+        ensures jobs { (used : List D) × (jobs.items ≡ result.jobs.items ++ used) × (length used ≡ result.retired) }
+        ensures tidied { Tidies W.Witness P.QSBR tabled witness.old witness.new B.sizes self.now.directory jobs.items result.jobs.items ⊎ ((result.jobs.items ≡ jobs.items) × ((witness.new ≡ witness.old) ⊎ IsExhausted W.Witness P.QSBR tabled witness.old witness.new Exhausted)) }
+        ensures done { IfNone result.stop (result.left ≡ 0) }
+        ensures stopped { IfSome result.stop (λ e. (0 < result.left) × (((e ≡ Exhausted) × (result.retired ≡ 0) × (2 ^ 62 ≤ seq_of (W.heard witness.new))) ⊎ IsStopped W.Witness witness.old witness.new result.jobs.items e)) }
+        ensures heard { Begins (W.heard witness.old) (W.heard witness.new) }
+        ensures same { Stays W.Witness witness.old witness.new × ((found : List (ℕ × ℕ)) × (W.looks witness.new ≡ found ++ W.looks witness.old)) }
+    {
+        if self.left.lock(rt).is_none() {
+            return TidyEnd::done(0, jobs);
+        }
+        match self.desk.settle(rt, self.domain, self.directory, witness) {
+            Ok(naming) => self.retire_behind(rt, witness, naming, jobs),
+            Err(refusal) => self.keep_left(rt, jobs, refusal),
         }
     }
 }

@@ -8,6 +8,7 @@ use Rattle.live_log.proofs.Lemmas.{begins_trans, tabled_maps}
 use Rattle.live_rule.specs.Seats.{lent_chains}
 use Rattle.live_rule.specs.declared.rights.ChainRight.{ChainRight}
 use Rattle.live_table.specs.Rights.{AreAsKnown, own_in}
+use Rattle.live_read.specs.Hearing.{IsAfter}
 use Rattle.rcu_list.proofs.Lemmas.{keys_on}
 use Rattle.rcu_hash.specs.declared.directory.Naming.{Naming}
 use Rattle.rcu_hash.specs.Growing.{HasLeft}
@@ -51,7 +52,9 @@ returns-clause-left g c =
     }))
 
 pub returns-clause-heard : goal.returns-clause-heard
-returns-clause-heard g c = let w = g.W.Witness in subst (Begins (w.heard c.args.witness.now)) (sym c.hear.ensures.heard) c.hear.ensures.told.0.after_heard
+returns-clause-heard g c =
+    let w = g.W.Witness in let w0 = c.args.witness.now in
+    subst (IsAfter g.P.GracePlan.QSBR tabled (w.seen w0) (w.heard w0)) (sym c.hear.ensures.heard) c.hear.ensures.told.0
 
 pub returns-clause-chain : goal.returns-clause-chain
 returns-clause-chain g c =
