@@ -173,3 +173,42 @@ fn refused_growths_leave_all_as_it_was(rt: HostRuntime) {
     let did = refusals_in::<_, Brand, _>(&rt, rt.alloc(), quiescent).expect(&rt, "not refused");
     assert_eq!(rt; did, answers);
 }
+
+/// Growths to a chain that is not empty, and to one that has a note: those of a table that was dropped. Then the table is as
+/// it was.
+fn occupied<P: GracePlan + Drop, B: Site, R: Wait>(
+    rt: &R,
+    alloc: Global,
+    domain: &Domain<P, Tabled, B, Adds>,
+    record: &mut Record<B>,
+) -> Result<([bool; 2], Option<u64>), Refusal>
+    requires { P.QSBR ≡ B.qsbr }
+{
+    let mut reader = domain.register(rt, record)?;
+    let table = tabled(rt, alloc, domain, record)?;
+    drop(RcuHash::new(rt, alloc, domain, record, 4, 5, 1)?);
+    let filled = matches!(table.grow(rt, alloc, record, 4, 1), Err(Refusal::BadConfig));
+    let noted = matches!(table.grow(rt, alloc, record, 5, 1), Err(Refusal::BadConfig));
+    table.insert(rt, record, 4, 40)?;
+    let found = look(&mut reader, table.view(), 4)?;
+    Ok(([filled, noted], found))
+}
+
+/// The same, in a domain of its own.
+fn occupied_in<P: GracePlan + Drop, B: Site, R: Wait>(
+    rt: &R,
+    alloc: Global,
+    opened: Opened<P, Tabled>,
+) -> Result<([bool; 2], Option<u64>), Refusal>
+    requires { (P.QSBR ≡ B.qsbr) × (opened.table.words.shared.table_id ≡ B.table) × (opened.table.words.shared.key ≡ B.sizes) }
+{
+    let (domain, mut record) = opened.named::<B, Adds>(alloc)?;
+    occupied(rt, alloc, &domain, &mut record)
+}
+
+#[test]
+fn a_table_does_not_grow_to_chains_of_another(rt: HostRuntime) {
+    let opened = Opened::<MembPlan, Tabled>::new(rt.alloc(), of_pool(12)).expect(&rt, "memory");
+    let did = occupied_in::<_, Brand, _>(&rt, rt.alloc(), opened).expect(&rt, "not refused");
+    assert_eq!(rt; did, ([true; 2], Some(40)));
+}

@@ -12,6 +12,8 @@ mod lists;
 #[cfg(test)]
 mod lookups;
 #[cfg(test)]
+mod sharing;
+#[cfg(test)]
 mod tables;
 #[cfg(test)]
 mod walks;

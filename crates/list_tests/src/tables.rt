@@ -141,8 +141,8 @@ fn tables_answer_by_the_map(rt: HostRuntime) {
     assert_eq!(rt; did, answers);
 }
 
-/// With a pool of three, of which the directory has one: where no record is left, and where the queues are closed, the callback comes back, the map is as
-/// it was, and so is the pool.
+/// With a pool of three, of which the directory has one: where no record is left, and where the queues are closed, the
+/// callback comes back, the map is as it was, and so is the pool.
 fn refusals<P: GracePlan + Drop, B: Site, R: Wait>(
     rt: &R,
     alloc: Global,

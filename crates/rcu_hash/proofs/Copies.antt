@@ -5,7 +5,7 @@ use native.Mathlib.Decide.{ℕ_discrete}
 use Rattle.atomic_table.specs.Table.{Me}
 use Rattle.rcu_model.specs.declared.event.ObjectId.{ObjectId}
 use Rattle.rcu_model.specs.Sets.{In}
-use Rattle.rcu_model.proofs.Lemmas.{at_object_same, in_left, in_right, none_some}
+use Rattle.rcu_model.proofs.Lemmas.{at_object_same, in_left, none_some}
 use Rattle.live_log.specs.Keys.{key_of, rank_of, Falls}
 use Rattle.live_log.specs.Log.{Log, Begins, IsLiveRun, note_of, payload_of, words_in}
 use Rattle.live_log.specs.Maps.{IsUnnoted}
@@ -235,10 +235,14 @@ found_more sizes found more = ⊎_elim
     (λ (u : IsUsedUp sizes found). inl (u.0, in_left found more _ u.1, u.2))
     (λ (t : AreTaken sizes found). inr (λ i low. let x = t i low in (x.0, in_left found more _ x.1, x.2)))
 
+in_behind : {X : Type 0} (xs ys : List X) (x : X) → In ys x → In (xs ++ ys) x
+in_behind [] ys x h = h
+in_behind (y ∷ xs) ys x h = inr (in_behind xs ys x h)
+
 pub found_before : (sizes : Sizes) (more found : List (ℕ × ℕ)) → IsUsedUp sizes found ⊎ AreTaken sizes found → IsUsedUp sizes (more ++ found) ⊎ AreTaken sizes (more ++ found)
 found_before sizes more found = ⊎_elim
-    (λ (u : IsUsedUp sizes found). inl (u.0, in_right more found _ u.1, u.2))
-    (λ (t : AreTaken sizes found). inr (λ i low. let x = t i low in (x.0, in_right more found _ x.1, x.2)))
+    (λ (u : IsUsedUp sizes found). inl (u.0, in_behind more found _ u.1, u.2))
+    (λ (t : AreTaken sizes found). inr (λ i low. let x = t i low in (x.0, in_behind more found _ x.1, x.2)))
 
 -- the keys of the list that a writer knows differ
 pub falls_known : (qsbr : Bool) (v : View) → IsLiveRun qsbr tabled v.seen → IsListed v → Falls (note_of v.seen) (list_in v)

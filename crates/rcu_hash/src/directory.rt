@@ -1,6 +1,6 @@
 //! The writer of a table's directory, and its lock.
 
-ghost use Rattle.std.specs.Prelude.{◌≡◌, ◌+◌, ◌<◌, ◌≤◌, ◌∷◌, [], length};
+ghost use Rattle.std.specs.Prelude.{◌≡◌, ◌+◌, ◌<◌, ◌≤◌, ◌∷◌, [], length, true};
 ghost use Rattle.rcu_model.specs.Sets.{In};
 ghost use Rattle.live_log.specs.Log.{Begins, IsLiveRun, note_of, state_of};
 ghost use Rattle.live_log.specs.Tables.{tabled};
@@ -26,6 +26,15 @@ pub(crate) struct Naming {
     pub(crate) first: usize,
     /// How many buckets there are.
     pub(crate) buckets: usize,
+}
+
+impl Naming {
+    /// Whether it is the same one.
+    pub(crate) fn is(self, other: Naming) -> bool
+        ensures { result ≡ true → self ≡ other }
+    {
+        self == other
+    }
 }
 
 /// The writer of a directory's chain, which links that one record.

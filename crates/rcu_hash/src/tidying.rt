@@ -341,7 +341,8 @@ impl<'d, P: GracePlan + Drop, B: Site, D: Deleter> RcuHash<'d, P, B, D> {
         let Some(left) = left else {
             return TidyEnd::done(0, jobs);
         };
-        if left.naming != naming {
+        let is_its = left.naming.is(naming);
+        if !is_its {
             *place = Some(left);
             return TidyEnd::done(0, jobs);
         }

@@ -1,8 +1,26 @@
-use Rattle.std.proofs.Common.{[], ◌++◌, ◌∙◌}
+use Rattle.std.proofs.Common.{[], ◌++◌, ◌∙◌, refl}
+use Rattle.std.proofs.lemmas.Result.{err_from_is_err_and}
+use Rattle.rcu_model.specs.declared.refusal.Refusal.TheVariants.{Memory}
 use Rattle.live_log.proofs.Lemmas.{begins_trans}
 use Rattle.rcu_hash.proofs.Copies.{found_before, found_more}
+use Rattle.rcu_hash.proofs.Held.{looks_both, not_full}
 use Rattle.rcu_hash.proofs.Taking.{told_both, told_looks}
 use Rattle.rcu_hash.proofs.growth.Growth.ready.Goals as goal
+
+pub returns-in_err-rooms-clause-looks : goal.returns-in_err-rooms-clause-looks
+returns-in_err-rooms-clause-looks g c =
+    let p = err_from_is_err_and c.from_residual.result c.from_residual.ensures.1 in
+    ([], refl, not_full g.B.Site.sizes [] c.from_residual.result p.0 Memory p.1 (p.2 ∙ c.in_err-rooms.ensures.refused) (λ z. cc))
+
+pub returns-in_err-taken-clause-looks : goal.returns-in_err-taken-clause-looks
+returns-in_err-taken-clause-looks g c =
+    let p = err_from_is_err_and c.from_residual-in_err-taken.result c.from_residual-in_err-taken.ensures.1 in
+    ([], refl, not_full g.B.Site.sizes [] c.from_residual-in_err-taken.result p.0 Memory p.1 (p.2 ∙ c.in_err-taken.ensures.refused) (λ z. cc))
+
+pub returns-in_err-room-clause-looks : goal.returns-in_err-room-clause-looks
+returns-in_err-room-clause-looks g c =
+    let p = err_from_is_err_and c.from_residual-in_err-room.result c.from_residual-in_err-room.ensures.1 in
+    ([], refl, not_full g.B.Site.sizes [] c.from_residual-in_err-room.result p.0 Memory p.1 (p.2 ∙ c.in_err-room.ensures.refused) (λ z. cc))
 
 pub returns-in-Err-clause-heard : goal.returns-in-Err-clause-heard
 returns-in-Err-clause-heard g c =
@@ -11,10 +29,12 @@ returns-in-Err-clause-heard g c =
 
 pub returns-in-Err-clause-looks : goal.returns-in-Err-clause-looks
 returns-in-Err-clause-looks g c =
-    let w = g.W.Witness in let w0 = c.args.witness.now in let w1 = c.hold_all.new.witness in let w2 = c.copy_all.new.witness in let w3 = c.undo.new.witness in
-    let a = c.hold_all.ensures.same in let b = c.in-Err.ensures in let u = c.undo.ensures.told in let sizes = g.B.Site.sizes in
-    let told = told_both w w0 w2 w3 (told_both w w0 w1 w2 (told_looks w w0 w1 a.2.0 a.2.1 a.1) (told_looks w w1 w2 b.looks.0 b.looks.1 b.same.1)) u in
-    (told.0.0, told.0.1, λ is. found_before sizes u.0.0 (b.looks.0 ++ a.2.0) (found_more sizes b.looks.0 a.2.0 (b.looks.2 is)))
+    let w = g.W.Witness in let l0 = w.looks c.args.witness.now in let l1 = w.looks c.hold_all.new.witness in let l2 = w.looks c.copy_all.new.witness in let l3 = w.looks c.undo.new.witness in
+    let a = c.hold_all.ensures.same.2 in let b = c.in-Err.ensures.looks in let u = c.undo.ensures.told.0 in let sizes = g.B.Site.sizes in (
+      u.0 ++ (b.0 ++ a.0),
+      looks_both l0 l2 l3 (b.0 ++ a.0) u.0 (looks_both l0 l1 l2 a.0 b.0 a.1 b.1) u.1,
+      λ is. found_before sizes u.0 (b.0 ++ a.0) (found_more sizes b.0 a.0 (b.2 is)),
+    )
 
 pub returns-in-Err-clause-loads : goal.returns-in-Err-clause-loads
 returns-in-Err-clause-loads g c =
@@ -45,10 +65,12 @@ returns-clause-heard g c =
 
 pub returns-clause-looks : goal.returns-clause-looks
 returns-clause-looks g c =
-    let w = g.W.Witness in let w0 = c.args.witness.now in let w1 = c.hold_all.new.witness in let w2 = c.copy_all.new.witness in let w3 = c.provide.new.witness in let w4 = c.undo-in-Err-provide.new.witness in
-    let a = c.hold_all.ensures.same in let b = c.copy_all.ensures in let p = c.in-Err-provide.ensures in let u = c.undo-in-Err-provide.ensures.told in let sizes = g.B.Site.sizes in
-    let told = told_both w w0 w3 w4 (told_both w w0 w2 w3 (told_both w w0 w1 w2 (told_looks w w0 w1 a.2.0 a.2.1 a.1) (told_looks w w1 w2 b.looks.0 b.looks.1 b.same.1)) (told_looks w w2 w3 p.looks.0 p.looks.1 p.same.1)) u in
-    (told.0.0, told.0.1, λ is. found_before sizes u.0.0 (p.looks.0 ++ (b.looks.0 ++ a.2.0)) (found_more sizes p.looks.0 (b.looks.0 ++ a.2.0) (p.looks.2 is)))
+    let w = g.W.Witness in let l0 = w.looks c.args.witness.now in let l1 = w.looks c.hold_all.new.witness in let l2 = w.looks c.copy_all.new.witness in let l3 = w.looks c.provide.new.witness in let l4 = w.looks c.undo-in-Err-provide.new.witness in
+    let a = c.hold_all.ensures.same.2 in let b = c.copy_all.ensures.looks in let p = c.in-Err-provide.ensures.looks in let u = c.undo-in-Err-provide.ensures.told.0 in let sizes = g.B.Site.sizes in (
+      u.0 ++ (p.0 ++ (b.0 ++ a.0)),
+      looks_both l0 l3 l4 (p.0 ++ (b.0 ++ a.0)) u.0 (looks_both l0 l2 l3 (b.0 ++ a.0) p.0 (looks_both l0 l1 l2 a.0 b.0 a.1 b.1) p.1) u.1,
+      λ is. found_before sizes u.0 (p.0 ++ (b.0 ++ a.0)) (found_more sizes p.0 (b.0 ++ a.0) (p.2 is)),
+    )
 
 pub returns-clause-loads : goal.returns-clause-loads
 returns-clause-loads g c =

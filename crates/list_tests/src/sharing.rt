@@ -1,0 +1,178 @@
+//! Two threads write to one table, one of them in a section, while a third tidies: they wait for it no longer than for a
+//! lock, though it waits for the section.
+
+ghost use Rattle.std.specs.Prelude.{◌≡◌};
+ghost use Rattle.std.specs.Thread.{IsSync};
+
+use crate::deleter::Adds;
+use crate::growths::callbacks;
+use domain::{LiveConfig, Opened, Reader, Record, Site};
+use gp_memb::{GracePlan, MembPlan};
+use live_words::Tabled;
+use rcu_hash::RcuHash;
+use rcu_model::Refusal;
+use std::alloc::Global;
+use std::marker::Brand;
+use std::sync::Wait;
+use std::sync::atomic::{AtomicBool, Ordering};
+use std::thread::{self, Threads, join};
+
+/// How many keys each thread gives a value.
+const KEYS: u64 = 100;
+
+/// A domain of two slots, with a record for each key, old and new.
+fn of_two_readers() -> LiveConfig {
+    LiveConfig {
+        slots: 2,
+        queues: 1,
+        chains: 6,
+        pool: 512,
+    }
+}
+
+/// Waits until another thread has told this.
+fn waits_for(told: &AtomicBool) -> bool {
+    for _ in 0..u64::MAX {
+        if told.load(Ordering::SeqCst) {
+            return true;
+        }
+        thread::yield_now();
+    }
+    false
+}
+
+/// Gives keys from this one on a value, each its own number.
+fn fills<P: GracePlan + Drop, B: Site, R: Wait>(
+    rt: &R,
+    table: &RcuHash<'_, P, B, Adds>,
+    record: &mut Record<B>,
+    first: u64,
+) -> Result<(), Refusal> {
+    for number in 0..KEYS {
+        let key = first.wrapping_add(number);
+        table.insert(rt, record, key, key)?;
+        thread::yield_now();
+    }
+    Ok(())
+}
+
+/// What two threads tell one another.
+#[derive(Drop)]
+struct Told {
+    /// A section is open.
+    open: AtomicBool,
+    /// A tidying begins.
+    begun: AtomicBool,
+}
+
+/// What a thread writes while it has a section open, once a tidying begins.
+fn writes_in_a_section<P: GracePlan + Drop, B: Site, R: Wait>(
+    rt: &R,
+    table: &RcuHash<'_, P, B, Adds>,
+    reader: Reader<P, Tabled, B>,
+    record: Record<B>,
+    told: &Told,
+) -> Result<(), Refusal>
+    requires { P.QSBR ≡ B.qsbr }
+{
+    let (mut reader, mut record) = (reader, record);
+    let section = reader.section()?;
+    told.open.store(true, Ordering::SeqCst);
+    waits_for(&told.begun);
+    let filled = fills(rt, table, &mut record, 1_000);
+    section.close();
+    filled
+}
+
+/// What the one who tidies does, once a section is open. How many were retired.
+fn tidies<P: GracePlan + Drop, B: Site, R: Wait>(
+    rt: &R,
+    alloc: Global,
+    table: &RcuHash<'_, P, B, Adds>,
+    record: Record<B>,
+    left: usize,
+    told: &Told,
+) -> Result<usize, Refusal> {
+    let mut record = record;
+    let jobs = callbacks(alloc, left)?;
+    waits_for(&told.open);
+    told.begun.store(true, Ordering::SeqCst);
+    Ok(table.tidy(rt, &mut record, jobs).retired)
+}
+
+/// Two writers and one who tidies, in a thread each. How many were retired.
+fn three_work<P: GracePlan + Drop + Send + Sync, B: Site + Send + Sync, R: Threads + Wait + Sync>(
+    rt: &R,
+    alloc: Global,
+    table: &RcuHash<'_, P, B, Adds>,
+    reader: Reader<P, Tabled, B>,
+    records: (Record<B>, Record<B>, Record<B>),
+    left: usize,
+) -> Result<usize, Refusal>
+    requires { P.QSBR ≡ B.qsbr }
+{
+    let (one, two, three) = records;
+    let both = Told {
+        open: AtomicBool::new(false),
+        begun: AtomicBool::new(false),
+    };
+    let told = &both;
+    let (wrote, (more, retired)) = join(
+        rt,
+        move ||
+            requires { P.QSBR ≡ B.qsbr }
+        { writes_in_a_section(rt, table, reader, one, told) },
+        move ||
+            requires { IsSync R.row }
+        {
+            join(
+                rt,
+                move || {
+                    let mut record = two;
+                    fills(rt, table, &mut record, 2_000)
+                },
+                move || tidies(rt, alloc, table, three, left, told),
+            )
+        },
+    );
+    wrote?;
+    more?;
+    retired
+}
+
+/// A table grows, and is then shared by the three. What they did, and what a section finds of the first, of the last key in
+/// the end.
+fn shares<P: GracePlan + Drop + Send + Sync, B: Site + Send + Sync, R: Threads + Wait + Sync>(
+    rt: &R,
+    alloc: Global,
+    opened: Opened<P, Tabled>,
+) -> Result<(usize, [Option<u64>; 3]), Refusal>
+    requires { (P.QSBR ≡ B.qsbr) × (opened.table.words.shared.table_id ≡ B.table) × (opened.table.words.shared.key ≡ B.sizes) }
+{
+    let (domain, mut record) = opened.named::<B, Adds>(alloc)?;
+    let reader = domain.register(rt, &mut record)?;
+    let mut last = domain.register(rt, &mut record)?;
+    let table = RcuHash::new(rt, alloc, &domain, &mut record, 0, 1, 2)?;
+    fills(rt, &table, &mut record, 0)?;
+    let left = table.grow(rt, alloc, &mut record, 3, 3)?;
+    let records = (
+        domain.split(&mut record),
+        domain.split(&mut record),
+        domain.split(&mut record),
+    );
+    let retired = three_work(rt, alloc, &table, reader, records, left)?;
+    let mut section = last.section()?;
+    let first = table.get(&mut section, 0);
+    let second = table.get(&mut section, 1_099);
+    let third = table.get(&mut section, 2_099);
+    Ok((retired, [first, second, third]))
+}
+
+#[test]
+fn writers_go_on_while_a_tidying_waits(rt: HostRuntime) {
+    let opened = Opened::<MembPlan, Tabled>::new(rt.alloc(), of_two_readers()).expect(
+        &rt, "memory",
+    );
+    let did = shares::<MembPlan, Brand, _>(&rt, rt.alloc(), opened).expect(&rt, "not refused");
+    assert_eq!(rt; did, (101, [Some(0), Some(1_099), Some(2_099)]));
+}
