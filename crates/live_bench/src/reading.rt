@@ -8,8 +8,7 @@ use live_words::{AnyChain, ChainRule};
 use rcu_model::Refusal;
 use std::thread::{Threads, join};
 
-/// One section with nothing in it: what a program's machine code is looked at for.
-#[inline(never)]
+/// One section with nothing in it.
 fn section<P: GracePlan, B: Site>(reader: &mut Reader<P, AnyChain, B>) -> bool
     requires { P.QSBR ≡ B.qsbr }
 {

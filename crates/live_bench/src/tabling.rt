@@ -41,7 +41,6 @@ impl Looked {
 }
 
 /// One section that looks a key up.
-#[inline(never)]
 pub(crate) fn look_up<P: GracePlan, B: Site>(
     reader: &mut Reader<P, Tabled, B>,
     view: TableView<B>,
