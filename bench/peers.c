@@ -9,6 +9,7 @@
 #include <stdio.h>
 #include <stdlib.h>
 #include <string.h>
+#include <time.h>
 
 #ifdef HAS_URCU
 #define _LGPL_SOURCE /* its small functions inline */
@@ -425,6 +426,13 @@ static pthread_once_t once = PTHREAD_ONCE_INIT;
 
 static atomic_int over;
 
+static unsigned long nanoseconds(void)
+{
+	struct timespec now;
+	clock_gettime(CLOCK_MONOTONIC, &now);
+	return 1000000000ul * now.tv_sec + now.tv_nsec;
+}
+
 static int has_key(struct cds_lfht_node *node, const void *key)
 {
 	return caa_container_of(node, struct entry, node)->key == *(const unsigned long *) key;
@@ -556,6 +564,28 @@ extern const struct rcu_flavor_struct urcu_mb_flavor, urcu_memb_flavor, urcu_qsb
 		name##_look_up(BELOW_GROWING, 0);                                                                      \
 		atomic_store(&over, 1);                                                                                \
 		pthread_join(growing, NULL);                                                                           \
+	}                                                                                                              \
+	/* Writes the time of the slowest lookup, in billionths of the time of all. */                                 \
+	static void name##_slowest_while_growing(void)                                                                 \
+	{                                                                                                              \
+		pthread_t growing;                                                                                     \
+		unsigned long longest = 0;                                                                             \
+		name##_fill(SMALL, GROWING);                                                                           \
+		pthread_create(&growing, NULL, name##_grow_on, NULL);                                                  \
+		urcu_##name##_register_thread();                                                                       \
+		unsigned long began = nanoseconds();                                                                   \
+		for (unsigned long i = 0; i < count; i++) {                                                            \
+			unsigned long before = nanoseconds();                                                          \
+			urcu_##name##_read_lock();                                                                     \
+			sink = find((i * STRIDE) & BELOW_GROWING)->value;                                              \
+			urcu_##name##_read_unlock();                                                                   \
+			unsigned long took = nanoseconds() - before;                                                   \
+			longest = took > longest ? took : longest;                                                     \
+		}                                                                                                      \
+		printf("%.0f\n", 1e9 * longest / (nanoseconds() - began));                                             \
+		urcu_##name##_unregister_thread();                                                                     \
+		atomic_store(&over, 1);                                                                                \
+		pthread_join(growing, NULL);                                                                           \
 	}
 
 TABLE(mb)
@@ -658,8 +688,10 @@ static const struct {
 	{ "qsbr", "remove", qsbr_remove },
 	{ "mb", "grow", mb_grow },
 	{ "mb", "hit-while-growing", mb_hit_while_growing },
+	{ "mb", "slowest-while-growing", mb_slowest_while_growing },
 	{ "memb", "grow", memb_grow },
 	{ "memb", "hit-while-growing", memb_hit_while_growing },
+	{ "memb", "slowest-while-growing", memb_slowest_while_growing },
 	{ "qsbr", "grow", qsbr_grow },
 #endif
 #ifdef HAS_POLL

@@ -14,7 +14,7 @@ use rcu_hash::{RcuHash, TableView};
 use rcu_model::Refusal;
 use std::alloc::Global;
 use std::sync::Wait;
-use std::sync::atomic::{AtomicBool, Ordering};
+use std::sync::atomic::{AtomicBool, AtomicU64, Ordering};
 use std::thread::{self, Threads, join};
 
 /// How many keys the table has.
@@ -160,12 +160,97 @@ fn looks<P: GracePlan, B: Site>(
     Ok(found)
 }
 
-/// Lookups by one reader while the table grows all the time.
+/// Counts as fast as it can until the lookups are done: a program that may read no clock measures time by that.
+fn ticks(clock: &AtomicU64, done: &AtomicBool) {
+    for tick in 0..u64::MAX {
+        clock.store(tick, Ordering::SeqCst);
+        if done.load(Ordering::SeqCst) {
+            return;
+        }
+    }
+}
+
+/// So many lookups. Answers the time of the slowest, in billionths of the time of all.
+fn slowest<P: GracePlan, B: Site>(
+    reader: &mut Reader<P, Tabled, B>,
+    view: TableView<B>,
+    count: u64,
+    clock: &AtomicU64,
+) -> Result<u64, Refusal>
+    requires { P.QSBR ≡ B.qsbr }
+{
+    begin(reader)?;
+    let began = clock.load(Ordering::SeqCst);
+    let mut longest = 0u64;
+    for number in 0..count {
+        let before = clock.load(Ordering::SeqCst);
+        look_up(reader, view, LOOKED.key(number))?;
+        longest = longest.max(clock.load(Ordering::SeqCst).wrapping_sub(before));
+        if P::QSBR {
+            reader.quiescent()?;
+        }
+    }
+    if P::QSBR {
+        reader.offline()?;
+    }
+    let all = clock.load(Ordering::SeqCst).wrapping_sub(began);
+    Ok(longest.saturating_mul(1_000_000_000) / all.max(1))
+}
+
+/// What the reader does: its lookups, each timed or not.
+fn looks_or_times<P: GracePlan, B: Site>(
+    reader: &mut Reader<P, Tabled, B>,
+    view: TableView<B>,
+    count: u64,
+    clock: Option<&AtomicU64>,
+) -> Result<u64, Refusal>
+    requires { P.QSBR ≡ B.qsbr }
+{
+    match clock {
+        Some(clock) => slowest(reader, view, count, clock),
+        None => looks(reader, view, count),
+    }
+}
+
+/// The table grows all the time, with a clock beside it where there is one.
+fn grows_beside_a_clock<
+    P: GracePlan + Drop + Send + Sync,
+    B: Site + Send + Sync,
+    R: Threads + Wait + Sync,
+>(
+    rt: &R,
+    alloc: Global,
+    domain: &Domain<P, Tabled, B, Forgets>,
+    one: Record<B>,
+    two: Record<B>,
+    clock: Option<&AtomicU64>,
+    done: &AtomicBool,
+) -> Result<u64, Refusal> {
+    let (_, grown) = join(
+        rt,
+        move || match clock {
+            Some(clock) => ticks(clock, done),
+            None => (),
+        },
+        move ||
+            requires { IsSync R.row }
+        { grows_beside_a_worker(rt, alloc, domain, one, two, u64::MAX, done) },
+    );
+    grown
+}
+
+/// Lookups by one reader while the table grows all the time. With a clock it answers the time of the slowest.
 pub(crate) fn lookups_while_growing<
     P: GracePlan + Drop + Send + Sync,
     B: Site + Send + Sync,
     R: Threads + Wait + Sync,
->(rt: &R, alloc: Global, opened: Opened<P, Tabled>, count: u64) -> Result<u64, Refusal>
+>(
+    rt: &R,
+    alloc: Global,
+    opened: Opened<P, Tabled>,
+    clock: Option<&AtomicU64>,
+    count: u64,
+) -> Result<u64, Refusal>
     requires { (P.QSBR ≡ B.qsbr) × (opened.table.words.shared.table_id ≡ B.table) × (opened.table.words.shared.key ≡ B.sizes) }
 {
     let (domain, mut record) = opened.named::<B, Forgets>(alloc)?;
@@ -179,13 +264,13 @@ pub(crate) fn lookups_while_growing<
         move ||
             requires { P.QSBR ≡ B.qsbr }
         {
-            let found = looks(&mut reader, view, count);
+            let found = looks_or_times(&mut reader, view, count, clock);
             done.store(true, Ordering::SeqCst);
             found
         },
         move ||
             requires { IsSync R.row }
-        { grows_beside_a_worker(rt, alloc, home, record, other, u64::MAX, done) },
+        { grows_beside_a_clock(rt, alloc, home, record, other, clock, done) },
     );
     grown?;
     found

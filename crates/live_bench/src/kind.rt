@@ -87,6 +87,8 @@ pub(crate) enum TableKind {
     Growth,
     /// A section that looks up a key of it, while it grows all the time.
     HitWhileGrowing,
+    /// The same, each section timed.
+    SlowestWhileGrowing,
 }
 
 /// On what it is repeated.
@@ -151,6 +153,7 @@ fn table_kind_of(word: &str) -> Option<TableKind> {
     Some(match word {
         "grow" => TableKind::Growth,
         "hit-while-growing" => TableKind::HitWhileGrowing,
+        "slowest-while-growing" => TableKind::SlowestWhileGrowing,
         other => TableKind::Alone(table_operation_of(other)?),
     })
 }
@@ -239,7 +242,7 @@ impl TableKind {
     pub(crate) fn size(self) -> LiveConfig {
         match self {
             TableKind::Alone(operation) => of_chains(operation.entries().buckets() + 1),
-            TableKind::Growth | TableKind::HitWhileGrowing => of_chains(CHAINS),
+            _ => of_chains(CHAINS),
         }
     }
 }

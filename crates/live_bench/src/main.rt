@@ -1,6 +1,7 @@
 #![tactic(auto)]
 //! Operations of the library over live threads, one after the other, for the benchmark: `live_bench FLAVOUR KIND
-//! COUNT`. A kind that ends in `-by-two` or `-by-four` is of so many threads, each of which makes COUNT operations.
+//! COUNT`. A kind that ends in `-by-two` or `-by-four` is of so many threads, each of which makes COUNT operations. Of
+//! `slowest-while-growing` the answer is the time of the slowest operation, in billionths of the time of all.
 
 ghost use Rattle.std.specs.Prelude.{◌≡◌};
 
@@ -30,6 +31,7 @@ use std::alloc::Global;
 use std::marker::Brand;
 use std::process::ExitCode;
 use std::sync::Wait;
+use std::sync::atomic::AtomicU64;
 use std::thread::Threads;
 use std::{env, io};
 use tabling::tabled;
@@ -106,7 +108,13 @@ fn on_table<P: GracePlan + Drop + Send + Sync, B: Site + Send + Sync, R: Threads
     match kind {
         TableKind::Alone(operation) => tabled::<P, B, R>(rt, alloc, opened, operation, count),
         TableKind::Growth => growths::<P, B, R>(rt, alloc, opened, count),
-        TableKind::HitWhileGrowing => lookups_while_growing::<P, B, R>(rt, alloc, opened, count),
+        TableKind::HitWhileGrowing => {
+            lookups_while_growing::<P, B, R>(rt, alloc, opened, None, count)
+        }
+        TableKind::SlowestWhileGrowing => {
+            let clock = AtomicU64::new(0);
+            lookups_while_growing::<P, B, R>(rt, alloc, opened, Some(&clock), count)
+        }
     }
 }
 
