@@ -9,12 +9,14 @@
 #include <stdio.h>
 #include <stdlib.h>
 #include <string.h>
+#include <time.h>
 
 #ifdef HAS_URCU
 #define _LGPL_SOURCE /* its small functions inline */
 #include <urcu/urcu-mb.h>
 #include <urcu/urcu-memb.h>
 #include <urcu/urcu-qsbr.h>
+#include <urcu/rculfhash.h>
 #include <urcu/rculist.h>
 #endif
 
@@ -405,6 +407,191 @@ static void mb_walk(void)
 	urcu_mb_unregister_thread();
 }
 
+/* A hash table of entries by their keys, of so many buckets for good, and the keys that are looked up. */
+struct entry {
+	struct cds_lfht_node node;
+	struct rcu_head head;
+	unsigned long key, value;
+};
+static struct cds_lfht *table;
+static pthread_once_t once = PTHREAD_ONCE_INIT;
+
+#define SMALL 1024 /* keys, and buckets */
+#define MANY 65535 /* keys */
+#define LARGE 4096 /* buckets */
+#define OTHERS (1ul << 20) /* from here on no key is there */
+#define GROWING 10000 /* keys of a table that grows */
+#define BELOW_GROWING 8191
+#define STRIDE 40503 /* odd: from key to key, all of a power of two */
+
+static atomic_int over;
+
+static unsigned long nanoseconds(void)
+{
+	struct timespec now;
+	clock_gettime(CLOCK_MONOTONIC, &now);
+	return 1000000000ul * now.tv_sec + now.tv_nsec;
+}
+
+static int has_key(struct cds_lfht_node *node, const void *key)
+{
+	return caa_container_of(node, struct entry, node)->key == *(const unsigned long *) key;
+}
+
+/* Ours takes no hash, but the key; so does this. */
+static struct entry *find(unsigned long key)
+{
+	struct cds_lfht_iter found;
+	cds_lfht_lookup(table, key, has_key, &key, &found);
+	struct cds_lfht_node *node = cds_lfht_iter_get_node(&found);
+	return node ? caa_container_of(node, struct entry, node) : NULL;
+}
+
+static struct entry *add_entry(unsigned long key)
+{
+	struct entry *entry = malloc(sizeof *entry);
+	entry->key = entry->value = key;
+	cds_lfht_add_unique(table, key, has_key, &key, &entry->node);
+	return entry;
+}
+
+static void free_entry(struct rcu_head *head)
+{
+	free(caa_container_of(head, struct entry, head));
+}
+
+extern const struct rcu_flavor_struct urcu_mb_flavor, urcu_memb_flavor, urcu_qsbr_flavor;
+
+#define TABLE(name)                                                                                                    \
+	static void name##_fill(unsigned long buckets, unsigned long keys)                                             \
+	{                                                                                                              \
+		table = cds_lfht_new_flavor(buckets, buckets, 2 * buckets, 0, &urcu_##name##_flavor, NULL);            \
+		urcu_##name##_register_thread();                                                                       \
+		urcu_##name##_read_lock();                                                                             \
+		for (unsigned long key = 0; key < keys; key++)                                                         \
+			add_entry(key);                                                                                \
+		urcu_##name##_read_unlock();                                                                           \
+		urcu_##name##_unregister_thread();                                                                     \
+	}                                                                                                              \
+	static void name##_fill_small(void)                                                                            \
+	{                                                                                                              \
+		name##_fill(SMALL, SMALL);                                                                             \
+	}                                                                                                              \
+	static void name##_fill_large(void)                                                                            \
+	{                                                                                                              \
+		name##_fill(LARGE, MANY);                                                                              \
+	}                                                                                                              \
+	static void name##_look_up(unsigned long mask, unsigned long from)                                             \
+	{                                                                                                              \
+		urcu_##name##_register_thread();                                                                       \
+		for (unsigned long i = 0; i < count; i++) {                                                            \
+			urcu_##name##_read_lock();                                                                     \
+			struct entry *entry = find(((i * STRIDE) & mask) ^ from);                                      \
+			sink = entry ? entry->value : 0;                                                               \
+			urcu_##name##_read_unlock();                                                                   \
+		}                                                                                                      \
+		urcu_##name##_unregister_thread();                                                                     \
+	}                                                                                                              \
+	static void name##_hit(void)                                                                                   \
+	{                                                                                                              \
+		pthread_once(&once, name##_fill_small);                                                                \
+		name##_look_up(SMALL - 1, 0);                                                                          \
+	}                                                                                                              \
+	static void name##_miss(void)                                                                                  \
+	{                                                                                                              \
+		pthread_once(&once, name##_fill_small);                                                                \
+		name##_look_up(SMALL - 1, OTHERS);                                                                     \
+	}                                                                                                              \
+	static void name##_hit_large(void)                                                                             \
+	{                                                                                                              \
+		pthread_once(&once, name##_fill_large);                                                                \
+		name##_look_up(MANY, 0);                                                                               \
+	}                                                                                                              \
+	static void name##_miss_large(void)                                                                            \
+	{                                                                                                              \
+		pthread_once(&once, name##_fill_large);                                                                \
+		name##_look_up(MANY, OTHERS);                                                                          \
+	}                                                                                                              \
+	static void name##_insert(void)                                                                                \
+	{                                                                                                              \
+		name##_fill(LARGE, 0);                                                                                 \
+		urcu_##name##_register_thread();                                                                       \
+		for (unsigned long i = 0; i < count; i++) {                                                            \
+			urcu_##name##_read_lock();                                                                     \
+			add_entry(i);                                                                                  \
+			urcu_##name##_read_unlock();                                                                   \
+		}                                                                                                      \
+		urcu_##name##_unregister_thread();                                                                     \
+	}                                                                                                              \
+	/* An entry is looked for by its key, as ours is. */                                                           \
+	static void name##_remove(void)                                                                                \
+	{                                                                                                              \
+		name##_fill_small();                                                                                   \
+		urcu_##name##_register_thread();                                                                       \
+		for (unsigned long i = 0; i < count; i++) {                                                            \
+			urcu_##name##_read_lock();                                                                     \
+			add_entry(i ^ OTHERS);                                                                         \
+			struct entry *entry = find(i ^ OTHERS);                                                        \
+			cds_lfht_del(table, &entry->node);                                                             \
+			urcu_##name##_read_unlock();                                                                   \
+			urcu_##name##_call_rcu(&entry->head, free_entry);                                              \
+		}                                                                                                      \
+		urcu_##name##_unregister_thread();                                                                     \
+	}                                                                                                              \
+	/* By turns to twice as many buckets, and back. */                                                             \
+	static void name##_resize(unsigned long times)                                                                 \
+	{                                                                                                              \
+		urcu_##name##_register_thread();                                                                       \
+		for (unsigned long i = 0; i < times && !atomic_load(&over); i++)                                       \
+			cds_lfht_resize(table, i % 2 ? SMALL : 2 * SMALL);                                             \
+		urcu_##name##_unregister_thread();                                                                     \
+	}                                                                                                              \
+	static void name##_grow(void)                                                                                  \
+	{                                                                                                              \
+		name##_fill(SMALL, GROWING);                                                                           \
+		name##_resize(count);                                                                                  \
+	}                                                                                                              \
+	static void *name##_grow_on(void *it)                                                                          \
+	{                                                                                                              \
+		name##_resize(-1ul);                                                                                   \
+		return it;                                                                                             \
+	}                                                                                                              \
+	static void name##_hit_while_growing(void)                                                                     \
+	{                                                                                                              \
+		pthread_t growing;                                                                                     \
+		name##_fill(SMALL, GROWING);                                                                           \
+		pthread_create(&growing, NULL, name##_grow_on, NULL);                                                  \
+		name##_look_up(BELOW_GROWING, 0);                                                                      \
+		atomic_store(&over, 1);                                                                                \
+		pthread_join(growing, NULL);                                                                           \
+	}                                                                                                              \
+	/* Writes the time of the slowest lookup, in billionths of the time of all. */                                 \
+	static void name##_slowest_while_growing(void)                                                                 \
+	{                                                                                                              \
+		pthread_t growing;                                                                                     \
+		unsigned long longest = 0;                                                                             \
+		name##_fill(SMALL, GROWING);                                                                           \
+		pthread_create(&growing, NULL, name##_grow_on, NULL);                                                  \
+		urcu_##name##_register_thread();                                                                       \
+		unsigned long began = nanoseconds();                                                                   \
+		for (unsigned long i = 0; i < count; i++) {                                                            \
+			unsigned long before = nanoseconds();                                                          \
+			urcu_##name##_read_lock();                                                                     \
+			sink = find((i * STRIDE) & BELOW_GROWING)->value;                                              \
+			urcu_##name##_read_unlock();                                                                   \
+			unsigned long took = nanoseconds() - before;                                                   \
+			longest = took > longest ? took : longest;                                                     \
+		}                                                                                                      \
+		printf("%.0f\n", 1e9 * longest / (nanoseconds() - began));                                             \
+		urcu_##name##_unregister_thread();                                                                     \
+		atomic_store(&over, 1);                                                                                \
+		pthread_join(growing, NULL);                                                                           \
+	}
+
+TABLE(mb)
+TABLE(memb)
+TABLE(qsbr)
+
 /* Polls came with liburcu 0.14. */
 #if __has_include(<urcu/urcu-poll.h>)
 #define HAS_POLL
@@ -481,6 +668,31 @@ static const struct {
 	{ "qsbr", "mix", qsbr_mix },
 	{ "qsbr-unlimited", "retire", qsbr_retire_all },
 	{ "qsbr-unlimited", "retire-boxed", qsbr_retire_all },
+	{ "mb", "hit", mb_hit },
+	{ "mb", "miss", mb_miss },
+	{ "mb", "hit-large", mb_hit_large },
+	{ "mb", "miss-large", mb_miss_large },
+	{ "mb", "insert", mb_insert },
+	{ "mb", "remove", mb_remove },
+	{ "memb", "hit", memb_hit },
+	{ "memb", "miss", memb_miss },
+	{ "memb", "hit-large", memb_hit_large },
+	{ "memb", "miss-large", memb_miss_large },
+	{ "memb", "insert", memb_insert },
+	{ "memb", "remove", memb_remove },
+	{ "qsbr", "hit", qsbr_hit },
+	{ "qsbr", "miss", qsbr_miss },
+	{ "qsbr", "hit-large", qsbr_hit_large },
+	{ "qsbr", "miss-large", qsbr_miss_large },
+	{ "qsbr", "insert", qsbr_insert },
+	{ "qsbr", "remove", qsbr_remove },
+	{ "mb", "grow", mb_grow },
+	{ "mb", "hit-while-growing", mb_hit_while_growing },
+	{ "mb", "slowest-while-growing", mb_slowest_while_growing },
+	{ "memb", "grow", memb_grow },
+	{ "memb", "hit-while-growing", memb_hit_while_growing },
+	{ "memb", "slowest-while-growing", memb_slowest_while_growing },
+	{ "qsbr", "grow", qsbr_grow },
 #endif
 #ifdef HAS_POLL
 	{ "mb", "poll", mb_poll },

@@ -3,6 +3,7 @@
 
 use arc_swap::ArcSwap;
 use crossbeam_epoch::{pin, Atomic, Owned};
+use std::collections::HashMap;
 use std::hint::black_box;
 use std::process::ExitCode;
 use std::sync::atomic::{AtomicBool, Ordering};
@@ -167,12 +168,70 @@ fn run<P: Place>(kind: &str, count: u64, threads: usize) {
     });
 }
 
+const TABLE_KINDS: [&str; 6] = ["hit", "miss", "hit-large", "miss-large", "insert", "remove"];
+
+/// Keys up to these are in the tables that are looked up; what is looked up is below the next power of two.
+const FEW: u64 = 1_024;
+const MANY: u64 = 65_535;
+
+/// From here on no key is there.
+const OTHERS: u64 = 1 << 20;
+
+/// Odd, so that it leads from key to key through all of a power of two.
+const STRIDE: u64 = 40_503;
+
+type Table = RwLock<HashMap<u64, u64>>;
+
+fn look_up(table: &Table, mask: u64, from: u64, count: u64) {
+    repeat(count, |number| {
+        let key = (number.wrapping_mul(STRIDE) & mask) ^ from;
+        black_box(table.read().unwrap_or_else(PoisonError::into_inner).get(&key).copied());
+    });
+}
+
+fn insert(table: &Table, key: u64) {
+    table.write().unwrap_or_else(PoisonError::into_inner).insert(key, key);
+}
+
+/// What one thread does with a table.
+fn part_of_table(kind: &str, table: &Table, count: u64) {
+    match kind {
+        "hit" => look_up(table, FEW - 1, 0, count),
+        "miss" => look_up(table, FEW - 1, OTHERS, count),
+        "hit-large" => look_up(table, MANY, 0, count),
+        "miss-large" => look_up(table, MANY, OTHERS, count),
+        "insert" => repeat(count, |key| insert(table, key)),
+        _ => repeat(count, |number| {
+            insert(table, number ^ OTHERS);
+            table.write().unwrap_or_else(PoisonError::into_inner).remove(&(number ^ OTHERS));
+        }),
+    }
+}
+
+/// So many threads with one table, which has its keys; it hashes as std does.
+fn run_table(kind: &str, count: u64, threads: usize) {
+    let keys = match kind {
+        "insert" => 0,
+        "hit-large" | "miss-large" => MANY,
+        _ => FEW,
+    };
+    let table = RwLock::new((0..keys).map(|key| (key, key)).collect());
+    thread::scope(|scope| {
+        (0..threads).for_each(|_| {
+            scope.spawn(|| part_of_table(kind, &table, count));
+        });
+    });
+}
+
 type Run = fn(&str, u64, usize);
+
+/// Whose table is std's map behind std's lock.
+const TABLE_PEER: &str = "std-rwlock";
 
 const PEERS: [(&str, Run); 3] = [
     ("crossbeam-epoch", run::<Epoch>),
     ("arc-swap", run::<Swapped>),
-    ("std-rwlock", run::<Locked>),
+    (TABLE_PEER, run::<Locked>),
 ];
 
 /// Runs what the words name.
@@ -180,9 +239,14 @@ fn run_words(words: &[String]) -> Option<()> {
     let [peer, kind, count, threads] = words else {
         return None;
     };
+    let (count, threads) = (count.parse().ok()?, threads.parse().ok()?);
+    if peer == TABLE_PEER && TABLE_KINDS.contains(&kind.as_str()) {
+        run_table(kind, count, threads);
+        return Some(());
+    }
     let (_, run) = PEERS.iter().find(|it| it.0 == peer)?;
     let kind = KINDS.iter().find(|it| *it == kind)?;
-    run(kind, count.parse().ok()?, threads.parse().ok()?);
+    run(kind, count, threads);
     Some(())
 }
 
@@ -192,6 +256,7 @@ fn main() -> ExitCode {
         for (peer, _) in PEERS {
             KINDS.iter().for_each(|kind| println!("{peer} {kind}"));
         }
+        TABLE_KINDS.iter().for_each(|kind| println!("{TABLE_PEER} {kind}"));
         return ExitCode::SUCCESS;
     }
     match run_words(&words) {

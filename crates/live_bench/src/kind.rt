@@ -1,5 +1,6 @@
 //! What the benchmark repeats, and how large a domain that takes.
 
+use crate::growing::CHAINS;
 use domain::LiveConfig;
 
 /// How many records a domain has.
@@ -38,6 +39,28 @@ pub(crate) enum Operation {
     Alloc(u64),
 }
 
+/// How many keys a table has, and in how many buckets.
+#[derive(Clone, Copy, Drop)]
+pub(crate) enum Entries {
+    /// 1,024 keys in 1,024 buckets.
+    Few,
+    /// A key for each record but the directory, in a bucket for each chain but the directory's.
+    Many,
+}
+
+/// What is repeated on a hash table while nobody reclaims.
+#[derive(Clone, Copy, Drop)]
+pub(crate) enum TableOperation {
+    /// A section that looks up a key that is there, by so many readers.
+    Hit(Entries, usize),
+    /// A section that looks up a key that is not there, by so many readers.
+    Miss(Entries, usize),
+    /// A key gets a value, among at most 65,535 in 4,095 buckets.
+    Insert,
+    /// A key gets a value and is taken out again, among 1,024 in 1,024 buckets.
+    Remove,
+}
+
 /// What is repeated.
 #[derive(Clone, Copy, Drop)]
 pub(crate) enum Kind {
@@ -53,6 +76,28 @@ pub(crate) enum Kind {
     MixByTwo,
     /// The same by four threads.
     MixByFour,
+}
+
+/// What is repeated on a hash table.
+#[derive(Clone, Copy, Drop)]
+pub(crate) enum TableKind {
+    /// While nobody reclaims.
+    Alone(TableOperation),
+    /// A table of 10,000 keys grows and is tidied, beside a worker that reclaims all.
+    Growth,
+    /// A section that looks up a key of it, while it grows all the time.
+    HitWhileGrowing,
+    /// The same, each section timed.
+    SlowestWhileGrowing,
+}
+
+/// On what it is repeated.
+#[derive(Clone, Copy, Drop)]
+pub(crate) enum Place {
+    /// On chains.
+    Chains(Kind),
+    /// On a hash table.
+    Table(TableKind),
 }
 
 fn operation_of(word: &str) -> Option<Operation> {
@@ -77,8 +122,23 @@ fn operation_of(word: &str) -> Option<Operation> {
     })
 }
 
-/// What the word of the command line names.
-pub(crate) fn kind_of(word: &str) -> Option<Kind> {
+fn table_operation_of(word: &str) -> Option<TableOperation> {
+    Some(match word {
+        "hit" => TableOperation::Hit(Entries::Few, 1),
+        "hit-by-two" => TableOperation::Hit(Entries::Few, 2),
+        "miss" => TableOperation::Miss(Entries::Few, 1),
+        "miss-by-two" => TableOperation::Miss(Entries::Few, 2),
+        "hit-large" => TableOperation::Hit(Entries::Many, 1),
+        "hit-large-by-two" => TableOperation::Hit(Entries::Many, 2),
+        "miss-large" => TableOperation::Miss(Entries::Many, 1),
+        "miss-large-by-two" => TableOperation::Miss(Entries::Many, 2),
+        "insert" => TableOperation::Insert,
+        "remove" => TableOperation::Remove,
+        _ => return None,
+    })
+}
+
+fn kind_of(word: &str) -> Option<Kind> {
     Some(match word {
         "retire" => Kind::Retire,
         "retire-boxed" => Kind::RetireBoxed,
@@ -86,6 +146,23 @@ pub(crate) fn kind_of(word: &str) -> Option<Kind> {
         "mix-by-two" => Kind::MixByTwo,
         "mix-by-four" => Kind::MixByFour,
         other => Kind::Alone(operation_of(other)?),
+    })
+}
+
+fn table_kind_of(word: &str) -> Option<TableKind> {
+    Some(match word {
+        "grow" => TableKind::Growth,
+        "hit-while-growing" => TableKind::HitWhileGrowing,
+        "slowest-while-growing" => TableKind::SlowestWhileGrowing,
+        other => TableKind::Alone(table_operation_of(other)?),
+    })
+}
+
+/// What the word of the command line names.
+pub(crate) fn place_of(word: &str) -> Option<Place> {
+    Some(match table_kind_of(word) {
+        Some(kind) => Place::Table(kind),
+        None => Place::Chains(kind_of(word)?),
     })
 }
 
@@ -99,19 +176,73 @@ impl Operation {
     }
 }
 
+fn of_chains(chains: usize) -> LiveConfig {
+    LiveConfig {
+        slots: 256,
+        queues: 1,
+        chains,
+        pool: RECORDS as usize,
+    }
+}
+
+impl Entries {
+    /// In how many buckets.
+    pub(crate) fn buckets(self) -> usize {
+        match self {
+            Entries::Few => 1_024,
+            Entries::Many => 4_095,
+        }
+    }
+
+    /// The keys go from 0 to this number, but that of many keys this one is not there.
+    pub(crate) fn mask(self) -> u64 {
+        match self {
+            Entries::Few => 1_023,
+            Entries::Many => 65_535,
+        }
+    }
+}
+
+impl TableOperation {
+    /// Of what table.
+    pub(crate) fn entries(self) -> Entries {
+        match self {
+            TableOperation::Hit(entries, _) | TableOperation::Miss(entries, _) => entries,
+            TableOperation::Insert => Entries::Many,
+            TableOperation::Remove => Entries::Few,
+        }
+    }
+
+    /// How many keys it has before.
+    pub(crate) fn keys(self) -> u64 {
+        match self {
+            TableOperation::Insert => 0,
+            TableOperation::Remove => 1_024,
+            TableOperation::Hit(entries, _) | TableOperation::Miss(entries, _) => match entries {
+                Entries::Few => 1_024,
+                Entries::Many => RECORDS - 1,
+            },
+        }
+    }
+}
+
 impl Kind {
     /// A domain with a chain for each thread that writes.
     pub(crate) fn size(self) -> LiveConfig {
-        let chains = match self {
-            Kind::MixByTwo => 2,
-            Kind::MixByFour => 4,
-            _ => 1,
-        };
-        LiveConfig {
-            slots: 256,
-            queues: 1,
-            chains,
-            pool: RECORDS as usize,
+        match self {
+            Kind::MixByTwo => of_chains(2),
+            Kind::MixByFour => of_chains(4),
+            _ => of_chains(1),
+        }
+    }
+}
+
+impl TableKind {
+    /// A domain with a chain for each bucket and one for the directory.
+    pub(crate) fn size(self) -> LiveConfig {
+        match self {
+            TableKind::Alone(operation) => of_chains(operation.entries().buckets() + 1),
+            _ => of_chains(CHAINS),
         }
     }
 }

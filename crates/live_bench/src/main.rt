@@ -1,24 +1,28 @@
 #![tactic(auto)]
 //! Operations of the library over live threads, one after the other, for the benchmark: `live_bench FLAVOUR KIND
-//! COUNT`. A kind that ends in `-by-two` or `-by-four` is of so many threads, each of which makes COUNT operations.
+//! COUNT`. A kind that ends in `-by-two` or `-by-four` is of so many threads, each of which makes COUNT operations. Of
+//! `slowest-while-growing` the answer is the time of the slowest operation, in billionths of the time of all.
 
 ghost use Rattle.std.specs.Prelude.{◌≡◌};
 
 mod forgets;
+mod growing;
 mod kind;
 mod mixing;
 mod reading;
 mod retiring;
+mod tabling;
 mod waiting;
 mod walking;
 mod worker;
 
 use crate::forgets::Forgets;
-use crate::kind::{Kind, Operation, RECORDS, kind_of};
+use crate::growing::{growths, lookups_while_growing};
+use crate::kind::{Kind, Operation, Place, RECORDS, TableKind, place_of};
 use domain::{Opened, Site};
 use gp_memb::{GracePlan, MembPlan};
 use gp_qsbr::QsbrPlan;
-use live_words::AnyChain;
+use live_words::{AnyChain, Tabled};
 use mixing::mix;
 use rcu_model::Refusal;
 use reading::{announcements, nested, sections};
@@ -27,8 +31,10 @@ use std::alloc::Global;
 use std::marker::Brand;
 use std::process::ExitCode;
 use std::sync::Wait;
+use std::sync::atomic::AtomicU64;
 use std::thread::Threads;
 use std::{env, io};
+use tabling::tabled;
 use waiting::{polls, synchronizations};
 use walking::{allocations, cuts, further_reads, pushes, reads, reads_by_two, walks};
 
@@ -89,6 +95,44 @@ fn repeat<P: GracePlan + Drop + Send + Sync, B: Site + Send + Sync, R: Threads +
     }
 }
 
+/// Repeats it on a hash table.
+fn on_table<P: GracePlan + Drop + Send + Sync, B: Site + Send + Sync, R: Threads + Wait + Sync>(
+    rt: &R,
+    alloc: Global,
+    opened: Opened<P, Tabled>,
+    kind: TableKind,
+    count: u64,
+) -> Result<u64, Refusal>
+    requires { (P.QSBR ≡ B.qsbr) × (opened.table.words.shared.table_id ≡ B.table) × (opened.table.words.shared.key ≡ B.sizes) }
+{
+    match kind {
+        TableKind::Alone(operation) => tabled::<P, B, R>(rt, alloc, opened, operation, count),
+        TableKind::Growth => growths::<P, B, R>(rt, alloc, opened, count),
+        TableKind::HitWhileGrowing => {
+            lookups_while_growing::<P, B, R>(rt, alloc, opened, None, count)
+        }
+        TableKind::SlowestWhileGrowing => {
+            let clock = AtomicU64::new(0);
+            lookups_while_growing::<P, B, R>(rt, alloc, opened, Some(&clock), count)
+        }
+    }
+}
+
+fn tables_in_flavour<R: Threads + Wait + Sync>(
+    rt: &R,
+    alloc: Global,
+    flavour: &str,
+    kind: TableKind,
+    count: u64,
+) -> Result<u64, Refusal> {
+    if flavour == "qsbr" {
+        let opened = Opened::<QsbrPlan, Tabled>::new(alloc, kind.size())?;
+        return on_table::<QsbrPlan, Brand, R>(rt, alloc, opened, kind, count);
+    }
+    let opened = Opened::<MembPlan, Tabled>::new(alloc, kind.size())?;
+    on_table::<MembPlan, Brand, R>(rt, alloc, opened, kind, count)
+}
+
 fn in_flavour<R: Threads + Wait + Sync>(
     rt: &R,
     alloc: Global,
@@ -110,10 +154,14 @@ fn main(rt: HostRuntime) -> io::Result<ExitCode> {
         println!(rt; "usage: live_bench memb|qsbr KIND COUNT")?;
         return Ok(ExitCode::SUCCESS);
     };
-    let (Some(kind), Ok(count)) = (kind_of(kind), count.parse::<u64>()) else {
+    let (Some(place), Ok(count)) = (place_of(kind), count.parse::<u64>()) else {
         return Ok(ExitCode::FAILURE);
     };
-    match in_flavour(&rt, rt.alloc(), flavour, kind, count) {
+    let done = match place {
+        Place::Chains(kind) => in_flavour(&rt, rt.alloc(), flavour, kind, count),
+        Place::Table(kind) => tables_in_flavour(&rt, rt.alloc(), flavour, kind, count),
+    };
+    match done {
         Ok(done) => {
             println!(rt; "{done}")?;
             Ok(ExitCode::SUCCESS)

@@ -4,12 +4,11 @@ ghost use Rattle.std.specs.Prelude.{◌≡◌};
 
 use domain::{Reader, Site};
 use gp_memb::GracePlan;
-use live_words::AnyChain;
+use live_words::{AnyChain, ChainRule};
 use rcu_model::Refusal;
 use std::thread::{Threads, join};
 
-/// One section with nothing in it: what a program's machine code is looked at for.
-#[inline(never)]
+/// One section with nothing in it.
 fn section<P: GracePlan, B: Site>(reader: &mut Reader<P, AnyChain, B>) -> bool
     requires { P.QSBR ≡ B.qsbr }
 {
@@ -20,8 +19,8 @@ fn section<P: GracePlan, B: Site>(reader: &mut Reader<P, AnyChain, B>) -> bool
 }
 
 /// A reader of the quiescent-state flavour goes online.
-pub(crate) fn begin<P: GracePlan, B: Site>(
-    reader: &mut Reader<P, AnyChain, B>,
+pub(crate) fn begin<P: GracePlan, K: ChainRule, B: Site>(
+    reader: &mut Reader<P, K, B>,
 ) -> Result<(), Refusal>
     requires { P.QSBR ≡ B.qsbr }
 {

@@ -12,8 +12,7 @@ use rcu_model::Refusal;
 use std::sync::Wait;
 use std::thread::{Threads, join};
 
-/// One section that reads the first object of a chain: what a program's machine code is looked at for.
-#[inline(never)]
+/// One section that reads the first object of a chain.
 pub(crate) fn read_first<P: GracePlan, B: Site>(
     reader: &mut Reader<P, AnyChain, B>,
     chain: usize,
