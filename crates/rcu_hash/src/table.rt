@@ -48,7 +48,8 @@ pub(crate) fn fits(chains: usize, directory: usize, first: usize, buckets: usize
 /// A map from keys to values over the chains of a domain; liburcu's `cds_lfht`. One chain has a directory, which names as
 /// many chains that follow one another as there are buckets. A key lies in the bucket of its number modulo the number of
 /// buckets. Each bucket has a lock for its writers; lookups take none. `grow` puts another directory in the place of this
-/// one while the table is read. Dropping the table gives its chains back.
+/// one while the table is read. Dropping the table gives its chains back with their keys and notes, so that no other table
+/// or list can be made over them.
 #[derive(Drop)]
 pub struct RcuHash<'d, P: GracePlan, B: Site, D: Deleter = Callback> {
     /// The chain of its directory.
@@ -154,9 +155,9 @@ impl<'d, P: GracePlan + Drop, B: Site, D: Deleter> RcuHash<'d, P, B, D> {
     /// Gives a key a value that had none: one push, liburcu's `cds_lfht_add_unique`. It comes after all that the caller
     /// had seen and heard of, and the caller hears of it.
     ///
-    /// Refused with `Exists` exactly where the key had a value in some log of the call, else with `PoolFull` where its
-    /// bucket's ranks are used up, or as `alloc`; then the map is as it was. It takes no memory, and waits for the locks of
-    /// the table alone, but tries again where other threads draw object numbers meanwhile.
+    /// Refused with `Exists` only where the key had a value in some log of the call, else with `PoolFull` where its bucket's
+    /// ranks are used up, or as `alloc`; then it wrote nothing, as tests show. It takes no memory, and waits for the locks
+    /// of the table alone, but tries again where other threads draw object numbers meanwhile.
     pub fn insert<W: Witness, R: Wait>(
         &self,
         rt: &R,
@@ -180,9 +181,9 @@ impl<'d, P: GracePlan + Drop, B: Site, D: Deleter> RcuHash<'d, P, B, D> {
     /// reader misses the key. The old record is retired with the callback, `call_rcu`. Both come after all that the
     /// caller had seen and heard of, and the caller hears of them.
     ///
-    /// Refused with `Missing` exactly where the key had no value in some log of the call, else as `alloc`, else as
-    /// `retire`; then the map is as it was, the callback comes back, and the new record is back in the pool. It waits for
-    /// the locks of the table and of the queue, and tries again where other threads draw object numbers meanwhile.
+    /// Refused with `Missing` only where the key had no value in some log of the call, else as `alloc`, else as `retire`;
+    /// then the callback comes back, the new record is back in the pool, and it wrote nothing else, as tests show. It waits
+    /// for the locks of the table and of the queue, and tries again where other threads draw object numbers meanwhile.
     pub fn replace<W: Witness, R: Wait>(
         &self,
         rt: &R,
@@ -206,8 +207,8 @@ impl<'d, P: GracePlan + Drop, B: Site, D: Deleter> RcuHash<'d, P, B, D> {
     /// Takes a key that has a value out of the map: one cut, liburcu's `cds_lfht_del`. Its record is retired with the
     /// callback, `call_rcu`. Both come after all that the caller had seen and heard of, and the caller hears of them.
     ///
-    /// Refused with `Missing` exactly where the key had no value in some log of the call, else as `retire`; then the map
-    /// is as it was, and the callback comes back. It waits for the locks of the table and of the queue alone.
+    /// Refused with `Missing` only where the key had no value in some log of the call, else as `retire`; then the callback
+    /// comes back, and it wrote nothing, as tests show. It waits for the locks of the table and of the queue alone.
     pub fn remove<W: Witness, R: Wait>(
         &self,
         rt: &R,
