@@ -14,6 +14,7 @@ use std::sync::Wait;
 
 /// The masks of the longer prefixes and of the shorter ones.
 const LONGER: u64 = 0xffff_0000;
+
 const SHORTER: u64 = 0xff00_0000;
 
 /// The address that is looked up.
@@ -85,12 +86,20 @@ impl<'d, B: Site> Routes<'d, B> {
                 return Err(Refusal::Memory);
             }
         }
-        self.longer.tidy(rt, record, callbacks).stop.map_or(Ok(()), |refusal| Err(refusal))
+        self.longer
+            .tidy(rt, record, callbacks)
+            .stop
+            .map_or(Ok(()), |refusal| Err(refusal))
     }
 
     /// A longer prefix is withdrawn: sections that found it may go on with it, and its record is used again once they have
     /// ended.
-    fn withdraw<R: Wait>(&self, rt: &R, record: &mut Record<B>, prefix: u64) -> Result<(), Refusal> {
+    fn withdraw<R: Wait>(
+        &self,
+        rt: &R,
+        record: &mut Record<B>,
+        prefix: u64,
+    ) -> Result<(), Refusal> {
         match self.longer.remove(rt, record, prefix, Unused) {
             Ok(_) => Ok(()),
             Err((refusal, _)) => Err(refusal),
