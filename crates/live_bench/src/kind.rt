@@ -194,6 +194,14 @@ impl Entries {
         }
     }
 
+    /// In how many chains, with the directory's.
+    pub(crate) fn chains(self) -> usize {
+        match self {
+            Entries::Few => 1_025,
+            Entries::Many => 4_096,
+        }
+    }
+
     /// The keys go from 0 to this number, but that of many keys this one is not there.
     pub(crate) fn mask(self) -> u64 {
         match self {
@@ -241,7 +249,7 @@ impl TableKind {
     /// A domain with a chain for each bucket and one for the directory.
     pub(crate) fn size(self) -> LiveConfig {
         match self {
-            TableKind::Alone(operation) => of_chains(operation.entries().buckets() + 1),
+            TableKind::Alone(operation) => of_chains(operation.entries().chains()),
             _ => of_chains(CHAINS),
         }
     }
