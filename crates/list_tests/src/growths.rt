@@ -125,6 +125,44 @@ fn a_table_grows_and_is_tidied(rt: HostRuntime) {
     assert_eq!(rt; did, answers);
 }
 
+/// With its queue closed a tidying retires nothing: its callbacks come back, and what is left stays.
+fn closes<P: GracePlan + Drop, B: Site, R: Wait>(
+    rt: &R,
+    alloc: Global,
+    domain: &Domain<P, Tabled, B, Adds>,
+    record: &mut Record<B>,
+) -> Result<(Ended, bool, Option<u64>), Refusal>
+    requires { P.QSBR ≡ B.qsbr }
+{
+    let mut reader = domain.register(rt, record)?;
+    let table = tabled(rt, alloc, domain, record)?;
+    table.grow(rt, alloc, record, 3, 4)?;
+    domain.close(rt, record);
+    let end = ended(table.tidy(rt, record, callbacks(alloc, 5)?));
+    let busy = matches!(table.grow(rt, alloc, record, 1, 2), Err(Refusal::Busy));
+    let found = look(&mut reader, table.view(), 3)?;
+    Ok((end, busy, found))
+}
+
+/// The same, in a domain of its own.
+fn closes_in<P: GracePlan + Drop, B: Site, R: Wait>(
+    rt: &R,
+    alloc: Global,
+    opened: Opened<P, Tabled>,
+) -> Result<(Ended, bool, Option<u64>), Refusal>
+    requires { (P.QSBR ≡ B.qsbr) × (opened.table.words.shared.table_id ≡ B.table) × (opened.table.words.shared.key ≡ B.sizes) }
+{
+    let (domain, mut record) = opened.named::<B, Adds>(alloc)?;
+    closes(rt, alloc, &domain, &mut record)
+}
+
+#[test]
+fn a_tidying_stops_where_the_queue_is_closed(rt: HostRuntime) {
+    let opened = Opened::<MembPlan, Tabled>::new(rt.alloc(), of_pool(8)).expect(&rt, "memory");
+    let did = closes_in::<_, Brand, _>(&rt, rt.alloc(), opened).expect(&rt, "not refused");
+    assert_eq!(rt; did, ((0, 4, 5, Some(Refusal::Closed)), true, Some(30)));
+}
+
 /// With one record too few: growths that are refused for their chains, for a chain that has a writer, and for a record;
 /// then the table is as it was, and so is the pool.
 fn refusals<P: GracePlan + Drop, B: Site, R: Wait>(

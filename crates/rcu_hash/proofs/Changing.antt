@@ -24,7 +24,7 @@ changed_same key has f g k same = dite (ℕ_discrete k key)
 
 module _ (qsbr : Bool) (allows : Log → LiveEvent → Type 0) where
   -- a chain that an event leaves has the map that it had
-  other_map : (e : LiveEvent) (before : Log) (c k : ℕ) → IsLiveRun qsbr allows (e ∷ before) → (state_of (e ∷ before)).chain c ≡ (state_of before).chain c → map_of (e ∷ before) c k ≡ map_of before c k
+  pub other_map : (e : LiveEvent) (before : Log) (c k : ℕ) → IsLiveRun qsbr allows (e ∷ before) → (state_of (e ∷ before)).chain c ≡ (state_of before).chain c → map_of (e ∷ before) c k ≡ map_of before c k
   other_map e before c k run same = ap (λ (os : List ObjectId). value_in (note_of (e ∷ before)) os k) same
       ∙ value_same (note_of before) (note_of (e ∷ before)) ((state_of before).chain c) k (λ o h. note_stays qsbr allows before (e ∷ before) o (e ∷ [], refl) run (chain_used qsbr allows before c o run.1 h))
 

@@ -27,10 +27,12 @@ use Rattle.live_write.specs.Chains.{MayPublish, list_in}
 use Rattle.rcu_list.specs.Maps.{map_of, value_in}
 use Rattle.rcu_list.proofs.Lemmas.{KnowsKeys, stays_both, value_same}
 use Rattle.rcu_hash.specs.Directories.{directed_map}
+use Rattle.rcu_hash.specs.Leaving.{LeavesMap, Writes}
 use Rattle.rcu_hash.specs.Naming.{words_by}
 use Rattle.rcu_hash.specs.Tables.{bucket_of}
-use Rattle.rcu_hash.specs.Tidying.{ClearsNote, Cuts, Clears, Does, FindsMore, Follow, HasWaited, IsLeft, IsRefused, Kind, LeavesMap, Retires, Tidies, Uses, objects_in, retired_by, retired_in}
+use Rattle.rcu_hash.specs.Tidying.{ClearsNote, Cuts, Clears, Does, FindsMore, Follow, HasWaited, IsLeft, IsRefused, Kind, Retires, Tidies, Uses, objects_in, retired_by, retired_in}
 use Rattle.rcu_hash.specs.Writers.{Each, HasKeysIn, HasNote, IsAlone, IsOutside}
+use Rattle.rcu_hash.proofs.Changing.{other_map}
 use Rattle.rcu_hash.proofs.Held.{each_last}
 use Rattle.rcu_hash.proofs.Named.{directed_between, lent_is, words_later}
 
@@ -85,11 +87,6 @@ module _ (qsbr : Bool) where
       let same = note_stays qsbr tabled w.known w.mark o w.after then (chain_used qsbr tabled w.known d o (run_of qsbr tabled w.known w.mark w.after then) w.linked) in
       left_is_freed qsbr w.mark log c d o goes run at here (subst IsDirectory (sym same) w.directory) noted (ended_later w.mark heard log b w.ended)
 
-  -- a chain that an event leaves has the map that it had
-  other_map : (e : LiveEvent) (before : Log) (c k : ℕ) → IsLiveRun qsbr tabled (e ∷ before) → (state_of (e ∷ before)).chain c ≡ (state_of before).chain c → map_of (e ∷ before) c k ≡ map_of before c k
-  other_map e before c k run same = ap (λ (os : List ObjectId). value_in (note_of (e ∷ before)) os k) same
-      ∙ value_same (note_of before) (note_of (e ∷ before)) ((state_of before).chain c) k (λ o h. note_stays qsbr tabled before (e ∷ before) o (e ∷ [], refl) run (chain_used qsbr tabled before c o run.1 h))
-
   -- an event that leaves each other chain leaves the table's map
   pub map_left : (chains first buckets d c : ℕ) (o : ObjectId) (e : LiveEvent) (before log : Log) → 0 < buckets → first + buckets ≤ chains → log ≡ e ∷ before → IsLiveRun qsbr tabled log → (state_of before).chain d ≡ o ∷ [] → (note_of before o).1 ≡ words_by first buckets → ((k : ℕ) → k ≢ c → (state_of (e ∷ before)).chain k ≡ (state_of before).chain k) → d ≢ c → ∥ (c < first) ⊎ (first + buckets ≤ c) ∥₁ → (key : ℕ) → directed_map chains d log key ≡ directed_map chains d before key
   map_left chains first buckets d c o e before log many fits wrote run alone words others apart outside key =
@@ -102,7 +99,7 @@ module _ (qsbr : Bool) where
       let other : b ≢ c = λ is. ∥∥₁_elim outside (λ x y. absurd x) (λ out. ⊎_elim (λ under. absurd (omega (arith, is, under))) (λ over. absurd (omega (arith, is, over, low))) out) in
       ap (λ (l : Log). directed_map chains d l key) wrote
       ∙ (directed_between chains first buckets many fits qsbr d o (e ∷ before) (e ∷ before) (e ∷ before) ([], refl) ([], refl) step alone' alone' words' key
-      ∙ (other_map e before b key step (others b other)
+      ∙ (other_map qsbr tabled e before b key step (others b other)
       ∙ sym (directed_between chains first buckets many fits qsbr d o before before before ([], refl) ([], refl) step.1 alone alone words key)))
 
   -- the writer of such a chain, while the directory's right is lent to it
@@ -174,14 +171,18 @@ pub queued_later : (qsbr : Bool) (allows : Log → LiveEvent → Type 0) (at : L
 queued_later qsbr allows at o queue given known log r b =
     begins_trans known r.within log (begins_trans known (Object (Retire o) ∷ r.before) r.within (begins_trans known r.before (Object (Retire o) ∷ r.before) b (Object (Retire o) ∷ [], refl)) r.retired) (Object (Queue o queue) ∷ [], r.wrote)
 
-module _ (qsbr : Bool) (allows : Log → LiveEvent → Type 0) (sizes : Sizes) (d : ℕ) (seen : Log) where
-  leaves_weaker : (known heard log : Log) (e : LiveEvent) → Begins known heard → LeavesMap qsbr allows sizes d seen heard e log → LeavesMap qsbr allows sizes d seen known e log
-  leaves_weaker known heard log e b l = record { before = l.before; wrote = l.wrote; after = (l.after.0, begins_trans known heard l.before b l.after.1); run = l.run; map = l.map }
+module _ (qsbr : Bool) (allows : Log → LiveEvent → Type 0) where
+  pub writes_weaker : (seen known heard : Log) (e : LiveEvent) (log : Log) → Begins known heard → Writes qsbr allows seen heard e log → Writes qsbr allows seen known e log
+  writes_weaker seen known heard e log b w = record { before = w.before; wrote = w.wrote; after = (w.after.0, begins_trans known heard w.before b w.after.1); run = w.run }
 
+  pub leaves_weaker : (chains d : ℕ) (seen known heard : Log) (e : LiveEvent) (log : Log) → Begins known heard → LeavesMap qsbr allows chains d seen heard e log → LeavesMap qsbr allows chains d seen known e log
+  leaves_weaker chains d seen known heard e log b l = let w = l.writes in record { writes = record { before = w.before; wrote = w.wrote; after = (w.after.0, begins_trans known heard w.before b w.after.1); run = w.run }; map = l.map }
+
+module _ (qsbr : Bool) (allows : Log → LiveEvent → Type 0) (sizes : Sizes) (d : ℕ) (seen : Log) where
   does_weaker : (known heard log : Log) (k : Kind) → Begins known heard → Does qsbr allows sizes d seen heard k log → Does qsbr allows sizes d seen known k log
-  does_weaker known heard log Cuts b r = record { chain = r.chain; object = r.object; ticket = r.ticket; published = r.published; leaves = leaves_weaker known heard r.published (Object (Cut r.chain r.object)) b r.leaves; hands = r.hands }
+  does_weaker known heard log Cuts b r = record { chain = r.chain; object = r.object; ticket = r.ticket; published = r.published; leaves = leaves_weaker qsbr allows sizes.chains d seen known heard (Object (Cut r.chain r.object)) r.published b r.leaves; hands = r.hands }
   does_weaker known heard log Retires b r = record { chain = r.chain; object = r.object; given = r.given; queued = let q = r.queued in record { before = q.before; at = (q.at.0, begins_trans known heard q.before b q.at.1); within = q.within; retired = q.retired; wrote = q.wrote; last = q.last; run = q.run } }
-  does_weaker known heard log Clears b r = record { chain = r.chain; leaves = leaves_weaker known heard log (ChainNote r.chain 0) b r.leaves }
+  does_weaker known heard log Clears b r = record { chain = r.chain; leaves = leaves_weaker qsbr allows sizes.chains d seen known heard (ChainNote r.chain 0) log b r.leaves }
 
   follow_weaker : (known heard log : Log) (ss : List (Kind × Log)) → Begins known heard → Follow qsbr allows sizes d seen heard ss log → Follow qsbr allows sizes d seen known ss log
   follow_weaker known heard log [] b f = begins_trans known heard log b f
@@ -198,12 +199,12 @@ module _ (qsbr : Bool) (allows : Log → LiveEvent → Type 0) (sizes : Sizes) (
   -- what was heard of at the end began with what was before
   pub heard_on : (known heard log : Log) (ss : List (Kind × Log)) → Begins known heard → Follow qsbr allows sizes d seen heard ss log → Begins known log
   heard_on known heard log [] b f = begins_trans known heard log b f
-  heard_on known heard log ((Cuts, at) ∷ ss) b f = let r = f.0 in let p = r.leaves in
+  heard_on known heard log ((Cuts, at) ∷ ss) b f = let r = f.0 in let p = r.leaves.writes in
       heard_on known at log ss (queued_later qsbr allows (Begins r.published) r.object (r.chain % sizes.queues) r.hands.given known at r.hands.queued
       (begins_trans known r.published r.hands.queued.before (begins_trans known p.before r.published (begins_trans known heard p.before b p.after.1) (_ ∷ [], p.wrote)) r.hands.queued.at)) f.1
   heard_on known heard log ((Retires, at) ∷ ss) b f = let r = f.0 in
       heard_on known at log ss (queued_later qsbr allows _ r.object (r.chain % sizes.queues) r.given known at r.queued (begins_trans known heard r.queued.before b r.queued.at.1)) f.1
-  heard_on known heard log ((Clears, at) ∷ ss) b f = let p = f.0.leaves in
+  heard_on known heard log ((Clears, at) ∷ ss) b f = let p = f.0.leaves.writes in
       heard_on known at log ss (begins_trans known p.before at (begins_trans known heard p.before b p.after.1) (_ ∷ [], p.wrote)) f.1
 
   module _ {D : Type 0} where

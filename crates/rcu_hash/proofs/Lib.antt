@@ -3,6 +3,7 @@ pub mod Copies
 pub mod Directing
 pub mod Emptying
 pub mod Exchanging
+pub mod Filling
 pub mod Going
 pub mod Held
 pub mod Hearing

@@ -12,7 +12,10 @@ use Rattle.live_write.specs.Chains.{list_in}
 use Rattle.rcu_list.specs.Maps.{value_in}
 use Rattle.rcu_list.proofs.Lemmas.{value_same}
 use Rattle.rcu_hash.specs.Growing.{Grows}
+use Rattle.rcu_hash.specs.Leaving.{LeavesMap}
 use Rattle.rcu_hash.specs.Writers.{AreFrom, Each, HasKeysIn, IsOutside, IsRunIn, IsSame, Noted, Pairwise, value_at}
+use Rattle.rcu_hash.proofs.Emptying.{leaves_weaker}
+use Rattle.rcu_hash.proofs.Filling.{copies_go, copies_weaker, notes_go, writes_go}
 
 -- writers whose chains have the same numbers
 pub numbers_from : {X : Type 0} (xs ys : List X) (first : ℕ) (number : X → ℕ) (view : X → View) → ((x : X) → (own_in (view x).chains).chain ≡ number x) → map number ys ≡ map number xs → AreFrom first (map view xs) → AreFrom first (map view ys)
@@ -48,20 +51,24 @@ module _ (qsbr : Bool) where
 pub noted_since : (heard later : Log) (note : ℕ) (v : View) → Begins heard later → Noted later note v → Noted heard note v
 noted_since heard later note v b n = record { at = n.at; after = begins_trans heard later n.at b n.after; before = n.before; was = n.was; is = n.is }
 
-pub grows_since : (qsbr : Bool) (allows : Log → LiveEvent → Type 0) (chains d : ℕ) (seen heard seen' heard' : Log) (first buckets : ℕ) (entries : List (ℕ × ℕ)) (log : Log) → seen' ≡ seen → Begins heard heard' → Grows qsbr allows chains d seen' heard' first buckets entries log → Grows qsbr allows chains d seen heard first buckets entries log
-grows_since qsbr allows chains d seen heard seen' heard' first buckets entries log same b g = record {
-  old = g.old;
-  new = g.new;
-  cell = g.cell;
-  before = g.before;
-  wrote = g.wrote;
-  after = (subst (λ (l : Log). Begins l g.before) same g.after.0, begins_trans heard heard' g.before b g.after.1);
-  run = g.run;
-  map = g.map;
-  leads = g.leads;
-  had = g.had;
-  apart = g.apart;
-}
+module _ (qsbr : Bool) (allows : Log → LiveEvent → Type 0) (chains d : ℕ) (first buckets : ℕ) (entries : List (ℕ × ℕ)) (log : Log) where
+  pub grows_since : (seen heard seen' heard' : Log) → seen' ≡ seen → Begins heard heard' → Grows qsbr allows chains d seen' heard' first buckets entries log → Grows qsbr allows chains d seen heard first buckets entries log
+  grows_since seen heard seen' heard' same b g = subst (λ (s : Log). Grows qsbr allows chains d s heard first buckets entries log) same (record {
+    copied = g.copied;
+    noted = g.noted;
+    old = g.old;
+    copies = copies_weaker (LeavesMap qsbr allows chains d seen') (leaves_weaker qsbr allows chains d seen') first buckets heard heard' entries g.copied b g.copies;
+    notes = g.notes;
+    exchanges = g.exchanges;
+  })
+
+  pub grows_go : (seen heard : Log) → Grows qsbr allows chains d seen heard first buckets entries log → Begins heard log
+  grows_go seen heard g =
+      let goes : (h : Log) (e : LiveEvent) (l : Log) → LeavesMap qsbr allows chains d seen h e l → Begins h l = λ h e l t. writes_go qsbr allows seen h e l t.writes in
+      let w = g.exchanges.leaves.writes in
+      begins_trans heard g.copied log (copies_go (LeavesMap qsbr allows chains d seen) goes first buckets heard entries g.copied g.copies)
+      (begins_trans g.copied g.noted log (notes_go (LeavesMap qsbr allows chains d seen) goes (d + 1) first buckets g.copied g.noted g.notes)
+      (begins_trans g.noted w.before log w.after.1 (_ ∷ [], w.wrote)))
 
 -- chains of a range that has none in common with another
 pub all_outside : (first many other buckets k : ℕ) (vs : List View) → (first + many ≤ other) ⊎ (other + buckets ≤ first) → first ≤ k → k + length vs ≤ first + many → AreFrom k vs → Each (IsOutside other buckets) vs

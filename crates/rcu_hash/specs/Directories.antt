@@ -1,5 +1,5 @@
 -- The map of a table whose buckets a directory names: the one record of a chain, which a lookup reads first.
-use Rattle.std.specs.Prelude.{◌≡◌, ◌≢◌, ℕ, ◌<◌, ◌==◌, ◌&&◌, Bool, if◌then◌else◌, nat_lt, List, Option, Some, None, slice_index_or}
+use Rattle.std.specs.Prelude.{◌≡◌, ◌≢◌, ℕ, ◌==◌, ◌&&◌, Bool, if◌then◌else◌, nat_lt, List, Option, Some, None, slice_index_or}
 use Rattle.rcu_model.specs.declared.event.ObjectId.{ObjectId}
 use Rattle.rcu_model.specs.Sets.{In, first_of}
 use Rattle.live_log.specs.Log.{Log, Begins, note_of, state_of}

@@ -1,13 +1,15 @@
 -- What a growth tells.
-use Rattle.std.specs.Prelude.{◌≡◌, ℕ, ◌+◌, ◌∷◌, [], Bool, List, length}
+use Rattle.std.specs.Prelude.{◌≡◌, ℕ, ◌+◌, ◌∷◌, [], Bool, List, zero, suc}
 use Rattle.rcu_model.specs.declared.event.ObjectId.{ObjectId}
 use Rattle.live_log.specs.declared.event.LiveEvent.{LiveEvent}
-use Rattle.live_log.specs.declared.event.LiveEvent.TheVariants.{Object}
-use Rattle.live_log.specs.declared.event.ObjectEvent.TheVariants.{Replace}
-use Rattle.live_log.specs.Log.{Log, Begins, IsLiveRun, chain_note, note_of, state_of}
+use Rattle.live_log.specs.declared.event.LiveEvent.TheVariants.{ChainNote, Object}
+use Rattle.live_log.specs.declared.event.ObjectEvent.TheVariants.{Push, Replace}
+use Rattle.live_log.specs.Log.{Log, Begins, chain_note, note_of, state_of}
 use Rattle.live_log.specs.Tables.{Names}
+use Rattle.rcu_list.specs.Maps.{words_of}
 use Rattle.rcu_hash.specs.Copies.{AreApart, value_among}
 use Rattle.rcu_hash.specs.Directories.{LeadsTo, directed_map}
+use Rattle.rcu_hash.specs.Leaving.{LeavesMap}
 use Rattle.rcu_hash.specs.Naming.{words_by}
 use Rattle.rcu_hash.specs.Tables.{bucket_of}
 
@@ -19,20 +21,44 @@ pub record HasLeft (d : ℕ) (log : Log) : Type 0 where
   pub present : (state_of log).chain d ≡ object ∷ []
   pub unnamed : ¬ (Names (note_of log object) chain)
 
--- by the rule of chains, the chains of the domain, the directory's chain, and what the caller had seen and heard of
-module _ (qsbr : Bool) (allows : Log → LiveEvent → Type 0) (chains d : ℕ) (seen heard : Log) where
-  -- Another directory takes the place of the one that was linked, as the last event of the log, which came after all that
-  -- the caller knew. The table's map is as it was; each key is led to its bucket among those that the new one names; and
-  -- these entries, each with another key, are the map.
-  pub record Grows (first buckets : ℕ) (entries : List (ℕ × ℕ)) (log : Log) : Type 0 where
-    pub old : ObjectId
+-- by what is told of an event, after what was heard of before it, and of the log that ends with it
+module _ (Tells : Log → LiveEvent → Log → Type 0) (first buckets : ℕ) where
+  -- a key got a record with its value, by a push into the chain of its bucket
+  pub record CopiesKey (heard : Log) (entry : ℕ × ℕ) (log : Log) : Type 0 where
+    pub object : ObjectId
+    pub cell : ℕ
+    pub rank : ℕ
+    pub tells : Tells heard (Object (Push (bucket_of first buckets entry.0) object cell (words_of entry.0 entry.1 rank))) log
+
+  -- each key did, in their order
+  abbrev pub CopiesAll : Log → List (ℕ × ℕ) → Log → Type 0
+  CopiesAll heard [] log = Begins heard log
+  CopiesAll heard (e ∷ es) log = (at : Log) × CopiesKey heard e at × CopiesAll at es log
+
+-- so many chains, from the first one on, got this note, in their order
+abbrev pub NotesAll : (Log → LiveEvent → Log → Type 0) → (note first many : ℕ) → Log → Log → Type 0
+NotesAll Tells note first zero heard log = Begins heard log
+NotesAll Tells note first (suc many) heard log = (at : Log) × Tells heard (ChainNote first note) at × NotesAll Tells note (first + 1) many at log
+
+-- by the rule of chains, the chains of the domain, the directory's chain, and what the caller had seen
+module _ (qsbr : Bool) (allows : Log → LiveEvent → Type 0) (chains d : ℕ) (seen : Log) where
+  -- Another directory took the place of the one that was linked, and the table's map is as it was. Each key is led to its
+  -- bucket among those that the new one names; and these entries, each with another key, are the map.
+  pub record Exchanges (heard : Log) (old : ObjectId) (first buckets : ℕ) (entries : List (ℕ × ℕ)) (log : Log) : Type 0 where
     pub new : ObjectId
     pub cell : ℕ
-    pub before : Log
-    pub wrote : log ≡ Object (Replace d old new cell (words_by first buckets)) ∷ before
-    pub after : Begins seen before × Begins heard before
-    pub run : IsLiveRun qsbr allows log
-    pub map : (key : ℕ) → directed_map chains d log key ≡ directed_map chains d before key
+    pub leaves : LeavesMap qsbr allows chains d seen heard (Object (Replace d old new cell (words_by first buckets))) log
+    pub linked : (state_of leaves.writes.before).chain d ≡ old ∷ []
     pub leads : (key : ℕ) → LeadsTo d log key (bucket_of first buckets key)
-    pub had : (key : ℕ) → directed_map chains d before key ≡ value_among entries key
+    pub had : (key : ℕ) → directed_map chains d leaves.writes.before key ≡ value_among entries key
     pub apart : AreApart entries
+
+  -- Each key got a record in its new bucket, then each new bucket the table's note, and then another directory took the
+  -- place of the one that was linked. Each of these events left the table's map as it was.
+  pub record Grows (heard : Log) (first buckets : ℕ) (entries : List (ℕ × ℕ)) (log : Log) : Type 0 where
+    pub copied : Log
+    pub noted : Log
+    pub old : ObjectId
+    pub copies : CopiesAll (LeavesMap qsbr allows chains d seen) first buckets heard entries copied
+    pub notes : NotesAll (LeavesMap qsbr allows chains d seen) (d + 1) first buckets copied noted
+    pub exchanges : Exchanges noted old first buckets entries log

@@ -2,6 +2,7 @@ pub mod Calls
 pub mod Copies
 pub mod Directories
 pub mod Growing
+pub mod Leaving
 pub mod Naming
 pub mod Publishing
 pub mod Refusing

@@ -1,5 +1,5 @@
 -- What the writers of a table know of its directory and of its buckets.
-use Rattle.std.specs.Prelude.{◌≡◌, ℕ, ◌+◌, ◌<◌, ◌≤◌, List, [], ◌∷◌}
+use Rattle.std.specs.Prelude.{ℕ, List, [], ◌∷◌}
 use Rattle.rcu_model.specs.declared.event.ObjectId.{ObjectId}
 use Rattle.rcu_model.specs.Sets.{In}
 use Rattle.live_log.specs.Log.{Log, Begins, note_of, state_of}

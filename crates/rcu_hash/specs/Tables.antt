@@ -1,5 +1,5 @@
 -- The map of a table over chains that follow one another.
-use Rattle.std.specs.Prelude.{◌≡◌, ℕ, ◌+◌, ◌%◌, ◌&&◌, ◌||◌, Bool, nat_le, nat_lt, Option}
+use Rattle.std.specs.Prelude.{ℕ, ◌+◌, ◌%◌, ◌&&◌, ◌||◌, Bool, nat_le, nat_lt, Option}
 use Rattle.live_log.specs.Log.{Log}
 use Rattle.rcu_list.specs.Maps.{map_of}
 

@@ -7,7 +7,7 @@ use Rattle.rcu_model.specs.Sets.{In}
 use Rattle.live_log.specs.declared.event.LiveEvent.{LiveEvent}
 use Rattle.live_log.specs.declared.event.LiveEvent.TheVariants.{ChainNote, Object}
 use Rattle.live_log.specs.declared.event.ObjectEvent.TheVariants.{Cut}
-use Rattle.live_log.specs.Log.{Log, Begins, HaveEnded, IsLiveRun, closed_of, note_of, seq_of, state_of}
+use Rattle.live_log.specs.Log.{Log, Begins, HaveEnded, closed_of, note_of, seq_of, state_of}
 use Rattle.live_log.specs.Tables.{IsDirectory}
 use Rattle.live_rule.specs.declared.view.Sizes.{Sizes}
 use Rattle.live_rule.specs.declared.view.View.{View}
@@ -17,7 +17,7 @@ use Rattle.live_read.specs.declared.witness.Witness.{Ghosts}
 use Rattle.live_write.specs.Chains.{list_in}
 use Rattle.domain.specs.Waiting.{LoadedOnce, Synchronized}
 use Rattle.rcu_list.specs.Calls.{HandsOver}
-use Rattle.rcu_hash.specs.Directories.{directed_map}
+use Rattle.rcu_hash.specs.Leaving.{LeavesMap}
 use Rattle.rcu_hash.specs.Writers.{HasKeysIn, HasNote, IsAlone, IsOutside}
 
 -- the directory is linked in its chain
@@ -61,21 +61,13 @@ retired_in (s ∷ ss) = retired_by s.0 + retired_in ss
 module _ (qsbr : Bool) (allows : Log → LiveEvent → Type 0) (sizes : Sizes) (d : ℕ) (seen : Log) where
   -- and by what it had heard of before the step
   module _ (heard : Log) where
-    -- The event is the last one of the log, and came after all that the caller knew. The table's map is as it was.
-    pub record LeavesMap (event : LiveEvent) (log : Log) : Type 0 where
-      pub before : Log
-      pub wrote : log ≡ event ∷ before
-      pub after : Begins seen before × Begins heard before
-      pub run : IsLiveRun qsbr allows log
-      pub map : (key : ℕ) → directed_map sizes.chains d log key ≡ directed_map sizes.chains d before key
-
     -- an object left a chain, and was retired after that
     pub record RetiresObject (log : Log) : Type 0 where
       pub chain : ℕ
       pub object : ObjectId
       pub ticket : ℕ
       pub published : Log
-      pub leaves : LeavesMap (Object (Cut chain object)) published
+      pub leaves : LeavesMap qsbr allows sizes.chains d seen heard (Object (Cut chain object)) published
       pub hands : HandsOver qsbr allows object (chain % sizes.queues) ticket published log
 
     -- the record of an earlier directory was retired
@@ -88,7 +80,7 @@ module _ (qsbr : Bool) (allows : Log → LiveEvent → Type 0) (sizes : Sizes) (
     -- a chain has no note any more
     pub record ClearsNote (log : Log) : Type 0 where
       pub chain : ℕ
-      pub leaves : LeavesMap (ChainNote chain 0) log
+      pub leaves : LeavesMap qsbr allows sizes.chains d seen heard (ChainNote chain 0) log
 
   abbrev pub Does : Log → Kind → Log → Type 0
   Does heard Cuts log = RetiresObject heard log

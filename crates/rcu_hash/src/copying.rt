@@ -10,7 +10,9 @@ ghost use Rattle.live_write.specs.Searching.{AreTaken, IsUsedUp};
 ghost use Rattle.rcu_list.specs.Maps.{words_of};
 ghost use Rattle.rcu_model.specs.declared.refusal.Refusal.TheVariants.{Memory, PoolFull};
 ghost use Rattle.rcu_hash.specs.Copies.{AreApart, AreRanked, value_among, value_in_bucket};
-ghost use Rattle.rcu_hash.specs.Writers.{Each, HasKeysIn, HasNoNote, IsAlone, IsEmpty, value_at};
+ghost use Rattle.rcu_hash.specs.Growing.{CopiesAll};
+ghost use Rattle.rcu_hash.specs.Leaving.{Writes};
+ghost use Rattle.rcu_hash.specs.Writers.{AreFrom, Each, HasKeysIn, HasNoNote, IsAlone, IsEmpty, value_at};
 
 use crate::bucket::Bucket;
 use domain::{Chain, Deleter, Domain, Owned, Site, Witness};
@@ -138,6 +140,7 @@ pub(crate) fn fill<'d, P: GracePlan + Drop, B: Site, D: Deleter, W: Witness>(
     requires chains { (0 < vec_len chains.old) × Each IsEmpty (map (λ c. c.seat.me.0) chains.old.items) × Each IsAlone (map (λ c. c.seat.me.0) chains.old.items) }
     requires copied { AreApart (map (λ c. (c.key, c.value)) copied.items) × AreRanked 0 (map (λ c. c.rank) copied.items) }
     ensures values { (key : ℕ) → value_in_bucket (vec_len chains.new) (map (λ c. c.seat.me.0) chains.new.items) key ≡ value_among (map (λ c. (c.key, c.value)) copied.items) key }
+    ensures filled { (first : ℕ) → AreFrom first (map (λ c. c.seat.me.0) chains.old.items) → CopiesAll (Writes P.QSBR tabled (W.seen witness.old)) first (vec_len chains.old) (W.heard witness.old) (map (λ c. (c.key, c.value)) copied.items) (W.heard witness.new) }
     ensures chains { (vec_len chains.new ≡ vec_len chains.old) × (map (λ c. c.number) chains.new.items ≡ map (λ c. c.number) chains.old.items) }
     ensures known { Each HasKeysIn (map (λ c. c.seat.me.0) chains.new.items) × Each HasNoNote (map (λ c. c.seat.me.0) chains.new.items) × Each IsAlone (map (λ c. c.seat.me.0) chains.new.items) }
     ensures heard { Begins (W.heard witness.old) (W.heard witness.new) }

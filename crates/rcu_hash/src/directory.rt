@@ -1,6 +1,6 @@
 //! The writer of a table's directory, and its lock.
 
-ghost use Rattle.std.specs.Prelude.{◌≡◌, ◌+◌, ◌<◌, ◌≤◌, ◌∷◌, [], length, true};
+ghost use Rattle.std.specs.Prelude.{◌≡◌, ◌+◌, ◌<◌, ◌≤◌, ◌∷◌, [], true};
 ghost use Rattle.rcu_model.specs.Sets.{In};
 ghost use Rattle.live_log.specs.Log.{Begins, IsLiveRun, note_of, state_of};
 ghost use Rattle.live_log.specs.Tables.{tabled};

@@ -1,33 +1,20 @@
 //! How another directory takes the place of a table's, while the table is read.
 
-ghost use Rattle.std.specs.Prelude.{◌≡◌, ◌⊎◌, ◌+◌, ◌<◌, ◌≤◌, ◌∷◌, ◌++◌, [], ℕ, List, IfErr, IfOk, length, map, true, vec_capacity, vec_len};
-ghost use Rattle.std.specs.Sync.RwLock.{write_guard_value};
-ghost use Rattle.rcu_model.specs.declared.refusal.Refusal.TheVariants.{BadConfig, Busy, Memory, PoolFull};
-ghost use Rattle.live_log.specs.Log.{Begins, Log, state_of};
+ghost use Rattle.std.specs.Prelude.{◌≡◌, ◌⊎◌, ◌+◌, ◌<◌, ◌≤◌, ◌∷◌, [], ℕ, List, map, vec_capacity, vec_len};
+ghost use Rattle.live_log.specs.Log.{Log, state_of};
 ghost use Rattle.live_log.specs.Tables.{tabled};
 ghost use Rattle.live_table.specs.Rights.{object_in, payload_in};
-ghost use Rattle.live_read.specs.Hearing.{OnlyHears, Stays};
-ghost use Rattle.live_write.specs.Searching.{AreTaken, IsUsedUp};
-ghost use Rattle.rcu_hash.specs.Copies.{AreApart, AreRanked, value_among, value_in_bucket};
-ghost use Rattle.rcu_hash.specs.Growing.{Grows};
+ghost use Rattle.live_read.specs.Hearing.{OnlyHears};
+ghost use Rattle.rcu_hash.specs.Copies.{AreApart, value_among, value_in_bucket};
+ghost use Rattle.rcu_hash.specs.Growing.{Exchanges};
 ghost use Rattle.rcu_hash.specs.Naming.{IsNamedBy, words_by};
-ghost use Rattle.rcu_hash.specs.Tables.{fits};
-ghost use Rattle.rcu_hash.specs.Writers.{AreFrom, Each, HasKeysIn, HasNote, IsAlone, IsOutside, Noted};
+ghost use Rattle.rcu_hash.specs.Writers.{AreFrom, Each, HasKeysIn, HasNote, IsAlone, Noted};
 
-use crate::bucket::Bucket;
-use crate::copying::{Copied, discard_all, fill};
 use crate::directory::{Directory, Naming};
-use crate::left::Left;
-use crate::making::{hold_all, note_all, shelve};
 use crate::rights::{lend_all, take_all_back};
-use crate::shelf::Shelf;
-use crate::table::{RcuHash, fits};
 use domain::{Chain, Deleter, Lent, Owned, Site, Unlinked, Witness};
 use gp_memb::GracePlan;
 use live_log::Tabled;
-use rcu_model::Refusal;
-use std::alloc::Global;
-use std::sync::{RwLockWriteGuard, Wait};
 
 /// The writers of chains that lend their rights to the directory's, with room for them when they have their rights again.
 pub(crate) struct Lenders<'d, P: GracePlan, B: Site, D: Deleter> {
@@ -63,7 +50,7 @@ pub(crate) fn exchange<'d, P: GracePlan + Drop, B: Site, D: Deleter, W: Witness>
     ensures directory { result.0.naming ≡ record { directory = directory.entry.naming.directory; object = object_in owned.seat.me.0.object; first = first; buckets = vec_len news.entry.chains } }
     ensures olds { (vec_len result.2 ≡ vec_len olds.entry.chains) × AreFrom directory.entry.naming.first (map (λ c. c.seat.me.0) result.2.items) × Each IsAlone (map (λ c. c.seat.me.0) result.2.items) × Each HasKeysIn (map (λ c. c.seat.me.0) result.2.items) × Each (HasNote (directory.entry.naming.directory + 1)) (map (λ c. c.seat.me.0) result.2.items) }
     ensures news { (vec_len result.3 ≡ vec_len news.entry.chains) × AreFrom first (map (λ c. c.seat.me.0) result.3.items) × Each IsAlone (map (λ c. c.seat.me.0) result.3.items) × Each HasKeysIn (map (λ c. c.seat.me.0) result.3.items) × Each (IsNamedBy directory.entry.naming.directory (object_in owned.seat.me.0.object)) (map (λ c. c.seat.me.0) result.3.items) }
-    ensures grown { (entries : List (ℕ × ℕ)) → AreApart entries → ((key : ℕ) → value_in_bucket (vec_len olds.entry.chains) (map (λ c. c.seat.me.0) olds.entry.chains.items) key ≡ value_among entries key) → Grows P.QSBR tabled B.sizes.chains directory.entry.naming.directory (W.seen witness.old) (W.heard witness.old) first (vec_len news.entry.chains) entries (W.heard witness.new) }
+    ensures grown { (entries : List (ℕ × ℕ)) → AreApart entries → ((key : ℕ) → value_in_bucket (vec_len olds.entry.chains) (map (λ c. c.seat.me.0) olds.entry.chains.items) key ≡ value_among entries key) → Exchanges P.QSBR tabled B.sizes.chains directory.entry.naming.directory (W.seen witness.old) (W.heard witness.old) directory.entry.naming.object first (vec_len news.entry.chains) entries (W.heard witness.new) }
     ensures same { OnlyHears W.Witness witness.old witness.new }
 {
     let Directory { mut chain, naming } = directory;

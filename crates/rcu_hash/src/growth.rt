@@ -1,6 +1,6 @@
 //! What a growth makes ready before its first event.
 
-ghost use Rattle.std.specs.Prelude.{◌≡◌, ◌⊎◌, ◌+◌, ◌<◌, ◌≤◌, ◌++◌, ◌||◌, [], ℕ, List, IfErr, IfOk, map, nat_le, vec_capacity, vec_len};
+ghost use Rattle.std.specs.Prelude.{◌≡◌, ◌⊎◌, ◌+◌, ◌<◌, ◌≤◌, ◌++◌, [], ℕ, List, IfErr, IfOk, map, vec_capacity, vec_len};
 ghost use Rattle.rcu_model.specs.declared.refusal.Refusal.TheVariants.{BadConfig, Memory, PoolFull};
 ghost use Rattle.live_log.specs.Log.{Begins, Log};
 ghost use Rattle.live_table.specs.Rights.{payload_in};
@@ -8,7 +8,7 @@ ghost use Rattle.live_read.specs.Hearing.{Stays};
 ghost use Rattle.live_write.specs.Searching.{AreTaken, IsUsedUp};
 ghost use Rattle.rcu_hash.specs.Copies.{AreApart, AreRanked, value_among, value_in_bucket};
 ghost use Rattle.rcu_hash.specs.Naming.{words_by};
-ghost use Rattle.rcu_hash.specs.Writers.{AreFrom, Each, HasKeysIn, IsAlone, IsEmpty};
+ghost use Rattle.rcu_hash.specs.Writers.{AreFrom, Each, IsAlone, IsEmpty};
 
 use crate::bucket::Bucket;
 use crate::copying::{Copied, discard_all};

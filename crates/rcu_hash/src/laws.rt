@@ -1,6 +1,6 @@
 //! A law of tables that directories lead.
 
-ghost use Rattle.std.specs.Prelude.{◌≡◌, ℕ, ◌+◌, Bool, IsTrue, List, Some};
+ghost use Rattle.std.specs.Prelude.{◌≡◌, ℕ, Bool, IsTrue, Some};
 ghost use mathlib.Core.Option.{some};
 ghost use Rattle.rcu_model.specs.Sets.{first_of};
 ghost use Rattle.rcu_model.specs.declared.event.ObjectId.{ObjectId};

@@ -7,6 +7,8 @@ ghost use Rattle.live_log.specs.Tables.{tabled};
 ghost use Rattle.live_table.specs.Rights.{object_in, payload_in};
 ghost use Rattle.live_read.specs.Hearing.{IsAfter, OnlyHears, Stays};
 ghost use Rattle.rcu_hash.specs.Directories.{LeadsTo, directed_map};
+ghost use Rattle.rcu_hash.specs.Growing.{NotesAll};
+ghost use Rattle.rcu_hash.specs.Leaving.{Writes};
 ghost use Rattle.rcu_hash.specs.Naming.{IsNamedBy, words_by};
 ghost use Rattle.rcu_hash.specs.Tables.{bucket_of};
 ghost use Rattle.rcu_hash.specs.Writers.{AreFrom, Each, HasKeysIn, HasNoNote, HasNote, HasNothing, IsAlone, IsEmpty, IsRunIn, IsSame, Noted, Pairwise};
@@ -93,6 +95,7 @@ pub(crate) fn note_all<'d, P: GracePlan + Drop, B: Site, D: Deleter, W: Witness>
     requires room { (noted.items ≡ []) × (vec_len chains ≤ vec_capacity noted) }
     requires chains { Each HasNoNote (map (λ c. c.seat.me.0) chains.items) × Each IsAlone (map (λ c. c.seat.me.0) chains.items) }
     ensures noted { (vec_len result ≡ vec_len chains.entry) × Pairwise IsSame (map (λ c. c.seat.me.0) chains.entry.items) (map (λ c. c.seat.me.0) result.items) × Each (Noted (W.heard witness.old) note) (map (λ c. c.seat.me.0) result.items) × Each IsAlone (map (λ c. c.seat.me.0) result.items) }
+    ensures told { (first : ℕ) → AreFrom first (map (λ c. c.seat.me.0) chains.entry.items) → NotesAll (Writes P.QSBR tabled (W.seen witness.old)) note first (vec_len chains.entry) (W.heard witness.old) (W.heard witness.new) }
     ensures runs { Each (IsRunIn P.QSBR) (map (λ c. c.seat.me.0) result.items) }
     ensures heard { Begins (W.heard witness.old) (W.heard witness.new) }
     ensures same { OnlyHears W.Witness witness.old witness.new }

@@ -16,9 +16,6 @@ use Rattle.rcu_list.specs.Calls.{Inserts, Replaces, Removes}
 use Rattle.rcu_list.specs.Maps.{map_of, value_in, value_of, words_of}
 use Rattle.rcu_list.proofs.Values.{one_key, value_absent, value_at, value_first, value_kept, value_same}
 
-tail_is : (x y : ObjectId) (xs ys : List ObjectId) → x ∷ xs ≡ y ∷ ys → xs ≡ ys
-tail_is x y xs ys e = cc
-
 module _ (qsbr : Bool) (allows : Log → LiveEvent → Type 0) (maps : HasMaps qsbr allows) (c : ℕ) where
   -- the objects of the chain
   abbrev chain_in : Log → List ObjectId
@@ -39,19 +36,16 @@ module _ (qsbr : Bool) (allows : Log → LiveEvent → Type 0) (maps : HasMaps q
     key_missing key none = value_absent (note_of known) (chain_in known) key (λ o h is. none o h (ap key_of (same_note o h) ∙ is))
 
     -- the same objects have the same map
-    pub same_map : ((o : ObjectId) → In (chain_in known) o → In (chain_in log) o) → ((o : ObjectId) → In (chain_in log) o → In (chain_in known) o) → (k : ℕ) → map_of log c k ≡ map_of known c k
-    same_map to from k = value_kept (note_of known) (note_of log) (chain_in known) (chain_in log) k (maps.falls known c known_run) (maps.falls log c run)
-        (λ o h is. (to o h, same_note o h))
-        (λ o h is. (from o h, same_note o (from o h)))
+    same_map : chain_in log ≡ chain_in known → (k : ℕ) → map_of log c k ≡ map_of known c k
+    same_map linked k = ap (λ (os : List ObjectId). value_in (note_of log) os k) linked ∙ value_same (note_of known) (note_of log) (chain_in known) k same_note
 
-  module _ (known seen heard before : Log) (after : Begins known before × Begins seen before × Begins heard before) (key value rank cell : ℕ) (o : ObjectId) where
-    pub inserts : IsLiveRun qsbr allows (Object (Push c o cell (words_of key value rank)) ∷ before) → chain_in (Object (Push c o cell (words_of key value rank)) ∷ before) ≡ o ∷ chain_in known → map_of known c key ≡ None → Inserts qsbr allows c known seen heard key value (Object (Push c o cell (words_of key value rank)) ∷ before)
-    inserts run list none =
+  module _ (known seen heard before : Log) (after : Begins known before × Begins seen before × Begins heard before) (linked : chain_in before ≡ chain_in known) (key value rank cell : ℕ) (o : ObjectId) where
+    pub inserts : IsLiveRun qsbr allows (Object (Push c o cell (words_of key value rank)) ∷ before) → map_of known c key ≡ None → Inserts qsbr allows c known seen heard key value (Object (Push c o cell (words_of key value rank)) ∷ before)
+    inserts run none =
         let e : LiveEvent = Object (Push c o cell (words_of key value rank)) in
         let now : List ObjectId = chain_in (e ∷ before) in
         let pushed : now ≡ o ∷ chain_in before = at_number_same c (o ∷ chain_in before) (state_of before).chain in
-        let rest : chain_in before ≡ chain_in known = tail_is o o (chain_in before) (chain_in known) (sym pushed ∙ list) in
-        let kept : (k : ℕ) → map_of before c k ≡ map_of known c k = same_map known before after.0 run.1 (λ p h. subst (λ (l : List ObjectId). In l p) (sym rest) h) (λ p h. subst (λ (l : List ObjectId). In l p) rest h) in
+        let kept : (k : ℕ) → map_of before c k ≡ map_of known c k = same_map known before after.0 run.1 linked in
         let here : note_of (e ∷ before) o ≡ (cell, words_of key value rank) = at_object_same o (cell, words_of key value rank) (note_of before) in
         record {
           object = o;
@@ -62,6 +56,7 @@ module _ (qsbr : Bool) (allows : Log → LiveEvent → Type 0) (maps : HasMaps q
             wrote = refl;
             after = after;
             run = run;
+            linked = linked;
             kept = kept;
             was = kept key ∙ none;
             map = λ k. ap (λ (l : List ObjectId). value_in (note_of (e ∷ before)) l k) pushed
@@ -71,24 +66,13 @@ module _ (qsbr : Bool) (allows : Log → LiveEvent → Type 0) (maps : HasMaps q
         }
 
     module _ (p : ObjectId) (at : In (chain_in known) p) (is : key_of (note_of known p) ≡ key) where
-      -- what is in the chain before the event, by what is in it after it
-      pub replaces : IsLiveRun qsbr allows (Object (Replace c p o cell (words_of key value rank)) ∷ before) → chain_in (Object (Replace c p o cell (words_of key value rank)) ∷ before) ≡ replaced p o (chain_in known) → Replaces qsbr allows c known seen heard key value p (Object (Replace c p o cell (words_of key value rank)) ∷ before)
-      replaces run list =
+      pub replaces : IsLiveRun qsbr allows (Object (Replace c p o cell (words_of key value rank)) ∷ before) → Replaces qsbr allows c known seen heard key value p (Object (Replace c p o cell (words_of key value rank)) ∷ before)
+      replaces run =
           let e : LiveEvent = Object (Replace c p o cell (words_of key value rank)) in
           let now : List ObjectId = chain_in (e ∷ before) in
           let has : In (chain_in before) p = in_objects (chain_in before) p run.0.0.0 in
-          let fresh : ¬ In (state_of before).used o = not_has (state_of before).used o run.0.0.1 in
           let left : now ≡ replaced p o (chain_in before) = at_number_same c (replaced p o (chain_in before)) (state_of before).chain in
-          let used : (x : ObjectId) → In (chain_in known) x → In (state_of before).used x = λ x h. (grows_log known before after.0).used x (chain_used qsbr allows known c x (run_of qsbr allows known before after.0 run.1) h) in
-          let to : (x : ObjectId) → In (chain_in known) x → In (chain_in before) x = λ x h. by_object x p
-          (λ same. subst (In (chain_in before)) (sym same) has)
-          (λ other. ⊎_elim (λ (new : x ≡ o). absurd (fresh (subst (In (state_of before).used) new (used x h)))) (λ (k : In (chain_in before) x × (x ≢ p)). k.0)
-          (replaced_has p o (chain_in before) x (subst (λ (l : List ObjectId). In l x) (sym list ∙ left) (has_replaced p o (chain_in known) x h other)))) in
-          let from : (x : ObjectId) → In (chain_in before) x → In (chain_in known) x = λ x h. by_object x p
-          (λ same. subst (In (chain_in known)) (sym same) at)
-          (λ other. ⊎_elim (λ (new : x ≡ o). absurd (fresh (subst (In (state_of before).used) new (chain_used qsbr allows before c x run.1 h)))) (λ (k : In (chain_in known) x × (x ≢ p)). k.0)
-          (replaced_has p o (chain_in known) x (subst (λ (l : List ObjectId). In l x) (sym left ∙ list) (has_replaced p o (chain_in before) x h other)))) in
-          let kept : (k : ℕ) → map_of before c k ≡ map_of known c k = same_map known before after.0 run.1 to from in
+          let kept : (k : ℕ) → map_of before c k ≡ map_of known c k = same_map known before after.0 run.1 linked in
           let here : note_of (e ∷ before) o ≡ (cell, words_of key value rank) = at_object_same o (cell, words_of key value rank) (note_of before) in
           let stay : (x : ObjectId) → In (chain_in before) x → note_of (e ∷ before) x ≡ note_of before x = same_note before (e ∷ before) (e ∷ [], refl) run in
           let was : key_of (note_of before p) ≡ key = ap key_of (same_note known before after.0 run.1 p at) ∙ is in
@@ -107,6 +91,7 @@ module _ (qsbr : Bool) (allows : Log → LiveEvent → Type 0) (maps : HasMaps q
               wrote = refl;
               after = after;
               run = run;
+              linked = linked;
               kept = kept;
               was = kept key ∙ key_there known before after.0 run.1 p key at was;
               map = λ k. dite (ℕ_discrete k key)
@@ -115,20 +100,14 @@ module _ (qsbr : Bool) (allows : Log → LiveEvent → Type 0) (maps : HasMaps q
             };
           }
 
-  module _ (known seen heard before : Log) (after : Begins known before × Begins seen before × Begins heard before) (key : ℕ) (p : ObjectId) (at : In ((state_of known).chain c) p) (is : key_of (note_of known p) ≡ key) where
-    pub removes : IsLiveRun qsbr allows (Object (Cut c p) ∷ before) → (state_of (Object (Cut c p) ∷ before)).chain c ≡ without_object p ((state_of known).chain c) → Removes qsbr allows c known seen heard key p (Object (Cut c p) ∷ before)
-    removes run list =
+  module _ (known seen heard before : Log) (after : Begins known before × Begins seen before × Begins heard before) (linked : (state_of before).chain c ≡ (state_of known).chain c) (key : ℕ) (p : ObjectId) (at : In ((state_of known).chain c) p) (is : key_of (note_of known p) ≡ key) where
+    pub removes : IsLiveRun qsbr allows (Object (Cut c p) ∷ before) → Removes qsbr allows c known seen heard key p (Object (Cut c p) ∷ before)
+    removes run =
         let e : LiveEvent = Object (Cut c p) in
         let now : List ObjectId = chain_in (e ∷ before) in
         let has : In (chain_in before) p = in_objects (chain_in before) p run.0.0 in
         let left : now ≡ without_object p (chain_in before) = at_number_same c (without_object p (chain_in before)) (state_of before).chain in
-        let to : (x : ObjectId) → In (chain_in known) x → In (chain_in before) x = λ x h. by_object x p
-        (λ same. subst (In (chain_in before)) (sym same) has)
-        (λ other. (without_object_has p (chain_in before) x (subst (λ (l : List ObjectId). In l x) (sym list ∙ left) (has_without_object p (chain_in known) x h other))).0) in
-        let from : (x : ObjectId) → In (chain_in before) x → In (chain_in known) x = λ x h. by_object x p
-        (λ same. subst (In (chain_in known)) (sym same) at)
-        (λ other. (without_object_has p (chain_in known) x (subst (λ (l : List ObjectId). In l x) (sym left ∙ list) (has_without_object p (chain_in before) x h other))).0) in
-        let kept : (k : ℕ) → map_of before c k ≡ map_of known c k = same_map known before after.0 run.1 to from in
+        let kept : (k : ℕ) → map_of before c k ≡ map_of known c k = same_map known before after.0 run.1 linked in
         let was : key_of (note_of before p) ≡ key = ap key_of (same_note known before after.0 run.1 p at) ∙ is in
         let others : (k : ℕ) → k ≢ key → map_of (e ∷ before) c k ≡ map_of before c k = λ k apart. value_kept (note_of before) (note_of before) (chain_in before) now k (maps.falls before c run.1) (maps.falls (e ∷ before) c run)
         (λ x h key_is. (subst (λ (l : List ObjectId). In l x) (sym left) (has_without_object p (chain_in before) x h (λ same. apart (sym key_is ∙ (ap (λ (z : ObjectId). key_of (note_of before z)) same ∙ was)))), refl))
@@ -142,6 +121,7 @@ module _ (qsbr : Bool) (allows : Log → LiveEvent → Type 0) (maps : HasMaps q
             wrote = refl;
             after = after;
             run = run;
+            linked = linked;
             kept = kept;
             was = kept key ∙ key_there known before after.0 run.1 p key at was;
             map = λ k. dite (ℕ_discrete k key)

@@ -63,36 +63,37 @@ module _ {S : Type 0} (qsbr : Bool) (allows : Log → LiveEvent → Type 0) (map
       (o, ap first_of (chain_known m.0 c listed is) ∙ here, subst (λ (x : ℕ × List ℕ). 2 ^ 62 ≤ rank_of x + 1) (note_walked o (first_has (list_in m.0) o here)) last)
 
 -- what an event of the writer tells of the map
-module _ (qsbr : Bool) (allows : Log → LiveEvent → Type 0) (maps : HasMaps qsbr allows) (c : ℕ) (known seen heard : Log) (v w : View) (is_v : (own_in v.chains).chain ≡ c) (is_w : (own_in w.chains).chain ≡ c) (listed : IsListed w) (knows : (state_of known).chain c ≡ list_in v) (seen' heard' owner : Log) where
-  pub pushed_map : (u : View) (key value rank : ℕ) → payload_in u.object ≡ words_of key value rank → (p : Publishes qsbr allows v seen' heard' owner (push_by v u) w.seen) → Begins known p.before × Begins seen p.before × Begins heard p.before → list_in w ≡ object_in u.object ∷ list_in v → map_of known c key ≡ None → Inserts qsbr allows c known seen heard key value w.seen
-  pushed_map u key value rank words p after list none =
+module _ (qsbr : Bool) (allows : Log → LiveEvent → Type 0) (maps : HasMaps qsbr allows) (c : ℕ) (known seen heard : Log) (v w : View) (is_v : (own_in v.chains).chain ≡ c) (own : IsWriter v) (knows : (state_of known).chain c ≡ list_in v) (seen' heard' owner : Log) where
+  -- before it the chain linked the objects that the writer knew
+  linked : (e : LiveEvent) (p : Publishes qsbr allows v seen' heard' owner e w.seen) → (state_of p.before).chain c ≡ (state_of known).chain c
+  linked e p = ap (state_of p.before).chain (sym is_v) ∙ ((subst (AreAsKnown p.before) own p.known).0.0 ∙ sym knows)
+
+  pub pushed_map : (u : View) (key value rank : ℕ) → payload_in u.object ≡ words_of key value rank → (p : Publishes qsbr allows v seen' heard' owner (push_by v u) w.seen) → Begins known p.before × Begins seen p.before × Begins heard p.before → map_of known c key ≡ None → Inserts qsbr allows c known seen heard key value w.seen
+  pushed_map u key value rank words p after none =
       let o : ObjectId = object_in u.object in
       let e : LiveEvent = Object (Push c o (cell_in u.object) (words_of key value rank)) in
       let wrote : w.seen ≡ e ∷ p.before = p.wrote ∙ (λ i. Object (Push (is_v i) o (cell_in u.object) (words i)) ∷ p.before) in
       subst (Inserts qsbr allows c known seen heard key value) (sym wrote)
-      (inserts qsbr allows maps c known seen heard p.before after key value rank (cell_in u.object) o (subst (IsLiveRun qsbr allows) wrote p.run)
-      (ap (λ (l : Log). (state_of l).chain c) (sym wrote) ∙ (chain_known w c listed is_w ∙ (list ∙ ap (λ (l : List ObjectId). o ∷ l) (sym knows)))) none)
+      (inserts qsbr allows maps c known seen heard p.before after (linked (push_by v u) p) key value rank (cell_in u.object) o (subst (IsLiveRun qsbr allows) wrote p.run) none)
 
   module _ (key : ℕ) (o : ObjectId) (at : In (list_in v) o) (key_is : key_of (note_of known o) ≡ key) where
     known_in : In ((state_of known).chain c) o
     known_in = subst (λ (l : List ObjectId). In l o) (sym knows) at
 
-    pub replaced_map : (u : View) (value rank : ℕ) → payload_in u.object ≡ words_of key value rank → (p : Publishes qsbr allows v seen' heard' owner (replace_by o v u) w.seen) → Begins known p.before × Begins seen p.before × Begins heard p.before → list_in w ≡ replaced o (object_in u.object) (list_in v) → Replaces qsbr allows c known seen heard key value o w.seen
-    replaced_map u value rank words p after list =
+    pub replaced_map : (u : View) (value rank : ℕ) → payload_in u.object ≡ words_of key value rank → (p : Publishes qsbr allows v seen' heard' owner (replace_by o v u) w.seen) → Begins known p.before × Begins seen p.before × Begins heard p.before → Replaces qsbr allows c known seen heard key value o w.seen
+    replaced_map u value rank words p after =
         let new : ObjectId = object_in u.object in
         let e : LiveEvent = Object (Replace c o new (cell_in u.object) (words_of key value rank)) in
         let wrote : w.seen ≡ e ∷ p.before = p.wrote ∙ (λ i. Object (Replace (is_v i) o new (cell_in u.object) (words i)) ∷ p.before) in
         subst (Replaces qsbr allows c known seen heard key value o) (sym wrote)
-        (replaces qsbr allows maps c known seen heard p.before after key value rank (cell_in u.object) new o known_in key_is (subst (IsLiveRun qsbr allows) wrote p.run)
-        (ap (λ (l : Log). (state_of l).chain c) (sym wrote) ∙ (chain_known w c listed is_w ∙ (list ∙ ap (replaced o new) (sym knows)))))
+        (replaces qsbr allows maps c known seen heard p.before after (linked (replace_by o v u) p) key value rank (cell_in u.object) new o known_in key_is (subst (IsLiveRun qsbr allows) wrote p.run))
 
-    pub cut_map : (p : Publishes qsbr allows v seen' heard' owner (cut_of o v) w.seen) → Begins known p.before × Begins seen p.before × Begins heard p.before → list_in w ≡ without_object o (list_in v) → Removes qsbr allows c known seen heard key o w.seen
-    cut_map p after list =
+    pub cut_map : (p : Publishes qsbr allows v seen' heard' owner (cut_of o v) w.seen) → Begins known p.before × Begins seen p.before × Begins heard p.before → Removes qsbr allows c known seen heard key o w.seen
+    cut_map p after =
         let e : LiveEvent = Object (Cut c o) in
         let wrote : w.seen ≡ e ∷ p.before = p.wrote ∙ (λ i. Object (Cut (is_v i) o) ∷ p.before) in
         subst (Removes qsbr allows c known seen heard key o) (sym wrote)
-        (removes qsbr allows maps c known seen heard p.before after key o known_in key_is (subst (IsLiveRun qsbr allows) wrote p.run)
-        (ap (λ (l : Log). (state_of l).chain c) (sym wrote) ∙ (chain_known w c listed is_w ∙ (list ∙ ap (without_object o) (sym knows)))))
+        (removes qsbr allows maps c known seen heard p.before after (linked (cut_of o v) p) key o known_in key_is (subst (IsLiveRun qsbr allows) wrote p.run))
 
 -- what holds of a result in either case, by what else holds of it there
 pub if_ok : {A E : Type 0} (r : Result A E) (P Q R : A → Type 0) → ((x : A) → P x → Q x → R x) → IfOk r P → IfOk r Q → IfOk r R

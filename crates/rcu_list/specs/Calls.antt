@@ -5,19 +5,21 @@ use Rattle.rcu_model.specs.Sets.{at_number}
 use Rattle.live_log.specs.declared.event.LiveEvent.{LiveEvent}
 use Rattle.live_log.specs.declared.event.LiveEvent.TheVariants.{Object}
 use Rattle.live_log.specs.declared.event.ObjectEvent.TheVariants.{Push, Replace, Cut}
-use Rattle.live_log.specs.Log.{Log, Begins, IsLiveRun}
+use Rattle.live_log.specs.Log.{Log, Begins, IsLiveRun, state_of}
 use Rattle.live_items.specs.Retiring.{Queues}
 use Rattle.rcu_list.specs.Maps.{map_of, words_of}
 
 -- by the rule of chains, the list's chain, what its writer knew, and what the caller had seen and heard of
 module _ (qsbr : Bool) (allows : Log → LiveEvent → Type 0) (c : ℕ) (known seen heard : Log) where
-  -- The event is the last one of the log, and came after all that was known. Before it the list's map was the one that
-  -- its writer knew, and the key had this value or none; after it the key has that, and each other key what it had.
+  -- The event is the last one of the log, and came after all that was known. Before it the list's chain linked the objects
+  -- that its writer knew, so that the list's map was the one that it knew, and the key had this value or none; after it the
+  -- key has that, and each other key what it had.
   pub record Changes (event : LiveEvent) (key : ℕ) (had has : Option ℕ) (log : Log) : Type 0 where
     pub before : Log
     pub wrote : log ≡ event ∷ before
     pub after : Begins known before × Begins seen before × Begins heard before
     pub run : IsLiveRun qsbr allows log
+    pub linked : (state_of before).chain c ≡ (state_of known).chain c
     pub kept : (k : ℕ) → map_of before c k ≡ map_of known c k
     pub was : map_of before c key ≡ had
     pub map : (k : ℕ) → map_of log c k ≡ at_number key has (map_of before c) k

@@ -1,16 +1,27 @@
-use Rattle.std.proofs.Common.{◌≡◌, ◌<◌, ◌+◌, ◌%◌, ◌++◌, ℕ, [], ◌∷◌, Some, map, slice_get, option_map, vec_len, refl, sym, ap, ◌∙◌, subst, arith}
+use Rattle.std.proofs.Common.{◌≡◌, ◌<◌, ◌+◌, ◌%◌, ◌++◌, ℕ, List, [], ◌∷◌, Some, map, slice_get, option_map, vec_len, refl, sym, ap, ◌∙◌, subst, arith}
 use Rattle.std.proofs.Math.Seq.{map-set_same}
 use Rattle.std.proofs.lemmas.List.{append-nil, map-set, nil_from_length}
 use Rattle.std.proofs.lemmas.Nat.{mod_below}
 use Rattle.std.proofs.lemmas.Option.{slice_get-map, slice_get_read}
-use Rattle.live_log.specs.Log.{Begins}
+use Rattle.live_log.specs.declared.event.LiveEvent.{LiveEvent}
+use Rattle.live_log.specs.declared.event.LiveEvent.TheVariants.{Object}
+use Rattle.live_log.specs.declared.event.ObjectEvent.TheVariants.{Push}
+use Rattle.live_log.specs.Log.{Log, Begins}
+use Rattle.live_log.specs.Tables.{tabled}
 use Rattle.live_log.proofs.Lemmas.{begins_trans}
-use Rattle.live_write.specs.Chains.{list_in}
+use Rattle.live_table.specs.Rights.{cell_in, object_in, own_in}
+use Rattle.live_write.specs.Chains.{list_in, push_by}
 use Rattle.rcu_list.proofs.Lemmas.{stays_both}
 use Rattle.rcu_list.specs.Maps.{words_of}
 use Rattle.rcu_hash.specs.Copies.{AreRanked, value_among}
+use Rattle.rcu_hash.specs.Growing.{CopiesAll}
+use Rattle.rcu_hash.specs.Leaving.{Writes}
+use Rattle.rcu_hash.specs.Tables.{bucket_of}
 use Rattle.rcu_hash.specs.Writers.{Each, HasKeysIn, HasNoNote, IsAlone, value_at}
 use Rattle.rcu_hash.proofs.Copies.{Holds, each_at, each_set, each_weaker, filled_more, hold_nothing, holds_next, may_put, next_new, no_value, put_holds, put_value, ranked_next, split_next}
+use Rattle.rcu_hash.proofs.Emptying.{writes_weaker}
+use Rattle.rcu_hash.proofs.Filling.{copies_more, from_at}
+use Rattle.rcu_hash.proofs.Regrown.{numbers_from}
 use Rattle.rcu_hash.proofs.copying.fill.Goals as goal
 
 pub loop-init : goal.loop-init
@@ -22,6 +33,7 @@ loop-init g c = let r = c.requires in let rest = c.into_iter-rest.ensures in rec
   ranked = subst (λ l. AreRanked 0 (map (λ x. x.rank) l)) (sym rest.rest) r.copied.1;
   holds = hold_nothing (map (λ x. x.seat.me.0) c.args.chains.now.items) r.chains.1 r.chains.2;
   values = λ key. no_value (map (λ x. x.seat.me.0) c.args.chains.now.items) (key % c.len-buckets.result) key r.chains.1;
+  filled = λ start from. ([], refl);
   numbers = refl;
   heard = ([], refl);
   same = (((refl, refl, refl, λ h. h), refl), refl);
@@ -68,6 +80,22 @@ loop-preserved g c =
           (filled_more value_at n vs i.done (x.key, x.value) v now.seat.me.0 at new
           (put_value q v (w.seen w1) (w.heard w1) x.owned.seat.me.0.seen chain.owns.0 chain.owns.1 c.loop.counter holds x.owned.seat.me.0 x.key x.value words now.seat.me.0 p.pushed list)
           i.values);
+      filled = λ start from.
+          let number : (own_in v.chains).chain ≡ bucket_of start n x.key = from_at start k vs v (numbers_from c.args.chains.now.items items start (λ c. c.number) (λ c. c.seat.me.0) (λ c. c.owns.2) i.numbers from) at in
+          let u = x.owned.seat.me.0 in let last : Log = now.seat.me.0.seen in
+          let event : push_by v u ≡ Object (Push (bucket_of start n x.key) (object_in u.object) (cell_in u.object) (words_of x.key x.value x.rank)) = λ j. Object (Push (number j) (object_in u.object) (cell_in u.object) (x.words j)) in
+          subst (CopiesAll (Writes q tabled (w.seen w0)) start n (w.heard w0) (i.done ++ (x.key, x.value) ∷ [])) (sym p.heard)
+          (copies_more (Writes q tabled (w.seen w0)) (writes_weaker q tabled (w.seen w0)) start n (w.heard w0) (w.heard w1) i.done (x.key, x.value) last (i.filled start from) (record {
+            object = object_in u.object;
+            cell = cell_in u.object;
+            rank = x.rank;
+            tells = record {
+              before = p.pushed.before;
+              wrote = p.pushed.wrote ∙ ap (λ (z : LiveEvent). z ∷ p.pushed.before) event;
+              after = (subst (λ (l : Log). Begins l p.pushed.before) i.same.0.0.0 p.pushed.after.after_caller.0, p.pushed.after.after_caller.1);
+              run = p.pushed.run;
+            };
+          }));
       numbers = map-set_same (λ c. c.number) items k now chain (p.list.3 ∙ ap (λ c. c.number) is) ∙ i.numbers;
       heard = subst (Begins (w.heard w0)) (sym p.heard) (begins_trans (w.heard w0) p.pushed.before now.seat.me.0.seen (begins_trans (w.heard w0) (w.heard w1) p.pushed.before i.heard p.pushed.after.after_caller.1) (_ ∷ [], p.pushed.wrote));
       same = ((stays_both w w0 w1 w2 i.same.0.0 p.same.0.0, p.same.0.1 ∙ i.same.0.1), p.same.1 ∙ i.same.1);
@@ -79,6 +107,14 @@ returns-clause-values g c key =
     let none : c.loop.rest.rest.items ≡ [] = nil_from_length c.loop.rest.rest.items (let left = i.left in let end = c.loop-test.false in let most = c.loop.auto.counter-end in let ok = c.loop.rest.rest.ok.0 in omega arith) in
     let all = i.split ∙ (ap (λ l. i.done ++ map (λ c. (c.key, c.value)) l) none ∙ append-nil i.done) in
     ap (λ n. value_at (slice_get vs (key % n)) key) i.many ∙ (i.values key ∙ ap (λ es. value_among es key) (sym all))
+
+pub returns-clause-filled : goal.returns-clause-filled
+returns-clause-filled g c start from =
+    let q = g.P.GracePlan.QSBR in let w = g.W.Witness in let w0 = c.args.witness.now in let w1 = c.loop.witness in let i = c.loop.invariant in
+    let none : c.loop.rest.rest.items ≡ [] = nil_from_length c.loop.rest.rest.items (let left = i.left in let end = c.loop-test.false in let most = c.loop.auto.counter-end in let ok = c.loop.rest.rest.ok.0 in omega arith) in
+    let all = i.split ∙ (ap (λ l. i.done ++ map (λ c. (c.key, c.value)) l) none ∙ append-nil i.done) in
+    subst (λ (es : List (ℕ × ℕ)). CopiesAll (Writes q tabled (w.seen w0)) start (vec_len c.args.chains.now) (w.heard w0) es (w.heard w1)) (sym all)
+    (subst (λ (n : ℕ). CopiesAll (Writes q tabled (w.seen w0)) start n (w.heard w0) i.done (w.heard w1)) c.len-buckets.ensures (i.filled start from))
 
 pub returns-clause-known : goal.returns-clause-known
 returns-clause-known g c =

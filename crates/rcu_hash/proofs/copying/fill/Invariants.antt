@@ -1,9 +1,12 @@
 use Rattle.std.proofs.Common.{◌≡◌, ◌+◌, ◌%◌, ◌++◌, ℕ, List, map, slice_get, vec_len}
 use Rattle.std.specs.Vec.Iter.{into_iter_items, into_iter_len}
 use Rattle.live_log.specs.Log.{Begins}
+use Rattle.live_log.specs.Tables.{tabled}
 use Rattle.live_read.specs.Hearing.{OnlyHears}
 use Rattle.rcu_hash.specs.Copies.{AreRanked, value_among}
-use Rattle.rcu_hash.specs.Writers.{Each, value_at}
+use Rattle.rcu_hash.specs.Growing.{CopiesAll}
+use Rattle.rcu_hash.specs.Leaving.{Writes}
+use Rattle.rcu_hash.specs.Writers.{AreFrom, Each, value_at}
 use Rattle.rcu_hash.proofs.Copies.{Holds}
 use Rattle.rcu_hash.proofs.copying.fill.Given as goal
 
@@ -17,6 +20,7 @@ invariant-loop g l = record {
   ranked : AreRanked l.counter (map (λ c. c.rank) (into_iter_items l.rest));
   holds : Each (Holds l.counter) (map (λ c. c.seat.me.0) l.chains.items);
   values : (key : ℕ) → value_at (slice_get (map (λ c. c.seat.me.0) l.chains.items) (key % l.buckets)) key ≡ value_among done key;
+  filled : (first : ℕ) → AreFrom first (map (λ c. c.seat.me.0) l.fn.chains.items) → CopiesAll (Writes g.P.GracePlan.QSBR tabled (g.W.Witness.seen l.fn.witness)) first l.buckets (g.W.Witness.heard l.fn.witness) done (g.W.Witness.heard l.witness);
   numbers : map (λ c. c.number) l.chains.items ≡ map (λ c. c.number) l.fn.chains.items;
   heard : Begins (g.W.Witness.heard l.fn.witness) (g.W.Witness.heard l.witness);
   same : OnlyHears g.W.Witness l.fn.witness l.witness;

@@ -1,7 +1,7 @@
 use Rattle.std.proofs.Common.{◌≡◌, ◌⊎◌, ◌+◌, ◌%◌, ◌≤◌, ℕ, List, [], ◌∷◌, length, map, slice_get, vec_len, refl, sym, ap, ◌∙◌, subst, arith}
 use Rattle.std.proofs.lemmas.List.{length-map}
 use Rattle.rcu_model.specs.declared.event.ObjectId.{ObjectId}
-use Rattle.live_log.specs.Log.{Log, Begins, state_of}
+use Rattle.live_log.specs.Log.{Log, Begins, note_of, state_of}
 use Rattle.live_log.specs.Tables.{tabled}
 use Rattle.live_log.proofs.Lemmas.{begins_trans, run_of}
 use Rattle.live_rule.specs.Seats.{lent_chains}
@@ -10,13 +10,17 @@ use Rattle.live_rule.specs.declared.view.View.{View}
 use Rattle.live_table.specs.Rights.{IsListed, own_in}
 use Rattle.rcu_list.proofs.Lemmas.{chain_known}
 use Rattle.rcu_hash.specs.Copies.{value_among, value_in_bucket}
-use Rattle.rcu_hash.specs.Growing.{Grows}
+use Rattle.rcu_hash.specs.Growing.{CopiesAll, Exchanges, Grows, NotesAll}
+use Rattle.rcu_hash.specs.Leaving.{LeavesMap, Writes}
+use Rattle.rcu_hash.specs.Naming.{words_by}
 use Rattle.rcu_hash.specs.Writers.{Each, HasNote, IsOutside, Noted, value_at}
 use Rattle.rcu_hash.specs.declared.directory.Naming.{Naming}
+use Rattle.rcu_hash.proofs.Emptying.{leaves_weaker}
 use Rattle.rcu_hash.proofs.Exchanging.{each_all}
+use Rattle.rcu_hash.proofs.Filling.{copies_leave, copies_weaker, notes_leave}
 use Rattle.rcu_hash.proofs.Held.{each_map, pair_from}
 use Rattle.rcu_hash.proofs.Named.{own_used, words_later}
-use Rattle.rcu_hash.proofs.Regrown.{all_outside, grows_since, noted_since, numbers_from, pair_keys, pair_values}
+use Rattle.rcu_hash.proofs.Regrown.{all_outside, noted_since, numbers_from, pair_keys, pair_values}
 use Rattle.rcu_hash.proofs.grow.commit.Goals as goal
 
 pub invariant_of-directory : goal.invariant_of-directory
@@ -83,14 +87,34 @@ invariant_of-result g c =
 pub returns-clause-grown : goal.returns-clause-grown
 returns-clause-grown g c =
     let q = g.P.GracePlan.QSBR in let w = g.W.Witness in let w0 = c.args.witness.now in let w1 = c.hear.new.witness in let w2 = c.fill.new.witness in let w3 = c.note_all.new.witness in let w4 = c.exchange-directory.new.witness in
-    let is = c.take-place.ensures in let h = c.hear.ensures in let f = c.fill.ensures in let n = c.note_all.ensures in let o = c.chains_of.ensures in let x = c.exchange-directory.ensures in
-    let chains = g.B.Site.sizes.chains in let first = c.args.first in let taken = map (λ y. y.chain.seat.me.0) c.args.growth.taken.items in let olds = map (λ y. y.seat.me.0) c.chains_of.result.items in
+    let is = c.take-place.ensures in let h = c.hear.ensures in let f = c.fill.ensures in let n = c.note_all.ensures in let o = c.chains_of.ensures in let x = c.exchange-directory.ensures in let r = c.requires.chains in
+    let chains = g.B.Site.sizes.chains in let first = c.args.first in let m = vec_len c.args.growth.chains in let filled = c.fill.new.chains.items in let taken = map (λ y. y.chain.seat.me.0) c.args.growth.taken.items in let olds = map (λ y. y.seat.me.0) c.chains_of.result.items in
+    let dir = c.take-place.result.1 in let z : Naming = dir.naming in let now = c.hear.new.self in let t : Log = now.seat.me.0.seen in
     let entries : List (ℕ × ℕ) = map (λ y. (y.key, y.value)) c.args.growth.copied.items in
-    let size : vec_len c.note_all.result ≡ vec_len c.args.growth.chains = n.noted.0 ∙ f.chains.0 in
+    let size : vec_len c.note_all.result ≡ m = n.noted.0 ∙ f.chains.0 in
     let had : (key : ℕ) → value_in_bucket (vec_len c.chains_of.result) olds key ≡ value_among entries key = λ key.
     ap (λ (us : List View). value_in_bucket (vec_len c.chains_of.result) us key) o.same ∙ (ap (λ (k : ℕ). value_in_bucket k taken key) (o.known.0 ∙ c.requires.taken.0) ∙ sym (c.requires.copied.0 key)) in
-    let heard : Begins (w.heard w0) (w.heard w3) = begins_trans (w.heard w0) (w.heard w1) (w.heard w3) (subst (Begins (w.heard w0)) (sym h.heard) h.told.0.after_heard) (begins_trans (w.heard w1) (w.heard w2) (w.heard w3) f.heard n.heard) in
-    subst (λ (m : Naming). Grows q tabled chains m.directory (w.seen w0) (w.heard w0) first (vec_len c.args.growth.chains) entries (w.heard w4)) is
-    (subst (λ (k : ℕ). Grows q tabled chains c.take-place.result.1.naming.directory (w.seen w0) (w.heard w0) first k entries (w.heard w4)) size
-    (grows_since q tabled chains c.take-place.result.1.naming.directory (w.seen w0) (w.heard w0) (w.seen w3) (w.heard w3) first (vec_len c.note_all.result) entries (w.heard w4)
-    (n.same.0.0.0 ∙ (f.same.0.0.0 ∙ h.same.0.0.0)) heard (x.grown entries c.requires.copied.1 had)))
+    let e = x.grown entries c.requires.copied.1 had in let last = e.leaves.writes in let before : Log = last.before in
+    let run = run_of q tabled before (w.heard w4) (_ ∷ [], last.wrote) last.run in
+    let was : (state_of t).chain z.directory ≡ z.object ∷ [] = chain_known now.seat.me.0 z.directory now.owns.1 (now.owns.2 ∙ (h.chains.1 ∙ dir.own.0)) ∙ (ap (λ (xs : List ChainRight). (own_in xs).objects) h.chains.0 ∙ dir.alone) in
+    let saw = run_of q tabled dir.chain.seat.me.0.seen t h.told.1 h.told.0.run in
+    let words : (note_of t z.object).1 ≡ words_by z.first z.buckets = words_later q dir.chain.seat.me.0.seen t z.object h.told.1 h.told.0.run z.first z.buckets (own_used q dir.chain.seat.me.0 z.object saw dir.chain.owns.1 dir.alone) dir.words in
+    let apart : (z.first + z.buckets ≤ first) ⊎ (first + m ≤ z.first) = subst (λ (y : Naming). (y.first + y.buckets ≤ first) ⊎ (first + m ≤ y.first)) (sym is) c.requires.apart.1 in
+    let on : Begins t (w.heard w1) = ([], h.heard) in
+    let to_noted : Begins (w.heard w2) before = begins_trans (w.heard w2) (w.heard w3) before n.heard last.after.1 in
+    let from = numbers_from c.args.growth.chains.items filled first (λ y. y.number) (λ y. y.seat.me.0) (λ y. y.owns.2) f.chains.1 r.2 in
+    let copies : CopiesAll (Writes q tabled (w.seen w0)) first m (w.heard w1) entries (w.heard w2) = subst (λ (s : Log). CopiesAll (Writes q tabled s) first m (w.heard w1) entries (w.heard w2)) h.same.0.0.0 (f.filled first r.2) in
+    let told : NotesAll (Writes q tabled (w.seen w0)) (z.directory + 1) first m (w.heard w2) (w.heard w3) =
+    subst (λ (y : Naming). NotesAll (Writes q tabled (w.seen w0)) (y.directory + 1) first m (w.heard w2) (w.heard w3)) (sym is)
+    (subst (λ (k : ℕ). NotesAll (Writes q tabled (w.seen w0)) (c.args.shelf.now.naming.directory + 1) first k (w.heard w2) (w.heard w3)) f.chains.0
+    (subst (λ (s : Log). NotesAll (Writes q tabled s) (c.args.shelf.now.naming.directory + 1) first (vec_len c.fill.new.chains) (w.heard w2) (w.heard w3)) (f.same.0.0.0 ∙ h.same.0.0.0) (n.told first from))) in
+    subst (λ (y : Naming). Grows q tabled chains y.directory (w.seen w0) (w.heard w0) first m entries (w.heard w4)) is (record {
+      copied = w.heard w2;
+      noted = w.heard w3;
+      old = z.object;
+      copies = copies_weaker (LeavesMap q tabled chains z.directory (w.seen w0)) (leaves_weaker q tabled chains z.directory (w.seen w0)) first m (w.heard w0) (w.heard w1) entries (w.heard w2) (subst (Begins (w.heard w0)) (sym h.heard) h.told.0.after_heard)
+          (copies_leave q (w.seen w0) chains z.first z.buckets dir.fits.0 dir.fits.1 z.directory z.object t before run was e.linked words first m apart r.0 (w.heard w1) entries (w.heard w2) on to_noted copies);
+      notes = notes_leave q (w.seen w0) chains z.first z.buckets dir.fits.0 dir.fits.1 z.directory z.object t before run was e.linked words first m apart (z.directory + 1) (w.heard w2) (w.heard w3) (begins_trans t (w.heard w1) (w.heard w2) on f.heard) last.after.1 told;
+      exchanges = subst (λ (s : Log). Exchanges q tabled chains z.directory s (w.heard w3) z.object first m entries (w.heard w4)) (n.same.0.0.0 ∙ (f.same.0.0.0 ∙ h.same.0.0.0))
+          (subst (λ (k : ℕ). Exchanges q tabled chains z.directory (w.seen w3) (w.heard w3) z.object first k entries (w.heard w4)) size e);
+    })

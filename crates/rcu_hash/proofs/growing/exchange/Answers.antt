@@ -14,7 +14,7 @@ use Rattle.live_table.specs.Rights.{AreAsKnown, IsListed, cell_in, object_in, ow
 use Rattle.live_write.specs.Chains.{list_in}
 use Rattle.rcu_hash.specs.Copies.{value_in_bucket}
 use Rattle.rcu_hash.specs.Directories.{directed_map}
-use Rattle.rcu_hash.specs.Growing.{Grows}
+use Rattle.rcu_hash.specs.Growing.{Exchanges}
 use Rattle.rcu_hash.specs.Naming.{words_by}
 use Rattle.rcu_hash.specs.Writers.{Each, HasNote, HasSeen, Noted, SawBefore, lengths_of, rights_of}
 use Rattle.rcu_hash.proofs.Exchanging.{drop_first, each_all, take_first}
@@ -242,15 +242,14 @@ returns-clause-grown g c entries apart had =
     let by_old : (key : ℕ) → value_in_bucket (vec_len c.args.olds.chains) vs key ≡ value_in_bucket dir.naming.buckets vs key = λ key. ap (λ (n : ℕ). value_in_bucket n vs key) c.requires.olds.0 in
     let map_was : (key : ℕ) → directed_map chains d before key ≡ value_in_bucket dir.naming.buckets vs key = λ key. map_before q d o new cell first many before log wrote p.run dir.naming.first dir.naming.buckets x vs us known own dir.alone words c.requires.olds.1 many_old c.requires.news.2 here c.requires.apart.0 chains listed_old saw_old listed saw key dir.fits.0 dir.fits.1 in
     let map_is : (key : ℕ) → directed_map chains d log key ≡ value_in_bucket many us key = λ key. map_after q d o new cell first many before log wrote p.run dir.naming.first dir.naming.buckets x vs us known own dir.alone words c.requires.olds.1 many_old c.requires.news.2 here c.requires.apart.0 chains listed_old saw_old listed saw key c.requires.news.0 c.requires.news.1 in
-    subst (Grows q tabled chains d (w.seen w0) (w.heard w0) first many entries) (sym s.heard) (record {
-      old = o;
+    subst (Exchanges q tabled chains d (w.seen w0) (w.heard w0) o first many entries) (sym s.heard) (record {
       new = new;
       cell = cell;
-      before = before;
-      wrote = wrote;
-      after = p.after.after_caller;
-      run = p.run;
-      map = λ key. map_is key ∙ (c.requires.same key ∙ (by_old key ∙ sym (map_was key)));
+      leaves = record {
+        writes = record { before = before; wrote = wrote; after = p.after.after_caller; run = p.run };
+        map = λ key. map_is key ∙ (c.requires.same key ∙ (by_old key ∙ sym (map_was key)));
+      };
+      linked = ap (state_of before).chain (sym own) ∙ (known.0.0 ∙ dir.alone);
       leads = λ key. leads_there log d new first many key (alone_after q d o new cell first many before log wrote p.run dir.naming.first dir.naming.buckets x vs us known own dir.alone words c.requires.olds.1 many_old c.requires.news.2 here c.requires.apart.0) (words_after q d o new cell first many before log wrote p.run);
       had = λ key. map_was key ∙ (sym (by_old key) ∙ had key);
       apart = apart;

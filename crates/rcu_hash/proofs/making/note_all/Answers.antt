@@ -1,13 +1,19 @@
-use Rattle.std.proofs.Common.{◌≡◌, ◌++◌, ℕ, List, [], ◌∷◌, map, refl, sym, ap, ◌∙◌, subst, inl, length, arith}
-use Rattle.std.proofs.lemmas.List.{append-nil, map-append, nil_from_length}
+use Rattle.std.proofs.Common.{◌≡◌, ◌+◌, ◌++◌, ℕ, List, [], ◌∷◌, map, refl, sym, ap, ◌∙◌, subst, inl, length, vec_len, suc, arith}
+use Rattle.std.proofs.lemmas.List.{append-nil, length-map, map-append, nil_from_length}
 use Rattle.std.specs.Vec.Iter.{into_iter_items}
+use Rattle.live_log.specs.declared.event.LiveEvent.TheVariants.{ChainNote}
 use Rattle.live_log.specs.Log.{Log, Begins, chain_note}
+use Rattle.live_log.specs.Tables.{tabled}
 use Rattle.live_log.proofs.Lemmas.{begins_trans}
 use Rattle.live_rule.specs.declared.view.View.{View}
 use Rattle.live_table.specs.Rights.{AreAsKnown}
 use Rattle.rcu_list.proofs.Lemmas.{stays_both}
+use Rattle.rcu_hash.specs.Growing.{NotesAll}
+use Rattle.rcu_hash.specs.Leaving.{Writes}
 use Rattle.rcu_hash.specs.Writers.{Each, HasNoNote, HasNote, IsAlone, IsRunIn, IsSame, Noted, Pairwise}
-use Rattle.rcu_hash.proofs.Held.{each_head, each_last, pair_same, pair_step}
+use Rattle.rcu_hash.proofs.Emptying.{writes_weaker}
+use Rattle.rcu_hash.proofs.Filling.{from_behind, notes_more}
+use Rattle.rcu_hash.proofs.Held.{each_head, each_last, pair_from, pair_same, pair_step}
 use Rattle.rcu_hash.proofs.making.note_all.Goals as goal
 
 pub loop-init : goal.loop-init
@@ -18,6 +24,7 @@ loop-init g c =
       wait = rw same c.requires.chains;
       same = rw (same, none) (pair_same (map (λ x. x.seat.me.0) c.args.chains.items));
       noted = rw none (tt, tt);
+      notes = λ start from. ([], refl);
       runs = rw none tt;
       heard = ([], refl);
       told = (((refl, refl, refl, λ h. h), refl), refl);
@@ -56,6 +63,20 @@ loop-preserved g c =
         })),
         subst (Each IsAlone) (sym views) (each_last IsAlone (map (λ x. x.seat.me.0) had) one.seat.me.0 i.noted.1 (e.note.2 ∙ alone.0)),
       );
+      notes = λ start from.
+          let behind = subst (λ xs. Pairwise IsSame (map (λ x. x.seat.me.0) c.args.chains.items) (map (λ x. x.seat.me.0) had ++ map (λ x. x.seat.me.0) xs)) first i.same in
+          let place : length (map (λ x. x.seat.me.0) had) ≡ c.loop.counter = length-map had (λ x. x.seat.me.0) ∙ (sym c.loop.noted.ok.0 ∙ i.room.0) in
+          let number : chain.number ≡ start + c.loop.counter = sym chain.owns.2 ∙ (from_behind start (map (λ x. x.seat.me.0) had) (map (λ x. x.seat.me.0) rest) chain.seat.me.0
+          (pair_from start (map (λ x. x.seat.me.0) c.args.chains.items) (map (λ x. x.seat.me.0) had ++ chain.seat.me.0 ∷ map (λ x. x.seat.me.0) rest) behind from) ∙ ap (λ (k : ℕ). start + k) place) in
+          let next : suc c.loop.counter ≡ c.loop.counter + 1 = omega arith in
+          subst (λ (k : ℕ). NotesAll (Writes g.P.GracePlan.QSBR tabled (w.seen w0)) c.args.note start k (w.heard w0) (w.heard w2)) next
+          (subst (NotesAll (Writes g.P.GracePlan.QSBR tabled (w.seen w0)) c.args.note start (suc c.loop.counter) (w.heard w0)) (sym e.heard)
+          (notes_more (Writes g.P.GracePlan.QSBR tabled (w.seen w0)) (writes_weaker g.P.GracePlan.QSBR tabled (w.seen w0)) c.args.note start c.loop.counter (w.heard w0) (w.heard w1) last (i.notes start from) (record {
+            before = before;
+            wrote = e.noted.wrote ∙ ap (λ (k : ℕ). ChainNote k c.args.note ∷ before) number;
+            after = (subst (λ (l : Log). Begins l before) i.told.0.0.0 e.noted.after.after_caller.0, heard);
+            run = e.noted.run;
+          })));
       runs = subst (Each (IsRunIn g.P.GracePlan.QSBR)) (sym views) (each_last (IsRunIn g.P.GracePlan.QSBR) (map (λ x. x.seat.me.0) had) one.seat.me.0 i.runs e.noted.run);
       heard = begins_trans (w.heard w0) (w.heard w1) (w.heard w2) i.heard (subst (Begins (w.heard w1)) (sym e.heard) (begins_trans (w.heard w1) before last heard goes));
       told = ((stays_both w w0 w1 w2 i.told.0.0 e.same.0.0, e.same.0.1 ∙ i.told.0.1), e.same.1 ∙ i.told.1);
@@ -69,3 +90,9 @@ returns-clause-noted g c =
       i.noted.0,
       i.noted.1,
     )
+
+pub returns-clause-told : goal.returns-clause-told
+returns-clause-told g c start from =
+    let w = g.W.Witness in let w0 = c.args.witness.now in let w1 = c.loop.witness in let i = c.loop.invariant in
+    let all : c.loop.counter ≡ vec_len c.args.chains = let end = c.loop-test.false in let most = c.loop.auto.counter-end in let many = c.len-many.ensures in omega arith in
+    subst (λ (k : ℕ). NotesAll (Writes g.P.GracePlan.QSBR tabled (w.seen w0)) c.args.note start k (w.heard w0) (w.heard w1)) all (i.notes start from)

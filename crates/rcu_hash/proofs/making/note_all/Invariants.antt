@@ -1,8 +1,11 @@
-use Rattle.std.proofs.Common.{◌≡◌, ◌≤◌, ◌+◌, ◌++◌, map, vec_len, vec_capacity}
+use Rattle.std.proofs.Common.{◌≡◌, ◌≤◌, ◌+◌, ◌++◌, ℕ, map, vec_len, vec_capacity}
 use Rattle.std.specs.Vec.Iter.{into_iter_items, into_iter_len}
 use Rattle.live_log.specs.Log.{Begins}
+use Rattle.live_log.specs.Tables.{tabled}
 use Rattle.live_read.specs.Hearing.{OnlyHears}
-use Rattle.rcu_hash.specs.Writers.{Each, HasNoNote, IsAlone, IsRunIn, IsSame, Noted, Pairwise}
+use Rattle.rcu_hash.specs.Growing.{NotesAll}
+use Rattle.rcu_hash.specs.Leaving.{Writes}
+use Rattle.rcu_hash.specs.Writers.{AreFrom, Each, HasNoNote, IsAlone, IsRunIn, IsSame, Noted, Pairwise}
 use Rattle.rcu_hash.proofs.making.note_all.Given as goal
 
 abbrev pub invariant-loop : goal.invariant-loop
@@ -12,6 +15,7 @@ invariant-loop g l = record {
   wait : Each HasNoNote (map (λ c. c.seat.me.0) (into_iter_items l.rest)) × Each IsAlone (map (λ c. c.seat.me.0) (into_iter_items l.rest));
   same : Pairwise IsSame (map (λ c. c.seat.me.0) l.fn.chains.items) (map (λ c. c.seat.me.0) l.noted.items ++ map (λ c. c.seat.me.0) (into_iter_items l.rest));
   noted : Each (Noted (g.W.Witness.heard l.fn.witness) l.note) (map (λ c. c.seat.me.0) l.noted.items) × Each IsAlone (map (λ c. c.seat.me.0) l.noted.items);
+  notes : (first : ℕ) → AreFrom first (map (λ c. c.seat.me.0) l.fn.chains.items) → NotesAll (Writes g.P.GracePlan.QSBR tabled (g.W.Witness.seen l.fn.witness)) l.note first l.counter (g.W.Witness.heard l.fn.witness) (g.W.Witness.heard l.witness);
   runs : Each (IsRunIn g.P.GracePlan.QSBR) (map (λ c. c.seat.me.0) l.noted.items);
   heard : Begins (g.W.Witness.heard l.fn.witness) (g.W.Witness.heard l.witness);
   told : OnlyHears g.W.Witness l.fn.witness l.witness;

@@ -106,13 +106,12 @@ returns-clause-removed g c =
     if_ok c.cut_retire-answer.result _ _ _ (λ t r z.
     let here : f.object ≡ r.object = some_is f.object r.object (sym f.at ∙ (ap (λ (x : List ObjectId). slice_get x index) (sym list_is) ∙ r.was)) in
     let key_is : key_of (note_of known r.object) ≡ key = ap (λ (o : ObjectId). key_of (note_of known o)) (sym here) ∙ (ap key_of (sym (note_walked q tabled maps one.number one.seat.me two.seat.me l.1 one.owns.1 one.owns.2 f.object (index_has (list_in one.seat.me.0) index f.object f.at))) ∙ f.begins) in
-    let came = cut_map q tabled maps one.number known seen heard three.seat.me.0 four.seat.me.0 (three.owns.2 ∙ number) (four.owns.2 ∙ (z.1 ∙ number)) four.owns.1
+    let came = cut_map q tabled maps one.number known seen heard three.seat.me.0 four.seat.me.0 (three.owns.2 ∙ number) three.owns.0
     (chain_known one.seat.me.0 one.number one.owns.1 one.owns.2 ∙ sym list_is) (w.seen w1) (w.heard w1) [] key r.object (index_has (list_in three.seat.me.0) index r.object r.was) key_is r.published (
       begins_trans known s r.published.before (begins_trans known two.seat.me.0.seen s l.1.2.0 e.later.0) r.published.after.after_writer.0,
       subst (λ (x : Log). Begins x r.published.before) h.same.0.0.0.0 r.published.after.after_caller.0,
       begins_trans heard (w.heard w1) r.published.before h.told.0.after_heard r.published.after.after_caller.1,
-    )
-    r.left in
+    ) in
     let into = table_removes q tabled n.first n.buckets known seen heard seen heard (λ x y v. (y, v)) key log r.object (subst (λ (x : ℕ). list.Removes q tabled x known seen heard key r.object log) bucket came) in
     let through = removes_through chains n.first n.buckets d.fits.0 d.fits.1 q n.directory n.object s new k.later.1 was is e.words seen heard key log
     (λ x y step. subst (Begins s) (ap rest (sym r.published.wrote ∙ step)) r.published.after.after_writer.0) k.later.0 r.object into in (

@@ -109,14 +109,13 @@ returns-in-Ok-answer-clause-replaced g c =
     let here : f.object ≡ r.object = some_is f.object r.object (sym f.at ∙ (ap (λ (x : ChainRight). slice_get x.objects index) (sym own) ∙ r.was)) in
     let at : In (list_in one.seat.me.0) r.object = index_has (list_in one.seat.me.0) index r.object (ap (λ (x : List ObjectId). slice_get x index) (sym list_is) ∙ r.was) in
     let key_is : key_of (note_of known r.object) ≡ key = sym (ap key_of (note_walked q tabled maps one.number one.seat.me two.seat.me l.1 one.owns.1 one.owns.2 r.object at)) ∙ (ap (λ (o : ObjectId). key_of (note_of two.seat.me.0.seen o)) (sym here) ∙ f.begins) in
-    let came = replaced_map q tabled maps one.number known seen heard three.seat.me.0 four.seat.me.0 (three.owns.2 ∙ number) (four.owns.2 ∙ (z.1 ∙ number)) four.owns.1
+    let came = replaced_map q tabled maps one.number known seen heard three.seat.me.0 four.seat.me.0 (three.owns.2 ∙ number) three.owns.0
     (chain_known one.seat.me.0 one.number one.owns.1 one.owns.2 ∙ sym list_is) (w.seen w2) (w.heard w2) owned.seat.me.0.seen key r.object (index_has (list_in three.seat.me.0) index r.object r.was) key_is
     owned.seat.me.0 value ready.rank ready.words r.published (
       begins_trans known s before (begins_trans known two.seat.me.0.seen s l.1.2.0 e.later.0) r.published.after.after_writer.0,
       subst (λ (x : Log). Begins x before) (p.same.0.0 ∙ h.same.0.0.0.0) r.published.after.after_caller.0,
       begins_trans heard (w.heard w1) before h.told.0.after_heard (begins_trans (w.heard w1) (w.heard w2) before p.heard.after_heard r.published.after.after_caller.1),
-    )
-    r.left in
+    ) in
     let into = table_replaces q tabled n.first n.buckets known seen heard seen heard (λ x y v. (y, v)) key log value r.object (subst (λ (x : ℕ). list.Replaces q tabled x known seen heard key value r.object log) bucket came) in
     let through = replaces_through chains n.first n.buckets d.fits.0 d.fits.1 q n.directory n.object s new k.later.1 was is e.words seen heard key log
     (λ x y step. subst (Begins s) (ap rest (sym r.published.wrote ∙ step)) r.published.after.after_writer.0) k.later.0 value r.object into in (

@@ -51,7 +51,7 @@ loop-preserved g c =
     let first = c.args.jobs.now.items in let jobs = c.loop.jobs.items in let left = c.retire_all.new.jobs.items in
     let uses = subst (λ (seen : Log). Uses q tabled sizes d seen jobs left (w.heard w1) (w.heard w2)) i.same.0.0 e.uses in
     let clears = subst (λ (seen : Log). ClearsNote q tabled sizes d seen (w.heard w2) (w.heard w3)) (e.same.0.0 ∙ i.same.0.0) b.cleared in
-    let goes = let l = b.cleared.leaves in begins_trans (w.heard w2) l.before (w.heard w3) l.after.1 (_ ∷ [], l.wrote) in record {
+    let goes = let l = b.cleared.leaves.writes in begins_trans (w.heard w2) l.before (w.heard w3) l.after.1 (_ ∷ [], l.wrote) in record {
       left = let fewer = c.in-Some.ensures.len in let was = i.left in omega arith;
       uses = uses_both q tabled sizes d (w.seen w0) first left left (w.heard w0) (w.heard w2) (w.heard w3)
           (uses_both q tabled sizes d (w.seen w0) first jobs left (w.heard w0) (w.heard w1) (w.heard w2) i.uses uses)

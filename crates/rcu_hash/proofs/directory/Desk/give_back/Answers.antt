@@ -60,10 +60,7 @@ returns-clause-cleared g c =
     (subst (λ (m : Naming). ClearsNote q tabled sizes m.directory (w.seen w0) (w.heard w0) log) named (record {
       chain = c1;
       leaves = record {
-        before = before;
-        wrote = k.wrote;
-        after = k.after.after_caller;
-        run = k.run;
+        writes = record { before = before; wrote = k.wrote; after = k.after.after_caller; run = k.run };
         map = map_left q sizes.chains n.first n.buckets n.directory c1 n.object (ChainNote c1 0) before log d.fits.0 d.fits.1 k.wrote k.run there words (λ i other. refl) (λ is. apart (is ∙ sym three.owns.2)) outside;
       };
     }))

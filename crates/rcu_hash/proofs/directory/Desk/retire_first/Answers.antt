@@ -79,10 +79,7 @@ returns-clause-retired g c =
         ticket = t.0;
         published = log;
         leaves = record {
-          before = before;
-          wrote = wrote;
-          after = r.published.after.after_caller;
-          run = r.published.run;
+          writes = record { before = before; wrote = wrote; after = r.published.after.after_caller; run = r.published.run };
           map = map_left q sizes.chains n.first n.buckets n.directory c1 n.object (Object (Cut c1 r.object)) before log d.fits.0 d.fits.1 wrote r.published.run there words
               (λ k other. at_number_other c1 k (without_object r.object ((state_of before).chain c1)) (state_of before).chain other) (λ is. apart (is ∙ sym number)) outside;
         };

@@ -5,7 +5,7 @@ use Rattle.live_log.specs.Tables.{tabled}
 use Rattle.live_log.proofs.Lemmas.{begins_trans}
 use Rattle.rcu_hash.specs.Copies.{value_in_bucket}
 use Rattle.rcu_hash.specs.Growing.{Grows}
-use Rattle.rcu_hash.proofs.Regrown.{grows_since}
+use Rattle.rcu_hash.proofs.Regrown.{grows_go, grows_since}
 use Rattle.rcu_hash.proofs.table.RcuHash.grow.Goals as goal
 
 pub commit-rest-requires-clause-copied : goal.commit-rest-requires-clause-copied
@@ -22,12 +22,13 @@ returns-clause-grown g c =
       entries,
       subst (λ (d : ℕ). Grows q tabled chains d (w.seen w0) (w.heard w0) first c.args.buckets entries log) directory
           (subst (λ (k : ℕ). Grows q tabled chains c.deref_mut-2.result.now.naming.directory (w.seen w0) (w.heard w0) first k entries log) e.chains.0
-          (grows_since q tabled chains c.deref_mut-2.result.now.naming.directory (w.seen w0) (w.heard w0) (w.seen w1) (w.heard w1) first (vec_len growth.chains) entries log e.same.0 e.heard c.commit-rest.ensures.grown)),
+          (grows_since q tabled chains c.deref_mut-2.result.now.naming.directory first (vec_len growth.chains) entries log (w.seen w0) (w.heard w0) (w.seen w1) (w.heard w1) e.same.0 e.heard c.commit-rest.ensures.grown)),
       ap (λ (n : ℕ). n + 1) (c.len-left.ensures ∙ (growth.copied.ok.0 ∙ sym (length-map growth.copied.items (λ y. (y.key, y.value))))),
       search rules,
     )
 
 pub returns-clause-heard : goal.returns-clause-heard
 returns-clause-heard g c =
-    let w = g.W.Witness in let w0 = c.args.witness.now in let w1 = c.ready.new.witness in let log : Log = w.heard c.commit-rest.new.witness in let m = c.commit-rest.ensures.grown in
-    begins_trans (w.heard w0) (w.heard w1) log c.ready.ensures.heard (begins_trans (w.heard w1) m.before log m.after.1 (_ ∷ [], m.wrote))
+    let w = g.W.Witness in let w0 = c.args.witness.now in let w1 = c.ready.new.witness in let log : Log = w.heard c.commit-rest.new.witness in let growth = c.in_ok-growth.growth in
+    let entries : List (ℕ × ℕ) = map (λ y. (y.key, y.value)) growth.copied.items in
+    begins_trans (w.heard w0) (w.heard w1) log c.ready.ensures.heard (grows_go g.P.GracePlan.QSBR tabled g.B.Site.sizes.chains c.deref_mut-2.result.now.naming.directory c.args.first (vec_len growth.chains) entries log (w.seen w1) (w.heard w1) c.commit-rest.ensures.grown)

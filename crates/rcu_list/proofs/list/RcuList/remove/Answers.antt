@@ -38,11 +38,10 @@ returns-clause-removed g c =
     let here : f.object ≡ r.object = some_is f.object r.object (sym f.at ∙ (ap (λ (l : List ObjectId). slice_get l c.in-Some.index) (sym list) ∙ r.was)) in
     let key_is : key_of (note_of known r.object) ≡ c.args.key = ap (λ (o : ObjectId). key_of (note_of known o)) (sym here) ∙ (ap key_of (sym (note_walked qsbr g.K.ChainRule.allows (g.met.K.MapRule.maps g.P.GracePlan.QSBR) old.number old.seat.me mid.seat.me e.walked.1 old.owns.1 old.owns.2 f.object (index_has (list_in old.seat.me.0) c.in-Some.index f.object f.at))) ∙ f.begins) in (
       r.object,
-      cut_map qsbr g.K.ChainRule.allows (g.met.K.MapRule.maps g.P.GracePlan.QSBR) old.number known (g.W.Witness.seen c.args.witness.now) (g.W.Witness.heard c.args.witness.now) mid.seat.me.0 done.seat.me.0 (mid.owns.2 ∙ e.walked.2) (done.owns.2 ∙ (s.1 ∙ e.walked.2)) done.owns.1
+      cut_map qsbr g.K.ChainRule.allows (g.met.K.MapRule.maps g.P.GracePlan.QSBR) old.number known (g.W.Witness.seen c.args.witness.now) (g.W.Witness.heard c.args.witness.now) mid.seat.me.0 done.seat.me.0 (mid.owns.2 ∙ e.walked.2) mid.owns.0
           (chain_known old.seat.me.0 old.number old.owns.1 old.owns.2 ∙ sym list)
           (g.W.Witness.seen c.args.witness.now) (g.W.Witness.heard c.args.witness.now) [] c.args.key r.object (index_has (list_in mid.seat.me.0) c.in-Some.index r.object r.was) key_is r.published
-          (begins_trans known mid.seat.me.0.seen r.published.before e.walked.1.2.0 r.published.after.after_writer.0, r.published.after.after_caller.0, r.published.after.after_caller.1)
-          r.left,
+          (begins_trans known mid.seat.me.0.seen r.published.before e.walked.1.2.0 r.published.after.after_writer.0, r.published.after.after_caller.0, r.published.after.after_caller.1),
       record { given = r.given; turn = r.turn; queued = subst (λ (n : ℕ). Queues qsbr g.K.ChainRule.allows (Begins done.seat.me.0.seen) r.object (n % g.B.Site.sizes.queues) r.given (g.W.Witness.heard c.cut_retire.new.witness)) e.walked.2 r.queued },
     ))
     c.cut_retire.ensures.retired c.cut_retire.ensures.same

@@ -40,15 +40,14 @@ returns-in-Ok-replace_retire-clause-replaced g c =
     let one : ready.found.object ≡ r.object = some_is ready.found.object r.object (sym ready.found.at ∙ r.was) in
     let key_is : key_of (note_of known r.object) ≡ c.args.key = sym (ap key_of (note_walked qsbr allows maps old.number old.seat.me new.seat.me a.looked.1 old.owns.1 old.owns.2 r.object (index_has (list_in old.seat.me.0) index r.object (ap (λ (l : List ObjectId). slice_get l index) (sym list) ∙ r.was)))) ∙ (ap (λ (p : ObjectId). key_of (note_of new.seat.me.0.seen p)) (sym one) ∙ ready.found.begins) in (
       r.object,
-      replaced_map qsbr allows maps old.number known (g.W.Witness.seen c.args.witness.now) (g.W.Witness.heard c.args.witness.now) new.seat.me.0 done.seat.me.0 (new.owns.2 ∙ number) (done.owns.2 ∙ (s.1 ∙ number)) done.owns.1
+      replaced_map qsbr allows maps old.number known (g.W.Witness.seen c.args.witness.now) (g.W.Witness.heard c.args.witness.now) new.seat.me.0 done.seat.me.0 (new.owns.2 ∙ number) new.owns.0
           (chain_known old.seat.me.0 old.number old.owns.1 old.owns.2 ∙ sym list)
           (g.W.Witness.seen c.prepare_replacement.new.witness) (g.W.Witness.heard c.prepare_replacement.new.witness) owned.seat.me.0.seen c.args.key r.object (index_has (list_in new.seat.me.0) index r.object r.was) key_is
           owned.seat.me.0 c.args.value ready.rank ready.words r.published (
             begins_trans known new.seat.me.0.seen before a.looked.1.2.0 r.published.after.after_writer.0,
             subst (λ (l : Log). Begins l before) a.same.0.0 r.published.after.after_caller.0,
             begins_trans (g.W.Witness.heard c.args.witness.now) (g.W.Witness.heard c.prepare_replacement.new.witness) before a.heard.after_heard r.published.after.after_caller.1,
-          )
-          r.left,
+          ),
       record { given = r.given; turn = r.turn; queued = subst (λ (n : ℕ). Queues qsbr allows (Begins done.seat.me.0.seen) r.object (n % g.B.Site.sizes.queues) r.given (g.W.Witness.heard c.replace_retire.new.witness)) number r.queued },
     )
 
