@@ -110,7 +110,7 @@ module _ (qsbr : Bool) where
     pub directed_there : (log : Log) → AreAsKnown log v.chains → (state_of log).chain d ≡ o ∷ []
     directed_there log known = lent_is log v.chains y x o d is known alone lent
 
-    noted_there : (log : Log) → AreAsKnown log v.chains → chain_note c log ≡ d + 1
+    pub noted_there : (log : Log) → AreAsKnown log v.chains → chain_note c log ≡ d + 1
     noted_there log known = (subst (AreAsKnown log) own known).0.1 ∙ noted
 
     -- the directory's chain has another note
@@ -172,17 +172,17 @@ queued_later qsbr allows at o queue given known log r b =
     begins_trans known r.within log (begins_trans known (Object (Retire o) ∷ r.before) r.within (begins_trans known r.before (Object (Retire o) ∷ r.before) b (Object (Retire o) ∷ [], refl)) r.retired) (Object (Queue o queue) ∷ [], r.wrote)
 
 module _ (qsbr : Bool) (allows : Log → LiveEvent → Type 0) where
-  pub writes_weaker : (seen known heard : Log) (e : LiveEvent) (log : Log) → Begins known heard → Writes qsbr allows seen heard e log → Writes qsbr allows seen known e log
+  abbrev pub writes_weaker : (seen known heard : Log) (e : LiveEvent) (log : Log) → Begins known heard → Writes qsbr allows seen heard e log → Writes qsbr allows seen known e log
   writes_weaker seen known heard e log b w = record { before = w.before; wrote = w.wrote; after = (w.after.0, begins_trans known heard w.before b w.after.1); run = w.run }
 
-  pub leaves_weaker : (chains d : ℕ) (seen known heard : Log) (e : LiveEvent) (log : Log) → Begins known heard → LeavesMap qsbr allows chains d seen heard e log → LeavesMap qsbr allows chains d seen known e log
+  abbrev pub leaves_weaker : (chains d : ℕ) (seen known heard : Log) (e : LiveEvent) (log : Log) → Begins known heard → LeavesMap qsbr allows chains d seen heard e log → LeavesMap qsbr allows chains d seen known e log
   leaves_weaker chains d seen known heard e log b l = let w = l.writes in record { writes = record { before = w.before; wrote = w.wrote; after = (w.after.0, begins_trans known heard w.before b w.after.1); run = w.run }; map = l.map }
 
 module _ (qsbr : Bool) (allows : Log → LiveEvent → Type 0) (sizes : Sizes) (d : ℕ) (seen : Log) where
   does_weaker : (known heard log : Log) (k : Kind) → Begins known heard → Does qsbr allows sizes d seen heard k log → Does qsbr allows sizes d seen known k log
-  does_weaker known heard log Cuts b r = record { chain = r.chain; object = r.object; ticket = r.ticket; published = r.published; leaves = leaves_weaker qsbr allows sizes.chains d seen known heard (Object (Cut r.chain r.object)) r.published b r.leaves; hands = r.hands }
+  does_weaker known heard log Cuts b r = record { chain = r.chain; object = r.object; ticket = r.ticket; published = r.published; leaves = leaves_weaker qsbr allows sizes.chains d seen known heard (Object (Cut r.chain r.object)) r.published b r.leaves; noted = r.noted; hands = r.hands }
   does_weaker known heard log Retires b r = record { chain = r.chain; object = r.object; given = r.given; queued = let q = r.queued in record { before = q.before; at = (q.at.0, begins_trans known heard q.before b q.at.1); within = q.within; retired = q.retired; wrote = q.wrote; last = q.last; run = q.run } }
-  does_weaker known heard log Clears b r = record { chain = r.chain; leaves = leaves_weaker qsbr allows sizes.chains d seen known heard (ChainNote r.chain 0) log b r.leaves }
+  does_weaker known heard log Clears b r = record { chain = r.chain; leaves = leaves_weaker qsbr allows sizes.chains d seen known heard (ChainNote r.chain 0) log b r.leaves; noted = r.noted }
 
   follow_weaker : (known heard log : Log) (ss : List (Kind × Log)) → Begins known heard → Follow qsbr allows sizes d seen heard ss log → Follow qsbr allows sizes d seen known ss log
   follow_weaker known heard log [] b f = begins_trans known heard log b f

@@ -46,6 +46,10 @@ module _ (Tells : Log → LiveEvent → Log → Type 0) (weaker : (known heard :
   copies_more first buckets heard at [] e log c k = (log, key_weaker first buckets heard at e log c k, ([], refl))
   copies_more first buckets heard at (x ∷ xs) e log c k = (c.0, c.1, copies_more first buckets c.0 at xs e log c.2 k)
 
+  pub notes_weaker : (note first many : ℕ) (known heard log : Log) → Begins known heard → NotesAll Tells note first many heard log → NotesAll Tells note first many known log
+  notes_weaker note first zero known heard log b n = begins_trans known heard log b n
+  notes_weaker note first (suc many) known heard log b n = (n.0, weaker known heard (ChainNote first note) n.0 b n.1, n.2)
+
   pub notes_more : (note first many : ℕ) (heard at log : Log) → NotesAll Tells note first many heard at → Tells at (ChainNote (first + many) note) log → NotesAll Tells note first (suc many) heard log
   notes_more note first zero heard at log n t =
       let same : first + zero ≡ first = omega arith in (log, subst (λ (c : ℕ). Tells heard (ChainNote c note) log) same (weaker heard at (ChainNote (first + zero) note) log n t), ([], refl))

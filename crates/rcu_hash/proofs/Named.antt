@@ -145,12 +145,14 @@ module _ (chains first buckets : ℕ) (many : 0 < buckets) (fits : first + bucke
       at_log : (k : ℕ) → directed_map chains d log k ≡ map_of log (bucket_of first buckets k) k
       at_log = directed_between qsbr d o old log new (begins_trans old before log b goes) later run was is words
 
-      changes_through : ChangesThrough qsbr tabled chains d seen heard event key had has log
+      changes_through : ChangesThrough qsbr tabled chains d seen heard (bucket_of first buckets key) event key had has log
       changes_through = record {
         before = before;
         wrote = c.wrote;
         after = c.after;
         run = c.run;
+        leads = leads_there before d o first buckets key (alone_between qsbr d o old before new b (begins_trans before log new goes later) run was is words)
+            (ap (λ (x : ℕ × List ℕ). x.1) (note qsbr d o old before new b (begins_trans before log new goes later) run was is words) ∙ words);
         was = at_before key ∙ c.was;
         map = λ k. at_log k ∙ (c.map k ∙ changed_same key has (table_of first buckets before) (directed_map chains d before) k (sym (at_before k)));
       }

@@ -1,11 +1,20 @@
 -- What the keys of buckets tell that are taken one after the other.
-use Rattle.std.proofs.Common.{◌≡◌, ◌≢◌, ℕ, zero, suc, ◌%◌, ◌==◌, Bool, if◌then◌else◌, List, [], ◌∷◌, ◌++◌, length, Option, Some, slice_get, refl, sym, ap, ◌∙◌, append_assoc, eq-eqb, ne_eqb}
+use Rattle.std.proofs.Common.{◌≡◌, ◌≢◌, ◌⊎◌, ℕ, zero, suc, ◌+◌, ◌%◌, ◌<◌, ◌≤◌, ◌==◌, ◌||◌, Bool, true, false, nat_le, if◌then◌else◌, List, [], ◌∷◌, ◌++◌, length, Option, Some, slice_get, refl, sym, ap, ◌∙◌, append_assoc, subst, inl, inr, ⊎_elim, arith, eq-eqb, ne_eqb}
+use Rattle.std.proofs.lemmas.Bool.{cases_lt, le-leb, lt-leb}
 use mathlib.Core.Logic.{dite}
 use native.Mathlib.Decide.{ℕ_discrete}
-use Rattle.live_log.specs.Log.{Log}
+use Rattle.rcu_model.specs.Sets.{In}
+use Rattle.rcu_model.proofs.Lemmas.{in_append, in_left}
+use Rattle.live_log.specs.declared.event.LiveEvent.{LiveEvent}
+use Rattle.live_log.specs.Log.{Log, Begins}
+use Rattle.live_log.proofs.Lemmas.{begins_trans}
+use Rattle.live_rule.specs.Places.{hold_at}
+use Rattle.live_rule.specs.declared.view.Sizes.{Sizes}
 use Rattle.live_rule.specs.declared.view.View.{View}
 use Rattle.live_read.specs.declared.witness.Witness.{Ghosts}
 use Rattle.rcu_hash.specs.Copies.{value_among, value_in_bucket}
+use Rattle.rcu_hash.specs.Refusing.{During, FindsTaken, IsInUse}
+use Rattle.rcu_hash.specs.Tables.{IsAmong, are_apart}
 use Rattle.rcu_hash.specs.Writers.{value_at}
 use Rattle.rcu_hash.proofs.Held.{looks_both}
 
@@ -32,6 +41,51 @@ module _ (buckets number : ℕ) (vs : List View) (es : List (ℕ × ℕ)) (many 
       ∙ ap (λ (x : Option View). value_at x key) (sym (here v (key % buckets) is))))
       (λ other. is_more ∙ (ap (λ (b : Bool). if b then value_at (Some v) key else value_among es key) (ne_eqb (key % buckets) number other)
       ∙ (copied key ∙ ap (λ (x : Option View). value_at x key) (sym (get_other vs v (key % buckets) (λ e. other (e ∙ many)))))))
+
+-- that a chain was taken, in a later part of a call
+pub taken_since : {W : Type 0} (w : Ghosts W) (qsbr : Bool) (allows : Log → LiveEvent → Type 0) (sizes : Sizes) (P Q : ℕ → Type 0) → ((c : ℕ) → P c → Q c) → (old mid new : W) → w.seen mid ≡ w.seen old → Begins (w.heard old) (w.heard mid) → (found : List (ℕ × ℕ)) → w.looks mid ≡ found ++ w.looks old → ((c : ℕ) → P c → ¬ In found (hold_at sizes c, 0)) → FindsTaken w qsbr allows mid new sizes P → FindsTaken w qsbr allows old new sizes Q
+taken_since w qsbr allows sizes P Q on old mid new seen heard found looks fresh t = record {
+  chain = t.chain;
+  one = on t.chain t.one;
+  found = t.found ++ found;
+  looks = looks_both (w.looks old) (w.looks mid) (w.looks new) found t.found looks t.looks;
+  why = ⊎_elim
+      (λ (h : In t.found (hold_at sizes t.chain, 1) × ¬ In t.found (hold_at sizes t.chain, 0)). inl (
+        in_left t.found found (hold_at sizes t.chain, 1) h.0,
+        λ both. ⊎_elim h.1 (fresh t.chain t.one) (in_append t.found found (hold_at sizes t.chain, 0) both),
+      ))
+      (λ (d : During w qsbr allows mid new (IsInUse t.chain)). inr (record {
+        at = d.at;
+        after = record { after_seen = subst (λ (l : Log). Begins l d.at) seen d.after.after_seen; after_heard = begins_trans (w.heard old) (w.heard mid) d.at heard d.after.after_heard; run = d.after.run };
+        before = d.before;
+        so = d.so;
+      }))
+      t.why;
+}
+
+-- what was looked at are the hold words of chains, of which some fact is known
+abbrev pub AreHoldsOf : Sizes → (ℕ → Type 0) → List (ℕ × ℕ) → Type 0
+AreHoldsOf sizes P found = (x : ℕ × ℕ) → In found x → (c : ℕ) × P c × (x.0 ≡ hold_at sizes c)
+
+-- so another chain's is not among them
+pub other_hold : (sizes : Sizes) (P : ℕ → Type 0) (found : List (ℕ × ℕ)) (c word : ℕ) → AreHoldsOf sizes P found → ((k : ℕ) → P k → k ≢ c) → ¬ In found (hold_at sizes c, word)
+other_hold sizes P found c word holds other h =
+    let x = holds (hold_at sizes c, word) h in let place = x.2 in other x.0 x.1 (omega (arith, place))
+
+-- two ranges that are not apart have a chain in common
+pub in_both : (a m b n : ℕ) → 0 < m → 0 < n → are_apart a m b n ≡ false → (c : ℕ) × IsAmong a m c × IsAmong b n c
+in_both a m b n some more apart = by (cases_lt b (a + m)) (cases_lt a (b + n))
+  where
+    never : true ≡ false → (c : ℕ) × IsAmong a m c × IsAmong b n c
+    never e = cc
+
+    by : (b < a + m) ⊎ (a + m ≤ b) → (a < b + n) ⊎ (b + n ≤ a) → (c : ℕ) × IsAmong a m c × IsAmong b n c
+    by (inr le) high = never (sym (λ i. le-leb (a + m) b le i || nat_le (b + n) a) ∙ apart)
+    by (inl low) (inr le) = never (sym (λ i. lt-leb (a + m) b low i || le-leb (b + n) a le i) ∙ apart)
+    by (inl low) (inl high) = ⊎_elim
+        (λ (under : b < a). (a, (omega arith, omega arith), (omega arith, high)))
+        (λ (over : a ≤ b). (b, (over, low), (omega arith, omega arith)))
+        (cases_lt b a)
 
 -- what the looks and loads of one part of a call tell, and of one after the other
 module _ {W : Type 0} (w : Ghosts W) where

@@ -9,7 +9,7 @@ use Rattle.live_log.specs.Tables.{Names}
 use Rattle.rcu_list.specs.Maps.{words_of}
 use Rattle.rcu_hash.specs.Copies.{AreApart, value_among}
 use Rattle.rcu_hash.specs.Directories.{LeadsTo, directed_map}
-use Rattle.rcu_hash.specs.Leaving.{LeavesMap}
+use Rattle.rcu_hash.specs.Leaving.{LeavesMap, Writes}
 use Rattle.rcu_hash.specs.Naming.{words_by}
 use Rattle.rcu_hash.specs.Tables.{bucket_of}
 
@@ -21,7 +21,7 @@ pub record HasLeft (d : ℕ) (log : Log) : Type 0 where
   pub present : (state_of log).chain d ≡ object ∷ []
   pub unnamed : ¬ (Names (note_of log object) chain)
 
--- by what is told of an event, after what was heard of before it, and of the log that ends with it
+-- by what is told of an event: of what was heard of before it, of itself, and of the log that ends with it
 module _ (Tells : Log → LiveEvent → Log → Type 0) (first buckets : ℕ) where
   -- a key got a record with its value, by a push into the chain of its bucket
   pub record CopiesKey (heard : Log) (entry : ℕ × ℕ) (log : Log) : Type 0 where
@@ -39,6 +39,15 @@ module _ (Tells : Log → LiveEvent → Log → Type 0) (first buckets : ℕ) wh
 abbrev pub NotesAll : (Log → LiveEvent → Log → Type 0) → (note first many : ℕ) → Log → Log → Type 0
 NotesAll Tells note first zero heard log = Begins heard log
 NotesAll Tells note first (suc many) heard log = (at : Log) × Tells heard (ChainNote first note) at × NotesAll Tells note (first + 1) many at log
+
+-- Each bucket of a new table got its note, and then its directory came into the directory's chain, all after what the
+-- caller had seen and heard of.
+pub record Founds (qsbr : Bool) (allows : Log → LiveEvent → Type 0) (d : ℕ) (seen heard : Log) (first buckets : ℕ) (log : Log) : Type 0 where
+  pub noted : Log
+  pub object : ObjectId
+  pub cell : ℕ
+  pub notes : NotesAll (Writes qsbr allows seen) (d + 1) first buckets heard noted
+  pub pushed : Writes qsbr allows seen noted (Object (Push d object cell (words_by first buckets))) log
 
 -- by the rule of chains, the chains of the domain, the directory's chain, and what the caller had seen
 module _ (qsbr : Bool) (allows : Log → LiveEvent → Type 0) (chains d : ℕ) (seen : Log) where

@@ -7,17 +7,19 @@ use Rattle.live_log.specs.declared.event.LiveEvent.TheVariants.{Object}
 use Rattle.live_log.specs.declared.event.ObjectEvent.TheVariants.{Push, Replace, Cut}
 use Rattle.live_log.specs.Log.{Log, Begins, IsLiveRun}
 use Rattle.rcu_list.specs.Maps.{words_of}
-use Rattle.rcu_hash.specs.Directories.{directed_map}
+use Rattle.rcu_hash.specs.Directories.{LeadsTo, directed_map}
 
 -- by the rule of chains, the chains of the domain, the directory's chain, and what the caller had seen and heard of
 module _ (qsbr : Bool) (allows : Log → LiveEvent → Type 0) (chains d : ℕ) (seen heard : Log) where
-  -- The event is the last one of the log, and came after all that the caller knew. Before it the key had this value in
-  -- the table's map, or none; after it the key has that, and each other key what it had.
-  pub record ChangesThrough (event : LiveEvent) (key : ℕ) (had has : Option ℕ) (log : Log) : Type 0 where
+  -- The event is the last one of the log, and came after all that the caller knew. Before it the directory led the key to
+  -- the chain, and the key had this value in the table's map, or none; after it the key has that, and each other key what
+  -- it had.
+  pub record ChangesThrough (chain : ℕ) (event : LiveEvent) (key : ℕ) (had has : Option ℕ) (log : Log) : Type 0 where
     pub before : Log
     pub wrote : log ≡ event ∷ before
     pub after : Begins seen before × Begins heard before
     pub run : IsLiveRun qsbr allows log
+    pub leads : LeadsTo d before key chain
     pub was : directed_map chains d before key ≡ had
     pub map : (k : ℕ) → directed_map chains d log k ≡ at_number key has (directed_map chains d before) k
 
@@ -26,7 +28,7 @@ module _ (qsbr : Bool) (allows : Log → LiveEvent → Type 0) (chains d : ℕ) 
     pub object : ObjectId
     pub cell : ℕ
     pub rank : ℕ
-    pub changes : ChangesThrough (Object (Push chain object cell (words_of key value rank))) key None (Some value) log
+    pub changes : ChangesThrough chain (Object (Push chain object cell (words_of key value rank))) key None (Some value) log
 
   -- a key that had a value has this one, by a replacement in the chain
   pub record ReplacesThrough (key value chain : ℕ) (left : ObjectId) (log : Log) : Type 0 where
@@ -34,9 +36,9 @@ module _ (qsbr : Bool) (allows : Log → LiveEvent → Type 0) (chains d : ℕ) 
     pub cell : ℕ
     pub rank : ℕ
     pub had : ℕ
-    pub changes : ChangesThrough (Object (Replace chain left object cell (words_of key value rank))) key (Some had) (Some value) log
+    pub changes : ChangesThrough chain (Object (Replace chain left object cell (words_of key value rank))) key (Some had) (Some value) log
 
   -- a key that had a value has none, by a cut from the chain
   pub record RemovesThrough (key chain : ℕ) (left : ObjectId) (log : Log) : Type 0 where
     pub had : ℕ
-    pub changes : ChangesThrough (Object (Cut chain left)) key (Some had) None log
+    pub changes : ChangesThrough chain (Object (Cut chain left)) key (Some had) None log

@@ -1,9 +1,11 @@
 -- What is known where a call of a table's writer is refused.
-use Rattle.std.specs.Prelude.{◌≡◌, ◌⊎◌, ◌%◌, Bool, ℕ, None, IsSome}
+use Rattle.std.specs.Prelude.{◌≡◌, ◌≢◌, ◌⊎◌, ◌%◌, ◌++◌, [], Bool, ℕ, List, None, IsSome}
 use Rattle.rcu_model.specs.declared.refusal.Refusal.{Refusal}
 use Rattle.rcu_model.specs.declared.refusal.Refusal.TheVariants.{Exists, Missing, PoolFull}
+use Rattle.rcu_model.specs.Sets.{In}
 use Rattle.live_log.specs.declared.event.LiveEvent.{LiveEvent}
-use Rattle.live_log.specs.Log.{Log, Begins}
+use Rattle.live_log.specs.Log.{Log, Begins, chain_note, state_of}
+use Rattle.live_rule.specs.Places.{hold_at}
 use Rattle.live_rule.specs.declared.view.Sizes.{Sizes}
 use Rattle.live_read.specs.Hearing.{IsAfter, OnlyHears}
 use Rattle.live_read.specs.declared.witness.Witness.{Ghosts}
@@ -12,6 +14,10 @@ use Rattle.rcu_list.specs.Maps.{HasLastRank}
 use Rattle.rcu_list.specs.Refusing.{FindsNoRecord, GivesBack}
 use Rattle.rcu_hash.specs.Directories.{LeadsTo, directed_map}
 
+-- the chain links an object, or has a note
+abbrev pub IsInUse : ℕ → Log → Type 0
+IsInUse c log = ((state_of log).chain c ≢ []) ⊎ (chain_note c log ≢ 0)
+
 module _ {W : Type 0} (w : Ghosts W) (qsbr : Bool) (allows : Log → LiveEvent → Type 0) (old new : W) where
   -- it is so of some log of the call: one that comes after all that the caller knew, and that it has heard of at the end
   pub record During (is_so : Log → Type 0) : Type 0 where
@@ -19,6 +25,15 @@ module _ {W : Type 0} (w : Ghosts W) (qsbr : Bool) (allows : Log → LiveEvent �
     pub after : IsAfter qsbr allows (w.seen old) (w.heard old) at
     pub before : Begins at (w.heard new)
     pub so : is_so at
+
+  -- one of these chains had a writer, as its hold word told, which was not taken in the call; or it was in use in some log
+  -- of the call
+  pub record FindsTaken (sizes : Sizes) (is_one : ℕ → Type 0) : Type 0 where
+    pub chain : ℕ
+    pub one : is_one chain
+    pub found : List (ℕ × ℕ)
+    pub looks : w.looks new ≡ found ++ w.looks old
+    pub why : (In found (hold_at sizes chain, 1) × ¬ In found (hold_at sizes chain, 0)) ⊎ During (IsInUse chain)
 
 -- of a table that a directory leads
 module _ {W : Type 0} (w : Ghosts W) (qsbr : Bool) (allows : Log → LiveEvent → Type 0) (sizes : Sizes) (old new : W) (e : Refusal) (d key : ℕ) where

@@ -1,5 +1,5 @@
 -- The map of a table over chains that follow one another.
-use Rattle.std.specs.Prelude.{ℕ, ◌+◌, ◌%◌, ◌&&◌, ◌||◌, Bool, nat_le, nat_lt, Option}
+use Rattle.std.specs.Prelude.{ℕ, ◌<◌, ◌≤◌, ◌+◌, ◌%◌, ◌&&◌, ◌||◌, Bool, nat_le, nat_lt, Option}
 use Rattle.live_log.specs.Log.{Log}
 use Rattle.rcu_list.specs.Maps.{map_of}
 
@@ -14,6 +14,10 @@ fits chains directory first buckets = (nat_lt 0 buckets && nat_le buckets 4096) 
 -- two ranges of chains have none in common
 abbrev pub are_apart : (first buckets other many : ℕ) → Bool
 are_apart first buckets other many = nat_le (first + buckets) other || nat_le (other + many) first
+
+-- it is one of so many chains, from the first one on
+abbrev pub IsAmong : ℕ → ℕ → ℕ → Type 0
+IsAmong first many c = (first ≤ c) × (c < first + many)
 
 -- the map of a table: a key counts in the chain of its own bucket alone
 abbrev pub table_of : ℕ → ℕ → Log → ℕ → Option ℕ

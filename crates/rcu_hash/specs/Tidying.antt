@@ -7,7 +7,7 @@ use Rattle.rcu_model.specs.Sets.{In}
 use Rattle.live_log.specs.declared.event.LiveEvent.{LiveEvent}
 use Rattle.live_log.specs.declared.event.LiveEvent.TheVariants.{ChainNote, Object}
 use Rattle.live_log.specs.declared.event.ObjectEvent.TheVariants.{Cut}
-use Rattle.live_log.specs.Log.{Log, Begins, HaveEnded, closed_of, note_of, seq_of, state_of}
+use Rattle.live_log.specs.Log.{Log, Begins, HaveEnded, chain_note, closed_of, note_of, seq_of, state_of}
 use Rattle.live_log.specs.Tables.{IsDirectory}
 use Rattle.live_rule.specs.declared.view.Sizes.{Sizes}
 use Rattle.live_rule.specs.declared.view.View.{View}
@@ -61,13 +61,14 @@ retired_in (s ∷ ss) = retired_by s.0 + retired_in ss
 module _ (qsbr : Bool) (allows : Log → LiveEvent → Type 0) (sizes : Sizes) (d : ℕ) (seen : Log) where
   -- and by what it had heard of before the step
   module _ (heard : Log) where
-    -- an object left a chain, and was retired after that
+    -- an object left a chain that had the table's note, and was retired after that
     pub record RetiresObject (log : Log) : Type 0 where
       pub chain : ℕ
       pub object : ObjectId
       pub ticket : ℕ
       pub published : Log
       pub leaves : LeavesMap qsbr allows sizes.chains d seen heard (Object (Cut chain object)) published
+      pub noted : chain_note chain leaves.writes.before ≡ d + 1
       pub hands : HandsOver qsbr allows object (chain % sizes.queues) ticket published log
 
     -- the record of an earlier directory was retired
@@ -77,10 +78,11 @@ module _ (qsbr : Bool) (allows : Log → LiveEvent → Type 0) (sizes : Sizes) (
       pub given : ℕ
       pub queued : Queues qsbr allows (λ at. Begins seen at × Begins heard at) object (chain % sizes.queues) given log
 
-    -- a chain has no note any more
+    -- a chain that had the table's note has none any more
     pub record ClearsNote (log : Log) : Type 0 where
       pub chain : ℕ
       pub leaves : LeavesMap qsbr allows sizes.chains d seen heard (ChainNote chain 0) log
+      pub noted : chain_note chain leaves.writes.before ≡ d + 1
 
   abbrev pub Does : Log → Kind → Log → Type 0
   Does heard Cuts log = RetiresObject heard log

@@ -1,15 +1,18 @@
 //! The writer of a table's directory, and its lock.
 
-ghost use Rattle.std.specs.Prelude.{◌≡◌, ◌+◌, ◌<◌, ◌≤◌, ◌∷◌, [], true};
+ghost use Rattle.std.specs.Prelude.{ℕ, ◌≡◌, ◌+◌, ◌<◌, ◌≤◌, ◌∷◌, [], true};
 ghost use Rattle.rcu_model.specs.Sets.{In};
-ghost use Rattle.live_log.specs.Log.{Begins, IsLiveRun, note_of, state_of};
+ghost use Rattle.live_log.specs.Log.{Begins, IsLiveRun, chain_note, note_of, state_of};
 ghost use Rattle.live_log.specs.Tables.{tabled};
 ghost use Rattle.live_rule.specs.Seats.{lent_chains};
 ghost use Rattle.live_table.specs.Rights.{AreAsKnown, own_in};
+ghost use Rattle.live_read.specs.Hearing.{IsAfter, OnlyHears};
 ghost use Rattle.live_write.specs.Chains.{list_in};
 ghost use Rattle.rcu_hash.specs.Naming.{words_by};
+ghost use Rattle.rcu_hash.specs.Tables.{IsAmong};
+ghost use Rattle.rcu_hash.specs.Tidying.{IsLinked};
 
-use domain::{Chain, Deleter, Lent, Site};
+use domain::{Chain, Deleter, Lent, Site, Witness};
 use gp_memb::GracePlan;
 use live_log::Tabled;
 use rcu_model::ObjectId;
@@ -92,6 +95,19 @@ impl<'d, P: GracePlan, B: Site, D: Deleter> LentDirectory<'d, P, B, D> {
     }
 }
 
+impl<'d, P: GracePlan + Drop, B: Site, D: Deleter> Directory<'d, P, B, D> {
+    /// The caller hears of a log in which it is linked, and the chains that it names have its table's note. It never waits.
+    pub(crate) fn hear<W: Witness>(&mut self, witness: &mut W)
+        requires { W.home witness.old ≡ (B.table, B.sizes) }
+        ensures linked { IsLinked self.old.naming.directory self.old.naming.object (W.heard witness.new) }
+        ensures noted { (c : ℕ) → IsAmong self.old.naming.first self.old.naming.buckets c → chain_note c (W.heard witness.new) ≡ self.old.naming.directory + 1 }
+        ensures heard { IsAfter P.QSBR tabled (W.seen witness.old) (W.heard witness.old) (W.heard witness.new) }
+        ensures same { OnlyHears W.Witness witness.old witness.new × (self.new.naming ≡ self.old.naming) }
+    {
+        self.chain.hear(witness);
+    }
+}
+
 /// A directory's writer under its lock; none while another thread has lent it, which holds the lock then.
 #[derive(Drop)]
 pub(crate) struct Desk<'d, P: GracePlan, B: Site, D: Deleter> {
@@ -144,5 +160,18 @@ impl<'d, P: GracePlan + Drop, B: Site, D: Deleter> Desk<'d, P, B, D> {
             }
         }
         unreachable!()
+    }
+
+    /// The caller hears of a log in which the chains that this directory names have its table's note. It waits for the
+    /// directory's lock.
+    pub(crate) fn hear_named<W: Witness, R: Wait>(&self, rt: &R, naming: Naming, witness: &mut W)
+        requires { W.home witness.old ≡ (B.table, B.sizes) }
+        ensures noted { (c : ℕ) → IsAmong naming.first naming.buckets c → chain_note c (W.heard witness.new) ≡ naming.directory + 1 }
+        ensures heard { IsAfter P.QSBR tabled (W.seen witness.old) (W.heard witness.old) (W.heard witness.new) }
+        ensures same { OnlyHears W.Witness witness.old witness.new }
+    {
+        let (mut place, mut directory) = self.take(rt, naming);
+        directory.hear(witness);
+        *place = Some(directory);
     }
 }

@@ -1,6 +1,6 @@
 //! How a table grows while it is read.
 
-ghost use Rattle.std.specs.Prelude.{◌≡◌, ◌⊎◌, ◌+◌, ◌<◌, ◌≤◌, ◌^◌, ◌++◌, [], ℕ, List, None, Some, IfErr, IfOk, length, map, true, vec_capacity, vec_len};
+ghost use Rattle.std.specs.Prelude.{◌≡◌, ◌⊎◌, ◌+◌, ◌<◌, ◌≤◌, ◌^◌, ◌++◌, [], ℕ, List, None, Some, IfErr, IfOk, false, length, map, true, vec_capacity, vec_len};
 ghost use Rattle.std.specs.Sync.RwLock.{write_guard_value};
 ghost use Rattle.rcu_model.specs.declared.refusal.Refusal.TheVariants.{BadConfig, Busy, Memory, PoolFull};
 ghost use Rattle.live_log.specs.Log.{Begins, Log};
@@ -11,7 +11,8 @@ ghost use Rattle.live_write.specs.Searching.{AreTaken, IsUsedUp};
 ghost use Rattle.rcu_hash.specs.Copies.{AreApart, AreRanked, value_among, value_in_bucket};
 ghost use Rattle.rcu_hash.specs.Growing.{Grows, HasLeft};
 ghost use Rattle.rcu_hash.specs.Naming.{words_by};
-ghost use Rattle.rcu_hash.specs.Tables.{are_apart, fits};
+ghost use Rattle.rcu_hash.specs.Refusing.{FindsTaken};
+ghost use Rattle.rcu_hash.specs.Tables.{IsAmong, are_apart, fits};
 ghost use Rattle.rcu_hash.specs.Writers.{AreFrom, Each, HasKeysIn, IsAlone, IsEmpty};
 
 use crate::bucket::Bucket;
@@ -169,7 +170,7 @@ impl<'d, P: GracePlan + Drop, B: Site, D: Deleter> RcuHash<'d, P, B, D> {
     ) -> Result<usize, Refusal>
         requires { W.home witness.old ≡ (B.table, B.sizes) }
         ensures grown { IfOk result (λ left. (entries : List (ℕ × ℕ)) × Grows P.QSBR tabled B.sizes.chains self.now.directory (W.seen witness.old) (W.heard witness.old) first buckets entries (W.heard witness.new) × (left ≡ length entries + 1) × (fits B.sizes.chains self.now.directory first buckets ≡ true)) }
-        ensures refused { IfErr result (λ e. ((e ≡ Busy) × HasLeft self.now.directory (W.heard witness.new) × IsAfter P.QSBR tabled (W.seen witness.old) (W.heard witness.old) (W.heard witness.new)) ⊎ ((e ≡ BadConfig) ⊎ ((fits B.sizes.chains self.now.directory first buckets ≡ true) × ((e ≡ Memory) ⊎ (e ≡ PoolFull))))) }
+        ensures refused { IfErr result (λ e. ((e ≡ Busy) × HasLeft self.now.directory (W.heard witness.new) × IsAfter P.QSBR tabled (W.seen witness.old) (W.heard witness.old) (W.heard witness.new)) ⊎ (((e ≡ BadConfig) × ((fits B.sizes.chains self.now.directory first buckets ≡ false) ⊎ FindsTaken W.Witness P.QSBR tabled witness.old witness.new B.sizes (IsAmong first buckets))) ⊎ ((fits B.sizes.chains self.now.directory first buckets ≡ true) × ((e ≡ Memory) ⊎ (e ≡ PoolFull))))) }
         ensures heard { Begins (W.heard witness.old) (W.heard witness.new) }
         ensures looks { (found : List (ℕ × ℕ)) × (W.looks witness.new ≡ found ++ W.looks witness.old) × IfErr result (λ e. (e ≡ PoolFull) → IsUsedUp B.sizes found ⊎ AreTaken B.sizes found) }
         ensures loads { ((logs : List Log) × (W.loads witness.new ≡ logs ++ W.loads witness.old)) × IfOk result (λ _. W.loads witness.new ≡ W.loads witness.old) }
@@ -182,9 +183,11 @@ impl<'d, P: GracePlan + Drop, B: Site, D: Deleter> RcuHash<'d, P, B, D> {
         }
         let mut shelf = self.own_shelf(rt);
         let old = shelf.naming;
-        if !fits(self.domain.chains(), self.directory, first, buckets)
-            || !are_apart(old, first, buckets)
-        {
+        if !fits(self.domain.chains(), self.directory, first, buckets) {
+            return Err(Refusal::BadConfig);
+        }
+        if !are_apart(old, first, buckets) {
+            self.desk.hear_named(rt, old, witness);
             return Err(Refusal::BadConfig);
         }
         let growth = Growth::ready(rt, alloc, self.domain, &shelf, witness, first, buckets)?;

@@ -1,16 +1,20 @@
 //! How a table takes its chains, and how a directory comes to name them.
 
-ghost use Rattle.std.specs.Prelude.{◌≡◌, ◌⊎◌, ◌+◌, ◌<◌, ◌≤◌, ◌++◌, [], ℕ, List, None, IfErr, IfOk, map, vec_capacity, vec_len};
+ghost use Rattle.std.specs.Prelude.{◌≡◌, ◌⊎◌, ◌+◌, ◌<◌, ◌≤◌, ◌∷◌, ◌++◌, [], ℕ, List, None, IfErr, IfOk, map, vec_capacity, vec_len};
 ghost use Rattle.rcu_model.specs.declared.refusal.Refusal.TheVariants.{BadConfig, Memory};
+ghost use Rattle.live_log.specs.declared.event.LiveEvent.TheVariants.{Object};
+ghost use Rattle.live_log.specs.declared.event.ObjectEvent.TheVariants.{Push};
 ghost use Rattle.live_log.specs.Log.{Begins, IsLiveRun};
 ghost use Rattle.live_log.specs.Tables.{tabled};
+ghost use Rattle.live_rule.specs.Places.{hold_at};
 ghost use Rattle.live_table.specs.Rights.{object_in, payload_in};
 ghost use Rattle.live_read.specs.Hearing.{IsAfter, OnlyHears, Stays};
 ghost use Rattle.rcu_hash.specs.Directories.{LeadsTo, directed_map};
 ghost use Rattle.rcu_hash.specs.Growing.{NotesAll};
 ghost use Rattle.rcu_hash.specs.Leaving.{Writes};
 ghost use Rattle.rcu_hash.specs.Naming.{IsNamedBy, words_by};
-ghost use Rattle.rcu_hash.specs.Tables.{bucket_of};
+ghost use Rattle.rcu_hash.specs.Refusing.{FindsTaken};
+ghost use Rattle.rcu_hash.specs.Tables.{IsAmong, bucket_of};
 ghost use Rattle.rcu_hash.specs.Writers.{AreFrom, Each, HasKeysIn, HasNoNote, HasNote, HasNothing, IsAlone, IsEmpty, IsRunIn, IsSame, Noted, Pairwise};
 
 use crate::bucket::Bucket;
@@ -39,22 +43,24 @@ pub(crate) fn room<T>(alloc: Global, many: usize) -> Result<Vec<T>, Refusal>
 
 /// The writer of a chain that is free, empty and has no note.
 ///
-/// Refused with `BadConfig` where it is not. The caller hears of what was seen. It never waits.
+/// Refused with `BadConfig` exactly where it is not. The caller hears of what was seen. It never waits.
 pub(crate) fn hold_empty<'d, P: GracePlan + Drop, B: Site, D: Deleter, W: Witness>(
     domain: &'d Domain<P, Tabled, B, D>,
     witness: &mut W,
     chain: usize,
 ) -> Result<Chain<'d, P, Tabled, B, D>, Refusal>
     requires { (W.home witness.old ≡ (B.table, B.sizes)) × (chain < B.sizes.chains) }
-    ensures held { IfOk result (λ c. (c.number ≡ chain) × IsEmpty c.seat.me.0 × IsAlone c.seat.me.0 × IsLiveRun P.QSBR tabled c.seat.me.0.seen) }
-    ensures refused { IfErr result (λ e. e ≡ BadConfig) }
-    ensures heard { Begins (W.heard witness.old) (W.heard witness.new) }
+    ensures held { IfOk result (λ c. (c.number ≡ chain) × IsEmpty c.seat.me.0 × IsAlone c.seat.me.0 × IsLiveRun P.QSBR tabled c.seat.me.0.seen × (W.looks witness.new ≡ (hold_at B.sizes chain, 0) ∷ W.looks witness.old)) }
+    ensures refused { IfErr result (λ e. (e ≡ BadConfig) × FindsTaken W.Witness P.QSBR tabled witness.old witness.new B.sizes (λ c. c ≡ chain)) }
+    ensures heard { IsAfter P.QSBR tabled (W.seen witness.old) (W.heard witness.old) (W.heard witness.new) }
     ensures same { Stays W.Witness witness.old witness.new × (W.loads witness.new ≡ W.loads witness.old) × ((found : List (ℕ × ℕ)) × (W.looks witness.new ≡ found ++ W.looks witness.old)) }
 {
-    let Ok(mut writer) = domain.chain(witness, chain) else {
-        return Err(Refusal::BadConfig);
+    let mut writer = match domain.chain(witness, chain) {
+        Ok(writer) => writer,
+        Err(_) => return Err(Refusal::BadConfig),
     };
     if writer.note() != 0 || writer.len() != 0 {
+        writer.hear(witness);
         return Err(Refusal::BadConfig);
     }
     Ok(writer)
@@ -73,7 +79,7 @@ pub(crate) fn hold_all<'d, P: GracePlan + Drop, B: Site, D: Deleter, W: Witness>
     requires home { (W.home witness.old ≡ (B.table, B.sizes)) × (first + many ≤ B.sizes.chains) }
     requires room { (chains.items ≡ []) × (many ≤ vec_capacity chains) }
     ensures held { IfOk result (λ cs. (vec_len cs ≡ many) × AreFrom first (map (λ c. c.seat.me.0) cs.items) × Each IsEmpty (map (λ c. c.seat.me.0) cs.items) × Each IsAlone (map (λ c. c.seat.me.0) cs.items)) }
-    ensures refused { IfErr result (λ e. e ≡ BadConfig) }
+    ensures refused { IfErr result (λ e. (e ≡ BadConfig) × FindsTaken W.Witness P.QSBR tabled witness.old witness.new B.sizes (IsAmong first many)) }
     ensures heard { Begins (W.heard witness.old) (W.heard witness.new) }
     ensures same { Stays W.Witness witness.old witness.new × (W.loads witness.new ≡ W.loads witness.old) × ((found : List (ℕ × ℕ)) × (W.looks witness.new ≡ found ++ W.looks witness.old)) }
 {
@@ -133,6 +139,7 @@ pub(crate) fn direct<'d, P: GracePlan + Drop, B: Site, D: Deleter, W: Witness>(
     ensures directory { result.0.naming ≡ record { directory = chain.entry.number; object = object_in owned.seat.me.0.object; first = first; buckets = vec_len chains.entry } }
     ensures chains { (vec_len result.1 ≡ vec_len chains.entry) × AreFrom first (map (λ c. c.seat.me.0) result.1.items) × Each IsAlone (map (λ c. c.seat.me.0) result.1.items) × Each HasKeysIn (map (λ c. c.seat.me.0) result.1.items) × Each (IsNamedBy chain.entry.number (object_in owned.seat.me.0.object)) (map (λ c. c.seat.me.0) result.1.items) }
     ensures map { (key : ℕ) → (directed_map B.sizes.chains chain.entry.number (W.heard witness.new) key ≡ None) × LeadsTo chain.entry.number (W.heard witness.new) key (bucket_of first (vec_len chains.entry) key) }
+    ensures pushed { (cell : ℕ) × Writes P.QSBR tabled (W.seen witness.old) (W.heard witness.old) (Object (Push chain.entry.number (object_in owned.seat.me.0.object) cell (words_by first (vec_len chains.entry)))) (W.heard witness.new) }
     ensures heard { IsAfter P.QSBR tabled (W.seen witness.old) (W.heard witness.old) (W.heard witness.new) }
     ensures same { OnlyHears W.Witness witness.old witness.new }
 {

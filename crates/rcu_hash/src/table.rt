@@ -1,6 +1,6 @@
 //! A hash table.
 
-ghost use Rattle.std.specs.Prelude.{◌≡◌, ◌⊎◌, ◌+◌, ◌%◌, ◌<◌, ◌++◌, ℕ, List, None, IfErr, IfOk, true};
+ghost use Rattle.std.specs.Prelude.{◌≡◌, ◌⊎◌, ◌+◌, ◌%◌, ◌<◌, ◌++◌, ℕ, List, None, IfErr, IfOk, false, true};
 ghost use Rattle.std.specs.List.{FoldsTo};
 ghost use Rattle.std.specs.Sync.RwLock.{read_guard_value};
 ghost use Rattle.rcu_model.specs.declared.event.ObjectId.{ObjectId};
@@ -13,9 +13,10 @@ ghost use Rattle.live_read.specs.Reads.{Looks};
 ghost use Rattle.live_write.specs.Searching.{AreTaken, IsUsedUp};
 ghost use Rattle.rcu_list.specs.Calls.{HandsOver};
 ghost use Rattle.rcu_hash.specs.Directories.{AnswersThrough, LeadsTo, WalksThrough, directed_map};
+ghost use Rattle.rcu_hash.specs.Growing.{Founds};
 ghost use Rattle.rcu_hash.specs.Publishing.{InsertsThrough, RemovesThrough, ReplacesThrough};
-ghost use Rattle.rcu_hash.specs.Refusing.{RefusesInsertionThrough, RefusesRemovalThrough, RefusesReplacementThrough};
-ghost use Rattle.rcu_hash.specs.Tables.{bucket_of, fits};
+ghost use Rattle.rcu_hash.specs.Refusing.{FindsTaken, RefusesInsertionThrough, RefusesRemovalThrough, RefusesReplacementThrough};
+ghost use Rattle.rcu_hash.specs.Tables.{IsAmong, bucket_of, fits};
 
 use crate::directory::Desk;
 use crate::left::Left;
@@ -81,9 +82,10 @@ impl<'d, P: GracePlan + Drop, B: Site, D: Deleter> RcuHash<'d, P, B, D> {
     ) -> Result<RcuHash<'d, P, B, D>, Refusal>
         requires { W.home witness.old ≡ (B.table, B.sizes) }
         ensures made { IfOk result (λ t. (t.directory ≡ directory) × (fits B.sizes.chains directory first buckets ≡ true)) }
+        ensures founded { IfOk result (λ _. Founds P.QSBR tabled directory (W.seen witness.old) (W.heard witness.old) first buckets (W.heard witness.new)) }
         ensures map { IfOk result (λ _. (key : ℕ) → (directed_map B.sizes.chains directory (W.heard witness.new) key ≡ None) × LeadsTo directory (W.heard witness.new) key (bucket_of first buckets key)) }
         ensures heard { IfOk result (λ _. IsAfter P.QSBR tabled (W.seen witness.old) (W.heard witness.old) (W.heard witness.new)) }
-        ensures refused { IfErr result (λ e. (e ≡ BadConfig) ⊎ ((fits B.sizes.chains directory first buckets ≡ true) × ((e ≡ Memory) ⊎ (e ≡ PoolFull)))) }
+        ensures refused { IfErr result (λ e. ((e ≡ BadConfig) × ((fits B.sizes.chains directory first buckets ≡ false) ⊎ FindsTaken W.Witness P.QSBR tabled witness.old witness.new B.sizes (λ c. (c ≡ directory) ⊎ IsAmong first buckets c))) ⊎ ((fits B.sizes.chains directory first buckets ≡ true) × ((e ≡ Memory) ⊎ (e ≡ PoolFull)))) }
         ensures looks { (found : List (ℕ × ℕ)) × (W.looks witness.new ≡ found ++ W.looks witness.old) × IfErr result (λ e. (e ≡ PoolFull) → IsUsedUp B.sizes found ⊎ AreTaken B.sizes found) }
         ensures same { Stays W.Witness witness.old witness.new × (W.loads witness.new ≡ W.loads witness.old) }
     {

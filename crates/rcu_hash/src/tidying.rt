@@ -93,7 +93,7 @@ impl<'d, P: GracePlan + Drop, B: Site, D: Deleter> Desk<'d, P, B, D> {
         ensures same { OnlyHears W.Witness witness.old witness.new }
     {
         let (mut place, mut present) = self.take_present(rt, directory);
-        present.chain.hear(witness);
+        present.hear(witness);
         let naming = present.naming;
         *place = Some(present);
         naming

@@ -3,6 +3,7 @@ use Rattle.std.proofs.lemmas.List.{length-map}
 use Rattle.std.proofs.lemmas.Nat.{mod_below}
 use Rattle.rcu_model.specs.declared.event.ObjectId.{ObjectId}
 use Rattle.rcu_model.proofs.Lemmas.{at_number_other}
+use Rattle.live_log.specs.declared.event.LiveEvent.{LiveEvent}
 use Rattle.live_log.specs.declared.event.LiveEvent.TheVariants.{Object}
 use Rattle.live_log.specs.declared.event.ObjectEvent.TheVariants.{Push}
 use Rattle.live_log.specs.Log.{Log, Begins, Has, IsLiveRun, chain_note, note_of, state_of}
@@ -13,9 +14,11 @@ use Rattle.live_rule.specs.Seats.{lent_chains}
 use Rattle.live_rule.specs.declared.rights.ChainRight.{ChainRight}
 use Rattle.live_rule.specs.declared.view.View.{View}
 use Rattle.live_table.specs.Rights.{AreAsKnown, cell_in, object_in, own_in, payload_in}
+use Rattle.live_write.specs.Chains.{push_by}
 use Rattle.rcu_list.specs.Maps.{map_of, value_in}
 use Rattle.rcu_list.proofs.Lemmas.{chain_known}
 use Rattle.rcu_hash.specs.Directories.{LeadsTo, directed_map}
+use Rattle.rcu_hash.specs.Leaving.{Writes}
 use Rattle.rcu_hash.specs.Naming.{IsNamedBy, words_by}
 use Rattle.rcu_hash.specs.Tables.{bucket_of}
 use Rattle.rcu_hash.specs.Writers.{AreFrom, Each, HasKeysIn, HasNothing, lengths_of, rights_of}
@@ -141,4 +144,19 @@ returns-clause-chains g c =
       each_map HasNothing HasKeysIn nothing_has_keys ws (each_rights (λ x. x.objects ≡ []) vs ws same c.requires.chains.1),
       subst (λ (x : ObjectId). Each (IsNamedBy d x) ws) p.object
           (all_named d o first n log (λ k v saw low high at. named_by log d o first n k v saw alone words low high at (free k low high)) ws there from t.alone.1),
+    )
+
+pub returns-clause-pushed : goal.returns-clause-pushed
+returns-clause-pushed g c =
+    let q = g.P.GracePlan.QSBR in let w = g.W.Witness in let w0 = c.args.witness.now in let chain = c.args.chain in let two = c.lend_all-lents.new.to in let p = c.push-object.ensures in let owned = c.args.owned.seat.me.0 in
+    let cell = cell_in owned.object in let words = words_by c.args.first (vec_len c.args.chains) in
+    let number : (own_in two.seat.me.0.chains).chain ≡ chain.number = two.owns.2 ∙ c.lend_all-lents.ensures.same.0 in
+    let event : push_by two.seat.me.0 owned ≡ Object (Push chain.number (object_in owned.object) cell words) = λ i. Object (Push (number i) (object_in owned.object) cell (c.requires.record i)) in (
+      cell,
+      subst (Writes q tabled (w.seen w0) (w.heard w0) (Object (Push chain.number (object_in owned.object) cell words))) (sym p.heard) (record {
+        before = p.pushed.before;
+        wrote = p.pushed.wrote ∙ ap (λ (z : LiveEvent). z ∷ p.pushed.before) event;
+        after = p.pushed.after.after_caller;
+        run = p.pushed.run;
+      }),
     )

@@ -1,11 +1,17 @@
-use Rattle.std.proofs.Common.{◌≡◌, ◌++◌, ◌+◌, ℕ, List, [], ◌∷◌, length, map, refl, sym, ap, ◌∙◌, subst, append_assoc, arith}
+use Rattle.std.proofs.Common.{◌≡◌, ◌<◌, ◌⊎◌, ⊎_elim, ◌++◌, ◌+◌, ℕ, List, [], ◌∷◌, length, map, refl, sym, ap, ◌∙◌, subst, append_assoc, arith}
+use Rattle.std.proofs.lemmas.Result.{err_from_is_err_and}
 use Rattle.std.proofs.lemmas.List.{length-append, length-map, map-append}
+use Rattle.rcu_model.specs.Sets.{In}
 use Rattle.live_log.specs.Log.{Begins}
+use Rattle.live_log.specs.Tables.{tabled}
 use Rattle.live_log.proofs.Lemmas.{begins_trans}
+use Rattle.live_rule.specs.Places.{hold_at}
 use Rattle.live_rule.specs.declared.view.View.{View}
 use Rattle.rcu_list.proofs.Lemmas.{stays_both}
+use Rattle.rcu_hash.specs.Tables.{IsAmong}
 use Rattle.rcu_hash.specs.Writers.{AreFrom, Each, IsAlone, IsEmpty}
 use Rattle.rcu_hash.proofs.Held.{each_last, from_last}
+use Rattle.rcu_hash.proofs.Taking.{other_hold, taken_since}
 use Rattle.rcu_hash.proofs.making.hold_all.Goals as goal
 
 pub loop-number-preserved : goal.loop-number-preserved
@@ -20,8 +26,15 @@ loop-number-preserved g c =
       let same' = p.capacity in let was = i.2 in omega arith,
       stays_both w w0 w1 w2 i.3 same.0,
       same.1 ∙ i.4,
-      (same.2.0 ++ i.5.0, same.2.1 ∙ (ap (λ (l : List (ℕ × ℕ)). same.2.0 ++ l) i.5.1 ∙ sym (append_assoc same.2.0 i.5.0 (w.looks w0)))),
-      begins_trans (w.heard w0) (w.heard w1) (w.heard w2) i.6 e.heard,
+      (
+        (hold_at g.B.Site.sizes (first + c.loop-number.number), 0) ∷ i.5.0,
+        e.held.4 ∙ ap (λ (l : List (ℕ × ℕ)). (hold_at g.B.Site.sizes (first + c.loop-number.number), 0) ∷ l) i.5.1,
+        λ x h. ⊎_elim
+            (λ (is : (hold_at g.B.Site.sizes (first + c.loop-number.number), 0) ≡ x). (first + c.loop-number.number, omega arith, ap (λ (y : ℕ × ℕ). y.0) (sym is)))
+            (λ (was : In i.5.0 x). let k = i.5.2 x was in let low = k.1 in (k.0, omega (arith, low), k.2))
+            h,
+      ),
+      begins_trans (w.heard w0) (w.heard w1) (w.heard w2) i.6 e.heard.after_heard,
       subst (AreFrom first) (sym views) (from_last first (map (λ c. c.seat.me.0) had) one.seat.me.0 i.7 (one.owns.2 ∙ (e.held.0 ∙ ap (λ (n : ℕ). first + n) (sym (length-map had (λ c. c.seat.me.0) ∙ i.1))))),
       subst (Each IsEmpty) (sym views) (each_last IsEmpty (map (λ c. c.seat.me.0) had) one.seat.me.0 i.8 e.held.1),
       subst (Each IsAlone) (sym views) (each_last IsAlone (map (λ c. c.seat.me.0) had) one.seat.me.0 i.9 e.held.2),
@@ -29,7 +42,7 @@ loop-number-preserved g c =
 
 pub returns-in_err-hold_empty-clause-heard : goal.returns-in_err-hold_empty-clause-heard
 returns-in_err-hold_empty-clause-heard g c =
-    let w = g.W.Witness in begins_trans (w.heard c.args.witness.now) (w.heard c.loop-number.witness) (w.heard c.hold_empty.new.witness) c.loop-number.invariant.6 c.hold_empty.ensures.heard
+    let w = g.W.Witness in begins_trans (w.heard c.args.witness.now) (w.heard c.loop-number.witness) (w.heard c.hold_empty.new.witness) c.loop-number.invariant.6 c.hold_empty.ensures.heard.after_heard
 
 pub returns-in_err-hold_empty-clause-same : goal.returns-in_err-hold_empty-clause-same
 returns-in_err-hold_empty-clause-same g c =
@@ -38,3 +51,11 @@ returns-in_err-hold_empty-clause-same g c =
       same.1 ∙ i.4,
       (same.2.0 ++ i.5.0, same.2.1 ∙ (ap (λ (l : List (ℕ × ℕ)). same.2.0 ++ l) i.5.1 ∙ sym (append_assoc same.2.0 i.5.0 (w.looks w0)))),
     )
+
+pub returns-in_err-hold_empty-clause-refused : goal.returns-in_err-hold_empty-clause-refused
+returns-in_err-hold_empty-clause-refused g c =
+    let w = g.W.Witness in let w0 = c.args.witness.now in let w1 = c.loop-number.witness in let w2 = c.hold_empty.new.witness in
+    let i = c.loop-number.invariant in let first = c.args.first in let p = err_from_is_err_and c.from_residual.result c.from_residual.ensures.1 in let no = c.in_err-hold_empty.ensures.refused in
+    rw p.1 (p.2 ∙ no.0, taken_since w g.P.GracePlan.QSBR tabled g.B.Site.sizes (λ k. k ≡ first + c.loop-number.number) (IsAmong first c.args.many)
+    (λ k is. let low = c.loop-number-test.true in (omega (arith, is), omega (arith, is))) w0 w1 w2 i.3.0 i.6 i.5.0 i.5.1
+    (λ k is. other_hold g.B.Site.sizes (λ j. j < first + c.loop-number.number) i.5.0 k 0 i.5.2 (λ j low same. absurd (omega (arith, is, low, same)))) no.1)

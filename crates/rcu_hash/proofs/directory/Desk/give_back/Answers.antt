@@ -1,7 +1,7 @@
 use Rattle.std.proofs.Common.{◌≡◌, ◌⊎◌, ℕ, ◌+◌, ◌<◌, ◌≤◌, List, [], ◌∷◌, ap, sym, ◌∙◌, subst, refl}
 use Rattle.rcu_model.specs.Sets.{In}
 use Rattle.live_log.specs.declared.event.LiveEvent.TheVariants.{ChainNote}
-use Rattle.live_log.specs.Log.{Log, IsLiveRun, note_of, state_of}
+use Rattle.live_log.specs.Log.{Log, IsLiveRun, note_of, state_of, chain_note}
 use Rattle.live_log.specs.Tables.{tabled}
 use Rattle.live_log.proofs.Lemmas.{begins_trans, run_of}
 use Rattle.live_rule.specs.declared.rights.ChainRight.{ChainRight}
@@ -9,7 +9,7 @@ use Rattle.live_table.specs.Rights.{own_in}
 use Rattle.rcu_hash.specs.declared.directory.Naming.{Naming}
 use Rattle.rcu_hash.specs.Naming.{words_by}
 use Rattle.rcu_hash.specs.Tidying.{ClearsNote, HasWaited, IsLeft}
-use Rattle.rcu_hash.proofs.Emptying.{apart_there, directed_there, map_left, may_clear_left}
+use Rattle.rcu_hash.proofs.Emptying.{apart_there, directed_there, map_left, may_clear_left, noted_there}
 use Rattle.rcu_hash.proofs.Named.{lent_is, lent_used, used_later, words_later}
 use Rattle.rcu_hash.proofs.directory.Desk.give_back.Goals as goal
 
@@ -63,4 +63,5 @@ returns-clause-cleared g c =
         writes = record { before = before; wrote = k.wrote; after = k.after.after_caller; run = k.run };
         map = map_left q sizes.chains n.first n.buckets n.directory c1 n.object (ChainNote c1 0) before log d.fits.0 d.fits.1 k.wrote k.run there words (λ i other. refl) (λ is. apart (is ∙ sym three.owns.2)) outside;
       };
+      noted = ap (λ (i : ℕ). chain_note i before) (sym three.owns.2) ∙ noted_there q three.seat.me.0 n.directory n.object (own_in one.seat.me.0.chains) (own_in d.chain.seat.me.0.chains) e.chains.0 (d.chain.owns.2 ∙ d.own.0) d.alone three.owns.0 three.owns.1 noted before k.known;
     }))

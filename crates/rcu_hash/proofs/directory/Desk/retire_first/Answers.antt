@@ -4,7 +4,7 @@ use Rattle.rcu_model.specs.Sets.{In, without_object}
 use Rattle.rcu_model.proofs.Lemmas.{at_number_other}
 use Rattle.live_log.specs.declared.event.LiveEvent.TheVariants.{Object}
 use Rattle.live_log.specs.declared.event.ObjectEvent.TheVariants.{Cut}
-use Rattle.live_log.specs.Log.{Log, Begins, IsLiveRun, note_of, state_of}
+use Rattle.live_log.specs.Log.{Log, Begins, IsLiveRun, note_of, state_of, chain_note}
 use Rattle.live_log.specs.Tables.{tabled}
 use Rattle.live_log.proofs.Lemmas.{begins_trans, run_of, tabled_maps}
 use Rattle.live_rule.specs.Seats.{lent_chains}
@@ -17,7 +17,7 @@ use Rattle.rcu_list.proofs.Lemmas.{KnowsKeys, by_result, by_second, if_ok, keys_
 use Rattle.rcu_hash.specs.declared.directory.Naming.{Naming}
 use Rattle.rcu_hash.specs.Naming.{words_by}
 use Rattle.rcu_hash.specs.Tidying.{HasWaited, IsLeft, RetiresObject}
-use Rattle.rcu_hash.proofs.Emptying.{apart_there, directed_there, err_both, listed_once, map_left, may_cut_left, one_fewer, only_finds, queued_later, refused_finds, refused_why}
+use Rattle.rcu_hash.proofs.Emptying.{apart_there, directed_there, err_both, listed_once, map_left, may_cut_left, noted_there, one_fewer, only_finds, queued_later, refused_finds, refused_why}
 use Rattle.rcu_hash.proofs.Named.{lent_is, lent_used, used_later, words_later}
 use Rattle.rcu_hash.proofs.directory.Desk.retire_first.Goals as goal
 
@@ -83,6 +83,7 @@ returns-clause-retired g c =
           map = map_left q sizes.chains n.first n.buckets n.directory c1 n.object (Object (Cut c1 r.object)) before log d.fits.0 d.fits.1 wrote r.published.run there words
               (λ k other. at_number_other c1 k (without_object r.object ((state_of before).chain c1)) (state_of before).chain other) (λ is. apart (is ∙ sym number)) outside;
         };
+        noted = ap (λ (k : ℕ). chain_note k before) (sym number) ∙ noted_there q three.seat.me.0 n.directory n.object (own_in one.seat.me.0.chains) (own_in d.chain.seat.me.0.chains) e.chains.0 (d.chain.owns.2 ∙ d.own.0) d.alone three.owns.0 three.owns.1 noted before r.published.known;
         hands = record { given = r.given; turn = r.turn; queued = subst (λ (x : ℕ). Queues q tabled (Begins log) r.object (x % sizes.queues) r.given (w.heard w2)) e.chains.1 r.queued };
       }),
       ap length (sym same) ∙ (one_fewer (list_in three.seat.me.0) r.object (listed_once q three.seat.me.0 three.owns.1 e.later.2) r.was

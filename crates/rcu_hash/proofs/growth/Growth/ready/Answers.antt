@@ -1,4 +1,4 @@
-use Rattle.std.proofs.Common.{[], ◌++◌, ◌∙◌, refl}
+use Rattle.std.proofs.Common.{[], ◌++◌, ◌∙◌, inl, refl}
 use Rattle.std.proofs.lemmas.Result.{err_from_is_err_and}
 use Rattle.rcu_model.specs.declared.refusal.Refusal.TheVariants.{Memory}
 use Rattle.live_log.proofs.Lemmas.{begins_trans}
@@ -77,3 +77,8 @@ returns-clause-loads g c =
     let w = g.W.Witness in let w0 = c.args.witness.now in let w1 = c.hold_all.new.witness in let w2 = c.copy_all.new.witness in let w3 = c.provide.new.witness in let w4 = c.undo-in-Err-provide.new.witness in
     let a = c.hold_all.ensures.same in let b = c.copy_all.ensures in let p = c.in-Err-provide.ensures in
     ((told_both w w0 w3 w4 (told_both w w0 w2 w3 (told_both w w0 w1 w2 (told_looks w w0 w1 a.2.0 a.2.1 a.1) (told_looks w w1 w2 b.looks.0 b.looks.1 b.same.1)) (told_looks w w2 w3 p.looks.0 p.looks.1 p.same.1)) c.undo-in-Err-provide.ensures.told).1, tt)
+
+pub returns-in_err-chains-clause-refused : goal.returns-in_err-chains-clause-refused
+returns-in_err-chains-clause-refused g c =
+    let p = err_from_is_err_and c.from_residual-in_err-chains.result c.from_residual-in_err-chains.ensures.1 in let no = c.in_err-chains.ensures.refused in
+    rw p.1 (inl (p.2 ∙ no.0, no.1))

@@ -32,3 +32,12 @@ returns-clause-heard g c =
     let w = g.W.Witness in let w0 = c.args.witness.now in let w1 = c.ready.new.witness in let log : Log = w.heard c.commit-rest.new.witness in let growth = c.in_ok-growth.growth in
     let entries : List (ℕ × ℕ) = map (λ y. (y.key, y.value)) growth.copied.items in
     begins_trans (w.heard w0) (w.heard w1) log c.ready.ensures.heard (grows_go g.P.GracePlan.QSBR tabled g.B.Site.sizes.chains c.deref_mut-2.result.now.naming.directory c.args.first (vec_len growth.chains) entries log (w.seen w1) (w.heard w1) c.commit-rest.ensures.grown)
+
+-- a new chain was taken, or is one of the table's own, which have its note
+pub returns-in_err-growth-clause-refused : goal.returns-in_err-growth-clause-refused
+returns-in_err-growth-clause-refused g c =
+    let p = err_from_is_err_and c.from_residual.result c.from_residual.ensures.1 in
+    rw p.1 (inr (⊎_elim (λ taken. inl (p.2 ∙ taken.0, inr taken.1)) (λ rest. inr (search rules, ⊎_elim (λ memory. inl (p.2 ∙ memory)) (λ full. inr (p.2 ∙ full)) rest)) c.in_err-growth.ensures.refused))
+
+pub returns-then-not-are_apart-clause-refused : goal.returns-then-not-are_apart-clause-refused
+returns-then-not-are_apart-clause-refused g c = ?

@@ -1,13 +1,24 @@
-use Rattle.std.proofs.Common.{◌≡◌, ◌⊎◌, ◌+◌, ◌++◌, ℕ, List, [], None, map, refl, sym, ap, ◌∙◌, subst, append_assoc}
+use Rattle.std.proofs.Common.{rules, ◌≡◌, ◌⊎◌, ◌+◌, ◌<◌, ◌≤◌, ◌++◌, ℕ, List, [], ◌∷◌, None, inl, inr, ⊎_elim, arith, vec_len, map, refl, sym, ap, ◌∙◌, subst, append_assoc}
 use Rattle.std.proofs.lemmas.Result.{err_from_is_err_and}
 use Rattle.rcu_model.specs.declared.refusal.Refusal.TheVariants.{BadConfig, Memory, PoolFull}
+use Rattle.live_log.specs.declared.event.LiveEvent.TheVariants.{Object}
+use Rattle.live_log.specs.declared.event.ObjectEvent.TheVariants.{Push}
 use Rattle.live_log.specs.Log.{Log, Begins}
+use Rattle.live_log.specs.Tables.{tabled}
 use Rattle.live_log.proofs.Lemmas.{begins_trans}
+use Rattle.live_rule.specs.Places.{hold_at}
+use Rattle.live_table.specs.Rights.{object_in}
 use Rattle.rcu_hash.specs.Directories.{LeadsTo, directed_map}
-use Rattle.rcu_hash.specs.Tables.{bucket_of}
+use Rattle.rcu_hash.specs.Growing.{NotesAll}
+use Rattle.rcu_hash.specs.Leaving.{Writes}
+use Rattle.rcu_hash.specs.Naming.{words_by}
+use Rattle.rcu_hash.specs.Tables.{IsAmong, bucket_of}
 use Rattle.rcu_hash.specs.Writers.{Each, HasNoNote, HasNote, HasNothing, IsEmpty, Noted}
 use Rattle.rcu_hash.proofs.Copies.{found_more}
+use Rattle.rcu_hash.proofs.Emptying.{writes_weaker}
+use Rattle.rcu_hash.proofs.Filling.{notes_weaker}
 use Rattle.rcu_hash.proofs.Held.{each_map, looks_both, not_full, pair_from, pair_nothing}
+use Rattle.rcu_hash.proofs.Taking.{taken_since}
 use Rattle.rcu_hash.proofs.table.RcuHash.new.Goals as goal
 
 pub returns-in_err-chains-clause-looks : goal.returns-in_err-chains-clause-looks
@@ -28,7 +39,7 @@ returns-in_err-places-clause-looks g c = let p = err_from_is_err_and c.from_resi
 
 pub returns-in_err-chains-2-clause-looks : goal.returns-in_err-chains-2-clause-looks
 returns-in_err-chains-2-clause-looks g c =
-    let p = err_from_is_err_and c.from_residual-in_err-chains-2.result c.from_residual-in_err-chains-2.ensures.1 in let m = c.in_err-chains-2.ensures.refused in let w = g.W.Witness in
+    let p = err_from_is_err_and c.from_residual-in_err-chains-2.result c.from_residual-in_err-chains-2.ensures.1 in let m = c.in_err-chains-2.ensures.refused.0 in let w = g.W.Witness in
     let one = c.hold_empty.ensures.same.2 in let two = c.hold_all.ensures.same.2 in
     (two.0 ++ one.0, looks_both (w.looks c.args.witness.now) (w.looks c.hold_empty.new.witness) (w.looks c.hold_all.new.witness) one.0 two.0 one.1 two.1, not_full g.B.Site.sizes (two.0 ++ one.0) c.from_residual-in_err-chains-2.result p.0 BadConfig p.1 (p.2 ∙ m) (λ z. cc))
 
@@ -68,7 +79,7 @@ returns-clause-heard g c =
     let w = g.W.Witness in let w0 = c.args.witness.now in let w1 = c.hold_empty.new.witness in let w2 = c.hold_all.new.witness in let w3 = c.alloc.new.witness in let w4 = c.note_all-chains.new.witness in let w5 = c.direct-writer.new.witness in
     let a = c.hold_empty.ensures in let b = c.hold_all.ensures in let o = c.alloc.ensures in let n = c.note_all-chains.ensures in let d = c.direct-writer.ensures.heard in record {
       after_seen = subst (λ (l : Log). Begins l (w.heard w5)) (n.same.0.0.0 ∙ (o.same.0.0 ∙ (b.same.0.0 ∙ a.same.0.0))) d.after_seen;
-      after_heard = begins_trans (w.heard w0) (w.heard w1) (w.heard w5) a.heard (begins_trans (w.heard w1) (w.heard w2) (w.heard w5) b.heard (begins_trans (w.heard w2) (w.heard w3) (w.heard w5) o.heard.after_heard (begins_trans (w.heard w3) (w.heard w4) (w.heard w5) n.heard d.after_heard)));
+      after_heard = begins_trans (w.heard w0) (w.heard w1) (w.heard w5) a.heard.after_heard (begins_trans (w.heard w1) (w.heard w2) (w.heard w5) b.heard (begins_trans (w.heard w2) (w.heard w3) (w.heard w5) o.heard.after_heard (begins_trans (w.heard w3) (w.heard w4) (w.heard w5) n.heard d.after_heard)));
       run = d.run;
     }
 
@@ -77,3 +88,42 @@ returns-clause-looks g c =
     let w = g.W.Witness in let one = c.hold_empty.ensures.same.2 in let two = c.hold_all.ensures.same.2 in let three = c.alloc.ensures.looks in let n = c.note_all-chains.ensures.same in let d = c.direct-writer.ensures.same in
     let held = looks_both (w.looks c.args.witness.now) (w.looks c.hold_empty.new.witness) (w.looks c.hold_all.new.witness) one.0 two.0 one.1 two.1 in
     (three.0 ++ (two.0 ++ one.0), d.0.1 ∙ (n.0.1 ∙ looks_both (w.looks c.args.witness.now) (w.looks c.hold_all.new.witness) (w.looks c.alloc.new.witness) (two.0 ++ one.0) three.0 held three.1), tt)
+
+-- each bucket got its note, and then the directory came
+pub returns-clause-founded : goal.returns-clause-founded
+returns-clause-founded g c =
+    let q = g.P.GracePlan.QSBR in let w = g.W.Witness in let w0 = c.args.witness.now in let w1 = c.hold_empty.new.witness in let w2 = c.hold_all.new.witness in let w3 = c.alloc.new.witness in let w4 = c.note_all-chains.new.witness in let w5 = c.direct-writer.new.witness in
+    let a = c.hold_empty.ensures in let b = c.hold_all.ensures in let o = c.alloc.ensures in let n = c.note_all-chains.ensures in let d = c.direct-writer.ensures.pushed in let h = c.in_ok-chains-2.ensures.held in let own = c.in_ok-own.ensures.held.0 in
+    let first = c.args.first in let directory = c.args.directory in let many = c.args.buckets in let object = object_in c.in-Ok.owned.seat.me.0.object in
+    let seen : w.seen w3 ≡ w.seen w0 = o.same.0.0 ∙ (b.same.0.0 ∙ a.same.0.0) in
+    let heard : Begins (w.heard w0) (w.heard w3) = begins_trans (w.heard w0) (w.heard w1) (w.heard w3) a.heard.after_heard (begins_trans (w.heard w1) (w.heard w2) (w.heard w3) b.heard o.heard.after_heard) in
+    let told : NotesAll (Writes q tabled (w.seen w0)) (directory + 1) first many (w.heard w3) (w.heard w4) =
+    subst (λ (k : ℕ). NotesAll (Writes q tabled (w.seen w0)) (directory + 1) first k (w.heard w3) (w.heard w4)) h.0
+    (subst (λ (s : Log). NotesAll (Writes q tabled s) (directory + 1) first (vec_len c.in_ok-chains-2.chains) (w.heard w3) (w.heard w4)) seen (n.told first h.1)) in record {
+      noted = w.heard w4;
+      object = object;
+      cell = d.0;
+      notes = notes_weaker (Writes q tabled (w.seen w0)) (writes_weaker q tabled (w.seen w0)) (directory + 1) first many (w.heard w0) (w.heard w3) (w.heard w4) heard told;
+      pushed = subst (λ (s : Log). Writes q tabled s (w.heard w4) (Object (Push directory object d.0 (words_by first many))) (w.heard w5)) (n.same.0.0.0 ∙ seen)
+          (subst (λ (k : ℕ). Writes q tabled (w.seen w4) (w.heard w4) (Object (Push k object d.0 (words_by first many))) (w.heard w5)) own
+          (subst (λ (k : ℕ). Writes q tabled (w.seen w4) (w.heard w4) (Object (Push c.in_ok-own.own.number object d.0 (words_by first k))) (w.heard w5)) (n.noted.0 ∙ h.0) d.1));
+    }
+
+-- the directory's chain, or a bucket's, was taken
+pub returns-in_err-own-clause-refused : goal.returns-in_err-own-clause-refused
+returns-in_err-own-clause-refused g c =
+    let p = err_from_is_err_and c.from_residual-in_err-own.result c.from_residual-in_err-own.ensures.1 in let no = c.in_err-own.ensures.refused in let t = no.1 in
+    rw p.1 (inl (p.2 ∙ no.0, inr (record { chain = t.chain; one = inl t.one; found = t.found; looks = t.looks; why = t.why })))
+
+pub returns-in_err-chains-2-clause-refused : goal.returns-in_err-chains-2-clause-refused
+returns-in_err-chains-2-clause-refused g c =
+    let w = g.W.Witness in let w0 = c.args.witness.now in let w1 = c.hold_empty.new.witness in let w2 = c.hold_all.new.witness in let sizes = g.B.Site.sizes in let directory = c.args.directory in let first = c.args.first in let many = c.args.buckets in
+    let p = err_from_is_err_and c.from_residual-in_err-chains-2.result c.from_residual-in_err-chains-2.ensures.1 in let no = c.in_err-chains-2.ensures.refused in let a = c.hold_empty.ensures in
+    let out : (directory < first) ⊎ (first + many ≤ directory) = search rules in
+    rw p.1 (inl (p.2 ∙ no.0, inr (taken_since w g.P.GracePlan.QSBR tabled sizes (IsAmong first many) (λ k. (k ≡ directory) ⊎ IsAmong first many k) (λ k among. inr among) w0 w1 w2 a.same.0.0 a.heard.after_heard
+    ((hold_at sizes directory, 0) ∷ []) c.in_ok-own.ensures.held.4
+    (λ k among h. ⊎_elim
+        (λ (same : ◌≡◌ {A = ℕ × ℕ} (hold_at sizes directory, 0) (hold_at sizes k, 0)). let place : hold_at sizes directory ≡ hold_at sizes k = ap (λ (x : ℕ × ℕ). x.0) same in
+        ⊎_elim (λ under. absurd (omega (arith, place, under, among))) (λ over. absurd (omega (arith, place, over, among))) out)
+        (λ none. absurd none) h)
+    no.1)))

@@ -1,0 +1,50 @@
+use Rattle.std.proofs.Common.{◌≡◌, ℕ, ◌+◌, ◌<◌, ◌≤◌, List, ap, sym, ◌∙◌, subst, refl, inl, slice_index_or}
+use Rattle.rcu_model.specs.declared.event.ObjectId.{ObjectId}
+use Rattle.rcu_model.specs.Sets.{In}
+use Rattle.live_log.specs.Log.{Log, chain_note, note_of}
+use Rattle.live_log.specs.Tables.{Names, tabled}
+use Rattle.live_log.proofs.Lemmas.{is_noted, run_of}
+use Rattle.live_rule.specs.Seats.{lent_chains}
+use Rattle.live_rule.specs.declared.rights.ChainRight.{ChainRight}
+use Rattle.live_table.specs.Rights.{own_in}
+use Rattle.live_read.specs.Hearing.{IsAfter}
+use Rattle.rcu_list.proofs.Lemmas.{chain_known}
+use Rattle.rcu_hash.specs.Tidying.{IsLinked}
+use Rattle.rcu_hash.proofs.Emptying.{by_words}
+use Rattle.rcu_hash.proofs.Named.{own_used, words_later}
+use Rattle.rcu_hash.proofs.directory.Directory.hear.Goals as goal
+
+pub invariant_of-self : goal.invariant_of-self
+invariant_of-self g c =
+    let q = g.P.GracePlan.QSBR in let d = c.args.self.now in let n = d.naming in let v = d.chain.seat.me.0 in let h = c.hear.ensures in let later : Log = c.hear.new.self.seat.me.0.seen in record {
+      own = (h.chains.1 ∙ d.own.0, ap lent_chains h.chains.0 ∙ d.own.1, ap (λ (x : List ChainRight). (own_in x).note) h.chains.0 ∙ d.own.2);
+      alone = ap (λ (x : List ChainRight). (own_in x).objects) h.chains.0 ∙ d.alone;
+      words = words_later q v.seen later n.object h.told.1 h.told.0.run n.first n.buckets (own_used q v n.object (run_of q tabled v.seen later h.told.1 h.told.0.run) d.chain.owns.1 d.alone) d.words;
+      fits = d.fits;
+    }
+
+pub returns-clause-linked : goal.returns-clause-linked
+returns-clause-linked g c =
+    let q = g.P.GracePlan.QSBR in let d = c.args.self.now in let n = d.naming in let v = d.chain.seat.me.0 in let h = c.hear.ensures in
+    let one = c.hear.new.self in let t : Log = one.seat.me.0.seen in
+    let words = words_later q v.seen t n.object h.told.1 h.told.0.run n.first n.buckets (own_used q v n.object (run_of q tabled v.seen t h.told.1 h.told.0.run) d.chain.owns.1 d.alone) d.words in
+    let is = chain_known one.seat.me.0 n.directory one.owns.1 (one.owns.2 ∙ (h.chains.1 ∙ d.own.0)) ∙ (ap (λ (x : List ChainRight). (own_in x).objects) h.chains.0 ∙ d.alone) in
+    subst (IsLinked n.directory n.object) (sym h.heard) (subst (λ (l : List ObjectId). In l n.object) (sym is) (inl refl), by_words (note_of t n.object) n.first n.buckets words)
+
+-- a linked directory's chains have its note
+pub returns-clause-noted : goal.returns-clause-noted
+returns-clause-noted g c k among =
+    let q = g.P.GracePlan.QSBR in let d = c.args.self.now in let n = d.naming in let v = d.chain.seat.me.0 in let h = c.hear.ensures in
+    let one = c.hear.new.self in let t : Log = one.seat.me.0.seen in
+    let words = words_later q v.seen t n.object h.told.1 h.told.0.run n.first n.buckets (own_used q v n.object (run_of q tabled v.seen t h.told.1 h.told.0.run) d.chain.owns.1 d.alone) d.words in
+    let is = chain_known one.seat.me.0 n.directory one.owns.1 (one.owns.2 ∙ (h.chains.1 ∙ d.own.0)) ∙ (ap (λ (x : List ChainRight). (own_in x).objects) h.chains.0 ∙ d.alone) in
+    let names : Names (note_of t n.object) k = (
+      subst (λ (w : List ℕ). slice_index_or w 0 0 ≤ k) (sym words) among.0,
+      subst (λ (w : List ℕ). k < slice_index_or w 0 0 + slice_index_or w 1 0) (sym words) among.1,
+    ) in
+    ap (chain_note k) h.heard ∙ (is_noted q t k n.directory n.object h.told.0.run (subst (λ (l : List ObjectId). In l n.object) (sym is) (inl refl)) (by_words (note_of t n.object) n.first n.buckets words) names).1
+
+pub returns-clause-heard : goal.returns-clause-heard
+returns-clause-heard g c =
+    let w = g.W.Witness in let w0 = c.args.witness.now in let h = c.hear.ensures in
+    subst (IsAfter g.P.GracePlan.QSBR tabled (w.seen w0) (w.heard w0)) (sym h.heard) h.told.0
