@@ -1,11 +1,14 @@
-use Rattle.std.proofs.Common.{rules, ◌≡◌, ◌+◌, ℕ, List, [], ◌∷◌, length, map, vec_len, sym, ap, ◌∙◌, subst}
+use Rattle.std.proofs.Common.{rules, ◌≡◌, ◌+◌, ◌<◌, ◌⊎◌, ⊎_elim, inl, inr, refl, false, arith, ℕ, List, [], ◌∷◌, length, map, vec_len, sym, ap, ◌∙◌, subst}
 use Rattle.std.proofs.lemmas.List.{length-map}
-use Rattle.live_log.specs.Log.{Log, Begins}
+use Rattle.std.proofs.lemmas.Result.{err_from_is_err_and}
+use Rattle.live_log.specs.Log.{Log, Begins, chain_note}
 use Rattle.live_log.specs.Tables.{tabled}
 use Rattle.live_log.proofs.Lemmas.{begins_trans}
 use Rattle.rcu_hash.specs.Copies.{value_in_bucket}
 use Rattle.rcu_hash.specs.Growing.{Grows}
+use Rattle.rcu_hash.specs.Tables.{are_apart}
 use Rattle.rcu_hash.proofs.Regrown.{grows_go, grows_since}
+use Rattle.rcu_hash.proofs.Taking.{in_both}
 use Rattle.rcu_hash.proofs.table.RcuHash.grow.Goals as goal
 
 pub commit-rest-requires-clause-copied : goal.commit-rest-requires-clause-copied
@@ -40,4 +43,10 @@ returns-in_err-growth-clause-refused g c =
     rw p.1 (inr (⊎_elim (λ taken. inl (p.2 ∙ taken.0, inr taken.1)) (λ rest. inr (search rules, ⊎_elim (λ memory. inl (p.2 ∙ memory)) (λ full. inr (p.2 ∙ full)) rest)) c.in_err-growth.ensures.refused))
 
 pub returns-then-not-are_apart-clause-refused : goal.returns-then-not-are_apart-clause-refused
-returns-then-not-are_apart-clause-refused g c = ?
+returns-then-not-are_apart-clause-refused g c =
+    let w = g.W.Witness in let n = c.deref.result.now.naming in let h = c.hear_named.ensures in let log : Log = w.heard c.hear_named.new.witness in
+    let apart : are_apart n.first n.buckets c.args.first c.args.buckets ≡ false = sym c.are_apart.ensures ∙ c.if-not-are_apart.true in
+    let some : 0 < c.args.buckets = search rules in
+    let both = in_both n.first n.buckets c.args.first c.args.buckets c.deref.result.now.many.0 some apart in
+    let note : chain_note both.0 log ≡ n.directory + 1 = h.noted both.0 both.1 in
+    inr (inl (refl, inr (record { chain = both.0; one = both.2; found = []; looks = h.same.0.1; why = inr (record { at = log; after = h.heard; before = ([], refl); so = inr (λ none. absurd (omega (arith, note, none))) }) })))
