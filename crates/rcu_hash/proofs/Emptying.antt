@@ -1,6 +1,6 @@
 -- What an earlier directory left is free once a grace period has been waited for, and no part of the table's map.
 use Rattle.std.proofs.Common.{Bool, ◌≡◌, ◌≢◌, ◌⊎◌, ℕ, ◌+◌, ◌%◌, ◌<◌, ◌≤◌, List, [], ◌∷◌, ◌++◌, append_assoc, Some, length, map, take, suc, zero, slice_get, slice_index_or, refl, sym, ap, ◌∙◌, subst, inl, inr, ⊎_elim, arith}
-use Rattle.std.specs.Prelude.{Result, Ok, Err, IfOk, IfErr}
+use Rattle.std.specs.Prelude.{Option, None, IfSome, Result, Ok, Err, IfOk, IfErr}
 use Rattle.std.proofs.Math.Logic.{∥∥₁_elim, ∥∥₁_map, ∥∥₁_map₂}
 use Rattle.std.proofs.lemmas.List.{append-nil, length-append, map-append}
 use Rattle.std.proofs.lemmas.Nat.{mod_below}
@@ -10,7 +10,7 @@ use Rattle.rcu_model.specs.Sets.{In, same_object, without_object}
 use Rattle.rcu_model.proofs.Lemmas.{Once, Tells, at_number_same, none_some, object_tells, some_is}
 use Rattle.live_log.specs.declared.event.LiveEvent.{LiveEvent}
 use Rattle.live_log.specs.declared.event.LiveEvent.TheVariants.{ChainNote, Close, Object}
-use Rattle.live_log.specs.declared.event.ObjectEvent.TheVariants.{Cut, Queue, Retire}
+use Rattle.live_log.specs.declared.event.ObjectEvent.TheVariants.{Cut, Queue, Replace, Retire}
 use Rattle.live_log.specs.Keys.{Falls}
 use Rattle.live_log.specs.Log.{Log, Begins, Has, HaveEnded, IsLiveRun, chain_note, note_of, state_of}
 use Rattle.live_log.specs.Tables.{HasKey, IsDirectory, IsFree, IsNamed, tabled}
@@ -30,7 +30,7 @@ use Rattle.rcu_hash.specs.Directories.{directed_map}
 use Rattle.rcu_hash.specs.Leaving.{LeavesMap, Writes}
 use Rattle.rcu_hash.specs.Naming.{words_by}
 use Rattle.rcu_hash.specs.Tables.{bucket_of}
-use Rattle.rcu_hash.specs.Tidying.{ClearsNote, Cuts, Clears, Does, FindsMore, Follow, HasWaited, IsLeft, IsRefused, Kind, Retires, Tidies, Uses, objects_in, retired_by, retired_in}
+use Rattle.rcu_hash.specs.Tidying.{ClearsNote, Cuts, Clears, Does, FindsMore, Follow, HasWaited, IsLeft, IsRefused, Kind, Retires, Tidies, Uses, WasReplaced, objects_in, retired_by, retired_in}
 use Rattle.rcu_hash.specs.Writers.{Each, HasKeysIn, HasNote, IsAlone, IsOutside}
 use Rattle.rcu_hash.proofs.Changing.{other_map}
 use Rattle.rcu_hash.proofs.Held.{each_last}
@@ -66,6 +66,10 @@ one_fewer (x ∷ xs) o once at = by (object_tells x o)
     by : Tells (same_object x o) x o → length (x ∷ xs) ≡ length (without_object o (x ∷ xs)) + 1
     by (inl y) = rw y.0 (let same = ap length (without_absent xs o (λ h. once.0 (subst (In xs) (sym is) h))) in omega arith)
     by (inr n) = absurd (n.1 is)
+
+-- what was replaced in an earlier log was in a later one
+pub replaced_later : (d : ℕ) (o : ObjectId) (log later : Log) → Begins log later → WasReplaced d o log → WasReplaced d o later
+replaced_later d o log later b was = ∥∥₁_map was (λ r. (r.0, r.1, r.2, subst (Has (Object (Replace d o r.0 r.1 r.2))) (sym b.1) (has_later (Object (Replace d o r.0 r.1 r.2)) b.0 log r.3)))
 
 -- the one object of a list
 only : (p o : ObjectId) → In (p ∷ []) o → p ≡ o
@@ -181,7 +185,7 @@ module _ (qsbr : Bool) (allows : Log → LiveEvent → Type 0) where
 module _ (qsbr : Bool) (allows : Log → LiveEvent → Type 0) (sizes : Sizes) (d : ℕ) (seen : Log) where
   does_weaker : (known heard log : Log) (k : Kind) → Begins known heard → Does qsbr allows sizes d seen heard k log → Does qsbr allows sizes d seen known k log
   does_weaker known heard log Cuts b r = record { chain = r.chain; object = r.object; ticket = r.ticket; published = r.published; leaves = leaves_weaker qsbr allows sizes.chains d seen known heard (Object (Cut r.chain r.object)) r.published b r.leaves; noted = r.noted; hands = r.hands }
-  does_weaker known heard log Retires b r = record { chain = r.chain; object = r.object; given = r.given; queued = let q = r.queued in record { before = q.before; at = (q.at.0, begins_trans known heard q.before b q.at.1); within = q.within; retired = q.retired; wrote = q.wrote; last = q.last; run = q.run } }
+  does_weaker known heard log Retires b r = record { object = r.object; given = r.given; queued = let q = r.queued in record { before = q.before; at = (q.at.0, begins_trans known heard q.before b q.at.1, q.at.2); within = q.within; retired = q.retired; wrote = q.wrote; last = q.last; run = q.run } }
   does_weaker known heard log Clears b r = record { chain = r.chain; leaves = leaves_weaker qsbr allows sizes.chains d seen known heard (ChainNote r.chain 0) log b r.leaves; noted = r.noted }
 
   follow_weaker : (known heard log : Log) (ss : List (Kind × Log)) → Begins known heard → Follow qsbr allows sizes d seen heard ss log → Follow qsbr allows sizes d seen known ss log
@@ -203,7 +207,7 @@ module _ (qsbr : Bool) (allows : Log → LiveEvent → Type 0) (sizes : Sizes) (
       heard_on known at log ss (queued_later qsbr allows (Begins r.published) r.object (r.chain % sizes.queues) r.hands.given known at r.hands.queued
       (begins_trans known r.published r.hands.queued.before (begins_trans known p.before r.published (begins_trans known heard p.before b p.after.1) (_ ∷ [], p.wrote)) r.hands.queued.at)) f.1
   heard_on known heard log ((Retires, at) ∷ ss) b f = let r = f.0 in
-      heard_on known at log ss (queued_later qsbr allows _ r.object (r.chain % sizes.queues) r.given known at r.queued (begins_trans known heard r.queued.before b r.queued.at.1)) f.1
+      heard_on known at log ss (queued_later qsbr allows _ r.object (d % sizes.queues) r.given known at r.queued (begins_trans known heard r.queued.before b r.queued.at.1)) f.1
   heard_on known heard log ((Clears, at) ∷ ss) b f = let p = f.0.leaves.writes in
       heard_on known at log ss (begins_trans known p.before at (begins_trans known heard p.before b p.after.1) (_ ∷ [], p.wrote)) f.1
 
@@ -226,6 +230,11 @@ module _ (qsbr : Bool) (allows : Log → LiveEvent → Type 0) (sizes : Sizes) (
 
     pub uses_no : (jobs : List D) (heard log : Log) → ClearsNote qsbr allows sizes d seen heard log → Uses qsbr allows sizes d seen jobs jobs heard log
     uses_no jobs heard log does = record { used = []; are = sym (append-nil jobs); steps = (Clears, log) ∷ []; follow = (does, ([], refl)); many = refl }
+
+-- what is so of an option where there is one
+pub some_on : {A : Type 0} (r : Option A) (P Q : A → Type 0) → ((x : A) → P x → Q x) → IfSome r P → IfSome r Q
+some_on None P Q f p = tt
+some_on (Some x) P Q f p = f x p
 
 -- what is so of a result in one case
 pub ok_on : {A E : Type 0} (r : Result A E) (P Q : A → Type 0) → ((x : A) → P x → Q x) → IfOk r P → IfOk r Q

@@ -1,17 +1,19 @@
 -- What a tidying tells of what earlier directories left.
 use Rattle.std.specs.Prelude.{◌≡◌, ◌⊎◌, ℕ, ◌+◌, ◌%◌, ◌^◌, ◌≤◌, ◌∷◌, ◌++◌, Bool, List, [], length}
+use Rattle.std.proofs.Props.{props}
 use Rattle.rcu_model.specs.declared.event.ObjectId.{ObjectId}
 use Rattle.rcu_model.specs.declared.refusal.Refusal.{Refusal}
 use Rattle.rcu_model.specs.declared.refusal.Refusal.TheVariants.{Closed, Exhausted, FewJobs, Memory}
 use Rattle.rcu_model.specs.Sets.{In}
 use Rattle.live_log.specs.declared.event.LiveEvent.{LiveEvent}
 use Rattle.live_log.specs.declared.event.LiveEvent.TheVariants.{ChainNote, Object}
-use Rattle.live_log.specs.declared.event.ObjectEvent.TheVariants.{Cut}
-use Rattle.live_log.specs.Log.{Log, Begins, HaveEnded, chain_note, closed_of, note_of, seq_of, state_of}
+use Rattle.live_log.specs.declared.event.ObjectEvent.TheVariants.{Cut, Replace}
+use Rattle.live_log.specs.Log.{Log, Begins, Has, HaveEnded, chain_note, closed_of, note_of, seq_of, state_of}
 use Rattle.live_log.specs.Tables.{IsDirectory}
 use Rattle.live_rule.specs.declared.view.Sizes.{Sizes}
 use Rattle.live_rule.specs.declared.view.View.{View}
 use Rattle.live_items.specs.Retiring.{Queues}
+use Rattle.live_table.specs.Rights.{object_in}
 use Rattle.live_read.specs.Hearing.{Stays}
 use Rattle.live_read.specs.declared.witness.Witness.{Ghosts}
 use Rattle.live_write.specs.Chains.{list_in}
@@ -37,6 +39,18 @@ pub record HasWaited (d : ℕ) (o : ObjectId) (log : Log) : Type 0 where
 -- the writer of a chain of keys that an earlier directory named, and the present one does not
 abbrev pub IsLeft : ℕ → ℕ → ℕ → View → Type 0
 IsLeft d first buckets v = IsAlone v × HasKeysIn v × HasNote (d + 1) v × ∥ IsOutside first buckets v ∥₁
+
+-- the object was replaced in chain d; by which one does not matter
+abbrev pub WasReplaced : ℕ → ObjectId → Log → Type 0
+WasReplaced d o log = ∥ ((new : ObjectId) × (cell : ℕ) × (payload : List ℕ) × Has (Object (Replace d o new cell payload)) log) ∥₁
+
+-- a record that was cut from this chain is that of an earlier directory, by what was seen at the cut
+abbrev pub IsRecord : ℕ → ℕ → View → Type 0
+IsRecord d chain v = (chain ≡ d) × WasReplaced d (object_in v.object) v.seen
+
+-- that this is so is a fact
+pub record_prop : (d chain : ℕ) (v : View) → IsProp (IsRecord d chain v)
+record_prop d chain v = hlevel props
 
 -- how many objects their chains have
 abbrev pub objects_in : List View → ℕ
@@ -73,10 +87,9 @@ module _ (qsbr : Bool) (allows : Log → LiveEvent → Type 0) (sizes : Sizes) (
 
     -- the record of an earlier directory was retired
     pub record RetiresRecord (log : Log) : Type 0 where
-      pub chain : ℕ
       pub object : ObjectId
       pub given : ℕ
-      pub queued : Queues qsbr allows (λ at. Begins seen at × Begins heard at) object (chain % sizes.queues) given log
+      pub queued : Queues qsbr allows (λ at. Begins seen at × Begins heard at × WasReplaced d object at) object (d % sizes.queues) given log
 
     -- a chain that had the table's note has none any more
     pub record ClearsNote (log : Log) : Type 0 where

@@ -1,5 +1,5 @@
 -- The writers of several chains, by what each of them knows.
-use Rattle.std.specs.Prelude.{Bool, ◌≡◌, ◌⊎◌, ℕ, ◌+◌, ◌<◌, ◌≤◌, List, [], ◌∷◌, Option, Some, None, length}
+use Rattle.std.specs.Prelude.{Bool, ◌≡◌, ◌⊎◌, ℕ, ◌+◌, ◌<◌, ◌≤◌, List, [], ◌∷◌, Option, Some, None, IfSome, length}
 use Rattle.std.specs.Coded.{×_prop}
 use Rattle.std.proofs.Props.{props}
 use Rattle.rcu_model.specs.declared.event.ObjectId.{ObjectId}
@@ -9,7 +9,7 @@ use Rattle.live_log.specs.Tables.{HasKey, tabled}
 use Rattle.live_rule.specs.Seats.{lent_chains}
 use Rattle.live_rule.specs.declared.rights.ChainRight.{ChainRight}
 use Rattle.live_rule.specs.declared.view.View.{View}
-use Rattle.live_table.specs.Rights.{IsListed, IsWriter, own_in}
+use Rattle.live_table.specs.Rights.{own_in}
 use Rattle.live_write.specs.Chains.{list_in}
 use Rattle.rcu_list.specs.Maps.{value_in}
 
@@ -42,10 +42,6 @@ HasSeen log v = Begins log v.seen
 -- what it has seen is a run
 abbrev pub IsRunIn : Bool → View → Type 0
 IsRunIn qsbr v = IsLiveRun qsbr tabled v.seen
-
--- it has a chain, whose list and note are those of what it has seen
-abbrev pub IsHolder : View → Type 0
-IsHolder v = IsWriter v × IsListed v
 
 -- its chain has no objects, or this note
 abbrev pub HasNothing : View → Type 0
@@ -102,6 +98,10 @@ value_at (Some v) key = value_in (note_of v.seen) (list_in v) key
 pub each_prop : {X : Type 0} (P : X → Type 0) → ((x : X) → IsProp (P x)) → (xs : List X) → IsProp (Each P xs)
 each_prop P p [] = hlevel props
 each_prop P p (x ∷ xs) = ×_prop (p x) (each_prop P p xs)
+
+pub some_prop : {X : Type 0} (P : X → Type 0) → ((x : X) → IsProp (P x)) → (r : Option X) → IsProp (IfSome r P)
+some_prop P p None = hlevel props
+some_prop P p (Some x) = p x
 
 pub alone_prop : (v : View) → IsProp (IsAlone v)
 alone_prop v = hlevel props

@@ -117,7 +117,7 @@ fn commit<'d, P: GracePlan + Drop, B: Site, D: Deleter, W: Witness, R: Wait>(
     };
     Left {
         naming,
-        record: Some(unlinked),
+        unlinked: Some(unlinked),
         chains: left,
     }
 }

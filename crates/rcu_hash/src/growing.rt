@@ -8,6 +8,7 @@ ghost use Rattle.live_read.specs.Hearing.{OnlyHears};
 ghost use Rattle.rcu_hash.specs.Copies.{AreApart, value_among, value_in_bucket};
 ghost use Rattle.rcu_hash.specs.Growing.{Exchanges};
 ghost use Rattle.rcu_hash.specs.Naming.{IsNamedBy, words_by};
+ghost use Rattle.rcu_hash.specs.Tidying.{IsRecord};
 ghost use Rattle.rcu_hash.specs.Writers.{AreFrom, Each, HasKeysIn, HasNote, IsAlone, Noted};
 
 use crate::directory::{Directory, Naming};
@@ -48,6 +49,7 @@ pub(crate) fn exchange<'d, P: GracePlan + Drop, B: Site, D: Deleter, W: Witness>
     requires record { payload_in owned.seat.me.0.object ≡ words_by first (vec_len news.chains) }
     requires same { (key : ℕ) → value_in_bucket (vec_len news.chains) (map (λ c. c.seat.me.0) news.chains.items) key ≡ value_in_bucket (vec_len olds.chains) (map (λ c. c.seat.me.0) olds.chains.items) key }
     ensures directory { result.0.naming ≡ record { directory = directory.entry.naming.directory; object = object_in owned.seat.me.0.object; first = first; buckets = vec_len news.entry.chains } }
+    ensures unlinked { IsRecord directory.entry.naming.directory result.1.chain result.1.seat.me.0 }
     ensures olds { (vec_len result.2 ≡ vec_len olds.entry.chains) × AreFrom directory.entry.naming.first (map (λ c. c.seat.me.0) result.2.items) × Each IsAlone (map (λ c. c.seat.me.0) result.2.items) × Each HasKeysIn (map (λ c. c.seat.me.0) result.2.items) × Each (HasNote (directory.entry.naming.directory + 1)) (map (λ c. c.seat.me.0) result.2.items) }
     ensures news { (vec_len result.3 ≡ vec_len news.entry.chains) × AreFrom first (map (λ c. c.seat.me.0) result.3.items) × Each IsAlone (map (λ c. c.seat.me.0) result.3.items) × Each HasKeysIn (map (λ c. c.seat.me.0) result.3.items) × Each (IsNamedBy directory.entry.naming.directory (object_in owned.seat.me.0.object)) (map (λ c. c.seat.me.0) result.3.items) }
     ensures grown { (entries : List (ℕ × ℕ)) → AreApart entries → ((key : ℕ) → value_in_bucket (vec_len olds.entry.chains) (map (λ c. c.seat.me.0) olds.entry.chains.items) key ≡ value_among entries key) → Exchanges P.QSBR tabled B.sizes.chains directory.entry.naming.directory (W.seen witness.old) (W.heard witness.old) directory.entry.naming.object first (vec_len news.entry.chains) entries (W.heard witness.new) }

@@ -1,11 +1,11 @@
 //! What an earlier directory left.
 
-ghost use Rattle.std.specs.Prelude.{◌≡◌, ◌+◌, ◌<◌, map, vec_len};
+ghost use Rattle.std.specs.Prelude.{◌≡◌, ◌+◌, ◌<◌, IfSome, map, vec_len};
 ghost use Rattle.live_log.specs.Tables.{tabled};
 ghost use Rattle.live_read.specs.Hearing.{IsAfter, OnlyHears};
 ghost use Rattle.rcu_hash.specs.Growing.{HasLeft};
-ghost use Rattle.rcu_hash.specs.Tidying.{IsLeft};
-ghost use Rattle.rcu_hash.specs.Writers.{Each, HasKeysIn, HasNote, IsAlone, IsOutside, alone_prop, each_prop, keys_prop, note_prop};
+ghost use Rattle.rcu_hash.specs.Tidying.{IsLeft, IsRecord, record_prop};
+ghost use Rattle.rcu_hash.specs.Writers.{Each, HasKeysIn, HasNote, IsAlone, IsOutside, alone_prop, each_prop, keys_prop, note_prop, some_prop};
 
 use crate::directory::{Desk, Naming};
 use domain::{Chain, Deleter, Site, Unlinked, Witness};
@@ -19,12 +19,13 @@ use std::sync::Wait;
 pub(crate) struct Left<'d, P: GracePlan, B: Site, D: Deleter> {
     /// The directory that took its place.
     pub(crate) naming: Naming,
-    pub(crate) record: Option<Unlinked<B>>,
+    pub(crate) unlinked: Option<Unlinked<B>>,
     pub(crate) chains: Vec<Chain<'d, P, Tabled, B, D>>,
     pub(crate) ghost some: { 0 < vec_len chains },
     pub(crate) ghost alone: { Each IsAlone (map (λ c. c.seat.me.0) chains.items) } by { each_prop IsAlone alone_prop _ },
     pub(crate) ghost keys: { Each HasKeysIn (map (λ c. c.seat.me.0) chains.items) } by { each_prop HasKeysIn keys_prop _ },
     pub(crate) ghost notes: { Each (HasNote (naming.directory + 1)) (map (λ c. c.seat.me.0) chains.items) } by { each_prop (HasNote (naming.directory + 1)) (note_prop (naming.directory + 1)) _ },
+    pub(crate) ghost replaced: { IfSome unlinked (λ u. IsRecord naming.directory u.chain u.seat.me.0) } by { some_prop (λ u. IsRecord naming.directory u.chain u.seat.me.0) (λ u. record_prop naming.directory u.chain u.seat.me.0) _ },
     pub(crate) ghost outside: { ∥ Each (IsOutside naming.first naming.buckets) (map (λ c. c.seat.me.0) chains.items) ∥₁ },
 }
 
@@ -67,7 +68,7 @@ impl<'d, P: GracePlan + Drop, B: Site, D: Deleter> Left<'d, P, B, D> {
     {
         let Left {
             naming,
-            record,
+            unlinked,
             mut chains,
         } = self;
         let Some(mut chain) = chains.pop() else {
@@ -77,7 +78,7 @@ impl<'d, P: GracePlan + Drop, B: Site, D: Deleter> Left<'d, P, B, D> {
         chains.push_reserved(chain);
         Left {
             naming,
-            record,
+            unlinked,
             chains,
         }
     }

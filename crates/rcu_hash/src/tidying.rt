@@ -8,7 +8,7 @@ ghost use Rattle.live_log.specs.Tables.{tabled};
 ghost use Rattle.live_read.specs.Hearing.{FindsNothing, IsAfter, OnlyHears, Stays};
 ghost use Rattle.live_write.specs.Chains.{list_in};
 ghost use Rattle.domain.specs.Waiting.{Synchronized};
-ghost use Rattle.rcu_hash.specs.Tidying.{ClearsNote, FindsMore, HasWaited, IsExhausted, IsLeft, IsLinked, IsRefused, IsStopped, RetiresObject, Tidies, Uses, objects_in};
+ghost use Rattle.rcu_hash.specs.Tidying.{ClearsNote, FindsMore, HasWaited, IsExhausted, IsLeft, IsLinked, IsRecord, IsRefused, IsStopped, RetiresObject, Tidies, Uses, objects_in};
 ghost use Rattle.rcu_hash.specs.Writers.{Each, HasNothing};
 
 use crate::directory::{Desk, Naming};
@@ -231,8 +231,9 @@ fn retire_record<P: GracePlan + Drop, B: Site, D: Deleter, W: Witness, R: Wait>(
     jobs: &mut Vec<D>,
 ) -> Result<(), Refusal>
     requires home { W.home witness.old ≡ (B.table, B.sizes) }
-    ensures uses { (d : ℕ) → Uses P.QSBR tabled B.sizes d (W.seen witness.old) jobs.old.items jobs.new.items (W.heard witness.old) (W.heard witness.new) }
+    ensures uses { (d : ℕ) → IfSome replaced.old (λ u. IsRecord d u.chain u.seat.me.0) → Uses P.QSBR tabled B.sizes d (W.seen witness.old) jobs.old.items jobs.new.items (W.heard witness.old) (W.heard witness.new) }
     ensures retired { IfOk result (λ _. replaced.new ≡ None) }
+    ensures kept { (replaced.new ≡ None) ⊎ (replaced.new ≡ replaced.old) }
     ensures stopped { IfErr result (λ e. IsSome replaced.new × IsStopped W.Witness witness.old witness.new jobs.new.items e) }
     ensures heard { Begins (W.heard witness.old) (W.heard witness.new) }
     ensures same { FindsMore W.Witness witness.old witness.new }
@@ -308,7 +309,9 @@ impl<'d, P: GracePlan + Drop, B: Site, D: Deleter> RcuHash<'d, P, B, D> {
     ) -> Result<(), Refusal>
         requires home { W.home witness.old ≡ (B.table, B.sizes) }
         requires waited { HasWaited naming.directory naming.object (W.heard witness.old) }
+        requires record { IfSome replaced.old (λ u. IsRecord naming.directory u.chain u.seat.me.0) }
         requires chains { (0 < vec_len chains.old) × Each (IsLeft naming.directory naming.first naming.buckets) (map (λ c. c.seat.me.0) chains.old.items) }
+        ensures kept { (replaced.new ≡ None) ⊎ (replaced.new ≡ replaced.old) }
         ensures chains { IfErr result (λ _. 0 < vec_len chains.new) × Each (IsLeft naming.directory naming.first naming.buckets) (map (λ c. c.seat.me.0) chains.new.items) }
         ensures uses { Uses P.QSBR tabled B.sizes naming.directory (W.seen witness.old) jobs.old.items jobs.new.items (W.heard witness.old) (W.heard witness.new) }
         ensures stopped { IfErr result (λ e. (IsSome replaced.new ⊎ (0 < objects_in (map (λ c. c.seat.me.0) chains.new.items))) × IsStopped W.Witness witness.old witness.new jobs.new.items e) }
@@ -348,7 +351,7 @@ impl<'d, P: GracePlan + Drop, B: Site, D: Deleter> RcuHash<'d, P, B, D> {
         }
         let Left {
             naming: _,
-            record: mut replaced,
+            unlinked: mut replaced,
             mut chains,
         } = left;
         let answer = self.retire_left(rt, witness, naming, &mut replaced, &mut chains, &mut jobs);
@@ -359,7 +362,7 @@ impl<'d, P: GracePlan + Drop, B: Site, D: Deleter> RcuHash<'d, P, B, D> {
         let left = count(&chains, replaced.is_some() as usize);
         let rest = Left {
             naming,
-            record: replaced,
+            unlinked: replaced,
             chains,
         };
         *place = Some(rest);
@@ -374,7 +377,7 @@ impl<'d, P: GracePlan + Drop, B: Site, D: Deleter> RcuHash<'d, P, B, D> {
         let Some(left) = left else {
             return TidyEnd::done(0, jobs);
         };
-        let many = count(&left.chains, left.record.is_some() as usize);
+        let many = count(&left.chains, left.unlinked.is_some() as usize);
         *place = Some(left);
         TidyEnd::stopped(0, many, jobs, refusal)
     }

@@ -13,6 +13,7 @@ use Rattle.rcu_hash.specs.Copies.{value_among, value_in_bucket}
 use Rattle.rcu_hash.specs.Growing.{CopiesAll, Exchanges, Grows, NotesAll}
 use Rattle.rcu_hash.specs.Leaving.{LeavesMap, Writes}
 use Rattle.rcu_hash.specs.Naming.{words_by}
+use Rattle.rcu_hash.specs.Tidying.{IsRecord}
 use Rattle.rcu_hash.specs.Writers.{Each, HasNote, IsOutside, Noted, value_at}
 use Rattle.rcu_hash.specs.declared.directory.Naming.{Naming}
 use Rattle.rcu_hash.proofs.Emptying.{leaves_weaker}
@@ -80,6 +81,7 @@ invariant_of-result g c =
       alone = x.olds.2;
       keys = x.olds.3;
       notes = subst (λ (m : Naming). Each (HasNote (m.directory + 1)) vs) (sym x.directory) x.olds.4;
+      replaced = subst (λ (m : Naming). IsRecord m.directory c.exchange-directory.result.1.chain c.exchange-directory.result.1.seat.me.0) (sym x.directory) x.unlinked;
       outside = subst (λ (m : Naming). ∥ Each (IsOutside m.first m.buckets) vs ∥₁) (sym x.directory)
           ∣ all_outside d.naming.first d.naming.buckets first (vec_len c.note_all.result) d.naming.first vs apart (omega arith) (omega arith) x.olds.1 ∣₁;
     }

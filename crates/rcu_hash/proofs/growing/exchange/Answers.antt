@@ -1,10 +1,10 @@
-use Rattle.std.proofs.Common.{◌≡◌, ◌+◌, ◌<◌, ◌≤◌, ◌++◌, ℕ, List, [], ◌∷◌, length, map, take, drop, vec_len, sym, ap, ◌∙◌, subst, arith}
+use Rattle.std.proofs.Common.{◌≡◌, ◌+◌, ◌<◌, ◌≤◌, ◌++◌, ℕ, List, [], ◌∷◌, length, map, take, drop, vec_len, sym, ap, ◌∙◌, subst, inl, arith}
 use Rattle.std.proofs.lemmas.List.{length-map}
 use Rattle.rcu_model.specs.declared.event.ObjectId.{ObjectId}
 use Rattle.live_log.specs.declared.event.LiveEvent.{LiveEvent}
 use Rattle.live_log.specs.declared.event.LiveEvent.TheVariants.{Object}
 use Rattle.live_log.specs.declared.event.ObjectEvent.TheVariants.{Replace}
-use Rattle.live_log.specs.Log.{Log, Begins, IsLiveRun, note_of, state_of}
+use Rattle.live_log.specs.Log.{Log, Begins, Has, IsLiveRun, note_of, state_of}
 use Rattle.live_log.specs.Tables.{IsDirectory, IsFree, tabled}
 use Rattle.live_log.proofs.Lemmas.{begins_trans, run_of}
 use Rattle.live_rule.specs.Seats.{lent_chains}
@@ -16,6 +16,7 @@ use Rattle.rcu_hash.specs.Copies.{value_in_bucket}
 use Rattle.rcu_hash.specs.Directories.{directed_map}
 use Rattle.rcu_hash.specs.Growing.{Exchanges}
 use Rattle.rcu_hash.specs.Naming.{words_by}
+use Rattle.rcu_hash.specs.Tidying.{WasReplaced}
 use Rattle.rcu_hash.specs.Writers.{Each, HasNote, HasSeen, Noted, SawBefore, lengths_of, rights_of}
 use Rattle.rcu_hash.proofs.Exchanging.{drop_first, each_all, take_first}
 use Rattle.rcu_hash.proofs.Held.{all_named, drop_all, each_map, each_rights, from_rights, lengths_many, named_by, rights_many, take_all}
@@ -123,6 +124,23 @@ invariant_of-result g c =
       words = ap (λ (l : Log). (note_of l c.object-object.result).1) (t2.from.1 ∙ t1.from.1) ∙ (ap (λ (z : ObjectId). (note_of log z).1) object ∙ (words_after q d o new cell first many before log wrote p.run ∙ ap (words_by first) (sym c.len-buckets.ensures)));
       fits = let range = c.requires.news in let n = c.len-buckets.ensures in (omega arith, omega arith);
     }
+
+-- the record that was replaced
+pub returns-clause-unlinked : goal.returns-clause-unlinked
+returns-clause-unlinked g c =
+    let dir = c.args.directory in let d = dir.naming.directory in
+    let vs = map (λ x. x.seat.me.0) c.args.olds.chains.items in let us = map (λ x. x.seat.me.0) c.args.news.chains.items in
+    let looked = c.note.ensures.looked in let e1 = c.lend_all-old_lents.ensures in let e2 = c.lend_all-new_lents.ensures in
+    let zero = dir.chain.seat.me.0 in let three = c.lend_all-new_lents.new.to.seat.me.0 in let x : ChainRight = own_in zero.chains in
+    let lent : three.chains ≡ x ∷ (rights_of vs ++ rights_of us) = e2.chains ∙ ap (λ (xs : List ChainRight). xs ++ rights_of us) (e1.chains ∙ ap (λ (xs : List ChainRight). xs ++ rights_of vs) (ap (λ (v : View). v.chains) looked.1.1 ∙ (dir.chain.owns.0 ∙ ap (λ (xs : List ChainRight). x ∷ xs) dir.own.1))) in
+    let s = c.in-Ok.ensures in let p = s.replaced in let u = c.in-Ok.unlinked in let owned = c.args.owned.seat.me.0 in let new = object_in owned.object in let cell = cell_in owned.object in let payload = payload_in owned.object in
+    let left : ObjectId = object_in u.seat.me.0.object in
+    let own : x.chain ≡ d = dir.chain.owns.2 ∙ dir.own.0 in
+    let d_is : (own_in three.chains).chain ≡ d = ap (λ (xs : List ChainRight). (own_in xs).chain) lent ∙ own in
+    let event : Object (Replace (own_in three.chains).chain left new cell payload) ≡ Object (Replace d left new cell payload) = λ i. Object (Replace (d_is i) left new cell payload) in
+    let has : Has (Object (Replace d left new cell payload)) u.seat.me.0.seen = subst (Has (Object (Replace d left new cell payload))) (sym (s.object.1 ∙ p.wrote)) (inl event) in
+    let was : WasReplaced d left u.seat.me.0.seen = ∣ (new, cell, payload, has) ∣₁ in
+    (s.object.2 ∙ (e2.same.0 ∙ (e1.same.0 ∙ (looked.2 ∙ dir.own.0))), was)
 
 pub returns-clause-olds : goal.returns-clause-olds
 returns-clause-olds g c =

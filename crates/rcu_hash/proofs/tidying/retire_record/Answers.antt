@@ -1,24 +1,37 @@
-use Rattle.std.proofs.Common.{◌++◌, ◌%◌, ◌∷◌, [], ap, sym, ◌∙◌, subst, refl}
+use Rattle.std.proofs.Common.{rules, ◌≡◌, ℕ, Option, Some, IfSome, ◌++◌, ◌%◌, ◌∷◌, [], ap, sym, ◌∙◌, subst, refl}
+use Rattle.live_log.specs.declared.event.LiveEvent.TheVariants.{Object}
+use Rattle.live_log.specs.declared.event.ObjectEvent.TheVariants.{Queue}
 use Rattle.live_log.specs.Tables.{tabled}
 use Rattle.live_table.specs.Rights.{object_in}
+use Rattle.live_write.specs.declared.records.Unlinked.{Unlinked}
 use Rattle.live_items.specs.Retiring.{IsAfterAll}
-use Rattle.rcu_hash.specs.Tidying.{Retires, Uses}
-use Rattle.rcu_hash.proofs.Emptying.{queued_later, refused_finds, uses_none, uses_one}
+use Rattle.live_words.specs.Queues.{IsLast}
+use Rattle.rcu_hash.specs.Tidying.{IsRecord, Retires, Uses}
+use Rattle.rcu_hash.proofs.Emptying.{queued_later, refused_finds, replaced_later, uses_none, uses_one}
 use Rattle.rcu_hash.proofs.tidying.retire_record.Goals as goal
 
 pub returns-in_default-clause-uses : goal.returns-in_default-clause-uses
-returns-in_default-clause-uses g c d =
+returns-in_default-clause-uses g c d its =
     let w = g.W.Witness in let w0 = c.args.witness.now in
     uses_none g.P.GracePlan.QSBR tabled g.B.Site.sizes d (w.seen w0) c.args.jobs.now.items (w.heard w0) (w.heard w0) ([], refl)
 
 pub returns-in-Ok-clause-uses : goal.returns-in-Ok-clause-uses
-returns-in-Ok-clause-uses g c d =
+returns-in-Ok-clause-uses g c d its =
     let w = g.W.Witness in let w0 = c.args.witness.now in let w2 = c.retire.new.witness in let u = c.in-Some.unlinked in let r = c.in-Ok.ensures.queued in let k = r.2 in
+    let is : c.args.replaced.now ≡ Some u = search rules in
+    let mine : IsRecord d u.chain u.seat.me.0 = subst (λ (x : Option (Unlinked g.row.B.Denot g.B.Site)). IfSome x (λ z. IsRecord d z.chain z.seat.me.0)) is its in
     uses_one g.P.GracePlan.QSBR tabled g.B.Site.sizes d (w.seen w0) c.args.jobs.now.items c.pop.new.self.items c.in-Some-pop.job (w.heard w0) (w.heard w2) Retires refl c.in-Some-pop.ensures.items (record {
-      chain = u.chain;
       object = object_in u.seat.me.0.object;
       given = r.0;
-      queued = record { before = k.before; at = (k.at.1, k.at.2); within = k.within; retired = k.retired; wrote = k.wrote; last = k.last; run = k.run };
+      queued = record {
+        before = k.before;
+        at = (k.at.1, k.at.2, replaced_later d (object_in u.seat.me.0.object) u.seat.me.0.seen k.before k.at.0 mine.1);
+        within = k.within;
+        retired = k.retired;
+        wrote = k.wrote ∙ ap (λ (x : ℕ). Object (Queue (object_in u.seat.me.0.object) (x % g.B.Site.sizes.queues)) ∷ k.within) mine.0;
+        last = subst (λ (x : ℕ). IsLast (x % g.B.Site.sizes.queues) r.0 (object_in u.seat.me.0.object) (w.heard w2)) mine.0 k.last;
+        run = k.run;
+      };
     })
 
 pub returns-in-Ok-clause-heard : goal.returns-in-Ok-clause-heard
@@ -27,7 +40,7 @@ returns-in-Ok-clause-heard g c =
     queued_later g.P.GracePlan.QSBR tabled (IsAfterAll u.seat.me.0.seen (w.seen w0) (w.heard w0)) (object_in u.seat.me.0.object) (u.chain % g.B.Site.sizes.queues) r.0 (w.heard w0) (w.heard w2) r.2 r.2.at.2
 
 pub returns-in-Err-clause-uses : goal.returns-in-Err-clause-uses
-returns-in-Err-clause-uses g c d =
+returns-in-Err-clause-uses g c d its =
     let w = g.W.Witness in let w0 = c.args.witness.now in let w2 = c.retire.new.witness in let e = c.in-Err.ensures in
     let jobs = c.args.jobs.now.items in let left = c.pop.new.self.items in
     let back = c.push_reserved.ensures.items ∙ (ap (λ j. left ++ j ∷ []) e.back.1 ∙ sym c.in-Some-pop.ensures.items) in

@@ -23,5 +23,6 @@ invariant_of-result g c =
       alone = each_map (IsLeft n.directory n.first n.buckets) IsAlone (λ v h. h.0) vs all;
       keys = each_map (IsLeft n.directory n.first n.buckets) HasKeysIn (λ v h. h.1) vs all;
       notes = each_map (IsLeft n.directory n.first n.buckets) (HasNote (n.directory + 1)) (λ v h. h.2) vs all;
+      replaced = l.replaced;
       outside = all_outside n.directory n.first n.buckets vs all;
     }

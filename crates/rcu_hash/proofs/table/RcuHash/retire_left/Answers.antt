@@ -6,7 +6,7 @@ use Rattle.rcu_hash.proofs.Emptying.{err_on, finds_both, objects_some, uses_both
 use Rattle.rcu_hash.proofs.table.RcuHash.retire_left.Goals as goal
 
 pub returns-in_err-retire_record-clause-uses : goal.returns-in_err-retire_record-clause-uses
-returns-in_err-retire_record-clause-uses g c = c.retire_record.ensures.uses c.args.naming.directory
+returns-in_err-retire_record-clause-uses g c = c.retire_record.ensures.uses c.args.naming.directory c.requires.record
 
 pub clear_all-requires-clause-waited : goal.clear_all-requires-clause-waited
 clear_all-requires-clause-waited g c =
@@ -23,7 +23,7 @@ returns-clause-uses g c =
     let q = g.P.GracePlan.QSBR in let w = g.W.Witness in let sizes = g.B.Site.sizes in let d = c.args.naming.directory in
     let w0 = c.args.witness.now in let w1 = c.retire_record.new.witness in let w2 = c.clear_all.new.witness in let r = c.retire_record.ensures in let k = c.clear_all.ensures in
     let jobs = c.args.jobs.now.items in let mid = c.retire_record.new.jobs.items in let left = c.clear_all.new.jobs.items in
-    uses_both q tabled sizes d (w.seen w0) jobs mid left (w.heard w0) (w.heard w1) (w.heard w2) (r.uses d)
+    uses_both q tabled sizes d (w.seen w0) jobs mid left (w.heard w0) (w.heard w1) (w.heard w2) (r.uses d c.requires.record)
     (subst (λ (seen : Log). Uses q tabled sizes d seen mid left (w.heard w1) (w.heard w2)) r.same.0.0 k.uses)
 
 pub returns-clause-same : goal.returns-clause-same
