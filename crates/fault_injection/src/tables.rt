@@ -232,7 +232,7 @@ fn make<P: GracePlan + Drop, R: Wait>(
     again.ok_or(Finding::RefusedAgain(Call::NameDomain))
 }
 
-/// Makes a table in each flavour, and replaces and removes a key.
+/// Makes a table in each flavour, replaces and removes a key, and lets it grow and tidies it.
 pub fn make_tables<R: Wait>(rt: &R, alloc: Global, ledger: &mut Ledger) -> Result<u64, Finding> {
     if make::<MembPlan, R>(rt, alloc, ledger)? && make::<QsbrPlan, R>(rt, alloc, ledger)? {
         Ok(2)

@@ -158,9 +158,13 @@ fn closes_in<P: GracePlan + Drop, B: Site, R: Wait>(
 
 #[test]
 fn a_tidying_stops_where_the_queue_is_closed(rt: HostRuntime) {
-    let opened = Opened::<MembPlan, Tabled>::new(rt.alloc(), of_pool(8)).expect(&rt, "memory");
-    let did = closes_in::<_, Brand, _>(&rt, rt.alloc(), opened).expect(&rt, "not refused");
-    assert_eq!(rt; did, ((0, 4, 5, Some(Refusal::Closed)), true, Some(30)));
+    let answers = ((0, 4, 5, Some(Refusal::Closed)), true, Some(30));
+    let general = Opened::<MembPlan, Tabled>::new(rt.alloc(), of_pool(8)).expect(&rt, "memory");
+    let did = closes_in::<_, Brand, _>(&rt, rt.alloc(), general).expect(&rt, "not refused");
+    assert_eq!(rt; did, answers);
+    let quiescent = Opened::<QsbrPlan, Tabled>::new(rt.alloc(), of_pool(8)).expect(&rt, "memory");
+    let did = closes_in::<_, Brand, _>(&rt, rt.alloc(), quiescent).expect(&rt, "not refused");
+    assert_eq!(rt; did, answers);
 }
 
 /// With one record too few: growths that are refused for their chains, for a chain that has a writer, and for a record;
@@ -246,7 +250,11 @@ fn occupied_in<P: GracePlan + Drop, B: Site, R: Wait>(
 
 #[test]
 fn a_table_does_not_grow_to_chains_of_another(rt: HostRuntime) {
-    let opened = Opened::<MembPlan, Tabled>::new(rt.alloc(), of_pool(12)).expect(&rt, "memory");
-    let did = occupied_in::<_, Brand, _>(&rt, rt.alloc(), opened).expect(&rt, "not refused");
-    assert_eq!(rt; did, ([true; 2], Some(40)));
+    let answers = ([true; 2], Some(40));
+    let general = Opened::<MembPlan, Tabled>::new(rt.alloc(), of_pool(12)).expect(&rt, "memory");
+    let did = occupied_in::<_, Brand, _>(&rt, rt.alloc(), general).expect(&rt, "not refused");
+    assert_eq!(rt; did, answers);
+    let quiescent = Opened::<QsbrPlan, Tabled>::new(rt.alloc(), of_pool(12)).expect(&rt, "memory");
+    let did = occupied_in::<_, Brand, _>(&rt, rt.alloc(), quiescent).expect(&rt, "not refused");
+    assert_eq!(rt; did, answers);
 }

@@ -288,4 +288,7 @@ fn lists_begin_empty(rt: HostRuntime) {
     let general = Opened::<MembPlan, Keyed>::new(rt.alloc(), of_pool(2)).expect(&rt, "memory");
     let did = bad_chains_in::<_, Brand, _>(&rt, rt.alloc(), general).expect(&rt, "not refused");
     assert_eq!(rt; did, [true; 5]);
+    let quiescent = Opened::<QsbrPlan, Keyed>::new(rt.alloc(), of_pool(2)).expect(&rt, "memory");
+    let did = bad_chains_in::<_, Brand, _>(&rt, rt.alloc(), quiescent).expect(&rt, "not refused");
+    assert_eq!(rt; did, [true; 5]);
 }

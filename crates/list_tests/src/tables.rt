@@ -99,6 +99,7 @@ fn calls<P: GracePlan + Drop, B: Site, R: Wait>(
     let past = refuses(rt, alloc, domain, record, (5, 2, 5));
     let behind = refuses(rt, alloc, domain, record, (6, 0, 1));
     let inside = refuses(rt, alloc, domain, record, (5, 5, 1));
+    let last = refuses(rt, alloc, domain, record, (5, 2, 4));
     Ok((
         [
             inserted.is_ok(),
@@ -110,7 +111,7 @@ fn calls<P: GracePlan + Drop, B: Site, R: Wait>(
             held,
             full && noted,
             none,
-            past && behind && inside,
+            past && behind && inside && last,
         ],
         [empty, found, gone, kept],
     ))

@@ -1,6 +1,6 @@
 #![tactic(auto)]
 //! Hash tables over the chains of a domain: lookups in read-side sections, which take no lock, beside writers, who take
-//! the lock of one bucket each.
+//! the lock of one bucket each, and the directory's for each change.
 
 mod bucket;
 mod copying;

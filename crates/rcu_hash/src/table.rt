@@ -48,9 +48,9 @@ pub(crate) fn fits(chains: usize, directory: usize, first: usize, buckets: usize
 
 /// A map from keys to values over the chains of a domain; liburcu's `cds_lfht`. One chain has a directory, which names as
 /// many chains that follow one another as there are buckets. A key lies in the bucket of its number modulo the number of
-/// buckets. Each bucket has a lock for its writers; lookups take none. `grow` puts another directory in the place of this
-/// one while the table is read. Dropping the table gives its chains back with their keys and notes, so that no other table
-/// or list can be made over them.
+/// buckets. A writer takes its bucket's lock, and the directory's for its change; lookups take none. `grow` puts another
+/// directory in the place of this one while the table is read. Dropping the table gives its chains back with their keys
+/// and notes, so that no other table or list can be made over them.
 #[derive(Drop)]
 pub struct RcuHash<'d, P: GracePlan, B: Site, D: Deleter = Callback> {
     /// The chain of its directory.
@@ -65,11 +65,12 @@ pub struct RcuHash<'d, P: GracePlan, B: Site, D: Deleter = Callback> {
 
 impl<'d, P: GracePlan + Drop, B: Site, D: Deleter> RcuHash<'d, P, B, D> {
     /// A table with no keys: one record, which becomes the directory, and as many chains as it has buckets, from the first
-    /// one on. The caller hears of the log in which the directory came: no key has a value in it.
+    /// one on. The caller hears of the log in which the directory came, after the notes of the buckets: no key has a value
+    /// in it.
     ///
     /// Refused with `BadConfig` where the number of buckets is not 1 to 4,096, a chain is not there or the directory's
-    /// chain is one of the buckets', else with `Memory` where memory is, with `BadConfig` where a chain has a writer, is
-    /// not empty or has a note other than 0, or with `PoolFull` where there is no record. It waits for nobody, but tries
+    /// chain is one of the buckets', else with `Memory` where memory is, with `BadConfig` where a chain had a writer,
+    /// linked an object or had a note other than 0 during the call, or with `PoolFull` where there is no record. It waits for nobody, but tries
     /// again where other threads draw object numbers meanwhile.
     pub fn new<W: Witness, R: Wait>(
         rt: &R,

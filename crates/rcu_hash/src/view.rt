@@ -173,9 +173,9 @@ impl<B: Site> TableView<B> {
     }
 
     /// Goes through the table, liburcu's `cds_lfht_for_each`: a call with the key and the value of each entry that it comes
-    /// to, bucket by bucket. A key that is there all along, from the call to the return, is met exactly once, also while
-    /// its value is replaced and while the table grows; one that never is there is not met; and each value is one that
-    /// its key had meanwhile.
+    /// to. A key that is there all along, from the call to the return, is met exactly once, also while its value is
+    /// replaced and while the table grows; one that never is there is not met; and each value is one that its key had
+    /// meanwhile.
     ///
     /// It returns where each call does, since ranks fall along each chain. It never waits and takes no memory.
     pub fn for_each<P: GracePlan, F: FnMut(u64, u64)>(

@@ -241,9 +241,8 @@ impl<B: Site> ListView<B> {
     }
 
     /// Goes through the list, liburcu's `cds_list_for_each_entry_rcu`: a call with the key and the value of each object
-    /// that it comes to, the key that was inserted last first. A key that is there all along, from the call to the
-    /// return, is met exactly once, also while its value is replaced; one that never is there is not met; and each value
-    /// is one that its key had meanwhile.
+    /// that it comes to. A key that is there all along, from the call to the return, is met exactly once, also while its
+    /// value is replaced; one that never is there is not met; and each value is one that its key had meanwhile.
     ///
     /// It loads two words of each object that it passes, its link, and the rank of the first one. It returns where each
     /// call does, since ranks fall along the chain. It never waits and takes no memory.
