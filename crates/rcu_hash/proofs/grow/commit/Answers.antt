@@ -1,6 +1,5 @@
-use Rattle.std.proofs.Common.{◌≡◌, ◌⊎◌, ◌+◌, ◌%◌, ◌≤◌, ℕ, List, [], ◌∷◌, length, map, slice_get, vec_len, refl, sym, ap, ◌∙◌, subst, arith}
+use Rattle.std.proofs.Common.{◌≡◌, ◌⊎◌, ◌+◌, ◌%◌, ◌≤◌, ℕ, List, [], ◌∷◌, length, map, vec_len, sym, ap, ◌∙◌, subst, arith}
 use Rattle.std.proofs.lemmas.List.{length-map}
-use Rattle.rcu_model.specs.declared.event.ObjectId.{ObjectId}
 use Rattle.live_log.specs.Log.{Log, Begins, note_of, state_of}
 use Rattle.live_log.specs.Tables.{tabled}
 use Rattle.live_log.proofs.Lemmas.{begins_trans, run_of}
@@ -14,7 +13,7 @@ use Rattle.rcu_hash.specs.Growing.{CopiesAll, Exchanges, Grows, NotesAll}
 use Rattle.rcu_hash.specs.Leaving.{LeavesMap, Writes}
 use Rattle.rcu_hash.specs.Naming.{words_by}
 use Rattle.rcu_hash.specs.Tidying.{IsRecord}
-use Rattle.rcu_hash.specs.Writers.{Each, HasNote, IsOutside, Noted, value_at}
+use Rattle.rcu_hash.specs.Writers.{Each, HasNote, IsOutside, Noted}
 use Rattle.rcu_hash.specs.declared.directory.Naming.{Naming}
 use Rattle.rcu_hash.proofs.Emptying.{leaves_weaker}
 use Rattle.rcu_hash.proofs.Exchanging.{each_all}

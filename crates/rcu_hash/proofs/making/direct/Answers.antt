@@ -1,4 +1,4 @@
-use Rattle.std.proofs.Common.{◌≡◌, ◌≢◌, ◌⊎◌, ⊎_elim, ◌+◌, ◌%◌, ◌<◌, ◌≤◌, ◌++◌, ℕ, List, [], ◌∷◌, None, length, map, take, drop, slice_index_or, vec_len, inl, refl, sym, ap, ◌∙◌, subst, arith}
+use Rattle.std.proofs.Common.{◌≡◌, ◌≢◌, ◌⊎◌, ⊎_elim, ◌+◌, ◌<◌, ◌≤◌, ◌++◌, ℕ, List, [], ◌∷◌, None, length, map, take, drop, slice_index_or, vec_len, inl, refl, sym, ap, ◌∙◌, subst, arith}
 use Rattle.std.proofs.lemmas.List.{length-map}
 use Rattle.std.proofs.lemmas.Nat.{mod_below}
 use Rattle.rcu_model.specs.declared.event.ObjectId.{ObjectId}
@@ -6,13 +6,12 @@ use Rattle.rcu_model.proofs.Lemmas.{at_number_other}
 use Rattle.live_log.specs.declared.event.LiveEvent.{LiveEvent}
 use Rattle.live_log.specs.declared.event.LiveEvent.TheVariants.{Object}
 use Rattle.live_log.specs.declared.event.ObjectEvent.TheVariants.{Push}
-use Rattle.live_log.specs.Log.{Log, Begins, Has, IsLiveRun, chain_note, note_of, state_of}
+use Rattle.live_log.specs.Log.{Log, Begins, Has, note_of, state_of}
 use Rattle.live_log.specs.Tables.{IsFree, tabled}
 use Rattle.live_log.proofs.Lemmas.{begins_trans, pushed_note, run_of}
 use Rattle.live_read.specs.Hearing.{IsAfter}
 use Rattle.live_rule.specs.Seats.{lent_chains}
 use Rattle.live_rule.specs.declared.rights.ChainRight.{ChainRight}
-use Rattle.live_rule.specs.declared.view.View.{View}
 use Rattle.live_table.specs.Rights.{AreAsKnown, cell_in, object_in, own_in, payload_in}
 use Rattle.live_write.specs.Chains.{push_by}
 use Rattle.rcu_list.specs.Maps.{map_of, value_in}
@@ -21,7 +20,7 @@ use Rattle.rcu_hash.specs.Directories.{LeadsTo, directed_map}
 use Rattle.rcu_hash.specs.Leaving.{Writes}
 use Rattle.rcu_hash.specs.Naming.{IsNamedBy, words_by}
 use Rattle.rcu_hash.specs.Tables.{bucket_of}
-use Rattle.rcu_hash.specs.Writers.{AreFrom, Each, HasKeysIn, HasNothing, lengths_of, rights_of}
+use Rattle.rcu_hash.specs.Writers.{Each, HasKeysIn, HasNothing, lengths_of, rights_of}
 use Rattle.rcu_hash.proofs.Directing.{directed_is}
 use Rattle.rcu_hash.proofs.Held.{all_named, drop_all, each_map, each_rights, free_after, from_rights, known_empty, known_note, lengths_many, may_direct, named_by, nothing_has_keys, rights_many, take_all, undirected_free}
 use Rattle.rcu_hash.proofs.Named.{leads_all, leads_there}

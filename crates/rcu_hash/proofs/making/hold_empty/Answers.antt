@@ -1,4 +1,4 @@
-use Rattle.std.proofs.Common.{◌≡◌, ◌≢◌, ◌⊎◌, ◌≤◌, ◌<◌, ◌++◌, ℕ, List, [], ◌∷◌, length, ap, sym, ◌∙◌, subst, refl, inl, inr, ⊎_elim, arith}
+use Rattle.std.proofs.Common.{◌≡◌, ℕ, List, [], ◌∷◌, length, ap, sym, ◌∙◌, subst, refl, inl, inr, ⊎_elim, arith}
 use Rattle.live_log.specs.Log.{Log, Begins, chain_note, state_of}
 use Rattle.live_log.specs.Tables.{tabled}
 use Rattle.live_log.proofs.Lemmas.{begins_trans}
@@ -9,7 +9,7 @@ use Rattle.live_rule.specs.declared.view.View.{View}
 use Rattle.live_table.specs.Rights.{own_in}
 use Rattle.live_write.specs.Chains.{list_in}
 use Rattle.rcu_list.proofs.Lemmas.{stays_both}
-use Rattle.rcu_hash.specs.Refusing.{FindsTaken, IsInUse}
+use Rattle.rcu_hash.specs.Refusing.{IsInUse}
 use Rattle.rcu_hash.proofs.making.hold_empty.Goals.{then-note-ne0-via-then-note-ne0, then-note-ne0-via-else-note-ne0+then-len-ne0}
 use Rattle.rcu_hash.proofs.making.hold_empty.Goals as goal
 

@@ -10,7 +10,7 @@ use Rattle.live_table.specs.Rights.{AreAsKnown}
 use Rattle.rcu_list.proofs.Lemmas.{stays_both}
 use Rattle.rcu_hash.specs.Growing.{NotesAll}
 use Rattle.rcu_hash.specs.Leaving.{Writes}
-use Rattle.rcu_hash.specs.Writers.{Each, HasNoNote, HasNote, IsAlone, IsRunIn, IsSame, Noted, Pairwise}
+use Rattle.rcu_hash.specs.Writers.{Each, HasNoNote, IsAlone, IsRunIn, IsSame, Noted, Pairwise}
 use Rattle.rcu_hash.proofs.Emptying.{writes_weaker}
 use Rattle.rcu_hash.proofs.Filling.{from_behind, notes_more}
 use Rattle.rcu_hash.proofs.Held.{each_head, each_last, pair_from, pair_same, pair_step}

@@ -1,8 +1,4 @@
 use Rattle.std.proofs.Common.{length, ap, arith}
-use Rattle.std.specs.Vec.Iter.{into_iter_items}
-use Rattle.rcu_hash.specs.Naming.{IsNamedBy}
-use Rattle.rcu_hash.specs.Writers.{HasKeysIn, IsAlone}
-use Rattle.rcu_hash.proofs.Held.{each_head}
 use Rattle.rcu_hash.proofs.making.shelve.Goals as goal
 
 pub loop-init : goal.loop-init

@@ -1,4 +1,4 @@
-use Rattle.std.proofs.Common.{◌≡◌, ◌%◌, ◌≤◌, ℕ, List, [], ◌∷◌, ◌++◌, Some, IsSome, arith, length, slice_get, ap, sym, ◌∙◌, subst, slice_index_or, refl}
+use Rattle.std.proofs.Common.{◌≡◌, ◌%◌, ◌≤◌, ℕ, List, [], ◌∷◌, ◌++◌, IsSome, arith, length, slice_get, ap, sym, ◌∙◌, subst, slice_index_or}
 use Rattle.std.proofs.Math.Logic.{∥∥₁_map}
 use Rattle.rcu_model.specs.declared.event.ObjectId.{ObjectId}
 use Rattle.rcu_model.specs.Sets.{In}

@@ -1,4 +1,4 @@
-use Rattle.std.proofs.Common.{◌+◌, ◌++◌, ◌∷◌, [], arith, ap, sym, ◌∙◌, subst, refl}
+use Rattle.std.proofs.Common.{◌++◌, ◌∷◌, [], arith, ap, sym, ◌∙◌, subst, refl}
 use Rattle.live_log.specs.Log.{Log}
 use Rattle.live_log.specs.Tables.{tabled}
 use Rattle.rcu_hash.specs.Tidying.{Cuts, RetiresObject, Uses}

@@ -1,6 +1,6 @@
-use Rattle.std.proofs.Common.{rules, ◌≡◌, ◌⊎◌, ◌+◌, ◌<◌, ◌≤◌, ◌++◌, ℕ, List, [], ◌∷◌, None, inl, inr, ⊎_elim, arith, vec_len, map, refl, sym, ap, ◌∙◌, subst, append_assoc}
+use Rattle.std.proofs.Common.{rules, ◌≡◌, ◌⊎◌, ◌+◌, ◌<◌, ◌≤◌, ◌++◌, ℕ, [], ◌∷◌, None, inl, inr, ⊎_elim, arith, vec_len, map, refl, sym, ap, ◌∙◌, subst}
 use Rattle.std.proofs.lemmas.Result.{err_from_is_err_and}
-use Rattle.rcu_model.specs.declared.refusal.Refusal.TheVariants.{BadConfig, Memory, PoolFull}
+use Rattle.rcu_model.specs.declared.refusal.Refusal.TheVariants.{BadConfig, Memory}
 use Rattle.live_log.specs.declared.event.LiveEvent.TheVariants.{Object}
 use Rattle.live_log.specs.declared.event.ObjectEvent.TheVariants.{Push}
 use Rattle.live_log.specs.Log.{Log, Begins}

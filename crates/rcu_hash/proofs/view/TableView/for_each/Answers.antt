@@ -1,4 +1,4 @@
-use Rattle.std.proofs.Common.{◌≡◌, ℕ, List, [], Option, None, refl, ap, subst}
+use Rattle.std.proofs.Common.{ℕ, [], Option, refl, ap, subst}
 use Rattle.rcu_model.specs.declared.event.ObjectId.{ObjectId}
 use Rattle.live_log.specs.Log.{Log}
 use Rattle.live_log.specs.Tables.{tabled}

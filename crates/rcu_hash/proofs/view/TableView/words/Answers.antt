@@ -1,4 +1,4 @@
-use Rattle.std.proofs.Common.{◌≡◌, ℕ, List, ap, sym, ◌∙◌, slice_index_or}
+use Rattle.std.proofs.Common.{ℕ, List, ap, ◌∙◌, slice_index_or}
 use Rattle.live_log.specs.Tables.{tabled}
 use Rattle.live_read.proofs.Lemmas.{looks_twice}
 use Rattle.rcu_hash.proofs.view.TableView.words.Goals as goal
