@@ -13,8 +13,8 @@ use Rattle.live_log.proofs.Lemmas.{chain_used, note_stays}
 use Rattle.rcu_list.specs.Calls as list
 use Rattle.rcu_list.specs.Maps.{map_of, value_in, words_of}
 use Rattle.rcu_list.proofs.Lemmas.{value_same}
-use Rattle.rcu_hash.specs.Calls.{Changes, Inserts, Removes, Replaces}
-use Rattle.rcu_hash.specs.Tables.{bucket_of, table_of}
+use Rattle.rcu_hash.proofs.Ranges.{Changes, Inserts, Removes, Replaces, table_of}
+use Rattle.rcu_hash.specs.Tables.{bucket_of}
 
 -- two maps that agree on a key do so once another key is changed in both
 pub changed_same : (key : ℕ) (has : Option ℕ) (f g : ℕ → Option ℕ) (k : ℕ) → f k ≡ g k → at_number key has f k ≡ at_number key has g k

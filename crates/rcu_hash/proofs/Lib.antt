@@ -10,6 +10,7 @@ pub mod Hearing
 pub mod Lending
 pub mod Looking
 pub mod Named
+pub mod Ranges
 pub mod Regrown
 pub mod Relinking
 pub mod Taking

@@ -21,9 +21,9 @@ use Rattle.rcu_list.specs.Preparing.{MayComeIn, MayTakeOver}
 use Rattle.rcu_list.proofs.Lemmas.{MayWriteIn}
 use Rattle.rcu_hash.specs.Directories.{LeadsTo, directed_map, leads}
 use Rattle.rcu_hash.specs.Naming.{WasNamed, words_by}
-use Rattle.rcu_hash.specs.Calls.{Changes, Inserts, Removes, Replaces}
+use Rattle.rcu_hash.proofs.Ranges.{Changes, Inserts, Removes, Replaces, table_of}
 use Rattle.rcu_hash.specs.Publishing.{ChangesThrough, InsertsThrough, RemovesThrough, ReplacesThrough}
-use Rattle.rcu_hash.specs.Tables.{bucket_of, table_of}
+use Rattle.rcu_hash.specs.Tables.{bucket_of}
 use Rattle.rcu_hash.proofs.Changing.{changed_same}
 use Rattle.rcu_hash.proofs.Directing.{directed_is}
 

@@ -1,4 +1,3 @@
-pub mod Calls
 pub mod Copies
 pub mod Directories
 pub mod Growing

@@ -1,7 +1,5 @@
--- The map of a table over chains that follow one another.
-use Rattle.std.specs.Prelude.{ℕ, ◌<◌, ◌≤◌, ◌+◌, ◌%◌, ◌&&◌, ◌||◌, Bool, nat_le, nat_lt, Option}
-use Rattle.live_log.specs.Log.{Log}
-use Rattle.rcu_list.specs.Maps.{map_of}
+-- Tables over chains that follow one another.
+use Rattle.std.specs.Prelude.{ℕ, ◌<◌, ◌≤◌, ◌+◌, ◌%◌, ◌&&◌, ◌||◌, Bool, nat_le, nat_lt}
 
 -- the chain of a key's bucket, in a table over as many chains as it has buckets, from the first one on
 abbrev pub bucket_of : ℕ → ℕ → ℕ → ℕ
@@ -18,7 +16,3 @@ are_apart first buckets other many = nat_le (first + buckets) other || nat_le (o
 -- it is one of so many chains, from the first one on
 abbrev pub IsAmong : ℕ → ℕ → ℕ → Type 0
 IsAmong first many c = (first ≤ c) × (c < first + many)
-
--- the map of a table: a key counts in the chain of its own bucket alone
-abbrev pub table_of : ℕ → ℕ → Log → ℕ → Option ℕ
-table_of first buckets log key = map_of log (bucket_of first buckets key) key

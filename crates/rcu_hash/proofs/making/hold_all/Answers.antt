@@ -54,6 +54,9 @@ pub returns-in_err-hold_empty-clause-refused : goal.returns-in_err-hold_empty-cl
 returns-in_err-hold_empty-clause-refused g c =
     let w = g.W.Witness in let w0 = c.args.witness.now in let w1 = c.loop-number.witness in let w2 = c.hold_empty.new.witness in
     let i = c.loop-number.invariant in let first = c.args.first in let p = err_from_is_err_and c.from_residual.result c.from_residual.ensures.1 in let no = c.in_err-hold_empty.ensures.refused in
-    rw p.1 (p.2 ∙ no.0, taken_since w g.P.GracePlan.QSBR tabled g.B.Site.sizes (λ k. k ≡ first + c.loop-number.number) (IsAmong first c.args.many)
-    (λ k is. let low = c.loop-number-test.true in (omega (arith, is), omega (arith, is))) w0 w1 w2 i.3.0 i.6 i.5.0 i.5.1
-    (λ k is. other_hold g.B.Site.sizes (λ j. j < first + c.loop-number.number) i.5.0 k 0 i.5.2 (λ j low same. absurd (omega (arith, is, low, same)))) no.1)
+    rw p.1 (
+      p.2 ∙ no.0,
+      taken_since w g.P.GracePlan.QSBR tabled g.B.Site.sizes (λ k. k ≡ first + c.loop-number.number) (IsAmong first c.args.many)
+          (λ k is. let low = c.loop-number-test.true in (omega (arith, is), omega (arith, is))) w0 w1 w2 i.3.0 i.6 i.5.0 i.5.1
+          (λ k is. other_hold g.B.Site.sizes (λ j. j < first + c.loop-number.number) i.5.0 k 0 i.5.2 (λ j low same. absurd (omega (arith, is, low, same)))) no.1,
+    )

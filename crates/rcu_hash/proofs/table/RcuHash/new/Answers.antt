@@ -120,10 +120,13 @@ returns-in_err-chains-2-clause-refused g c =
     let w = g.W.Witness in let w0 = c.args.witness.now in let w1 = c.hold_empty.new.witness in let w2 = c.hold_all.new.witness in let sizes = g.B.Site.sizes in let directory = c.args.directory in let first = c.args.first in let many = c.args.buckets in
     let p = err_from_is_err_and c.from_residual-in_err-chains-2.result c.from_residual-in_err-chains-2.ensures.1 in let no = c.in_err-chains-2.ensures.refused in let a = c.hold_empty.ensures in
     let out : (directory < first) ⊎ (first + many ≤ directory) = search rules in
-    rw p.1 (inl (p.2 ∙ no.0, inr (taken_since w g.P.GracePlan.QSBR tabled sizes (IsAmong first many) (λ k. (k ≡ directory) ⊎ IsAmong first many k) (λ k among. inr among) w0 w1 w2 a.same.0.0 a.heard.after_heard
-    ((hold_at sizes directory, 0) ∷ []) c.in_ok-own.ensures.held.4
-    (λ k among h. ⊎_elim
-        (λ (same : ◌≡◌ {A = ℕ × ℕ} (hold_at sizes directory, 0) (hold_at sizes k, 0)). let place : hold_at sizes directory ≡ hold_at sizes k = ap (λ (x : ℕ × ℕ). x.0) same in
-        ⊎_elim (λ under. absurd (omega (arith, place, under, among))) (λ over. absurd (omega (arith, place, over, among))) out)
-        (λ none. absurd none) h)
-    no.1)))
+    rw p.1 (inl (
+      p.2 ∙ no.0,
+      inr (taken_since w g.P.GracePlan.QSBR tabled sizes (IsAmong first many) (λ k. (k ≡ directory) ⊎ IsAmong first many k) (λ k among. inr among) w0 w1 w2 a.same.0.0 a.heard.after_heard
+          ((hold_at sizes directory, 0) ∷ []) c.in_ok-own.ensures.held.4
+          (λ k among h. ⊎_elim
+          (λ (same : ◌≡◌ {A = ℕ × ℕ} (hold_at sizes directory, 0) (hold_at sizes k, 0)). let place : hold_at sizes directory ≡ hold_at sizes k = ap (λ (x : ℕ × ℕ). x.0) same in
+          ⊎_elim (λ under. absurd (omega (arith, place, under, among))) (λ over. absurd (omega (arith, place, over, among))) out)
+          (λ none. absurd none) h)
+          no.1),
+    ))

@@ -1,4 +1,4 @@
--- What an accepted call of a table's writer tells.
+-- What an event tells of the map of buckets that follow one another, whichever directory names them.
 use Rattle.std.specs.Prelude.{◌≡◌, ◌∷◌, Bool, ℕ, Option, Some, None}
 use Rattle.rcu_model.specs.declared.event.ObjectId.{ObjectId}
 use Rattle.rcu_model.specs.Sets.{at_number}
@@ -6,8 +6,12 @@ use Rattle.live_log.specs.declared.event.LiveEvent.{LiveEvent}
 use Rattle.live_log.specs.declared.event.LiveEvent.TheVariants.{Object}
 use Rattle.live_log.specs.declared.event.ObjectEvent.TheVariants.{Push, Replace, Cut}
 use Rattle.live_log.specs.Log.{Log, Begins, IsLiveRun}
-use Rattle.rcu_list.specs.Maps.{words_of}
-use Rattle.rcu_hash.specs.Tables.{bucket_of, table_of}
+use Rattle.rcu_list.specs.Maps.{map_of, words_of}
+use Rattle.rcu_hash.specs.Tables.{bucket_of}
+
+-- the map: a key counts in the chain of its own bucket alone
+abbrev pub table_of : ℕ → ℕ → Log → ℕ → Option ℕ
+table_of first buckets log key = map_of log (bucket_of first buckets key) key
 
 -- by the rule of chains, the table's first chain and how many it has, and what the caller had seen and heard of
 module _ (qsbr : Bool) (allows : Log → LiveEvent → Type 0) (first buckets : ℕ) (seen heard : Log) where
