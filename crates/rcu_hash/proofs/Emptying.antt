@@ -24,8 +24,7 @@ use Rattle.live_read.specs.Hearing.{OnlyHears}
 use Rattle.live_read.specs.declared.witness.Witness.{Ghosts}
 use Rattle.live_reclaim.specs.Refusing.{RefusesRetirement}
 use Rattle.live_write.specs.Chains.{MayPublish, list_in}
-use Rattle.rcu_list.specs.Maps.{map_of, value_in}
-use Rattle.rcu_list.proofs.Lemmas.{KnowsKeys, stays_both, value_same}
+use Rattle.rcu_list.proofs.Lemmas.{KnowsKeys, stays_both}
 use Rattle.rcu_hash.specs.Directories.{directed_map}
 use Rattle.rcu_hash.specs.Leaving.{LeavesMap, Writes}
 use Rattle.rcu_hash.specs.Naming.{words_by}

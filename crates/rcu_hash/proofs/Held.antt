@@ -14,14 +14,13 @@ use Rattle.live_log.specs.declared.event.LiveEvent.{LiveEvent}
 use Rattle.live_log.specs.declared.event.LiveEvent.TheVariants.{Close, Object}
 use Rattle.live_log.specs.declared.event.ObjectEvent.TheVariants.{Replace}
 use Rattle.live_log.specs.Log.{Log, Begins, Has, HaveEnded, IsLiveRun, chain_note, note_of, state_of}
-use Rattle.live_log.specs.Tables.{HasKey, IsDirectory, IsFree, IsReplaced, MayDirect, Names, tabled}
+use Rattle.live_log.specs.Tables.{IsDirectory, IsFree, IsReplaced, MayDirect, Names, tabled}
 use Rattle.live_log.proofs.Lemmas.{begins_trans, chain_used, linked_or_replaced, note_stays, noted_or_ended, replaced_note, run_of, unnoted_free}
-use Rattle.live_rule.specs.Seats.{lent_chains}
 use Rattle.live_rule.specs.declared.rights.ChainRight.{ChainRight}
 use Rattle.live_rule.specs.declared.view.View.{View}
 use Rattle.live_table.specs.Rights.{AreAsKnown, cell_in, own_in, payload_in}
-use Rattle.live_write.specs.Chains.{MayPublish, list_in, push_by, replace_by}
-use Rattle.rcu_hash.specs.Naming.{IsNamedBy, WasNamed, words_by}
+use Rattle.live_write.specs.Chains.{MayPublish, push_by, replace_by}
+use Rattle.rcu_hash.specs.Naming.{IsNamedBy, words_by}
 use Rattle.rcu_hash.specs.Writers.{AreFrom, Each, HasKeysIn, HasNote, HasNothing, HasSeen, IsSame, Pairwise, lengths_of, rights_of}
 
 -- what was looked at, and then more

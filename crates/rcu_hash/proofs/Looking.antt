@@ -1,15 +1,13 @@
 -- What a lookup that read a directory answers.
-use Rattle.std.proofs.Common.{◌≡◌, ◌≢◌, ℕ, ◌<◌, ◌≤◌, ◌+◌, ◌%◌, ◌==◌, ◌&&◌, Bool, true, false, List, [], Option, Some, None, cond, nat_lt, refl, sym, ap, ◌∙◌, subst, arith, ne_eqb, eq-eqb, lt_of_not-le}
+use Rattle.std.proofs.Common.{◌≡◌, ℕ, ◌<◌, ◌≤◌, ◌+◌, ◌%◌, ◌==◌, ◌&&◌, Bool, true, false, List, [], Option, Some, None, cond, nat_lt, refl, sym, ap, ◌∙◌, subst, arith, eq-eqb, lt_of_not-le}
 use Rattle.std.proofs.lemmas.Bool.{eqb-true, lt-ltb, ltb-true}
 use Rattle.std.proofs.lemmas.Nat.{mod_below}
 use Rattle.std.proofs.Math.Nat.{mod-eq_of_lt}
 use mathlib.Core.Logic.{dite}
-use mathlib.Core.Option.{some}
 use native.Mathlib.Decide.{dec_le}
 use Rattle.rcu_model.specs.declared.event.ObjectId.{ObjectId}
-use Rattle.rcu_model.specs.Sets.{first_of}
 use Rattle.live_log.specs.declared.event.LiveEvent.TheVariants.{Close}
-use Rattle.live_log.specs.Log.{Log, Begins, Has, IsOpenSection, note_of, objects_of}
+use Rattle.live_log.specs.Log.{Log, Begins, Has, note_of}
 use Rattle.live_log.specs.Tables.{kind_of, tabled}
 use Rattle.live_log.proofs.Lemmas.{begins_trans}
 use Rattle.live_read.specs.declared.reader.Reader.{Reader}
@@ -19,7 +17,7 @@ use Rattle.live_read.specs.Reads.{FindsFirst, Looks}
 use Rattle.live_read.specs.Sections.{IsIn}
 use Rattle.live_read.proofs.Lemmas.{looks_twice}
 use Rattle.rcu_list.specs.Maps.{AnswersBetween, map_of}
-use Rattle.rcu_hash.specs.Directories.{AnswersThrough, WalksThrough, buckets_in, first_in, bucket_in, directed_map, leads, leads_to, value_through}
+use Rattle.rcu_hash.specs.Directories.{AnswersThrough, WalksThrough, buckets_in, first_in, bucket_in, leads, leads_to, value_through}
 use Rattle.rcu_hash.specs.Tables.{bucket_of}
 use Rattle.rcu_hash.proofs.Going.{WentThrough}
 use Rattle.rcu_hash.proofs.Directing.{answers_for_table, both}

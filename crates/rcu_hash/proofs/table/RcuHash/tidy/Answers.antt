@@ -1,4 +1,3 @@
-use Rattle.live_log.proofs.Lemmas.{begins_trans}
 use Rattle.live_log.specs.Tables.{tabled}
 use Rattle.rcu_hash.proofs.Emptying.{heard_on}
 use Rattle.rcu_hash.proofs.table.RcuHash.tidy.Goals as goal
