@@ -68,7 +68,7 @@ one_fewer (x ∷ xs) o once at = by (object_tells x o)
 
 -- what was replaced in an earlier log was in a later one
 pub replaced_later : (d : ℕ) (o : ObjectId) (log later : Log) → Begins log later → WasReplaced d o log → WasReplaced d o later
-replaced_later d o log later b was = ∥∥₁_map was (λ r. (r.0, r.1, r.2, subst (Has (Object (Replace d o r.0 r.1 r.2))) (sym b.1) (has_later (Object (Replace d o r.0 r.1 r.2)) b.0 log r.3)))
+replaced_later d o log later b was = ∥∥₁_map was (λ r. (r.0, r.1, r.2, r.3, subst (Has (Object (Replace d o r.0 r.1 r.2))) (sym b.1) (has_later (Object (Replace d o r.0 r.1 r.2)) b.0 log r.4)))
 
 -- the one object of a list
 only : (p o : ObjectId) → In (p ∷ []) o → p ≡ o

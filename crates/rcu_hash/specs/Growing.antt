@@ -1,4 +1,4 @@
--- What a growth tells.
+-- What a new table and a growth tell.
 use Rattle.std.specs.Prelude.{◌≡◌, ℕ, ◌+◌, ◌∷◌, [], Bool, List, zero, suc}
 use Rattle.rcu_model.specs.declared.event.ObjectId.{ObjectId}
 use Rattle.live_log.specs.declared.event.LiveEvent.{LiveEvent}
@@ -21,7 +21,7 @@ pub record HasLeft (d : ℕ) (log : Log) : Type 0 where
   pub present : (state_of log).chain d ≡ object ∷ []
   pub unnamed : ¬ (Names (note_of log object) chain)
 
--- by what is told of an event: of what was heard of before it, of itself, and of the log that ends with it
+-- by what is told of an event: from what was heard of before it, the event, and the log that ends with it
 module _ (Tells : Log → LiveEvent → Log → Type 0) (first buckets : ℕ) where
   -- a key got a record with its value, by a push into the chain of its bucket
   pub record CopiesKey (heard : Log) (entry : ℕ × ℕ) (log : Log) : Type 0 where
@@ -40,7 +40,7 @@ abbrev pub NotesAll : (Log → LiveEvent → Log → Type 0) → (note first man
 NotesAll Tells note first zero heard log = Begins heard log
 NotesAll Tells note first (suc many) heard log = (at : Log) × Tells heard (ChainNote first note) at × NotesAll Tells note (first + 1) many at log
 
--- Each bucket of a new table got its note, and then its directory came into the directory's chain, all after what the
+-- Each bucket of a new table got the table's note, and then its directory came into the directory's chain, all after what the
 -- caller had seen and heard of.
 pub record Founds (qsbr : Bool) (allows : Log → LiveEvent → Type 0) (d : ℕ) (seen heard : Log) (first buckets : ℕ) (log : Log) : Type 0 where
   pub noted : Log
@@ -52,7 +52,7 @@ pub record Founds (qsbr : Bool) (allows : Log → LiveEvent → Type 0) (d : ℕ
 -- by the rule of chains, the chains of the domain, the directory's chain, and what the caller had seen
 module _ (qsbr : Bool) (allows : Log → LiveEvent → Type 0) (chains d : ℕ) (seen : Log) where
   -- Another directory took the place of the one that was linked, and the table's map is as it was. Each key is led to its
-  -- bucket among those that the new one names; and these entries, each with another key, are the map.
+  -- bucket among those that the new one names; and these entries, no two of one key, are the map.
   pub record Exchanges (heard : Log) (old : ObjectId) (first buckets : ℕ) (entries : List (ℕ × ℕ)) (log : Log) : Type 0 where
     pub new : ObjectId
     pub cell : ℕ

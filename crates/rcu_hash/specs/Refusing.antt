@@ -1,4 +1,4 @@
--- What is known where a call of a table's writer is refused.
+-- What is known where a call of a table is refused.
 use Rattle.std.specs.Prelude.{◌≡◌, ◌≢◌, ◌⊎◌, ◌%◌, ◌++◌, [], Bool, ℕ, List, None, IsSome}
 use Rattle.rcu_model.specs.declared.refusal.Refusal.{Refusal}
 use Rattle.rcu_model.specs.declared.refusal.Refusal.TheVariants.{Exists, Missing, PoolFull}
@@ -26,8 +26,8 @@ module _ {W : Type 0} (w : Ghosts W) (qsbr : Bool) (allows : Log → LiveEvent �
     pub before : Begins at (w.heard new)
     pub so : is_so at
 
-  -- one of these chains had a writer, as its hold word told, which was not taken in the call; or it was in use in some log
-  -- of the call
+  -- one of these chains had a writer: in the call its hold word was found to be 1, and never 0; or the chain was in use in
+  -- some log of the call
   pub record FindsTaken (sizes : Sizes) (is_one : ℕ → Type 0) : Type 0 where
     pub chain : ℕ
     pub one : is_one chain

@@ -40,11 +40,11 @@ pub record HasWaited (d : ℕ) (o : ObjectId) (log : Log) : Type 0 where
 abbrev pub IsLeft : ℕ → ℕ → ℕ → View → Type 0
 IsLeft d first buckets v = IsAlone v × HasKeysIn v × HasNote (d + 1) v × ∥ IsOutside first buckets v ∥₁
 
--- the object was replaced in chain d; by which one does not matter
+-- a directory took the object's place in chain d, so it was one; which directory that was does not matter
 abbrev pub WasReplaced : ℕ → ObjectId → Log → Type 0
-WasReplaced d o log = ∥ ((new : ObjectId) × (cell : ℕ) × (payload : List ℕ) × Has (Object (Replace d o new cell payload)) log) ∥₁
+WasReplaced d o log = ∥ ((new : ObjectId) × (cell : ℕ) × (payload : List ℕ) × IsDirectory (cell, payload) × Has (Object (Replace d o new cell payload)) log) ∥₁
 
--- a record that was cut from this chain is that of an earlier directory, by what was seen at the cut
+-- a record that left this chain is that of an earlier directory, by what its holder has seen
 abbrev pub IsRecord : ℕ → ℕ → View → Type 0
 IsRecord d chain v = (chain ≡ d) × WasReplaced d (object_in v.object) v.seen
 

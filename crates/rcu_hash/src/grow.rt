@@ -18,7 +18,7 @@ ghost use Rattle.rcu_hash.specs.Writers.{AreFrom, Each, HasKeysIn, IsAlone, IsEm
 use crate::bucket::Bucket;
 use crate::copying::fill;
 use crate::directory::{Desk, Naming};
-use crate::growing::{Lenders, exchange};
+use crate::exchange::{Lenders, exchange};
 use crate::growth::Growth;
 use crate::left::Left;
 use crate::making::{note_all, shelve};
@@ -159,7 +159,7 @@ impl<'d, P: GracePlan + Drop, B: Site, D: Deleter> RcuHash<'d, P, B, D> {
     /// buckets is not 1 to 4,096 or a chain is not there, or is one of the table's, else with `Memory` where memory is,
     /// with `BadConfig` where a chain had a writer, linked an object or had a note other than 0 during the call, or with
     /// `PoolFull` where there is no record for a key or for the directory; then all is as it was, as tests show. It waits
-    /// for the table's locks, and for no grace period.
+    /// for the table's locks, and for no grace period, but tries again where other threads draw object numbers meanwhile.
     pub fn grow<W: Witness, R: Wait>(
         &self,
         rt: &R,
@@ -181,11 +181,11 @@ impl<'d, P: GracePlan + Drop, B: Site, D: Deleter> RcuHash<'d, P, B, D> {
             *place = Some(left.hear(rt, &self.desk, witness));
             return Err(Refusal::Busy);
         }
-        let mut shelf = self.own_shelf(rt);
-        let old = shelf.naming;
         if !fits(self.domain.chains(), self.directory, first, buckets) {
             return Err(Refusal::BadConfig);
         }
+        let mut shelf = self.own_shelf(rt);
+        let old = shelf.naming;
         if !are_apart(old, first, buckets) {
             self.desk.hear_named(rt, old, witness);
             return Err(Refusal::BadConfig);

@@ -180,7 +180,7 @@ fn undo<'d, P: GracePlan + Drop, B: Site, D: Deleter, W: Witness, R: Wait>(
 impl<'d, P: GracePlan + Drop, B: Site, D: Deleter> Growth<'d, P, B, D> {
     /// All that a growth needs before its first event: room, the new chains, a record for each key, one for the directory.
     ///
-    /// Refused with `Memory`, with `BadConfig` where a new chain is not free, empty and without a note, or with `PoolFull`;
+    /// Refused with `Memory`, with `BadConfig` where a new chain has a writer, is not empty or has a note, or with `PoolFull`;
     /// then all is as it was.
     pub(crate) fn ready<W: Witness, R: Wait>(
         rt: &R,

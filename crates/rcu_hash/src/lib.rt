@@ -1,12 +1,12 @@
 #![tactic(auto)]
 //! Hash tables over the chains of a domain: lookups in read-side sections, which take no lock, beside writers, who take
-//! the lock of one bucket each, and the directory's for each change.
+//! the lock of one bucket each, and for moments that of the directory.
 
 mod bucket;
 mod copying;
 mod directory;
+mod exchange;
 mod grow;
-mod growing;
 mod growth;
 mod laws;
 mod left;

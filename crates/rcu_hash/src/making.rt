@@ -41,7 +41,7 @@ pub(crate) fn room<T>(alloc: Global, many: usize) -> Result<Vec<T>, Refusal>
     }
 }
 
-/// The writer of a chain that is free, empty and has no note.
+/// The writer of a chain that has none, is empty and has no note.
 ///
 /// Refused with `BadConfig` exactly where it is not. The caller hears of what was seen. It never waits.
 pub(crate) fn hold_empty<'d, P: GracePlan + Drop, B: Site, D: Deleter, W: Witness>(
@@ -66,7 +66,7 @@ pub(crate) fn hold_empty<'d, P: GracePlan + Drop, B: Site, D: Deleter, W: Witnes
     Ok(writer)
 }
 
-/// The writers of chains that follow one another and are free, empty and have no note. There is room for them.
+/// The writers of chains that follow one another and have none, are empty and have no note. There is room for them.
 ///
 /// Refused with `BadConfig` where one is not; then all are given back. The caller hears of what was seen. It never waits.
 pub(crate) fn hold_all<'d, P: GracePlan + Drop, B: Site, D: Deleter, W: Witness>(

@@ -48,9 +48,9 @@ pub(crate) fn fits(chains: usize, directory: usize, first: usize, buckets: usize
 
 /// A map from keys to values over the chains of a domain; liburcu's `cds_lfht`. One chain has a directory, which names as
 /// many chains that follow one another as there are buckets. A key lies in the bucket of its number modulo the number of
-/// buckets. A writer takes its bucket's lock, and the directory's for its change; lookups take none. `grow` puts another
-/// directory in the place of this one while the table is read. Dropping the table gives its chains back with their keys
-/// and notes, so that no other table or list can be made over them.
+/// buckets. A writer takes its bucket's lock, and the directory's twice: to hear its caller, and for its change; lookups take none.
+/// `grow` puts another directory in the place of this one while the table is read. Dropping the table gives its chains
+/// back with their keys and notes, so that no other table or list can be made over them.
 #[derive(Drop)]
 pub struct RcuHash<'d, P: GracePlan, B: Site, D: Deleter = Callback> {
     /// The chain of its directory.

@@ -385,7 +385,7 @@ impl<'d, P: GracePlan + Drop, B: Site, D: Deleter> RcuHash<'d, P, B, D> {
     /// Retires what earlier directories left, one callback each, from the back. Where something is left it waits for a grace
     /// period first, liburcu's `synchronize_rcu`, so a caller has no section or lock open, and is offline where its reader
     /// is of the quiescent-state flavour. What callbacks it does not use come back. Where nothing is left the chains of
-    /// earlier directories have no note, and are given back, as tests show. Where another thread has tidied since, and the
+    /// earlier directories have no note, and are given back, as tests show. Where another thread has tidied meanwhile, and the
     /// table has grown again, it retires nothing and answers that nothing is left, as there was a moment at which nothing
     /// was.
     ///

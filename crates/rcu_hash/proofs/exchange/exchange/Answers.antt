@@ -18,11 +18,12 @@ use Rattle.rcu_hash.specs.Growing.{Exchanges}
 use Rattle.rcu_hash.specs.Naming.{words_by}
 use Rattle.rcu_hash.specs.Tidying.{WasReplaced}
 use Rattle.rcu_hash.specs.Writers.{Each, HasNote, HasSeen, Noted, SawBefore, lengths_of, rights_of}
+use Rattle.rcu_hash.proofs.Emptying.{by_words}
 use Rattle.rcu_hash.proofs.Exchanging.{drop_first, each_all, take_first}
 use Rattle.rcu_hash.proofs.Held.{all_named, drop_all, each_map, each_rights, from_rights, lengths_many, named_by, rights_many, take_all}
 use Rattle.rcu_hash.proofs.Named.{leads_there}
 use Rattle.rcu_hash.proofs.Relinking.{alone_after, directory_by, first_only, free_named, keys_back, map_after, map_before, may_relink, noted_old, replaced_only, saw_on, words_after, words_since}
-use Rattle.rcu_hash.proofs.growing.exchange.Goals as goal
+use Rattle.rcu_hash.proofs.exchange.exchange.Goals as goal
 
 pub lend_all-old_lents-requires-clause-known : goal.lend_all-old_lents-requires-clause-known
 lend_all-old_lents-requires-clause-known g c =
@@ -139,7 +140,7 @@ returns-clause-unlinked g c =
     let d_is : (own_in three.chains).chain ≡ d = ap (λ (xs : List ChainRight). (own_in xs).chain) lent ∙ own in
     let event : Object (Replace (own_in three.chains).chain left new cell payload) ≡ Object (Replace d left new cell payload) = λ i. Object (Replace (d_is i) left new cell payload) in
     let has : Has (Object (Replace d left new cell payload)) u.seat.me.0.seen = subst (Has (Object (Replace d left new cell payload))) (sym (s.object.1 ∙ p.wrote)) (inl event) in
-    let was : WasReplaced d left u.seat.me.0.seen = ∣ (new, cell, payload, has) ∣₁ in
+    let was : WasReplaced d left u.seat.me.0.seen = ∣ (new, cell, payload, by_words (cell, payload) c.args.first (vec_len c.args.news.chains) c.requires.record, has) ∣₁ in
     (s.object.2 ∙ (e2.same.0 ∙ (e1.same.0 ∙ (looked.2 ∙ dir.own.0))), was)
 
 pub returns-clause-olds : goal.returns-clause-olds
