@@ -1,12 +1,10 @@
 use Rattle.std.proofs.Common.{rules, ◌≡◌, ℕ, Option, Some, IfSome, ◌++◌, ◌%◌, ◌∷◌, [], ap, sym, ◌∙◌, subst, refl}
-use Rattle.live_log.specs.declared.event.LiveEvent.TheVariants.{Object}
-use Rattle.live_log.specs.declared.event.ObjectEvent.TheVariants.{Queue}
+use Rattle.live_log.specs.Log.{Log, Begins}
 use Rattle.live_log.specs.Tables.{tabled}
 use Rattle.live_table.specs.Rights.{object_in}
 use Rattle.live_write.specs.declared.records.Unlinked.{Unlinked}
-use Rattle.live_items.specs.Retiring.{IsAfterAll}
-use Rattle.live_words.specs.Queues.{IsLast}
-use Rattle.rcu_hash.specs.Tidying.{IsRecord, Retires, Uses}
+use Rattle.live_items.specs.Retiring.{IsAfterAll, Queues}
+use Rattle.rcu_hash.specs.Tidying.{IsRecord, Retires, Uses, WasReplaced}
 use Rattle.rcu_hash.proofs.Emptying.{queued_later, refused_finds, replaced_later, uses_none, uses_one}
 use Rattle.rcu_hash.proofs.tidying.retire_record.Goals as goal
 
@@ -23,15 +21,15 @@ returns-in-Ok-clause-uses g c d its =
     uses_one g.P.GracePlan.QSBR tabled g.B.Site.sizes d (w.seen w0) c.args.jobs.now.items c.pop.new.self.items c.in-Some-pop.job (w.heard w0) (w.heard w2) Retires refl c.in-Some-pop.ensures.items (record {
       object = object_in u.seat.me.0.object;
       given = r.0;
-      queued = record {
+      queued = subst (λ (x : ℕ). Queues g.P.GracePlan.QSBR tabled (λ (at : Log). Begins (w.seen w0) at × Begins (w.heard w0) at × WasReplaced d (object_in u.seat.me.0.object) at) (object_in u.seat.me.0.object) (x % g.B.Site.sizes.queues) r.0 (w.heard w2)) mine.0 (record {
         before = k.before;
         at = (k.at.1, k.at.2, replaced_later d (object_in u.seat.me.0.object) u.seat.me.0.seen k.before k.at.0 mine.1);
         within = k.within;
         retired = k.retired;
-        wrote = k.wrote ∙ ap (λ (x : ℕ). Object (Queue (object_in u.seat.me.0.object) (x % g.B.Site.sizes.queues)) ∷ k.within) mine.0;
-        last = subst (λ (x : ℕ). IsLast (x % g.B.Site.sizes.queues) r.0 (object_in u.seat.me.0.object) (w.heard w2)) mine.0 k.last;
+        wrote = k.wrote;
+        last = k.last;
         run = k.run;
-      };
+      });
     })
 
 pub returns-in-Ok-clause-heard : goal.returns-in-Ok-clause-heard
