@@ -48,7 +48,8 @@ pub(crate) fn fits(chains: usize, directory: usize, first: usize, buckets: usize
 
 /// A map from keys to values over the chains of a domain; liburcu's `cds_lfht`. One chain has a directory, which names as
 /// many chains that follow one another as there are buckets. A key lies in the bucket of its number modulo the number of
-/// buckets. A writer takes its bucket's lock, and the directory's twice: to hear its caller, and for its change; lookups take none.
+/// buckets. A writer takes its bucket's lock, and the directory's twice: to hear its caller, and for its change; lookups
+/// take none.
 /// `grow` puts another directory in the place of this one while the table is read. Dropping the table gives its chains
 /// back with their keys and notes, so that no other table or list can be made over them.
 #[derive(Drop)]
@@ -70,8 +71,8 @@ impl<'d, P: GracePlan + Drop, B: Site, D: Deleter> RcuHash<'d, P, B, D> {
     ///
     /// Refused with `BadConfig` where the number of buckets is not 1 to 4,096, a chain is not there or the directory's
     /// chain is one of the buckets', else with `Memory` where memory is, with `BadConfig` where a chain had a writer,
-    /// linked an object or had a note other than 0 during the call, or with `PoolFull` where there is no record. It waits for nobody, but tries
-    /// again where other threads draw object numbers meanwhile.
+    /// linked an object or had a note other than 0 during the call, or with `PoolFull` where there is no record. It waits
+    /// for nobody, but tries again where other threads draw object numbers meanwhile.
     pub fn new<W: Witness, R: Wait>(
         rt: &R,
         alloc: Global,
