@@ -1,5 +1,5 @@
-//! Hash tables, whose making, whose growth and whose calls that retire may be refused memory: then chains, map and pool are
-//! as they were, and the callback comes back.
+//! Hash tables, whose making, whose growth and whose calls that retire may be refused memory: then as many records and
+//! chains are in use as before, the callback comes back, and the call may be made again.
 
 ghost use Rattle.std.specs.Prelude.{◌≡◌};
 

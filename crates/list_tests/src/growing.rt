@@ -6,8 +6,9 @@ ghost use Rattle.std.specs.Thread.{IsSync};
 
 use crate::deleter::Adds;
 use crate::growths::callbacks;
+use crate::looking::{Idle, Told, of_two_readers, registered, waits_for, works};
 use crossbeam_utils::Backoff;
-use domain::{Domain, LiveConfig, Opened, Reader, Record, Site, Stop};
+use domain::{Domain, Opened, Reader, Record, Site, Stop};
 use gp_memb::{GracePlan, MembPlan};
 use gp_qsbr::QsbrPlan;
 use live_words::Tabled;
@@ -16,7 +17,7 @@ use rcu_model::Refusal;
 use std::alloc::Global;
 use std::marker::Brand;
 use std::sync::Wait;
-use std::sync::atomic::{AtomicU64, Ordering};
+use std::sync::atomic::{AtomicBool, Ordering};
 use std::thread::{Threads, join};
 
 /// The key that is there all along.
@@ -27,32 +28,6 @@ const KEYS: u64 = 8;
 
 /// How often it grows.
 const GROWTHS: usize = 100;
-
-/// A domain of two readers, with few records.
-fn of_two_readers() -> LiveConfig {
-    LiveConfig {
-        slots: 2,
-        queues: 1,
-        chains: 6,
-        pool: 64,
-    }
-}
-
-/// A reader with no section or lock open.
-#[derive(Drop)]
-struct Idle<P: GracePlan, B: Site> {
-    reader: Reader<P, Tabled, B>,
-    ghost idle: { (reader.depth ≡ 0) × (reader.locks ≡ 0) },
-}
-
-fn registered<P: GracePlan + Drop, B: Site, R: Wait>(
-    rt: &R,
-    domain: &Domain<P, Tabled, B, Adds>,
-    record: &mut Record<B>,
-) -> Result<Idle<P, B>, Refusal> {
-    let reader = domain.register(rt, record)?;
-    Ok(Idle { reader })
-}
 
 /// What a lookup in a section of its own answers, before which a reader of the quiescent-state flavour announces.
 fn look<P: GracePlan, B: Site>(
@@ -74,21 +49,28 @@ fn look<P: GracePlan, B: Site>(
     Ok(found)
 }
 
-/// Lookups until the writer is done. Whether each found the key with its value, once one had.
-fn looks<P: GracePlan, B: Site>(idle: Idle<P, B>, view: TableView<B>, done: &AtomicU64) -> bool
+/// Lookups until the writer is done, and one after that. Whether each found the key with its value, once one had.
+fn looks<P: GracePlan, B: Site>(
+    idle: Idle<P, Tabled, B>,
+    view: TableView<B>,
+    found: &AtomicBool,
+    done: &AtomicBool,
+) -> bool
     requires { P.QSBR ≡ B.qsbr }
 {
     let Idle { mut reader } = idle;
     let mut seen = false;
     for _ in 0..u64::MAX {
+        let is_last = done.load(Ordering::SeqCst);
         match look(&mut reader, view) {
             Ok(Some(70)) => seen = true,
-            Ok(None) if !seen => (),
+            Ok(None) if !seen && !is_last => (),
             _ => return false,
         }
-        if done.load(Ordering::SeqCst) == 1 {
+        if is_last {
             return true;
         }
+        found.store(seen, Ordering::SeqCst);
     }
     false
 }
@@ -96,10 +78,10 @@ fn looks<P: GracePlan, B: Site>(idle: Idle<P, B>, view: TableView<B>, done: &Ato
 /// Two readers, in a thread each.
 fn two_look<P: GracePlan + Send + Sync, B: Site + Send + Sync, R: Threads + Sync>(
     rt: &R,
-    one: Idle<P, B>,
-    two: Idle<P, B>,
+    one: Idle<P, Tabled, B>,
+    two: Idle<P, Tabled, B>,
     view: TableView<B>,
-    done: &AtomicU64,
+    told: &Told,
 ) -> bool
     requires { P.QSBR ≡ B.qsbr }
 {
@@ -107,10 +89,10 @@ fn two_look<P: GracePlan + Send + Sync, B: Site + Send + Sync, R: Threads + Sync
         rt,
         move ||
             requires { P.QSBR ≡ B.qsbr }
-        { looks(one, view, done) },
+        { looks(one, view, &told.first, &told.done) },
         move ||
             requires { P.QSBR ≡ B.qsbr }
-        { looks(two, view, done) },
+        { looks(two, view, &told.second, &told.done) },
     );
     first && second
 }
@@ -134,35 +116,26 @@ fn grows_once<P: GracePlan + Drop, B: Site, R: Wait>(
     Err(Refusal::PoolFull)
 }
 
-/// How many records were retired in all growths, by turns to three buckets and to two; then the readers are told to end,
-/// and the queue is closed.
+/// How many records were retired in all growths, by turns to three buckets and to two, of which the first begins once both
+/// readers have found the key; then these are told to end, and the queue is closed.
 fn grows<P: GracePlan + Drop, B: Site, R: Wait>(
     rt: &R,
     alloc: Global,
     domain: &Domain<P, Tabled, B, Adds>,
     record: &mut Record<B>,
-    done: &AtomicU64,
+    told: &Told,
 ) -> Result<usize, Refusal> {
     let table = tabled(rt, alloc, domain, record)?;
+    waits_for(&told.first);
+    waits_for(&told.second);
     let mut retired = 0usize;
     for number in 0..GROWTHS {
         let chains = if number % 2 == 0 { (3, 3) } else { (1, 2) };
         retired = retired.wrapping_add(grows_once(rt, alloc, &table, record, chains)?);
     }
-    done.store(1, Ordering::SeqCst);
+    told.done.store(true, Ordering::SeqCst);
     domain.close(rt, record);
     Ok(retired)
-}
-
-/// How many callbacks a worker ran, and why it stopped.
-fn works<P: GracePlan + Drop, B: Site, R: Wait>(
-    rt: &R,
-    alloc: Global,
-    domain: &Domain<P, Tabled, B, Adds>,
-    record: &mut Record<B>,
-) -> Result<(usize, Stop), Refusal> {
-    let end = domain.run_worker(rt, alloc, record, 0)?;
-    Ok((end.finished.len(), end.stop))
 }
 
 /// A table of two buckets in which each key has ten times its number.
@@ -186,13 +159,13 @@ fn two_write<P: GracePlan + Drop + Send + Sync, B: Site + Send + Sync, R: Thread
     domain: &Domain<P, Tabled, B, Adds>,
     one: Record<B>,
     two: Record<B>,
-    done: &AtomicU64,
+    told: &Told,
 ) -> Result<(usize, (usize, Stop)), Refusal> {
     let (grown, worked) = join(
         rt,
         move || {
             let mut record = one;
-            grows(rt, alloc, domain, &mut record, done)
+            grows(rt, alloc, domain, &mut record, told)
         },
         move || {
             let mut record = two;
@@ -215,24 +188,24 @@ fn serves<P: GracePlan + Drop + Send + Sync, B: Site + Send + Sync, R: Threads +
     let one = registered(rt, &domain, &mut record)?;
     let two = registered(rt, &domain, &mut record)?;
     let view = TableView::of(&domain, 0)?;
-    let flag = AtomicU64::new(0);
+    let both = Told::new();
     let home = &domain;
-    let done = &flag;
+    let told = &both;
     let (found, wrote) = join(
         rt,
         move ||
             requires { IsSync R.row × (P.QSBR ≡ B.qsbr) }
-        { two_look(rt, one, two, view, done) },
+        { two_look(rt, one, two, view, told) },
         move ||
             requires { IsSync R.row }
-        { two_write(rt, alloc, home, record, other, done) },
+        { two_write(rt, alloc, home, record, other, told) },
     );
     Ok((found, wrote?))
 }
 
 #[test]
 fn a_key_is_never_missing_while_its_table_grows(rt: HostRuntime) {
-    let opened = Opened::<MembPlan, Tabled>::new(rt.alloc(), of_two_readers()).expect(
+    let opened = Opened::<MembPlan, Tabled>::new(rt.alloc(), of_two_readers(6, 64)).expect(
         &rt, "memory",
     );
     let served = serves::<MembPlan, Brand, _>(&rt, rt.alloc(), opened).expect(&rt, "not refused");
@@ -241,7 +214,7 @@ fn a_key_is_never_missing_while_its_table_grows(rt: HostRuntime) {
 
 #[test]
 fn nor_is_it_in_the_quiescent_state_flavour(rt: HostRuntime) {
-    let opened = Opened::<QsbrPlan, Tabled>::new(rt.alloc(), of_two_readers()).expect(
+    let opened = Opened::<QsbrPlan, Tabled>::new(rt.alloc(), of_two_readers(6, 64)).expect(
         &rt, "memory",
     );
     let served = serves::<QsbrPlan, Brand, _>(&rt, rt.alloc(), opened).expect(&rt, "not refused");

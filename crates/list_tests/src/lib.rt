@@ -10,6 +10,8 @@ mod growths;
 #[cfg(test)]
 mod lists;
 #[cfg(test)]
+mod looking;
+#[cfg(test)]
 mod lookups;
 #[cfg(test)]
 mod sharing;

@@ -5,8 +5,9 @@ ghost use Rattle.std.specs.Prelude.{◌≡◌};
 ghost use Rattle.std.specs.Thread.{IsSync};
 
 use crate::deleter::Adds;
+use crate::looking::{Idle, Told, of_two_readers, registered, waits_for, works};
 use crossbeam_utils::Backoff;
-use domain::{Domain, LiveConfig, Opened, Reader, Record, Site, Stop};
+use domain::{Domain, Opened, Reader, Record, Site, Stop};
 use gp_memb::{GracePlan, MembPlan};
 use gp_qsbr::QsbrPlan;
 use live_words::Keyed;
@@ -15,7 +16,7 @@ use rcu_model::Refusal;
 use std::alloc::Global;
 use std::marker::Brand;
 use std::sync::Wait;
-use std::sync::atomic::{AtomicU64, Ordering};
+use std::sync::atomic::{AtomicBool, Ordering};
 use std::thread::{Threads, join};
 
 /// The key that is there all along.
@@ -23,32 +24,6 @@ const KEY: u64 = 7;
 
 /// How often its value is replaced, by one that is greater by 1.
 const REPLACEMENTS: u64 = 10_000;
-
-/// A domain of two readers, with few records.
-fn of_two_readers() -> LiveConfig {
-    LiveConfig {
-        slots: 2,
-        queues: 1,
-        chains: 1,
-        pool: 64,
-    }
-}
-
-/// A reader with no section or lock open.
-#[derive(Drop)]
-struct Idle<P: GracePlan, B: Site> {
-    reader: Reader<P, Keyed, B>,
-    ghost idle: { (reader.depth ≡ 0) × (reader.locks ≡ 0) },
-}
-
-fn registered<P: GracePlan + Drop, B: Site, R: Wait>(
-    rt: &R,
-    domain: &Domain<P, Keyed, B, Adds>,
-    record: &mut Record<B>,
-) -> Result<Idle<P, B>, Refusal> {
-    let reader = domain.register(rt, record)?;
-    Ok(Idle { reader })
-}
 
 /// What a lookup in a section of its own answers, before which a reader of the quiescent-state flavour announces.
 fn look<P: GracePlan, B: Site>(
@@ -70,21 +45,29 @@ fn look<P: GracePlan, B: Site>(
     Ok(found)
 }
 
-/// Lookups until the writer is done. Whether each found the key, once one had, with a value no less than the one before.
-fn looks<P: GracePlan, B: Site>(idle: Idle<P, B>, view: ListView<B>, done: &AtomicU64) -> bool
+/// Lookups until the writer is done, and one after that. Whether each found the key, once one had, with a value no less
+/// than the one before, and the last one its last value.
+fn looks<P: GracePlan, B: Site>(
+    idle: Idle<P, Keyed, B>,
+    view: ListView<B>,
+    found: &AtomicBool,
+    done: &AtomicBool,
+) -> bool
     requires { P.QSBR ≡ B.qsbr }
 {
     let Idle { mut reader } = idle;
     let mut last = 0u64;
     for _ in 0..u64::MAX {
+        let is_last = done.load(Ordering::SeqCst);
         match look(&mut reader, view) {
             Ok(Some(value)) if value >= last => last = value,
-            Ok(None) if last == 0 => (),
+            Ok(None) if last == 0 && !is_last => (),
             _ => return false,
         }
-        if done.load(Ordering::SeqCst) == 1 {
-            return true;
+        if is_last {
+            return last == REPLACEMENTS + 1;
         }
+        found.store(last > 0, Ordering::SeqCst);
     }
     false
 }
@@ -92,10 +75,10 @@ fn looks<P: GracePlan, B: Site>(idle: Idle<P, B>, view: ListView<B>, done: &Atom
 /// Two readers, in a thread each.
 fn two_look<P: GracePlan + Send + Sync, B: Site + Send + Sync, R: Threads + Sync>(
     rt: &R,
-    one: Idle<P, B>,
-    two: Idle<P, B>,
+    one: Idle<P, Keyed, B>,
+    two: Idle<P, Keyed, B>,
     view: ListView<B>,
-    done: &AtomicU64,
+    told: &Told,
 ) -> bool
     requires { P.QSBR ≡ B.qsbr }
 {
@@ -103,10 +86,10 @@ fn two_look<P: GracePlan + Send + Sync, B: Site + Send + Sync, R: Threads + Sync
         rt,
         move ||
             requires { P.QSBR ≡ B.qsbr }
-        { looks(one, view, done) },
+        { looks(one, view, &told.first, &told.done) },
         move ||
             requires { P.QSBR ≡ B.qsbr }
-        { looks(two, view, done) },
+        { looks(two, view, &told.second, &told.done) },
     );
     first && second
 }
@@ -129,14 +112,17 @@ fn replaces_once<P: GracePlan + Drop, B: Site, R: Wait>(
     false
 }
 
-/// The value that the key has in the end; then the readers are told to end, and the queue is closed.
+/// The value that the key has in the end, where it is first replaced once both readers have found it; then these are told
+/// to end, and the queue is closed.
 fn replaces<P: GracePlan + Drop, B: Site, R: Wait>(
     rt: &R,
     domain: &Domain<P, Keyed, B, Adds>,
     record: &mut Record<B>,
-    done: &AtomicU64,
+    told: &Told,
 ) -> Result<u64, Refusal> {
     let mut list = listed(rt, domain, record)?;
+    waits_for(&told.first);
+    waits_for(&told.second);
     let mut last = 0u64;
     for number in 0..REPLACEMENTS {
         let value = number + 2;
@@ -144,20 +130,9 @@ fn replaces<P: GracePlan + Drop, B: Site, R: Wait>(
             last = value;
         }
     }
-    done.store(1, Ordering::SeqCst);
+    told.done.store(true, Ordering::SeqCst);
     domain.close(rt, record);
     Ok(last)
-}
-
-/// How many callbacks a worker ran, and why it stopped.
-fn works<P: GracePlan + Drop, B: Site, R: Wait>(
-    rt: &R,
-    alloc: Global,
-    domain: &Domain<P, Keyed, B, Adds>,
-    record: &mut Record<B>,
-) -> Result<(usize, Stop), Refusal> {
-    let end = domain.run_worker(rt, alloc, record, 0)?;
-    Ok((end.finished.len(), end.stop))
 }
 
 /// A list in which the key has the value 1.
@@ -183,13 +158,13 @@ fn two_write<P: GracePlan + Drop + Send + Sync, B: Site + Send + Sync, R: Thread
     domain: &Domain<P, Keyed, B, Adds>,
     one: Record<B>,
     two: Record<B>,
-    done: &AtomicU64,
+    told: &Told,
 ) -> Result<(u64, (usize, Stop)), Refusal> {
     let (replaced, worked) = join(
         rt,
         move || {
             let mut record = one;
-            replaces(rt, domain, &mut record, done)
+            replaces(rt, domain, &mut record, told)
         },
         move || {
             let mut record = two;
@@ -212,31 +187,35 @@ fn serves<P: GracePlan + Drop + Send + Sync, B: Site + Send + Sync, R: Threads +
     let one = registered(rt, &domain, &mut record)?;
     let two = registered(rt, &domain, &mut record)?;
     let view = ListView::of(&domain, 0)?;
-    let flag = AtomicU64::new(0);
+    let both = Told::new();
     let home = &domain;
-    let done = &flag;
+    let told = &both;
     let (found, wrote) = join(
         rt,
         move ||
             requires { IsSync R.row × (P.QSBR ≡ B.qsbr) }
-        { two_look(rt, one, two, view, done) },
+        { two_look(rt, one, two, view, told) },
         move ||
             requires { IsSync R.row }
-        { two_write(rt, alloc, home, record, other, done) },
+        { two_write(rt, alloc, home, record, other, told) },
     );
     Ok((found, wrote?))
 }
 
 #[test]
 fn a_replaced_key_is_never_missing(rt: HostRuntime) {
-    let opened = Opened::<MembPlan, Keyed>::new(rt.alloc(), of_two_readers()).expect(&rt, "memory");
+    let opened = Opened::<MembPlan, Keyed>::new(rt.alloc(), of_two_readers(1, 64)).expect(
+        &rt, "memory",
+    );
     let served = serves::<MembPlan, Brand, _>(&rt, rt.alloc(), opened).expect(&rt, "not refused");
     assert_eq!(rt; served, (true, (10_001, (10_000, Stop::Closed))));
 }
 
 #[test]
 fn nor_is_it_in_the_quiescent_state_flavour(rt: HostRuntime) {
-    let opened = Opened::<QsbrPlan, Keyed>::new(rt.alloc(), of_two_readers()).expect(&rt, "memory");
+    let opened = Opened::<QsbrPlan, Keyed>::new(rt.alloc(), of_two_readers(1, 64)).expect(
+        &rt, "memory",
+    );
     let served = serves::<QsbrPlan, Brand, _>(&rt, rt.alloc(), opened).expect(&rt, "not refused");
     assert_eq!(rt; served, (true, (10_001, (10_000, Stop::Closed))));
 }

@@ -70,13 +70,13 @@ fn refuses<P: GracePlan + Drop, B: Site, R: Wait>(
 }
 
 /// Two keys of one bucket are inserted, and one of them inserted again, replaced and removed, and another one removed
-/// that is not there; lookups beside, and tables that are refused.
+/// that is not there; lookups beside. The pool has as many records as these calls take.
 fn calls<P: GracePlan + Drop, B: Site, R: Wait>(
     rt: &R,
     alloc: Global,
     domain: &Domain<P, Tabled, B, Adds>,
     record: &mut Record<B>,
-) -> Result<([bool; 10], [Option<u64>; 4]), Refusal>
+) -> Result<([bool; 6], [Option<u64>; 4]), Refusal>
     requires { P.QSBR ≡ B.qsbr }
 {
     let mut reader = registered(rt, domain, record)?;
@@ -91,15 +91,6 @@ fn calls<P: GracePlan + Drop, B: Site, R: Wait>(
     let removed = table.remove(rt, record, 3, Adds(2));
     let gone = look(&mut reader, &table, 3)?;
     let kept = look(&mut reader, &table, 7)?;
-    let held = refuses(rt, alloc, domain, record, (5, 0, 1));
-    drop(table);
-    let full = refuses(rt, alloc, domain, record, (5, 3, 1));
-    let noted = refuses(rt, alloc, domain, record, (5, 0, 1));
-    let none = refuses(rt, alloc, domain, record, (5, 0, 0));
-    let past = refuses(rt, alloc, domain, record, (5, 2, 5));
-    let behind = refuses(rt, alloc, domain, record, (6, 0, 1));
-    let inside = refuses(rt, alloc, domain, record, (5, 5, 1));
-    let last = refuses(rt, alloc, domain, record, (5, 2, 4));
     Ok((
         [
             inserted.is_ok(),
@@ -108,10 +99,6 @@ fn calls<P: GracePlan + Drop, B: Site, R: Wait>(
             matches!(replaced, Ok(Ticket(1))),
             matches!(missing, Err((Refusal::Missing, Adds(5)))),
             matches!(removed, Ok(Ticket(2))),
-            held,
-            full && noted,
-            none,
-            past && behind && inside && last,
         ],
         [empty, found, gone, kept],
     ))
@@ -122,7 +109,7 @@ fn calls_in<P: GracePlan + Drop, B: Site, R: Wait>(
     rt: &R,
     alloc: Global,
     opened: Opened<P, Tabled>,
-) -> Result<([bool; 10], [Option<u64>; 4]), Refusal>
+) -> Result<([bool; 6], [Option<u64>; 4]), Refusal>
     requires { (P.QSBR ≡ B.qsbr) × (opened.table.words.shared.table_id ≡ B.table) × (opened.table.words.shared.key ≡ B.sizes) }
 {
     let (domain, mut record) = opened.named::<B, Adds>(alloc)?;
@@ -131,14 +118,81 @@ fn calls_in<P: GracePlan + Drop, B: Site, R: Wait>(
 
 #[test]
 fn tables_answer_by_the_map(rt: HostRuntime) {
-    let answers = ([true; 10], [None, Some(32), None, Some(70)]);
-    let general = Opened::<MembPlan, Tabled>::new(rt.alloc(), of_sizes(6, 5)).expect(&rt, "memory");
+    let answers = ([true; 6], [None, Some(32), None, Some(70)]);
+    let general = Opened::<MembPlan, Tabled>::new(rt.alloc(), of_sizes(5, 4)).expect(&rt, "memory");
     let did = calls_in::<_, Brand, _>(&rt, rt.alloc(), general).expect(&rt, "not refused");
     assert_eq!(rt; did, answers);
-    let quiescent = Opened::<QsbrPlan, Tabled>::new(rt.alloc(), of_sizes(6, 5)).expect(
+    let quiescent = Opened::<QsbrPlan, Tabled>::new(rt.alloc(), of_sizes(5, 4)).expect(
         &rt, "memory",
     );
     let did = calls_in::<_, Brand, _>(&rt, rt.alloc(), quiescent).expect(&rt, "not refused");
+    assert_eq!(rt; did, answers);
+}
+
+/// Tables that are refused where all chains are free: for the number of their buckets, for chains that are not there, and for
+/// a directory's chain among the buckets'.
+fn bad_ranges<P: GracePlan + Drop, B: Site, R: Wait>(
+    rt: &R,
+    alloc: Global,
+    domain: &Domain<P, Tabled, B, Adds>,
+    record: &mut Record<B>,
+) -> [bool; 5] {
+    [
+        refuses(rt, alloc, domain, record, (5, 0, 0)),
+        refuses(rt, alloc, domain, record, (0, 2, 6)),
+        refuses(rt, alloc, domain, record, (7, 0, 1)),
+        refuses(rt, alloc, domain, record, (5, 5, 1)),
+        refuses(rt, alloc, domain, record, (5, 2, 4)),
+    ]
+}
+
+/// Tables that are refused while another one has their chains, and once it was dropped: then its buckets have its note, one of
+/// them an object, and its directory's chain has an object and no note. Then a table over the two chains that are left.
+fn taken_chains<P: GracePlan + Drop, B: Site, R: Wait>(
+    rt: &R,
+    alloc: Global,
+    domain: &Domain<P, Tabled, B, Adds>,
+    record: &mut Record<B>,
+) -> Result<[bool; 7], Refusal> {
+    let table = RcuHash::new(rt, alloc, domain, record, 4, 0, 4)?;
+    table.insert(rt, record, 3, 30)?;
+    let held = refuses(rt, alloc, domain, record, (5, 0, 1));
+    drop(table);
+    Ok([
+        held,
+        refuses(rt, alloc, domain, record, (5, 0, 1)),
+        refuses(rt, alloc, domain, record, (5, 3, 1)),
+        refuses(rt, alloc, domain, record, (5, 4, 1)),
+        refuses(rt, alloc, domain, record, (0, 5, 1)),
+        refuses(rt, alloc, domain, record, (4, 5, 1)),
+        RcuHash::new(rt, alloc, domain, record, 5, 6, 1).is_ok(),
+    ])
+}
+
+/// Both, in a domain of its own.
+fn refused_in<P: GracePlan + Drop, B: Site, R: Wait>(
+    rt: &R,
+    alloc: Global,
+    opened: Opened<P, Tabled>,
+) -> Result<([bool; 5], [bool; 7]), Refusal>
+    requires { (P.QSBR ≡ B.qsbr) × (opened.table.words.shared.table_id ≡ B.table) × (opened.table.words.shared.key ≡ B.sizes) }
+{
+    let (domain, mut record) = opened.named::<B, Adds>(alloc)?;
+    let ranges = bad_ranges(rt, alloc, &domain, &mut record);
+    let taken = taken_chains(rt, alloc, &domain, &mut record)?;
+    Ok((ranges, taken))
+}
+
+#[test]
+fn tables_begin_over_free_chains(rt: HostRuntime) {
+    let answers = ([true; 5], [true; 7]);
+    let general = Opened::<MembPlan, Tabled>::new(rt.alloc(), of_sizes(7, 4)).expect(&rt, "memory");
+    let did = refused_in::<_, Brand, _>(&rt, rt.alloc(), general).expect(&rt, "not refused");
+    assert_eq!(rt; did, answers);
+    let quiescent = Opened::<QsbrPlan, Tabled>::new(rt.alloc(), of_sizes(7, 4)).expect(
+        &rt, "memory",
+    );
+    let did = refused_in::<_, Brand, _>(&rt, rt.alloc(), quiescent).expect(&rt, "not refused");
     assert_eq!(rt; did, answers);
 }
 

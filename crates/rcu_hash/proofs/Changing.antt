@@ -57,6 +57,7 @@ module _ (qsbr : Bool) (allows : Log → LiveEvent → Type 0) where
       object = i.object;
       cell = i.cell;
       rank = i.rank;
+      below = i.below;
       changes = table_changes None (Some value) (Object (Push bucket i.object i.cell (words_of key value i.rank))) i.changes
           (λ c apart. at_number_other bucket c (i.object ∷ (state_of i.changes.before).chain bucket) (state_of i.changes.before).chain apart);
     }

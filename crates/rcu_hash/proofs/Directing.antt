@@ -15,7 +15,7 @@ use Rattle.live_log.specs.Tables.{IsDirectory, IsReplaced, Names, kind_of, table
 use Rattle.live_log.proofs.Lemmas.{begins_trans, chain_used, directory_alone, directory_there, has_later, left_stays, linked_or_replaced, note_stays, run_of, still}
 use Rattle.rcu_list.specs.Maps.{map_of, value_in}
 use Rattle.rcu_list.proofs.Lemmas.{value_same}
-use Rattle.rcu_hash.specs.Directories.{AnswersThrough, bucket_in, buckets_in, directed_map, leads, value_through}
+use Rattle.rcu_hash.specs.Directories.{AnswersLinked, AnswersThrough, bucket_in, buckets_in, directed_map, leads, value_through}
 
 -- both of two facts
 pub both : (a b : Bool) → (a && b) ≡ true → (a ≡ true) × (b ≡ true)
@@ -59,17 +59,17 @@ module _ (qsbr : Bool) where
     note_later now b here = note_stays qsbr tabled start now o b here (chain_used qsbr tabled start d o (run_of qsbr tabled start now b here) linked)
 
     -- the directory is linked in a log, where the bucket has this answer
-    by_linked : (now : Log) → Begins start now → Begins now log → In ((state_of now).chain d) o → map_of now (bucket_in words key) key ≡ map_of at (bucket_in words key) key → AnswersThrough start start log chains d key (map_of at (bucket_in words key) key)
+    by_linked : (now : Log) → Begins start now → Begins now at → In ((state_of now).chain d) o → map_of now (bucket_in words key) key ≡ map_of at (bucket_in words key) key → AnswersLinked start at chains d key o (map_of at (bucket_in words key) key)
     by_linked now b goes still_there same =
-        let here = run_of qsbr tabled now log goes run in let note = note_later now b here in record {
+        let here = run_of qsbr tabled now at goes run_at in let note = note_later now b here in record {
           at = now;
-          after_seen = b;
-          after_heard = b;
+          after = b;
           before = goes;
+          linked = still_there;
           is = directed_is chains key words led now d o (directory_alone qsbr now d o here still_there (subst IsDirectory (sym note) directory)) note ∙ same;
         }
 
-    by_replaced : IsReplaced start at d o → AnswersThrough start start log chains d key (map_of at (bucket_in words key) key)
+    by_replaced : IsReplaced start at d o → AnswersLinked start at chains d key o (map_of at (bucket_in words key) key)
     by_replaced r =
         let e : LiveEvent = Object (Replace d o r.new r.cell r.payload) in
         let before : Begins r.before at = (r.since ++ e ∷ [], r.is ∙ sym (append_assoc r.since (e ∷ []) r.before)) in
@@ -82,10 +82,13 @@ module _ (qsbr : Bool) where
         (still qsbr tabled r.after.0 start slot ordinal copied (subst (IsLiveRun qsbr tabled) r.after.1 here) opened) in
         let stays = left_stays qsbr at r.since r.before (bucket_in words key) d o r.new r.cell r.payload slot ordinal copied run_at r.is (subst IsDirectory (sym note) directory) (subst (λ (x : ℕ × List ℕ). Names x (bucket_in words key)) (sym note) (names chains key words led)) open_then
         (λ closed. inside (subst (Has (Close slot ordinal)) (sym later.1) (has_later (Close slot ordinal) later.0 at closed))) in
-        by_linked r.before r.after goes r.linked (sym (map_same r.before at (bucket_in words key) key before run_at stays))
+        by_linked r.before r.after before r.linked (sym (map_same r.before at (bucket_in words key) key before run_at stays))
 
-    pub answers_for_table : AnswersThrough start start log chains d key (map_of at (bucket_in words key) key)
-    answers_for_table = ⊎_elim
-        (λ (h : In ((state_of at).chain d) o). by_linked at since later h refl)
+    pub answers_linked : AnswersLinked start at chains d key o (map_of at (bucket_in words key) key)
+    answers_linked = ⊎_elim
+        (λ (h : In ((state_of at).chain d) o). by_linked at since ([], refl) h refl)
         (λ (r : IsReplaced start at d o). by_replaced r)
         (linked_or_replaced qsbr start at d o since run_at linked directory)
+
+    pub answers_for_table : AnswersThrough start start log chains d key (map_of at (bucket_in words key) key)
+    answers_for_table = let a = answers_linked in record { at = a.at; after_seen = a.after; after_heard = a.after; before = begins_trans a.at at log a.before later; is = a.is }

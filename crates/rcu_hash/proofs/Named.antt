@@ -158,7 +158,7 @@ module _ (chains first buckets : ℕ) (many : 0 < buckets) (fits : first + bucke
       }
 
     pub inserts_through : (value : ℕ) → Inserts qsbr tabled first buckets seen heard key value log → InsertsThrough qsbr tabled chains d seen heard key value (bucket_of first buckets key) log
-    inserts_through value i = record { object = i.object; cell = i.cell; rank = i.rank; changes = changes_through _ None (Some value) i.changes }
+    inserts_through value i = record { object = i.object; cell = i.cell; rank = i.rank; below = i.below; changes = changes_through _ None (Some value) i.changes }
 
     pub replaces_through : (value : ℕ) (left : ObjectId) → Replaces qsbr tabled first buckets seen heard key value left log → ReplacesThrough qsbr tabled chains d seen heard key value (bucket_of first buckets key) left log
     replaces_through value left i = record { object = i.object; cell = i.cell; rank = i.rank; had = i.had; changes = changes_through _ (Some i.had) (Some value) i.changes }

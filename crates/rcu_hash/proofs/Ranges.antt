@@ -1,5 +1,5 @@
 -- What an event tells of the map of buckets that follow one another, whichever directory names them.
-use Rattle.std.specs.Prelude.{◌≡◌, ◌∷◌, Bool, ℕ, Option, Some, None}
+use Rattle.std.specs.Prelude.{◌≡◌, ◌∷◌, ◌<◌, ◌^◌, Bool, ℕ, Option, Some, None}
 use Rattle.rcu_model.specs.declared.event.ObjectId.{ObjectId}
 use Rattle.rcu_model.specs.Sets.{at_number}
 use Rattle.live_log.specs.declared.event.LiveEvent.{LiveEvent}
@@ -30,6 +30,7 @@ module _ (qsbr : Bool) (allows : Log → LiveEvent → Type 0) (first buckets : 
     pub object : ObjectId
     pub cell : ℕ
     pub rank : ℕ
+    pub below : rank < 2 ^ 62
     pub changes : Changes (Object (Push (bucket_of first buckets key) object cell (words_of key value rank))) key None (Some value) log
 
   -- a key that had a value has this one, by a replacement

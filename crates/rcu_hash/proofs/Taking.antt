@@ -11,9 +11,10 @@ use Rattle.live_log.proofs.Lemmas.{begins_trans}
 use Rattle.live_rule.specs.Places.{hold_at}
 use Rattle.live_rule.specs.declared.view.Sizes.{Sizes}
 use Rattle.live_rule.specs.declared.view.View.{View}
+use Rattle.live_read.specs.Hearing.{IsAfter}
 use Rattle.live_read.specs.declared.witness.Witness.{Ghosts}
 use Rattle.rcu_hash.specs.Copies.{value_among, value_in_bucket}
-use Rattle.rcu_hash.specs.Refusing.{During, FindsTaken, IsInUse}
+use Rattle.rcu_hash.specs.Refusing.{During, FindsFree, FindsTaken, IsInUse, IsUnused}
 use Rattle.rcu_hash.specs.Tables.{IsAmong, are_apart}
 use Rattle.rcu_hash.specs.Writers.{value_at}
 use Rattle.rcu_hash.proofs.Held.{looks_both}
@@ -42,6 +43,27 @@ module _ (buckets number : ℕ) (vs : List View) (es : List (ℕ × ℕ)) (many 
       (λ other. is_more ∙ (ap (λ (b : Bool). if b then value_at (Some v) key else value_among es key) (ne_eqb (key % buckets) number other)
       ∙ (copied key ∙ ap (λ (x : Option View). value_at x key) (sym (get_other vs v (key % buckets) (λ e. other (e ∙ many)))))))
 
+-- what was so in some log of a part of a call
+module _ {W : Type 0} (w : Ghosts W) (qsbr : Bool) (allows : Log → LiveEvent → Type 0) (old mid new : W) where
+  pub during_since : (is_so : Log → Type 0) → w.seen mid ≡ w.seen old → Begins (w.heard old) (w.heard mid) → During w qsbr allows mid new is_so → During w qsbr allows old new is_so
+  during_since is_so seen heard d = record {
+    at = d.at;
+    after = record { after_seen = subst (λ (l : Log). Begins l d.at) seen d.after.after_seen; after_heard = begins_trans (w.heard old) (w.heard mid) d.at heard d.after.after_heard; run = d.after.run };
+    before = d.before;
+    so = d.so;
+  }
+
+  pub during_earlier : (is_so : Log → Type 0) → Begins (w.heard mid) (w.heard new) → During w qsbr allows old mid is_so → During w qsbr allows old new is_so
+  during_earlier is_so goes d = record { at = d.at; after = d.after; before = begins_trans d.at (w.heard mid) (w.heard new) d.before goes; so = d.so }
+
+  -- one more chain was unused
+  pub free_more : (first n : ℕ) → Begins (w.heard mid) (w.heard new) → IsAfter qsbr allows (w.seen old) (w.heard old) (w.heard new) → FindsFree w qsbr allows old mid (IsAmong first n) → IsUnused (first + n) (w.heard new) → FindsFree w qsbr allows old new (IsAmong first (n + 1))
+  free_more first n goes after had unused c among = ⊎_elim
+      (λ (low : c < first + n). during_earlier (IsUnused c) goes (had c (among.0, low)))
+      (λ (high : first + n ≤ c). let is : first + n ≡ c = omega (arith, high, among) in
+      record { at = w.heard new; after = after; before = ([], refl); so = subst (λ (k : ℕ). IsUnused k (w.heard new)) is unused })
+      (cases_lt c (first + n))
+
 -- that a chain was taken, in a later part of a call
 pub taken_since : {W : Type 0} (w : Ghosts W) (qsbr : Bool) (allows : Log → LiveEvent → Type 0) (sizes : Sizes) (P Q : ℕ → Type 0) → ((c : ℕ) → P c → Q c) → (old mid new : W) → w.seen mid ≡ w.seen old → Begins (w.heard old) (w.heard mid) → (found : List (ℕ × ℕ)) → w.looks mid ≡ found ++ w.looks old → ((c : ℕ) → P c → ¬ In found (hold_at sizes c, 0)) → FindsTaken w qsbr allows mid new sizes P → FindsTaken w qsbr allows old new sizes Q
 taken_since w qsbr allows sizes P Q on old mid new seen heard found looks fresh t = record {
@@ -54,12 +76,7 @@ taken_since w qsbr allows sizes P Q on old mid new seen heard found looks fresh 
         in_left t.found found (hold_at sizes t.chain, 1) h.0,
         λ both. ⊎_elim h.1 (fresh t.chain t.one) (in_append t.found found (hold_at sizes t.chain, 0) both),
       ))
-      (λ (d : During w qsbr allows mid new (IsInUse t.chain)). inr (record {
-        at = d.at;
-        after = record { after_seen = subst (λ (l : Log). Begins l d.at) seen d.after.after_seen; after_heard = begins_trans (w.heard old) (w.heard mid) d.at heard d.after.after_heard; run = d.after.run };
-        before = d.before;
-        so = d.so;
-      }))
+      (λ (d : During w qsbr allows mid new (IsInUse t.chain)). inr (during_since w qsbr allows old mid new (IsInUse t.chain) seen heard d))
       t.why;
 }
 

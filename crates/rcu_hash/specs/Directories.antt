@@ -47,6 +47,14 @@ pub record AnswersThrough (seen heard new : Log) (chains d key : ℕ) (answer : 
   pub before : Begins at new
   pub is : directed_map chains d at key ≡ answer
 
+-- The table had this for the key in some log from the one on and up to the other, in which the directory was linked.
+pub record AnswersLinked (start now : Log) (chains d key : ℕ) (o : ObjectId) (answer : Option ℕ) : Type 0 where
+  pub at : Log
+  pub after : Begins start at
+  pub before : Begins at now
+  pub linked : In ((state_of at).chain d) o
+  pub is : directed_map chains d at key ≡ answer
+
 -- A walk that had seen and heard of these logs, and has seen the new one at its end, met these keys with their values. The
 -- key had each value in some log between; and a key that was not met exactly once had none in some log between.
 pub record WalksThrough (seen heard new : Log) (chains d : ℕ) (met : List (ℕ × ℕ)) : Type 0 where

@@ -1,5 +1,5 @@
 -- What an accepted call of a writer tells of a table that a directory leads.
-use Rattle.std.specs.Prelude.{◌≡◌, ◌∷◌, Bool, ℕ, Option, Some, None}
+use Rattle.std.specs.Prelude.{◌≡◌, ◌∷◌, ◌<◌, ◌^◌, Bool, ℕ, Option, Some, None}
 use Rattle.rcu_model.specs.declared.event.ObjectId.{ObjectId}
 use Rattle.rcu_model.specs.Sets.{at_number}
 use Rattle.live_log.specs.declared.event.LiveEvent.{LiveEvent}
@@ -28,6 +28,7 @@ module _ (qsbr : Bool) (allows : Log → LiveEvent → Type 0) (chains d : ℕ) 
     pub object : ObjectId
     pub cell : ℕ
     pub rank : ℕ
+    pub below : rank < 2 ^ 62
     pub changes : ChangesThrough chain (Object (Push chain object cell (words_of key value rank))) key None (Some value) log
 
   -- a key that had a value has this one, by a replacement in the chain

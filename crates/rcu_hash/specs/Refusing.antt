@@ -18,6 +18,10 @@ use Rattle.rcu_hash.specs.Directories.{LeadsTo, directed_map}
 abbrev pub IsInUse : ℕ → Log → Type 0
 IsInUse c log = ((state_of log).chain c ≢ []) ⊎ (chain_note c log ≢ 0)
 
+-- or neither
+abbrev pub IsUnused : ℕ → Log → Type 0
+IsUnused c log = ((state_of log).chain c ≡ []) × (chain_note c log ≡ 0)
+
 module _ {W : Type 0} (w : Ghosts W) (qsbr : Bool) (allows : Log → LiveEvent → Type 0) (old new : W) where
   -- it is so of some log of the call: one that comes after all that the caller knew, and that it has heard of at the end
   pub record During (is_so : Log → Type 0) : Type 0 where
@@ -34,6 +38,10 @@ module _ {W : Type 0} (w : Ghosts W) (qsbr : Bool) (allows : Log → LiveEvent �
     pub found : List (ℕ × ℕ)
     pub looks : w.looks new ≡ found ++ w.looks old
     pub why : (In found (hold_at sizes chain, 1) × ¬ In found (hold_at sizes chain, 0)) ⊎ During (IsInUse chain)
+
+  -- each of these chains was unused in some log of the call
+  abbrev pub FindsFree : (ℕ → Type 0) → Type 0
+  FindsFree is_one = (c : ℕ) → is_one c → During (IsUnused c)
 
 -- of a table that a directory leads
 module _ {W : Type 0} (w : Ghosts W) (qsbr : Bool) (allows : Log → LiveEvent → Type 0) (sizes : Sizes) (old new : W) (e : Refusal) (d key : ℕ) where

@@ -9,7 +9,7 @@ ghost use Rattle.live_read.specs.Hearing.{Stays};
 ghost use Rattle.live_write.specs.Searching.{AreTaken, IsUsedUp};
 ghost use Rattle.rcu_hash.specs.Copies.{AreApart, AreRanked, value_among, value_in_bucket};
 ghost use Rattle.rcu_hash.specs.Naming.{words_by};
-ghost use Rattle.rcu_hash.specs.Refusing.{FindsTaken};
+ghost use Rattle.rcu_hash.specs.Refusing.{FindsFree, FindsTaken};
 ghost use Rattle.rcu_hash.specs.Tables.{IsAmong};
 ghost use Rattle.rcu_hash.specs.Writers.{AreFrom, Each, IsAlone, IsEmpty};
 
@@ -198,6 +198,7 @@ impl<'d, P: GracePlan + Drop, B: Site, D: Deleter> Growth<'d, P, B, D> {
         ensures chains { IfOk result (λ g. (vec_len g.chains ≡ buckets) × AreFrom first (map (λ c. c.seat.me.0) g.chains.items) × Each IsEmpty (map (λ c. c.seat.me.0) g.chains.items) × Each IsAlone (map (λ c. c.seat.me.0) g.chains.items)) }
         ensures record { IfOk result (λ g. (payload_in g.owned.seat.me.0.object ≡ words_by first buckets) × (g.old_lents.items ≡ []) × (shelf.now.naming.buckets ≤ vec_capacity g.old_lents) × (g.new_lents.items ≡ []) × (buckets ≤ vec_capacity g.new_lents)) }
         ensures refused { IfErr result (λ e. ((e ≡ BadConfig) × FindsTaken W.Witness P.QSBR tabled witness.old witness.new B.sizes (IsAmong first buckets)) ⊎ ((e ≡ Memory) ⊎ (e ≡ PoolFull))) }
+        ensures free { IfOk result (λ _. FindsFree W.Witness P.QSBR tabled witness.old witness.new (IsAmong first buckets)) }
         ensures heard { Begins (W.heard witness.old) (W.heard witness.new) }
         ensures looks { (found : List (ℕ × ℕ)) × (W.looks witness.new ≡ found ++ W.looks witness.old) × IfErr result (λ e. (e ≡ PoolFull) → IsUsedUp B.sizes found ⊎ AreTaken B.sizes found) }
         ensures loads { ((logs : List Log) × (W.loads witness.new ≡ logs ++ W.loads witness.old)) × IfOk result (λ _. W.loads witness.new ≡ W.loads witness.old) }

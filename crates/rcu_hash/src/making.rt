@@ -13,7 +13,7 @@ ghost use Rattle.rcu_hash.specs.Directories.{LeadsTo, directed_map};
 ghost use Rattle.rcu_hash.specs.Growing.{NotesAll};
 ghost use Rattle.rcu_hash.specs.Leaving.{Writes};
 ghost use Rattle.rcu_hash.specs.Naming.{IsNamedBy, words_by};
-ghost use Rattle.rcu_hash.specs.Refusing.{FindsTaken};
+ghost use Rattle.rcu_hash.specs.Refusing.{FindsFree, FindsTaken, IsUnused};
 ghost use Rattle.rcu_hash.specs.Tables.{IsAmong, bucket_of};
 ghost use Rattle.rcu_hash.specs.Writers.{AreFrom, Each, HasKeysIn, HasNoNote, HasNote, HasNothing, IsAlone, IsEmpty, IsRunIn, IsSame, Noted, Pairwise};
 
@@ -41,7 +41,7 @@ pub(crate) fn room<T>(alloc: Global, many: usize) -> Result<Vec<T>, Refusal>
     }
 }
 
-/// The writer of a chain that has none, is empty and has no note.
+/// The writer of a chain that has none, is empty and has no note: in the log of which the caller hears last.
 ///
 /// Refused with `BadConfig` exactly where it is not. The caller hears of what was seen. It never waits.
 pub(crate) fn hold_empty<'d, P: GracePlan + Drop, B: Site, D: Deleter, W: Witness>(
@@ -52,6 +52,7 @@ pub(crate) fn hold_empty<'d, P: GracePlan + Drop, B: Site, D: Deleter, W: Witnes
     requires { (W.home witness.old ≡ (B.table, B.sizes)) × (chain < B.sizes.chains) }
     ensures held { IfOk result (λ c. (c.number ≡ chain) × IsEmpty c.seat.me.0 × IsAlone c.seat.me.0 × IsLiveRun P.QSBR tabled c.seat.me.0.seen × (W.looks witness.new ≡ (hold_at B.sizes chain, 0) ∷ W.looks witness.old)) }
     ensures refused { IfErr result (λ e. (e ≡ BadConfig) × FindsTaken W.Witness P.QSBR tabled witness.old witness.new B.sizes (λ c. c ≡ chain)) }
+    ensures unused { IfOk result (λ _. IsUnused chain (W.heard witness.new)) }
     ensures heard { IsAfter P.QSBR tabled (W.seen witness.old) (W.heard witness.old) (W.heard witness.new) }
     ensures same { Stays W.Witness witness.old witness.new × (W.loads witness.new ≡ W.loads witness.old) × ((found : List (ℕ × ℕ)) × (W.looks witness.new ≡ found ++ W.looks witness.old)) }
 {
@@ -59,8 +60,8 @@ pub(crate) fn hold_empty<'d, P: GracePlan + Drop, B: Site, D: Deleter, W: Witnes
         Ok(writer) => writer,
         Err(_) => return Err(Refusal::BadConfig),
     };
+    writer.hear(witness);
     if writer.note() != 0 || writer.len() != 0 {
-        writer.hear(witness);
         return Err(Refusal::BadConfig);
     }
     Ok(writer)
@@ -80,6 +81,7 @@ pub(crate) fn hold_all<'d, P: GracePlan + Drop, B: Site, D: Deleter, W: Witness>
     requires room { (chains.items ≡ []) × (many ≤ vec_capacity chains) }
     ensures held { IfOk result (λ cs. (vec_len cs ≡ many) × AreFrom first (map (λ c. c.seat.me.0) cs.items) × Each IsEmpty (map (λ c. c.seat.me.0) cs.items) × Each IsAlone (map (λ c. c.seat.me.0) cs.items)) }
     ensures refused { IfErr result (λ e. (e ≡ BadConfig) × FindsTaken W.Witness P.QSBR tabled witness.old witness.new B.sizes (IsAmong first many)) }
+    ensures free { IfOk result (λ _. FindsFree W.Witness P.QSBR tabled witness.old witness.new (IsAmong first many)) }
     ensures heard { Begins (W.heard witness.old) (W.heard witness.new) }
     ensures same { Stays W.Witness witness.old witness.new × (W.loads witness.new ≡ W.loads witness.old) × ((found : List (ℕ × ℕ)) × (W.looks witness.new ≡ found ++ W.looks witness.old)) }
 {

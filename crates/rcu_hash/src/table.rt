@@ -15,7 +15,7 @@ ghost use Rattle.rcu_list.specs.Calls.{HandsOver};
 ghost use Rattle.rcu_hash.specs.Directories.{AnswersThrough, LeadsTo, WalksThrough, directed_map};
 ghost use Rattle.rcu_hash.specs.Growing.{Founds};
 ghost use Rattle.rcu_hash.specs.Publishing.{InsertsThrough, RemovesThrough, ReplacesThrough};
-ghost use Rattle.rcu_hash.specs.Refusing.{FindsTaken, RefusesInsertionThrough, RefusesRemovalThrough, RefusesReplacementThrough};
+ghost use Rattle.rcu_hash.specs.Refusing.{FindsFree, FindsTaken, RefusesInsertionThrough, RefusesRemovalThrough, RefusesReplacementThrough};
 ghost use Rattle.rcu_hash.specs.Tables.{IsAmong, bucket_of, fits};
 
 use crate::directory::Desk;
@@ -85,6 +85,7 @@ impl<'d, P: GracePlan + Drop, B: Site, D: Deleter> RcuHash<'d, P, B, D> {
         requires { W.home witness.old ≡ (B.table, B.sizes) }
         ensures made { IfOk result (λ t. (t.directory ≡ directory) × (fits B.sizes.chains directory first buckets ≡ true)) }
         ensures founded { IfOk result (λ _. Founds P.QSBR tabled directory (W.seen witness.old) (W.heard witness.old) first buckets (W.heard witness.new)) }
+        ensures free { IfOk result (λ _. FindsFree W.Witness P.QSBR tabled witness.old witness.new (λ c. (c ≡ directory) ⊎ IsAmong first buckets c)) }
         ensures map { IfOk result (λ _. (key : ℕ) → (directed_map B.sizes.chains directory (W.heard witness.new) key ≡ None) × LeadsTo directory (W.heard witness.new) key (bucket_of first buckets key)) }
         ensures heard { IfOk result (λ _. IsAfter P.QSBR tabled (W.seen witness.old) (W.heard witness.old) (W.heard witness.new)) }
         ensures refused { IfErr result (λ e. ((e ≡ BadConfig) × ((fits B.sizes.chains directory first buckets ≡ false) ⊎ FindsTaken W.Witness P.QSBR tabled witness.old witness.new B.sizes (λ c. (c ≡ directory) ⊎ IsAmong first buckets c))) ⊎ ((fits B.sizes.chains directory first buckets ≡ true) × ((e ≡ Memory) ⊎ (e ≡ PoolFull)))) }

@@ -129,8 +129,9 @@ impl<B: Site> TableView<B> {
 
     /// The value of a key, or none; liburcu's `cds_lfht_lookup`. It is what the table has for the key at some moment
     /// between the call and the return: in a log that begins with all that the reader had seen and heard of. So a key
-    /// that is there all along is found, also while its value is replaced, and while the table grows: a lookup that read
-    /// an earlier directory answers by the map at the moment at which another took its place, at the latest.
+    /// that is there all along is found, also while its value is replaced, and while the table grows: by the law
+    /// `buckets_answer_for_their_table` a lookup that read an earlier directory answers by the map at the moment at which
+    /// another took its place, at the latest.
     ///
     /// It reads the directory and the key's bucket alone, and returns, since ranks fall along the bucket's chain. It never
     /// waits and takes no memory.

@@ -1,5 +1,5 @@
 -- How the map of a keyed chain changes at an event of its writer.
-use Rattle.std.proofs.Common.{◌≡◌, ◌≢◌, ℕ, Bool, List, [], ◌∷◌, Some, None, refl, sym, ap, ◌∙◌, subst, ⊎_elim}
+use Rattle.std.proofs.Common.{◌≡◌, ◌≢◌, ◌<◌, ◌^◌, ℕ, Bool, List, [], ◌∷◌, Some, None, refl, sym, ap, ◌∙◌, subst, ⊎_elim}
 use mathlib.Core.Logic.{dite}
 use native.Mathlib.Decide.{ℕ_discrete}
 use Rattle.rcu_model.specs.declared.event.ObjectId.{ObjectId}
@@ -40,8 +40,8 @@ module _ (qsbr : Bool) (allows : Log → LiveEvent → Type 0) (maps : HasMaps q
     same_map linked k = ap (λ (os : List ObjectId). value_in (note_of log) os k) linked ∙ value_same (note_of known) (note_of log) (chain_in known) k same_note
 
   module _ (known seen heard before : Log) (after : Begins known before × Begins seen before × Begins heard before) (linked : chain_in before ≡ chain_in known) (key value rank cell : ℕ) (o : ObjectId) where
-    pub inserts : IsLiveRun qsbr allows (Object (Push c o cell (words_of key value rank)) ∷ before) → map_of known c key ≡ None → Inserts qsbr allows c known seen heard key value (Object (Push c o cell (words_of key value rank)) ∷ before)
-    inserts run none =
+    pub inserts : rank < 2 ^ 62 → IsLiveRun qsbr allows (Object (Push c o cell (words_of key value rank)) ∷ before) → map_of known c key ≡ None → Inserts qsbr allows c known seen heard key value (Object (Push c o cell (words_of key value rank)) ∷ before)
+    inserts below run none =
         let e : LiveEvent = Object (Push c o cell (words_of key value rank)) in
         let now : List ObjectId = chain_in (e ∷ before) in
         let pushed : now ≡ o ∷ chain_in before = at_number_same c (o ∷ chain_in before) (state_of before).chain in
@@ -51,6 +51,7 @@ module _ (qsbr : Bool) (allows : Log → LiveEvent → Type 0) (maps : HasMaps q
           object = o;
           cell = cell;
           rank = rank;
+          below = below;
           changes = record {
             before = before;
             wrote = refl;

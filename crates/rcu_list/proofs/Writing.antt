@@ -68,13 +68,13 @@ module _ (qsbr : Bool) (allows : Log → LiveEvent → Type 0) (maps : HasMaps q
   linked : (e : LiveEvent) (p : Publishes qsbr allows v seen' heard' owner e w.seen) → (state_of p.before).chain c ≡ (state_of known).chain c
   linked e p = ap (state_of p.before).chain (sym is_v) ∙ ((subst (AreAsKnown p.before) own p.known).0.0 ∙ sym knows)
 
-  pub pushed_map : (u : View) (key value rank : ℕ) → payload_in u.object ≡ words_of key value rank → (p : Publishes qsbr allows v seen' heard' owner (push_by v u) w.seen) → Begins known p.before × Begins seen p.before × Begins heard p.before → map_of known c key ≡ None → Inserts qsbr allows c known seen heard key value w.seen
-  pushed_map u key value rank words p after none =
+  pub pushed_map : (u : View) (key value rank : ℕ) → rank < 2 ^ 62 → payload_in u.object ≡ words_of key value rank → (p : Publishes qsbr allows v seen' heard' owner (push_by v u) w.seen) → Begins known p.before × Begins seen p.before × Begins heard p.before → map_of known c key ≡ None → Inserts qsbr allows c known seen heard key value w.seen
+  pushed_map u key value rank below words p after none =
       let o : ObjectId = object_in u.object in
       let e : LiveEvent = Object (Push c o (cell_in u.object) (words_of key value rank)) in
       let wrote : w.seen ≡ e ∷ p.before = p.wrote ∙ (λ i. Object (Push (is_v i) o (cell_in u.object) (words i)) ∷ p.before) in
       subst (Inserts qsbr allows c known seen heard key value) (sym wrote)
-      (inserts qsbr allows maps c known seen heard p.before after (linked (push_by v u) p) key value rank (cell_in u.object) o (subst (IsLiveRun qsbr allows) wrote p.run) none)
+      (inserts qsbr allows maps c known seen heard p.before after (linked (push_by v u) p) key value rank (cell_in u.object) o below (subst (IsLiveRun qsbr allows) wrote p.run) none)
 
   module _ (key : ℕ) (o : ObjectId) (at : In (list_in v) o) (key_is : key_of (note_of known o) ≡ key) where
     known_in : In ((state_of known).chain c) o

@@ -1,5 +1,5 @@
 -- What an accepted call of a list's writer tells.
-use Rattle.std.specs.Prelude.{◌≡◌, ◌+◌, ◌∷◌, Bool, ℕ, Option, Some, None}
+use Rattle.std.specs.Prelude.{◌≡◌, ◌+◌, ◌∷◌, ◌<◌, ◌^◌, Bool, ℕ, Option, Some, None}
 use Rattle.rcu_model.specs.declared.event.ObjectId.{ObjectId}
 use Rattle.rcu_model.specs.Sets.{at_number}
 use Rattle.live_log.specs.declared.event.LiveEvent.{LiveEvent}
@@ -29,6 +29,7 @@ module _ (qsbr : Bool) (allows : Log → LiveEvent → Type 0) (c : ℕ) (known 
     pub object : ObjectId
     pub cell : ℕ
     pub rank : ℕ
+    pub below : rank < 2 ^ 62
     pub changes : Changes (Object (Push c object cell (words_of key value rank))) key None (Some value) log
 
   -- a key that had a value has this one, by a replacement

@@ -90,9 +90,10 @@ impl<'d, P: GracePlan + Drop, K: MapRule, B: Site, D: Deleter> RcuList<'d, P, K,
     /// Gives a key a value that had none: one push at the front, liburcu's `cds_list_add_rcu`. It comes after all that
     /// the caller had seen and heard of, and the caller hears of it.
     ///
-    /// Refused with `Exists` exactly where the key has a value, else with `PoolFull` where the ranks are used up, or as
-    /// `alloc`; then the map is as it was. It takes no memory, and waits for nobody, but tries again where other threads
-    /// draw object numbers meanwhile.
+    /// Refused with `Exists` exactly where the key has a value by the map that the writer knows (which `hear` makes one that
+    /// comes after all that its caller knew), else with `PoolFull` where the ranks are used up, or as `alloc`; then the map
+    /// is as it was. It takes no memory, and waits for nobody, but tries again where other threads draw object numbers
+    /// meanwhile.
     pub fn insert<W: Witness, R: Wait>(
         &mut self,
         rt: &R,

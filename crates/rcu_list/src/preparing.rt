@@ -51,7 +51,7 @@ pub fn prepare_insertion<P: GracePlan + Drop, K: MapRule, B: Site, D: Deleter, W
     value: u64,
 ) -> Result<Owned<B>, Refusal>
     requires { W.home witness.old ≡ (B.table, B.sizes) }
-    ensures ready { IfOk result (λ o. MayComeIn chain.new.seat.me.0 o.seat.me.0 key value × (map_of chain.old.seat.me.0.seen chain.old.number key ≡ None)) }
+    ensures ready { IfOk result (λ o. (made : MayComeIn chain.new.seat.me.0 o.seat.me.0 key value) × (made.rank < 2 ^ 62) × (map_of chain.old.seat.me.0.seen chain.old.number key ≡ None)) }
     ensures heard { IfOk result (λ _. IsAfter P.QSBR K.allows (W.seen witness.old) (W.heard witness.old) (W.heard witness.new)) }
     ensures same { IfOk result (λ _. Stays W.Witness witness.old witness.new × (W.loads witness.new ≡ W.loads witness.old) × ((found : List (ℕ × ℕ)) × (W.looks witness.new ≡ found ++ W.looks witness.old))) }
     ensures refused { IfErr result (λ e. RefusesInsertion W.Witness P.QSBR K.allows B.sizes witness.old witness.new e chain.old.seat.me.0.seen chain.old.number key) }

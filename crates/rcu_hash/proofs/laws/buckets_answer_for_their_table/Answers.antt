@@ -1,5 +1,5 @@
-use Rattle.rcu_hash.proofs.Directing.{answers_for_table}
+use Rattle.rcu_hash.proofs.Directing.{answers_linked}
 use Rattle.rcu_hash.proofs.laws.buckets_answer_for_their_table.Goals as goal
 
 pub returns : goal.returns
-returns c = answers_for_table
+returns c = answers_linked

@@ -2,6 +2,7 @@ use Rattle.std.proofs.Common.{◌≡◌, ◌<◌, ⊎_elim, ◌++◌, ◌+◌, �
 use Rattle.std.proofs.lemmas.Result.{err_from_is_err_and}
 use Rattle.std.proofs.lemmas.List.{length-append, length-map, map-append}
 use Rattle.rcu_model.specs.Sets.{In}
+use Rattle.live_log.specs.Log.{Log, Begins}
 use Rattle.live_log.specs.Tables.{tabled}
 use Rattle.live_log.proofs.Lemmas.{begins_trans}
 use Rattle.live_rule.specs.Places.{hold_at}
@@ -9,7 +10,7 @@ use Rattle.rcu_list.proofs.Lemmas.{stays_both}
 use Rattle.rcu_hash.specs.Tables.{IsAmong}
 use Rattle.rcu_hash.specs.Writers.{AreFrom, Each, IsAlone, IsEmpty}
 use Rattle.rcu_hash.proofs.Held.{each_last, from_last}
-use Rattle.rcu_hash.proofs.Taking.{other_hold, taken_since}
+use Rattle.rcu_hash.proofs.Taking.{free_more, other_hold, taken_since}
 use Rattle.rcu_hash.proofs.making.hold_all.Goals as goal
 
 pub loop-number-preserved : goal.loop-number-preserved
@@ -18,6 +19,7 @@ loop-number-preserved g c =
     let i = c.loop-number.invariant in let e = c.in_ok-hold_empty.ensures in let p = c.push_reserved.ensures in
     let had = c.loop-number.chains.items in let one = c.in_ok-hold_empty.field-0 in let first = c.args.first in
     let views : map (λ c. c.seat.me.0) c.push_reserved.new.self.items ≡ map (λ c. c.seat.me.0) had ++ one.seat.me.0 ∷ [] = ap (map (λ c. c.seat.me.0)) p.items ∙ map-append (λ c. c.seat.me.0) had (one ∷ []) in
+    let goes : Begins (w.heard w0) (w.heard w2) = begins_trans (w.heard w0) (w.heard w1) (w.heard w2) i.6 e.heard.after_heard in
     let many = i.1 in let number = one.owns.2 in let same = e.same in (
       let len = p.len in let was = i.0 in omega arith,
       ap length p.items ∙ (length-append had (one ∷ []) ∙ omega arith),
@@ -32,10 +34,11 @@ loop-number-preserved g c =
             (λ (was : In i.5.0 x). let k = i.5.2 x was in let low = k.1 in (k.0, omega (arith, low), k.2))
             h,
       ),
-      begins_trans (w.heard w0) (w.heard w1) (w.heard w2) i.6 e.heard.after_heard,
-      subst (AreFrom first) (sym views) (from_last first (map (λ c. c.seat.me.0) had) one.seat.me.0 i.7 (one.owns.2 ∙ (e.held.0 ∙ ap (λ (n : ℕ). first + n) (sym (length-map had (λ c. c.seat.me.0) ∙ i.1))))),
-      subst (Each IsEmpty) (sym views) (each_last IsEmpty (map (λ c. c.seat.me.0) had) one.seat.me.0 i.8 e.held.1),
-      subst (Each IsAlone) (sym views) (each_last IsAlone (map (λ c. c.seat.me.0) had) one.seat.me.0 i.9 e.held.2),
+      goes,
+      free_more w g.P.GracePlan.QSBR tabled w0 w1 w2 first c.loop-number.number e.heard.after_heard (record { after_seen = subst (λ (l : Log). Begins l (w.heard w2)) i.3.0 e.heard.after_seen; after_heard = goes; run = e.heard.run }) i.7 e.unused,
+      subst (AreFrom first) (sym views) (from_last first (map (λ c. c.seat.me.0) had) one.seat.me.0 i.8 (one.owns.2 ∙ (e.held.0 ∙ ap (λ (n : ℕ). first + n) (sym (length-map had (λ c. c.seat.me.0) ∙ i.1))))),
+      subst (Each IsEmpty) (sym views) (each_last IsEmpty (map (λ c. c.seat.me.0) had) one.seat.me.0 i.9 e.held.1),
+      subst (Each IsAlone) (sym views) (each_last IsAlone (map (λ c. c.seat.me.0) had) one.seat.me.0 i.10 e.held.2),
     )
 
 pub returns-in_err-hold_empty-clause-heard : goal.returns-in_err-hold_empty-clause-heard

@@ -1,6 +1,9 @@
 use Rattle.std.proofs.Common.{◌≡◌, ◌≤◌, ◌<◌, ◌+◌, ◌++◌, ℕ, List, length, map, vec_len, vec_capacity}
 use Rattle.live_log.specs.Log.{Begins}
 use Rattle.live_read.specs.Hearing.{Stays}
+use Rattle.live_log.specs.Tables.{tabled}
+use Rattle.rcu_hash.specs.Refusing.{FindsFree}
+use Rattle.rcu_hash.specs.Tables.{IsAmong}
 use Rattle.rcu_hash.specs.Writers.{AreFrom, Each, IsAlone, IsEmpty}
 use Rattle.rcu_hash.proofs.Taking.{AreHoldsOf}
 use Rattle.rcu_hash.proofs.making.hold_all.Given as goal
@@ -10,4 +13,5 @@ invariant-loop-number g l =
     let w = g.W.Witness in let old = l.fn.witness in let new = l.witness in
     (vec_len l.chains ≡ l.number) × (length l.chains.items ≡ l.number) × (l.many ≤ vec_capacity l.chains)
     × Stays w old new × (w.loads new ≡ w.loads old) × ((found : List (ℕ × ℕ)) × (w.looks new ≡ found ++ w.looks old) × AreHoldsOf g.B.Site.sizes (λ c. c < l.first + l.number) found) × Begins (w.heard old) (w.heard new)
+    × FindsFree w g.P.GracePlan.QSBR tabled old new (IsAmong l.first l.number)
     × AreFrom l.first (map (λ c. c.seat.me.0) l.chains.items) × Each IsEmpty (map (λ c. c.seat.me.0) l.chains.items) × Each IsAlone (map (λ c. c.seat.me.0) l.chains.items)

@@ -1,12 +1,14 @@
-use Rattle.std.proofs.Common.{◌≡◌, ℕ, List, [], ◌∷◌, length, ap, sym, ◌∙◌, subst, refl, inl, inr, ⊎_elim, arith}
+use Rattle.std.proofs.lemmas.List.{nil_from_length}
+use Rattle.std.proofs.Common.{◌≡◌, ℕ, [], ◌∷◌, length, ap, sym, ◌∙◌, subst, refl, inl, inr, ⊎_elim, arith}
 use Rattle.live_log.specs.Log.{Log, Begins, chain_note, state_of}
 use Rattle.live_log.specs.Tables.{tabled}
 use Rattle.live_log.proofs.Lemmas.{begins_trans}
 use Rattle.live_read.specs.Hearing.{IsAfter}
 use Rattle.live_rule.specs.Places.{hold_at}
+use Rattle.live_rule.specs.Seats.{lent_chains}
 use Rattle.live_rule.specs.declared.rights.ChainRight.{ChainRight}
 use Rattle.live_rule.specs.declared.view.View.{View}
-use Rattle.live_table.specs.Rights.{own_in}
+use Rattle.live_table.specs.Rights.{IsListed, own_in}
 use Rattle.live_write.specs.Chains.{list_in}
 use Rattle.rcu_list.proofs.Lemmas.{stays_both}
 use Rattle.rcu_hash.specs.Refusing.{IsInUse}
@@ -32,21 +34,26 @@ returns-in-Err-clause-same g c =
     let w = g.W.Witness in let e = c.chain.ensures in let place = hold_at g.B.Site.sizes c.args.chain in
     (e.same.0, e.same.1, ⊎_elim (λ none. ([], ap w.looks none.2)) (λ busy. ((place, 1) ∷ [], busy.2)) c.in-Err.ensures.refused)
 
+-- what it links and which note it has, in the log of which the caller heard
+known : (chain : ℕ) (v : View) (log : Log) → log ≡ v.seen → (own_in v.chains).chain ≡ chain → IsListed v → ((state_of log).chain chain ≡ list_in v) × (chain_note chain log ≡ (own_in v.chains).note)
+known chain v log heard number listed = (
+  ap (λ (l : Log). (state_of l).chain chain) heard ∙ subst (λ (k : ℕ). (state_of v.seen).chain k ≡ list_in v) number listed.0,
+  ap (chain_note chain) heard ∙ subst (λ (k : ℕ). chain_note k v.seen ≡ (own_in v.chains).note) number listed.2,
+)
+
 -- it links an object, or has a note
 pub returns-then-note-ne0-clause-refused : goal.returns-then-note-ne0-clause-refused
 returns-then-note-ne0-clause-refused g c =
-    let w = g.W.Witness in let place = hold_at g.B.Site.sizes c.args.chain in let e = c.chain.ensures in let h = c.hear.ensures in let was = c.in-Ok.writer in let one = c.note.new.self in let now = c.hear.new.self in let log : Log = w.heard c.hear.new.witness in
-    let own : own_in now.seat.me.0.chains ≡ own_in was.seat.me.0.chains = ap own_in h.chains.0 ∙ ap (λ (v : View). own_in v.chains) c.note.ensures.looked.1.1 in
-    let number : (own_in now.seat.me.0.chains).chain ≡ c.args.chain = now.owns.2 ∙ (h.chains.1 ∙ (c.note.ensures.looked.2 ∙ c.in-Ok.ensures.held.0)) in
-    let note : chain_note c.args.chain log ≡ c.note.result = ap (chain_note c.args.chain) h.heard ∙ (subst (λ (k : ℕ). chain_note k now.seat.me.0.seen ≡ (own_in now.seat.me.0.chains).note) number now.owns.1.2 ∙ (ap (λ (x : ChainRight). x.note) own ∙ sym c.note.ensures.note.0)) in
-    let list : (state_of log).chain c.args.chain ≡ list_in one.seat.me.0 = ap (λ (l : Log). (state_of l).chain c.args.chain) h.heard ∙ (subst (λ (k : ℕ). (state_of now.seat.me.0.seen).chain k ≡ list_in now.seat.me.0) number now.owns.1.0 ∙ ap (λ (xs : List ChainRight). (own_in xs).objects) h.chains.0) in
+    let w = g.W.Witness in let place = hold_at g.B.Site.sizes c.args.chain in let e = c.chain.ensures in let h = c.hear.ensures in let one = c.hear.new.self in let log : Log = w.heard c.hear.new.witness in
+    let own : own_in c.note.new.self.seat.me.0.chains ≡ own_in one.seat.me.0.chains = ap (λ (v : View). own_in v.chains) c.note.ensures.looked.1.1 in
+    let is = known c.args.chain one.seat.me.0 log h.heard (one.owns.2 ∙ (h.chains.1 ∙ c.in-Ok.ensures.held.0)) one.owns.1 in
     let t = h.told.0 in
     let after : IsAfter g.P.GracePlan.QSBR tabled (w.seen c.args.witness.now) (w.heard c.args.witness.now) log = subst (IsAfter g.P.GracePlan.QSBR tabled (w.seen c.args.witness.now) (w.heard c.args.witness.now)) (sym h.heard) (record {
-      after_seen = subst (λ (l : Log). Begins l now.seat.me.0.seen) e.same.0.0 t.after_seen;
-      after_heard = begins_trans (w.heard c.args.witness.now) (w.heard c.chain.new.witness) now.seat.me.0.seen (e.heard c.requires.1).after_heard t.after_heard;
+      after_seen = subst (λ (l : Log). Begins l one.seat.me.0.seen) e.same.0.0 t.after_seen;
+      after_heard = begins_trans (w.heard c.args.witness.now) (w.heard c.chain.new.witness) one.seat.me.0.seen (e.heard c.requires.1).after_heard t.after_heard;
       run = t.run;
     }) in
-    let used : IsInUse c.args.chain log = elim c.then-note-ne0.branch [ then-note-ne0-via-then-note-ne0 b ↦ inr (λ none. b.if-note-ne0.true (sym note ∙ none)) | then-note-ne0-via-else-note-ne0+then-len-ne0 b ↦ inl (λ none. b.if-len-ne0.true (b.len.ensures ∙ ap length (sym list ∙ none))) ] in
+    let used : IsInUse c.args.chain log = elim c.then-note-ne0.branch [ then-note-ne0-via-then-note-ne0 b ↦ inr (λ none. b.if-note-ne0.true (c.note.ensures.note.0 ∙ (sym is.1 ∙ none))) | then-note-ne0-via-else-note-ne0+then-len-ne0 b ↦ inl (λ none. b.if-len-ne0.true (b.len.ensures ∙ ap length (ap (λ (x : ChainRight). x.objects) own ∙ (sym is.0 ∙ none)))) ] in
     (refl, record { chain = c.args.chain; one = refl; found = (place, 0) ∷ []; looks = h.same.0.1 ∙ c.in-Ok.ensures.held.2; why = inr (record { at = log; after = after; before = ([], refl); so = used }) })
 
 pub returns-then-note-ne0-clause-heard : goal.returns-then-note-ne0-clause-heard
@@ -64,9 +71,33 @@ returns-then-note-ne0-clause-same g c =
     (stays_both w w0 w1 w2 e.same.0 h.0.0, h.1 ∙ e.same.1, ((place, 0) ∷ [], h.0.1 ∙ c.in-Ok.ensures.held.2))
 
 pub returns-clause-heard : goal.returns-clause-heard
-returns-clause-heard g c = c.chain.ensures.heard c.requires.1
+returns-clause-heard g c =
+    let w = g.W.Witness in let w0 = c.args.witness.now in let w1 = c.chain.new.witness in let e = c.chain.ensures in let h = c.hear.ensures in let t = h.told.0 in
+    subst (IsAfter g.P.GracePlan.QSBR tabled (w.seen w0) (w.heard w0)) (sym h.heard) (record {
+      after_seen = subst (λ (l : Log). Begins l c.hear.new.self.seat.me.0.seen) e.same.0.0 t.after_seen;
+      after_heard = begins_trans (w.heard w0) (w.heard w1) c.hear.new.self.seat.me.0.seen (e.heard c.requires.1).after_heard t.after_heard;
+      run = t.run;
+    })
 
 pub returns-clause-same : goal.returns-clause-same
 returns-clause-same g c =
-    let e = c.chain.ensures in let place = hold_at g.B.Site.sizes c.args.chain in
-    (e.same.0, e.same.1, ((place, 0) ∷ [], c.in-Ok.ensures.held.2))
+    let w = g.W.Witness in let w0 = c.args.witness.now in let w1 = c.chain.new.witness in let w2 = c.hear.new.witness in let e = c.chain.ensures in let h = c.hear.ensures.same in let place = hold_at g.B.Site.sizes c.args.chain in
+    (stays_both w w0 w1 w2 e.same.0 h.0.0, h.1 ∙ e.same.1, ((place, 0) ∷ [], h.0.1 ∙ c.in-Ok.ensures.held.2))
+
+pub returns-clause-held : goal.returns-clause-held
+returns-clause-held g c =
+    let h = c.hear.ensures in let l = c.note.ensures.looked in let now = c.note.new.self.seat.me.0 in
+    let own : own_in now.chains ≡ own_in c.hear.new.self.seat.me.0.chains = ap (λ (v : View). own_in v.chains) l.1.1 in (
+      l.2 ∙ (h.chains.1 ∙ c.in-Ok.ensures.held.0),
+      (nil_from_length (list_in now) (sym c.len.ensures ∙ c.if-len-ne0.false), ap (λ (x : ChainRight). x.note) own ∙ (sym c.note.ensures.note.0 ∙ c.if-note-ne0.false)),
+      ap (λ (v : View). lent_chains v.chains) l.1.1 ∙ (ap lent_chains h.chains.0 ∙ c.in-Ok.ensures.run.1),
+      l.1.2.2,
+      h.same.0.1 ∙ c.in-Ok.ensures.held.2,
+    )
+
+pub returns-clause-unused : goal.returns-clause-unused
+returns-clause-unused g c =
+    let h = c.hear.ensures in let l = c.note.ensures.looked in let one = c.hear.new.self in let now = c.note.new.self.seat.me.0 in
+    let own : own_in now.chains ≡ own_in one.seat.me.0.chains = ap (λ (v : View). own_in v.chains) l.1.1 in
+    let is = known c.args.chain one.seat.me.0 (g.W.Witness.heard c.hear.new.witness) h.heard (one.owns.2 ∙ (h.chains.1 ∙ c.in-Ok.ensures.held.0)) one.owns.1 in
+    (is.0 ∙ (ap (λ (x : ChainRight). x.objects) (sym own) ∙ nil_from_length (list_in now) (sym c.len.ensures ∙ c.if-len-ne0.false)), is.1 ∙ (sym c.note.ensures.note.0 ∙ c.if-note-ne0.false))

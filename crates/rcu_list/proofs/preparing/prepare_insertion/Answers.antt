@@ -66,6 +66,7 @@ returns-clause-ready g c =
             let note : note_of seen q ≡ note_of mid.seat.me.0.seen q = note_walked qsbr allows maps mid.number mid.seat.me new.seat.me f.looked.1 mid.owns.1 mid.owns.2 q had in
             (λ same. none q (subst (λ (x : ChainRight). In x.objects q) first had) (ap key_of (sym note) ∙ same), f.above.1 q had);
       },
+      f.above.0,
       missing,
     ))
     c.alloc.ensures.owned c.alloc.ensures.owned

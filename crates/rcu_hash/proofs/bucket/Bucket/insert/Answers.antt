@@ -89,12 +89,12 @@ returns-clause-inserted g c =
     let list_is : list_in three.seat.me.0 ≡ list_in one.seat.me.0 = ap (λ (x : ChainRight). x.objects) (ap own_in e.chains.0 ∙ same_own q tabled maps one.number one.seat.me two.seat.me l.1 one.owns.1 one.owns.2) in
     let came = pushed_map q tabled maps one.number known seen heard three.seat.me.0 four.seat.me.0 (three.owns.2 ∙ number) three.owns.0
     (chain_known one.seat.me.0 one.number one.owns.1 one.owns.2 ∙ sym list_is)
-    (w.seen w2) (w.heard w2) owned.seat.me.0.seen owned.seat.me.0 key value r.ready.0.rank r.ready.0.words p.pushed (
+    (w.seen w2) (w.heard w2) owned.seat.me.0.seen owned.seat.me.0 key value r.ready.0.rank r.ready.1 r.ready.0.words p.pushed (
       begins_trans known s before (begins_trans known two.seat.me.0.seen s l.1.2.0 e.later.0) p.pushed.after.after_writer.0,
       subst (λ (x : Log). Begins x before) (r.same.0.0 ∙ h.same.0.0.0.0) p.pushed.after.after_caller.0,
       begins_trans heard (w.heard w1) before h.told.0.after_heard (begins_trans (w.heard w1) (w.heard w2) before r.heard.after_heard p.pushed.after.after_caller.1),
     )
-    r.ready.1 in
+    r.ready.2 in
     let bucket = h.same.2 ∙ (sym c.requires.key ∙ ap (λ (m : Naming). bucket_of m.first m.buckets key) (sym named)) in
     let into = table_inserts q tabled n.first n.buckets known seen heard seen heard (λ x y z. (y, z)) key log value (subst (λ (x : ℕ). list.Inserts q tabled x known seen heard key value log) bucket came) in
     let was = lent_is s three.seat.me.0.chains _ _ n.object n.directory e.chains.0 e.known d.alone (d.chain.owns.2 ∙ d.own.0) in

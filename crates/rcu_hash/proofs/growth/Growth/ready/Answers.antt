@@ -1,10 +1,12 @@
 use Rattle.std.proofs.Common.{[], ◌++◌, ◌∙◌, inl, refl}
 use Rattle.std.proofs.lemmas.Result.{err_from_is_err_and}
 use Rattle.rcu_model.specs.declared.refusal.Refusal.TheVariants.{Memory}
+use Rattle.live_log.specs.Tables.{tabled}
 use Rattle.live_log.proofs.Lemmas.{begins_trans}
+use Rattle.rcu_hash.specs.Refusing.{IsUnused}
 use Rattle.rcu_hash.proofs.Copies.{found_before, found_more}
 use Rattle.rcu_hash.proofs.Held.{looks_both, not_full}
-use Rattle.rcu_hash.proofs.Taking.{told_both, told_looks}
+use Rattle.rcu_hash.proofs.Taking.{during_earlier, told_both, told_looks}
 use Rattle.rcu_hash.proofs.growth.Growth.ready.Goals as goal
 
 pub returns-in_err-rooms-clause-looks : goal.returns-in_err-rooms-clause-looks
@@ -46,6 +48,12 @@ pub returns-in-Ok-clause-heard : goal.returns-in-Ok-clause-heard
 returns-in-Ok-clause-heard g c =
     let w = g.W.Witness in let w0 = c.args.witness.now in let w1 = c.hold_all.new.witness in let w2 = c.copy_all.new.witness in let w3 = c.provide.new.witness in
     begins_trans (w.heard w0) (w.heard w1) (w.heard w3) c.hold_all.ensures.heard (begins_trans (w.heard w1) (w.heard w2) (w.heard w3) c.copy_all.ensures.heard c.provide.ensures.heard)
+
+pub returns-in-Ok-clause-free : goal.returns-in-Ok-clause-free
+returns-in-Ok-clause-free g c chain among =
+    let w = g.W.Witness in let w1 = c.hold_all.new.witness in let w3 = c.provide.new.witness in
+    during_earlier w g.P.GracePlan.QSBR tabled c.args.witness.now w1 w3 (IsUnused chain)
+    (begins_trans (w.heard w1) (w.heard c.copy_all.new.witness) (w.heard w3) c.copy_all.ensures.heard c.provide.ensures.heard) (c.in_ok-chains.ensures.free chain among)
 
 pub returns-in-Ok-clause-looks : goal.returns-in-Ok-clause-looks
 returns-in-Ok-clause-looks g c =

@@ -6,9 +6,10 @@ use Rattle.live_log.specs.Tables.{tabled}
 use Rattle.live_log.proofs.Lemmas.{begins_trans}
 use Rattle.rcu_hash.specs.Copies.{value_in_bucket}
 use Rattle.rcu_hash.specs.Growing.{Grows}
+use Rattle.rcu_hash.specs.Refusing.{IsUnused}
 use Rattle.rcu_hash.specs.Tables.{are_apart}
 use Rattle.rcu_hash.proofs.Regrown.{grows_go, grows_since}
-use Rattle.rcu_hash.proofs.Taking.{in_both}
+use Rattle.rcu_hash.proofs.Taking.{during_earlier, in_both}
 use Rattle.rcu_hash.proofs.table.RcuHash.grow.Goals as goal
 
 pub commit-rest-requires-clause-copied : goal.commit-rest-requires-clause-copied
@@ -35,6 +36,13 @@ returns-clause-heard g c =
     let w = g.W.Witness in let w0 = c.args.witness.now in let w1 = c.ready.new.witness in let log : Log = w.heard c.commit-rest.new.witness in let growth = c.in_ok-growth.growth in
     let entries : List (ℕ × ℕ) = map (λ y. (y.key, y.value)) growth.copied.items in
     begins_trans (w.heard w0) (w.heard w1) log c.ready.ensures.heard (grows_go g.P.GracePlan.QSBR tabled g.B.Site.sizes.chains c.deref_mut-2.result.now.naming.directory c.args.first (vec_len growth.chains) entries log (w.seen w1) (w.heard w1) c.commit-rest.ensures.grown)
+
+pub returns-clause-free : goal.returns-clause-free
+returns-clause-free g c chain among =
+    let w = g.W.Witness in let w1 = c.ready.new.witness in let log : Log = w.heard c.commit-rest.new.witness in let growth = c.in_ok-growth.growth in
+    let entries : List (ℕ × ℕ) = map (λ y. (y.key, y.value)) growth.copied.items in
+    during_earlier w g.P.GracePlan.QSBR tabled c.args.witness.now w1 c.commit-rest.new.witness (IsUnused chain)
+    (grows_go g.P.GracePlan.QSBR tabled g.B.Site.sizes.chains c.deref_mut-2.result.now.naming.directory c.args.first (vec_len growth.chains) entries log (w.seen w1) (w.heard w1) c.commit-rest.ensures.grown) (c.in_ok-growth.ensures.free chain among)
 
 -- a new chain was taken, or is one of the table's own, which have its note
 pub returns-in_err-growth-clause-refused : goal.returns-in_err-growth-clause-refused

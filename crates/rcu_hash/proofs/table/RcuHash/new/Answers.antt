@@ -12,13 +12,14 @@ use Rattle.rcu_hash.specs.Directories.{LeadsTo, directed_map}
 use Rattle.rcu_hash.specs.Growing.{NotesAll}
 use Rattle.rcu_hash.specs.Leaving.{Writes}
 use Rattle.rcu_hash.specs.Naming.{words_by}
+use Rattle.rcu_hash.specs.Refusing.{IsUnused}
 use Rattle.rcu_hash.specs.Tables.{IsAmong, bucket_of}
 use Rattle.rcu_hash.specs.Writers.{Each, HasNoNote, HasNote, HasNothing, IsEmpty, Noted}
 use Rattle.rcu_hash.proofs.Copies.{found_more}
 use Rattle.rcu_hash.proofs.Emptying.{writes_weaker}
 use Rattle.rcu_hash.proofs.Filling.{notes_weaker}
 use Rattle.rcu_hash.proofs.Held.{each_map, looks_both, not_full, pair_from, pair_nothing}
-use Rattle.rcu_hash.proofs.Taking.{taken_since}
+use Rattle.rcu_hash.proofs.Taking.{during_earlier, during_since, taken_since}
 use Rattle.rcu_hash.proofs.table.RcuHash.new.Goals as goal
 
 pub returns-in_err-chains-clause-looks : goal.returns-in_err-chains-clause-looks
@@ -88,6 +89,23 @@ returns-clause-looks g c =
     let w = g.W.Witness in let one = c.hold_empty.ensures.same.2 in let two = c.hold_all.ensures.same.2 in let three = c.alloc.ensures.looks in let n = c.note_all-chains.ensures.same in let d = c.direct-writer.ensures.same in
     let held = looks_both (w.looks c.args.witness.now) (w.looks c.hold_empty.new.witness) (w.looks c.hold_all.new.witness) one.0 two.0 one.1 two.1 in
     (three.0 ++ (two.0 ++ one.0), d.0.1 ∙ (n.0.1 ∙ looks_both (w.looks c.args.witness.now) (w.looks c.hold_all.new.witness) (w.looks c.alloc.new.witness) (two.0 ++ one.0) three.0 held three.1), tt)
+
+-- the directory's chain was unused once it was held, and then each bucket's
+pub returns-clause-free : goal.returns-clause-free
+returns-clause-free g c chain one =
+    let q = g.P.GracePlan.QSBR in let w = g.W.Witness in let w0 = c.args.witness.now in let w1 = c.hold_empty.new.witness in let w2 = c.hold_all.new.witness in let w3 = c.alloc.new.witness in let w4 = c.note_all-chains.new.witness in let w5 = c.direct-writer.new.witness in
+    let a = c.hold_empty.ensures in
+    let goes : Begins (w.heard w2) (w.heard w5) = begins_trans (w.heard w2) (w.heard w3) (w.heard w5) c.alloc.ensures.heard.after_heard (begins_trans (w.heard w3) (w.heard w4) (w.heard w5) c.note_all-chains.ensures.heard c.direct-writer.ensures.heard.after_heard) in
+    ⊎_elim
+    (λ (is : chain ≡ c.args.directory). record {
+      at = w.heard w1;
+      after = a.heard;
+      before = begins_trans (w.heard w1) (w.heard w2) (w.heard w5) c.hold_all.ensures.heard goes;
+      so = subst (λ (k : ℕ). IsUnused k (w.heard w1)) (sym is) c.in_ok-own.ensures.unused;
+    })
+    (λ (among : IsAmong c.args.first c.args.buckets chain). during_since w q tabled w0 w1 w5 (IsUnused chain) a.same.0.0 a.heard.after_heard
+    (during_earlier w q tabled w1 w2 w5 (IsUnused chain) goes (c.in_ok-chains-2.ensures.free chain among)))
+    one
 
 -- each bucket got its note, and then the directory came
 pub returns-clause-founded : goal.returns-clause-founded

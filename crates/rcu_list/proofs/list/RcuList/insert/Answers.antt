@@ -26,12 +26,12 @@ returns-clause-inserted g c =
     let same = same_own qsbr allows maps old.number old.seat.me new.seat.me a.looked.1 old.owns.1 old.owns.2 in (
       pushed_map qsbr allows maps old.number known (g.W.Witness.seen c.args.witness.now) (g.W.Witness.heard c.args.witness.now) new.seat.me.0 done.seat.me.0 (new.owns.2 ∙ a.looked.2) new.owns.0
           (chain_known old.seat.me.0 old.number old.owns.1 old.owns.2 ∙ ap (λ (x : ChainRight). x.objects) (sym same))
-          (g.W.Witness.seen c.prepare_insertion.new.witness) (g.W.Witness.heard c.prepare_insertion.new.witness) owned.seat.me.0.seen owned.seat.me.0 c.args.key c.args.value ready.rank ready.words p.pushed (
+          (g.W.Witness.seen c.prepare_insertion.new.witness) (g.W.Witness.heard c.prepare_insertion.new.witness) owned.seat.me.0.seen owned.seat.me.0 c.args.key c.args.value ready.rank a.ready.1 ready.words p.pushed (
             begins_trans known new.seat.me.0.seen before a.looked.1.2.0 p.pushed.after.after_writer.0,
             subst (λ (l : Log). Begins l before) a.same.0.0 p.pushed.after.after_caller.0,
             begins_trans (g.W.Witness.heard c.args.witness.now) (g.W.Witness.heard c.prepare_insertion.new.witness) before a.heard.after_heard p.pushed.after.after_caller.1,
           )
-          a.ready.1,
+          a.ready.2,
       p.heard,
     )
 
