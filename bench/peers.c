@@ -512,6 +512,22 @@ extern const struct rcu_flavor_struct urcu_mb_flavor, urcu_memb_flavor, urcu_qsb
 		pthread_once(&once, name##_fill_large);                                                                \
 		name##_look_up(MANY, OTHERS);                                                                          \
 	}                                                                                                              \
+	static void name##_through(void)                                                                               \
+	{                                                                                                              \
+		pthread_once(&once, name##_fill_small);                                                                \
+		urcu_##name##_register_thread();                                                                       \
+		for (unsigned long i = 0; i < count;) {                                                                \
+			struct cds_lfht_iter at;                                                                       \
+			struct entry *entry;                                                                           \
+			urcu_##name##_read_lock();                                                                     \
+			cds_lfht_for_each_entry (table, &at, entry, node) {                                            \
+				sink = entry->value;                                                                   \
+				i++;                                                                                   \
+			}                                                                                              \
+			urcu_##name##_read_unlock();                                                                   \
+		}                                                                                                      \
+		urcu_##name##_unregister_thread();                                                                     \
+	}                                                                                                              \
 	static void name##_insert(void)                                                                                \
 	{                                                                                                              \
 		name##_fill(LARGE, 0);                                                                                 \
@@ -674,18 +690,21 @@ static const struct {
 	{ "mb", "miss-large", mb_miss_large },
 	{ "mb", "insert", mb_insert },
 	{ "mb", "remove", mb_remove },
+	{ "mb", "through", mb_through },
 	{ "memb", "hit", memb_hit },
 	{ "memb", "miss", memb_miss },
 	{ "memb", "hit-large", memb_hit_large },
 	{ "memb", "miss-large", memb_miss_large },
 	{ "memb", "insert", memb_insert },
 	{ "memb", "remove", memb_remove },
+	{ "memb", "through", memb_through },
 	{ "qsbr", "hit", qsbr_hit },
 	{ "qsbr", "miss", qsbr_miss },
 	{ "qsbr", "hit-large", qsbr_hit_large },
 	{ "qsbr", "miss-large", qsbr_miss_large },
 	{ "qsbr", "insert", qsbr_insert },
 	{ "qsbr", "remove", qsbr_remove },
+	{ "qsbr", "through", qsbr_through },
 	{ "mb", "grow", mb_grow },
 	{ "mb", "hit-while-growing", mb_hit_while_growing },
 	{ "mb", "slowest-while-growing", mb_slowest_while_growing },

@@ -17,7 +17,8 @@ use std::sync::Wait;
 
 impl<P: GracePlan + Drop, K: ChainRule, B: Site, D: Deleter> Domain<P, K, B, D> {
     /// Begins a barrier that nobody waits for: notes how many callbacks each queue was given, by the counts that it
-    /// loads, which `looks` tells. The mark keeps a log that begins with all that the caller had seen and heard of. It never waits and takes no memory.
+    /// loads, which `looks` tells. The mark keeps a log that begins with all that the caller had seen and heard of. It
+    /// never waits and takes no memory.
     pub fn barrier_start<W: Witness>(&self, witness: &mut W) -> BarrierMark
         requires { W.home witness.old ≡ (B.table, B.sizes) }
         ensures asked { Begins (W.seen witness.old) result.asked.value.me.0.seen × Begins (W.heard witness.old) result.asked.value.me.0.seen × Begins result.asked.value.me.0.seen (W.heard witness.new) × (result.asked.value.me.0.sizes ≡ B.sizes) }
@@ -49,8 +50,9 @@ impl<P: GracePlan + Drop, K: ChainRule, B: Site, D: Deleter> Domain<P, K, B, D> 
     }
 
     /// Waits until all that was queued before the call has run, liburcu's `rcu_barrier`: each object that was queued in
-    /// what the caller had seen and heard of has its Run in the log that the caller hears of at the return. It waits for the workers of all queues, with a back-off, so it is not
-    /// called in a section or a callback. It takes no memory.
+    /// what the caller had seen and heard of has its Run in the log that the caller hears of at the return. It waits
+    /// for the workers of all queues, with a back-off, so it is not called in a section or a callback. It takes no
+    /// memory.
     pub fn barrier<W: Witness, R: Wait>(&self, rt: &R, witness: &mut W)
         requires { W.home witness.old ≡ (B.table, B.sizes) }
         ensures barred { Barred P.QSBR K.allows (W.seen witness.old) (W.heard witness.old) (W.heard witness.new) }

@@ -1,5 +1,5 @@
-//! The names of [saferecl.rcu], beside `Reader::lock`, `Reader::try_lock` and `Reader::unlock`: a reader takes the place
-//! of the calling thread.
+//! The names of [saferecl.rcu], beside `Reader::lock`, `Reader::try_lock` and `Reader::unlock`: a reader takes the
+//! place of the calling thread.
 
 ghost use Rattle.std.specs.Prelude.{◌≡◌, ◌+◌, ◌%◌, ◌^◌, ◌≤◌, IfErr, IfOk, ℕ};
 ghost use Rattle.rcu_model.specs.declared.refusal.Refusal.TheVariants.{Exhausted};

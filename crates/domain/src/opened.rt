@@ -53,8 +53,8 @@ impl<P: GracePlan + Drop, K: ChainRule> Opened<P, K> {
     }
 
     /// The domain under this name, none of whose slots is claimed, and the first record, which has seen nothing yet.
-    /// All the memory that registering takes is taken here. `D` is what is called with each object that is reclaimed: the
-    /// boxed `Callback`, or a type of the program's own.
+    /// All the memory that registering takes is taken here. `D` is what is called with each object that is reclaimed:
+    /// the boxed `Callback`, or a type of the program's own.
     ///
     /// Refused with `Memory` where memory is. It never waits.
     pub fn named<B: Site, D: Deleter>(

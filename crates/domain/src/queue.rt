@@ -42,8 +42,8 @@ impl<B: Site, D: Deleter> Queue<B, D> {
         })
     }
 
-    /// The queue's items, under their lock. Which queue an unlocked one was is not known before it is looked at, so that
-    /// is looked at; it never is another.
+    /// The queue's items, under their lock. Which queue an unlocked one was is not known before it is looked at, so
+    /// that is looked at; it never is another.
     pub(crate) fn lock<'q, R: Wait>(&'q self, rt: &R, number: usize) -> MutexGuard<'q, Items<B, D>>
         ensures { (mutex_guard_value result).2 ≡ number }
     {

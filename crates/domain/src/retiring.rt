@@ -111,7 +111,8 @@ impl<P: GracePlan + Drop, K: ChainRule, B: Site, D: Deleter> Domain<P, K, B, D> 
 
     /// Puts a record in the place of the object at an index of a chain and retires that object, both under the lock of
     /// its queue, which has room before anything is replaced. The chain's rule has to allow the replacement in each log
-    /// that comes after all that its writer, the caller and who allocated the record had seen. The caller hears of both.
+    /// that comes after all that its writer, the caller and who allocated the record had seen. The caller hears of
+    /// both.
     ///
     /// Refused with `NoPlace` exactly where the index is not below the chain's length, else as `retire`; then the chain
     /// is as it was, and the record and the callback come back. It waits for the queue's lock alone.
@@ -152,8 +153,8 @@ impl<P: GracePlan + Drop, K: ChainRule, B: Site, D: Deleter> Domain<P, K, B, D> 
         }
     }
 
-    /// Closes all queues: every later retirement is refused, and what is queued still runs. The caller hears of that. It
-    /// takes no memory, and waits for the queues' locks alone.
+    /// Closes all queues: every later retirement is refused, and what is queued still runs. The caller hears of that.
+    /// It takes no memory, and waits for the queues' locks alone.
     pub fn close<W: Witness, R: Wait>(&self, rt: &R, witness: &mut W)
         requires { W.home witness.old ≡ (B.table, B.sizes) }
         ensures closed { (q : ℕ) → q < B.sizes.queues → closed_of q (W.heard witness.new) ≡ 1 }

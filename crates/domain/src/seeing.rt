@@ -24,9 +24,9 @@ impl<P: GracePlan + Drop, K: ChainRule, B: Site, D: Deleter> Domain<P, K, B, D> 
         self.table.chains
     }
 
-    /// How full the domain is: how many records are in use, how many retired objects of each queue have not run, and the
-    /// sequence number. The counts are loaded one after another, so they are of different moments of the call. It takes
-    /// as long as the pool is large; it never waits and takes no memory.
+    /// How full the domain is: how many records are in use, how many retired objects of each queue have not run, and
+    /// the sequence number. The counts are loaded one after another, so they are of different moments of the call. It
+    /// takes as long as the pool is large; it never waits and takes no memory.
     pub fn counts<W: Witness>(&self, witness: &mut W) -> Counts
         requires { W.home witness.old ≡ (B.table, B.sizes) }
         ensures counted { (found : Looks) × (W.looks witness.new ≡ found ++ W.looks witness.old) × Counted B.sizes found result }

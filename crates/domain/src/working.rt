@@ -54,8 +54,8 @@ fn back_off<R: Wait>(rt: &R) {
 }
 
 impl<P: GracePlan + Drop, K: ChainRule, B: Site, D: Deleter> Domain<P, K, B, D> {
-    /// Runs a batch, whose first item is the last one of its list, each in its turn and with no lock held. Answers how many
-    /// are finished.
+    /// Runs a batch, whose first item is the last one of its list, each in its turn and with no lock held. Answers how
+    /// many are finished.
     fn run_all(
         &self,
         seat: &mut LiveSeat,
@@ -210,7 +210,8 @@ impl<P: GracePlan + Drop, K: ChainRule, B: Site, D: Deleter> Domain<P, K, B, D> 
         unreachable!()
     }
 
-    /// Rests while nothing is queued. Before that it lets some time pass, so that what is queued meanwhile wakes nobody.
+    /// Rests while nothing is queued. Before that it lets some time pass, so that what is queued meanwhile wakes
+    /// nobody.
     fn rest<R: Wait>(&self, rt: &R, queue: usize)
         requires { queue < B.sizes.queues }
     {
@@ -264,8 +265,9 @@ impl<P: GracePlan + Drop, K: ChainRule, B: Site, D: Deleter> Domain<P, K, B, D> 
     /// reader is of the quiescent-state flavour, hears of all that.
     ///
     /// It stops early where the sequence numbers are used up, and then nobody works for the queue any more; or where
-    /// memory is refused for what is queued. Refused with `NoActor` exactly where there is no such queue, else with `Busy` where its hold
-    /// word was found to be 1, as while another works for it, and with `Exhausted` where that was 2.
+    /// memory is refused for what is queued. Refused with `NoActor` exactly where there is no such queue, else with
+    /// `Busy` where its hold word was found to be 1, as while another works for it, and with `Exhausted` where that was
+    /// 2.
     pub fn run_worker<W: Witness, R: Wait>(
         &self,
         rt: &R,

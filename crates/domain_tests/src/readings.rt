@@ -27,8 +27,8 @@ use std::marker::Brand;
 use std::sync::Wait;
 
 /// Allocates a record and pushes it, in a section. Answers what the chain's writer reads of it, and what the section
-/// reads of the chain's first object: its payload in a log that the reader saw, which is a run and has the push; where it
-/// is the object that was pushed, what `alloc` was given.
+/// reads of the chain's first object: its payload in a log that the reader saw, which is a run and has the push; where
+/// it is the object that was pushed, what `alloc` was given.
 fn publishes<P: GracePlan + Drop, B: Site, R: Wait>(
     rt: &R,
     domain: &Domain<P, AnyChain, B, Adds>,

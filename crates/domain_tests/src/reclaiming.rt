@@ -206,8 +206,8 @@ fn told<B: Site, D: Deleter>(end: &WorkerEnd<B, D>) -> (usize, Option<Finished>,
     )
 }
 
-/// The ticket of an object of these words that is cut and retired with a callback, and the end of a worker that finds it
-/// in a closed queue.
+/// The ticket of an object of these words that is cut and retired with a callback, and the end of a worker that finds
+/// it in a closed queue.
 fn reclaims<B: Site, R: Wait>(
     rt: &R,
     alloc: Global,

@@ -86,8 +86,8 @@ fn serves<P: GracePlan + Drop, B: Site, R: Wait>(
     Ok(words == Some([11, 13, 17, 19]))
 }
 
-/// Names a domain. Whether it answers, its records serve, and what is cut is retired with the first ticket of its queue,
-/// and then run; `None` where naming was refused memory.
+/// Names a domain. Whether it answers, its records serve, and what is cut is retired with the first ticket of its
+/// queue, and then run; `None` where naming was refused memory.
 fn name<P: GracePlan + Drop, B: Site, R: Wait>(
     rt: &R,
     alloc: Global,

@@ -188,7 +188,8 @@ impl Ledger {
         self.add(Refused::Step(operation, answer));
     }
 
-    /// What a call answers that changes nothing, made again where it is refused: `RefusedAgain` where that is refused too.
+    /// What a call answers that changes nothing, made again where it is refused: `RefusedAgain` where that is refused
+    /// too.
     pub fn again<T, E: Drop, F: Fn() -> Result<T, E> + Drop>(
         &mut self,
         call: Call,

@@ -89,8 +89,8 @@ fn remove<P: GracePlan + Drop, B: Site, R: Wait>(
     }
 }
 
-/// Names a domain. Whether a replaced value and a removed key have the first tickets of their queues; `None` where naming
-/// was refused memory.
+/// Names a domain. Whether a replaced value and a removed key have the first tickets of their queues; `None` where
+/// naming was refused memory.
 fn name<P: GracePlan + Drop, B: Site, R: Wait>(
     rt: &R,
     alloc: Global,

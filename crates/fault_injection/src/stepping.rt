@@ -98,7 +98,8 @@ impl Stepped {
         }
     }
 
-    /// Steps the line, and again where it is refused memory. A refusal leaves the world as it was, or `Changed` is found.
+    /// Steps the line, and again where it is refused memory. A refusal leaves the world as it was, or `Changed` is
+    /// found.
     pub fn step(
         &mut self,
         ledger: &mut Ledger,

@@ -174,8 +174,8 @@ fn look<P: GracePlan + Drop, B: Site, R: Wait>(
     Ok(table.get(&mut section, key))
 }
 
-/// Whether a replaced value and a removed key of a new table have the first tickets of their queues, the table grows and is
-/// tidied, and a lookup finds what was replaced.
+/// Whether a replaced value and a removed key of a new table have the first tickets of their queues, the table grows
+/// and is tidied, and a lookup finds what was replaced.
 fn serves<P: GracePlan + Drop, B: Site, R: Wait>(
     rt: &R,
     alloc: Global,

@@ -104,8 +104,8 @@ fn step_after(
     }
 }
 
-/// Steps the worked schedule after 2, 3 and so on to 17 other events. The log grows by doubling: it is full with 16 or 32
-/// events, so that each event of a schedule which tells at most 31 meets a full log once.
+/// Steps the worked schedule after 2, 3 and so on to 17 other events. The log grows by doubling: it is full with 16 or
+/// 32 events, so that each event of a schedule which tells at most 31 meets a full log once.
 pub fn step_worked(alloc: Global, ledger: &mut Ledger, flavour: Flavour) -> Result<u64, Finding> {
     let worked = schedule_of(flavour);
     let printed = ledger.again(Call::Own, || worked.printed(alloc))?;

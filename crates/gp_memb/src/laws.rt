@@ -16,8 +16,8 @@ pub fn shorter_plans_break_the_law()
     ensures stops_at_empty { (layout : Layout) → ¬ WaitsForOpen false memb_action stops_at_empty layout 2 0 (memb_begun layout false 2 0 false) }
 {}
 
-/// A plan that goes by a group word which it loaded before its first store breaks the grace-period law, in both layouts:
-/// a slot may be claimed, and a section opened in it, between that load and the store.
+/// A plan that goes by a group word which it loaded before its first store breaks the grace-period law, in both
+/// layouts: a slot may be claimed, and a section opened in it, between that load and the store.
 pub fn early_group_words_break_the_law()
     ensures { (layout : Layout) → ¬ WaitsForOpen false early_action early_taken layout 1 0 (record { early = None; plan = memb_begun layout true 1 0 false }) }
 {}

@@ -49,9 +49,9 @@ impl MembPlan {
         MembPlan::begun(layout, Scan::new(slots, false), seq, phase)
     }
 
-    /// A plan that has done nothing yet, for the present sequence number and phase. Each scan loads each group word (one
-    /// for 64 slots) before the slots of the group, and then those whose bit was set; so over G group words it takes
-    /// 2G + 4 steps and one for each slot that it loads.
+    /// A plan that has done nothing yet, for the present sequence number and phase. Each scan loads each group word
+    /// (one for 64 slots) before the slots of the group, and then those whose bit was set; so over G group words it
+    /// takes 2G + 4 steps and one for each slot that it loads.
     pub fn grouped(layout: Layout, slots: usize, seq: u64, phase: bool) -> MembPlan
         requires even { seq % 2 ≡ 0 }
         requires seq { seq ≤ 2 ^ 62 }

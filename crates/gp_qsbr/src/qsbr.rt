@@ -19,8 +19,8 @@ enum Place {
 
 /// A grace period of the quiescent-state flavour.
 ///
-/// The sequence number becomes odd; the number that readers announce is raised by one and the slots scanned; the sequence
-/// number becomes even.
+/// The sequence number becomes odd; the number that readers announce is raised by one and the slots scanned; the
+/// sequence number becomes even.
 #[derive(Clone, Copy, Debug, PartialEq, Eq, Drop)]
 pub struct QsbrPlan {
     scan: Scan,
@@ -35,8 +35,8 @@ impl QsbrPlan {
     ghost use Rattle.gp_memb.specs.Groups.{groups_of};
     ghost use Rattle.gp_qsbr.specs.Qsbr.{qsbr_begun, qsbr_action, qsbr_turn, qsbr_taken};
 
-    /// A plan that has done nothing yet, for the present sequence number and number. Its scan loads all slots; so over R
-    /// slots it takes R + 3 steps.
+    /// A plan that has done nothing yet, for the present sequence number and number. Its scan loads all slots; so over
+    /// R slots it takes R + 3 steps.
     pub fn new(slots: usize, seq: u64, num: u64) -> QsbrPlan
         requires even { seq % 2 ≡ 0 }
         requires seq { seq ≤ 2 ^ 62 }
@@ -47,9 +47,9 @@ impl QsbrPlan {
         QsbrPlan::begun(Scan::new(slots, false), seq, num)
     }
 
-    /// A plan that has done nothing yet, for the present sequence number and number. Its scan loads each group word (one
-    /// for 64 slots) before the slots of the group, and then those whose bit was set; so over G group words it takes
-    /// G + 3 steps and one for each slot that it loads.
+    /// A plan that has done nothing yet, for the present sequence number and number. Its scan loads each group word
+    /// (one for 64 slots) before the slots of the group, and then those whose bit was set; so over G group words it
+    /// takes G + 3 steps and one for each slot that it loads.
     pub fn grouped(slots: usize, seq: u64, num: u64) -> QsbrPlan
         requires even { seq % 2 ≡ 0 }
         requires seq { seq ≤ 2 ^ 62 }

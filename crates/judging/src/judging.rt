@@ -11,8 +11,8 @@ use rcu_model::{Event, Judge, Verdict};
 use schedule::{AnswerReader, AnswersFault, ReplayFault};
 use std::alloc::Global;
 
-/// A judge of the log that lines of answers tell, which come in pieces. It keeps what is present in that log, the events
-/// of a piece, and less than a line of text.
+/// A judge of the log that lines of answers tell, which come in pieces. It keeps what is present in that log, the
+/// events of a piece, and less than a line of text.
 #[derive(Drop)]
 pub struct Judging {
     answers: AnswerReader,
@@ -97,7 +97,8 @@ impl Judging {
     }
 
     /// Takes the next piece like `feed`, and answers the verdict so far: `No` once an event was wrong, whatever follows
-    /// that event. `BadText` where no event before it was wrong, and `Memory`. After a fault or `No` it is of no more use.
+    /// that event. `BadText` where no event before it was wrong, and `Memory`. After a fault or `No` it is of no more
+    /// use.
     pub fn follow(&mut self, piece: &[u8]) -> Result<Verdict, ReplayFault>
         ensures { (fed : List ℕ) → HasJudged self.old fed → JudgesAlong self.new (fed ++ piece.now) result }
     {
@@ -112,8 +113,8 @@ impl Judging {
         self.judge.taken()
     }
 
-    /// Ends the input: the verdict, and how many events there were where they are a run. `BadText` after a line that has
-    /// no end.
+    /// Ends the input: the verdict, and how many events there were where they are a run. `BadText` after a line that
+    /// has no end.
     pub fn finish(&self) -> Result<(Verdict, usize), ReplayFault>
         ensures { (fed : List ℕ) (judged : HasJudged self.now fed) → Ends fed judged.log result }
     {

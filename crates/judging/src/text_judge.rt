@@ -68,9 +68,9 @@ fn found_along(followed: Result<Verdict, ReplayFault>, events: usize) -> Finding
     }
 }
 
-/// A judge of a text of answers that comes in pieces: whether the log that it tells is a run of the abstract machine, the
-/// first event that breaks its rule, or why it is no such text. It can be asked at any moment. The first finding other
-/// than `Yes` stands, and what comes after it is not looked at. It keeps what `Judging` keeps.
+/// A judge of a text of answers that comes in pieces: whether the log that it tells is a run of the abstract machine,
+/// the first event that breaks its rule, or why it is no such text. It can be asked at any moment. The first finding
+/// other than `Yes` stands, and what comes after it is not looked at. It keeps what `Judging` keeps.
 #[derive(Drop)]
 pub struct TextJudge {
     judging: Judging,
@@ -108,8 +108,8 @@ impl TextJudge {
         self.found
     }
 
-    /// What is found of the text if it ends here: a line that has no end is a bad text. The judge is as it was, and more
-    /// may follow all the same.
+    /// What is found of the text if it ends here: a line that has no end is a bad text. The judge is as it was, and
+    /// more may follow all the same.
     pub fn found_at_end(&self) -> Finding
         ensures found { (fed : List ℕ) → WasFed self.now fed → IsFoundAtEnd fed result }
         ensures stands { is_final self.now.found ≡ true → result ≡ self.now.found }

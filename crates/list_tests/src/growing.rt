@@ -116,8 +116,8 @@ fn grows_once<P: GracePlan + Drop, B: Site, R: Wait>(
     Err(Refusal::PoolFull)
 }
 
-/// How many records were retired in all growths, by turns to three buckets and to two, of which the first begins once both
-/// readers have found the key; then these are told to end, and the queue is closed.
+/// How many records were retired in all growths, by turns to three buckets and to two, of which the first begins once
+/// both readers have found the key; then these are told to end, and the queue is closed.
 fn grows<P: GracePlan + Drop, B: Site, R: Wait>(
     rt: &R,
     alloc: Global,

@@ -76,8 +76,8 @@ fn tabled<'d, P: GracePlan + Drop, B: Site, R: Wait>(
     Ok(table)
 }
 
-/// The table grows to four buckets, and once more before it is tidied; then it is tidied with too few callbacks, with more
-/// than are needed, and where nothing is left.
+/// The table grows to four buckets, and once more before it is tidied; then it is tidied with too few callbacks, with
+/// more than are needed, and where nothing is left.
 fn grows<P: GracePlan + Drop, B: Site, R: Wait>(
     rt: &R,
     alloc: Global,
@@ -216,8 +216,8 @@ fn refused_growths_leave_all_as_it_was(rt: HostRuntime) {
     assert_eq!(rt; did, answers);
 }
 
-/// Growths to a chain that is not empty, and to one that has a note: those of a table that was dropped. Then the table is as
-/// it was.
+/// Growths to a chain that is not empty, and to one that has a note: those of a table that was dropped. Then the table
+/// is as it was.
 fn occupied<P: GracePlan + Drop, B: Site, R: Wait>(
     rt: &R,
     alloc: Global,

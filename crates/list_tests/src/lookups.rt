@@ -112,8 +112,8 @@ fn replaces_once<P: GracePlan + Drop, B: Site, R: Wait>(
     false
 }
 
-/// The value that the key has in the end, where it is first replaced once both readers have found it; then these are told
-/// to end, and the queue is closed.
+/// The value that the key has in the end, where it is first replaced once both readers have found it; then these are
+/// told to end, and the queue is closed.
 fn replaces<P: GracePlan + Drop, B: Site, R: Wait>(
     rt: &R,
     domain: &Domain<P, Keyed, B, Adds>,

@@ -1,13 +1,15 @@
-//! Two threads write to one table, one of them in a section, while a third tidies: they wait for it no longer than for a
-//! lock, though it waits for the section.
+//! Two threads write to one table, one of them in a section, while a third tidies: they wait for it no longer than for
+//! a lock, though it waits for the section.
 
 ghost use Rattle.std.specs.Prelude.{◌≡◌};
 ghost use Rattle.std.specs.Thread.{IsSync};
 
 use crate::deleter::Adds;
 use crate::growths::callbacks;
-use domain::{LiveConfig, Opened, Reader, Record, Site};
+use crate::looking::{Idle, of_two_readers, registered, waits_for};
+use domain::{Opened, Record, Site};
 use gp_memb::{GracePlan, MembPlan};
+use gp_qsbr::QsbrPlan;
 use live_words::Tabled;
 use rcu_hash::RcuHash;
 use rcu_model::Refusal;
@@ -19,27 +21,6 @@ use std::thread::{self, Threads, join};
 
 /// How many keys each thread gives a value.
 const KEYS: u64 = 100;
-
-/// A domain of two slots, with a record for each key, old and new.
-fn of_two_readers() -> LiveConfig {
-    LiveConfig {
-        slots: 2,
-        queues: 1,
-        chains: 6,
-        pool: 512,
-    }
-}
-
-/// Waits until another thread has told this.
-fn waits_for(told: &AtomicBool) -> bool {
-    for _ in 0..u64::MAX {
-        if told.load(Ordering::SeqCst) {
-            return true;
-        }
-        thread::yield_now();
-    }
-    false
-}
 
 /// Gives keys from this one on a value, each its own number.
 fn fills<P: GracePlan + Drop, B: Site, R: Wait>(
@@ -58,7 +39,7 @@ fn fills<P: GracePlan + Drop, B: Site, R: Wait>(
 
 /// What two threads tell one another.
 #[derive(Drop)]
-struct Told {
+struct Begun {
     /// A section is open.
     open: AtomicBool,
     /// A tidying begins.
@@ -69,18 +50,25 @@ struct Told {
 fn writes_in_a_section<P: GracePlan + Drop, B: Site, R: Wait>(
     rt: &R,
     table: &RcuHash<'_, P, B, Adds>,
-    reader: Reader<P, Tabled, B>,
+    idle: Idle<P, Tabled, B>,
     record: Record<B>,
-    told: &Told,
+    told: &Begun,
 ) -> Result<(), Refusal>
     requires { P.QSBR ≡ B.qsbr }
 {
-    let (mut reader, mut record) = (reader, record);
+    let Idle { mut reader } = idle;
+    let mut record = record;
+    if P::QSBR {
+        reader.online()?;
+    }
     let section = reader.section()?;
     told.open.store(true, Ordering::SeqCst);
     waits_for(&told.begun);
     let filled = fills(rt, table, &mut record, 1_000);
     section.close();
+    if P::QSBR {
+        reader.offline()?;
+    }
     filled
 }
 
@@ -91,7 +79,7 @@ fn tidies<P: GracePlan + Drop, B: Site, R: Wait>(
     table: &RcuHash<'_, P, B, Adds>,
     record: Record<B>,
     left: usize,
-    told: &Told,
+    told: &Begun,
 ) -> Result<usize, Refusal> {
     let mut record = record;
     let jobs = callbacks(alloc, left)?;
@@ -105,14 +93,14 @@ fn three_work<P: GracePlan + Drop + Send + Sync, B: Site + Send + Sync, R: Threa
     rt: &R,
     alloc: Global,
     table: &RcuHash<'_, P, B, Adds>,
-    reader: Reader<P, Tabled, B>,
+    reader: Idle<P, Tabled, B>,
     records: (Record<B>, Record<B>, Record<B>),
     left: usize,
 ) -> Result<usize, Refusal>
     requires { P.QSBR ≡ B.qsbr }
 {
     let (one, two, three) = records;
-    let both = Told {
+    let both = Begun {
         open: AtomicBool::new(false),
         begun: AtomicBool::new(false),
     };
@@ -140,8 +128,8 @@ fn three_work<P: GracePlan + Drop + Send + Sync, B: Site + Send + Sync, R: Threa
     retired
 }
 
-/// A table grows, and is then shared by the three. What they did, and what a section finds of the first, of the last key in
-/// the end.
+/// A table grows, and is then shared by the three. What they did, and what a section finds of the first, of the last
+/// key in the end.
 fn shares<P: GracePlan + Drop + Send + Sync, B: Site + Send + Sync, R: Threads + Wait + Sync>(
     rt: &R,
     alloc: Global,
@@ -150,8 +138,8 @@ fn shares<P: GracePlan + Drop + Send + Sync, B: Site + Send + Sync, R: Threads +
     requires { (P.QSBR ≡ B.qsbr) × (opened.table.words.shared.table_id ≡ B.table) × (opened.table.words.shared.key ≡ B.sizes) }
 {
     let (domain, mut record) = opened.named::<B, Adds>(alloc)?;
-    let reader = domain.register(rt, &mut record)?;
-    let mut last = domain.register(rt, &mut record)?;
+    let reader = registered(rt, &domain, &mut record)?;
+    let Idle { reader: mut last } = registered(rt, &domain, &mut record)?;
     let table = RcuHash::new(rt, alloc, &domain, &mut record, 0, 1, 2)?;
     fills(rt, &table, &mut record, 0)?;
     let left = table.grow(rt, alloc, &mut record, 3, 3)?;
@@ -161,6 +149,9 @@ fn shares<P: GracePlan + Drop + Send + Sync, B: Site + Send + Sync, R: Threads +
         domain.split(&mut record),
     );
     let retired = three_work(rt, alloc, &table, reader, records, left)?;
+    if P::QSBR {
+        last.online()?;
+    }
     let mut section = last.section()?;
     let first = table.get(&mut section, 0);
     let second = table.get(&mut section, 1_099);
@@ -170,9 +161,15 @@ fn shares<P: GracePlan + Drop + Send + Sync, B: Site + Send + Sync, R: Threads +
 
 #[test]
 fn writers_go_on_while_a_tidying_waits(rt: HostRuntime) {
-    let opened = Opened::<MembPlan, Tabled>::new(rt.alloc(), of_two_readers()).expect(
+    let answers = (101, [Some(0), Some(1_099), Some(2_099)]);
+    let general = Opened::<MembPlan, Tabled>::new(rt.alloc(), of_two_readers(6, 512)).expect(
         &rt, "memory",
     );
-    let did = shares::<MembPlan, Brand, _>(&rt, rt.alloc(), opened).expect(&rt, "not refused");
-    assert_eq!(rt; did, (101, [Some(0), Some(1_099), Some(2_099)]));
+    let did = shares::<_, Brand, _>(&rt, rt.alloc(), general).expect(&rt, "not refused");
+    assert_eq!(rt; did, answers);
+    let quiescent = Opened::<QsbrPlan, Tabled>::new(rt.alloc(), of_two_readers(6, 512)).expect(
+        &rt, "memory",
+    );
+    let did = shares::<_, Brand, _>(&rt, rt.alloc(), quiescent).expect(&rt, "not refused");
+    assert_eq!(rt; did, answers);
 }

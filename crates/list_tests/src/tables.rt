@@ -129,8 +129,8 @@ fn tables_answer_by_the_map(rt: HostRuntime) {
     assert_eq!(rt; did, answers);
 }
 
-/// Tables that are refused where all chains are free: for the number of their buckets, for chains that are not there, and for
-/// a directory's chain among the buckets'.
+/// Tables that are refused where all chains are free: for the number of their buckets, for chains that are not there,
+/// and for a directory's chain among the buckets'.
 fn bad_ranges<P: GracePlan + Drop, B: Site, R: Wait>(
     rt: &R,
     alloc: Global,
@@ -146,8 +146,9 @@ fn bad_ranges<P: GracePlan + Drop, B: Site, R: Wait>(
     ]
 }
 
-/// Tables that are refused while another one has their chains, and once it was dropped: then its buckets have its note, one of
-/// them an object, and its directory's chain has an object and no note. Then a table over the two chains that are left.
+/// Tables that are refused while another one has their chains, and once it was dropped: then its buckets have its note,
+/// one of them an object, and its directory's chain has an object and no note. Then a table over the two chains that
+/// are left.
 fn taken_chains<P: GracePlan + Drop, B: Site, R: Wait>(
     rt: &R,
     alloc: Global,

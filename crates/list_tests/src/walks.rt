@@ -22,8 +22,8 @@ const SMALL: LiveConfig = LiveConfig {
     pool: 8,
 };
 
-/// How many keys a walk through a list met, and the sum of their keys times their values; the reader has no section open
-/// before and after.
+/// How many keys a walk through a list met, and the sum of their keys times their values; the reader has no section
+/// open before and after.
 fn through_list<P: GracePlan + Drop, B: Site>(
     reader: &mut Reader<P, Tabled, B>,
     view: ListView<B>,
@@ -63,8 +63,8 @@ fn through_table<P: GracePlan + Drop, B: Site>(
     Ok((met, sum))
 }
 
-/// A list of three keys over chain 3, one of which was replaced and one removed, and a table of three buckets with three
-/// keys, two of them in one bucket: what walks meet, before and after.
+/// A list of three keys over chain 3, one of which was replaced and one removed, and a table of three buckets with
+/// three keys, two of them in one bucket: what walks meet, before and after.
 fn walks<P: GracePlan + Drop, B: Site, R: Wait>(
     rt: &R,
     alloc: Global,

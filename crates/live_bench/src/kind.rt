@@ -59,6 +59,8 @@ pub(crate) enum TableOperation {
     Insert,
     /// A key gets a value and is taken out again, among 1,024 in 1,024 buckets.
     Remove,
+    /// An entry met, while a section goes through all of 1,024 in 1,024 buckets.
+    Through,
 }
 
 /// What is repeated.
@@ -134,6 +136,7 @@ fn table_operation_of(word: &str) -> Option<TableOperation> {
         "miss-large-by-two" => TableOperation::Miss(Entries::Many, 2),
         "insert" => TableOperation::Insert,
         "remove" => TableOperation::Remove,
+        "through" => TableOperation::Through,
         _ => return None,
     })
 }
@@ -217,7 +220,7 @@ impl TableOperation {
         match self {
             TableOperation::Hit(entries, _) | TableOperation::Miss(entries, _) => entries,
             TableOperation::Insert => Entries::Many,
-            TableOperation::Remove => Entries::Few,
+            TableOperation::Remove | TableOperation::Through => Entries::Few,
         }
     }
 
@@ -225,7 +228,7 @@ impl TableOperation {
     pub(crate) fn keys(self) -> u64 {
         match self {
             TableOperation::Insert => 0,
-            TableOperation::Remove => 1_024,
+            TableOperation::Remove | TableOperation::Through => 1_024,
             TableOperation::Hit(entries, _) | TableOperation::Miss(entries, _) => match entries {
                 Entries::Few => 1_024,
                 Entries::Many => RECORDS - 1,

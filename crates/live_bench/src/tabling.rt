@@ -90,6 +90,28 @@ fn lookups_by_two<P: GracePlan + Send + Sync, B: Site + Send + Sync, R: Threads 
     Ok(first?.min(second?))
 }
 
+/// Sections that go through a table of 1,024 keys, until so many entries were met. Answers how many.
+fn walks_through<P: GracePlan, B: Site>(
+    reader: &mut Reader<P, Tabled, B>,
+    view: TableView<B>,
+    count: u64,
+) -> Result<u64, Refusal>
+    requires { P.QSBR ≡ B.qsbr }
+{
+    begin(reader)?;
+    let mut met = 0u64;
+    for _ in 0..count.div_ceil(1_024) {
+        let mut visit = |key: u64, value: u64| {
+            if key == value {
+                met = met.wrapping_add(1);
+            }
+        };
+        let mut section = reader.section()?;
+        view.for_each(&mut section, &mut visit);
+    }
+    Ok(met)
+}
+
 /// Gives so many keys a value.
 pub(crate) fn insertions<P: GracePlan + Drop, B: Site, R: Wait>(
     rt: &R,
@@ -158,30 +180,16 @@ pub(crate) fn tabled<
     let entries = operation.entries();
     let table = RcuHash::new(rt, alloc, &domain, &mut record, 0, 1, entries.buckets())?;
     insertions(rt, &table, &mut record, operation.keys())?;
+    let view = table.view();
     match operation {
-        TableOperation::Hit(_, readers) => {
-            let looked = Looked::of(entries, true);
-            looks(
-                rt,
-                &domain,
-                &mut record,
-                table.view(),
-                looked,
-                readers,
-                count,
-            )
+        TableOperation::Hit(_, readers) | TableOperation::Miss(_, readers) => {
+            let are_there = matches!(operation, TableOperation::Hit(_, _));
+            let looked = Looked::of(entries, are_there);
+            looks(rt, &domain, &mut record, view, looked, readers, count)
         }
-        TableOperation::Miss(_, readers) => {
-            let looked = Looked::of(entries, false);
-            looks(
-                rt,
-                &domain,
-                &mut record,
-                table.view(),
-                looked,
-                readers,
-                count,
-            )
+        TableOperation::Through => {
+            let mut reader = domain.register(rt, &mut record)?;
+            walks_through(&mut reader, view, count)
         }
         TableOperation::Insert => insertions(rt, &table, &mut record, count),
         TableOperation::Remove => removals(rt, &table, &mut record, count),

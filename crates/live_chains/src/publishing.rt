@@ -58,10 +58,10 @@ pub fn replace<P: GracePlan, K: ChainRule>(
     store_replace(table, seat, chain, before, cell);
 }
 
-/// Takes the object in the record `cell` out of the seat's chain, by a load and a store: the object's link, and then the
-/// word that led to the object. The object's own link stays as it is, so a reader that stands on it goes on. The record
-/// `before` is that of the object before it, or none where it is the first one. The seat has the right to what was cut.
-/// It never waits.
+/// Takes the object in the record `cell` out of the seat's chain, by a load and a store: the object's link, and then
+/// the word that led to the object. The object's own link stays as it is, so a reader that stands on it goes on. The
+/// record `before` is that of the object before it, or none where it is the first one. The seat has the right to what
+/// was cut. It never waits.
 pub fn cut<P: GracePlan, K: ChainRule>(
     table: &LiveTable<P, K>,
     seat: &mut LiveSeat,

@@ -1,5 +1,5 @@
-//! Polling in place of waiting: a record names a place in an array of the program's own, which is used again once a grace
-//! period has passed. The updater does other work until then.
+//! Polling in place of waiting: a record names a place in an array of the program's own, which is used again once a
+//! grace period has passed. The updater does other work until then.
 
 ghost use Rattle.std.specs.Prelude.{◌≡◌, false};
 
@@ -53,7 +53,8 @@ fn polls<B: Site, R: Wait>(
     Ok(20)
 }
 
-/// Polls until the place may be used again, and retires the record, which a worker frees. Answers how many polls said no.
+/// Polls until the place may be used again, and retires the record, which a worker frees. Answers how many polls said
+/// no.
 pub(crate) fn reuse<B: Site, R: Wait>(
     rt: &R,
     alloc: Global,

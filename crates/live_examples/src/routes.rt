@@ -1,5 +1,5 @@
-//! A routing table: a hash table for each length of prefix, of which a section looks the longer one up first. One of them
-//! grows while it is read.
+//! A routing table: a hash table for each length of prefix, of which a section looks the longer one up first. One of
+//! them grows while it is read.
 
 ghost use Rattle.std.specs.Prelude.{◌≡◌, ◌<◌, false};
 
@@ -92,8 +92,8 @@ impl<'d, B: Site> Routes<'d, B> {
             .map_or(Ok(()), |refusal| Err(refusal))
     }
 
-    /// A longer prefix is withdrawn: sections that found it may go on with it, and its record is used again once they have
-    /// ended.
+    /// A longer prefix is withdrawn: sections that found it may go on with it, and its record is used again once they
+    /// have ended.
     fn withdraw<R: Wait>(
         &self,
         rt: &R,
@@ -124,8 +124,8 @@ fn while_it_grows<B: Site, R: Wait>(
     Ok((before, grown, left))
 }
 
-/// Two prefixes lead the address; the table grows, and the longer prefix is withdrawn. Answers the next hops of the address
-/// before, after the growth, and in the end.
+/// Two prefixes lead the address; the table grows, and the longer prefix is withdrawn. Answers the next hops of the
+/// address before, after the growth, and in the end.
 fn changes<B: Site, R: Wait>(
     rt: &R,
     alloc: Global,

@@ -8,8 +8,8 @@ use std::alloc::Global;
 use std::sync::Wait;
 use std::thread;
 
-/// Works for queue 0 until it is closed and nothing is left, again where memory was refused. Answers how many records were
-/// reclaimed.
+/// Works for queue 0 until it is closed and nothing is left, again where memory was refused. Answers how many records
+/// were reclaimed.
 pub(crate) fn work<P: GracePlan + Drop, K: ChainRule, B: Site, D: Deleter, R: Wait>(
     rt: &R,
     alloc: Global,

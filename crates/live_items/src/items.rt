@@ -70,8 +70,8 @@ impl<B: Site, C: Drop> Items<B, C> {
 
     /// Makes room for one callback, so that `retire` is not refused next: for calls that cut and retire.
     ///
-    /// Refused with `Closed` exactly where the queue was closed, else with `Memory`; then the items are as they were. It
-    /// waits for nobody.
+    /// Refused with `Closed` exactly where the queue was closed, else with `Memory`; then the items are as they were.
+    /// It waits for nobody.
     pub fn prepare(&mut self) -> Result<(), Refusal>
         ensures ok { IfOk result (λ _. (self.old.0.closed ≡ false) × (given_of self.old.0 < 2 ^ 63) × (self.new.0 ≡ with_place self.old.0)) }
         ensures refused { IfErr result (λ e. ((e ≡ Closed) × (self.old.0.closed ≡ true)) ⊎ ((e ≡ Memory) × (self.old.0.closed ≡ false) × ((self.old.0.reserved ≡ false) ⊎ (2 ^ 63 ≤ given_of self.old.0)))) }
@@ -186,9 +186,9 @@ impl<B: Site, C: Drop> Items<B, C> {
         }
     }
 
-    /// Moves what is ready to a list, the last one first, so that popping gives it in the order of its tickets: where it
-    /// is of this queue, its tickets come next after so many that are finished, and it is no more than the list has room
-    /// for. The worker's seat hears what was seen under the lock. It waits for nobody and takes no memory.
+    /// Moves what is ready to a list, the last one first, so that popping gives it in the order of its tickets: where
+    /// it is of this queue, its tickets come next after so many that are finished, and it is no more than the list has
+    /// room for. The worker's seat hears what was seen under the lock. It waits for nobody and takes no memory.
     pub fn take_ready<P: GracePlan, K: ChainRule>(
         &mut self,
         table: &LiveTable<P, K>,
@@ -216,9 +216,9 @@ impl<B: Site, C: Drop> Items<B, C> {
         }
     }
 
-    /// Moves what waits to the end of a list, where it is of this queue and its tickets come next after so many that are
-    /// finished, nothing is ready, and the list has room: for a worker whose grace period was refused. The worker's seat
-    /// hears what was seen under the lock. It waits for nobody and takes no memory.
+    /// Moves what waits to the end of a list, where it is of this queue and its tickets come next after so many that
+    /// are finished, nothing is ready, and the list has room: for a worker whose grace period was refused. The worker's
+    /// seat hears what was seen under the lock. It waits for nobody and takes no memory.
     pub fn take_back<P: GracePlan, K: ChainRule>(
         &mut self,
         table: &LiveTable<P, K>,

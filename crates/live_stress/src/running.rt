@@ -166,7 +166,8 @@ fn threads<
     }
 }
 
-/// Readers, updaters and workers of one domain, each in a thread of its own. `watch` hears how far the first updater is.
+/// Readers, updaters and workers of one domain, each in a thread of its own. `watch` hears how far the first updater
+/// is.
 pub fn stress<P: GracePlan + Drop + Send + Sync, R: Threads + Wait + Clock + Sync, W: Watch + Sync>(
     rt: &R,
     alloc: Global,

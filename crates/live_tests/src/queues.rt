@@ -1,6 +1,6 @@
-//! Queues: what is retired, what is refused once a queue is closed, who works for a queue, and barriers. The tables have
-//! one slot, one chain, one queue and four records: the queued count is word 104, the closed word 105, and the hold word
-//! of the queue's worker word 121. The first object lies in the last record, whose header is word 178.
+//! Queues: what is retired, what is refused once a queue is closed, who works for a queue, and barriers. The tables
+//! have one slot, one chain, one queue and four records: the queued count is word 104, the closed word 105, and the
+//! hold word of the queue's worker word 121. The first object lies in the last record, whose header is word 178.
 
 ghost use Rattle.std.specs.Prelude.{◌≡◌, []};
 ghost use Rattle.live_rule.specs.Views.{first_view};
@@ -46,8 +46,8 @@ fn is_passed<P: GracePlan, B: Site>(table: &LiveTable<P, AnyChain>, record: &mut
     barrier_done(table, &mut seat, &mark)
 }
 
-/// The ticket of a retirement; whether a barrier was passed before it and after it; and whether another retirement, once
-/// the queue was closed, was refused with both parts.
+/// The ticket of a retirement; whether a barrier was passed before it and after it; and whether another retirement,
+/// once the queue was closed, was refused with both parts.
 fn retires<P: GracePlan, B: Site, R: Wait>(
     rt: &R,
     memory: Global,
@@ -75,8 +75,8 @@ fn retires<P: GracePlan, B: Site, R: Wait>(
     Ok((ticket.0, [before, after], back))
 }
 
-/// How many tickets were given as a batch of two was sealed, and the objects of the items that were taken out once their
-/// grace period had ended, in the order of their turns; whether none was taken before, and none after it.
+/// How many tickets were given as a batch of two was sealed, and the objects of the items that were taken out once
+/// their grace period had ended, in the order of their turns; whether none was taken before, and none after it.
 fn batches<P: GracePlan, B: Site, R: Wait>(
     rt: &R,
     memory: Global,
@@ -117,8 +117,8 @@ fn batches<P: GracePlan, B: Site, R: Wait>(
     ))
 }
 
-/// How many of two items were taken back: for another queue, before they were sealed, by one who has finished the first,
-/// and then; and what was to be called for the last of them.
+/// How many of two items were taken back: for another queue, before they were sealed, by one who has finished the
+/// first, and then; and what was to be called for the last of them.
 fn takes_back<P: GracePlan, B: Site, R: Wait>(
     rt: &R,
     memory: Global,

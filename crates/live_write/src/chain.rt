@@ -139,8 +139,8 @@ impl<'d, P: GracePlan, K: ChainRule, B: Site, H> Chain<'d, P, K, B, H> {
         Some(read(self.table, &mut self.seat, self.number, index))
     }
 
-    /// The index of the first object whose payload begins with this word, by the list that the writer knows: None exactly
-    /// where none does. It walks from the head, loads one word of each object, and never waits.
+    /// The index of the first object whose payload begins with this word, by the list that the writer knows: None
+    /// exactly where none does. It walks from the head, loads one word of each object, and never waits.
     pub fn index_of(&mut self, word: u64) -> Option<usize>
         ensures found { IfSome result (λ index. IsFirstWith self.new.seat.me.0.seen (list_in self.old.seat.me.0) word index) }
         ensures none { IfNone result ((o : ObjectId) → In (list_in self.old.seat.me.0) o → first_word self.new.seat.me.0.seen o ≢ word) }
@@ -174,9 +174,9 @@ impl<'d, P: GracePlan, K: ChainRule, B: Site, H> Chain<'d, P, K, B, H> {
     }
 
     /// The object of a record takes the place of the one at an index, liburcu's `cds_list_replace_rcu`, after a walk to
-    /// it: the new one's link is stored, and then what led to the old one leads to the new one. The event comes after all
-    /// that the witness and who allocated the record had seen, and the witness hears of it. The chain's rule has to allow
-    /// it in each log that does.
+    /// it: the new one's link is stored, and then what led to the old one leads to the new one. The event comes after
+    /// all that the witness and who allocated the record had seen, and the witness hears of it. The chain's rule has to
+    /// allow it in each log that does.
     ///
     /// Refused with `NoPlace` exactly where the index is not below the length; then nothing changes, and the record
     /// comes back. It takes no memory and never waits.
@@ -220,9 +220,9 @@ impl<'d, P: GracePlan, K: ChainRule, B: Site, H> Chain<'d, P, K, B, H> {
         load_note(self.table, &mut self.seat, self.number)
     }
 
-    /// The writer sees all that the witness has seen and heard of, by a load of the chain's note, and the witness hears of
-    /// what the writer has seen then. So the list and the note that the writer knows are those of a log that comes after
-    /// all that its caller knew. It takes no memory and never waits.
+    /// The writer sees all that the witness has seen and heard of, by a load of the chain's note, and the witness hears
+    /// of what the writer has seen then. So the list and the note that the writer knows are those of a log that comes
+    /// after all that its caller knew. It takes no memory and never waits.
     pub fn hear<W: Witness>(&mut self, witness: &mut W)
         requires { W.home witness.old ≡ (B.table, B.sizes) }
         ensures chains { (self.new.seat.me.0.chains ≡ self.old.seat.me.0.chains) × (self.new.number ≡ self.old.number) × (self.new.home.now ≡ self.old.home.now) }

@@ -1,5 +1,5 @@
-//! A chain's writer that lends its right to another chain's, so that what the rule of chains asks of both chains is known
-//! where the other one publishes.
+//! A chain's writer that lends its right to another chain's, so that what the rule of chains asks of both chains is
+//! known where the other one publishes.
 
 ghost use Rattle.std.specs.Prelude.{◌≡◌, ◌<◌, ◌∷◌, ◌++◌, [], length};
 ghost use Rattle.live_log.specs.Log.{Begins, IsLiveRun};
@@ -14,8 +14,8 @@ use live_read::Site;
 use live_words::{ChainRule, LiveSeat, LiveTable, load_note};
 use std::marker::PhantomData;
 
-/// What is left of a chain's writer while another one has its right. It cannot be dropped: `take_back` makes a writer of
-/// it again.
+/// What is left of a chain's writer while another one has its right. It cannot be dropped: `take_back` makes a writer
+/// of it again.
 pub struct Lent<'d, P: GracePlan, K: ChainRule, B: Site, H> {
     /// What the chain was taken of.
     pub home: &'d H,

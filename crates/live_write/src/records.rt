@@ -31,8 +31,8 @@ impl<B: Site> Owned<B> {
     }
 }
 
-/// A record that a chain linked and that was cut: sections that are open may still hold its object. Where it is dropped,
-/// its record stays out of use as long as the table lives.
+/// A record that a chain linked and that was cut: sections that are open may still hold its object. Where it is
+/// dropped, its record stays out of use as long as the table lives.
 #[derive(Drop)]
 pub struct Unlinked<B: Site> {
     /// What was seen at the cut, and the right to the record.

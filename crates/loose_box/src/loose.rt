@@ -6,8 +6,8 @@ ghost use Rattle.std.specs.Box.Ownership.{box_owns};
 use std::alloc::Allocator;
 use std::marker::Model;
 
-/// What a box owns: the pointer to its value, and the allocator that frees it. No struct that C is given may hold a box,
-/// and it may hold a pointer.
+/// What a box owns: the pointer to its value, and the allocator that frees it. No struct that C is given may hold a
+/// box, and it may hold a pointer.
 pub struct Loose<T, A: Allocator> {
     /// Where the value lies.
     pub at: *mut T,

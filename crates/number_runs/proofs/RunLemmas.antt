@@ -8,10 +8,10 @@ use Rattle.std.specs.Cmp.{nat_cmp_is, Equal-is}
 use Rattle.std.specs.Option.{unwrap_or}
 use Rattle.std.specs.Ordering.{nat_cmp, is_eq}
 use Rattle.std.specs.declared.cmp.Ordering.TheVariants.{Equal}
-use Rattle.number_runs.specs.Runs.{last_from, IsRun, Has, AreRuns, FindsRunBefore, Reaches, begins_at}
+use Rattle.number_runs.specs.Runs.{last_from, IsRun, Has, AreRuns, Inserts, FindsRunBefore, Reaches, begins_at}
 
 -- the test of a map's key tells whether it is the key
-at_tells : (a b : ℕ) → ((is_at (nat_cmp a) b ≡ true) × (a ≡ b)) ⊎ ((is_at (nat_cmp a) b ≡ false) × (a ≢ b))
+pub at_tells : (a b : ℕ) → ((is_at (nat_cmp a) b ≡ true) × (a ≡ b)) ⊎ ((is_at (nat_cmp a) b ≡ false) × (a ≢ b))
 at_tells a b = by (is_at (nat_cmp a) b) refl (eqb_tells a b)
   where
     by : (t : Bool) → is_at (nat_cmp a) b ≡ t → (((a == b) ≡ true) × (a ≡ b)) ⊎ (((a == b) ≡ false) × (a ≢ b)) → ((is_at (nat_cmp a) b ≡ true) × (a ≡ b)) ⊎ ((is_at (nat_cmp a) b ≡ false) × (a ≢ b))
@@ -20,7 +20,7 @@ at_tells a b = by (is_at (nat_cmp a) b) refl (eqb_tells a b)
     by false is (inl y) = absurd (true≢false (sym (ap is_eq (sym (nat_cmp_is a b Equal y.1))) ∙ is))
     by false is (inr n) = inr (is, n.1)
 
-one_last : (runs : List (ℕ × ℕ)) (s l k : ℕ) → IsRun runs s l → IsRun runs s k → l ≡ k
+pub one_last : (runs : List (ℕ × ℕ)) (s l k : ℕ) → IsRun runs s l → IsRun runs s k → l ≡ k
 one_last runs s l k p q = cc
 
 -- the run before a number has it where it reaches it
@@ -44,7 +44,7 @@ module _ (runs : List (ℕ × ℕ)) (are : AreRuns runs) (number : ℕ) where
           omega (arith, l, h.not_past)
 
 -- the run that a number makes or joins, against the other runs
-pub record Joins (runs : List (ℕ × ℕ)) (number first last : ℕ) : Type 0 where
+pub record IsJoined (runs : List (ℕ × ℕ)) (number first last : ℕ) : Type 0 where
   pub begun : first ≤ number
   pub not_past : number ≤ last
   pub below : (s l : ℕ) → IsRun runs s l → s ≤ number → ((s ≡ first) × (l + 1 ≡ number)) ⊎ (l + 1 < first)
@@ -57,7 +57,7 @@ pub record Stores (runs new : List (ℕ × ℕ)) (number first last : ℕ) : Typ
   pub others : (s : ℕ) → s ≢ first → s ≢ number + 1 → last_from new s ≡ last_from runs s
   pub no_next : (l : ℕ) → ¬ IsRun new (number + 1) l
 
-module _ (runs new : List (ℕ × ℕ)) (number first last : ℕ) (are : AreRuns runs) (fits : number < 2 ^ 64) (j : Joins runs number first last) (k : Stores runs new number first last) where
+module _ (runs new : List (ℕ × ℕ)) (number first last : ℕ) (are : AreRuns runs) (fits : number < 2 ^ 64) (j : IsJoined runs number first last) (k : Stores runs new number first last) where
   -- a run of the new ones is the one that was put, or an old one elsewhere
   was : (s l : ℕ) → IsRun new s l → ((s ≡ first) × (l ≡ last)) ⊎ ((s ≢ first) × (s ≢ number + 1) × IsRun runs s l)
   was s l r = by (eqb_tells s first)
@@ -188,7 +188,7 @@ module _ (runs : List (ℕ × ℕ)) (are : AreRuns runs) (number : ℕ) where
         by None e w = absurd (omega (arith, more, w))
         by (Some l) e w = record { first = number + 1; last = l; run = e; begun = omega (arith, more); not_past = w }
 
-  pub joins : (before : Option (ℕ × ℕ)) → FindsRunBefore runs number before → ¬ Reaches before number → Joins runs number (begins_at before number) (unwrap_or (last_from runs (number + 1)) number)
+  pub joins : (before : Option (ℕ × ℕ)) → FindsRunBefore runs number before → ¬ Reaches before number → IsJoined runs number (begins_at before number) (unwrap_or (last_from runs (number + 1)) number)
   joins before b out = record {
     begun = begun_of before b;
     not_past = not_past_of (last_from runs (number + 1)) refl;
@@ -264,11 +264,6 @@ none_above runs number are e = by (last_from runs (number + 1)) refl e
     by None is f = refl
     by (Some l) is f = absurd (let g = are.full (number + 1) l is in omega (arith, g, f))
 
--- a number was put
-pub record Inserts (runs new : List (ℕ × ℕ)) (number : ℕ) : Type 0 where
-  pub are : AreRuns new
-  pub has : (n : ℕ) → Has new n ↔ ((number ≡ n) ⊎ Has runs n)
-
 pub inserts : (runs new : List (ℕ × ℕ)) (number first last : ℕ) (before : Option (ℕ × ℕ)) → AreRuns runs → number < 2 ^ 64 → FindsRunBefore runs number before → ¬ Reaches before number →
     first ≡ begins_at before number → last ≡ unwrap_or (last_from runs (number + 1)) number → Stores runs new number first last → Inserts runs new number
 inserts runs new number first last before are fits b out first_is last_is k = record {
@@ -276,8 +271,8 @@ inserts runs new number first last before are fits b out first_is last_is k = re
   has = λ n. (has_new runs new number first last are fits j k n, has_old runs new number first last are fits j k n);
 }
   where
-    j : Joins runs number first last
-    j = subst (λ f. Joins runs number f last) (sym first_is) (subst (λ l. Joins runs number (begins_at before number) l) (sym last_is) (joins runs are number before b out))
+    j : IsJoined runs number first last
+    j = subst (λ f. IsJoined runs number f last) (sym first_is) (subst (λ l. IsJoined runs number (begins_at before number) l) (sym last_is) (joins runs are number before b out))
 
 pub not_reached : (reached : Bool) (before : Option (ℕ × ℕ)) (number : ℕ) → (IsTrue reached ↔ Reaches before number) → reached ≡ false → ¬ Reaches before number
 not_reached reached before number told out r = true≢false (sym (told.1 r) ∙ out)

@@ -96,7 +96,8 @@ impl<'d, P: GracePlan, B: Site, D: Deleter> LentDirectory<'d, P, B, D> {
 }
 
 impl<'d, P: GracePlan + Drop, B: Site, D: Deleter> Directory<'d, P, B, D> {
-    /// The caller hears of a log in which it is linked, and the chains that it names have its table's note. It never waits.
+    /// The caller hears of a log in which it is linked, and the chains that it names have its table's note. It never
+    /// waits.
     pub(crate) fn hear<W: Witness>(&mut self, witness: &mut W)
         requires { W.home witness.old ≡ (B.table, B.sizes) }
         ensures linked { IsLinked self.old.naming.directory self.old.naming.object (W.heard witness.new) }
@@ -115,8 +116,8 @@ pub(crate) struct Desk<'d, P: GracePlan, B: Site, D: Deleter> {
 }
 
 impl<'d, P: GracePlan + Drop, B: Site, D: Deleter> Desk<'d, P, B, D> {
-    /// The writer of the directory that is linked in this chain, out of its lock, to which it is to be given back. A lock
-    /// tells only the type of what it holds, so the chain is compared; it always is the right one.
+    /// The writer of the directory that is linked in this chain, out of its lock, to which it is to be given back. A
+    /// lock tells only the type of what it holds, so the chain is compared; it always is the right one.
     pub(crate) fn take_present<'t, R: Wait>(
         &'t self,
         rt: &R,

@@ -17,7 +17,8 @@ use domain::{Chain, Deleter, Lent, Owned, Site, Unlinked, Witness};
 use gp_memb::GracePlan;
 use live_log::Tabled;
 
-/// The writers of chains that lend their rights to the directory's, with room for them when they have their rights again.
+/// The writers of chains that lend their rights to the directory's, with room for them when they have their rights
+/// again.
 pub(crate) struct Lenders<'d, P: GracePlan, B: Site, D: Deleter> {
     pub(crate) chains: Vec<Chain<'d, P, Tabled, B, D>>,
     pub(crate) lents: Vec<Lent<'d, P, Tabled, B, D>>,
@@ -26,8 +27,8 @@ pub(crate) struct Lenders<'d, P: GracePlan, B: Site, D: Deleter> {
 }
 
 /// Another directory, which names the second chains, takes the place of this one, which names the first ones; for that
-/// they all lend it their rights. Answers it, the record that it replaced, and the writers. The caller hears of that. It
-/// never waits.
+/// they all lend it their rights. Answers it, the record that it replaced, and the writers. The caller hears of that.
+/// It never waits.
 pub(crate) fn exchange<'d, P: GracePlan + Drop, B: Site, D: Deleter, W: Witness>(
     directory: Directory<'d, P, B, D>,
     olds: Lenders<'d, P, B, D>,

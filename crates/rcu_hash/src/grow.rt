@@ -60,8 +60,8 @@ fn chains_of<'d, P: GracePlan + Drop, B: Site, D: Deleter>(
     chains
 }
 
-/// Fills the new chains, lets another directory take the place of the shelf's, and stocks the shelf with the new buckets.
-/// Answers what the old directory left. The caller hears of that.
+/// Fills the new chains, lets another directory take the place of the shelf's, and stocks the shelf with the new
+/// buckets. Answers what the old directory left. The caller hears of that.
 fn commit<'d, P: GracePlan + Drop, B: Site, D: Deleter, W: Witness, R: Wait>(
     rt: &R,
     desk: &Desk<'d, P, B, D>,
@@ -134,8 +134,8 @@ fn put_down<'d, P: GracePlan, B: Site, D: Deleter>(
 }
 
 impl<'d, P: GracePlan + Drop, B: Site, D: Deleter> RcuHash<'d, P, B, D> {
-    /// The shelf of its buckets, for their only user. A lock tells only the type of what it holds, so the directory's chain
-    /// is compared; it always is the right one.
+    /// The shelf of its buckets, for their only user. A lock tells only the type of what it holds, so the directory's
+    /// chain is compared; it always is the right one.
     fn own_shelf<'t, R: Wait>(&'t self, rt: &R) -> RwLockWriteGuard<'t, Shelf<'d, P, B, D>>
         ensures { (write_guard_value result).naming.directory ≡ self.now.directory }
     {
@@ -149,17 +149,18 @@ impl<'d, P: GracePlan + Drop, B: Site, D: Deleter> RcuHash<'d, P, B, D> {
     }
 
     /// Another directory, which names as many chains as these, from the first one on, takes the place of this one: the
-    /// table has so many buckets from then on, and the same keys with the same values. Lookups go on meanwhile, and find
-    /// each key that is there; writers wait. What the old directory left, its record and a record for each key, stays
-    /// until `tidy` retires it: the answer is how many these are. The caller hears of the log in which the new directory
-    /// came. liburcu's `cds_lfht_resize`.
+    /// table has so many buckets from then on, and the same keys with the same values. Lookups go on meanwhile, and
+    /// find each key that is there; writers wait. What the old directory left, its record and a record for each key,
+    /// stays until `tidy` retires it: the answer is how many these are. The caller hears of the log in which the new
+    /// directory came. liburcu's `cds_lfht_resize`.
     ///
-    /// Refused with `Busy` where something is left from an earlier growth, and then the caller hears of a log in which a
-    /// chain that the directory does not name has the table's note; else with `BadConfig` where the number of
-    /// buckets is not 1 to 4,096 or a chain is not there, or is one of the table's, else with `Memory` where memory is,
-    /// with `BadConfig` where a chain had a writer, linked an object or had a note other than 0 during the call, or with
-    /// `PoolFull` where there is no record for a key or for the directory; then all is as it was, as tests show. It waits
-    /// for the table's locks, and for no grace period, but tries again where other threads draw object numbers meanwhile.
+    /// Refused with `Busy` where something is left from an earlier growth, and then the caller hears of a log in which
+    /// a chain that the directory does not name has the table's note; else with `BadConfig` where the number of buckets
+    /// is not 1 to 4,096 or a chain is not there, or is one of the table's, else with `Memory` where memory is, with
+    /// `BadConfig` where a chain had a writer, linked an object or had a note other than 0 during the call, or with
+    /// `PoolFull` where there is no record for a key or for the directory; then all is as it was, as tests show. It
+    /// waits for the table's locks, and for no grace period, but tries again where other threads draw object numbers
+    /// meanwhile.
     pub fn grow<W: Witness, R: Wait>(
         &self,
         rt: &R,

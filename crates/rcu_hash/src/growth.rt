@@ -69,7 +69,8 @@ pub(crate) struct Growth<'d, P: GracePlan, B: Site, D: Deleter> {
 
 /// The buckets of a shelf out of their locks, and records for their keys.
 ///
-/// Refused at the first record that is, with `Memory` or `PoolFull`; what was taken and copied then is there all the same.
+/// Refused at the first record that is, with `Memory` or `PoolFull`; what was taken and copied then is there all the
+/// same.
 fn copy_all<'d, P: GracePlan + Drop, B: Site, D: Deleter, W: Witness, R: Wait>(
     rt: &R,
     shelf: &Shelf<'d, P, B, D>,
@@ -178,10 +179,11 @@ fn undo<'d, P: GracePlan + Drop, B: Site, D: Deleter, W: Witness, R: Wait>(
 }
 
 impl<'d, P: GracePlan + Drop, B: Site, D: Deleter> Growth<'d, P, B, D> {
-    /// All that a growth needs before its first event: room, the new chains, a record for each key, one for the directory.
+    /// All that a growth needs before its first event: room, the new chains, a record for each key, one for the
+    /// directory.
     ///
-    /// Refused with `Memory`, with `BadConfig` where a new chain has a writer, is not empty or has a note, or with `PoolFull`;
-    /// then all is as it was.
+    /// Refused with `Memory`, with `BadConfig` where a new chain has a writer, is not empty or has a note, or with
+    /// `PoolFull`; then all is as it was.
     pub(crate) fn ready<W: Witness, R: Wait>(
         rt: &R,
         alloc: Global,

@@ -69,7 +69,8 @@ pub(crate) fn hold_empty<'d, P: GracePlan + Drop, B: Site, D: Deleter, W: Witnes
 
 /// The writers of chains that follow one another and have none, are empty and have no note. There is room for them.
 ///
-/// Refused with `BadConfig` where one is not; then all are given back. The caller hears of what was seen. It never waits.
+/// Refused with `BadConfig` where one is not; then all are given back. The caller hears of what was seen. It never
+/// waits.
 pub(crate) fn hold_all<'d, P: GracePlan + Drop, B: Site, D: Deleter, W: Witness>(
     domain: &'d Domain<P, Tabled, B, D>,
     witness: &mut W,
@@ -91,8 +92,8 @@ pub(crate) fn hold_all<'d, P: GracePlan + Drop, B: Site, D: Deleter, W: Witness>
     Ok(chains)
 }
 
-/// The chains of these writers get this note, from none. There is room for the writers. The caller hears of that. It never
-/// waits.
+/// The chains of these writers get this note, from none. There is room for the writers. The caller hears of that. It
+/// never waits.
 pub(crate) fn note_all<'d, P: GracePlan + Drop, B: Site, D: Deleter, W: Witness>(
     chains: Vec<Chain<'d, P, Tabled, B, D>>,
     mut noted: Vec<Chain<'d, P, Tabled, B, D>>,
@@ -121,8 +122,8 @@ pub(crate) fn note_all<'d, P: GracePlan + Drop, B: Site, D: Deleter, W: Witness>
 }
 
 /// A directory of these chains: a push of its record into its own chain, for which they all lend their rights. There is
-/// room for what is left of the writers then, and for them when they have their rights again. The caller hears of the push.
-/// It never waits.
+/// room for what is left of the writers then, and for them when they have their rights again. The caller hears of the
+/// push. It never waits.
 pub(crate) fn direct<'d, P: GracePlan + Drop, B: Site, D: Deleter, W: Witness>(
     mut chain: Chain<'d, P, Tabled, B, D>,
     chains: Vec<Chain<'d, P, Tabled, B, D>>,

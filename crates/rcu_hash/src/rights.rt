@@ -38,8 +38,8 @@ pub(crate) fn lend_all<'d, P: GracePlan + Drop, B: Site, D: Deleter>(
     lents
 }
 
-/// Each takes its right back from the writer that they lent them to, in the same order, which may have more that were lent
-/// to it later. There is room for the writers. It never waits.
+/// Each takes its right back from the writer that they lent them to, in the same order, which may have more that were
+/// lent to it later. There is room for the writers. It never waits.
 pub(crate) fn take_all_back<'d, P: GracePlan + Drop, B: Site, D: Deleter>(
     lents: Vec<Lent<'d, P, Tabled, B, D>>,
     mut chains: Vec<Chain<'d, P, Tabled, B, D>>,

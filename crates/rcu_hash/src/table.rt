@@ -46,12 +46,11 @@ pub(crate) fn fits(chains: usize, directory: usize, first: usize, buckets: usize
     directory < first || directory >= first + buckets
 }
 
-/// A map from keys to values over the chains of a domain; liburcu's `cds_lfht`. One chain has a directory, which names as
-/// many chains that follow one another as there are buckets. A key lies in the bucket of its number modulo the number of
-/// buckets. A writer takes its bucket's lock, and the directory's twice: to hear its caller, and for its change; lookups
-/// take none.
-/// `grow` puts another directory in the place of this one while the table is read. Dropping the table gives its chains
-/// back with their keys and notes, so that no other table or list can be made over them.
+/// A map from keys to values over the chains of a domain; liburcu's `cds_lfht`. One chain has a directory, which names
+/// as many chains that follow one another as there are buckets. A key lies in the bucket of its number modulo the
+/// number of buckets. A writer takes its bucket's lock, and the directory's twice: to hear its caller, and for its
+/// change; lookups take none. `grow` puts another directory in the place of this one while the table is read. Dropping
+/// the table gives its chains back with their keys and notes, so that no other table or list can be made over them.
 #[derive(Drop)]
 pub struct RcuHash<'d, P: GracePlan, B: Site, D: Deleter = Callback> {
     /// The chain of its directory.
@@ -65,14 +64,14 @@ pub struct RcuHash<'d, P: GracePlan, B: Site, D: Deleter = Callback> {
 }
 
 impl<'d, P: GracePlan + Drop, B: Site, D: Deleter> RcuHash<'d, P, B, D> {
-    /// A table with no keys: one record, which becomes the directory, and as many chains as it has buckets, from the first
-    /// one on. The caller hears of the log in which the directory came, after the notes of the buckets: no key has a value
-    /// in it.
+    /// A table with no keys: one record, which becomes the directory, and as many chains as it has buckets, from the
+    /// first one on. The caller hears of the log in which the directory came, after the notes of the buckets: no key
+    /// has a value in it.
     ///
     /// Refused with `BadConfig` where the number of buckets is not 1 to 4,096, a chain is not there or the directory's
     /// chain is one of the buckets', else with `Memory` where memory is, with `BadConfig` where a chain had a writer,
-    /// linked an object or had a note other than 0 during the call, or with `PoolFull` where there is no record. It waits
-    /// for nobody, but tries again where other threads draw object numbers meanwhile.
+    /// linked an object or had a note other than 0 during the call, or with `PoolFull` where there is no record. It
+    /// waits for nobody, but tries again where other threads draw object numbers meanwhile.
     pub fn new<W: Witness, R: Wait>(
         rt: &R,
         alloc: Global,
@@ -147,7 +146,8 @@ impl<'d, P: GracePlan + Drop, B: Site, D: Deleter> RcuHash<'d, P, B, D> {
         unreachable!()
     }
 
-    /// The value of a key, or none; liburcu's `cds_lfht_lookup`: as `TableView::get`. It never waits and takes no memory.
+    /// The value of a key, or none; liburcu's `cds_lfht_lookup`: as `TableView::get`. It never waits and takes no
+    /// memory.
     pub fn get(&self, section: &mut Section<'_, P, Tabled, B>, key: u64) -> Option<u64>
         requires { (P.QSBR ≡ B.qsbr) × (0 < section.old.reader.now.depth) }
         ensures reader { section.new.reader.ghost_name ≡ section.old.reader.ghost_name }
@@ -160,9 +160,9 @@ impl<'d, P: GracePlan + Drop, B: Site, D: Deleter> RcuHash<'d, P, B, D> {
     /// Gives a key a value that had none: one push, liburcu's `cds_lfht_add_unique`. It comes after all that the caller
     /// had seen and heard of, and the caller hears of it.
     ///
-    /// Refused with `Exists` only where the key had a value in some log of the call, else with `PoolFull` where its bucket's
-    /// ranks are used up, or as `alloc`; then it wrote nothing, as tests show. It takes no memory, and waits for the locks
-    /// of the table alone, but tries again where other threads draw object numbers meanwhile.
+    /// Refused with `Exists` only where the key had a value in some log of the call, else with `PoolFull` where its
+    /// bucket's ranks are used up, or as `alloc`; then it wrote nothing, as tests show. It takes no memory, and waits
+    /// for the locks of the table alone, but tries again where other threads draw object numbers meanwhile.
     pub fn insert<W: Witness, R: Wait>(
         &self,
         rt: &R,
@@ -186,9 +186,10 @@ impl<'d, P: GracePlan + Drop, B: Site, D: Deleter> RcuHash<'d, P, B, D> {
     /// reader misses the key. The old record is retired with the callback, `call_rcu`. Both come after all that the
     /// caller had seen and heard of, and the caller hears of them.
     ///
-    /// Refused with `Missing` only where the key had no value in some log of the call, else as `alloc`, else as `retire`;
-    /// then the callback comes back, the new record is back in the pool, and it wrote nothing else, as tests show. It waits
-    /// for the locks of the table and of the queue, and tries again where other threads draw object numbers meanwhile.
+    /// Refused with `Missing` only where the key had no value in some log of the call, else as `alloc`, else as
+    /// `retire`; then the callback comes back, the new record is back in the pool, and it wrote nothing else, as tests
+    /// show. It waits for the locks of the table and of the queue, and tries again where other threads draw object
+    /// numbers meanwhile.
     pub fn replace<W: Witness, R: Wait>(
         &self,
         rt: &R,
@@ -212,8 +213,9 @@ impl<'d, P: GracePlan + Drop, B: Site, D: Deleter> RcuHash<'d, P, B, D> {
     /// Takes a key that has a value out of the map: one cut, liburcu's `cds_lfht_del`. Its record is retired with the
     /// callback, `call_rcu`. Both come after all that the caller had seen and heard of, and the caller hears of them.
     ///
-    /// Refused with `Missing` only where the key had no value in some log of the call, else as `retire`; then the callback
-    /// comes back, and it wrote nothing, as tests show. It waits for the locks of the table and of the queue alone.
+    /// Refused with `Missing` only where the key had no value in some log of the call, else as `retire`; then the
+    /// callback comes back, and it wrote nothing, as tests show. It waits for the locks of the table and of the queue
+    /// alone.
     pub fn remove<W: Witness, R: Wait>(
         &self,
         rt: &R,
@@ -233,7 +235,8 @@ impl<'d, P: GracePlan + Drop, B: Site, D: Deleter> RcuHash<'d, P, B, D> {
         answer
     }
 
-    /// Goes through the table, liburcu's `cds_lfht_for_each`: as `TableView::for_each`. It never waits and takes no memory.
+    /// Goes through the table, liburcu's `cds_lfht_for_each`: as `TableView::for_each`. It never waits and takes no
+    /// memory.
     pub fn for_each<F: FnMut(u64, u64)>(
         &self,
         section: &mut Section<'_, P, Tabled, B>,

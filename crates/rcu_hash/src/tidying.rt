@@ -60,8 +60,8 @@ impl<D> TidyEnd<D> {
 }
 
 impl<'d, P: GracePlan + Drop, B: Site, D: Deleter> Desk<'d, P, B, D> {
-    /// Waits for a grace period that begins while a directory is linked, and answers which. It holds no lock of the table
-    /// meanwhile.
+    /// Waits for a grace period that begins while a directory is linked, and answers which. It holds no lock of the
+    /// table meanwhile.
     ///
     /// Refused with `Exhausted` where no more of them can be counted.
     fn settle<W: Witness, R: Wait>(
@@ -270,8 +270,8 @@ fn count<P: GracePlan, B: Site, D: Deleter>(
 }
 
 impl<'d, P: GracePlan + Drop, B: Site, D: Deleter> RcuHash<'d, P, B, D> {
-    /// What earlier directories left, out of its lock. A lock tells only the type of what it holds, so the directory's chain
-    /// is compared; it always is the right one.
+    /// What earlier directories left, out of its lock. A lock tells only the type of what it holds, so the directory's
+    /// chain is compared; it always is the right one.
     pub(crate) fn take_left<'t, R: Wait>(
         &'t self,
         rt: &R,
@@ -321,8 +321,8 @@ impl<'d, P: GracePlan + Drop, B: Site, D: Deleter> RcuHash<'d, P, B, D> {
         self.desk.clear_all(rt, naming, witness, chains, jobs)
     }
 
-    /// Retires what the directories before this one left, after the grace period that was waited for while it was linked.
-    /// Where there is nothing of it left another thread has tidied since.
+    /// Retires what the directories before this one left, after the grace period that was waited for while it was
+    /// linked. Where there is nothing of it left another thread has tidied since.
     fn retire_behind<W: Witness, R: Wait>(
         &self,
         rt: &R,
@@ -382,16 +382,16 @@ impl<'d, P: GracePlan + Drop, B: Site, D: Deleter> RcuHash<'d, P, B, D> {
         TidyEnd::stopped(0, many, jobs, refusal)
     }
 
-    /// Retires what earlier directories left, one callback each, from the back. Where something is left it waits for a grace
-    /// period first, liburcu's `synchronize_rcu`, so a caller has no section or lock open, and is offline where its reader
-    /// is of the quiescent-state flavour. What callbacks it does not use come back. Where nothing is left the chains of
-    /// earlier directories have no note, and are given back, as tests show. Where another thread has tidied meanwhile, and the
-    /// table has grown again, it retires nothing and answers that nothing is left, as there was a moment at which nothing
-    /// was.
+    /// Retires what earlier directories left, one callback each, from the back. Where something is left it waits for a
+    /// grace period first, liburcu's `synchronize_rcu`, so a caller has no section or lock open, and is offline where
+    /// its reader is of the quiescent-state flavour. What callbacks it does not use come back. Where nothing is left
+    /// the chains of earlier directories have no note, and are given back, as tests show. Where another thread has
+    /// tidied meanwhile, and the table has grown again, it retires nothing and answers that nothing is left, as there
+    /// was a moment at which nothing was.
     ///
-    /// It stops with `FewJobs` where callbacks run out while objects are left, with `Exhausted` where the grace period is
-    /// refused, and with `Closed` or `Memory` as `retire`. While it waits for the grace period it holds no lock: writers and
-    /// readers go on, and a growth is refused with `Busy`.
+    /// It stops with `FewJobs` where callbacks run out while objects are left, with `Exhausted` where the grace period
+    /// is refused, and with `Closed` or `Memory` as `retire`. While it waits for the grace period it holds no lock:
+    /// writers and readers go on, and a growth is refused with `Busy`.
     pub fn tidy<W: Witness, R: Wait>(&self, rt: &R, witness: &mut W, jobs: Vec<D>) -> TidyEnd<D>
         requires home { W.home witness.old ≡ (B.table, B.sizes) }
         ensures jobs { (used : List D) × (jobs.items ≡ result.jobs.items ++ used) × (length used ≡ result.retired) }

@@ -130,11 +130,11 @@ impl<B: Site> TableView<B> {
     /// The value of a key, or none; liburcu's `cds_lfht_lookup`. It is what the table has for the key at some moment
     /// between the call and the return: in a log that begins with all that the reader had seen and heard of. So a key
     /// that is there all along is found, also while its value is replaced, and while the table grows: by the law
-    /// `buckets_answer_for_their_table` a lookup that read an earlier directory answers by the map at the moment at which
-    /// another took its place, at the latest.
+    /// `buckets_answer_for_their_table` a lookup that read an earlier directory answers by the map at the moment at
+    /// which another took its place, at the latest.
     ///
-    /// It reads the directory and the key's bucket alone, and returns, since ranks fall along the bucket's chain. It never
-    /// waits and takes no memory.
+    /// It reads the directory and the key's bucket alone, and returns, since ranks fall along the bucket's chain. It
+    /// never waits and takes no memory.
     pub fn get<P: GracePlan>(self, section: &mut Section<'_, P, Tabled, B>, key: u64) -> Option<u64>
         requires { (P.QSBR ≡ B.qsbr) × (0 < section.old.reader.now.depth) }
         ensures reader { section.new.reader.ghost_name ≡ section.old.reader.ghost_name }
@@ -173,10 +173,10 @@ impl<B: Site> TableView<B> {
         }
     }
 
-    /// Goes through the table, liburcu's `cds_lfht_for_each`: a call with the key and the value of each entry that it comes
-    /// to. A key that is there all along, from the call to the return, is met exactly once, also while its value is
-    /// replaced and while the table grows; one that never is there is not met; and each value is one that its key had
-    /// meanwhile.
+    /// Goes through the table, liburcu's `cds_lfht_for_each`: a call with the key and the value of each entry that it
+    /// comes to. A key that is there all along, from the call to the return, is met exactly once, also while its value
+    /// is replaced and while the table grows; one that never is there is not met; and each value is one that its key
+    /// had meanwhile.
     ///
     /// It returns where each call does, since ranks fall along each chain. It never waits and takes no memory.
     pub fn for_each<P: GracePlan, F: FnMut(u64, u64)>(

@@ -60,9 +60,9 @@ impl<'d, P: GracePlan + Drop, K: MapRule, B: Site, D: Deleter> RcuList<'d, P, K,
         ListView::over(&self.chain)
     }
 
-    /// The writer sees all that the caller has seen and heard of, and the caller hears of what the writer has seen then. So
-    /// what the writer knows of the map is known of a log that comes after all that its caller knew. It takes no memory
-    /// and never waits.
+    /// The writer sees all that the caller has seen and heard of, and the caller hears of what the writer has seen
+    /// then. So what the writer knows of the map is known of a log that comes after all that its caller knew. It takes
+    /// no memory and never waits.
     pub fn hear<W: Witness>(&mut self, witness: &mut W)
         requires { W.home witness.old ≡ (B.table, B.sizes) }
         ensures chain { (self.new.chain.number ≡ self.old.chain.number) × (list_in self.new.chain.seat.me.0 ≡ list_in self.old.chain.seat.me.0) }
@@ -90,10 +90,10 @@ impl<'d, P: GracePlan + Drop, K: MapRule, B: Site, D: Deleter> RcuList<'d, P, K,
     /// Gives a key a value that had none: one push at the front, liburcu's `cds_list_add_rcu`. It comes after all that
     /// the caller had seen and heard of, and the caller hears of it.
     ///
-    /// Refused with `Exists` exactly where the key has a value by the map that the writer knows (which `hear` makes one that
-    /// comes after all that its caller knew), else with `PoolFull` where the ranks are used up, or as `alloc`; then the map
-    /// is as it was. It takes no memory, and waits for nobody, but tries again where other threads draw object numbers
-    /// meanwhile.
+    /// Refused with `Exists` exactly where the key has a value by the map that the writer knows (which `hear` makes one
+    /// that comes after all that its caller knew), else with `PoolFull` where the ranks are used up, or as `alloc`;
+    /// then the map is as it was. It takes no memory, and waits for nobody, but tries again where other threads draw
+    /// object numbers meanwhile.
     pub fn insert<W: Witness, R: Wait>(
         &mut self,
         rt: &R,
@@ -112,13 +112,13 @@ impl<'d, P: GracePlan + Drop, K: MapRule, B: Site, D: Deleter> RcuList<'d, P, K,
         Ok(())
     }
 
-    /// Gives a key that has a value this one: one replacement in its place, liburcu's `cds_list_replace_rcu`, so that no
-    /// reader misses the key. The old record is retired with the callback, `call_rcu`. Both come after all that the
+    /// Gives a key that has a value this one: one replacement in its place, liburcu's `cds_list_replace_rcu`, so that
+    /// no reader misses the key. The old record is retired with the callback, `call_rcu`. Both come after all that the
     /// caller had seen and heard of, and the caller hears of them.
     ///
     /// Refused with `Missing` exactly where the key has no value, else as `alloc`, else as `retire`; then the map is as
-    /// it was, the callback comes back, and the new record is back in the pool. It waits for the queue's lock alone, and
-    /// tries again where other threads draw object numbers meanwhile.
+    /// it was, the callback comes back, and the new record is back in the pool. It waits for the queue's lock alone,
+    /// and tries again where other threads draw object numbers meanwhile.
     pub fn replace<W: Witness, R: Wait>(
         &mut self,
         rt: &R,
@@ -148,7 +148,8 @@ impl<'d, P: GracePlan + Drop, K: MapRule, B: Site, D: Deleter> RcuList<'d, P, K,
     }
 
     /// Takes a key that has a value out of the map: one cut, liburcu's `cds_list_del_rcu`. Its record is retired with
-    /// the callback, `call_rcu`. Both come after all that the caller had seen and heard of, and the caller hears of them.
+    /// the callback, `call_rcu`. Both come after all that the caller had seen and heard of, and the caller hears of
+    /// them.
     ///
     /// Refused with `Missing` exactly where the key has no value, else as `retire`; then the map is as it was, and the
     /// callback comes back. It waits for the queue's lock alone.

@@ -8,8 +8,8 @@ use live_words::{ChainRule, Keyed, Tabled};
 
 /// A rule under which chains are maps: a payload is a key, its value, a rank, and 0.
 pub trait MapRule: ChainRule {
-    /// What lookups and writers go by, in either flavour: in each chain keys differ and ranks fall, what takes the place
-    /// of a key keeps its rank, and in a chain of keys with no note the rule of keyed chains decides.
+    /// What lookups and writers go by, in either flavour: in each chain keys differ and ranks fall, what takes the
+    /// place of a key keeps its rank, and in a chain of keys with no note the rule of keyed chains decides.
     ghost maps: { (qsbr : Bool) → HasMaps qsbr Self.allows };
 }
 

@@ -74,7 +74,8 @@ impl<B: Site> ListView<B> {
         Ok(ListView::at(chain))
     }
 
-    /// Of the list over this chain, which is one of the domain's, whoever writes it. It takes no memory and never waits.
+    /// Of the list over this chain, which is one of the domain's, whoever writes it. It takes no memory and never
+    /// waits.
     pub fn at(chain: usize) -> ListView<B>
         requires { chain < B.sizes.chains }
         ensures { result.chain ≡ chain }
@@ -132,9 +133,9 @@ impl<B: Site> ListView<B> {
         None
     }
 
-    /// The value of a key, or none; liburcu's `cds_list_for_each_entry_rcu` up to the key. It is what the list has for the
-    /// key at some moment between the call and the return: in a log that begins with all that the reader had seen and
-    /// heard of. So a key that is there all along is found, also while its value is replaced.
+    /// The value of a key, or none; liburcu's `cds_list_for_each_entry_rcu` up to the key. It is what the list has for
+    /// the key at some moment between the call and the return: in a log that begins with all that the reader had seen
+    /// and heard of. So a key that is there all along is found, also while its value is replaced.
     ///
     /// It loads the key of each object that it passes, its link, and the rank of the first one. It returns, since ranks
     /// fall along the chain. It never waits and takes no memory.
@@ -183,8 +184,8 @@ impl<B: Site> ListView<B> {
         }
     }
 
-    // Goes through the objects of the bucket, from the first one of the chain on. Ranks fall along the chain, so no more
-    // objects come than the first one's rank tells.
+    // Goes through the objects of the bucket, from the first one of the chain on. Ranks fall along the chain, so no
+    // more objects come than the first one's rank tells.
     fn walk<P: GracePlan, K: MapRule, F: FnMut(u64, u64)>(
         self,
         section: &mut Section<'_, P, K, B>,
@@ -241,8 +242,8 @@ impl<B: Site> ListView<B> {
     }
 
     /// Goes through the list, liburcu's `cds_list_for_each_entry_rcu`: a call with the key and the value of each object
-    /// that it comes to. A key that is there all along, from the call to the return, is met exactly once, also while its
-    /// value is replaced; one that never is there is not met; and each value is one that its key had meanwhile.
+    /// that it comes to. A key that is there all along, from the call to the return, is met exactly once, also while
+    /// its value is replaced; one that never is there is not met; and each value is one that its key had meanwhile.
     ///
     /// It loads two words of each object that it passes, its link, and the rank of the first one. It returns where each
     /// call does, since ranks fall along the chain. It never waits and takes no memory.

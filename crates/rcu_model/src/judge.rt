@@ -13,11 +13,11 @@ use crate::event::Event;
 use crate::verdict::{JudgeFault, LogFault, Rule, Verdict};
 use std::alloc::Global;
 
-/// A judge of a log that is told event by event: whether the events that it has taken are a run of the abstract machine,
-/// or else the first of them that breaks its rule. It keeps what is present: open sections and what they got, objects
-/// whose callbacks have not run, asks and barriers that are not over, and who came since the first section, or queued
-/// object, that is still there. What is past it knows by the runs of its numbers. Beside a look-up among these runs an
-/// event takes constant time, amortized and on the average (its maps hash without a secret).
+/// A judge of a log that is told event by event: whether the events that it has taken are a run of the abstract
+/// machine, or else the first of them that breaks its rule. It keeps what is present: open sections and what they got,
+/// objects whose callbacks have not run, asks and barriers that are not over, and who came since the first section, or
+/// queued object, that is still there. What is past it knows by the runs of its numbers. Beside a look-up among these
+/// runs an event takes constant time, amortized and on the average (its maps hash without a secret).
 #[derive(Drop)]
 pub struct Judge {
     checker: Checker,
@@ -41,8 +41,8 @@ impl Judge {
     /// Takes the next event. After one that breaks its rule, the verdict stays.
     ///
     /// # Errors
-    /// `Memory` where memory was refused, and `TooLong` after 2^64 - 1 events that are a run. The event is then not taken:
-    /// the judge is as it was, and the same event may be given again.
+    /// `Memory` where memory was refused, and `TooLong` after 2^64 - 1 events that are a run. The event is then not
+    /// taken: the judge is as it was, and the same event may be given again.
     pub fn take(&mut self, event: &Event) -> Result<(), JudgeFault>
         ensures taken { OnOk result ((log : List Event) → HasTaken self.old log → HasTaken self.new (log ++ event.now ∷ [])) }
         ensures refused { OnErr result ((log : List Event) → HasTaken self.old log → HasTaken self.new log) }
@@ -81,8 +81,8 @@ impl Judge {
 }
 
 /// Whether the log is a run of the abstract machine, or else the first event that breaks its rule, and that rule. Takes
-/// any log, in memory linear in its length, and on the average in time that is so where numbers count up in a few threads
-/// of order (its maps hash without a secret).
+/// any log, in memory linear in its length, and on the average in time that is so where numbers count up in a few
+/// threads of order (its maps hash without a secret).
 ///
 /// # Errors
 /// `Memory` where memory was refused.

@@ -51,9 +51,9 @@ pub fn callbacks_are_queued_once_before_they_run()
     ensures runs { (log : List Event) → IsRun log → RunsAfterItsQueueing log }
 {}
 
-/// In every run in which each callback of a queue runs as the first of those that wait in it, the callbacks of that queue
-/// run in the order in which they were queued, and none is passed over: a queue that hands out its items first in, first
-/// out is enough, whoever runs them. So it is with the list of a liburcu `call_rcu` worker.
+/// In every run in which each callback of a queue runs as the first of those that wait in it, the callbacks of that
+/// queue run in the order in which they were queued, and none is passed over: a queue that hands out its items first
+/// in, first out is enough, whoever runs them. So it is with the list of a liburcu `call_rcu` worker.
 pub fn first_in_first_out_runs_in_order()
     ensures { (q : ℕ) (log : List Event) → IsRun log → RunsFirst q log → RunsInOrder q log }
 {}
@@ -77,8 +77,8 @@ pub fn every_run_counts_its_state()
     ensures { (log : List Event) → IsRun log → CountsItsState log }
 {}
 
-/// Readings, which no store of live threads writes, take no part in what is stored: a run's live events alone are a run,
-/// and a live event may come after a log just where it may come after the log's live events.
+/// Readings, which no store of live threads writes, take no part in what is stored: a run's live events alone are a
+/// run, and a live event may come after a log just where it may come after the log's live events.
 pub fn readings_change_no_live_event()
     ensures alone { (log : List Event) → IsRun log → IsRun (live_events log) }
     ensures same { (log : List Event) (e : Event) → IsLive e → IsAllowed (state_after log) e ↔ IsAllowed (state_after (live_events log)) e }

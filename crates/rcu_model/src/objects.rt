@@ -9,8 +9,9 @@ use number_runs::NumberRuns;
 use std::alloc::{AllocError, Global};
 use std::collections::HashMap;
 
-/// What is known of objects and chains. An object whose callback has run takes next to no memory where numbers count up:
-/// of it only the number is kept. Beside a look-up among the runs of these numbers a call takes constant time, amortized.
+/// What is known of objects and chains. An object whose callback has run takes next to no memory where numbers count
+/// up: of it only the number is kept. Beside a look-up among the runs of these numbers a call takes constant time,
+/// amortized.
 #[derive(Drop)]
 pub(crate) struct Objects {
     // The objects whose callbacks have not run.

@@ -9,8 +9,8 @@ use std::marker::Model;
 // So many places are kept in any case.
 const FEW: usize = 64;
 
-/// Those that came, each at its place, in the order of their coming, from 0: whether they are still there. Memory is linear
-/// in the number of those that came since the first one that is still there.
+/// Those that came, each at its place, in the order of their coming, from 0: whether they are still there. Memory is
+/// linear in the number of those that came since the first one that is still there.
 #[derive(Drop)]
 pub(crate) struct Roster {
     // How many of the first places are forgotten: their holders have left.

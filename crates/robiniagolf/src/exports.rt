@@ -8,8 +8,8 @@ use crate::verdict::{Verdict, answer_of};
 use judging::TextJudge;
 use std::alloc::Global;
 
-/// Makes a judge that was fed nothing. 0 made, 3 memory, 5 the handle keeps one already. Where it is not 0, the handle is
-/// as it was.
+/// Makes a judge that was fed nothing. 0 made, 3 memory, 5 the handle keeps one already. Where it is not 0, the handle
+/// is as it was.
 #[unsafe(no_mangle)]
 pub extern "C" fn robiniagolf_judge_new(alloc: Global, judge: &mut JudgeHandle) -> u32
     ensures made { result ≡ 0 → Keeps judge.new.kept.value [] }

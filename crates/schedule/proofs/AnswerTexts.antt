@@ -12,7 +12,7 @@ use Rattle.schedule.specs.declared.answer_line.AnswerLine.TheVariants as line
 use Rattle.schedule.specs.Reading.{◌>>=◌, is_end, word_from, word_on, word_at}
 use Rattle.schedule.specs.Grammar.{done}
 use Rattle.schedule.specs.AnswerLines.{IsEvent, IsAnswerLine, spelled, AnswerLineText}
-use Rattle.schedule.specs.AnswerGrammar.{event_words_of, answer_words_of, waiting_word, run_word, event_word_at, answer_word_at, byte_at, long_at, event_rest, second_at, events_at, end_at, refused_at, answer_rest, answer_line_at}
+use Rattle.schedule.specs.AnswerGrammar.{event_words_of, answer_words_of, waiting_word, run_word, event_word_at, answer_word_at, byte_at, long_at, event_rest, second_at, events_at, end_at, refused_at, whole_line, answer_rest, answer_line_at}
 use Rattle.schedule.specs.declared.answer_words.SectionWord.TheVariants as section_words
 use Rattle.schedule.specs.declared.answer_words.ReadingWord.TheVariants as reading_words
 use Rattle.schedule.specs.declared.answer_words.ChainWord.TheVariants as chain_words
@@ -22,6 +22,8 @@ use Rattle.schedule.specs.declared.answer_words.EventWord.{EventWord}
 use Rattle.schedule.specs.declared.answer_words.EventWord.TheVariants as event_words
 use Rattle.schedule.specs.declared.answer_words.AnswerWord.{AnswerWord}
 use Rattle.schedule.specs.declared.answer_words.AnswerWord.TheVariants as answer_words
+use Rattle.schedule.specs.declared.answer_words.WholeWord.{WholeWord}
+use Rattle.schedule.specs.declared.answer_words.WholeWord.TheVariants as whole_words
 use Rattle.schedule.proofs.Exact.{Reads, Done, Then}
 use Rattle.schedule.proofs.Tables.{InTable}
 use Rattle.schedule.proofs.Numbers.{is_that}
@@ -118,13 +120,13 @@ refused_lang = then_lang (LongText 10 10) (λ n. Done (refusal n)) (long_at 10 1
 
 abbrev AnswerRest : AnswerWord → AnswerLine → List ℕ → Type 0
 AnswerRest (answer_words.Event w) = EventsText w
-AnswerRest (answer_words.Whole l) = Done l
+AnswerRest (answer_words.Whole w) = Done (whole_line w)
 AnswerRest answer_words.Refused = Then (LongText 10 10) (λ n. Done (refusal n))
 AnswerRest answer_words.End = EndText
 
 answer_rest_lang : (w : AnswerWord) → Lang (AnswerRest w) (answer_rest w)
 answer_rest_lang (answer_words.Event w) = events_lang w
-answer_rest_lang (answer_words.Whole l) = done_lang l
+answer_rest_lang (answer_words.Whole w) = done_lang (whole_line w)
 answer_rest_lang answer_words.Refused = refused_lang
 answer_rest_lang answer_words.End = end_lang
 
@@ -157,8 +159,8 @@ event_line_row w k i l u s =
     subst (AnswerLineText l) (ap (λ (v : List ℕ). v ++ s.2) (sym t.2) ∙ append_assoc w s.1 s.2 ∙ ap (λ (v : List ℕ). w ++ v) (sym s.5))
     (after_first s.0 (s.0.1 == 10) l s.2 refl t.0 t.1 s.4)
 
-whole_row : (l : AnswerLine) → IsAnswerLine l → answer_row (spelled l) (answer_words.Whole l)
-whole_row l is m u s = (subst IsAnswerLine s.0 is, rw s.1 (append-nil (spelled l)) ∙ ap spelled s.0)
+whole_row : (w : WholeWord) → IsAnswerLine (whole_line w) → answer_row (spelled (whole_line w)) (answer_words.Whole w)
+whole_row w is m u s = (subst IsAnswerLine s.0 is, rw s.1 (append-nil (spelled (whole_line w))) ∙ ap spelled s.0)
 
 refused_row : answer_row (codes "refused E") answer_words.Refused
 refused_row l u s =
@@ -181,7 +183,7 @@ end_row l u s =
     )
 
 answer_rows : EachRow answer_row answer_words_of
-answer_rows = (whole_row line.Quiet tt, (event_line_row (codes "open r") (event_words.Section section_words.Open) (inl (refl, refl)), (event_line_row (codes "close r") (event_words.Section section_words.Close) (inr (inl (refl, refl))), (event_line_row (codes "first r") (event_words.Reading reading_words.First) (inr (inr (inl (refl, refl)))), (event_line_row (codes "next r") (event_words.Reading reading_words.Next) (inr (inr (inr (inl (refl, refl))))), (event_line_row (codes "touch r") (event_words.Reading reading_words.Touch) (inr (inr (inr (inr (inl (refl, refl)))))), (event_line_row (codes "push c") (event_words.Chain chain_words.Push) (inr (inr (inr (inr (inr (inl (refl, refl))))))), (event_line_row (codes "replace c") (event_words.Chain chain_words.Replace) (inr (inr (inr (inr (inr (inr (inl (refl, refl)))))))), (event_line_row (codes "cut c") (event_words.Chain chain_words.Cut) (inr (inr (inr (inr (inr (inr (inr (inl (refl, refl))))))))), (event_line_row (codes "retire o") (event_words.Object object_words.Retire) (inr (inr (inr (inr (inr (inr (inr (inr (inl (refl, refl)))))))))), (event_line_row (codes "queue o") (event_words.Object object_words.Queue) (inr (inr (inr (inr (inr (inr (inr (inr (inr (inl (refl, refl))))))))))), (event_line_row (codes "run o") (event_words.Object object_words.Run) (inr (inr (inr (inr (inr (inr (inr (inr (inr (inr (inl (refl, refl)))))))))))), (event_line_row (codes "ask a") (event_words.Wait wait_words.Ask) (inr (inr (inr (inr (inr (inr (inr (inr (inr (inr (inr (inl (refl, refl))))))))))))), (event_line_row (codes "answer a") (event_words.Wait wait_words.Answer) (inr (inr (inr (inr (inr (inr (inr (inr (inr (inr (inr (inr (inl (refl, refl)))))))))))))), (event_line_row (codes "bar b") (event_words.Wait wait_words.Bar) (inr (inr (inr (inr (inr (inr (inr (inr (inr (inr (inr (inr (inr (inl (refl, refl))))))))))))))), (event_line_row (codes "clear b") (event_words.Wait wait_words.Clear) (inr (inr (inr (inr (inr (inr (inr (inr (inr (inr (inr (inr (inr (inr (inl (refl, refl)))))))))))))))), (whole_row line.Wait tt, (whole_row line.Blocked tt, (whole_row line.Idle tt, (refused_row, (end_row, tt)))))))))))))))))))))
+answer_rows = (whole_row whole_words.Quiet tt, (event_line_row (codes "open r") (event_words.Section section_words.Open) (inl (refl, refl)), (event_line_row (codes "close r") (event_words.Section section_words.Close) (inr (inl (refl, refl))), (event_line_row (codes "first r") (event_words.Reading reading_words.First) (inr (inr (inl (refl, refl)))), (event_line_row (codes "next r") (event_words.Reading reading_words.Next) (inr (inr (inr (inl (refl, refl))))), (event_line_row (codes "touch r") (event_words.Reading reading_words.Touch) (inr (inr (inr (inr (inl (refl, refl)))))), (event_line_row (codes "push c") (event_words.Chain chain_words.Push) (inr (inr (inr (inr (inr (inl (refl, refl))))))), (event_line_row (codes "replace c") (event_words.Chain chain_words.Replace) (inr (inr (inr (inr (inr (inr (inl (refl, refl)))))))), (event_line_row (codes "cut c") (event_words.Chain chain_words.Cut) (inr (inr (inr (inr (inr (inr (inr (inl (refl, refl))))))))), (event_line_row (codes "retire o") (event_words.Object object_words.Retire) (inr (inr (inr (inr (inr (inr (inr (inr (inl (refl, refl)))))))))), (event_line_row (codes "queue o") (event_words.Object object_words.Queue) (inr (inr (inr (inr (inr (inr (inr (inr (inr (inl (refl, refl))))))))))), (event_line_row (codes "run o") (event_words.Object object_words.Run) (inr (inr (inr (inr (inr (inr (inr (inr (inr (inr (inl (refl, refl)))))))))))), (event_line_row (codes "ask a") (event_words.Wait wait_words.Ask) (inr (inr (inr (inr (inr (inr (inr (inr (inr (inr (inr (inl (refl, refl))))))))))))), (event_line_row (codes "answer a") (event_words.Wait wait_words.Answer) (inr (inr (inr (inr (inr (inr (inr (inr (inr (inr (inr (inr (inl (refl, refl)))))))))))))), (event_line_row (codes "bar b") (event_words.Wait wait_words.Bar) (inr (inr (inr (inr (inr (inr (inr (inr (inr (inr (inr (inr (inr (inl (refl, refl))))))))))))))), (event_line_row (codes "clear b") (event_words.Wait wait_words.Clear) (inr (inr (inr (inr (inr (inr (inr (inr (inr (inr (inr (inr (inr (inr (inl (refl, refl)))))))))))))))), (whole_row whole_words.Wait tt, (whole_row whole_words.Blocked tt, (whole_row whole_words.Idle tt, (refused_row, (end_row, tt)))))))))))))))))))))
 
 line_spelled : (l : AnswerLine) (text : List ℕ) → Then (InTable answer_words_of) AnswerRest l text → AnswerLineText l text
 line_spelled l text s = subst (AnswerLineText l) (sym s.5) (each_row answer_row answer_words_of s.0 s.1 answer_rows s.3 l s.2 s.4)
@@ -225,10 +227,10 @@ line_unspelled (line.Events first (Some second)) text s =
       ),
       s.1 ∙ sym (shape_two (text_of first) (59 ∷ []) (32 ∷ []) (text_of second) (10 ∷ [])) ∙ rw (g.2, f.2) (append_assoc (word_text first) f.0 rest),
     )
-line_unspelled line.Quiet text s = (answer_words.Whole line.Quiet, codes ".\n", [], inl (refl, refl), (refl, refl), s.1)
-line_unspelled line.Wait text s = (answer_words.Whole line.Wait, codes "wait\n", [], inr (inr (inr (inr (inr (inr (inr (inr (inr (inr (inr (inr (inr (inr (inr (inr (inl (refl, refl))))))))))))))))), (refl, refl), s.1)
-line_unspelled line.Blocked text s = (answer_words.Whole line.Blocked, codes "blocked\n", [], inr (inr (inr (inr (inr (inr (inr (inr (inr (inr (inr (inr (inr (inr (inr (inr (inr (inl (refl, refl)))))))))))))))))), (refl, refl), s.1)
-line_unspelled line.Idle text s = (answer_words.Whole line.Idle, codes "idle\n", [], inr (inr (inr (inr (inr (inr (inr (inr (inr (inr (inr (inr (inr (inr (inr (inr (inr (inr (inl (refl, refl))))))))))))))))))), (refl, refl), s.1)
+line_unspelled line.Quiet text s = (answer_words.Whole whole_words.Quiet, codes ".\n", [], inl (refl, refl), (refl, refl), s.1)
+line_unspelled line.Wait text s = (answer_words.Whole whole_words.Wait, codes "wait\n", [], inr (inr (inr (inr (inr (inr (inr (inr (inr (inr (inr (inr (inr (inr (inr (inr (inl (refl, refl))))))))))))))))), (refl, refl), s.1)
+line_unspelled line.Blocked text s = (answer_words.Whole whole_words.Blocked, codes "blocked\n", [], inr (inr (inr (inr (inr (inr (inr (inr (inr (inr (inr (inr (inr (inr (inr (inr (inr (inl (refl, refl)))))))))))))))))), (refl, refl), s.1)
+line_unspelled line.Idle text s = (answer_words.Whole whole_words.Idle, codes "idle\n", [], inr (inr (inr (inr (inr (inr (inr (inr (inr (inr (inr (inr (inr (inr (inr (inr (inr (inr (inl (refl, refl))))))))))))))))))), (refl, refl), s.1)
 line_unspelled (line.Refused n) text s =
     let rest = decimal n ++ 10 ∷ [] in
     (answer_words.Refused, codes "refused E", rest, inr (inr (inr (inr (inr (inr (inr (inr (inr (inr (inr (inr (inr (inr (inr (inr (inr (inr (inr (inl (refl, refl)))))))))))))))))))), ((n, 10), rest, [], (s.0, refl, refl), (refl, refl), sym (append-nil rest)), s.1 ∙ append_assoc (codes "refused E") (decimal n) (10 ∷ []))

@@ -23,6 +23,8 @@ use Rattle.schedule.specs.declared.answer_words.EventWord.{EventWord}
 use Rattle.schedule.specs.declared.answer_words.EventWord.TheVariants as event_words
 use Rattle.schedule.specs.declared.answer_words.AnswerWord.{AnswerWord}
 use Rattle.schedule.specs.declared.answer_words.AnswerWord.TheVariants as answer_words
+use Rattle.schedule.specs.declared.answer_words.WholeWord.{WholeWord}
+use Rattle.schedule.specs.declared.answer_words.WholeWord.TheVariants as whole_words
 use Rattle.schedule.specs.declared.answer_words.FoundWord.{FoundWord}
 use Rattle.schedule.specs.declared.answer_words.FoundWord.TheVariants as found_words
 use Rattle.schedule.specs.declared.answer_words.TheConstants.{EVENT_WORDS, ANSWER_WORDS, FOUND_WORDS, WAITING, RUN}
@@ -174,9 +176,16 @@ end_at text =
 unfoldable pub refused_at : List ℕ → Reading AnswerLine
 refused_at text = long_at 10 10 text >>= λ n. done (line.Refused n.0.0) n.1
 
+-- a line that is a word and no more
+abbrev pub whole_line : WholeWord → AnswerLine
+whole_line whole_words.Quiet = line.Quiet
+whole_line whole_words.Wait = line.Wait
+whole_line whole_words.Blocked = line.Blocked
+whole_line whole_words.Idle = line.Idle
+
 abbrev pub answer_rest : AnswerWord → List ℕ → Reading AnswerLine
 answer_rest (answer_words.Event w) text = events_at w text
-answer_rest (answer_words.Whole l) text = done l text
+answer_rest (answer_words.Whole w) text = done (whole_line w) text
 answer_rest answer_words.Refused text = refused_at text
 answer_rest answer_words.End text = end_at text
 

@@ -34,8 +34,8 @@ impl AnswerReader {
     /// Takes the next piece, and puts the events of each line that ends in it at the end of the log.
     ///
     /// # Errors
-    /// `BadText` at the first byte with which no line of answers goes on: the log has the events of the lines before it.
-    /// `Memory` where memory was refused. After an error the reader is of no more use.
+    /// `BadText` at the first byte with which no line of answers goes on: the log has the events of the lines before
+    /// it. `Memory` where memory was refused. After an error the reader is of no more use.
     pub fn feed(&mut self, piece: &[u8], log: &mut Vec<Event>) -> Result<(), AnswersFault>
         ensures { (fed : List ℕ) (earlier : List Event) → HasRead self.old fed (earlier ++ log.old.items) → Takes self.new (fed ++ piece.now) (earlier ++ log.new.items) result }
     {

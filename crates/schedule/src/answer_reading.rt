@@ -93,7 +93,7 @@ fn front_answer(text: &[u8]) -> Result<(AnswerLine, &[u8]), &[u8]>
     let (word, rest) = answer_word(text)?;
     match word {
         AnswerWord::Event(word) => events(word, rest),
-        AnswerWord::Whole(line) => Ok((line, rest)),
+        AnswerWord::Whole(word) => Ok((word.line(), rest)),
         AnswerWord::Refused => refused(rest),
         AnswerWord::End => end(rest),
     }
@@ -113,8 +113,8 @@ fn note(line: AnswerLine, log: &mut Vec<Event>) -> Result<(), AnswersFault>
     Ok(())
 }
 
-/// Puts the events of the lines at the front of the text at the end of the log, and counts the lines: answers what comes
-/// after them, which goes on to a line or is empty.
+/// Puts the events of the lines at the front of the text at the end of the log, and counts the lines: answers what
+/// comes after them, which goes on to a line or is empty.
 pub fn front_answers<'a>(
     text: &'a [u8],
     line: &mut u64,

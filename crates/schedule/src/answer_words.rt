@@ -73,13 +73,43 @@ pub enum EventWord {
     Wait(WaitWord),
 }
 
+/// A line that is a word and no more, with its line feed.
+#[derive(Clone, Copy)]
+pub enum WholeWord {
+    /// A step without an event.
+    Quiet,
+    /// A step that is to be tried again.
+    Wait,
+    /// A step that needs a lock that is held.
+    Blocked,
+    /// A worker that found its queue empty.
+    Idle,
+}
+
+impl WholeWord {
+    ghost use Rattle.std.specs.Prelude.{◌≡◌};
+    ghost use Rattle.schedule.specs.AnswerGrammar.{whole_line};
+
+    /// The line.
+    pub fn line(self) -> AnswerLine
+        ensures { result ≡ whole_line self }
+    {
+        match self {
+            WholeWord::Quiet => AnswerLine::Quiet,
+            WholeWord::Wait => AnswerLine::Wait,
+            WholeWord::Blocked => AnswerLine::Blocked,
+            WholeWord::Idle => AnswerLine::Idle,
+        }
+    }
+}
+
 /// How a line of answers begins.
 #[derive(Clone, Copy)]
 pub enum AnswerWord {
     /// With an event, whose numbers come next.
     Event(EventWord),
-    /// As a whole line without numbers, with its line feed.
-    Whole(AnswerLine),
+    /// As a whole line.
+    Whole(WholeWord),
     /// A refusal: its number comes next.
     Refused,
     /// The end line: the first of its three counts comes next.
@@ -116,7 +146,7 @@ pub const EVENT_WORDS: [(&[u8], EventWord); 15] = [
 
 /// How a line of answers begins.
 pub const ANSWER_WORDS: [(&[u8], AnswerWord); 21] = [
-    (b".\n", AnswerWord::Whole(AnswerLine::Quiet)),
+    (b".\n", AnswerWord::Whole(WholeWord::Quiet)),
     (
         b"open r",
         AnswerWord::Event(EventWord::Section(SectionWord::Open)),
@@ -171,9 +201,9 @@ pub const ANSWER_WORDS: [(&[u8], AnswerWord); 21] = [
         b"clear b",
         AnswerWord::Event(EventWord::Wait(WaitWord::Clear)),
     ),
-    (b"wait\n", AnswerWord::Whole(AnswerLine::Wait)),
-    (b"blocked\n", AnswerWord::Whole(AnswerLine::Blocked)),
-    (b"idle\n", AnswerWord::Whole(AnswerLine::Idle)),
+    (b"wait\n", AnswerWord::Whole(WholeWord::Wait)),
+    (b"blocked\n", AnswerWord::Whole(WholeWord::Blocked)),
+    (b"idle\n", AnswerWord::Whole(WholeWord::Idle)),
     (b"refused E", AnswerWord::Refused),
     (b"end open=", AnswerWord::End),
 ];

@@ -18,8 +18,8 @@ pub fn each_text_prints_once()
     ensures once { (text printed other : List ℕ) (result another : Result Counts ReplayFault) → Prints text printed result → Prints text other another → (printed ≡ other) × (result ≡ another) }
 {}
 
-/// However a text is cut into pieces, what a new replay appends to an empty text, fed with the pieces and then finished,
-/// is what the joined pieces print, or a beginning of it where memory was refused.
+/// However a text is cut into pieces, what a new replay appends to an empty text, fed with the pieces and then
+/// finished, is what the joined pieces print, or a beginning of it where memory was refused.
 pub fn pieces_print_what_their_text_prints()
     ensures { (pieces : List (List ℕ)) (progress : Progress) (fed printed : List ℕ) (result : Result Counts ReplayFault) → AreFed (Header []) progress pieces [] fed → Finishes progress fed printed result → Ends (concat pieces) printed result }
 {}

@@ -67,9 +67,9 @@ fn close<W: Write>(alloc: Global, judging: &Judging, writer: &mut W) -> Result<V
     tell(alloc, verdict, events, writer)
 }
 
-/// Reads lines of answers to their end in pieces, judges the log that they tell as they come, and writes one line: whether
-/// it is a run of the abstract machine, or else the first event that breaks its rule. `BadText`, `Read` and `Memory` write
-/// nothing, and `Write` a beginning of that line. Nothing is read after a fault.
+/// Reads lines of answers to their end in pieces, judges the log that they tell as they come, and writes one line:
+/// whether it is a run of the abstract machine, or else the first event that breaks its rule. `BadText`, `Read` and
+/// `Memory` write nothing, and `Write` a beginning of that line. Nothing is read after a fault.
 pub fn check<R: Read, W: Write>(
     alloc: Global,
     reader: &mut R,
@@ -90,9 +90,9 @@ pub fn check<R: Read, W: Write>(
     Err(ReplayFault::Read)
 }
 
-/// Reads lines of answers as `check` does, up to the first wrong event: its verdict is written at once, and nothing more is
-/// read. So what follows that event in its piece, and after it, is not looked at. A text with no wrong event has the
-/// answers that it has of `check`.
+/// Reads lines of answers as `check` does, up to the first wrong event: its verdict is written at once, and nothing
+/// more is read. So what follows that event in its piece, and after it, is not looked at. A text with no wrong event
+/// has the answers that it has of `check`.
 pub fn follow<R: Read, W: Write>(
     alloc: Global,
     reader: &mut R,

@@ -33,8 +33,8 @@ pub struct Run {
 impl Run {
     ghost use Rattle.torture_run.specs.Limits.{is_run_within};
 
-    /// Whether there are from 1 to 64 readers, 16 updaters, 8 workers and 4,294,967,295 rounds, and from 1 to 86,400 seconds
-    /// where there are any.
+    /// Whether there are from 1 to 64 readers, 16 updaters, 8 workers and 4,294,967,295 rounds, and from 1 to 86,400
+    /// seconds where there are any.
     pub fn is_within_limits(&self) -> bool
         ensures { result ≡ is_run_within self.now }
     {

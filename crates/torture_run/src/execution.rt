@@ -52,8 +52,8 @@ fn run_threads<R: Threads + Wait + Clock + Sync, V: Watch + Sync, W: Write>(
     }
 }
 
-/// What the program ends with after a run: 1 where the counts are wrong, and 3 after a fault, which is told on `faults`,
-/// where a write error is passed over.
+/// What the program ends with after a run: 1 where the counts are wrong, and 3 after a fault, which is told on
+/// `faults`, where a write error is passed over.
 fn end<F: Write>(run: &Run, ended: Result<Counts, RunFault>, faults: &mut F) -> u8
     ensures status { result ≡ ended_with run.now ended }
     ensures silent { (result ≡ 0) ⊎ (result ≡ 1) → faults.new ≡ faults.old }
@@ -68,9 +68,9 @@ fn end<F: Write>(run: &Run, ended: Result<Counts, RunFault>, faults: &mut F) -> 
     }
 }
 
-/// Does what was asked for, from the reader to the writer; a run reads nothing, and `watch` hears how far it is. A fault is told on `faults`, where a
-/// write error is passed over. Answers what the program ends with: 0 good, 1 a log that is no run or wrong counts, 2 bad
-/// input, 3 a fault of reading, writing or memory.
+/// Does what was asked for, from the reader to the writer; a run reads nothing, and `watch` hears how far it is. A
+/// fault is told on `faults`, where a write error is passed over. Answers what the program ends with: 0 good, 1 a log
+/// that is no run or wrong counts, 2 bad input, 3 a fault of reading, writing or memory.
 pub fn execute<R: Threads + Wait + Clock + Sync, V: Watch + Sync, I: Read, W: Write, F: Write>(
     rt: &R,
     alloc: Global,

@@ -55,10 +55,10 @@ pub fn quiescent_words_answer_alike()
     ensures { (config : Config) (seq : ℕ) (layout : Layout) (lines : List Line) → config.flavour ≡ Qsbr → answers_to (fresh_world_at (laid_out layout config) seq) lines ≡ answers_to (fresh_world_at config seq) lines }
 {}
 
-/// For every config and first sequence number that make a world, and all lines: a retirement begins where the lock of the
-/// updater's queue is free, which the updater holds from then on. Its further lines store the object's header and tell
-/// the retirement, raise the queued count, push the item and tell the queueing, and free the lock, one each, in this
-/// order, and touch nothing else of the objects and of the queue.
+/// For every config and first sequence number that make a world, and all lines: a retirement begins where the lock of
+/// the updater's queue is free, which the updater holds from then on. Its further lines store the object's header and
+/// tell the retirement, raise the queued count, push the item and tell the queueing, and free the lock, one each, in
+/// this order, and touch nothing else of the objects and of the queue.
 pub fn retirements_go_in_order()
     ensures { (config : Config) (seq : ℕ) (lines : List Line) (updater : ℕ) → IsTrue (is_supported_at config seq) → RetirementsGoInOrder (world_after_lines (fresh_world_at config seq) lines) updater }
 {

@@ -42,8 +42,9 @@ pub(crate) fn board_gives_numbers_in_order<P: WorldPlan>()
 
 /// For every config and first sequence number that make a world, and all lines: in the events of the answers the
 /// sections of each reader, the asks and the barriers are numbered 1, 2, 3, .. in the order in which they begin. The
-/// objects that came in, together with those that updaters have made and are yet to bring in, have the numbers from 1 to
-/// `World::objects_given`, each once; an object has its number when it is made, so another one may come in before it.
+/// objects that came in, together with those that updaters have made and are yet to bring in, have the numbers from 1
+/// to `World::objects_given`, each once; an object has its number when it is made, so another one may come in before
+/// it.
 pub fn numbers_are_given_in_order()
     ensures counted { (config : Config) (seq : ℕ) (lines : List Line) → IsTrue (is_supported_at config seq) → IsCounted (answered_events (fresh_world_at config seq) lines) }
     ensures objects { (config : Config) (seq : ℕ) (lines : List Line) → IsTrue (is_supported_at config seq) → ObjectsAreGivenOnce (world_after_lines (fresh_world_at config seq) lines) }

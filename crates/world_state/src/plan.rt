@@ -32,7 +32,8 @@ pub trait WorldPlan: GracePlan + Copy {
     /// So it loads none.
     ghost loads_no_group: { (layout : Layout) (slots seq word : ℕ) (plan : Self) → Self.is_begun layout false slots seq word plan → (loads : List ℕ) (group : ℕ) → Self.action (after_loads Self.taken plan loads) ≢ LoadGroup group };
 
-    /// Over R slots, it is finished exactly when 2R + 4 of its turns were steps, or R + 3 in the quiescent-state flavour.
+    /// Over R slots, it is finished exactly when 2R + 4 of its turns were steps, or R + 3 in the quiescent-state
+    /// flavour.
     ghost finishes: { (layout : Layout) (slots seq word : ℕ) → FinishesAfter Self.action Self.turn Self.taken each_turn (made layout slots seq word) (turn_count Self.QSBR slots) };
 }
 
