@@ -1,5 +1,5 @@
-/* What the benchmark holds the live library against: liburcu's flavours where they are installed, pthread_rwlock, and the
-   bare steps of a section and of a grace period. Built by bench/live. Usage: peers PEER KIND COUNT THREADS. */
+/* What the benchmark holds the live library against: liburcu's flavours where they are installed, pthread_rwlock, and
+   the bare steps of a section and of a grace period. Built by bench/live. Usage: peers PEER KIND COUNT THREADS. */
 
 #define _GNU_SOURCE
 #include <pthread.h>
@@ -365,7 +365,7 @@ RECLAIM(mb)
 RECLAIM(memb)
 RECLAIM(qsbr)
 
-/* A list of nodes of four words: a step along 1,000 of them, one that is put in front, and one that is taken out too. */
+/* A list of nodes of four words: a step along 1,000 of them, one put in front, and one that is taken out too. */
 struct item {
 	struct cds_list_head link;
 	unsigned long words[4];

@@ -1,12 +1,13 @@
-//! Hash tables, whose making, whose growth and whose calls that retire may be refused memory: then as many records and
-//! chains are in use as before, the callback comes back, and the call may be made again.
+//! Hash tables, whose making, whose growth and whose calls that retire may be refused memory: then each key has the
+//! value that it had, as many records and chains are in use as before, the callback comes back, and the call may be
+//! made again.
 
 ghost use Rattle.std.specs.Prelude.{◌≡◌};
 
 use crate::domains::open;
 use crate::ledger::{Call, Finding, Ledger};
 use crate::retiring::Says;
-use domain::{Domain, Opened, Record, Site, Ticket};
+use domain::{Counts, Domain, Opened, Reader, Record, Site, Ticket};
 use gp_memb::{GracePlan, MembPlan};
 use gp_qsbr::QsbrPlan;
 use live_words::Tabled;
@@ -15,6 +16,9 @@ use rcu_model::Refusal;
 use std::alloc::Global;
 use std::marker::Brand;
 use std::sync::Wait;
+
+/// What a growth of two keys leaves: their records, and a directory.
+const LEFT: usize = 3;
 
 /// A table of two buckets, made again where memory was refused: its chains are free then.
 fn tabled<'d, P: GracePlan + Drop, B: Site, R: Wait>(
@@ -40,27 +44,56 @@ fn tabled<'d, P: GracePlan + Drop, B: Site, R: Wait>(
     }
 }
 
+/// What a refused call may not change: how full the domain is, and what a section finds of the keys 7, 8 and 9.
+fn seen<P: GracePlan + Drop, B: Site>(
+    domain: &Domain<P, Tabled, B, Says>,
+    table: &RcuHash<'_, P, B, Says>,
+    reader: &mut Reader<P, Tabled, B>,
+    record: &mut Record<B>,
+) -> Result<(Counts, [Option<u64>; 3]), Refusal>
+    requires { P.QSBR ≡ B.qsbr }
+{
+    if P::QSBR {
+        reader.online()?;
+    }
+    let mut section = reader.section()?;
+    let values = [
+        table.get(&mut section, 7),
+        table.get(&mut section, 8),
+        table.get(&mut section, 9),
+    ];
+    section.close();
+    if P::QSBR {
+        reader.offline()?;
+    }
+    Ok((domain.counts(record), values))
+}
+
 /// The ticket of a value that is replaced, again where memory was refused.
 fn replace<P: GracePlan + Drop, B: Site, R: Wait>(
     rt: &R,
     domain: &Domain<P, Tabled, B, Says>,
     table: &RcuHash<'_, P, B, Says>,
+    reader: &mut Reader<P, Tabled, B>,
     record: &mut Record<B>,
     ledger: &mut Ledger,
-) -> Result<Ticket, Finding> {
-    let before = domain.counts(record);
+) -> Result<Ticket, Finding>
+    requires { P.QSBR ≡ B.qsbr }
+{
+    let wrong = Finding::Wrong(Call::TableReplace);
+    let before = seen(domain, table, reader, record).map_err(|_| wrong)?;
     match table.replace(rt, record, 7, 71, Says(1)) {
         Ok(ticket) => Ok(ticket),
         Err((Refusal::Memory, callback)) => {
             ledger.note(Call::TableReplace);
-            if domain.counts(record) != before {
+            if seen(domain, table, reader, record).map_err(|_| wrong)? != before {
                 return Err(Finding::Changed(Call::TableReplace));
             }
             table
                 .replace(rt, record, 7, 71, callback)
                 .map_err(|_| Finding::RefusedAgain(Call::TableReplace))
         }
-        Err(_) => Err(Finding::Wrong(Call::TableReplace)),
+        Err(_) => Err(wrong),
     }
 }
 
@@ -69,22 +102,26 @@ fn remove<P: GracePlan + Drop, B: Site, R: Wait>(
     rt: &R,
     domain: &Domain<P, Tabled, B, Says>,
     table: &RcuHash<'_, P, B, Says>,
+    reader: &mut Reader<P, Tabled, B>,
     record: &mut Record<B>,
     ledger: &mut Ledger,
-) -> Result<Ticket, Finding> {
-    let before = domain.counts(record);
+) -> Result<Ticket, Finding>
+    requires { P.QSBR ≡ B.qsbr }
+{
+    let wrong = Finding::Wrong(Call::TableRemove);
+    let before = seen(domain, table, reader, record).map_err(|_| wrong)?;
     match table.remove(rt, record, 8, Says(2)) {
         Ok(ticket) => Ok(ticket),
         Err((Refusal::Memory, callback)) => {
             ledger.note(Call::TableRemove);
-            if domain.counts(record) != before {
+            if seen(domain, table, reader, record).map_err(|_| wrong)? != before {
                 return Err(Finding::Changed(Call::TableRemove));
             }
             table
                 .remove(rt, record, 8, callback)
                 .map_err(|_| Finding::RefusedAgain(Call::TableRemove))
         }
-        Err(_) => Err(Finding::Wrong(Call::TableRemove)),
+        Err(_) => Err(wrong),
     }
 }
 
@@ -94,41 +131,45 @@ fn grow<P: GracePlan + Drop, B: Site, R: Wait>(
     alloc: Global,
     domain: &Domain<P, Tabled, B, Says>,
     table: &RcuHash<'_, P, B, Says>,
+    reader: &mut Reader<P, Tabled, B>,
     record: &mut Record<B>,
     ledger: &mut Ledger,
-) -> Result<usize, Finding> {
-    let before = domain.counts(record);
+) -> Result<usize, Finding>
+    requires { P.QSBR ≡ B.qsbr }
+{
+    let wrong = Finding::Wrong(Call::TableGrow);
+    let before = seen(domain, table, reader, record).map_err(|_| wrong)?;
     match table.grow(rt, alloc, record, 3, 2) {
         Ok(left) => Ok(left),
         Err(Refusal::Memory) => {
             ledger.note(Call::TableGrow);
-            if domain.counts(record) != before {
+            if seen(domain, table, reader, record).map_err(|_| wrong)? != before {
                 return Err(Finding::Changed(Call::TableGrow));
             }
             table
                 .grow(rt, alloc, record, 3, 2)
                 .map_err(|_| Finding::RefusedAgain(Call::TableGrow))
         }
-        Err(_) => Err(Finding::Wrong(Call::TableGrow)),
+        Err(_) => Err(wrong),
     }
 }
 
-/// Two callbacks, unless memory is refused.
-fn two(alloc: Global) -> Option<Vec<Says>> {
+/// A callback for each of what is left, unless memory is refused.
+fn for_each_left(alloc: Global) -> Option<Vec<Says>> {
     let mut jobs = Vec::new(alloc);
-    if jobs.push(Says(3)).is_err() || jobs.push(Says(4)).is_err() {
-        return None;
+    for _ in 0..LEFT {
+        jobs.push(Says(3)).ok()?;
     }
     Some(jobs)
 }
 
-/// Two callbacks, made again where memory was refused.
+/// The same, made again where memory was refused.
 fn callbacks(alloc: Global, ledger: &mut Ledger) -> Result<Vec<Says>, Finding> {
-    match two(alloc) {
+    match for_each_left(alloc) {
         Some(jobs) => Ok(jobs),
         None => {
             ledger.note(Call::Own);
-            two(alloc).ok_or(Finding::RefusedAgain(Call::Own))
+            for_each_left(alloc).ok_or(Finding::RefusedAgain(Call::Own))
         }
     }
 }
@@ -143,10 +184,10 @@ fn tidy<P: GracePlan + Drop, B: Site, R: Wait>(
 ) -> Result<bool, Finding> {
     let end = table.tidy(rt, record, jobs);
     match end.stop {
-        None => Ok(end.retired == 2 && end.left == 0 && end.jobs.is_empty()),
+        None => Ok(end.retired == LEFT && end.left == 0 && end.jobs.is_empty()),
         Some(Refusal::Memory) => {
             ledger.note(Call::TableTidy);
-            if end.retired.wrapping_add(end.left) != 2 || end.jobs.len() != end.left {
+            if end.retired.wrapping_add(end.left) != LEFT || end.jobs.len() != end.left {
                 return Err(Finding::Changed(Call::TableTidy));
             }
             let again = table.tidy(rt, record, end.jobs);
@@ -156,26 +197,8 @@ fn tidy<P: GracePlan + Drop, B: Site, R: Wait>(
     }
 }
 
-/// The value that a table has for a key, as a new reader looks it up.
-fn look<P: GracePlan + Drop, B: Site, R: Wait>(
-    rt: &R,
-    domain: &Domain<P, Tabled, B, Says>,
-    table: &RcuHash<'_, P, B, Says>,
-    record: &mut Record<B>,
-    key: u64,
-) -> Result<Option<u64>, Refusal>
-    requires { P.QSBR ≡ B.qsbr }
-{
-    let mut reader = domain.register(rt, record)?;
-    if P::QSBR {
-        reader.online()?;
-    }
-    let mut section = reader.section()?;
-    Ok(table.get(&mut section, key))
-}
-
 /// Whether a replaced value and a removed key of a new table have the first tickets of their queues, the table grows
-/// and is tidied, and a lookup finds what was replaced.
+/// and is tidied, and lookups find what was replaced and not what was removed.
 fn serves<P: GracePlan + Drop, B: Site, R: Wait>(
     rt: &R,
     alloc: Global,
@@ -189,13 +212,15 @@ fn serves<P: GracePlan + Drop, B: Site, R: Wait>(
     let wrong = Finding::Wrong(Call::NewTable);
     table.insert(rt, record, 7, 70).map_err(|_| wrong)?;
     table.insert(rt, record, 8, 80).map_err(|_| wrong)?;
-    let replaced = replace(rt, domain, &table, record, ledger)?;
-    let removed = remove(rt, domain, &table, record, ledger)?;
-    let left = grow(rt, alloc, domain, &table, record, ledger)?;
+    let mut reader = domain.register(rt, record).map_err(|_| wrong)?;
+    let replaced = replace(rt, domain, &table, &mut reader, record, ledger)?;
+    let removed = remove(rt, domain, &table, &mut reader, record, ledger)?;
+    table.insert(rt, record, 9, 90).map_err(|_| wrong)?;
+    let left = grow(rt, alloc, domain, &table, &mut reader, record, ledger)?;
     let tidied = tidy(rt, &table, record, callbacks(alloc, ledger)?, ledger)?;
-    let found = look(rt, domain, &table, record, 7);
-    let good = replaced.0 == 1 && removed.0 == 1 && left == 2 && tidied;
-    Ok(good && matches!(found, Ok(Some(71))))
+    let (_, values) = seen(domain, &table, &mut reader, record).map_err(|_| wrong)?;
+    let good = replaced.0 == 1 && removed.0 == 1 && left == LEFT && tidied;
+    Ok(good && values == [Some(71), None, Some(90)])
 }
 
 /// Names a domain. Whether its table serves; `None` where naming was refused memory.

@@ -167,19 +167,20 @@ fn a_tidying_stops_where_the_queue_is_closed(rt: HostRuntime) {
     assert_eq!(rt; did, answers);
 }
 
-/// With one record too few: growths that are refused for their chains, for a chain that has a writer, and for a record;
-/// then the table is as it was, and so is the pool.
+/// With one record too few: growths that are refused for their chains, the directory's among them, for a chain that has
+/// a writer, and for a record; then the table is as it was, and so is the pool.
 fn refusals<P: GracePlan + Drop, B: Site, R: Wait>(
     rt: &R,
     alloc: Global,
     domain: &Domain<P, Tabled, B, Adds>,
     record: &mut Record<B>,
-) -> Result<([bool; 6], Option<u64>), Refusal>
+) -> Result<([bool; 7], Option<u64>), Refusal>
     requires { P.QSBR ≡ B.qsbr }
 {
     let mut reader = domain.register(rt, record)?;
     let table = tabled(rt, alloc, domain, record)?;
     let own = matches!(table.grow(rt, alloc, record, 2, 2), Err(Refusal::BadConfig));
+    let directory = matches!(table.grow(rt, alloc, record, 0, 1), Err(Refusal::BadConfig));
     let none = matches!(table.grow(rt, alloc, record, 3, 0), Err(Refusal::BadConfig));
     let past = matches!(table.grow(rt, alloc, record, 5, 3), Err(Refusal::BadConfig));
     let writer = domain.chain(record, 6)?;
@@ -190,7 +191,7 @@ fn refusals<P: GracePlan + Drop, B: Site, R: Wait>(
     let same = domain.counts(record).records == before;
     table.insert(rt, record, 4, 40)?;
     let found = look(&mut reader, table.view(), 3)?;
-    Ok(([own, none, past, held, full, same], found))
+    Ok(([own, directory, none, past, held, full, same], found))
 }
 
 /// The same, in a domain of its own.
@@ -198,7 +199,7 @@ fn refusals_in<P: GracePlan + Drop, B: Site, R: Wait>(
     rt: &R,
     alloc: Global,
     opened: Opened<P, Tabled>,
-) -> Result<([bool; 6], Option<u64>), Refusal>
+) -> Result<([bool; 7], Option<u64>), Refusal>
     requires { (P.QSBR ≡ B.qsbr) × (opened.table.words.shared.table_id ≡ B.table) × (opened.table.words.shared.key ≡ B.sizes) }
 {
     let (domain, mut record) = opened.named::<B, Adds>(alloc)?;
@@ -207,7 +208,7 @@ fn refusals_in<P: GracePlan + Drop, B: Site, R: Wait>(
 
 #[test]
 fn refused_growths_leave_all_as_it_was(rt: HostRuntime) {
-    let answers = ([true; 6], Some(30));
+    let answers = ([true; 7], Some(30));
     let general = Opened::<MembPlan, Tabled>::new(rt.alloc(), of_pool(7)).expect(&rt, "memory");
     let did = refusals_in::<_, Brand, _>(&rt, rt.alloc(), general).expect(&rt, "not refused");
     assert_eq!(rt; did, answers);

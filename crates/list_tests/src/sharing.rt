@@ -39,7 +39,7 @@ fn fills<P: GracePlan + Drop, B: Site, R: Wait>(
 
 /// What two threads tell one another.
 #[derive(Drop)]
-struct Begun {
+struct Signals {
     /// A section is open.
     open: AtomicBool,
     /// A tidying begins.
@@ -52,7 +52,7 @@ fn writes_in_a_section<P: GracePlan + Drop, B: Site, R: Wait>(
     table: &RcuHash<'_, P, B, Adds>,
     idle: Idle<P, Tabled, B>,
     record: Record<B>,
-    told: &Begun,
+    told: &Signals,
 ) -> Result<(), Refusal>
     requires { P.QSBR ≡ B.qsbr }
 {
@@ -79,7 +79,7 @@ fn tidies<P: GracePlan + Drop, B: Site, R: Wait>(
     table: &RcuHash<'_, P, B, Adds>,
     record: Record<B>,
     left: usize,
-    told: &Begun,
+    told: &Signals,
 ) -> Result<usize, Refusal> {
     let mut record = record;
     let jobs = callbacks(alloc, left)?;
@@ -100,11 +100,11 @@ fn three_work<P: GracePlan + Drop + Send + Sync, B: Site + Send + Sync, R: Threa
     requires { P.QSBR ≡ B.qsbr }
 {
     let (one, two, three) = records;
-    let both = Begun {
+    let signals = Signals {
         open: AtomicBool::new(false),
         begun: AtomicBool::new(false),
     };
-    let told = &both;
+    let told = &signals;
     let (wrote, (more, retired)) = join(
         rt,
         move ||
@@ -128,8 +128,8 @@ fn three_work<P: GracePlan + Drop + Send + Sync, B: Site + Send + Sync, R: Threa
     retired
 }
 
-/// A table grows, and is then shared by the three. What they did, and what a section finds of the first, of the last
-/// key in the end.
+/// A table grows, and is then shared by the three. What they did, and what a section finds in the end of the first key,
+/// and of the last one of each writer.
 fn shares<P: GracePlan + Drop + Send + Sync, B: Site + Send + Sync, R: Threads + Wait + Sync>(
     rt: &R,
     alloc: Global,

@@ -70,13 +70,14 @@ fn refuses<P: GracePlan + Drop, B: Site, R: Wait>(
 }
 
 /// Two keys of one bucket are inserted, and one of them inserted again, replaced and removed, and another one removed
-/// that is not there; lookups beside. The pool has as many records as these calls take.
+/// that is not there; lookups beside, and a second table over the same chains. The pool has as many records as these
+/// calls take.
 fn calls<P: GracePlan + Drop, B: Site, R: Wait>(
     rt: &R,
     alloc: Global,
     domain: &Domain<P, Tabled, B, Adds>,
     record: &mut Record<B>,
-) -> Result<([bool; 6], [Option<u64>; 4]), Refusal>
+) -> Result<([bool; 7], [Option<u64>; 4]), Refusal>
     requires { P.QSBR ≡ B.qsbr }
 {
     let mut reader = registered(rt, domain, record)?;
@@ -91,6 +92,7 @@ fn calls<P: GracePlan + Drop, B: Site, R: Wait>(
     let removed = table.remove(rt, record, 3, Adds(2));
     let gone = look(&mut reader, &table, 3)?;
     let kept = look(&mut reader, &table, 7)?;
+    let second = refuses(rt, alloc, domain, record, (4, 0, 1));
     Ok((
         [
             inserted.is_ok(),
@@ -99,6 +101,7 @@ fn calls<P: GracePlan + Drop, B: Site, R: Wait>(
             matches!(replaced, Ok(Ticket(1))),
             matches!(missing, Err((Refusal::Missing, Adds(5)))),
             matches!(removed, Ok(Ticket(2))),
+            second,
         ],
         [empty, found, gone, kept],
     ))
@@ -109,7 +112,7 @@ fn calls_in<P: GracePlan + Drop, B: Site, R: Wait>(
     rt: &R,
     alloc: Global,
     opened: Opened<P, Tabled>,
-) -> Result<([bool; 6], [Option<u64>; 4]), Refusal>
+) -> Result<([bool; 7], [Option<u64>; 4]), Refusal>
     requires { (P.QSBR ≡ B.qsbr) × (opened.table.words.shared.table_id ≡ B.table) × (opened.table.words.shared.key ≡ B.sizes) }
 {
     let (domain, mut record) = opened.named::<B, Adds>(alloc)?;
@@ -118,7 +121,7 @@ fn calls_in<P: GracePlan + Drop, B: Site, R: Wait>(
 
 #[test]
 fn tables_answer_by_the_map(rt: HostRuntime) {
-    let answers = ([true; 6], [None, Some(32), None, Some(70)]);
+    let answers = ([true; 7], [None, Some(32), None, Some(70)]);
     let general = Opened::<MembPlan, Tabled>::new(rt.alloc(), of_sizes(5, 4)).expect(&rt, "memory");
     let did = calls_in::<_, Brand, _>(&rt, rt.alloc(), general).expect(&rt, "not refused");
     assert_eq!(rt; did, answers);
@@ -198,13 +201,14 @@ fn tables_begin_over_free_chains(rt: HostRuntime) {
 }
 
 /// With a pool of three, of which the directory has one: where no record is left, and where the queues are closed, the
-/// callback comes back, the map is as it was, and so is the pool.
+/// callback comes back, the map is as it was, and so is the pool. A table for which no record is left gives its chains
+/// back.
 fn refusals<P: GracePlan + Drop, B: Site, R: Wait>(
     rt: &R,
     alloc: Global,
     domain: &Domain<P, Tabled, B, Adds>,
     record: &mut Record<B>,
-) -> Result<([bool; 6], [Option<u64>; 2]), Refusal>
+) -> Result<([bool; 8], [Option<u64>; 2]), Refusal>
     requires { P.QSBR ≡ B.qsbr }
 {
     let mut reader = registered(rt, domain, record)?;
@@ -217,6 +221,7 @@ fn refusals<P: GracePlan + Drop, B: Site, R: Wait>(
     let last = table.insert(rt, record, 4, 40);
     let full = table.insert(rt, record, 5, 50);
     let no_room = table.replace(rt, record, 4, 41, Adds(7));
+    let no_table = RcuHash::new(rt, alloc, domain, record, 3, 4, 1);
     let third = look(&mut reader, &table, 3)?;
     let fourth = look(&mut reader, &table, 4)?;
     Ok((
@@ -227,6 +232,8 @@ fn refusals<P: GracePlan + Drop, B: Site, R: Wait>(
             last.is_ok(),
             matches!(full, Err(Refusal::PoolFull)),
             matches!(no_room, Err((Refusal::PoolFull, Adds(7)))),
+            matches!(no_table, Err(Refusal::PoolFull)),
+            domain.chain(record, 3).is_ok() && domain.chain(record, 4).is_ok(),
         ],
         [third, fourth],
     ))
@@ -237,7 +244,7 @@ fn refusals_in<P: GracePlan + Drop, B: Site, R: Wait>(
     rt: &R,
     alloc: Global,
     opened: Opened<P, Tabled>,
-) -> Result<([bool; 6], [Option<u64>; 2]), Refusal>
+) -> Result<([bool; 8], [Option<u64>; 2]), Refusal>
     requires { (P.QSBR ≡ B.qsbr) × (opened.table.words.shared.table_id ≡ B.table) × (opened.table.words.shared.key ≡ B.sizes) }
 {
     let (domain, mut record) = opened.named::<B, Adds>(alloc)?;
@@ -246,11 +253,11 @@ fn refusals_in<P: GracePlan + Drop, B: Site, R: Wait>(
 
 #[test]
 fn refused_calls_of_tables_give_all_back(rt: HostRuntime) {
-    let answers = ([true; 6], [Some(30), Some(40)]);
-    let general = Opened::<MembPlan, Tabled>::new(rt.alloc(), of_sizes(4, 3)).expect(&rt, "memory");
+    let answers = ([true; 8], [Some(30), Some(40)]);
+    let general = Opened::<MembPlan, Tabled>::new(rt.alloc(), of_sizes(5, 3)).expect(&rt, "memory");
     let did = refusals_in::<_, Brand, _>(&rt, rt.alloc(), general).expect(&rt, "not refused");
     assert_eq!(rt; did, answers);
-    let quiescent = Opened::<QsbrPlan, Tabled>::new(rt.alloc(), of_sizes(4, 3)).expect(
+    let quiescent = Opened::<QsbrPlan, Tabled>::new(rt.alloc(), of_sizes(5, 3)).expect(
         &rt, "memory",
     );
     let did = refusals_in::<_, Brand, _>(&rt, rt.alloc(), quiescent).expect(&rt, "not refused");

@@ -90,17 +90,19 @@ fn lookups_by_two<P: GracePlan + Send + Sync, B: Site + Send + Sync, R: Threads 
     Ok(first?.min(second?))
 }
 
-/// Sections that go through a table of 1,024 keys, until so many entries were met. Answers how many.
+/// Sections that go through a table of so many keys, as many as it takes to meet so many entries. Answers how many they
+/// met.
 fn walks_through<P: GracePlan, B: Site>(
     reader: &mut Reader<P, Tabled, B>,
     view: TableView<B>,
+    keys: u64,
     count: u64,
 ) -> Result<u64, Refusal>
     requires { P.QSBR ≡ B.qsbr }
 {
     begin(reader)?;
     let mut met = 0u64;
-    for _ in 0..count.div_ceil(1_024) {
+    for _ in 0..count.div_ceil(keys.max(1)) {
         let mut visit = |key: u64, value: u64| {
             if key == value {
                 met = met.wrapping_add(1);
@@ -189,7 +191,7 @@ pub(crate) fn tabled<
         }
         TableOperation::Through => {
             let mut reader = domain.register(rt, &mut record)?;
-            walks_through(&mut reader, view, count)
+            walks_through(&mut reader, view, operation.keys(), count)
         }
         TableOperation::Insert => insertions(rt, &table, &mut record, count),
         TableOperation::Remove => removals(rt, &table, &mut record, count),

@@ -1,9 +1,8 @@
 -- One turn of the loops over a word and over a table of words.
-use Rattle.std.proofs.Common.{◌≡◌, ℕ, zero, suc, ◌+◌, ◌<◌, ◌==◌, List, [], ◌∷◌, length, get_or, drop, map, Result, Err, Bool, true, false, cond, not, nat_lt, ◌≤◌, refl, sym, ap, ◌∙◌, true≢false, arith, add-one}
+use Rattle.std.proofs.Common.{◌≡◌, ℕ, zero, suc, ◌+◌, ◌<◌, List, [], ◌∷◌, length, get_or, drop, map, Result, Err, refl, arith, add-one}
 use Rattle.std.specs.Borrow.{Bor}
-use Rattle.std.proofs.lemmas.Bool.{le-ltb, ltb-true}
 use Rattle.std.proofs.lemmas.List.{drop_more}
-use Rattle.schedule.specs.Reading.{word_from, word_on, further, or_else, differ_at_once, value_row}
+use Rattle.schedule.specs.Reading.{word_from, word_on, further, or_else, value_row}
 
 pub word_ends : (word : List ℕ) (i : ℕ) (rest : List ℕ) → i < length word → length rest < 1 → word_from (drop i word) rest ≡ Err rest
 unfolding word_from
@@ -19,29 +18,3 @@ pub turn : {K : Type 0} (table : List (Bor (List ℕ) × K)) (i : ℕ) (row : Bo
     → word_on bad (drop i (map value_row table)) text ≡ or_else r row.1 (λ rest. word_on (further bad rest) (drop (i + 1) (map value_row table)) text)
 unfolding word_on
 turn table i row bad text r lt e found = rw (rows_at table i row lt e, found) refl
-
-differs : (word text : List ℕ) → differ_at_once word text ≡ true → word_from word text ≡ Err text
-unfolding word_from
-differs [] text d = absurd (true≢false (sym d))
-differs (w ∷ ws) [] d = absurd (true≢false (sym d))
-differs (w ∷ ws) (b ∷ bs) d = by (w == b) d
-  where
-    by : (t : Bool) → not t ≡ true → cond t (word_from ws bs) (Err (b ∷ bs)) ≡ Err (b ∷ bs)
-    by true e = absurd (true≢false (sym e))
-    by false e = refl
-
-stays : (bad text : List ℕ) → length bad ≤ length text → further bad text ≡ bad
-stays bad text within = rw (le-ltb (length text) (length bad) within) refl
-
-pub further_within : (bad rest text : List ℕ) → length bad ≤ length text → length (further bad rest) ≤ length text
-further_within bad rest text within = by (nat_lt (length rest) (length bad)) refl
-  where
-    by : (t : Bool) → nat_lt (length rest) (length bad) ≡ t → length (cond t rest bad) ≤ length text
-    by true e = let l = ltb-true (length rest) (length bad) e in omega (arith, l, within)
-    by false e = within
-
--- a word that differs from the text at once is passed over
-pub passed : {K : Type 0} (table : List (Bor (List ℕ) × K)) (i : ℕ) (row : Bor (List ℕ) × K) (bad text : List ℕ) → i < length table → row ≡ get_or table i row → differ_at_once row.0.now text ≡ true → length bad ≤ length text
-    → word_on bad (drop i (map value_row table)) text ≡ word_on bad (drop (i + 1) (map value_row table)) text
-passed table i row bad text lt e d within =
-    turn table i row bad text (Err text) lt e (differs row.0.now text d) ∙ ap (λ b. word_on b (drop (i + 1) (map value_row table)) text) (stays bad text within)

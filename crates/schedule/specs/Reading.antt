@@ -1,5 +1,5 @@
 -- Reading from left to right: a value and the bytes after it, or the bytes from the first bad one on.
-use Rattle.std.specs.Prelude.{◌≡◌, ℕ, ◌+◌, ◌-◌, ◌*◌, List, [], ◌∷◌, length, Result, Ok, Err, nat_lt, Bool, false, not, ◌==◌, ◌&&◌, ◌||◌, if◌then◌else◌}
+use Rattle.std.specs.Prelude.{◌≡◌, ℕ, ◌+◌, ◌-◌, ◌*◌, List, [], ◌∷◌, length, Result, Ok, Err, nat_lt, Bool, ◌==◌, ◌&&◌, ◌||◌, if◌then◌else◌}
 use Rattle.std.specs.Borrow.{Bor}
 use Rattle.std.specs.Char.{is_ascii_digit}
 
@@ -17,12 +17,6 @@ unfoldable pub word_from : List ℕ → List ℕ → Result (List ℕ) (List ℕ
 word_from [] text = Ok text
 word_from (w ∷ ws) [] = Err []
 word_from (w ∷ ws) (b ∷ bs) = if w == b then word_from ws bs else Err (b ∷ bs)
-
--- the word and the text begin with different bytes
-abbrev pub differ_at_once : List ℕ → List ℕ → Bool
-differ_at_once [] text = false
-differ_at_once (w ∷ ws) [] = false
-differ_at_once (w ∷ ws) (b ∷ bs) = not (w == b)
 
 -- the one that leaves less
 abbrev pub further : List ℕ → List ℕ → List ℕ

@@ -73,7 +73,8 @@ pub enum EventWord {
     Wait(WaitWord),
 }
 
-/// A line that is a word and no more, with its line feed.
+/// A line that is a word and no more, with its line feed. The table of words keeps this small name of the line, not the
+/// line itself, which has room for two events.
 #[derive(Clone, Copy)]
 pub enum WholeWord {
     /// A step without an event.

@@ -2,7 +2,7 @@
 //! Each reads at the front of the text, and gives the bytes after it, or the bytes from the first bad one on.
 
 ghost use Rattle.std.specs.Prelude.{◌≡◌, ◌<◌, ◌≤◌, ◌*◌, map, IfOk};
-ghost use Rattle.schedule.specs.Reading.{Gives, GivesRest, further, differ_at_once, word_at, word_from, ended_number_at, number_at, value_row};
+ghost use Rattle.schedule.specs.Reading.{Gives, GivesRest, further, word_at, word_from, ended_number_at, number_at, value_row};
 
 /// What comes after the word.
 #[tactic(auto, unfolding(crate::specs::Reading::word_from))]
@@ -29,16 +29,6 @@ fn further<'a>(bad: &'a [u8], rest: &'a [u8]) -> &'a [u8]
     if rest.len() < bad.len() { rest } else { bad }
 }
 
-/// Whether the word and the text begin with different bytes.
-fn differ_at_once(word: &[u8], text: &[u8]) -> bool
-    ensures { result ≡ differ_at_once word.now text.now }
-{
-    match (word, text) {
-        ([first, ..], [byte, ..]) => first != byte,
-        _ => false,
-    }
-}
-
 /// What the word at the front of the text stands for, in a table of words of which none begins another.
 #[tactic(auto, unfolding(crate::specs::Reading::word_on))]
 pub fn word<'a, K: Copy>(table: &[(&[u8], K)], text: &'a [u8]) -> Result<(K, &'a [u8]), &'a [u8]>
@@ -46,10 +36,6 @@ pub fn word<'a, K: Copy>(table: &[(&[u8], K)], text: &'a [u8]) -> Result<(K, &'a
 {
     let mut bad = text;
     for (word, value) in table {
-        // So most words are passed over, and the best end so far stays.
-        if differ_at_once(word, text) {
-            continue;
-        }
         match after_word(word, text) {
             Ok(rest) => return Ok((*value, rest)),
             Err(rest) => bad = further(bad, rest),

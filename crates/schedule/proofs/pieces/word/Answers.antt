@@ -1,19 +1,11 @@
 use Rattle.std.proofs.Common.{◌∙◌, sym, Ok, Err}
-use Rattle.schedule.proofs.Steps.{turn, passed, further_within}
+use Rattle.schedule.proofs.Steps.{turn}
 use Rattle.schedule.proofs.pieces.word.Goals as goal
 
 pub returns-in-Ok : goal.returns-in-Ok
 returns-in-Ok g c =
-    sym c.loop-word.invariant.same ∙ turn c.args.table.now c.loop-word.word-index c.loop-word-item.result c.loop-word.bad.now c.args.text.now (Ok c.in-Ok.rest.now) c.loop-word-test.true c.loop-word-item.is c.in-Ok.ensures
-
-pub loop-word-preserved-then-differ_at_once : goal.loop-word-preserved-then-differ_at_once
-loop-word-preserved-then-differ_at_once g c = record {
-  same = sym (passed c.args.table.now c.loop-word.word-index c.loop-word-item.result c.loop-word.bad.now c.args.text.now c.loop-word-test.true c.loop-word-item.is (sym c.differ_at_once.ensures ∙ c.if-differ_at_once.true) c.loop-word.invariant.within) ∙ c.loop-word.invariant.same;
-  within = c.loop-word.invariant.within;
-}
+    sym c.loop-word.invariant ∙ turn c.args.table.now c.loop-word.word-index c.loop-word-item.result c.loop-word.bad.now c.args.text.now (Ok c.in-Ok.rest.now) c.loop-word-test.true c.loop-word-item.is c.in-Ok.ensures
 
 pub loop-word-preserved : goal.loop-word-preserved
-loop-word-preserved g c = rw c.further-bad.ensures (record {
-  same = sym (turn c.args.table.now c.loop-word.word-index c.loop-word-item.result c.loop-word.bad.now c.args.text.now (Err c.in-Err.rest.now) c.loop-word-test.true c.loop-word-item.is c.in-Err.ensures) ∙ c.loop-word.invariant.same;
-  within = further_within c.loop-word.bad.now c.in-Err.rest.now c.args.text.now c.loop-word.invariant.within;
-})
+loop-word-preserved g c =
+    rw c.further-bad.ensures (sym (turn c.args.table.now c.loop-word.word-index c.loop-word-item.result c.loop-word.bad.now c.args.text.now (Err c.in-Err.rest.now) c.loop-word-test.true c.loop-word-item.is c.in-Err.ensures) ∙ c.loop-word.invariant)
