@@ -1,0 +1,5 @@
+#![tactic(auto)]
+//! Tests of commands by the public face of their crate.
+
+#[cfg(test)]
+mod commands;
