@@ -8,7 +8,7 @@ ghost use Rattle.live_log.specs.Log.{closed_of};
 ghost use Rattle.live_table.specs.Rights.{object_in};
 ghost use Rattle.live_chains.specs.Chains.{cut_of};
 ghost use Rattle.live_items.specs.Retiring.{IsAfterAll, Queues};
-ghost use Rattle.live_read.specs.Hearing.{IsAfter, OnlyHears};
+ghost use Rattle.live_read.specs.Hearing.{IsAfter, OnlyHears, OnlyMakesLast};
 ghost use Rattle.live_reclaim.specs.Refusing.{RefusesRetirement};
 ghost use Rattle.live_write.specs.Chains.{MayPublish, list_in, replace_by};
 ghost use Rattle.domain.specs.Retiring.{Retires};
@@ -84,7 +84,7 @@ impl<P: GracePlan + Drop, K: ChainRule, B: Site, D: Deleter> Domain<P, K, B, D> 
         requires home { W.home witness.old ≡ (B.table, B.sizes) }
         requires rule { (o : ObjectId) → slice_get (list_in chain.old.seat.me.0) index ≡ Some o → MayPublish P.QSBR K.allows chain.old.seat.me.0 (W.seen witness.old) (W.heard witness.old) [] (cut_of o chain.old.seat.me.0) }
         ensures retired { IfOk result (λ t. Retires P.QSBR K.allows chain.old.seat.me.0 chain.new.seat.me.0 (W.seen witness.old) (W.heard witness.old) [] index (λ o. cut_of o chain.old.seat.me.0) (λ o. without_object o (list_in chain.old.seat.me.0)) (chain.old.number % B.sizes.queues) t.0 (W.heard witness.new)) }
-        ensures same { IfOk result (λ _. OnlyHears W.Witness witness.old witness.new × (chain.new.number ≡ chain.old.number) × (chain.new.home.now ≡ chain.old.home.now)) }
+        ensures same { IfOk result (λ _. OnlyMakesLast W.Witness witness.old witness.new chain.new.seat.me.0.seen × (chain.new.number ≡ chain.old.number) × (chain.new.home.now ≡ chain.old.home.now)) }
         ensures refused { IfErr result (λ e. ((e.0 ≡ NoPlace) × (length (list_in chain.old.seat.me.0) ≤ index) × (witness.new ≡ witness.old)) ⊎ ((index < length (list_in chain.old.seat.me.0)) × RefusesRetirement W.Witness P.QSBR K.allows B.sizes (chain.old.number % B.sizes.queues) witness.old witness.new e.0)) }
         ensures back { IfErr result (λ e. (e.1 ≡ callback) × (chain.new ≡ chain.old)) }
     {
@@ -128,7 +128,7 @@ impl<P: GracePlan + Drop, K: ChainRule, B: Site, D: Deleter> Domain<P, K, B, D> 
         requires home { W.home witness.old ≡ (B.table, B.sizes) }
         requires rule { (o : ObjectId) → slice_get (list_in chain.old.seat.me.0) index ≡ Some o → MayPublish P.QSBR K.allows chain.old.seat.me.0 (W.seen witness.old) (W.heard witness.old) owned.seat.me.0.seen (replace_by o chain.old.seat.me.0 owned.seat.me.0) }
         ensures retired { IfOk result (λ t. Retires P.QSBR K.allows chain.old.seat.me.0 chain.new.seat.me.0 (W.seen witness.old) (W.heard witness.old) owned.seat.me.0.seen index (λ o. replace_by o chain.old.seat.me.0 owned.seat.me.0) (λ o. replaced o (object_in owned.seat.me.0.object) (list_in chain.old.seat.me.0)) (chain.old.number % B.sizes.queues) t.0 (W.heard witness.new)) }
-        ensures same { IfOk result (λ _. OnlyHears W.Witness witness.old witness.new × (chain.new.number ≡ chain.old.number) × (chain.new.home.now ≡ chain.old.home.now)) }
+        ensures same { IfOk result (λ _. OnlyMakesLast W.Witness witness.old witness.new chain.new.seat.me.0.seen × (chain.new.number ≡ chain.old.number) × (chain.new.home.now ≡ chain.old.home.now)) }
         ensures refused { IfErr result (λ e. ((e.0 ≡ NoPlace) × (length (list_in chain.old.seat.me.0) ≤ index) × (witness.new ≡ witness.old)) ⊎ ((index < length (list_in chain.old.seat.me.0)) × RefusesRetirement W.Witness P.QSBR K.allows B.sizes (chain.old.number % B.sizes.queues) witness.old witness.new e.0)) }
         ensures back { IfErr result (λ e. (e.1 ≡ owned) × (e.2 ≡ callback) × (chain.new ≡ chain.old)) }
     {

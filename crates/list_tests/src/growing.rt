@@ -1,5 +1,5 @@
-//! Two readers look one key up while its table grows again and again, and a worker gives the records back: never is the
-//! key missing.
+//! Two readers look one key up, and then go through its table, while that grows again and again, and a worker gives the
+//! records back: never is the key missing, and each walk meets it once.
 
 ghost use Rattle.std.specs.Prelude.{◌≡◌};
 ghost use Rattle.std.specs.Thread.{IsSync};
@@ -29,27 +29,39 @@ const KEYS: u64 = 8;
 /// How often it grows.
 const GROWTHS: usize = 100;
 
-/// What a lookup in a section of its own answers, before which a reader of the quiescent-state flavour announces.
+/// The sum of all values, where each key has ten times its number.
+const SUM: u64 = 360;
+
+/// What a lookup in a section of its own answers, before which a reader of the quiescent-state flavour announces; and
+/// how often a walk after it in that section meets the key, and the sum of the values that it meets.
 fn look<P: GracePlan, B: Site>(
     reader: &mut Reader<P, Tabled, B>,
     view: TableView<B>,
-) -> Result<Option<u64>, Refusal>
+) -> Result<(Option<u64>, u64, u64), Refusal>
     requires { (P.QSBR ≡ B.qsbr) × (reader.old.depth ≡ 0) × (reader.old.locks ≡ 0) }
     ensures { (reader.new.depth ≡ 0) × (reader.new.locks ≡ 0) }
 {
     if P::QSBR {
         reader.online()?;
     }
+    let mut met = 0u64;
+    let mut sum = 0u64;
+    let mut visit = |key: u64, value: u64| {
+        met = met.wrapping_add(u64::from(key == KEY));
+        sum = sum.wrapping_add(value);
+    };
     let mut section = reader.section()?;
     let found = view.get(&mut section, KEY);
+    view.for_each(&mut section, &mut visit);
     section.close();
     if P::QSBR {
         reader.offline()?;
     }
-    Ok(found)
+    Ok((found, met, sum))
 }
 
-/// Lookups until the writer is done, and one after that. Whether each found the key with its value, once one had.
+/// Lookups until the writer is done, and one after that. Whether each found the key with its value, once one had, and
+/// the walk after it met the key once, and the last one all keys.
 fn looks<P: GracePlan, B: Site>(
     idle: Idle<P, Tabled, B>,
     view: TableView<B>,
@@ -63,8 +75,8 @@ fn looks<P: GracePlan, B: Site>(
     for _ in 0..u64::MAX {
         let is_last = done.load(Ordering::SeqCst);
         match look(&mut reader, view) {
-            Ok(Some(70)) => seen = true,
-            Ok(None) if !seen && !is_last => (),
+            Ok((Some(70), 1, sum)) if sum == SUM || !is_last => seen = true,
+            Ok((None, _, _)) if !seen && !is_last => (),
             _ => return false,
         }
         if is_last {

@@ -1,5 +1,5 @@
 -- What each step on a chain asks and tells.
-use Rattle.std.specs.Prelude.{◌≡◌, ◌≢◌, ◌⊎◌, ℕ, ◌+◌, ◌<◌, ◌≤◌, ◌∷◌, length, slice_index_or, Option, Some, None, Bool}
+use Rattle.std.specs.Prelude.{◌≡◌, ◌≢◌, ◌⊎◌, ℕ, ◌+◌, ◌<◌, ◌≤◌, [], ◌∷◌, length, slice_index_or, List, Option, Some, None, Bool}
 use Rattle.atomic_table.specs.Table.{Me, Step}
 use Rattle.rcu_model.specs.declared.event.ObjectId.{ObjectId}
 use Rattle.rcu_model.specs.Machine.{IsAllowed, IsOpen}
@@ -11,6 +11,7 @@ use Rattle.live_log.specs.Log.{Log, IsLiveRun, Begins, WasLinked, section, event
 use Rattle.live_rule.specs.declared.view.Sizes.{Sizes}
 use Rattle.live_rule.specs.declared.view.View.{View}
 use Rattle.live_rule.specs.declared.rights.ChainRight.{ChainRight}
+use Rattle.live_rule.specs.declared.rights.RecordRight.{RecordRight}
 use Rattle.live_rule.specs.declared.rights.RecordRight.TheVariants.{Nothing, Unlinked}
 use Rattle.live_rule.specs.Places.{head_at, hold_at, note_at, cell_at}
 use Rattle.live_rule.specs.Objects.{ref, spot_at}
@@ -42,28 +43,31 @@ abbrev pub head_after : Option ObjectId → ℕ → ℕ → ℕ
 head_after None x h = x
 head_after (Some q) x h = h
 
--- the view, once the seat's object became the first of its chain, whose head is this now
-abbrev pub pushed_view : ℕ → View → View
-pushed_view x v = let own = own_in v.chains in record v { chains = record own { head = x; objects = object_in v.object ∷ own.objects } ∷ lent_chains v.chains; object = Nothing }
-
+-- what the writer of a chain may publish
 abbrev pub push_of : View → LiveEvent
 push_of v = Object (Push (own_in v.chains).chain (object_in v.object) (cell_in v.object) (payload_in v.object))
-
--- the view, once the seat's object stands in the place of another, which the seat now has
-abbrev pub replaced_view : Option ObjectId → ObjectId → ℕ → View → View
-replaced_view p o x v = let own = own_in v.chains in
-    record v { chains = record own { head = head_after p x own.head; objects = replaced o (object_in v.object) own.objects } ∷ lent_chains v.chains; object = Unlinked (note_of v.seen o).0 o }
 
 abbrev pub replace_of : ObjectId → View → LiveEvent
 replace_of o v = Object (Replace (own_in v.chains).chain o (object_in v.object) (cell_in v.object) (payload_in v.object))
 
--- the view, once an object left the seat's chain
-abbrev pub cut_view : Option ObjectId → ObjectId → ℕ → View → View
-cut_view p o x v = let own = own_in v.chains in
-    record v { chains = record own { head = head_after p x own.head; objects = without_object o own.objects } ∷ lent_chains v.chains; object = Unlinked (note_of v.seen o).0 o }
-
 abbrev pub cut_of : ObjectId → View → LiveEvent
 cut_of o v = Object (Cut (own_in v.chains).chain o)
+
+-- the view, once the seat made this change, after which its chain has this head and these objects, and it this right
+abbrev pub changed : LiveEvent → ℕ → List ObjectId → RecordRight → View → View
+changed e x os right v = record v { chains = record (own_in v.chains) { head = x; objects = os } ∷ lent_chains v.chains; object = right; changes = e ∷ [] }
+
+-- the view, once the seat's object became the first of its chain, whose head is this now
+abbrev pub pushed_view : ℕ → View → View
+pushed_view x v = changed (push_of v) x (object_in v.object ∷ (own_in v.chains).objects) Nothing v
+
+-- the view, once the seat's object stands in the place of another, which the seat now has
+abbrev pub replaced_view : Option ObjectId → ObjectId → ℕ → View → View
+replaced_view p o x v = let own = own_in v.chains in changed (replace_of o v) (head_after p x own.head) (replaced o (object_in v.object) own.objects) (Unlinked (note_of v.seen o).0 o) v
+
+-- the view, once an object left the seat's chain
+abbrev pub cut_view : Option ObjectId → ObjectId → ℕ → View → View
+cut_view p o x v = let own = own_in v.chains in changed (cut_of o v) (head_after p x own.head) (without_object o own.objects) (Unlinked (note_of v.seen o).0 o) v
 
 -- the view, once the seat's chain has this note
 abbrev pub noted_view : ℕ → View → View

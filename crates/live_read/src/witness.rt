@@ -30,6 +30,9 @@ pub trait Witness {
     /// grace period loads are not kept.
     ghost looks: { Self → List (ℕ × ℕ) };
 
+    /// The pushes, replacements and cuts that were made for it, the last one first.
+    ghost changes: { Self → Log };
+
     /// The table of the log, and its sizes.
     ghost home: { Self → TableId × Sizes };
 
@@ -43,7 +46,7 @@ pub trait Witness {
     fn tell<P: GracePlan, K: ChainRule>(&mut self, table: &LiveTable<P, K>) -> LiveSeat
         requires { table.now.words.shared.table_id ≡ (home self.old).0 }
         ensures seat { (result.table_id ≡ (home self.old).0) × (result.me ≡ (bare (home self.old).1 (seen self.old) (heard self.old), [])) }
-        ensures same { (seen self.new ≡ seen self.old) × (heard self.new ≡ heard self.old) × (loads self.new ≡ loads self.old) × (looks self.new ≡ looks self.old) × (home self.new ≡ home self.old) × (standing self.new ≡ standing self.old) }
+        ensures same { (seen self.new ≡ seen self.old) × (heard self.new ≡ heard self.old) × (loads self.new ≡ loads self.old) × (looks self.new ≡ looks self.old) × (home self.new ≡ home self.old) × (standing self.new ≡ standing self.old) × (changes self.new ≡ changes self.old) }
         ensures inside { is_in self.old → is_in self.new };
 
     /// It hears what the seat has seen, in the place of what it had heard of, and takes in the seat's loads and looks.
@@ -52,6 +55,18 @@ pub trait Witness {
         requires table { (table.now.words.shared.table_id ≡ (home self.old).0) × (other.table_id ≡ (home self.old).0) × (other.me.1 ≡ []) }
         ensures heard { heard self.new ≡ other.me.0.seen }
         ensures loads { (loads self.new ≡ other.me.0.loads ++ loads self.old) × (looks self.new ≡ other.me.0.looks ++ looks self.old) }
+        ensures same { (seen self.new ≡ seen self.old) × (home self.new ≡ home self.old) × (standing self.new ≡ standing self.old) × (changes self.new ≡ changes self.old) }
+        ensures inside { is_in self.old → is_in self.new };
+
+    /// As `learn`, and the change that the seat made was made for it. It never waits.
+    fn learn_changes<P: GracePlan, K: ChainRule>(
+        &mut self,
+        table: &LiveTable<P, K>,
+        other: LiveSeat,
+    )
+        requires table { (table.now.words.shared.table_id ≡ (home self.old).0) × (other.table_id ≡ (home self.old).0) × (other.me.1 ≡ []) }
+        ensures heard { heard self.new ≡ other.me.0.seen }
+        ensures loads { (loads self.new ≡ other.me.0.loads ++ loads self.old) × (looks self.new ≡ other.me.0.looks ++ looks self.old) × (changes self.new ≡ other.me.0.changes ++ changes self.old) }
         ensures same { (seen self.new ≡ seen self.old) × (home self.new ≡ home self.old) × (standing self.new ≡ standing self.old) }
         ensures inside { is_in self.old → is_in self.new };
 }
@@ -103,6 +118,8 @@ impl<B: Site> Witness for Record<B> {
 
     ghost looks = { λ r. r.seat.me.0.looks };
 
+    ghost changes = { λ r. r.seat.me.0.changes };
+
     ghost home = { λ r. (r.seat.table_id, r.seat.me.0.sizes) };
 
     ghost standing = { λ r. nowhere };
@@ -116,6 +133,14 @@ impl<B: Site> Witness for Record<B> {
     fn learn<P: GracePlan, K: ChainRule>(&mut self, table: &LiveTable<P, K>, other: LiveSeat) {
         table.learn(&mut self.seat, other);
     }
+
+    fn learn_changes<P: GracePlan, K: ChainRule>(
+        &mut self,
+        table: &LiveTable<P, K>,
+        other: LiveSeat,
+    ) {
+        table.learn_changes(&mut self.seat, other);
+    }
 }
 
 impl<P: GracePlan, K: ChainRule, B: Site> Witness for Reader<P, K, B> {
@@ -128,6 +153,8 @@ impl<P: GracePlan, K: ChainRule, B: Site> Witness for Reader<P, K, B> {
     ghost loads = { λ r. r.seat.me.0.loads };
 
     ghost looks = { λ r. r.seat.me.0.looks };
+
+    ghost changes = { λ r. r.seat.me.0.changes };
 
     ghost home = { λ r. (r.seat.table_id, r.seat.me.0.sizes) };
 
@@ -143,5 +170,13 @@ impl<P: GracePlan, K: ChainRule, B: Site> Witness for Reader<P, K, B> {
 
     fn learn<Q: GracePlan, L: ChainRule>(&mut self, table: &LiveTable<Q, L>, other: LiveSeat) {
         table.learn(&mut self.seat, other);
+    }
+
+    fn learn_changes<Q: GracePlan, L: ChainRule>(
+        &mut self,
+        table: &LiveTable<Q, L>,
+        other: LiveSeat,
+    ) {
+        table.learn_changes(&mut self.seat, other);
     }
 }

@@ -46,4 +46,6 @@ pub struct View {
     pub looks: LinkedList<(u64, u64)>,
     /// The logs at its loads of the sequence number, and at those of seats that it learned from, the last one first.
     pub loads: LinkedList<LinkedList<LiveEvent>>,
+    /// The push, the replacement or the cut that it wrote last, or those that it learned of, the last one first.
+    pub changes: LinkedList<LiveEvent>,
 }

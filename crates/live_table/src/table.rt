@@ -4,7 +4,7 @@ ghost use Rattle.live_rule.specs.Places.{cell_at, head_at, words_of};
 
 use crate::plays::{
     CutChains, CutGrace, CutGroups, CutLentChains, CutObject, CutSlot, CutSpareQueue, CutSpareSlot,
-    CutWork, JoinAll, Learn, TakeObject, Tell,
+    CutWork, JoinAll, Learn, LearnChanges, TakeObject, Tell, TellChanges,
 };
 use atomic_table::Table;
 use gp_memb::GracePlan;
@@ -37,7 +37,7 @@ pub struct LiveTable<P: GracePlan, K: ChainRule> {
 impl<P: GracePlan, K: ChainRule> LiveTable<P, K> {
     ghost use Rattle.std.specs.Prelude.{ℕ, ◌+◌, ◌*◌, [], IfOk};
     ghost use Rattle.live_rule.specs.Views.{first_view};
-    ghost use Rattle.live_rule.specs.Seats.{IsSpareQueue, IsSpareSlot, but_chains, but_first_queue, but_first_slot, but_grace, but_groups, but_lent, but_object, but_slot, but_work, chains_alone, first_queue, first_slot, grace_alone, groups_alone, heard_view, lent_alone, merged, object_alone, slot_alone, taken_view, told_view, work_alone};
+    ghost use Rattle.live_rule.specs.Seats.{IsSpareQueue, IsSpareSlot, but_chains, but_first_queue, but_first_slot, but_grace, but_groups, but_lent, but_object, but_slot, but_work, chains_alone, changed_view, first_queue, first_slot, grace_alone, groups_alone, heard_changes_view, heard_view, lent_alone, merged, object_alone, slot_alone, taken_view, told_view, work_alone};
     ghost use Rattle.live_table.specs.Steps.{Cut, Joined};
 
     /// A table of these sizes whose words are all 0, and its first seat, which has every right that no hold word
@@ -83,12 +83,28 @@ impl<P: GracePlan, K: ChainRule> LiveTable<P, K> {
         self.words.shared.split_seat::<Tell>(seat)
     }
 
+    /// As `tell`, and the seat knows the changes that this one made or learned of.
+    pub fn tell_changes(&self, seat: &mut LiveSeat) -> LiveSeat
+        requires { seat.old.table_id ≡ self.now.words.shared.table_id }
+        ensures { Cut (λ v. v) changed_view seat.old seat.new result }
+    {
+        self.words.shared.split_seat::<TellChanges>(seat)
+    }
+
     /// The seat hears what another has seen, which is spent.
     pub fn learn(&self, seat: &mut LiveSeat, other: LiveSeat)
         requires { (seat.old.table_id ≡ self.now.words.shared.table_id) × (other.table_id ≡ self.now.words.shared.table_id) × (other.me.1 ≡ []) }
         ensures { Joined heard_view seat.old seat.new other.me.0 }
     {
         self.words.shared.join_seat::<Learn>(seat, other)
+    }
+
+    /// As `learn`, and the seat takes in the changes that the other knows.
+    pub fn learn_changes(&self, seat: &mut LiveSeat, other: LiveSeat)
+        requires { (seat.old.table_id ≡ self.now.words.shared.table_id) × (other.table_id ≡ self.now.words.shared.table_id) × (other.me.1 ≡ []) }
+        ensures { Joined heard_changes_view seat.old seat.new other.me.0 }
+    {
+        self.words.shared.join_seat::<LearnChanges>(seat, other)
     }
 
     /// The seat takes in what it lacks of another's rights, and all its chains behind its own, and hears what that has

@@ -11,7 +11,7 @@ ghost use Rattle.live_rule.specs.Seats.{lent_chains};
 ghost use Rattle.live_table.specs.Rights.{AreAsKnown, IsListed, IsWriter, object_in, own_in};
 ghost use Rattle.live_table.specs.Steps.{Keeps, Went};
 ghost use Rattle.live_chains.specs.Chains.{cut_of};
-ghost use Rattle.live_read.specs.Hearing.{IsAfter, OnlyHears, Stays};
+ghost use Rattle.live_read.specs.Hearing.{IsAfter, OnlyHears, OnlyMakesLast, Stays};
 ghost use Rattle.live_write.specs.Chains.{IsFirstWith, MayPublish, Publishes, first_word, list_in, push_by, replace_by};
 
 use crate::lending::{Lent, take_right};
@@ -117,7 +117,7 @@ impl<'d, P: GracePlan, K: ChainRule, B: Site, H> Chain<'d, P, K, B, H> {
         ensures list { (list_in self.new.seat.me.0 ≡ result ∷ list_in self.old.seat.me.0) × ((own_in self.new.seat.me.0.chains).note ≡ (own_in self.old.seat.me.0.chains).note) × (lent_chains self.new.seat.me.0.chains ≡ lent_chains self.old.seat.me.0.chains) × (self.new.number ≡ self.old.number) × (self.new.home.now ≡ self.old.home.now) }
         ensures pushed { Publishes P.QSBR K.allows self.old.seat.me.0 (W.seen witness.old) (W.heard witness.old) owned.seat.me.0.seen (push_by self.old.seat.me.0 owned.seat.me.0) self.new.seat.me.0.seen }
         ensures heard { W.heard witness.new ≡ self.new.seat.me.0.seen }
-        ensures same { OnlyHears W.Witness witness.old witness.new }
+        ensures same { OnlyMakesLast W.Witness witness.old witness.new self.new.seat.me.0.seen }
     {
         let object = owned.object();
         let Owned { seat, cell, .. } = owned;
@@ -163,7 +163,7 @@ impl<'d, P: GracePlan, K: ChainRule, B: Site, H> Chain<'d, P, K, B, H> {
         ensures cut { IfOk result (λ u. Publishes P.QSBR K.allows self.old.seat.me.0 (W.seen witness.old) (W.heard witness.old) [] (cut_of (object_in u.seat.me.0.object) self.old.seat.me.0) self.new.seat.me.0.seen) }
         ensures heard { IfOk result (λ _. W.heard witness.new ≡ self.new.seat.me.0.seen) }
         ensures refused { IfErr result (λ e. (e ≡ NoPlace) × (length (list_in self.old.seat.me.0) ≤ index) × (self.new ≡ self.old) × (witness.new ≡ witness.old)) }
-        ensures same { OnlyHears W.Witness witness.old witness.new }
+        ensures same { IfOk result (λ _. OnlyMakesLast W.Witness witness.old witness.new self.new.seat.me.0.seen) }
     {
         if index >= self.linked {
             return Err(Refusal::NoPlace);
@@ -193,7 +193,7 @@ impl<'d, P: GracePlan, K: ChainRule, B: Site, H> Chain<'d, P, K, B, H> {
         ensures replaced { IfOk result (λ u. Publishes P.QSBR K.allows self.old.seat.me.0 (W.seen witness.old) (W.heard witness.old) owned.seat.me.0.seen (replace_by (object_in u.seat.me.0.object) self.old.seat.me.0 owned.seat.me.0) self.new.seat.me.0.seen) }
         ensures heard { IfOk result (λ _. W.heard witness.new ≡ self.new.seat.me.0.seen) }
         ensures refused { IfErr result (λ e. (e.0 ≡ NoPlace) × (e.1 ≡ owned) × (length (list_in self.old.seat.me.0) ≤ index) × (self.new ≡ self.old) × (witness.new ≡ witness.old)) }
-        ensures same { OnlyHears W.Witness witness.old witness.new }
+        ensures same { IfOk result (λ _. OnlyMakesLast W.Witness witness.old witness.new self.new.seat.me.0.seen) }
     {
         if index >= self.linked {
             return Err((Refusal::NoPlace, owned));

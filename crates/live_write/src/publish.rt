@@ -9,7 +9,7 @@ ghost use Rattle.live_rule.specs.Seats.{lent_chains};
 ghost use Rattle.live_table.specs.Rights.{AreAsKnown, IsFresh, IsListed, IsUnlinked, IsWriter, cell_in, object_in, own_in};
 ghost use Rattle.live_table.specs.Steps.{Keeps};
 ghost use Rattle.live_chains.specs.Chains.{cut_of};
-ghost use Rattle.live_read.specs.Hearing.{IsAfter, OnlyHears};
+ghost use Rattle.live_read.specs.Hearing.{IsAfter, OnlyHears, OnlyMakesLast};
 ghost use Rattle.live_write.specs.Chains.{MayPublish, Publishes, list_in, push_by, replace_by};
 
 use crate::walk::find;
@@ -38,7 +38,7 @@ pub(crate) fn push_record<P: GracePlan, K: ChainRule, W: Witness>(
     ensures list { (seat.new.me.0.chains ≡ record (own_in seat.old.me.0.chains) { head = cell + 1; objects = object_in owned.me.0.object ∷ list_in seat.old.me.0 } ∷ lent_chains seat.old.me.0.chains) × (length (list_in seat.old.me.0) ≤ table.now.pool) }
     ensures pushed { Publishes P.QSBR K.allows seat.old.me.0 (W.seen witness.old) (W.heard witness.old) owned.me.0.seen (push_by seat.old.me.0 owned.me.0) seat.new.me.0.seen }
     ensures heard { W.heard witness.new ≡ seat.new.me.0.seen }
-    ensures same { OnlyHears W.Witness witness.old witness.new }
+    ensures same { OnlyMakesLast W.Witness witness.old witness.new seat.new.me.0.seen }
 {
     let mut told = tell_all(table, witness);
     table.take_object(&mut told, owned);
@@ -46,8 +46,8 @@ pub(crate) fn push_record<P: GracePlan, K: ChainRule, W: Witness>(
     let head = load_head(table, seat, chain);
     table.take_object(seat, told);
     push(table, seat, chain, cell, head);
-    let heard = table.tell(seat);
-    witness.learn(table, heard);
+    let heard = table.tell_changes(seat);
+    witness.learn_changes(table, heard);
 }
 
 /// The object at an index of the seat's own chain leaves it. Answers the seat with the right to it, and its record.
@@ -69,15 +69,15 @@ pub(crate) fn cut_record<P: GracePlan, K: ChainRule, W: Witness>(
     ensures fewer { length (list_in seat.new.me.0) + 1 ≡ length (list_in seat.old.me.0) }
     ensures cut { Publishes P.QSBR K.allows seat.old.me.0 (W.seen witness.old) (W.heard witness.old) [] (cut_of (object_in result.0.me.0.object) seat.old.me.0) seat.new.me.0.seen }
     ensures heard { W.heard witness.new ≡ seat.new.me.0.seen }
-    ensures same { OnlyHears W.Witness witness.old witness.new }
+    ensures same { OnlyMakesLast W.Witness witness.old witness.new seat.new.me.0.seen }
 {
     let (before, cell) = find(table, seat, chain, index);
     let told = tell_all(table, witness);
     table.learn(seat, told);
     cut(table, seat, chain, before, cell);
     let unlinked = table.cut_object(seat);
-    let heard = table.tell(seat);
-    witness.learn(table, heard);
+    let heard = table.tell_changes(seat);
+    witness.learn_changes(table, heard);
     (unlinked, cell)
 }
 
@@ -104,7 +104,7 @@ pub(crate) fn replace_record<P: GracePlan, K: ChainRule, W: Witness>(
     ensures many { length (list_in seat.new.me.0) ≡ length (list_in seat.old.me.0) }
     ensures replaced { Publishes P.QSBR K.allows seat.old.me.0 (W.seen witness.old) (W.heard witness.old) owned.me.0.seen (replace_by (object_in result.0.me.0.object) seat.old.me.0 owned.me.0) seat.new.me.0.seen }
     ensures heard { W.heard witness.new ≡ seat.new.me.0.seen }
-    ensures same { OnlyHears W.Witness witness.old witness.new }
+    ensures same { OnlyMakesLast W.Witness witness.old witness.new seat.new.me.0.seen }
 {
     let (before, was) = find(table, seat, chain, index);
     let next = load_link(table, seat, was);
@@ -114,8 +114,8 @@ pub(crate) fn replace_record<P: GracePlan, K: ChainRule, W: Witness>(
     table.take_object(seat, told);
     replace(table, seat, chain, before, cell, next);
     let unlinked = table.cut_object(seat);
-    let heard = table.tell(seat);
-    witness.learn(table, heard);
+    let heard = table.tell_changes(seat);
+    witness.learn_changes(table, heard);
     (unlinked, was)
 }
 

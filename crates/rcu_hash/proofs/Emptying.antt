@@ -20,11 +20,12 @@ use Rattle.live_rule.specs.declared.view.Sizes.{Sizes}
 use Rattle.live_rule.specs.declared.view.View.{View}
 use Rattle.live_table.specs.Rights.{AreAsKnown, IsListed, IsWriter, own_in}
 use Rattle.live_items.specs.Retiring.{Queues}
-use Rattle.live_read.specs.Hearing.{OnlyHears}
+use Rattle.live_read.specs.Hearing.{OnlyHears, OnlyMakesLast}
+use Rattle.live_read.proofs.Lemmas.{more_made, none_made, one_made}
 use Rattle.live_read.specs.declared.witness.Witness.{Ghosts}
 use Rattle.live_reclaim.specs.Refusing.{RefusesRetirement}
 use Rattle.live_write.specs.Chains.{MayPublish, list_in}
-use Rattle.rcu_list.proofs.Lemmas.{KnowsKeys, stays_both}
+use Rattle.rcu_list.proofs.Lemmas.{KnowsKeys}
 use Rattle.rcu_hash.specs.Directories.{directed_map}
 use Rattle.rcu_hash.specs.Leaving.{LeavesMap, Writes}
 use Rattle.rcu_hash.specs.Naming.{words_by}
@@ -155,19 +156,22 @@ module _ {W : Type 0} (w : Ghosts W) (qsbr : Bool) (allows : Log → LiveEvent �
   pub refused_why : IsRefused w old new e
   refused_why = ⊎_elim (λ closed. inl (closed.0, (q, sym r.told ∙ closed.1))) (λ memory. inr memory.0) r.why
 
-  pub refused_finds : FindsMore w old new
-  refused_finds = (r.same.0, r.same.1, (_ ∷ [], r.looked))
+  pub refused_finds : FindsMore w old new 0
+  refused_finds = (none_made w old new r.same.0, r.same.1, (_ ∷ [], r.looked))
 
 -- what goes on
 module _ {W : Type 0} (w : Ghosts W) where
-  pub only_finds : (a b : W) → OnlyHears w a b → FindsMore w a b
-  only_finds a b h = (h.0.0, h.1, ([], h.0.1))
+  pub only_finds : (a b : W) → OnlyHears w a b → FindsMore w a b 0
+  only_finds a b h = (none_made w a b h.0.0, h.1, ([], h.0.1))
 
-  pub finds_both : (a b c : W) → FindsMore w a b → FindsMore w b c → FindsMore w a c
-  finds_both a b c x y = (stays_both w a b c x.0 y.0, y.1 ∙ x.1, (y.2.0 ++ x.2.0, y.2.1 ∙ (ap (λ (l : List (ℕ × ℕ)). y.2.0 ++ l) x.2.1 ∙ sym (append_assoc y.2.0 x.2.0 (w.looks a)))))
+  pub makes_finds : (a b : W) (log : Log) → OnlyMakesLast w a b log → FindsMore w a b 1
+  makes_finds a b log m = (one_made w a b log m.0, m.2, ([], m.1))
 
-  pub finds_none : (a : W) → FindsMore w a a
-  finds_none a = ((refl, refl, refl, λ h. h), refl, ([], refl))
+  pub finds_both : (a b c : W) (m n : ℕ) → FindsMore w a b m → FindsMore w b c n → FindsMore w a c (m + n)
+  finds_both a b c m n x y = (more_made w a b c m n x.0 y.0, y.1 ∙ x.1, (y.2.0 ++ x.2.0, y.2.1 ∙ (ap (λ (l : List (ℕ × ℕ)). y.2.0 ++ l) x.2.1 ∙ sym (append_assoc y.2.0 x.2.0 (w.looks a)))))
+
+  pub finds_none : (a : W) → FindsMore w a a 0
+  finds_none a = (none_made w a a (refl, refl, refl, λ h. h, refl), refl, ([], refl))
 
 -- a retirement is heard of after what came before it
 pub queued_later : (qsbr : Bool) (allows : Log → LiveEvent → Type 0) (at : Log → Type 0) (o : ObjectId) (queue given : ℕ) (known log : Log) (r : Queues qsbr allows at o queue given log) → Begins known r.before → Begins known log

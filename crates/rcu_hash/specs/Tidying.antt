@@ -14,7 +14,7 @@ use Rattle.live_rule.specs.declared.view.Sizes.{Sizes}
 use Rattle.live_rule.specs.declared.view.View.{View}
 use Rattle.live_items.specs.Retiring.{Queues}
 use Rattle.live_table.specs.Rights.{object_in}
-use Rattle.live_read.specs.Hearing.{Stays}
+use Rattle.live_read.specs.Hearing.{MakesMany}
 use Rattle.live_read.specs.declared.witness.Witness.{Ghosts}
 use Rattle.live_write.specs.Chains.{list_in}
 use Rattle.domain.specs.Waiting.{LoadedOnce, Synchronized}
@@ -116,9 +116,13 @@ module _ (qsbr : Bool) (allows : Log → LiveEvent → Type 0) (sizes : Sizes) (
     pub many : retired_in steps ≡ length used
 
 module _ {W : Type 0} (w : Ghosts W) (old new : W) where
-  -- the witness stands as it stood; it may have heard of more, and words may have been found for it
-  abbrev pub FindsMore : Type 0
-  FindsMore = Stays w old new × (w.loads new ≡ w.loads old) × ((found : List (ℕ × ℕ)) × (w.looks new ≡ found ++ w.looks old))
+  -- so many changes were made for the witness; it may have heard of more, and words may have been found for it
+  abbrev pub FindsMore : ℕ → Type 0
+  FindsMore many = MakesMany w old new many × (w.loads new ≡ w.loads old) × ((found : List (ℕ × ℕ)) × (w.looks new ≡ found ++ w.looks old))
+
+  -- one for each callback that is used, of these many
+  abbrev pub FindsByJobs : ℕ → ℕ → Type 0
+  FindsByJobs jobs left = (many : ℕ) × (many + left ≡ jobs) × FindsMore many
 
   -- a queue was closed, or there was no memory
   abbrev pub IsRefused : Refusal → Type 0

@@ -6,7 +6,7 @@ ghost use Rattle.rcu_model.specs.declared.event.ObjectId.{ObjectId};
 ghost use Rattle.live_log.specs.Log.{Begins, Log, note_of};
 ghost use Rattle.live_log.specs.Tables.{HasKey, tabled};
 ghost use Rattle.live_rule.specs.Seats.{lent_chains};
-ghost use Rattle.live_read.specs.Hearing.{IsAfter, OnlyHears, Stays};
+ghost use Rattle.live_read.specs.Hearing.{IsAfter, MakesLast, OnlyHears};
 ghost use Rattle.live_write.specs.Chains.{list_in};
 ghost use Rattle.rcu_list.specs.Maps.{map_of};
 ghost use Rattle.rcu_list.specs.Calls.{HandsOver};
@@ -67,7 +67,8 @@ impl<'d, P: GracePlan + Drop, B: Site, D: Deleter> Bucket<'d, P, B, D> {
         requires home { W.home witness.old ≡ (B.table, B.sizes) }
         requires key { bucket_of self.old.naming.first self.old.naming.buckets key ≡ self.old.chain.number }
         ensures inserted { IfOk result (λ _. InsertsThrough P.QSBR tabled B.sizes.chains self.old.naming.directory (W.seen witness.old) (W.heard witness.old) key value self.old.chain.number (W.heard witness.new)) }
-        ensures heard { IfOk result (λ _. Stays W.Witness witness.old witness.new × (W.loads witness.new ≡ W.loads witness.old) × ((found : List (ℕ × ℕ)) × (W.looks witness.new ≡ found ++ W.looks witness.old))) }
+        ensures changes { IfOk result (λ _. MakesLast W.Witness witness.old witness.new (W.heard witness.new)) }
+        ensures heard { IfOk result (λ _. (W.loads witness.new ≡ W.loads witness.old) × ((found : List (ℕ × ℕ)) × (W.looks witness.new ≡ found ++ W.looks witness.old))) }
         ensures refused { IfErr result (λ e. RefusesInsertionThrough W.Witness P.QSBR tabled B.sizes witness.old witness.new e self.old.naming.directory key) }
         ensures same { (self.new.naming ≡ self.old.naming) × (self.new.chain.number ≡ self.old.chain.number) }
     {
@@ -92,8 +93,8 @@ impl<'d, P: GracePlan + Drop, B: Site, D: Deleter> Bucket<'d, P, B, D> {
     ) -> Result<Ticket, (Refusal, D)>
         requires home { W.home witness.old ≡ (B.table, B.sizes) }
         requires key { bucket_of self.old.naming.first self.old.naming.buckets key ≡ self.old.chain.number }
-        ensures replaced { IfOk result (λ t. (left : ObjectId) × (published : Log) × ReplacesThrough P.QSBR tabled B.sizes.chains self.old.naming.directory (W.seen witness.old) (W.heard witness.old) key value self.old.chain.number left published × HandsOver P.QSBR tabled left (self.old.chain.number % B.sizes.queues) t.0 published (W.heard witness.new)) }
-        ensures heard { IfOk result (λ _. Stays W.Witness witness.old witness.new × (W.loads witness.new ≡ W.loads witness.old) × ((found : List (ℕ × ℕ)) × (W.looks witness.new ≡ found ++ W.looks witness.old))) }
+        ensures replaced { IfOk result (λ t. (left : ObjectId) × (published : Log) × ReplacesThrough P.QSBR tabled B.sizes.chains self.old.naming.directory (W.seen witness.old) (W.heard witness.old) key value self.old.chain.number left published × HandsOver P.QSBR tabled left (self.old.chain.number % B.sizes.queues) t.0 published (W.heard witness.new) × MakesLast W.Witness witness.old witness.new published) }
+        ensures heard { IfOk result (λ _. (W.loads witness.new ≡ W.loads witness.old) × ((found : List (ℕ × ℕ)) × (W.looks witness.new ≡ found ++ W.looks witness.old))) }
         ensures refused { IfErr result (λ e. RefusesReplacementThrough W.Witness P.QSBR tabled B.sizes witness.old witness.new e.0 self.old.naming.directory key) }
         ensures back { IfErr result (λ e. e.1 ≡ callback) }
         ensures same { (self.new.naming ≡ self.old.naming) × (self.new.chain.number ≡ self.old.chain.number) }
@@ -128,8 +129,8 @@ impl<'d, P: GracePlan + Drop, B: Site, D: Deleter> Bucket<'d, P, B, D> {
     ) -> Result<Ticket, (Refusal, D)>
         requires home { W.home witness.old ≡ (B.table, B.sizes) }
         requires key { bucket_of self.old.naming.first self.old.naming.buckets key ≡ self.old.chain.number }
-        ensures removed { IfOk result (λ t. (left : ObjectId) × (published : Log) × RemovesThrough P.QSBR tabled B.sizes.chains self.old.naming.directory (W.seen witness.old) (W.heard witness.old) key self.old.chain.number left published × HandsOver P.QSBR tabled left (self.old.chain.number % B.sizes.queues) t.0 published (W.heard witness.new)) }
-        ensures heard { IfOk result (λ _. OnlyHears W.Witness witness.old witness.new) }
+        ensures removed { IfOk result (λ t. (left : ObjectId) × (published : Log) × RemovesThrough P.QSBR tabled B.sizes.chains self.old.naming.directory (W.seen witness.old) (W.heard witness.old) key self.old.chain.number left published × HandsOver P.QSBR tabled left (self.old.chain.number % B.sizes.queues) t.0 published (W.heard witness.new) × MakesLast W.Witness witness.old witness.new published) }
+        ensures heard { IfOk result (λ _. (W.looks witness.new ≡ W.looks witness.old) × (W.loads witness.new ≡ W.loads witness.old)) }
         ensures refused { IfErr result (λ e. RefusesRemovalThrough W.Witness P.QSBR tabled B.sizes witness.old witness.new e.0 self.old.naming.directory key) }
         ensures back { IfErr result (λ e. e.1 ≡ callback) }
         ensures same { (self.new.naming ≡ self.old.naming) × (self.new.chain.number ≡ self.old.chain.number) }

@@ -5,7 +5,7 @@ ghost use Rattle.live_log.specs.Log.{Begins, Log};
 ghost use Rattle.live_log.specs.Tables.{tabled};
 ghost use Rattle.live_table.specs.Rights.{payload_in};
 ghost use Rattle.live_table.specs.Steps.{Keeps, Went};
-ghost use Rattle.live_read.specs.Hearing.{OnlyHears, Stays};
+ghost use Rattle.live_read.specs.Hearing.{OnlyMakesMany, Stays};
 ghost use Rattle.live_write.specs.Searching.{AreTaken, IsUsedUp};
 ghost use Rattle.rcu_list.specs.Maps.{words_of};
 ghost use Rattle.rcu_model.specs.declared.refusal.Refusal.TheVariants.{Memory, PoolFull};
@@ -144,7 +144,7 @@ pub(crate) fn fill<'d, P: GracePlan + Drop, B: Site, D: Deleter, W: Witness>(
     ensures chains { (vec_len chains.new ≡ vec_len chains.old) × (map (λ c. c.number) chains.new.items ≡ map (λ c. c.number) chains.old.items) }
     ensures known { Each HasKeysIn (map (λ c. c.seat.me.0) chains.new.items) × Each HasNoNote (map (λ c. c.seat.me.0) chains.new.items) × Each IsAlone (map (λ c. c.seat.me.0) chains.new.items) }
     ensures heard { Begins (W.heard witness.old) (W.heard witness.new) }
-    ensures same { OnlyHears W.Witness witness.old witness.new }
+    ensures same { OnlyMakesMany W.Witness witness.old witness.new (vec_len copied) }
 {
     let buckets = chains.len() as u64;
     let many = copied.len();

@@ -4,7 +4,7 @@ ghost use Rattle.std.specs.Prelude.{◌≡◌, ◌⊎◌, ◌+◌, ◌<◌, ◌�
 ghost use Rattle.live_log.specs.Log.{Log, state_of};
 ghost use Rattle.live_log.specs.Tables.{tabled};
 ghost use Rattle.live_table.specs.Rights.{object_in, payload_in};
-ghost use Rattle.live_read.specs.Hearing.{OnlyHears};
+ghost use Rattle.live_read.specs.Hearing.{OnlyMakesLast};
 ghost use Rattle.rcu_hash.specs.Copies.{AreApart, value_among, value_in_bucket};
 ghost use Rattle.rcu_hash.specs.Growing.{Exchanges};
 ghost use Rattle.rcu_hash.specs.Naming.{IsNamedBy, words_by};
@@ -54,7 +54,7 @@ pub(crate) fn exchange<'d, P: GracePlan + Drop, B: Site, D: Deleter, W: Witness>
     ensures olds { (vec_len result.2 ≡ vec_len olds.entry.chains) × AreFrom directory.entry.naming.first (map (λ c. c.seat.me.0) result.2.items) × Each IsAlone (map (λ c. c.seat.me.0) result.2.items) × Each HasKeysIn (map (λ c. c.seat.me.0) result.2.items) × Each (HasNote (directory.entry.naming.directory + 1)) (map (λ c. c.seat.me.0) result.2.items) }
     ensures news { (vec_len result.3 ≡ vec_len news.entry.chains) × AreFrom first (map (λ c. c.seat.me.0) result.3.items) × Each IsAlone (map (λ c. c.seat.me.0) result.3.items) × Each HasKeysIn (map (λ c. c.seat.me.0) result.3.items) × Each (IsNamedBy directory.entry.naming.directory (object_in owned.seat.me.0.object)) (map (λ c. c.seat.me.0) result.3.items) }
     ensures grown { (entries : List (ℕ × ℕ)) → AreApart entries → ((key : ℕ) → value_in_bucket (vec_len olds.entry.chains) (map (λ c. c.seat.me.0) olds.entry.chains.items) key ≡ value_among entries key) → Exchanges P.QSBR tabled B.sizes.chains directory.entry.naming.directory (W.seen witness.old) (W.heard witness.old) directory.entry.naming.object first (vec_len news.entry.chains) entries (W.heard witness.new) }
-    ensures same { OnlyHears W.Witness witness.old witness.new }
+    ensures same { OnlyMakesLast W.Witness witness.old witness.new (W.heard witness.new) }
 {
     let Directory { mut chain, naming } = directory;
     let Lenders {

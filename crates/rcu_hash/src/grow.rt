@@ -6,7 +6,7 @@ ghost use Rattle.rcu_model.specs.declared.refusal.Refusal.TheVariants.{BadConfig
 ghost use Rattle.live_log.specs.Log.{Begins, Log};
 ghost use Rattle.live_log.specs.Tables.{tabled};
 ghost use Rattle.live_table.specs.Rights.{payload_in};
-ghost use Rattle.live_read.specs.Hearing.{IsAfter, OnlyHears, Stays};
+ghost use Rattle.live_read.specs.Hearing.{IsAfter, MakesMany, OnlyMakesMany, Stays};
 ghost use Rattle.live_write.specs.Searching.{AreTaken, IsUsedUp};
 ghost use Rattle.rcu_hash.specs.Copies.{AreApart, AreRanked, value_among, value_in_bucket};
 ghost use Rattle.rcu_hash.specs.Growing.{Grows, HasLeft};
@@ -79,7 +79,7 @@ fn commit<'d, P: GracePlan + Drop, B: Site, D: Deleter, W: Witness, R: Wait>(
     requires apart { ((shelf.old.naming.directory < first) ⊎ (first + vec_len growth.chains ≤ shelf.old.naming.directory)) × ((shelf.old.naming.first + shelf.old.naming.buckets ≤ first) ⊎ (first + vec_len growth.chains ≤ shelf.old.naming.first)) }
     ensures grown { Grows P.QSBR tabled B.sizes.chains shelf.old.naming.directory (W.seen witness.old) (W.heard witness.old) first (vec_len growth.entry.chains) (map (λ c. (c.key, c.value)) growth.entry.copied.items) (W.heard witness.new) }
     ensures left { result.naming.directory ≡ shelf.old.naming.directory }
-    ensures same { OnlyHears W.Witness witness.old witness.new }
+    ensures same { OnlyMakesMany W.Witness witness.old witness.new (vec_len growth.entry.copied + 1) }
 {
     let Growth {
         rooms,
@@ -158,9 +158,9 @@ impl<'d, P: GracePlan + Drop, B: Site, D: Deleter> RcuHash<'d, P, B, D> {
     /// a chain that the directory does not name has the table's note; else with `BadConfig` where the number of buckets
     /// is not 1 to 4,096 or a chain is not there, or is one of the table's, else with `Memory` where memory is, with
     /// `BadConfig` where a chain had a writer, linked an object or had a note other than 0 during the call, or with
-    /// `PoolFull` where there is no record for a key or for the directory; then all is as it was, as tests show. It
-    /// waits for the table's locks, and for no grace period, but tries again where other threads draw object numbers
-    /// meanwhile.
+    /// `PoolFull` where there is no record for a key or for the directory; then it made no change, and all is as it was,
+    /// as tests show. It waits for the table's locks, and for no grace period, but tries again where other threads draw
+    /// object numbers meanwhile.
     pub fn grow<W: Witness, R: Wait>(
         &self,
         rt: &R,
@@ -176,7 +176,7 @@ impl<'d, P: GracePlan + Drop, B: Site, D: Deleter> RcuHash<'d, P, B, D> {
         ensures heard { Begins (W.heard witness.old) (W.heard witness.new) }
         ensures looks { (found : List (ℕ × ℕ)) × (W.looks witness.new ≡ found ++ W.looks witness.old) × IfErr result (λ e. (e ≡ PoolFull) → IsUsedUp B.sizes found ⊎ AreTaken B.sizes found) }
         ensures loads { ((logs : List Log) × (W.loads witness.new ≡ logs ++ W.loads witness.old)) × IfOk result (λ _. W.loads witness.new ≡ W.loads witness.old) }
-        ensures same { Stays W.Witness witness.old witness.new }
+        ensures changes { IfOk result (λ left. MakesMany W.Witness witness.old witness.new left) × IfErr result (λ _. Stays W.Witness witness.old witness.new) }
     {
         let (mut place, left) = self.take_left(rt);
         if let Some(left) = left {

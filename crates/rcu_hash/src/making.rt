@@ -8,7 +8,7 @@ ghost use Rattle.live_log.specs.Log.{Begins, IsLiveRun};
 ghost use Rattle.live_log.specs.Tables.{tabled};
 ghost use Rattle.live_rule.specs.Places.{hold_at};
 ghost use Rattle.live_table.specs.Rights.{object_in, payload_in};
-ghost use Rattle.live_read.specs.Hearing.{IsAfter, OnlyHears, Stays};
+ghost use Rattle.live_read.specs.Hearing.{IsAfter, OnlyHears, OnlyMakesLast, Stays};
 ghost use Rattle.rcu_hash.specs.Directories.{LeadsTo, directed_map};
 ghost use Rattle.rcu_hash.specs.Growing.{NotesAll};
 ghost use Rattle.rcu_hash.specs.Leaving.{Writes};
@@ -144,7 +144,7 @@ pub(crate) fn direct<'d, P: GracePlan + Drop, B: Site, D: Deleter, W: Witness>(
     ensures map { (key : ℕ) → (directed_map B.sizes.chains chain.entry.number (W.heard witness.new) key ≡ None) × LeadsTo chain.entry.number (W.heard witness.new) key (bucket_of first (vec_len chains.entry) key) }
     ensures pushed { (cell : ℕ) × Writes P.QSBR tabled (W.seen witness.old) (W.heard witness.old) (Object (Push chain.entry.number (object_in owned.seat.me.0.object) cell (words_by first (vec_len chains.entry)))) (W.heard witness.new) }
     ensures heard { IsAfter P.QSBR tabled (W.seen witness.old) (W.heard witness.old) (W.heard witness.new) }
-    ensures same { OnlyHears W.Witness witness.old witness.new }
+    ensures same { OnlyMakesLast W.Witness witness.old witness.new (W.heard witness.new) }
 {
     let buckets = chains.len();
     let lents = lend_all(chains, lents, &mut chain);

@@ -7,7 +7,7 @@ ghost use Rattle.rcu_model.specs.declared.event.ObjectId.{ObjectId};
 ghost use Rattle.rcu_model.specs.declared.refusal.Refusal.TheVariants.{BadConfig, Memory, PoolFull};
 ghost use Rattle.live_log.specs.Log.{Log};
 ghost use Rattle.live_log.specs.Tables.{tabled};
-ghost use Rattle.live_read.specs.Hearing.{IsAfter, OnlyHears, Stays};
+ghost use Rattle.live_read.specs.Hearing.{IsAfter, MakesLast, Stays};
 ghost use Rattle.live_read.specs.Holding.{log_of};
 ghost use Rattle.live_read.specs.Reads.{Looks};
 ghost use Rattle.live_write.specs.Searching.{AreTaken, IsUsedUp};
@@ -89,7 +89,8 @@ impl<'d, P: GracePlan + Drop, B: Site, D: Deleter> RcuHash<'d, P, B, D> {
         ensures heard { IfOk result (λ _. IsAfter P.QSBR tabled (W.seen witness.old) (W.heard witness.old) (W.heard witness.new)) }
         ensures refused { IfErr result (λ e. ((e ≡ BadConfig) × ((fits B.sizes.chains directory first buckets ≡ false) ⊎ FindsTaken W.Witness P.QSBR tabled witness.old witness.new B.sizes (λ c. (c ≡ directory) ⊎ IsAmong first buckets c))) ⊎ ((fits B.sizes.chains directory first buckets ≡ true) × ((e ≡ Memory) ⊎ (e ≡ PoolFull)))) }
         ensures looks { (found : List (ℕ × ℕ)) × (W.looks witness.new ≡ found ++ W.looks witness.old) × IfErr result (λ e. (e ≡ PoolFull) → IsUsedUp B.sizes found ⊎ AreTaken B.sizes found) }
-        ensures same { Stays W.Witness witness.old witness.new × (W.loads witness.new ≡ W.loads witness.old) }
+        ensures changes { IfOk result (λ _. MakesLast W.Witness witness.old witness.new (W.heard witness.new)) × IfErr result (λ _. Stays W.Witness witness.old witness.new) }
+        ensures same { W.loads witness.new ≡ W.loads witness.old }
     {
         if !fits(domain.chains(), directory, first, buckets) {
             return Err(Refusal::BadConfig);
@@ -157,12 +158,12 @@ impl<'d, P: GracePlan + Drop, B: Site, D: Deleter> RcuHash<'d, P, B, D> {
         self.view.get(section, key)
     }
 
-    /// Gives a key a value that had none: one push, liburcu's `cds_lfht_add_unique`. It comes after all that the caller
-    /// had seen and heard of, and the caller hears of it.
+    /// Gives a key a value that had none: one push and no other change, liburcu's `cds_lfht_add_unique`. It comes after
+    /// all that the caller had seen and heard of, and the caller hears of it.
     ///
     /// Refused with `Exists` only where the key had a value in some log of the call, else with `PoolFull` where its
-    /// bucket's ranks are used up, or as `alloc`; then it wrote nothing, as tests show. It takes no memory, and waits
-    /// for the locks of the table alone, but tries again where other threads draw object numbers meanwhile.
+    /// bucket's ranks are used up, or as `alloc`; then it made no change. It takes no memory, and waits for the locks of
+    /// the table alone, but tries again where other threads draw object numbers meanwhile.
     pub fn insert<W: Witness, R: Wait>(
         &self,
         rt: &R,
@@ -172,7 +173,8 @@ impl<'d, P: GracePlan + Drop, B: Site, D: Deleter> RcuHash<'d, P, B, D> {
     ) -> Result<(), Refusal>
         requires { W.home witness.old ≡ (B.table, B.sizes) }
         ensures inserted { IfOk result (λ _. (chain : ℕ) × InsertsThrough P.QSBR tabled B.sizes.chains self.now.directory (W.seen witness.old) (W.heard witness.old) key value chain (W.heard witness.new)) }
-        ensures same { IfOk result (λ _. Stays W.Witness witness.old witness.new × (W.loads witness.new ≡ W.loads witness.old) × ((found : List (ℕ × ℕ)) × (W.looks witness.new ≡ found ++ W.looks witness.old))) }
+        ensures changes { IfOk result (λ _. MakesLast W.Witness witness.old witness.new (W.heard witness.new)) }
+        ensures same { IfOk result (λ _. (W.loads witness.new ≡ W.loads witness.old) × ((found : List (ℕ × ℕ)) × (W.looks witness.new ≡ found ++ W.looks witness.old))) }
         ensures refused { IfErr result (λ e. RefusesInsertionThrough W.Witness P.QSBR tabled B.sizes witness.old witness.new e self.now.directory key) }
     {
         let shelf = self.shelf(rt);
@@ -182,14 +184,13 @@ impl<'d, P: GracePlan + Drop, B: Site, D: Deleter> RcuHash<'d, P, B, D> {
         answer
     }
 
-    /// Gives a key that has a value this one: one replacement in its place, liburcu's `cds_lfht_replace`, so that no
-    /// reader misses the key. The old record is retired with the callback, `call_rcu`. Both come after all that the
-    /// caller had seen and heard of, and the caller hears of them.
+    /// Gives a key that has a value this one: one replacement in its place and no other change, liburcu's
+    /// `cds_lfht_replace`, so that no reader misses the key. The old record is retired with the callback, `call_rcu`.
+    /// Both come after all that the caller had seen and heard of, and the caller hears of them.
     ///
     /// Refused with `Missing` only where the key had no value in some log of the call, else as `alloc`, else as
-    /// `retire`; then the callback comes back, the new record is back in the pool, and it wrote nothing else, as tests
-    /// show. It waits for the locks of the table and of the queue, and tries again where other threads draw object
-    /// numbers meanwhile.
+    /// `retire`; then it made no change, the callback comes back, and the new record is back in the pool. It waits for
+    /// the locks of the table and of the queue, and tries again where other threads draw object numbers meanwhile.
     pub fn replace<W: Witness, R: Wait>(
         &self,
         rt: &R,
@@ -199,8 +200,8 @@ impl<'d, P: GracePlan + Drop, B: Site, D: Deleter> RcuHash<'d, P, B, D> {
         callback: D,
     ) -> Result<Ticket, (Refusal, D)>
         requires { W.home witness.old ≡ (B.table, B.sizes) }
-        ensures replaced { IfOk result (λ t. (chain : ℕ) × (left : ObjectId) × (published : Log) × ReplacesThrough P.QSBR tabled B.sizes.chains self.now.directory (W.seen witness.old) (W.heard witness.old) key value chain left published × HandsOver P.QSBR tabled left (chain % B.sizes.queues) t.0 published (W.heard witness.new)) }
-        ensures same { IfOk result (λ _. Stays W.Witness witness.old witness.new × (W.loads witness.new ≡ W.loads witness.old) × ((found : List (ℕ × ℕ)) × (W.looks witness.new ≡ found ++ W.looks witness.old))) }
+        ensures replaced { IfOk result (λ t. (chain : ℕ) × (left : ObjectId) × (published : Log) × ReplacesThrough P.QSBR tabled B.sizes.chains self.now.directory (W.seen witness.old) (W.heard witness.old) key value chain left published × HandsOver P.QSBR tabled left (chain % B.sizes.queues) t.0 published (W.heard witness.new) × MakesLast W.Witness witness.old witness.new published) }
+        ensures same { IfOk result (λ _. (W.loads witness.new ≡ W.loads witness.old) × ((found : List (ℕ × ℕ)) × (W.looks witness.new ≡ found ++ W.looks witness.old))) }
         ensures refused { IfErr result (λ e. (e.1 ≡ callback) × RefusesReplacementThrough W.Witness P.QSBR tabled B.sizes witness.old witness.new e.0 self.now.directory key) }
     {
         let shelf = self.shelf(rt);
@@ -210,12 +211,12 @@ impl<'d, P: GracePlan + Drop, B: Site, D: Deleter> RcuHash<'d, P, B, D> {
         answer
     }
 
-    /// Takes a key that has a value out of the map: one cut, liburcu's `cds_lfht_del`. Its record is retired with the
-    /// callback, `call_rcu`. Both come after all that the caller had seen and heard of, and the caller hears of them.
+    /// Takes a key that has a value out of the map: one cut and no other change, liburcu's `cds_lfht_del`. Its record
+    /// is retired with the callback, `call_rcu`. Both come after all that the caller had seen and heard of, and the
+    /// caller hears of them.
     ///
-    /// Refused with `Missing` only where the key had no value in some log of the call, else as `retire`; then the
-    /// callback comes back, and it wrote nothing, as tests show. It waits for the locks of the table and of the queue
-    /// alone.
+    /// Refused with `Missing` only where the key had no value in some log of the call, else as `retire`; then it made no
+    /// change, and the callback comes back. It waits for the locks of the table and of the queue alone.
     pub fn remove<W: Witness, R: Wait>(
         &self,
         rt: &R,
@@ -224,8 +225,8 @@ impl<'d, P: GracePlan + Drop, B: Site, D: Deleter> RcuHash<'d, P, B, D> {
         callback: D,
     ) -> Result<Ticket, (Refusal, D)>
         requires { W.home witness.old ≡ (B.table, B.sizes) }
-        ensures removed { IfOk result (λ t. (chain : ℕ) × (left : ObjectId) × (published : Log) × RemovesThrough P.QSBR tabled B.sizes.chains self.now.directory (W.seen witness.old) (W.heard witness.old) key chain left published × HandsOver P.QSBR tabled left (chain % B.sizes.queues) t.0 published (W.heard witness.new)) }
-        ensures same { IfOk result (λ _. OnlyHears W.Witness witness.old witness.new) }
+        ensures removed { IfOk result (λ t. (chain : ℕ) × (left : ObjectId) × (published : Log) × RemovesThrough P.QSBR tabled B.sizes.chains self.now.directory (W.seen witness.old) (W.heard witness.old) key chain left published × HandsOver P.QSBR tabled left (chain % B.sizes.queues) t.0 published (W.heard witness.new) × MakesLast W.Witness witness.old witness.new published) }
+        ensures same { IfOk result (λ _. (W.looks witness.new ≡ W.looks witness.old) × (W.loads witness.new ≡ W.loads witness.old)) }
         ensures refused { IfErr result (λ e. (e.1 ≡ callback) × RefusesRemovalThrough W.Witness P.QSBR tabled B.sizes witness.old witness.new e.0 self.now.directory key) }
     {
         let shelf = self.shelf(rt);

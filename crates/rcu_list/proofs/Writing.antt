@@ -118,7 +118,7 @@ by_second (inr b) none f = f b
 
 -- what stays of a witness over two calls
 pub stays_both : {W : Type 0} (w : Ghosts W) (a b c : W) → Stays w a b → Stays w b c → Stays w a c
-stays_both w a b c x y = (y.0 ∙ x.0, y.1 ∙ x.1, y.2 ∙ x.2, λ h. y.3 (x.3 h))
+stays_both w a b c x y = (y.0 ∙ x.0, y.1 ∙ x.1, y.2 ∙ x.2, λ h. y.3 (x.3 h), y.4 ∙ x.4)
 
 -- the writer's chain is free in each log that goes on from what it has seen, in which the note of its chain and the
 -- chains that were lent to it are as it knows them

@@ -8,7 +8,7 @@ ghost use Rattle.live_log.specs.Log.{Begins, note_of};
 ghost use Rattle.live_log.specs.Tables.{HasKey};
 ghost use Rattle.live_table.specs.Rights.{own_in};
 ghost use Rattle.live_table.specs.Steps.{Keeps, Went};
-ghost use Rattle.live_read.specs.Hearing.{IsAfter, OnlyHears, Stays};
+ghost use Rattle.live_read.specs.Hearing.{IsAfter, MakesLast, OnlyHears, OnlyMakesLast};
 ghost use Rattle.live_write.specs.Chains.{list_in};
 ghost use Rattle.rcu_list.specs.Calls.{HandsOver, Inserts, Removes, Replaces};
 ghost use Rattle.rcu_list.specs.Maps.{map_of};
@@ -103,7 +103,7 @@ impl<'d, P: GracePlan + Drop, K: MapRule, B: Site, D: Deleter> RcuList<'d, P, K,
     ) -> Result<(), Refusal>
         requires { W.home witness.old ≡ (B.table, B.sizes) }
         ensures inserted { IfOk result (λ _. Inserts P.QSBR K.allows self.old.chain.number self.old.chain.seat.me.0.seen (W.seen witness.old) (W.heard witness.old) key value self.new.chain.seat.me.0.seen × (W.heard witness.new ≡ self.new.chain.seat.me.0.seen)) }
-        ensures same { IfOk result (λ _. (self.new.chain.number ≡ self.old.chain.number) × Stays W.Witness witness.old witness.new × (W.loads witness.new ≡ W.loads witness.old) × ((found : List (ℕ × ℕ)) × (W.looks witness.new ≡ found ++ W.looks witness.old))) }
+        ensures same { IfOk result (λ _. (self.new.chain.number ≡ self.old.chain.number) × MakesLast W.Witness witness.old witness.new self.new.chain.seat.me.0.seen × (W.loads witness.new ≡ W.loads witness.old) × ((found : List (ℕ × ℕ)) × (W.looks witness.new ≡ found ++ W.looks witness.old))) }
         ensures refused { IfErr result (λ e. RefusesInsertion W.Witness P.QSBR K.allows B.sizes witness.old witness.new e self.old.chain.seat.me.0.seen self.old.chain.number key) }
         ensures kept { IfErr result (λ _. Keeps self.old.chain.seat self.new.chain.seat × Went P.QSBR K.allows self.old.chain.seat.me.0 self.old.chain.seat.me self.new.chain.seat.me × (self.new.chain.number ≡ self.old.chain.number)) }
     {
@@ -129,7 +129,7 @@ impl<'d, P: GracePlan + Drop, K: MapRule, B: Site, D: Deleter> RcuList<'d, P, K,
     ) -> Result<Ticket, (Refusal, D)>
         requires { W.home witness.old ≡ (B.table, B.sizes) }
         ensures replaced { IfOk result (λ t. (left : ObjectId) × Replaces P.QSBR K.allows self.old.chain.number self.old.chain.seat.me.0.seen (W.seen witness.old) (W.heard witness.old) key value left self.new.chain.seat.me.0.seen × HandsOver P.QSBR K.allows left (self.old.chain.number % B.sizes.queues) t.0 self.new.chain.seat.me.0.seen (W.heard witness.new)) }
-        ensures same { IfOk result (λ _. (self.new.chain.number ≡ self.old.chain.number) × Stays W.Witness witness.old witness.new × (W.loads witness.new ≡ W.loads witness.old) × ((found : List (ℕ × ℕ)) × (W.looks witness.new ≡ found ++ W.looks witness.old))) }
+        ensures same { IfOk result (λ _. (self.new.chain.number ≡ self.old.chain.number) × MakesLast W.Witness witness.old witness.new self.new.chain.seat.me.0.seen × (W.loads witness.new ≡ W.loads witness.old) × ((found : List (ℕ × ℕ)) × (W.looks witness.new ≡ found ++ W.looks witness.old))) }
         ensures refused { IfErr result (λ e. (e.1 ≡ callback) × RefusesReplacement W.Witness P.QSBR K.allows B.sizes witness.old witness.new e.0 self.old.chain.seat.me.0.seen self.old.chain.number key (self.old.chain.number % B.sizes.queues)) }
         ensures kept { IfErr result (λ _. Keeps self.old.chain.seat self.new.chain.seat × Went P.QSBR K.allows self.old.chain.seat.me.0 self.old.chain.seat.me self.new.chain.seat.me × (self.new.chain.number ≡ self.old.chain.number)) }
     {
@@ -162,7 +162,7 @@ impl<'d, P: GracePlan + Drop, K: MapRule, B: Site, D: Deleter> RcuList<'d, P, K,
     ) -> Result<Ticket, (Refusal, D)>
         requires { W.home witness.old ≡ (B.table, B.sizes) }
         ensures removed { IfOk result (λ t. (left : ObjectId) × Removes P.QSBR K.allows self.old.chain.number self.old.chain.seat.me.0.seen (W.seen witness.old) (W.heard witness.old) key left self.new.chain.seat.me.0.seen × HandsOver P.QSBR K.allows left (self.old.chain.number % B.sizes.queues) t.0 self.new.chain.seat.me.0.seen (W.heard witness.new)) }
-        ensures same { IfOk result (λ _. (self.new.chain.number ≡ self.old.chain.number) × OnlyHears W.Witness witness.old witness.new) }
+        ensures same { IfOk result (λ _. (self.new.chain.number ≡ self.old.chain.number) × OnlyMakesLast W.Witness witness.old witness.new self.new.chain.seat.me.0.seen) }
         ensures refused { IfErr result (λ e. (e.1 ≡ callback) × RefusesRemoval W.Witness P.QSBR K.allows B.sizes witness.old witness.new e.0 self.old.chain.seat.me.0.seen self.old.chain.number key (self.old.chain.number % B.sizes.queues)) }
         ensures kept { IfErr result (λ _. Keeps self.old.chain.seat self.new.chain.seat × Went P.QSBR K.allows self.old.chain.seat.me.0 self.old.chain.seat.me self.new.chain.seat.me × (self.new.chain.number ≡ self.old.chain.number)) }
     {

@@ -12,7 +12,7 @@ loop-init g c = record {
   heard = ([], refl);
   looks = ([], refl);
   loads = ([], refl);
-  same = (refl, refl, refl, λ h. h);
+  same = (refl, refl, refl, λ h. h, refl);
 }
 
 pub loop-preserved : goal.loop-preserved

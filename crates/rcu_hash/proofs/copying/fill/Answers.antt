@@ -10,8 +10,9 @@ use Rattle.live_log.specs.Log.{Log, Begins}
 use Rattle.live_log.specs.Tables.{tabled}
 use Rattle.live_log.proofs.Lemmas.{begins_trans}
 use Rattle.live_table.specs.Rights.{cell_in, object_in, own_in}
+use Rattle.live_read.specs.Hearing.{OnlyMakesMany}
+use Rattle.live_read.proofs.Lemmas.{more_only, one_only}
 use Rattle.live_write.specs.Chains.{list_in, push_by}
-use Rattle.rcu_list.proofs.Lemmas.{stays_both}
 use Rattle.rcu_list.specs.Maps.{words_of}
 use Rattle.rcu_hash.specs.Copies.{AreRanked, value_among}
 use Rattle.rcu_hash.specs.Growing.{CopiesAll}
@@ -36,7 +37,7 @@ loop-init g c = let r = c.requires in let rest = c.into_iter-rest.ensures in rec
   filled = λ start from. ([], refl);
   numbers = refl;
   heard = ([], refl);
-  same = (((refl, refl, refl, λ h. h), refl), refl);
+  same = (record { changes = []; are = refl; made = (refl, refl, refl, λ h. h, refl) }, refl, refl);
 }
 
 pub push-requires-clause-rule : goal.push-requires-clause-rule
@@ -92,13 +93,13 @@ loop-preserved g c =
             tells = record {
               before = p.pushed.before;
               wrote = p.pushed.wrote ∙ ap (λ (z : LiveEvent). z ∷ p.pushed.before) event;
-              after = (subst (λ (l : Log). Begins l p.pushed.before) i.same.0.0.0 p.pushed.after.after_caller.0, p.pushed.after.after_caller.1);
+              after = (subst (λ (l : Log). Begins l p.pushed.before) i.same.0.made.0 p.pushed.after.after_caller.0, p.pushed.after.after_caller.1);
               run = p.pushed.run;
             };
           }));
       numbers = map-set_same (λ c. c.number) items k now chain (p.list.3 ∙ ap (λ c. c.number) is) ∙ i.numbers;
       heard = subst (Begins (w.heard w0)) (sym p.heard) (begins_trans (w.heard w0) p.pushed.before now.seat.me.0.seen (begins_trans (w.heard w0) (w.heard w1) p.pushed.before i.heard p.pushed.after.after_caller.1) (_ ∷ [], p.pushed.wrote));
-      same = ((stays_both w w0 w1 w2 i.same.0.0 p.same.0.0, p.same.0.1 ∙ i.same.0.1), p.same.1 ∙ i.same.1);
+      same = more_only w w0 w1 w2 c.loop.counter 1 i.same (one_only w w1 w2 now.seat.me.0.seen p.same);
     }
 
 pub returns-clause-values : goal.returns-clause-values
@@ -123,3 +124,9 @@ returns-clause-known g c =
       each_weaker HasNoNote (Holds k) vs (λ v h. h.unnoted) i.holds,
       each_weaker IsAlone (Holds k) vs (λ v h. h.alone) i.holds,
     )
+
+pub returns-clause-same : goal.returns-clause-same
+returns-clause-same g c =
+    let i = c.loop.invariant in
+    let all : c.loop.counter ≡ vec_len c.args.copied = let left = i.left in let end = c.loop-test.false in let most = c.loop.auto.counter-end in let many = c.len-many.ensures in omega arith in
+    subst (OnlyMakesMany g.W.Witness c.args.witness.now c.loop.witness) all i.same

@@ -2,7 +2,7 @@ use Rattle.std.proofs.Common.{◌≡◌, ◌+◌, ◌%◌, ◌++◌, ℕ, List, 
 use Rattle.std.specs.Vec.Iter.{into_iter_items, into_iter_len}
 use Rattle.live_log.specs.Log.{Begins}
 use Rattle.live_log.specs.Tables.{tabled}
-use Rattle.live_read.specs.Hearing.{OnlyHears}
+use Rattle.live_read.specs.Hearing.{OnlyMakesMany}
 use Rattle.rcu_hash.specs.Copies.{AreRanked, value_among}
 use Rattle.rcu_hash.specs.Growing.{CopiesAll}
 use Rattle.rcu_hash.specs.Leaving.{Writes}
@@ -23,5 +23,5 @@ invariant-loop g l = record {
   filled : (first : ℕ) → AreFrom first (map (λ c. c.seat.me.0) l.fn.chains.items) → CopiesAll (Writes g.P.GracePlan.QSBR tabled (g.W.Witness.seen l.fn.witness)) first l.buckets (g.W.Witness.heard l.fn.witness) done (g.W.Witness.heard l.witness);
   numbers : map (λ c. c.number) l.chains.items ≡ map (λ c. c.number) l.fn.chains.items;
   heard : Begins (g.W.Witness.heard l.fn.witness) (g.W.Witness.heard l.witness);
-  same : OnlyHears g.W.Witness l.fn.witness l.witness;
+  same : OnlyMakesMany g.W.Witness l.fn.witness l.witness l.counter;
 }

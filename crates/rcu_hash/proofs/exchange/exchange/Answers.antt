@@ -23,6 +23,7 @@ use Rattle.rcu_hash.proofs.Exchanging.{drop_first, each_all, take_first}
 use Rattle.rcu_hash.proofs.Held.{all_named, drop_all, each_map, each_rights, from_rights, lengths_many, named_by, rights_many, take_all}
 use Rattle.rcu_hash.proofs.Named.{leads_there}
 use Rattle.rcu_hash.proofs.Relinking.{alone_after, directory_by, first_only, free_named, keys_back, map_after, map_before, may_relink, noted_old, replaced_only, saw_on, words_after, words_since}
+use Rattle.live_read.specs.Hearing.{OnlyMakesLast}
 use Rattle.rcu_hash.proofs.exchange.exchange.Goals as goal
 
 pub lend_all-old_lents-requires-clause-known : goal.lend_all-old_lents-requires-clause-known
@@ -273,3 +274,6 @@ returns-clause-grown g c entries apart had =
       had = λ key. map_was key ∙ (sym (by_old key) ∙ had key);
       apart = apart;
     })
+
+pub returns-clause-same : goal.returns-clause-same
+returns-clause-same g c = let s = c.in-Ok.ensures in subst (OnlyMakesLast g.W.Witness c.args.witness.now c.replace.new.witness) (sym s.heard) s.same

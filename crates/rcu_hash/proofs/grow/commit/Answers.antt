@@ -21,6 +21,8 @@ use Rattle.rcu_hash.proofs.Filling.{copies_leave, copies_weaker, notes_leave}
 use Rattle.rcu_hash.proofs.Held.{each_map, pair_from}
 use Rattle.rcu_hash.proofs.Named.{own_used, words_later}
 use Rattle.rcu_hash.proofs.Regrown.{all_outside, noted_since, numbers_from, pair_keys, pair_values}
+use Rattle.live_read.specs.Hearing.{OnlyMakesMany}
+use Rattle.live_read.proofs.Lemmas.{hears_makes, more_only, none_only, one_only}
 use Rattle.rcu_hash.proofs.grow.commit.Goals as goal
 
 pub invariant_of-directory : goal.invariant_of-directory
@@ -108,7 +110,7 @@ returns-clause-grown g c =
     let told : NotesAll (Writes q tabled (w.seen w0)) (z.directory + 1) first m (w.heard w2) (w.heard w3) =
     subst (λ (y : Naming). NotesAll (Writes q tabled (w.seen w0)) (y.directory + 1) first m (w.heard w2) (w.heard w3)) (sym is)
     (subst (λ (k : ℕ). NotesAll (Writes q tabled (w.seen w0)) (c.args.shelf.now.naming.directory + 1) first k (w.heard w2) (w.heard w3)) f.chains.0
-    (subst (λ (s : Log). NotesAll (Writes q tabled s) (c.args.shelf.now.naming.directory + 1) first (vec_len c.fill.new.chains) (w.heard w2) (w.heard w3)) (f.same.0.0.0 ∙ h.same.0.0.0) (n.told first from))) in
+    (subst (λ (s : Log). NotesAll (Writes q tabled s) (c.args.shelf.now.naming.directory + 1) first (vec_len c.fill.new.chains) (w.heard w2) (w.heard w3)) (f.same.0.made.0 ∙ h.same.0.0.0) (n.told first from))) in
     subst (λ (y : Naming). Grows q tabled chains y.directory (w.seen w0) (w.heard w0) first m entries (w.heard w4)) is (record {
       copied = w.heard w2;
       noted = w.heard w3;
@@ -116,6 +118,14 @@ returns-clause-grown g c =
       copies = copies_weaker (LeavesMap q tabled chains z.directory (w.seen w0)) (leaves_weaker q tabled chains z.directory (w.seen w0)) first m (w.heard w0) (w.heard w1) entries (w.heard w2) (subst (Begins (w.heard w0)) (sym h.heard) h.told.0.after_heard)
           (copies_leave q (w.seen w0) chains z.first z.buckets dir.fits.0 dir.fits.1 z.directory z.object t before run was e.linked words first m apart r.0 (w.heard w1) entries (w.heard w2) on to_noted copies);
       notes = notes_leave q (w.seen w0) chains z.first z.buckets dir.fits.0 dir.fits.1 z.directory z.object t before run was e.linked words first m apart (z.directory + 1) (w.heard w2) (w.heard w3) (begins_trans t (w.heard w1) (w.heard w2) on f.heard) last.after.1 told;
-      exchanges = subst (λ (s : Log). Exchanges q tabled chains z.directory s (w.heard w3) z.object first m entries (w.heard w4)) (n.same.0.0.0 ∙ (f.same.0.0.0 ∙ h.same.0.0.0))
+      exchanges = subst (λ (s : Log). Exchanges q tabled chains z.directory s (w.heard w3) z.object first m entries (w.heard w4)) (n.same.0.0.0 ∙ (f.same.0.made.0 ∙ h.same.0.0.0))
           (subst (λ (k : ℕ). Exchanges q tabled chains z.directory (w.seen w3) (w.heard w3) z.object first k entries (w.heard w4)) size e);
     })
+
+pub returns-clause-same : goal.returns-clause-same
+returns-clause-same g c =
+    let w = g.W.Witness in let w0 = c.args.witness.now in let w1 = c.hear.new.witness in let w2 = c.fill.new.witness in let w3 = c.note_all.new.witness in let w4 = c.exchange-directory.new.witness in let k = vec_len c.args.growth.copied in
+    let all : 0 + k ≡ k = omega arith in
+    let filled = subst (OnlyMakesMany w w0 w2) all (more_only w w0 w1 w2 0 k (none_only w w0 w1 c.hear.ensures.same) c.fill.ensures.same) in
+    let named = one_only w w2 w4 (w.heard w4) (hears_makes w w2 w3 w4 (w.heard w4) c.note_all.ensures.same c.exchange-directory.ensures.same) in
+    more_only w w0 w2 w4 k 1 filled named

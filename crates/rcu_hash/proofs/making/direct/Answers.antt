@@ -24,6 +24,7 @@ use Rattle.rcu_hash.specs.Writers.{Each, HasKeysIn, HasNothing, lengths_of, righ
 use Rattle.rcu_hash.proofs.Directing.{directed_is}
 use Rattle.rcu_hash.proofs.Held.{all_named, drop_all, each_map, each_rights, free_after, from_rights, known_empty, known_note, lengths_many, may_direct, named_by, nothing_has_keys, rights_many, take_all, undirected_free}
 use Rattle.rcu_hash.proofs.Named.{leads_all, leads_there}
+use Rattle.live_read.specs.Hearing.{OnlyMakesLast}
 use Rattle.rcu_hash.proofs.making.direct.Goals as goal
 
 pub lend_all-lents-requires-clause-known : goal.lend_all-lents-requires-clause-known
@@ -159,3 +160,6 @@ returns-clause-pushed g c =
         run = p.pushed.run;
       }),
     )
+
+pub returns-clause-same : goal.returns-clause-same
+returns-clause-same g c = let p = c.push-object.ensures in subst (OnlyMakesLast g.W.Witness c.args.witness.now c.push-object.new.witness) (sym p.heard) p.same

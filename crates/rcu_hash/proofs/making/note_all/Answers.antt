@@ -27,7 +27,7 @@ loop-init g c =
       notes = λ start from. ([], refl);
       runs = rw none tt;
       heard = ([], refl);
-      told = (((refl, refl, refl, λ h. h), refl), refl);
+      told = (((refl, refl, refl, λ h. h, refl), refl), refl);
     }
 
 pub set_note-requires-clause-rule : goal.set_note-requires-clause-rule

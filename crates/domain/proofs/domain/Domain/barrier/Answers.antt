@@ -24,7 +24,7 @@ loop-preserved g c =
     let seen : Log = g.W.Witness.seen c.args.witness.now in let heard : Log = g.W.Witness.heard c.args.witness.now in
     let asked : Log = c.barrier_start-mark.result.asked.value.me.0.seen in
     let mid : Log = g.W.Witness.heard c.loop.witness in let end : Log = g.W.Witness.heard c.barrier_done.new.witness in (
-      (s.0.0 ∙ i.0.0, s.0.1 ∙ i.0.1, s.0.2 ∙ i.0.2, λ x. s.0.3 (i.0.3 x)),
+      (s.0.0 ∙ i.0.0, s.0.1 ∙ i.0.1, s.0.2 ∙ i.0.2, λ x. s.0.3 (i.0.3 x), s.0.4 ∙ i.0.4),
       s.1 ∙ i.1,
       begins_trans asked mid end i.2 e.after_heard,
       record { after_seen = begins_trans seen mid end i.3.after_seen e.after_heard; after_heard = begins_trans heard mid end i.3.after_heard e.after_heard; run = e.run },

@@ -14,7 +14,7 @@ loop-number-preserved g c =
     let q : ℕ = c.deref_mut.result.now.2 in
     let number : q ≡ n = ap (λ (x : Jobs × View × ℕ). x.2) c.deref_mut.ensures.value ∙ c.lock.ensures in
     let closes = c.close.ensures.closed in (
-      (((s.0.0.0 ∙ i.0.0.0.0, s.0.0.1 ∙ i.0.0.0.1, s.0.0.2 ∙ i.0.0.0.2, λ x. s.0.0.3 (i.0.0.0.3 x)), s.0.1 ∙ i.0.0.1), s.1 ∙ i.0.1),
+      (((s.0.0.0 ∙ i.0.0.0.0, s.0.0.1 ∙ i.0.0.0.1, s.0.0.2 ∙ i.0.0.0.2, λ x. s.0.0.3 (i.0.0.0.3 x), s.0.0.4 ∙ i.0.0.0.4), s.0.1 ∙ i.0.0.1), s.1 ∙ i.0.1),
       all_closed g.P.GracePlan.QSBR g.K.ChainRule.allows was mid q end closes n number i.1,
       inr (is_after g.P.GracePlan.QSBR g.K.ChainRule.allows was mid q end closes seen heard n i.0.0.0.0 i.2),
     )

@@ -9,6 +9,8 @@ use Rattle.live_rule.specs.Seats.{lent_chains}
 use Rattle.live_rule.specs.declared.rights.ChainRight.{ChainRight}
 use Rattle.live_rule.specs.declared.view.View.{View}
 use Rattle.live_table.specs.Rights.{own_in}
+use Rattle.live_read.specs.Hearing.{MakesLast}
+use Rattle.live_read.proofs.Lemmas.{stays_makes}
 use Rattle.live_write.specs.Chains.{list_in}
 use Rattle.std.proofs.lemmas.Result.{err_from_is_err_and}
 use Rattle.rcu_list.specs.Calls as list
@@ -16,7 +18,7 @@ use Rattle.rcu_list.specs.Maps.{map_of}
 use Rattle.rcu_list.specs.Refusing as refusing
 use Rattle.rcu_hash.specs.Directories.{LeadsTo, directed_map}
 use Rattle.rcu_hash.proofs.Hearing.{insertion_through}
-use Rattle.rcu_list.proofs.Lemmas.{chain_known, comes_in, keys_on, keys_pushed, keys_walked, pushed_map, same_own, stays_both}
+use Rattle.rcu_list.proofs.Lemmas.{chain_known, comes_in, keys_on, keys_pushed, keys_walked, pushed_map, same_own}
 use Rattle.rcu_hash.specs.declared.directory.Naming.{Naming}
 use Rattle.rcu_hash.specs.Naming.{WasNamed, words_by}
 use Rattle.rcu_hash.specs.Publishing.{InsertsThrough}
@@ -107,12 +109,13 @@ returns-clause-inserted g c =
 
 pub returns-clause-heard : goal.returns-clause-heard
 returns-clause-heard g c =
-    let w = g.W.Witness in let w0 = c.args.witness.now in let w1 = c.hear.new.witness in let w2 = c.prepare_insertion.new.witness in let w3 = c.push.new.witness in
-    let h = c.hear.ensures.same.0 in let r = c.in_ok-owned.ensures.same in let p = c.push.ensures.same in (
-      stays_both w w0 w1 w3 h.0.0 (stays_both w w1 w2 w3 r.0 p.0.0),
-      p.1 ∙ (r.1 ∙ h.1),
-      (r.2.0, p.0.1 ∙ (r.2.1 ∙ ap (λ (l : List (ℕ × ℕ)). r.2.0 ++ l) h.0.1)),
-    )
+    let h = c.hear.ensures.same.0 in let r = c.in_ok-owned.ensures.same in let p = c.push.ensures.same in
+    (p.2 ∙ (r.1 ∙ h.1), (r.2.0, p.1 ∙ (r.2.1 ∙ ap (λ (l : List (ℕ × ℕ)). r.2.0 ++ l) h.0.1)))
+
+pub returns-clause-changes : goal.returns-clause-changes
+returns-clause-changes g c =
+    let w = g.W.Witness in let w0 = c.args.witness.now in let w1 = c.hear.new.witness in let w2 = c.prepare_insertion.new.witness in let w3 = c.push.new.witness in let p = c.push.ensures in let log : Log = c.push.new.self.seat.me.0.seen in
+    subst (MakesLast w w0 w3) (sym p.heard) (stays_makes w w0 w1 w3 log c.hear.ensures.same.0.0.0 (stays_makes w w1 w2 w3 log c.in_ok-owned.ensures.same.0 p.same.0))
 
 pub returns-in_err-owned-clause-refused : goal.returns-in_err-owned-clause-refused
 returns-in_err-owned-clause-refused g c =

@@ -12,6 +12,7 @@ use Rattle.live_rule.specs.declared.rights.ChainRight.{ChainRight}
 use Rattle.live_rule.specs.declared.view.View.{View}
 use Rattle.live_table.specs.Rights.{own_in}
 use Rattle.live_items.specs.Retiring.{Queues}
+use Rattle.live_read.proofs.Lemmas.{stays_makes}
 use Rattle.live_write.specs.Chains.{list_in}
 use Rattle.live_write.proofs.Lemmas.{index_has}
 use Rattle.std.proofs.lemmas.Option.{slice_get_within}
@@ -21,7 +22,7 @@ use Rattle.rcu_list.specs.Calls as list
 use Rattle.rcu_list.specs.Maps.{map_of}
 use Rattle.rcu_hash.specs.Directories.{LeadsTo, directed_map}
 use Rattle.rcu_hash.proofs.Hearing.{removal_missing, removal_refused}
-use Rattle.rcu_list.proofs.Lemmas.{KnowsKeys, by_result, by_second, found_there, if_err, walked_missing, chain_known, cut_map, if_ok, keys_cut, keys_on, keys_walked, may_remove, note_walked, same_own, stays_both}
+use Rattle.rcu_list.proofs.Lemmas.{KnowsKeys, by_result, by_second, found_there, if_err, walked_missing, chain_known, cut_map, if_ok, keys_cut, keys_on, keys_walked, may_remove, note_walked, same_own}
 use Rattle.rcu_hash.specs.declared.directory.Naming.{Naming}
 use Rattle.rcu_hash.specs.Naming.{WasNamed, words_by}
 use Rattle.rcu_hash.specs.Publishing.{RemovesThrough}
@@ -120,6 +121,7 @@ returns-clause-removed g c =
       subst (λ (x : ℕ). RemovesThrough q tabled chains c.args.self.now.naming.directory seen heard key x r.object log) c.requires.key
           (subst (λ (m : Naming). RemovesThrough q tabled chains m.directory seen heard key (bucket_of m.first m.buckets key) r.object log) named through),
       record { given = r.given; turn = r.turn; queued = subst (λ (x : ℕ). Queues q tabled (Begins log) r.object (x % queues) r.given (w.heard w2)) (number ∙ h.same.2) r.queued },
+      stays_makes w w0 w1 w2 log h.same.0.0.0 z.0.0,
     ))
     c.cut_retire-answer.ensures.retired c.cut_retire-answer.ensures.same
 
@@ -152,5 +154,5 @@ returns-clause-refused g c =
 
 pub returns-clause-heard : goal.returns-clause-heard
 returns-clause-heard g c =
-    let w = g.W.Witness in let w0 = c.args.witness.now in let w1 = c.hear.new.witness in let w2 = c.cut_retire-answer.new.witness in let h = c.hear.ensures.same.0 in
-    if_ok c.cut_retire-answer.result _ _ _ (λ t z r. ((stays_both w w0 w1 w2 h.0.0 z.0.0.0, z.0.0.1 ∙ h.0.1), z.0.1 ∙ h.1)) c.cut_retire-answer.ensures.same c.cut_retire-answer.ensures.retired
+    let h = c.hear.ensures.same.0 in
+    if_ok c.cut_retire-answer.result _ _ _ (λ t z r. (z.0.1 ∙ h.0.1, z.0.2 ∙ h.1)) c.cut_retire-answer.ensures.same c.cut_retire-answer.ensures.retired

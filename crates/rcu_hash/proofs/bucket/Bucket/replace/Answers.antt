@@ -12,6 +12,7 @@ use Rattle.live_rule.specs.declared.rights.ChainRight.{ChainRight}
 use Rattle.live_rule.specs.declared.view.View.{View}
 use Rattle.live_table.specs.Rights.{cell_in, own_in}
 use Rattle.live_items.specs.Retiring.{Queues}
+use Rattle.live_read.proofs.Lemmas.{stays_makes}
 use Rattle.live_write.specs.Chains.{list_in}
 use Rattle.live_write.proofs.Lemmas.{index_has}
 use Rattle.std.proofs.lemmas.Option.{slice_get_within}
@@ -124,16 +125,13 @@ returns-in-Ok-answer-clause-replaced g c =
       subst (λ (x : ℕ). ReplacesThrough q tabled chains c.args.self.now.naming.directory seen heard key value x r.object log) c.requires.key
           (subst (λ (m : Naming). ReplacesThrough q tabled chains m.directory seen heard key value (bucket_of m.first m.buckets key) r.object log) named through),
       record { given = r.given; turn = r.turn; queued = subst (λ (x : ℕ). Queues q tabled (Begins log) r.object (x % queues) r.given (w.heard w3)) (number ∙ h.same.2) r.queued },
+      stays_makes w w0 w1 w3 log h.same.0.0.0 (stays_makes w w1 w2 w3 log p.same.0 z.0.0),
     )
 
 pub returns-in-Ok-answer-clause-heard : goal.returns-in-Ok-answer-clause-heard
 returns-in-Ok-answer-clause-heard g c =
-    let w = g.W.Witness in let w0 = c.args.witness.now in let w1 = c.hear.new.witness in let w2 = c.prepare_replacement.new.witness in let w3 = c.replace_retire-answer.new.witness in
-    let h = c.hear.ensures.same.0 in let r = c.in-Ok.ensures.same in let z = c.in-Ok-answer.ensures.same.0 in (
-      stays_both w w0 w1 w3 h.0.0 (stays_both w w1 w2 w3 r.0 z.0.0),
-      z.1 ∙ (r.1 ∙ h.1),
-      (r.2.0, z.0.1 ∙ (r.2.1 ∙ ap (λ (l : List (ℕ × ℕ)). r.2.0 ++ l) h.0.1)),
-    )
+    let h = c.hear.ensures.same.0 in let r = c.in-Ok.ensures.same in let z = c.in-Ok-answer.ensures.same.0 in
+    (z.2 ∙ (r.1 ∙ h.1), (r.2.0, z.1 ∙ (r.2.1 ∙ ap (λ (l : List (ℕ × ℕ)). r.2.0 ++ l) h.0.1)))
 
 pub returns-in-Err-clause-refused : goal.returns-in-Err-clause-refused
 returns-in-Err-clause-refused g c =

@@ -1,7 +1,7 @@
-use Rattle.std.proofs.Common.{◌≡◌, ◌+◌, length}
+use Rattle.std.proofs.Common.{◌≡◌, ◌+◌, length, vec_len}
 use Rattle.live_log.specs.Tables.{tabled}
 use Rattle.live_write.specs.Chains.{list_in}
-use Rattle.rcu_hash.specs.Tidying.{FindsMore, HasWaited, IsLeft, Uses}
+use Rattle.rcu_hash.specs.Tidying.{FindsByJobs, HasWaited, IsLeft, Uses}
 use Rattle.rcu_hash.proofs.directory.Desk.retire_all.Given as goal
 
 abbrev pub invariant-loop : goal.invariant-loop
@@ -10,5 +10,5 @@ invariant-loop g l = record {
   uses : Uses g.P.GracePlan.QSBR tabled g.B.Site.sizes l.naming.directory (g.W.Witness.seen l.fn.witness) l.fn.jobs.items l.jobs.items (g.W.Witness.heard l.fn.witness) (g.W.Witness.heard l.witness);
   chain : IsLeft l.naming.directory l.naming.first l.naming.buckets l.chain.seat.me.0;
   waited : HasWaited l.naming.directory l.naming.object (g.W.Witness.heard l.witness);
-  same : FindsMore g.W.Witness l.fn.witness l.witness;
+  same : FindsByJobs g.W.Witness l.fn.witness l.witness (vec_len l.fn.jobs) (vec_len l.jobs);
 }

@@ -10,6 +10,8 @@ use Rattle.rcu_hash.specs.Refusing.{IsUnused}
 use Rattle.rcu_hash.specs.Tables.{are_apart}
 use Rattle.rcu_hash.proofs.Regrown.{grows_go, grows_since}
 use Rattle.rcu_hash.proofs.Taking.{during_earlier, in_both}
+use Rattle.live_read.specs.Hearing.{MakesMany}
+use Rattle.live_read.proofs.Lemmas.{more_made, none_made}
 use Rattle.rcu_hash.proofs.table.RcuHash.grow.Goals as goal
 
 pub commit-rest-requires-clause-copied : goal.commit-rest-requires-clause-copied
@@ -58,3 +60,9 @@ returns-then-not-are_apart-clause-refused g c =
     let both = in_both n.first n.buckets c.args.first c.args.buckets c.deref.result.now.many.0 some apart in
     let note : chain_note both.0 log ≡ n.directory + 1 = h.noted both.0 both.1 in
     inr (inl (refl, inr (record { chain = both.0; one = both.2; found = []; looks = h.same.0.1; why = inr (record { at = log; after = h.heard; before = ([], refl); so = inr (λ none. absurd (omega (arith, note, none))) }) })))
+
+pub returns-clause-changes : goal.returns-clause-changes
+returns-clause-changes g c =
+    let w = g.W.Witness in let w0 = c.args.witness.now in let w1 = c.ready.new.witness in let w2 = c.commit-rest.new.witness in let many = vec_len c.in_ok-growth.growth.copied + 1 in
+    let left : 0 + many ≡ c.len-left.result + 1 = let len = c.len-left.ensures in omega arith in
+    (subst (MakesMany w w0 w2) left (more_made w w0 w1 w2 0 many (none_made w w0 w1 c.ready.ensures.same) c.commit-rest.ensures.same.0), tt)

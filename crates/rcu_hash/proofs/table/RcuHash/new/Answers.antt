@@ -88,7 +88,7 @@ pub returns-clause-looks : goal.returns-clause-looks
 returns-clause-looks g c =
     let w = g.W.Witness in let one = c.hold_empty.ensures.same.2 in let two = c.hold_all.ensures.same.2 in let three = c.alloc.ensures.looks in let n = c.note_all-chains.ensures.same in let d = c.direct-writer.ensures.same in
     let held = looks_both (w.looks c.args.witness.now) (w.looks c.hold_empty.new.witness) (w.looks c.hold_all.new.witness) one.0 two.0 one.1 two.1 in
-    (three.0 ++ (two.0 ++ one.0), d.0.1 ∙ (n.0.1 ∙ looks_both (w.looks c.args.witness.now) (w.looks c.hold_all.new.witness) (w.looks c.alloc.new.witness) (two.0 ++ one.0) three.0 held three.1), tt)
+    (three.0 ++ (two.0 ++ one.0), d.1 ∙ (n.0.1 ∙ looks_both (w.looks c.args.witness.now) (w.looks c.hold_all.new.witness) (w.looks c.alloc.new.witness) (two.0 ++ one.0) three.0 held three.1), tt)
 
 -- the directory's chain was unused once it was held, and then each bucket's
 pub returns-clause-free : goal.returns-clause-free

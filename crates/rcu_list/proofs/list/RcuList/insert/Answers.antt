@@ -5,6 +5,7 @@ use Rattle.live_log.specs.Log.{Log, Begins}
 use Rattle.live_log.specs.Maps.{IsUnnoted}
 use Rattle.live_log.proofs.Lemmas.{begins_trans}
 use Rattle.live_rule.specs.declared.rights.ChainRight.{ChainRight}
+use Rattle.live_read.proofs.Lemmas.{stays_makes}
 use Rattle.live_write.specs.Chains.{list_in}
 use Rattle.rcu_list.specs.Refusing.{RefusesInsertion}
 use Rattle.rcu_list.proofs.Writing.{by_no_note, chain_known, comes_in, keys_pushed, keys_walked, note_still, pushed_map, same_own}
@@ -62,3 +63,12 @@ invariant_of-self-2 g c =
           (ap (λ (l : List ℕ). slice_index_or l 3 0) c.in_ok-owned.ensures.ready.0.words)
           (p.list.0 ∙ ap (λ (o : ObjectId). o ∷ list_in new.seat.me.0) p.object);
     }
+
+pub returns-clause-same : goal.returns-clause-same
+returns-clause-same g c =
+    let a = c.in_ok-owned.ensures in let p = c.push.ensures in let m = p.same in let s = a.same in (
+      p.list.3 ∙ a.looked.2,
+      stays_makes g.W.Witness c.args.witness.now c.prepare_insertion.new.witness c.push.new.witness c.push.new.self.seat.me.0.seen s.0 m.0,
+      m.2 ∙ s.1,
+      (s.2.0, m.1 ∙ s.2.1),
+    )

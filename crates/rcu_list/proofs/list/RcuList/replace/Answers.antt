@@ -10,6 +10,7 @@ use Rattle.live_rule.specs.Places.{cell_at, closed_at}
 use Rattle.live_rule.specs.declared.rights.ChainRight.{ChainRight}
 use Rattle.live_table.specs.Rights.{cell_in, own_in}
 use Rattle.live_items.specs.Retiring.{Queues}
+use Rattle.live_read.proofs.Lemmas.{stays_makes}
 use Rattle.live_write.specs.Chains.{list_in}
 use Rattle.live_write.proofs.Lemmas.{index_has}
 use Rattle.rcu_list.proofs.Writing.{by_no_note, by_second, chain_known, keys_walked, note_still, note_walked, replaced_map, same_own, stays_both, takes_over, KnowsKeys, by_result, keys_replaced}
@@ -49,6 +50,15 @@ returns-in-Ok-replace_retire-clause-replaced g c =
             begins_trans (g.W.Witness.heard c.args.witness.now) (g.W.Witness.heard c.prepare_replacement.new.witness) before a.heard.after_heard r.published.after.after_caller.1,
           ),
       record { given = r.given; turn = r.turn; queued = subst (λ (n : ℕ). Queues qsbr allows (Begins done.seat.me.0.seen) r.object (n % g.B.Site.sizes.queues) r.given (g.W.Witness.heard c.replace_retire.new.witness)) number r.queued },
+    )
+
+pub returns-in-Ok-replace_retire-clause-same : goal.returns-in-Ok-replace_retire-clause-same
+returns-in-Ok-replace_retire-clause-same g c =
+    let a = c.in-Ok.ensures in let r = c.in-Ok-replace_retire.ensures.same in let m = r.0 in let s = a.same in (
+      r.1 ∙ a.looked.2,
+      stays_makes g.W.Witness c.args.witness.now c.prepare_replacement.new.witness c.replace_retire.new.witness c.replace_retire.new.chain.seat.me.0.seen s.0 m.0,
+      m.2 ∙ s.1,
+      (s.2.0, m.1 ∙ s.2.1),
     )
 
 pub returns-in-Err-replace_retire-clause-refused : goal.returns-in-Err-replace_retire-clause-refused

@@ -1,0 +1,55 @@
+-- What a witness knows after one call and another, where a change of a chain was made for it in one of them.
+use Rattle.std.proofs.Common.{ℕ, ◌+◌, [], ◌∷◌, ◌++◌, ◌∙◌, length, ap, sym, refl, append_assoc, arith}
+use Rattle.std.proofs.lemmas.List.{length-append}
+use Rattle.live_log.specs.Log.{Log}
+use Rattle.live_read.specs.Hearing.{MakesLast, MakesMany, OnlyHears, OnlyMakesLast, OnlyMakesMany, Stays}
+use Rattle.live_read.specs.declared.witness.Witness.{Ghosts}
+
+module _ {W : Type 0} (w : Ghosts W) (a b c : W) (log : Log) where
+  -- the change came first
+  pub makes_stays : MakesLast w a b log → Stays w b c → MakesLast w a c log
+  makes_stays m s = let n = m.made in record {
+    event = m.event;
+    before = m.before;
+    is = m.is;
+    made = (s.0 ∙ n.0, s.1 ∙ n.1, s.2 ∙ n.2, λ h. s.3 (n.3 h), s.4 ∙ n.4);
+  }
+
+  pub makes_hears : OnlyMakesLast w a b log → OnlyHears w b c → OnlyMakesLast w a c log
+  makes_hears m s = (makes_stays m.0 s.0.0, s.0.1 ∙ m.1, s.1 ∙ m.2)
+
+  -- the change came last
+  pub stays_makes : Stays w a b → MakesLast w b c log → MakesLast w a c log
+  stays_makes s m = let n = m.made in record {
+    event = m.event;
+    before = m.before;
+    is = m.is;
+    made = (n.0 ∙ s.0, n.1 ∙ s.1, n.2 ∙ s.2, λ h. n.3 (s.3 h), n.4 ∙ ap (λ (l : Log). m.event ∷ l) s.4);
+  }
+
+  pub hears_makes : OnlyHears w a b → OnlyMakesLast w b c log → OnlyMakesLast w a c log
+  hears_makes s m = (stays_makes s.0.0 m.0, m.1 ∙ s.0.1, m.2 ∙ s.1)
+
+-- how many changes were made
+module _ {W : Type 0} (w : Ghosts W) where
+  pub none_made : (a b : W) → Stays w a b → MakesMany w a b 0
+  none_made a b s = record { changes = []; are = refl; made = s }
+
+  pub one_made : (a b : W) (log : Log) → MakesLast w a b log → MakesMany w a b 1
+  one_made a b log m = record { changes = m.event ∷ []; are = refl; made = m.made }
+
+  pub more_made : (a b c : W) (m n : ℕ) → MakesMany w a b m → MakesMany w b c n → MakesMany w a c (m + n)
+  more_made a b c m n x y = let s = x.made in let t = y.made in record {
+    changes = y.changes ++ x.changes;
+    are = let all = length-append y.changes x.changes in omega (arith, all, x.are, y.are);
+    made = (t.0 ∙ s.0, t.1 ∙ s.1, t.2 ∙ s.2, λ h. t.3 (s.3 h), t.4 ∙ (ap (λ (l : Log). y.changes ++ l) s.4 ∙ sym (append_assoc y.changes x.changes (w.changes a))));
+  }
+
+  pub none_only : (a b : W) → OnlyHears w a b → OnlyMakesMany w a b 0
+  none_only a b h = (none_made a b h.0.0, h.0.1, h.1)
+
+  pub one_only : (a b : W) (log : Log) → OnlyMakesLast w a b log → OnlyMakesMany w a b 1
+  one_only a b log m = (one_made a b log m.0, m.1, m.2)
+
+  pub more_only : (a b c : W) (m n : ℕ) → OnlyMakesMany w a b m → OnlyMakesMany w b c n → OnlyMakesMany w a c (m + n)
+  more_only a b c m n x y = (more_made a b c m n x.0 y.0, y.1 ∙ x.1, y.2 ∙ x.2)
