@@ -20,8 +20,8 @@ use Rattle.live_rule.specs.declared.view.Sizes.{Sizes}
 use Rattle.live_rule.specs.declared.view.View.{View}
 use Rattle.live_table.specs.Rights.{AreAsKnown, IsListed, IsWriter, own_in}
 use Rattle.live_items.specs.Retiring.{Queues}
-use Rattle.live_read.specs.Hearing.{OnlyHears, OnlyMakesLast}
-use Rattle.live_read.proofs.Lemmas.{more_made, none_made, one_made}
+use Rattle.live_read.specs.Hearing.{MakesMany, OnlyHears, OnlyMakesLast, Stays}
+use Rattle.live_read.proofs.Lemmas.{more_made, none_made}
 use Rattle.live_read.specs.declared.witness.Witness.{Ghosts}
 use Rattle.live_reclaim.specs.Refusing.{RefusesRetirement}
 use Rattle.live_write.specs.Chains.{MayPublish, list_in}
@@ -30,7 +30,7 @@ use Rattle.rcu_hash.specs.Directories.{directed_map}
 use Rattle.rcu_hash.specs.Leaving.{LeavesMap, Writes}
 use Rattle.rcu_hash.specs.Naming.{words_by}
 use Rattle.rcu_hash.specs.Tables.{bucket_of}
-use Rattle.rcu_hash.specs.Tidying.{ClearsNote, Cuts, Clears, Does, FindsMore, Follow, HasWaited, IsLeft, IsRefused, Kind, Retires, Tidies, Uses, WasReplaced, objects_in, retired_by, retired_in}
+use Rattle.rcu_hash.specs.Tidying.{ClearsNote, Cuts, Clears, Does, FindsMore, Follow, HasWaited, IsLeft, IsRefused, Kind, Retires, Tidies, Uses, WasReplaced, cut_by, cuts_in, objects_in, retired_by, retired_in}
 use Rattle.rcu_hash.specs.Writers.{Each, HasKeysIn, HasNote, IsAlone, IsOutside}
 use Rattle.rcu_hash.proofs.Changing.{other_map}
 use Rattle.rcu_hash.proofs.Held.{each_last}
@@ -156,22 +156,25 @@ module _ {W : Type 0} (w : Ghosts W) (qsbr : Bool) (allows : Log → LiveEvent �
   pub refused_why : IsRefused w old new e
   refused_why = ⊎_elim (λ closed. inl (closed.0, (q, sym r.told ∙ closed.1))) (λ memory. inr memory.0) r.why
 
-  pub refused_finds : FindsMore w old new 0
-  refused_finds = (none_made w old new r.same.0, r.same.1, (_ ∷ [], r.looked))
+  pub refused_finds : FindsMore w old new
+  refused_finds = (r.same.1, (_ ∷ [], r.looked))
 
 -- what goes on
 module _ {W : Type 0} (w : Ghosts W) where
-  pub only_finds : (a b : W) → OnlyHears w a b → FindsMore w a b 0
-  only_finds a b h = (none_made w a b h.0.0, h.1, ([], h.0.1))
+  pub only_finds : (a b : W) → OnlyHears w a b → FindsMore w a b
+  only_finds a b h = (h.1, ([], h.0.1))
 
-  pub makes_finds : (a b : W) (log : Log) → OnlyMakesLast w a b log → FindsMore w a b 1
-  makes_finds a b log m = (one_made w a b log m.0, m.2, ([], m.1))
+  pub makes_finds : (a b : W) (log : Log) → OnlyMakesLast w a b log → FindsMore w a b
+  makes_finds a b log m = (m.2, ([], m.1))
 
-  pub finds_both : (a b c : W) (m n : ℕ) → FindsMore w a b m → FindsMore w b c n → FindsMore w a c (m + n)
-  finds_both a b c m n x y = (more_made w a b c m n x.0 y.0, y.1 ∙ x.1, (y.2.0 ++ x.2.0, y.2.1 ∙ (ap (λ (l : List (ℕ × ℕ)). y.2.0 ++ l) x.2.1 ∙ sym (append_assoc y.2.0 x.2.0 (w.looks a)))))
+  pub finds_both : (a b c : W) → FindsMore w a b → FindsMore w b c → FindsMore w a c
+  finds_both a b c x y = (y.0 ∙ x.0, (y.1.0 ++ x.1.0, y.1.1 ∙ (ap (λ (l : List (ℕ × ℕ)). y.1.0 ++ l) x.1.1 ∙ sym (append_assoc y.1.0 x.1.0 (w.looks a)))))
 
-  pub finds_none : (a : W) → FindsMore w a a 0
-  finds_none a = (none_made w a a (refl, refl, refl, λ h. h, refl), refl, ([], refl))
+  pub finds_none : (a : W) → FindsMore w a a
+  finds_none a = (refl, ([], refl))
+
+  pub stays_none : (a : W) → Stays w a a
+  stays_none a = (refl, refl, refl, λ h. h, refl)
 
 -- a retirement is heard of after what came before it
 pub queued_later : (qsbr : Bool) (allows : Log → LiveEvent → Type 0) (at : Log → Type 0) (o : ObjectId) (queue given : ℕ) (known log : Log) (r : Queues qsbr allows at o queue given log) → Begins known r.before → Begins known log
@@ -203,6 +206,10 @@ module _ (qsbr : Bool) (allows : Log → LiveEvent → Type 0) (sizes : Sizes) (
   many_both [] ts = omega arith
   many_both (s ∷ ss) ts = let rest = many_both ss ts in omega arith
 
+  cuts_both : (ss ts : List (Kind × Log)) → cuts_in (ss ++ ts) ≡ cuts_in ss + cuts_in ts
+  cuts_both [] ts = omega arith
+  cuts_both (s ∷ ss) ts = let rest = cuts_both ss ts in omega arith
+
   -- what was heard of at the end began with what was before
   pub heard_on : (known heard log : Log) (ss : List (Kind × Log)) → Begins known heard → Follow qsbr allows sizes d seen heard ss log → Begins known log
   heard_on known heard log [] b f = begins_trans known heard log b f
@@ -214,25 +221,33 @@ module _ (qsbr : Bool) (allows : Log → LiveEvent → Type 0) (sizes : Sizes) (
   heard_on known heard log ((Clears, at) ∷ ss) b f = let p = f.0.leaves.writes in
       heard_on known at log ss (begins_trans known p.before at (begins_trans known heard p.before b p.after.1) (_ ∷ [], p.wrote)) f.1
 
-  module _ {D : Type 0} where
-    pub uses_none : (jobs : List D) (heard log : Log) → Begins heard log → Uses qsbr allows sizes d seen jobs jobs heard log
-    uses_none jobs heard log b = record { used = []; are = sym (append-nil jobs); steps = []; follow = b; many = refl }
+  module _ {D W : Type 0} (w : Ghosts W) where
+    pub uses_none : (a b : W) (jobs : List D) (heard log : Log) → Stays w a b → Begins heard log → Uses qsbr allows sizes d seen w a b jobs jobs heard log
+    uses_none a b jobs heard log stays before = record { used = []; are = sym (append-nil jobs); steps = []; follow = before; many = refl; made = none_made w a b stays }
 
-    pub uses_both : (jobs mid left : List D) (heard then log : Log) → Uses qsbr allows sizes d seen jobs mid heard then → Uses qsbr allows sizes d seen mid left then log → Uses qsbr allows sizes d seen jobs left heard log
-    uses_both jobs mid left heard then log x y = record {
+    pub uses_both : (a b c : W) (jobs mid left : List D) (heard then log : Log) → Uses qsbr allows sizes d seen w a b jobs mid heard then → Uses qsbr allows sizes d seen w b c mid left then log → Uses qsbr allows sizes d seen w a c jobs left heard log
+    uses_both a b c jobs mid left heard then log x y = record {
       used = y.used ++ x.used;
       are = x.are ∙ (ap (λ (l : List D). l ++ x.used) y.are ∙ append_assoc left y.used x.used);
       steps = x.steps ++ y.steps;
       follow = follow_both heard then log x.steps y.steps x.follow y.follow;
-      many = let a = many_both x.steps y.steps in let b = length-append y.used x.used in let c = x.many in let e = y.many in omega arith;
+      many = let one = many_both x.steps y.steps in let two = length-append y.used x.used in let three = x.many in let four = y.many in omega arith;
+      made = subst (MakesMany w a c) (sym (cuts_both x.steps y.steps)) (more_made w a b c (cuts_in x.steps) (cuts_in y.steps) x.made y.made);
     }
 
     -- one callback for one step
-    pub uses_one : (jobs left : List D) (job : D) (heard log : Log) (k : Kind) → retired_by k ≡ 1 → jobs ≡ left ++ job ∷ [] → Does qsbr allows sizes d seen heard k log → Uses qsbr allows sizes d seen jobs left heard log
-    uses_one jobs left job heard log k one are does = record { used = job ∷ []; are = are; steps = (k, log) ∷ []; follow = (does, ([], refl)); many = omega (arith, one) }
+    pub uses_one : (a b : W) (jobs left : List D) (job : D) (heard log : Log) (k : Kind) → retired_by k ≡ 1 → MakesMany w a b (cut_by k) → jobs ≡ left ++ job ∷ [] → Does qsbr allows sizes d seen heard k log → Uses qsbr allows sizes d seen w a b jobs left heard log
+    uses_one a b jobs left job heard log k one made are does = let alone : cut_by k ≡ cut_by k + 0 = omega arith in record {
+      used = job ∷ [];
+      are = are;
+      steps = (k, log) ∷ [];
+      follow = (does, ([], refl));
+      many = omega (arith, one);
+      made = subst (MakesMany w a b) alone made;
+    }
 
-    pub uses_no : (jobs : List D) (heard log : Log) → ClearsNote qsbr allows sizes d seen heard log → Uses qsbr allows sizes d seen jobs jobs heard log
-    uses_no jobs heard log does = record { used = []; are = sym (append-nil jobs); steps = (Clears, log) ∷ []; follow = (does, ([], refl)); many = refl }
+    pub uses_no : (a b : W) (jobs : List D) (heard log : Log) → Stays w a b → ClearsNote qsbr allows sizes d seen heard log → Uses qsbr allows sizes d seen w a b jobs jobs heard log
+    uses_no a b jobs heard log stays does = record { used = []; are = sym (append-nil jobs); steps = (Clears, log) ∷ []; follow = (does, ([], refl)); many = refl; made = none_made w a b stays }
 
 -- what is so of an option where there is one
 pub some_on : {A : Type 0} (r : Option A) (P Q : A → Type 0) → ((x : A) → P x → Q x) → IfSome r P → IfSome r Q

@@ -71,6 +71,15 @@ abbrev pub retired_in : List (Kind × Log) → ℕ
 retired_in [] = 0
 retired_in (s ∷ ss) = retired_by s.0 + retired_in ss
 
+-- and which of them change a chain
+abbrev pub cut_by : Kind → ℕ
+cut_by Cuts = 1
+cut_by _ = 0
+
+abbrev pub cuts_in : List (Kind × Log) → ℕ
+cuts_in [] = 0
+cuts_in (s ∷ ss) = cut_by s.0 + cuts_in ss
+
 -- by the rule of chains, the sizes of the domain, the directory's chain, and what the caller had seen
 module _ (qsbr : Bool) (allows : Log → LiveEvent → Type 0) (sizes : Sizes) (d : ℕ) (seen : Log) where
   -- and by what it had heard of before the step
@@ -107,22 +116,20 @@ module _ (qsbr : Bool) (allows : Log → LiveEvent → Type 0) (sizes : Sizes) (
   Follow heard [] log = Begins heard log
   Follow heard (s ∷ ss) log = Does heard s.0 s.1 × Follow s.1 ss log
 
-  -- steps that used these callbacks, from the back, one for each retirement
-  pub record Uses {D : Type 0} (jobs left : List D) (heard log : Log) : Type 0 where
+  -- steps that used these callbacks, from the back, one for each retirement; no change was made for the witness but
+  -- one for each cut
+  pub record Uses {D W : Type 0} (w : Ghosts W) (old new : W) (jobs left : List D) (heard log : Log) : Type 0 where
     pub used : List D
     pub are : jobs ≡ left ++ used
     pub steps : List (Kind × Log)
     pub follow : Follow heard steps log
     pub many : retired_in steps ≡ length used
+    pub made : MakesMany w old new (cuts_in steps)
 
 module _ {W : Type 0} (w : Ghosts W) (old new : W) where
-  -- so many changes were made for the witness; it may have heard of more, and words may have been found for it
-  abbrev pub FindsMore : ℕ → Type 0
-  FindsMore many = MakesMany w old new many × (w.loads new ≡ w.loads old) × ((found : List (ℕ × ℕ)) × (w.looks new ≡ found ++ w.looks old))
-
-  -- one for each callback that is used, of these many
-  abbrev pub FindsByJobs : ℕ → ℕ → Type 0
-  FindsByJobs jobs left = (many : ℕ) × (many + left ≡ jobs) × FindsMore many
+  -- words may have been found for the witness, but the sequence number was not loaded
+  abbrev pub FindsMore : Type 0
+  FindsMore = (w.loads new ≡ w.loads old) × ((found : List (ℕ × ℕ)) × (w.looks new ≡ found ++ w.looks old))
 
   -- a queue was closed, or there was no memory
   abbrev pub IsRefused : Refusal → Type 0
@@ -141,4 +148,4 @@ module _ {W : Type 0} (w : Ghosts W) (qsbr : Bool) (allows : Log → LiveEvent �
   pub record Tidies (sizes : Sizes) (d : ℕ) {D : Type 0} (jobs left : List D) : Type 0 where
     pub waited : Log
     pub ended : Synchronized qsbr allows (w.seen old) (w.heard old) (w.loads old) (w.loads new) waited
-    pub uses : Uses qsbr allows sizes d (w.seen old) jobs left waited (w.heard new)
+    pub uses : Uses qsbr allows sizes d (w.seen old) w old new jobs left waited (w.heard new)

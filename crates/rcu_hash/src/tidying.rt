@@ -5,10 +5,10 @@ ghost use Rattle.std.specs.Sync.Mutex.{mutex_guard_value};
 ghost use Rattle.rcu_model.specs.declared.refusal.Refusal.TheVariants.{Exhausted};
 ghost use Rattle.live_log.specs.Log.{Begins, seq_of};
 ghost use Rattle.live_log.specs.Tables.{tabled};
-ghost use Rattle.live_read.specs.Hearing.{FindsNothing, IsAfter, MakesMany, OnlyHears};
+ghost use Rattle.live_read.specs.Hearing.{FindsNothing, IsAfter, MakesMany, OnlyHears, Stays};
 ghost use Rattle.live_write.specs.Chains.{list_in};
 ghost use Rattle.domain.specs.Waiting.{Synchronized};
-ghost use Rattle.rcu_hash.specs.Tidying.{ClearsNote, FindsByJobs, FindsMore, HasWaited, IsExhausted, IsLeft, IsLinked, IsRecord, IsRefused, IsStopped, RetiresObject, Tidies, Uses, objects_in};
+ghost use Rattle.rcu_hash.specs.Tidying.{ClearsNote, FindsMore, HasWaited, IsExhausted, IsLeft, IsLinked, IsRecord, IsRefused, IsStopped, RetiresObject, Tidies, Uses, objects_in};
 ghost use Rattle.rcu_hash.specs.Writers.{Each, HasNothing};
 
 use crate::directory::{Desk, Naming};
@@ -119,7 +119,8 @@ impl<'d, P: GracePlan + Drop, B: Site, D: Deleter> Desk<'d, P, B, D> {
         ensures refused { IfErr result (λ e. (e.1 ≡ job) × IsRefused W.Witness witness.old witness.new e.0 × (list_in chain.new.seat.me.0 ≡ list_in chain.old.seat.me.0)) }
         ensures chain { IsLeft naming.directory naming.first naming.buckets chain.new.seat.me.0 }
         ensures heard { Begins (W.heard witness.old) (W.heard witness.new) }
-        ensures same { IfOk result (λ _. FindsMore W.Witness witness.old witness.new 1) × IfErr result (λ _. FindsMore W.Witness witness.old witness.new 0) }
+        ensures changes { IfOk result (λ _. MakesMany W.Witness witness.old witness.new 1) × IfErr result (λ _. Stays W.Witness witness.old witness.new) }
+        ensures same { FindsMore W.Witness witness.old witness.new }
     {
         let domain = chain.domain();
         let (mut place, directory) = self.take(rt, naming);
@@ -143,12 +144,12 @@ impl<'d, P: GracePlan + Drop, B: Site, D: Deleter> Desk<'d, P, B, D> {
         requires home { W.home witness.old ≡ (B.table, B.sizes) }
         requires waited { HasWaited naming.directory naming.object (W.heard witness.old) }
         requires chain { IsLeft naming.directory naming.first naming.buckets chain.old.seat.me.0 }
-        ensures uses { Uses P.QSBR tabled B.sizes naming.directory (W.seen witness.old) jobs.old.items jobs.new.items (W.heard witness.old) (W.heard witness.new) }
+        ensures uses { Uses P.QSBR tabled B.sizes naming.directory (W.seen witness.old) W.Witness witness.old witness.new jobs.old.items jobs.new.items (W.heard witness.old) (W.heard witness.new) }
         ensures emptied { IfOk result (λ _. HasNothing chain.new.seat.me.0) }
         ensures stopped { IfErr result (λ e. (0 < length (list_in chain.new.seat.me.0)) × IsStopped W.Witness witness.old witness.new jobs.new.items e) }
         ensures chain { IsLeft naming.directory naming.first naming.buckets chain.new.seat.me.0 }
         ensures waited { HasWaited naming.directory naming.object (W.heard witness.new) }
-        ensures same { FindsByJobs W.Witness witness.old witness.new (vec_len jobs.old) (vec_len jobs.new) }
+        ensures same { FindsMore W.Witness witness.old witness.new }
     {
         let many = chain.len();
         for _ in 0..many {
@@ -199,11 +200,11 @@ impl<'d, P: GracePlan + Drop, B: Site, D: Deleter> Desk<'d, P, B, D> {
         requires home { W.home witness.old ≡ (B.table, B.sizes) }
         requires waited { HasWaited naming.directory naming.object (W.heard witness.old) }
         requires chains { Each (IsLeft naming.directory naming.first naming.buckets) (map (λ c. c.seat.me.0) chains.old.items) }
-        ensures uses { Uses P.QSBR tabled B.sizes naming.directory (W.seen witness.old) jobs.old.items jobs.new.items (W.heard witness.old) (W.heard witness.new) }
+        ensures uses { Uses P.QSBR tabled B.sizes naming.directory (W.seen witness.old) W.Witness witness.old witness.new jobs.old.items jobs.new.items (W.heard witness.old) (W.heard witness.new) }
         ensures chains { Each (IsLeft naming.directory naming.first naming.buckets) (map (λ c. c.seat.me.0) chains.new.items) }
         ensures emptied { IfOk result (λ _. chains.new.items ≡ []) }
         ensures stopped { IfErr result (λ e. (0 < objects_in (map (λ c. c.seat.me.0) chains.new.items)) × IsStopped W.Witness witness.old witness.new jobs.new.items e) }
-        ensures same { FindsByJobs W.Witness witness.old witness.new (vec_len jobs.old) (vec_len jobs.new) }
+        ensures same { FindsMore W.Witness witness.old witness.new }
     {
         let many = chains.len();
         for _ in 0..many {
@@ -231,12 +232,13 @@ fn retire_record<P: GracePlan + Drop, B: Site, D: Deleter, W: Witness, R: Wait>(
     jobs: &mut Vec<D>,
 ) -> Result<(), Refusal>
     requires home { W.home witness.old ≡ (B.table, B.sizes) }
-    ensures uses { (d : ℕ) → IfSome replaced.old (λ u. IsRecord d u.chain u.seat.me.0) → Uses P.QSBR tabled B.sizes d (W.seen witness.old) jobs.old.items jobs.new.items (W.heard witness.old) (W.heard witness.new) }
+    ensures uses { (d : ℕ) → IfSome replaced.old (λ u. IsRecord d u.chain u.seat.me.0) → Uses P.QSBR tabled B.sizes d (W.seen witness.old) W.Witness witness.old witness.new jobs.old.items jobs.new.items (W.heard witness.old) (W.heard witness.new) }
     ensures retired { IfOk result (λ _. replaced.new ≡ None) }
     ensures kept { (replaced.new ≡ None) ⊎ (replaced.new ≡ replaced.old) }
     ensures stopped { IfErr result (λ e. IsSome replaced.new × IsStopped W.Witness witness.old witness.new jobs.new.items e) }
     ensures heard { Begins (W.heard witness.old) (W.heard witness.new) }
-    ensures same { FindsMore W.Witness witness.old witness.new 0 }
+    ensures changes { Stays W.Witness witness.old witness.new }
+    ensures same { FindsMore W.Witness witness.old witness.new }
 {
     let Some(unlinked) = replaced.take() else {
         return Ok(());
@@ -313,9 +315,9 @@ impl<'d, P: GracePlan + Drop, B: Site, D: Deleter> RcuHash<'d, P, B, D> {
         requires chains { (0 < vec_len chains.old) × Each (IsLeft naming.directory naming.first naming.buckets) (map (λ c. c.seat.me.0) chains.old.items) }
         ensures kept { (replaced.new ≡ None) ⊎ (replaced.new ≡ replaced.old) }
         ensures chains { IfErr result (λ _. 0 < vec_len chains.new) × Each (IsLeft naming.directory naming.first naming.buckets) (map (λ c. c.seat.me.0) chains.new.items) }
-        ensures uses { Uses P.QSBR tabled B.sizes naming.directory (W.seen witness.old) jobs.old.items jobs.new.items (W.heard witness.old) (W.heard witness.new) }
+        ensures uses { Uses P.QSBR tabled B.sizes naming.directory (W.seen witness.old) W.Witness witness.old witness.new jobs.old.items jobs.new.items (W.heard witness.old) (W.heard witness.new) }
         ensures stopped { IfErr result (λ e. (IsSome replaced.new ⊎ (0 < objects_in (map (λ c. c.seat.me.0) chains.new.items))) × IsStopped W.Witness witness.old witness.new jobs.new.items e) }
-        ensures same { (many : ℕ) × (many + vec_len jobs.new ≤ vec_len jobs.old) × FindsMore W.Witness witness.old witness.new many }
+        ensures same { FindsMore W.Witness witness.old witness.new }
     {
         retire_record(rt, self.domain, witness, replaced, jobs)?;
         self.desk.clear_all(rt, naming, witness, chains, jobs)
@@ -333,10 +335,10 @@ impl<'d, P: GracePlan + Drop, B: Site, D: Deleter> RcuHash<'d, P, B, D> {
         requires home { W.home witness.old ≡ (B.table, B.sizes) }
         requires waited { HasWaited naming.directory naming.object (W.heard witness.old) }
         ensures jobs { (used : List D) × (jobs.items ≡ result.jobs.items ++ used) × (length used ≡ result.retired) }
-        ensures uses { Uses P.QSBR tabled B.sizes naming.directory (W.seen witness.old) jobs.items result.jobs.items (W.heard witness.old) (W.heard witness.new) }
+        ensures uses { Uses P.QSBR tabled B.sizes naming.directory (W.seen witness.old) W.Witness witness.old witness.new jobs.items result.jobs.items (W.heard witness.old) (W.heard witness.new) }
         ensures done { IfNone result.stop (result.left ≡ 0) }
         ensures stopped { IfSome result.stop (λ e. (0 < result.left) × IsStopped W.Witness witness.old witness.new result.jobs.items e) }
-        ensures same { (many : ℕ) × (many ≤ result.retired) × FindsMore W.Witness witness.old witness.new many }
+        ensures same { FindsMore W.Witness witness.old witness.new }
     {
         let (mut place, left) = self.take_left(rt);
         let mut jobs = jobs;
@@ -395,11 +397,10 @@ impl<'d, P: GracePlan + Drop, B: Site, D: Deleter> RcuHash<'d, P, B, D> {
     pub fn tidy<W: Witness, R: Wait>(&self, rt: &R, witness: &mut W, jobs: Vec<D>) -> TidyEnd<D>
         requires home { W.home witness.old ≡ (B.table, B.sizes) }
         ensures jobs { (used : List D) × (jobs.items ≡ result.jobs.items ++ used) × (length used ≡ result.retired) }
-        ensures tidied { Tidies W.Witness P.QSBR tabled witness.old witness.new B.sizes self.now.directory jobs.items result.jobs.items ⊎ ((result.jobs.items ≡ jobs.items) × ((witness.new ≡ witness.old) ⊎ IsExhausted W.Witness P.QSBR tabled witness.old witness.new Exhausted)) }
+        ensures tidied { Tidies W.Witness P.QSBR tabled witness.old witness.new B.sizes self.now.directory jobs.items result.jobs.items ⊎ ((result.jobs.items ≡ jobs.items) × Stays W.Witness witness.old witness.new × ((witness.new ≡ witness.old) ⊎ IsExhausted W.Witness P.QSBR tabled witness.old witness.new Exhausted)) }
         ensures done { IfNone result.stop (result.left ≡ 0) }
         ensures stopped { IfSome result.stop (λ e. (0 < result.left) × (((e ≡ Exhausted) × (result.retired ≡ 0) × (2 ^ 62 ≤ seq_of (W.heard witness.new))) ⊎ IsStopped W.Witness witness.old witness.new result.jobs.items e)) }
         ensures heard { Begins (W.heard witness.old) (W.heard witness.new) }
-        ensures changes { (many : ℕ) × (many ≤ result.retired) × MakesMany W.Witness witness.old witness.new many }
         ensures same { (found : List (ℕ × ℕ)) × (W.looks witness.new ≡ found ++ W.looks witness.old) }
     {
         if self.left.lock(rt).is_none() {

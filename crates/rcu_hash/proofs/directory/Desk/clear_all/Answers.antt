@@ -1,19 +1,19 @@
-use Rattle.std.proofs.Common.{◌+◌, ◌∷◌, [], arith, ◌∙◌, subst, refl}
+use Rattle.std.proofs.Common.{◌∷◌, [], arith, ◌∙◌, subst, refl}
 use Rattle.live_log.specs.Log.{Log}
 use Rattle.live_log.specs.Tables.{tabled}
 use Rattle.live_log.proofs.Lemmas.{begins_trans}
 use Rattle.rcu_hash.specs.Tidying.{ClearsNote, IsLeft, Uses}
-use Rattle.rcu_hash.proofs.Emptying.{each_popped, each_pushed, finds_both, finds_none, objects_pushed, only_finds, uses_both, uses_no, uses_none, waited_later}
+use Rattle.rcu_hash.proofs.Emptying.{each_popped, each_pushed, finds_both, finds_none, objects_pushed, only_finds, stays_none, uses_both, uses_no, uses_none, waited_later}
 use Rattle.rcu_hash.proofs.directory.Desk.clear_all.Goals as goal
 
 pub loop-init : goal.loop-init
 loop-init g c =
     let w = g.W.Witness in let w0 = c.args.witness.now in record {
       left = omega (arith, c.len-many.ensures);
-      uses = uses_none g.P.GracePlan.QSBR tabled g.B.Site.sizes c.args.naming.directory (w.seen w0) c.args.jobs.now.items (w.heard w0) (w.heard w0) ([], refl);
+      uses = uses_none g.P.GracePlan.QSBR tabled g.B.Site.sizes c.args.naming.directory (w.seen w0) w w0 w0 c.args.jobs.now.items (w.heard w0) (w.heard w0) (stays_none w w0) ([], refl);
       chains = c.requires.chains;
       waited = c.requires.waited;
-      same = (0, omega arith, finds_none w w0);
+      same = finds_none w w0;
     }
 
 pub retire_all-requires-clause-chain : goal.retire_all-requires-clause-chain
@@ -26,8 +26,8 @@ returns-in-Err-clause-uses g c =
     let q = g.P.GracePlan.QSBR in let w = g.W.Witness in let sizes = g.B.Site.sizes in let d = c.args.naming.directory in
     let w0 = c.args.witness.now in let w1 = c.loop.witness in let w2 = c.retire_all.new.witness in let i = c.loop.invariant in
     let first = c.args.jobs.now.items in let jobs = c.loop.jobs.items in let left = c.retire_all.new.jobs.items in
-    uses_both q tabled sizes d (w.seen w0) first jobs left (w.heard w0) (w.heard w1) (w.heard w2) i.uses
-    (subst (λ (seen : Log). Uses q tabled sizes d seen jobs left (w.heard w1) (w.heard w2)) i.same.2.0.made.0 c.in-Err.ensures.uses)
+    uses_both q tabled sizes d (w.seen w0) w w0 w1 w2 first jobs left (w.heard w0) (w.heard w1) (w.heard w2) i.uses
+    (subst (λ (seen : Log). Uses q tabled sizes d seen w w1 w2 jobs left (w.heard w1) (w.heard w2)) i.uses.made.made.0 c.in-Err.ensures.uses)
 
 pub returns-in-Err-clause-chains : goal.returns-in-Err-clause-chains
 returns-in-Err-clause-chains g c =
@@ -42,24 +42,21 @@ returns-in-Err-clause-stopped g c =
     (objects_pushed c.pop.new.self.items c.push_reserved.new.self.items c.retire_all.new.chain (λ x. x.seat.me.0) c.push_reserved.ensures.items s.0, s.1)
 
 pub returns-in-Err-clause-same : goal.returns-in-Err-clause-same
-returns-in-Err-clause-same g c =
-    let s = c.loop.invariant.same in let t = c.in-Err.ensures.same in
-    (s.0 + t.0, omega (arith, s.1, t.1), finds_both g.W.Witness c.args.witness.now c.loop.witness c.retire_all.new.witness s.0 t.0 s.2 t.2)
+returns-in-Err-clause-same g c = finds_both g.W.Witness c.args.witness.now c.loop.witness c.retire_all.new.witness c.loop.invariant.same c.in-Err.ensures.same
 
 pub loop-preserved : goal.loop-preserved
 loop-preserved g c =
     let q = g.P.GracePlan.QSBR in let w = g.W.Witness in let sizes = g.B.Site.sizes in let n = c.args.naming in let d = n.directory in
     let w0 = c.args.witness.now in let w1 = c.loop.witness in let w2 = c.retire_all.new.witness in let w3 = c.give_back.new.witness in let i = c.loop.invariant in let e = c.retire_all.ensures in let b = c.give_back.ensures in
     let first = c.args.jobs.now.items in let jobs = c.loop.jobs.items in let left = c.retire_all.new.jobs.items in
-    let uses = subst (λ (seen : Log). Uses q tabled sizes d seen jobs left (w.heard w1) (w.heard w2)) i.same.2.0.made.0 e.uses in
-    let clears = subst (λ (seen : Log). ClearsNote q tabled sizes d seen (w.heard w2) (w.heard w3)) (e.same.2.0.made.0 ∙ i.same.2.0.made.0) b.cleared in
+    let uses = subst (λ (seen : Log). Uses q tabled sizes d seen w w1 w2 jobs left (w.heard w1) (w.heard w2)) i.uses.made.made.0 e.uses in
+    let clears = subst (λ (seen : Log). ClearsNote q tabled sizes d seen (w.heard w2) (w.heard w3)) (e.uses.made.made.0 ∙ i.uses.made.made.0) b.cleared in
     let goes = let l = b.cleared.leaves.writes in begins_trans (w.heard w2) l.before (w.heard w3) l.after.1 (_ ∷ [], l.wrote) in record {
       left = let fewer = c.in-Some.ensures.len in let was = i.left in omega arith;
-      uses = uses_both q tabled sizes d (w.seen w0) first left left (w.heard w0) (w.heard w2) (w.heard w3)
-          (uses_both q tabled sizes d (w.seen w0) first jobs left (w.heard w0) (w.heard w1) (w.heard w2) i.uses uses)
-          (uses_no q tabled sizes d (w.seen w0) left (w.heard w2) (w.heard w3) clears);
+      uses = uses_both q tabled sizes d (w.seen w0) w w0 w2 w3 first left left (w.heard w0) (w.heard w2) (w.heard w3)
+          (uses_both q tabled sizes d (w.seen w0) w w0 w1 w2 first jobs left (w.heard w0) (w.heard w1) (w.heard w2) i.uses uses)
+          (uses_no q tabled sizes d (w.seen w0) w w2 w3 left (w.heard w2) (w.heard w3) b.same.0.0 clears);
       chains = (each_popped c.pop.new.self.items c.loop.chains.items c.in-Some.chain (λ x. x.seat.me.0) (IsLeft n.directory n.first n.buckets) c.in-Some.ensures.items i.chains).0;
       waited = waited_later d n.object (w.heard w2) (w.heard w3) goes e.waited;
-      same = let s = i.same in let t = e.same in
-          (s.0 + (t.0 + 0), omega (arith, s.1, t.1), finds_both w w0 w1 w3 s.0 (t.0 + 0) s.2 (finds_both w w1 w2 w3 t.0 0 t.2 (only_finds w w2 w3 b.same)));
+      same = finds_both w w0 w1 w3 i.same (finds_both w w1 w2 w3 e.same (only_finds w w2 w3 b.same));
     }

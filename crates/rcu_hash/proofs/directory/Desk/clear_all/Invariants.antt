@@ -1,14 +1,14 @@
 use Rattle.std.proofs.Common.{◌≡◌, ◌+◌, map, vec_len}
 use Rattle.live_log.specs.Tables.{tabled}
-use Rattle.rcu_hash.specs.Tidying.{FindsByJobs, HasWaited, IsLeft, Uses}
+use Rattle.rcu_hash.specs.Tidying.{FindsMore, HasWaited, IsLeft, Uses}
 use Rattle.rcu_hash.specs.Writers.{Each}
 use Rattle.rcu_hash.proofs.directory.Desk.clear_all.Given as goal
 
 abbrev pub invariant-loop : goal.invariant-loop
 invariant-loop g l = record {
   left : vec_len l.chains + l.counter ≡ l.many;
-  uses : Uses g.P.GracePlan.QSBR tabled g.B.Site.sizes l.naming.directory (g.W.Witness.seen l.fn.witness) l.fn.jobs.items l.jobs.items (g.W.Witness.heard l.fn.witness) (g.W.Witness.heard l.witness);
+  uses : Uses g.P.GracePlan.QSBR tabled g.B.Site.sizes l.naming.directory (g.W.Witness.seen l.fn.witness) g.W.Witness l.fn.witness l.witness l.fn.jobs.items l.jobs.items (g.W.Witness.heard l.fn.witness) (g.W.Witness.heard l.witness);
   chains : Each (IsLeft l.naming.directory l.naming.first l.naming.buckets) (map (λ c. c.seat.me.0) l.chains.items);
   waited : HasWaited l.naming.directory l.naming.object (g.W.Witness.heard l.witness);
-  same : FindsByJobs g.W.Witness l.fn.witness l.witness (vec_len l.fn.jobs) (vec_len l.jobs);
+  same : FindsMore g.W.Witness l.fn.witness l.witness;
 }

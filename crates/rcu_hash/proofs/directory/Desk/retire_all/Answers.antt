@@ -1,18 +1,18 @@
-use Rattle.std.proofs.Common.{◌+◌, ◌++◌, ◌∷◌, [], arith, ap, sym, ◌∙◌, subst, refl}
+use Rattle.std.proofs.Common.{◌++◌, ◌∷◌, [], arith, ap, sym, ◌∙◌, subst, refl}
 use Rattle.live_log.specs.Log.{Log}
 use Rattle.live_log.specs.Tables.{tabled}
 use Rattle.rcu_hash.specs.Tidying.{Cuts, RetiresObject, Uses}
-use Rattle.rcu_hash.proofs.Emptying.{finds_both, finds_none, uses_both, uses_none, uses_one, waited_later}
+use Rattle.rcu_hash.proofs.Emptying.{finds_both, finds_none, stays_none, uses_both, uses_none, uses_one, waited_later}
 use Rattle.rcu_hash.proofs.directory.Desk.retire_all.Goals as goal
 
 pub loop-init : goal.loop-init
 loop-init g c =
     let w = g.W.Witness in let w0 = c.args.witness.now in record {
       left = omega (arith, c.len-many.ensures);
-      uses = uses_none g.P.GracePlan.QSBR tabled g.B.Site.sizes c.args.naming.directory (w.seen w0) c.args.jobs.now.items (w.heard w0) (w.heard w0) ([], refl);
+      uses = uses_none g.P.GracePlan.QSBR tabled g.B.Site.sizes c.args.naming.directory (w.seen w0) w w0 w0 c.args.jobs.now.items (w.heard w0) (w.heard w0) (stays_none w w0) ([], refl);
       chain = c.requires.chain;
       waited = c.requires.waited;
-      same = (0, omega arith, finds_none w w0);
+      same = finds_none w w0;
     }
 
 pub returns-in-Err-clause-uses : goal.returns-in-Err-clause-uses
@@ -21,8 +21,8 @@ returns-in-Err-clause-uses g c =
     let w0 = c.args.witness.now in let w1 = c.loop.witness in let w2 = c.retire_first.new.witness in let i = c.loop.invariant in let e = c.in-Err.ensures in
     let first = c.args.jobs.now.items in let jobs = c.loop.jobs.items in let left = c.pop.new.self.items in
     let back = c.push_reserved.ensures.items ∙ (ap (λ j. left ++ j ∷ []) e.refused.0 ∙ sym c.in-Some.ensures.items) in
-    subst (λ js. Uses q tabled sizes d (w.seen w0) first js (w.heard w0) (w.heard w2)) (sym back)
-    (uses_both q tabled sizes d (w.seen w0) first jobs jobs (w.heard w0) (w.heard w1) (w.heard w2) i.uses (uses_none q tabled sizes d (w.seen w0) jobs (w.heard w1) (w.heard w2) e.heard))
+    subst (λ js. Uses q tabled sizes d (w.seen w0) w w0 w2 first js (w.heard w0) (w.heard w2)) (sym back)
+    (uses_both q tabled sizes d (w.seen w0) w w0 w1 w2 first jobs jobs (w.heard w0) (w.heard w1) (w.heard w2) i.uses (uses_none q tabled sizes d (w.seen w0) w w1 w2 jobs (w.heard w1) (w.heard w2) e.changes.1 e.heard))
 
 pub returns-in-Err-clause-waited : goal.returns-in-Err-clause-waited
 returns-in-Err-clause-waited g c =
@@ -30,20 +30,18 @@ returns-in-Err-clause-waited g c =
     waited_later n.directory n.object (w.heard c.loop.witness) (w.heard c.retire_first.new.witness) c.in-Err.ensures.heard c.loop.invariant.waited
 
 pub returns-in-Err-clause-same : goal.returns-in-Err-clause-same
-returns-in-Err-clause-same g c =
-    let s = c.loop.invariant.same in let popped = c.in-Some.ensures.len in let pushed = c.push_reserved.ensures.len in
-    (s.0 + 0, omega (arith, s.1, popped, pushed), finds_both g.W.Witness c.args.witness.now c.loop.witness c.retire_first.new.witness s.0 0 s.2 c.in-Err.ensures.same.1)
+returns-in-Err-clause-same g c = finds_both g.W.Witness c.args.witness.now c.loop.witness c.retire_first.new.witness c.loop.invariant.same c.in-Err.ensures.same
 
 pub loop-preserved : goal.loop-preserved
 loop-preserved g c =
     let q = g.P.GracePlan.QSBR in let w = g.W.Witness in let sizes = g.B.Site.sizes in let n = c.args.naming in let d = n.directory in
     let w0 = c.args.witness.now in let w1 = c.loop.witness in let w2 = c.retire_first.new.witness in let i = c.loop.invariant in let e = c.in_default-retire_first.ensures in
     let first = c.args.jobs.now.items in let jobs = c.loop.jobs.items in let left = c.pop.new.self.items in
-    let does = subst (λ (seen : Log). RetiresObject q tabled sizes d seen (w.heard w1) (w.heard w2)) i.same.2.0.made.0 e.retired.0 in record {
+    let does = subst (λ (seen : Log). RetiresObject q tabled sizes d seen (w.heard w1) (w.heard w2)) i.uses.made.made.0 e.retired.0 in record {
       left = let fewer = e.retired.1 in let was = i.left in omega arith;
-      uses = uses_both q tabled sizes d (w.seen w0) first jobs left (w.heard w0) (w.heard w1) (w.heard w2) i.uses
-          (uses_one q tabled sizes d (w.seen w0) jobs left c.in-Some.job (w.heard w1) (w.heard w2) Cuts refl c.in-Some.ensures.items does);
+      uses = uses_both q tabled sizes d (w.seen w0) w w0 w1 w2 first jobs left (w.heard w0) (w.heard w1) (w.heard w2) i.uses
+          (uses_one q tabled sizes d (w.seen w0) w w1 w2 jobs left c.in-Some.job (w.heard w1) (w.heard w2) Cuts refl e.changes.0 c.in-Some.ensures.items does);
       chain = e.chain;
       waited = waited_later d n.object (w.heard w1) (w.heard w2) e.heard i.waited;
-      same = let s = i.same in let popped = c.in-Some.ensures.len in (s.0 + 1, omega (arith, s.1, popped), finds_both w w0 w1 w2 s.0 1 s.2 e.same.0);
+      same = finds_both w w0 w1 w2 i.same e.same;
     }

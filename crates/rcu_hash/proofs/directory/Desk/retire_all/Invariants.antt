@@ -1,14 +1,14 @@
-use Rattle.std.proofs.Common.{◌≡◌, ◌+◌, length, vec_len}
+use Rattle.std.proofs.Common.{◌≡◌, ◌+◌, length}
 use Rattle.live_log.specs.Tables.{tabled}
 use Rattle.live_write.specs.Chains.{list_in}
-use Rattle.rcu_hash.specs.Tidying.{FindsByJobs, HasWaited, IsLeft, Uses}
+use Rattle.rcu_hash.specs.Tidying.{FindsMore, HasWaited, IsLeft, Uses}
 use Rattle.rcu_hash.proofs.directory.Desk.retire_all.Given as goal
 
 abbrev pub invariant-loop : goal.invariant-loop
 invariant-loop g l = record {
   left : length (list_in l.chain.seat.me.0) + l.counter ≡ l.many;
-  uses : Uses g.P.GracePlan.QSBR tabled g.B.Site.sizes l.naming.directory (g.W.Witness.seen l.fn.witness) l.fn.jobs.items l.jobs.items (g.W.Witness.heard l.fn.witness) (g.W.Witness.heard l.witness);
+  uses : Uses g.P.GracePlan.QSBR tabled g.B.Site.sizes l.naming.directory (g.W.Witness.seen l.fn.witness) g.W.Witness l.fn.witness l.witness l.fn.jobs.items l.jobs.items (g.W.Witness.heard l.fn.witness) (g.W.Witness.heard l.witness);
   chain : IsLeft l.naming.directory l.naming.first l.naming.buckets l.chain.seat.me.0;
   waited : HasWaited l.naming.directory l.naming.object (g.W.Witness.heard l.witness);
-  same : FindsByJobs g.W.Witness l.fn.witness l.witness (vec_len l.fn.jobs) (vec_len l.jobs);
+  same : FindsMore g.W.Witness l.fn.witness l.witness;
 }

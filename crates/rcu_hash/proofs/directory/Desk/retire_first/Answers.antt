@@ -19,6 +19,7 @@ use Rattle.rcu_hash.specs.Naming.{words_by}
 use Rattle.rcu_hash.specs.Tidying.{HasWaited, IsLeft, RetiresObject}
 use Rattle.rcu_hash.proofs.Emptying.{apart_there, directed_there, err_both, listed_once, makes_finds, map_left, may_cut_left, noted_there, one_fewer, queued_later, refused_finds, refused_why}
 use Rattle.rcu_hash.proofs.Named.{lent_is, lent_used, used_later, words_later}
+use Rattle.live_read.proofs.Lemmas.{one_made}
 use Rattle.rcu_hash.proofs.directory.Desk.retire_first.Goals as goal
 
 pub cut_retire-answer-requires-clause-rule : goal.cut_retire-answer-requires-clause-rule
@@ -135,7 +136,15 @@ returns-clause-heard g c =
 pub returns-clause-same : goal.returns-clause-same
 returns-clause-same g c =
     let q = g.P.GracePlan.QSBR in let w = g.W.Witness in let w0 = c.args.witness.now in let w2 = c.cut_retire-answer.new.witness in let e = c.lend-lent.ensures in let r = c.cut_retire-answer.ensures in
+    let same = ap (λ (x : List ChainRight). (own_in x).objects) e.chains.0 in let some = c.requires.some in
+    by_result c.cut_retire-answer.result _ _ r.same r.refused
+    (λ x k. makes_finds w w0 w2 c.cut_retire-answer.new.chain.seat.me.0.seen k.0)
+    (λ x y. by_second y (λ none. let short = none.1 in absurd (omega (arith, short, some, ap length same))) (λ k. refused_finds w q tabled g.B.Site.sizes (c.lend-lent.new.to.number % g.B.Site.sizes.queues) w0 w2 x.0 k.1))
+
+pub returns-clause-changes : goal.returns-clause-changes
+returns-clause-changes g c =
+    let w = g.W.Witness in let w0 = c.args.witness.now in let w2 = c.cut_retire-answer.new.witness in let e = c.lend-lent.ensures in let r = c.cut_retire-answer.ensures in
     let same = ap (λ (x : List ChainRight). (own_in x).objects) e.chains.0 in let some = c.requires.some in (
-      if_ok c.cut_retire-answer.result _ _ _ (λ x k z. makes_finds w w0 w2 c.cut_retire-answer.new.chain.seat.me.0.seen k.0) r.same r.retired,
-      if_err c.cut_retire-answer.result _ _ _ (λ x y z. by_second y (λ none. let short = none.1 in absurd (omega (arith, short, some, ap length same))) (λ k. refused_finds w q tabled g.B.Site.sizes (c.lend-lent.new.to.number % g.B.Site.sizes.queues) w0 w2 x.0 k.1)) r.refused r.back,
+      if_ok c.cut_retire-answer.result _ _ _ (λ x k z. one_made w w0 w2 c.cut_retire-answer.new.chain.seat.me.0.seen k.0.0) r.same r.retired,
+      if_err c.cut_retire-answer.result _ _ _ (λ x y z. by_second y (λ none. let short = none.1 in absurd (omega (arith, short, some, ap length same))) (λ k. k.1.same.0)) r.refused r.back,
     )

@@ -5,7 +5,7 @@ use Rattle.live_write.specs.declared.records.Unlinked.{Unlinked}
 use Rattle.rcu_hash.specs.declared.directory.Naming.{Naming}
 use Rattle.rcu_hash.specs.Tidying.{IsLeft, IsRecord, IsStopped, Uses}
 use Rattle.rcu_hash.specs.Writers.{Each, HasKeysIn, HasNote, IsAlone}
-use Rattle.rcu_hash.proofs.Emptying.{all_outside, each_left, some_on, uses_none}
+use Rattle.rcu_hash.proofs.Emptying.{all_outside, each_left, some_on, stays_none, uses_none}
 use Rattle.rcu_hash.proofs.Held.{each_map}
 use Rattle.rcu_hash.proofs.table.RcuHash.retire_behind.Goals as goal
 
@@ -15,8 +15,8 @@ returns-in_default-clause-jobs g c = let d = c.done.ensures in ([], ap (λ (v : 
 pub returns-in_default-clause-uses : goal.returns-in_default-clause-uses
 returns-in_default-clause-uses g c =
     let w = g.W.Witness in let w0 = c.args.witness.now in let jobs = c.args.jobs.items in
-    subst (λ (v : _). Uses g.P.GracePlan.QSBR tabled g.B.Site.sizes c.args.naming.directory (w.seen w0) jobs v.items (w.heard w0) (w.heard w0)) (sym c.done.ensures.2)
-    (uses_none g.P.GracePlan.QSBR tabled g.B.Site.sizes c.args.naming.directory (w.seen w0) jobs (w.heard w0) (w.heard w0) ([], refl))
+    subst (λ (v : _). Uses g.P.GracePlan.QSBR tabled g.B.Site.sizes c.args.naming.directory (w.seen w0) w w0 w0 jobs v.items (w.heard w0) (w.heard w0)) (sym c.done.ensures.2)
+    (uses_none g.P.GracePlan.QSBR tabled g.B.Site.sizes c.args.naming.directory (w.seen w0) w w0 w0 jobs (w.heard w0) (w.heard w0) (stays_none w w0) ([], refl))
 
 pub returns-then-not-is_its-clause-jobs : goal.returns-then-not-is_its-clause-jobs
 returns-then-not-is_its-clause-jobs g c = let d = c.done-then-not-is_its.ensures in ([], ap (λ (v : _). v.items) (sym d.2) ∙ sym (append-nil c.done-then-not-is_its.result.jobs.items), sym d.0)
@@ -24,8 +24,8 @@ returns-then-not-is_its-clause-jobs g c = let d = c.done-then-not-is_its.ensures
 pub returns-then-not-is_its-clause-uses : goal.returns-then-not-is_its-clause-uses
 returns-then-not-is_its-clause-uses g c =
     let w = g.W.Witness in let w0 = c.args.witness.now in let jobs = c.args.jobs.items in
-    subst (λ (v : _). Uses g.P.GracePlan.QSBR tabled g.B.Site.sizes c.args.naming.directory (w.seen w0) jobs v.items (w.heard w0) (w.heard w0)) (sym c.done-then-not-is_its.ensures.2)
-    (uses_none g.P.GracePlan.QSBR tabled g.B.Site.sizes c.args.naming.directory (w.seen w0) jobs (w.heard w0) (w.heard w0) ([], refl))
+    subst (λ (v : _). Uses g.P.GracePlan.QSBR tabled g.B.Site.sizes c.args.naming.directory (w.seen w0) w w0 w0 jobs v.items (w.heard w0) (w.heard w0)) (sym c.done-then-not-is_its.ensures.2)
+    (uses_none g.P.GracePlan.QSBR tabled g.B.Site.sizes c.args.naming.directory (w.seen w0) w w0 w0 jobs (w.heard w0) (w.heard w0) (stays_none w w0) ([], refl))
 
 pub retire_left-answer-requires-clause-chains : goal.retire_left-answer-requires-clause-chains
 retire_left-answer-requires-clause-chains g c =

@@ -1,5 +1,4 @@
-use Rattle.std.proofs.Common.{◌+◌, ◌<◌, length, vec_len, ap, ◌∙◌, arith, subst}
-use Rattle.std.proofs.lemmas.List.{length-append}
+use Rattle.std.proofs.Common.{◌<◌, vec_len, arith, subst}
 use Rattle.live_log.specs.Log.{Log}
 use Rattle.live_log.specs.Tables.{tabled}
 use Rattle.rcu_hash.specs.Tidying.{Uses}
@@ -24,15 +23,8 @@ returns-clause-uses g c =
     let q = g.P.GracePlan.QSBR in let w = g.W.Witness in let sizes = g.B.Site.sizes in let d = c.args.naming.directory in
     let w0 = c.args.witness.now in let w1 = c.retire_record.new.witness in let w2 = c.clear_all.new.witness in let r = c.retire_record.ensures in let k = c.clear_all.ensures in
     let jobs = c.args.jobs.now.items in let mid = c.retire_record.new.jobs.items in let left = c.clear_all.new.jobs.items in
-    uses_both q tabled sizes d (w.seen w0) jobs mid left (w.heard w0) (w.heard w1) (w.heard w2) (r.uses d c.requires.record)
-    (subst (λ (seen : Log). Uses q tabled sizes d seen mid left (w.heard w1) (w.heard w2)) r.same.0.made.0 k.uses)
+    uses_both q tabled sizes d (w.seen w0) w w0 w1 w2 jobs mid left (w.heard w0) (w.heard w1) (w.heard w2) (r.uses d c.requires.record)
+    (subst (λ (seen : Log). Uses q tabled sizes d seen w w1 w2 mid left (w.heard w1) (w.heard w2)) r.changes.0 k.uses)
 
 pub returns-clause-same : goal.returns-clause-same
-returns-clause-same g c =
-    let t = c.clear_all.ensures.same in let u = c.retire_record.ensures.uses c.args.naming.directory c.requires.record in let jobs = c.args.jobs.now in let mid = c.retire_record.new.jobs in let spent = ap length u.are ∙ length-append mid.items u.used in
-    (0 + t.0, omega (arith, t.1, spent, jobs.ok, mid.ok), finds_both g.W.Witness c.args.witness.now c.retire_record.new.witness c.clear_all.new.witness 0 t.0 c.retire_record.ensures.same t.2)
-
-pub returns-in_err-retire_record-clause-same : goal.returns-in_err-retire_record-clause-same
-returns-in_err-retire_record-clause-same g c =
-    let u = c.retire_record.ensures.uses c.args.naming.directory c.requires.record in let jobs = c.args.jobs.now in let mid = c.retire_record.new.jobs in let spent = ap length u.are ∙ length-append mid.items u.used in
-    (0, omega (arith, spent, jobs.ok, mid.ok), c.retire_record.ensures.same)
+returns-clause-same g c = finds_both g.W.Witness c.args.witness.now c.retire_record.new.witness c.clear_all.new.witness c.retire_record.ensures.same c.clear_all.ensures.same
