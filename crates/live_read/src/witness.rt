@@ -58,7 +58,7 @@ pub trait Witness {
         ensures same { (seen self.new ≡ seen self.old) × (home self.new ≡ home self.old) × (standing self.new ≡ standing self.old) × (changes self.new ≡ changes self.old) }
         ensures inside { is_in self.old → is_in self.new };
 
-    /// As `learn`, and the change that the seat made was made for it. It never waits.
+    /// As `learn`, and the changes that the seat knows were made for it. It never waits.
     fn learn_changes<P: GracePlan, K: ChainRule>(
         &mut self,
         table: &LiveTable<P, K>,

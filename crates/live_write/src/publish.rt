@@ -46,8 +46,8 @@ pub(crate) fn push_record<P: GracePlan, K: ChainRule, W: Witness>(
     let head = load_head(table, seat, chain);
     table.take_object(seat, told);
     push(table, seat, chain, cell, head);
-    let heard = table.tell_changes(seat);
-    witness.learn_changes(table, heard);
+    let pushed = table.tell_changes(seat);
+    witness.learn_changes(table, pushed);
 }
 
 /// The object at an index of the seat's own chain leaves it. Answers the seat with the right to it, and its record.
@@ -76,8 +76,8 @@ pub(crate) fn cut_record<P: GracePlan, K: ChainRule, W: Witness>(
     table.learn(seat, told);
     cut(table, seat, chain, before, cell);
     let unlinked = table.cut_object(seat);
-    let heard = table.tell_changes(seat);
-    witness.learn_changes(table, heard);
+    let left = table.tell_changes(seat);
+    witness.learn_changes(table, left);
     (unlinked, cell)
 }
 
@@ -114,8 +114,8 @@ pub(crate) fn replace_record<P: GracePlan, K: ChainRule, W: Witness>(
     table.take_object(seat, told);
     replace(table, seat, chain, before, cell, next);
     let unlinked = table.cut_object(seat);
-    let heard = table.tell_changes(seat);
-    witness.learn_changes(table, heard);
+    let changed = table.tell_changes(seat);
+    witness.learn_changes(table, changed);
     (unlinked, was)
 }
 

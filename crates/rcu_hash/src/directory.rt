@@ -19,7 +19,7 @@ use rcu_model::ObjectId;
 use std::sync::{Mutex, MutexGuard, Wait};
 
 /// Which directory it is: its chain, its object, and the chains that it names.
-#[derive(Clone, Copy, PartialEq, Eq, Drop)]
+#[derive(Clone, Copy, Drop)]
 pub(crate) struct Naming {
     /// The chain of the directory.
     pub(crate) directory: usize,
@@ -36,7 +36,10 @@ impl Naming {
     pub(crate) fn is(self, other: Naming) -> bool
         ensures { result ≡ true → self ≡ other }
     {
-        self == other
+        self.directory == other.directory
+            && self.object == other.object
+            && self.first == other.first
+            && self.buckets == other.buckets
     }
 }
 
@@ -154,7 +157,7 @@ impl<'d, P: GracePlan + Drop, B: Site, D: Deleter> Desk<'d, P, B, D> {
         for _ in rt.forever() {
             let mut desk = self.writer.lock(rt);
             if let Some(directory) = desk.take() {
-                if directory.naming == naming {
+                if directory.naming.is(naming) {
                     return (desk, directory);
                 }
                 *desk = Some(directory);

@@ -44,7 +44,7 @@ impl<'d, P: GracePlan + Drop, B: Site, D: Deleter> Shelf<'d, P, B, D> {
         for _ in rt.forever() {
             let mut place = self.buckets[number].lock(rt);
             if let Some(bucket) = place.take() {
-                if bucket.naming == self.naming
+                if bucket.naming.is(self.naming)
                     && bucket.chain.number() == self.naming.first + number
                 {
                     return (place, bucket);
