@@ -2,10 +2,10 @@
 use Rattle.std.proofs.Common.{◌≡◌, ℕ, List, [], ◌∷◌, ◌++◌, true, false, refl, lit<}
 use Rattle.std.specs.Fmt.{decimal}
 use Rattle.std.specs.Char.{is_ascii_digit}
-use Rattle.schedule.specs.Reading.{Reading, ◌>>=◌, word_at, number_at}
+use Rattle.schedule.specs.Reading.{Reading, ◌>>=◌, word_at, number_at, is_prefix_free}
 use Rattle.schedule.specs.Grammar.{done}
 use Rattle.schedule.proofs.Exact.{Reads, Done, Then, done_reads, then_reads, reads_as}
-use Rattle.schedule.proofs.Tables.{InTable, is_prefix_free, table_reads}
+use Rattle.schedule.proofs.Tables.{InTable, table_reads}
 use Rattle.schedule.proofs.Numbers.{NumberText, number_reads}
 
 -- a language that is read exactly, and has a text

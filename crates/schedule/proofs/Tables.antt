@@ -1,9 +1,10 @@
 -- A table of words, of which none begins another, is read exactly.
-use Rattle.std.proofs.Common.{◌≡◌, ℕ, ◌≤◌, Bool, true, false, cond, eqb, ltb, List, [], ◌∷◌, ◌++◌, length, Result, Ok, Err, refl, sym, ap, subst, ◌∙◌, append_assoc, arith, inl, inr, ◌⊎◌}
+use Rattle.std.proofs.Common.{◌≡◌, ℕ, ◌≤◌, Bool, true, false, cond, eqb, ltb, List, [], ◌∷◌, ◌++◌, length, map, get_or, zero, suc, ◌<◌, Result, Ok, Err, refl, sym, ap, subst, ◌∙◌, append_assoc, arith, inl, inr, ◌⊎◌}
 use Rattle.std.specs.Prelude.{◌&&◌}
 use Rattle.std.proofs.lemmas.Bool.{eqb-true, eq-eqb, ltb-true, ltb-false}
 use Rattle.std.proofs.lemmas.List.{length-append}
-use Rattle.schedule.specs.Reading.{Reading, word_from, further, or_else, word_on, word_at}
+use Rattle.std.specs.Borrow.{Bor}
+use Rattle.schedule.specs.Reading.{Reading, word_from, further, or_else, word_on, word_at, differ, differs_from_all, is_prefix_free, value_row}
 use Rattle.schedule.proofs.Exact.{Opens, Fault, Found, Reads, ok_is, err_is, not_both}
 
 -- ---- one word
@@ -60,12 +61,6 @@ unfolding word_from
 word_beyond [] r m x e = word_bound r m x e
 word_beyond (b ∷ g) r m x e = word_beyond g r m x (rw (eq-eqb b b refl) at e)
 
--- at some place the two have different bytes
-abbrev pub differ : List ℕ → List ℕ → Bool
-differ [] w = false
-differ (b ∷ v) [] = false
-differ (b ∷ v) (c ∷ w) = cond (eqb b c) (differ v w) true
-
 word_differs : (v w r : List ℕ) → differ v w ≡ true → (x : List ℕ) × (word_from v (w ++ r) ≡ Err x)
 unfolding word_from
 word_differs [] w r d = absurd cc
@@ -81,14 +76,6 @@ word_differs (b ∷ v) (c ∷ w) r d =
 abbrev pub InTable : {K : Type 0} → List (List ℕ × K) → K → List ℕ → Type 0
 InTable [] k w = ⊥
 InTable (e ∷ es) k w = ((e.0 ≡ w) × (e.1 ≡ k)) ⊎ InTable es k w
-
-abbrev pub differs_from_all : {K : Type 0} → List ℕ → List (List ℕ × K) → Bool
-differs_from_all v [] = true
-differs_from_all v (e ∷ es) = differ v e.0 && differs_from_all v es
-
-abbrev pub is_prefix_free : {K : Type 0} → List (List ℕ × K) → Bool
-is_prefix_free [] = true
-is_prefix_free (e ∷ es) = differs_from_all e.0 es && is_prefix_free es
 
 pub both : (a b : Bool) → (a && b) ≡ true → (a ≡ true) × (b ≡ true)
 both true true e = (refl, refl)
@@ -108,6 +95,20 @@ word_again bad (e ∷ es) k w r free (inr h) =
     let b = both (differs_from_all e.0 es) (is_prefix_free es) free in
     let f = word_differs e.0 w r (differs_there e.0 es k w b.0 h) in
     rw (f.1) (word_again (further bad f.0) es k w r b.1 h)
+
+row_there : {K : Type 0} (table : List (Bor (List ℕ) × K)) (i : ℕ) (d : Bor (List ℕ) × K) → i < length table → InTable (map value_row table) (get_or table i d).1 (get_or table i d).0.now
+row_there [] i d lt = absurd (omega arith)
+row_there (e ∷ es) zero d lt = inl (refl, refl)
+row_there (e ∷ es) (suc i) d lt = inr (row_there es i d (omega arith))
+
+-- a word that stands at the front is the one that is read, wherever the table has it
+pub word_in_table : {K : Type 0} (table : List (Bor (List ℕ) × K)) (i : ℕ) (row : Bor (List ℕ) × K) (text rest : List ℕ) → i < length table → row ≡ get_or table i row → is_prefix_free (map value_row table) ≡ true
+    → word_from row.0.now text ≡ Ok rest → word_at (map value_row table) text ≡ Ok (row.1, rest)
+word_in_table {K} table i row text rest lt e free found =
+    let rows = map value_row table in
+    let there = subst (λ (r : Bor (List ℕ) × K). InTable rows r.1 r.0.now) (sym e) (row_there table i row lt) in
+    subst (λ (t : List ℕ). word_on t rows t ≡ Ok (row.1, rest)) (sym (word_found row.0.now text rest found))
+    (word_again (row.0.now ++ rest) rows row.1 row.0.now rest free there)
 
 else_cases : {K : Type 0} (r : Result (List ℕ) (List ℕ)) (k : K) (f : List ℕ → Reading K) → ((rest : List ℕ) × (r ≡ Ok rest) × (or_else r k f ≡ Ok (k, rest))) ⊎ ((rest : List ℕ) × (r ≡ Err rest) × (or_else r k f ≡ f rest))
 else_cases (Ok rest) k f = inl (rest, refl, refl)

@@ -1,5 +1,5 @@
 -- Reading from left to right: a value and the bytes after it, or the bytes from the first bad one on.
-use Rattle.std.specs.Prelude.{◌≡◌, ℕ, ◌+◌, ◌-◌, ◌*◌, List, [], ◌∷◌, length, Result, Ok, Err, nat_lt, Bool, ◌==◌, ◌&&◌, ◌||◌, if◌then◌else◌}
+use Rattle.std.specs.Prelude.{◌≡◌, ℕ, ◌+◌, ◌-◌, ◌*◌, List, [], ◌∷◌, length, Result, Ok, Err, nat_lt, Bool, true, false, ◌==◌, ◌&&◌, ◌||◌, if◌then◌else◌}
 use Rattle.std.specs.Borrow.{Bor}
 use Rattle.std.specs.Char.{is_ascii_digit}
 
@@ -33,6 +33,21 @@ word_on bad (e ∷ es) text = or_else (word_from e.0 text) e.1 (λ rest. word_on
 
 abbrev pub word_at : {K : Type 0} → List (List ℕ × K) → List ℕ → Reading K
 word_at table text = word_on text table text
+
+-- at some place the two have different bytes
+abbrev pub differ : List ℕ → List ℕ → Bool
+differ [] w = false
+differ (b ∷ v) [] = false
+differ (b ∷ v) (c ∷ w) = if b == c then differ v w else true
+
+abbrev pub differs_from_all : {K : Type 0} → List ℕ → List (List ℕ × K) → Bool
+differs_from_all v [] = true
+differs_from_all v (e ∷ es) = differ v e.0 && differs_from_all v es
+
+-- no word begins another
+abbrev pub is_prefix_free : {K : Type 0} → List (List ℕ × K) → Bool
+is_prefix_free [] = true
+is_prefix_free (e ∷ es) = differs_from_all e.0 es && is_prefix_free es
 
 -- ---- numbers
 

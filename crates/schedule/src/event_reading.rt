@@ -71,6 +71,7 @@ fn section(end: u8, other: u8, text: &[u8]) -> Result<((SectionId, u8), &[u8]), 
 }
 
 /// What a section found, if it found something.
+#[inline(always)]
 #[tactic(auto, unfolding(crate::specs::AnswerGrammar::found_at))]
 fn found(other: u8, text: &[u8]) -> Result<((Option<ObjectId>, u8), &[u8]), &[u8]>
     ensures { Gives (λ f. f) result (found_at other text.now) }
@@ -89,6 +90,7 @@ fn found(other: u8, text: &[u8]) -> Result<((Option<ObjectId>, u8), &[u8]), &[u8
 }
 
 /// A section that opens or closes.
+#[inline(always)]
 #[tactic(auto, unfolding(crate::specs::AnswerGrammar::section_event_at))]
 fn section_event(word: SectionWord, other: u8, text: &[u8]) -> Result<((Event, u8), &[u8]), &[u8]>
     ensures { Gives (λ e. e) result (section_event_at word other text.now) }
@@ -101,6 +103,7 @@ fn section_event(word: SectionWord, other: u8, text: &[u8]) -> Result<((Event, u
     Ok(((event, end), rest))
 }
 
+#[inline(always)]
 #[tactic(auto, unfolding(crate::specs::AnswerGrammar::first_at))]
 fn first(other: u8, text: &[u8]) -> Result<((Event, u8), &[u8]), &[u8]>
     ensures { Gives (λ e. e) result (first_at other text.now) }
@@ -117,6 +120,7 @@ fn first(other: u8, text: &[u8]) -> Result<((Event, u8), &[u8]), &[u8]>
     Ok(((event, end), rest))
 }
 
+#[inline(always)]
 #[tactic(auto, unfolding(crate::specs::AnswerGrammar::next_at))]
 fn next(other: u8, text: &[u8]) -> Result<((Event, u8), &[u8]), &[u8]>
     ensures { Gives (λ e. e) result (next_at other text.now) }
@@ -132,6 +136,7 @@ fn next(other: u8, text: &[u8]) -> Result<((Event, u8), &[u8]), &[u8]>
     Ok(((event, end), rest))
 }
 
+#[inline(always)]
 #[tactic(auto, unfolding(crate::specs::AnswerGrammar::touch_at))]
 fn touch(other: u8, text: &[u8]) -> Result<((Event, u8), &[u8]), &[u8]>
     ensures { Gives (λ e. e) result (touch_at other text.now) }
@@ -142,6 +147,7 @@ fn touch(other: u8, text: &[u8]) -> Result<((Event, u8), &[u8]), &[u8]>
 }
 
 /// A section that reads.
+#[inline(always)]
 fn reading_event(word: ReadingWord, other: u8, text: &[u8]) -> Result<((Event, u8), &[u8]), &[u8]>
     ensures { Gives (λ e. e) result (reading_event_at word other text.now) }
 {
@@ -152,6 +158,7 @@ fn reading_event(word: ReadingWord, other: u8, text: &[u8]) -> Result<((Event, u
     }
 }
 
+#[inline(always)]
 #[tactic(auto, unfolding(crate::specs::AnswerGrammar::push_at))]
 fn push(other: u8, text: &[u8]) -> Result<((Event, u8), &[u8]), &[u8]>
     ensures { Gives (λ e. e) result (push_at other text.now) }
@@ -161,6 +168,7 @@ fn push(other: u8, text: &[u8]) -> Result<((Event, u8), &[u8]), &[u8]>
     Ok(((Event::Push { chain, object }, end), rest))
 }
 
+#[inline(always)]
 #[tactic(auto, unfolding(crate::specs::AnswerGrammar::replace_at))]
 fn replace(other: u8, text: &[u8]) -> Result<((Event, u8), &[u8]), &[u8]>
     ensures { Gives (λ e. e) result (replace_at other text.now) }
@@ -171,6 +179,7 @@ fn replace(other: u8, text: &[u8]) -> Result<((Event, u8), &[u8]), &[u8]>
     Ok(((Event::Replace { chain, old, new }, end), rest))
 }
 
+#[inline(always)]
 #[tactic(auto, unfolding(crate::specs::AnswerGrammar::cut_at))]
 fn cut(other: u8, text: &[u8]) -> Result<((Event, u8), &[u8]), &[u8]>
     ensures { Gives (λ e. e) result (cut_at other text.now) }
@@ -181,6 +190,7 @@ fn cut(other: u8, text: &[u8]) -> Result<((Event, u8), &[u8]), &[u8]>
 }
 
 /// What becomes of a chain.
+#[inline(always)]
 fn chain_event(word: ChainWord, other: u8, text: &[u8]) -> Result<((Event, u8), &[u8]), &[u8]>
     ensures { Gives (λ e. e) result (chain_event_at word other text.now) }
 {
@@ -191,6 +201,7 @@ fn chain_event(word: ChainWord, other: u8, text: &[u8]) -> Result<((Event, u8), 
     }
 }
 
+#[inline(always)]
 #[tactic(auto, unfolding(crate::specs::AnswerGrammar::retire_at))]
 fn retire(other: u8, text: &[u8]) -> Result<((Event, u8), &[u8]), &[u8]>
     ensures { Gives (λ e. e) result (retire_at other text.now) }
@@ -199,6 +210,7 @@ fn retire(other: u8, text: &[u8]) -> Result<((Event, u8), &[u8]), &[u8]>
     Ok(((Event::Retire(object), end), rest))
 }
 
+#[inline(always)]
 #[tactic(auto, unfolding(crate::specs::AnswerGrammar::queue_at))]
 fn queue(other: u8, text: &[u8]) -> Result<((Event, u8), &[u8]), &[u8]>
     ensures { Gives (λ e. e) result (queue_at other text.now) }
@@ -209,6 +221,7 @@ fn queue(other: u8, text: &[u8]) -> Result<((Event, u8), &[u8]), &[u8]>
     Ok(((Event::Queue { object, queue }, end), rest))
 }
 
+#[inline(always)]
 #[tactic(auto, unfolding(crate::specs::AnswerGrammar::run_at))]
 fn run(other: u8, text: &[u8]) -> Result<((Event, u8), &[u8]), &[u8]>
     ensures { Gives (λ e. e) result (run_at other text.now) }
@@ -218,6 +231,7 @@ fn run(other: u8, text: &[u8]) -> Result<((Event, u8), &[u8]), &[u8]>
 }
 
 /// What becomes of an object that left its chain.
+#[inline(always)]
 fn object_event(word: ObjectWord, other: u8, text: &[u8]) -> Result<((Event, u8), &[u8]), &[u8]>
     ensures { Gives (λ e. e) result (object_event_at word other text.now) }
 {
@@ -229,6 +243,7 @@ fn object_event(word: ObjectWord, other: u8, text: &[u8]) -> Result<((Event, u8)
 }
 
 /// What becomes of a grace period or a barrier.
+#[inline(always)]
 #[tactic(auto, unfolding(crate::specs::AnswerGrammar::wait_event_at))]
 fn wait_event(word: WaitWord, other: u8, text: &[u8]) -> Result<((Event, u8), &[u8]), &[u8]>
     ensures { Gives (λ e. e) result (wait_event_at word other text.now) }
@@ -244,6 +259,7 @@ fn wait_event(word: WaitWord, other: u8, text: &[u8]) -> Result<((Event, u8), &[
 }
 
 /// The event that begins with the word.
+#[inline(always)]
 #[tactic(auto, unfolding(crate::specs::AnswerGrammar::event_rest))]
 pub fn event(word: EventWord, other: u8, text: &[u8]) -> Result<((Event, u8), &[u8]), &[u8]>
     ensures { Gives (λ e. e) result (event_rest word other text.now) }

@@ -1,10 +1,11 @@
 //! The pieces of a line: words of a table, and numbers.
 //! Each reads at the front of the text, and gives the bytes after it, or the bytes from the first bad one on.
 
-ghost use Rattle.std.specs.Prelude.{◌≡◌, ◌<◌, ◌≤◌, ◌*◌, map, IfOk};
-ghost use Rattle.schedule.specs.Reading.{Gives, GivesRest, further, word_at, word_from, ended_number_at, number_at, value_row};
+ghost use Rattle.std.specs.Prelude.{◌≡◌, ◌<◌, ◌≤◌, ◌*◌, length, map, true, IfOk};
+ghost use Rattle.schedule.specs.Reading.{Gives, GivesRest, further, is_prefix_free, word_at, word_from, ended_number_at, number_at, value_row};
 
 /// What comes after the word.
+#[inline(always)]
 #[tactic(auto, unfolding(crate::specs::Reading::word_from))]
 fn after_word<'a>(word: &[u8], text: &'a [u8]) -> Result<&'a [u8], &'a [u8]>
     ensures { GivesRest result (word_from word.now text.now) }
@@ -42,6 +43,25 @@ pub fn word<'a, K: Copy>(table: &[(&[u8], K)], text: &'a [u8]) -> Result<(K, &'a
         }
     }
     Err(bad)
+}
+
+/// As `word`, of a text that most likely begins with the word at this place of the table: a wrong guess costs time and
+/// no more.
+#[inline(always)]
+pub fn likely_word<'a, K: Copy>(
+    table: &[(&[u8], K)],
+    place: usize,
+    text: &'a [u8],
+) -> Result<(K, &'a [u8]), &'a [u8]>
+    requires place { place < length table.now }
+    requires free { is_prefix_free (map value_row table.now) ≡ true }
+    ensures { Gives (λ k. k) result (word_at (map value_row table.now) text.now) }
+{
+    let row = &table[place];
+    match after_word(row.0, text) {
+        Ok(rest) => Ok((row.1, rest)),
+        Err(_) => word(table, text),
+    }
 }
 
 /// A value below this takes one more digit, where a number has nine at most.
