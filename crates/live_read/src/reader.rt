@@ -100,7 +100,7 @@ impl<P: GracePlan, K: ChainRule, B: Site> Reader<P, K, B> {
             return Err(Refusal::NestFull);
         }
         if P::QSBR {
-            self.depth += 1;
+            self.depth = one_more(self.depth);
             self.locks = locks;
         } else {
             self.lock_word(locks);
@@ -127,7 +127,7 @@ impl<P: GracePlan, K: ChainRule, B: Site> Reader<P, K, B> {
         ensures { EndsSection P.QSBR K.allows self.old self.new locks }
     {
         if P::QSBR {
-            self.depth -= 1;
+            self.depth = one_less(self.depth);
             self.locks = locks;
         } else {
             self.unlock_word(locks);
@@ -268,4 +268,37 @@ impl<P: GracePlan, K: ChainRule, B: Site> Reader<P, K, B> {
         self.word = 0;
         Ok(())
     }
+}
+
+// One more section than so many. An outermost one gets a number that stands here, so that a processor need not wait for
+// the count that the section before it stored.
+fn one_more(depth: u64) -> u64
+    requires { depth < 2147483647 }
+    ensures { result ≡ depth + 1 }
+{
+    if depth == 0 { 1 } else { inner_one_more(depth) }
+}
+
+#[inline(never)]
+fn inner_one_more(depth: u64) -> u64
+    requires { depth < 2147483647 }
+    ensures { result ≡ depth + 1 }
+{
+    depth + 1
+}
+
+// One section less than so many. What is left of an outermost one is a number that stands here.
+fn one_less(depth: u64) -> u64
+    requires { 0 < depth }
+    ensures { result ≡ depth - 1 }
+{
+    if depth == 1 { 0 } else { inner_one_less(depth) }
+}
+
+#[inline(never)]
+fn inner_one_less(depth: u64) -> u64
+    requires { 0 < depth }
+    ensures { result ≡ depth - 1 }
+{
+    depth - 1
 }
