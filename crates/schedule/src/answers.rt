@@ -21,15 +21,15 @@ pub fn print_event(alloc: Global, event: &Event, out: &mut String) -> Result<(),
 }
 
 /// Writes two events at the end, a line.
-fn write_both(first: Event, second: Event, text: &mut String) -> Result<(), AllocError>
-    ensures { OnOk result (string_bytes text.new ≡ string_bytes text.old ++ answer_line (Ok (Events first (Some second)))) }
+fn write_both(first: &Event, second: &Event, text: &mut String) -> Result<(), AllocError>
+    ensures { OnOk result (string_bytes text.new ≡ string_bytes text.old ++ answer_line (Ok (Events first.now (Some second.now)))) }
 {
     writeln!(text, "{first}; {second}")
 }
 
 /// Writes what a step answered at the end, a line.
-fn write_answer(answer: Result<Answer, StepError>, text: &mut String) -> Result<(), AllocError>
-    ensures { OnOk result (string_bytes text.new ≡ string_bytes text.old ++ answer_line answer) }
+fn write_answer(answer: &Result<Answer, StepError>, text: &mut String) -> Result<(), AllocError>
+    ensures { OnOk result (string_bytes text.new ≡ string_bytes text.old ++ answer_line answer.now) }
 {
     match answer {
         Ok(Answer::Events { first, second }) => match second {
@@ -47,13 +47,17 @@ fn write_answer(answer: Result<Answer, StepError>, text: &mut String) -> Result<
 /// Writes what a step answered at the end, a line. What is in `text` is lost: it is made use of, so that not each
 /// answer takes memory of its own. `AllocError` changes nothing.
 pub fn print_answer(
-    answer: Result<Answer, StepError>,
+    answer: &Result<Answer, StepError>,
     text: &mut String,
     out: &mut Vec<u8>,
 ) -> Result<(), AllocError>
-    ensures ok { OnOk result (out.new.items ≡ out.old.items ++ answer_line answer) }
+    ensures ok { OnOk result (out.new.items ≡ out.old.items ++ answer_line answer.now) }
     ensures err { OnErr result (out.new.items ≡ out.old.items) }
 {
+    // Most answers are this one.
+    if let Ok(Answer::Quiet) = answer {
+        return out.extend_from_slice(b".\n");
+    }
     text.clear();
     write_answer(answer, text)?;
     out.extend_from_slice(text.as_bytes())

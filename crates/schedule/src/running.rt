@@ -60,7 +60,7 @@ impl Running {
         if let Err(Refusal::Memory) = answer {
             return Err(ReplayFault::Memory);
         }
-        print_answer(answer, text, out)?;
+        print_answer(&answer, text, out)?;
         self.line = self.line.saturating_add(1);
         Ok(())
     }

@@ -37,6 +37,7 @@ pub mod Rows
 pub mod GraceRows
 pub mod Given
 pub mod Opening
+pub mod InGrace
 pub mod InOrder
 pub mod LockHolders
 pub mod Tests

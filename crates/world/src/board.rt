@@ -9,8 +9,8 @@ use rcu_model::{Event, ObjectId, Refusal};
 use std::alloc::Global;
 use world_state::{
     Answer, Change, Config, GraceState, Layout, Line, Mark, ObjectState, QueueAct, QueueState,
-    ReaderState, Splice, StepError, UpdaterState, WorkerState, WorldPlan, act_on, hold_queue,
-    mark_object, put, splice_heads, splice_objects,
+    ReaderState, Splice, StepError, UpdaterState, WorkerState, WorkerVerb, WorldPlan, act_on,
+    hold_queue, mark_object, put, splice_heads, splice_objects,
 };
 
 /// The words, the bookkeeping beside them, and the log.
@@ -101,6 +101,11 @@ impl<P: WorldPlan + Drop> Board<P> {
         requires { IsInRange (plans_of P.QSBR P.made P.action P.turn P.taken) (shown self.old) }
         ensures { Meets (outcome_of (plans_of P.QSBR P.made P.action P.turn P.taken) (shown self.old) line.now) (shown self.old) (shown self.new) result }
     {
+        if let Line::Worker(worker, WorkerVerb::GoOn) = *line {
+            if self.is_syncing(worker) {
+                return self.go_on_syncing(worker);
+            }
+        }
         let change = self.change(line)?;
         self.commit(change)
     }
@@ -306,7 +311,7 @@ impl<P: WorldPlan + Drop> Board<P> {
     }
 
     /// What a step changes of a queue, and of an object with it.
-    fn act_now(&mut self, queue: u32, act: QueueAct, mark: Option<Mark>)
+    pub(crate) fn act_now(&mut self, queue: u32, act: QueueAct, mark: Option<Mark>)
         requires { MayActAt act (slice_get (shown self.old).queues queue) }
         ensures world { shown self.new ≡ record (shown self.old) { queues = acted_at (shown self.old).queues queue act; objects = marked_life (shown self.old).objects mark } }
         ensures log { self.new.log ≡ self.old.log }
@@ -341,7 +346,7 @@ impl<P: WorldPlan + Drop> Board<P> {
     }
 
     /// Adds the events of an answer to the log, or none where memory is refused.
-    fn tell(&mut self, answer: Answer) -> Result<(), StepError>
+    pub(crate) fn tell(&mut self, answer: Answer) -> Result<(), StepError>
         ensures ok { OnOk result (shown self.new ≡ record (shown self.old) { log = (shown self.old).log ++ told answer }) }
         ensures err { OnErr result (shown self.new ≡ shown self.old) }
         ensures memory { IfErr result (λ e. (e ≡ refusal.Memory) × (0 < length (told answer))) }

@@ -1,6 +1,6 @@
 //! The lines of workers.
 
-ghost use Rattle.std.specs.Prelude.{◌≡◌, ◌+◌, ◌<◌, ◌≤◌, length, slice_get, Some};
+ghost use Rattle.std.specs.Prelude.{◌≡◌, ◌+◌, ◌<◌, ◌≤◌, length, slice_get, slice_set, Some, None, Ok, true};
 ghost use Rattle.call_rcu_worker.specs.Sync.{told_of, step_of as sync_step};
 ghost use Rattle.world.specs.Grace.{MayHand, planned, stepped};
 ghost use Rattle.world.specs.Workers.{worker_act, worked};
@@ -11,7 +11,8 @@ use call_rcu_worker::{SyncCore, Tickets, Told, WorkerCore};
 use callback_queue::{Item, Ticket};
 use rcu_model::{Event, Refusal};
 use world_state::{
-    Answer, Change, Holder, Life, Mark, QueueAct, WorkerState, WorkerVerb, WorldPlan,
+    Answer, Change, GraceState, Holder, Life, Mark, QueueAct, StepError, WorkerState, WorkerVerb,
+    WorldPlan, put,
 };
 
 impl<P: WorldPlan + Drop> Board<P> {
@@ -23,11 +24,16 @@ impl<P: WorldPlan + Drop> Board<P> {
     ghost use Rattle.call_rcu_worker.specs.Worker.{next_of};
     ghost use Rattle.world_state.specs.declared.queue.QueueState.{QueueState};
     ghost use Rattle.world_state.specs.declared.updater.Holder.TheVariants.{Worker};
+    ghost use Rattle.world_state.specs.Objects.{marked_life};
+    ghost use Rattle.world_state.specs.Queues.{acted_at, MayActAt};
     ghost use Rattle.world_state.specs.View.{plans_of};
     ghost use Rattle.world.specs.Grace.{grace_row};
-    ghost use Rattle.world.specs.Workers.{take_row, ask_for, run_row, first_in, worker_on};
-    ghost use Rattle.world.specs.Lines.{worker_line};
-    ghost use Rattle.world.specs.Shown.{shown, IsInRange, CanStart, LoadsNoGroup};
+    ghost use Rattle.world_state.specs.declared.change.Change.TheVariants.{Work};
+    ghost use Rattle.world_state.specs.declared.line.Line.TheVariants.{Worker as WorkerLine};
+    ghost use Rattle.world_state.specs.declared.line.WorkerVerb.TheVariants.{GoOn};
+    ghost use Rattle.world.specs.Workers.{take_row, ask_for, is_syncing, run_row, first_in, worker_on};
+    ghost use Rattle.world.specs.Lines.{change_of, outcome_of, worker_line};
+    ghost use Rattle.world.specs.Shown.{shown, IsInRange, CanStart, LoadsNoGroup, Meets};
 
     /// A line of a worker.
     pub fn worker_line(
@@ -132,6 +138,111 @@ impl<P: WorldPlan + Drop> Board<P> {
             return Ok(Change::Stay(Answer::Blocked));
         };
         work_told(worker, ask, sync, tickets, effect)
+    }
+
+    /// Whether there is such a worker, and it waits for a grace period.
+    pub fn is_syncing(&self, worker: u32) -> bool
+        ensures { result ≡ is_syncing (slice_get (shown self.now).workers worker) }
+    {
+        match entry(&self.workers, worker as usize) {
+            Some(state) => matches!(state.core, WorkerCore::Syncs { .. }),
+            None => false,
+        }
+    }
+
+    /// A worker that waits for a grace period goes on. Most lines of a schedule are such steps, so this one writes where
+    /// the worker stands at once: a change would carry its plan there.
+    pub fn go_on_syncing(&mut self, worker: u32) -> Result<Answer, StepError>
+        requires range { IsInRange (plans_of P.QSBR P.made P.action P.turn P.taken) (shown self.old) }
+        requires syncs { is_syncing (slice_get (shown self.old).workers worker) ≡ true }
+        ensures { Meets (outcome_of (plans_of P.QSBR P.made P.action P.turn P.taken) (shown self.old) (WorkerLine worker GoOn)) (shown self.old) (shown self.new) result }
+    {
+        let Some(state) = entry(&self.workers, worker as usize) else {
+            return Err(Refusal::NoActor);
+        };
+        let WorkerCore::Syncs { sync, tickets } = &state.core else {
+            return Err(Refusal::NotOpen);
+        };
+        let (sync, tickets) = (*sync, *tickets);
+        let ask = self.ask_for(state.ask, sync);
+        self.sync_at_once(worker, ask, sync, tickets)
+    }
+
+    /// The next step of the grace period of a worker's batch.
+    fn sync_at_once(
+        &mut self,
+        worker: u32,
+        ask: u64,
+        sync: SyncCore<P>,
+        tickets: Tickets,
+    ) -> Result<Answer, StepError>
+        requires range { IsInRange (plans_of P.QSBR P.made P.action P.turn P.taken) (shown self.old) }
+        requires start { sync_step P.action sync ≡ due.Begin → CanStart (shown self.old).grace }
+        requires groups { LoadsNoGroup (sync_step P.action sync) }
+        requires change { change_of (plans_of P.QSBR P.made P.action P.turn P.taken) (shown self.old) (WorkerLine worker GoOn) ≡ worked worker ask tickets (grace_row (plans_of P.QSBR P.made P.action P.turn P.taken) (shown self.old) (Worker worker) ask sync) }
+        ensures { Meets (outcome_of (plans_of P.QSBR P.made P.action P.turn P.taken) (shown self.old) (WorkerLine worker GoOn)) (shown self.old) (shown self.new) result }
+    {
+        let Some(effect) = self.effect(Holder::Worker(worker), ask, sync.next()) else {
+            return Ok(Answer::Blocked);
+        };
+        self.tell_sync(worker, ask, sync, tickets, effect)
+    }
+
+    /// What comes of a step of the grace period of a worker's batch, with what the step loaded.
+    fn tell_sync(
+        &mut self,
+        worker: u32,
+        ask: u64,
+        sync: SyncCore<P>,
+        tickets: Tickets,
+        effect: Effect<P>,
+    ) -> Result<Answer, StepError>
+        requires range { IsInRange (plans_of P.QSBR P.made P.action P.turn P.taken) (shown self.old) }
+        requires plan { MayHand P.is_begun (sync_step P.action sync) effect.plan }
+        requires change { change_of (plans_of P.QSBR P.made P.action P.turn P.taken) (shown self.old) (WorkerLine worker GoOn) ≡ worked worker ask tickets (stepped effect.grace ask (told_of P.action P.turn P.taken (planned sync effect.plan) effect.loaded)) }
+        ensures { Meets (outcome_of (plans_of P.QSBR P.made P.action P.turn P.taken) (shown self.old) (WorkerLine worker GoOn)) (shown self.old) (shown self.new) result }
+    {
+        let mut core = WorkerCore::Syncs { sync, tickets };
+        if let Some(plan) = effect.plan {
+            core.begin(plan);
+        }
+        let told = core.told(effect.loaded)?;
+        if told == Told::Waiting {
+            return Ok(Answer::Wait);
+        }
+        self.make_sync(
+            worker,
+            WorkerState { ask, core },
+            effect.grace,
+            answer_to(ask, told),
+        )
+    }
+
+    /// Makes a step of the grace period of a worker's batch.
+    fn make_sync(
+        &mut self,
+        worker: u32,
+        state: WorkerState<P>,
+        grace: GraceState,
+        answer: Answer,
+    ) -> Result<Answer, StepError>
+        requires range { IsInRange (plans_of P.QSBR P.made P.action P.turn P.taken) (shown self.old) }
+        requires change { change_of (plans_of P.QSBR P.made P.action P.turn P.taken) (shown self.old) (WorkerLine worker GoOn) ≡ Ok (Work worker state grace (worker_act grace.seq state.core) None answer) }
+        ensures { Meets (outcome_of (plans_of P.QSBR P.made P.action P.turn P.taken) (shown self.old) (WorkerLine worker GoOn)) (shown self.old) (shown self.new) result }
+    {
+        self.tell(answer)?;
+        self.write_sync(worker, state, grace);
+        Ok(answer)
+    }
+
+    /// What a step of the grace period of a worker's batch changes beside the log.
+    fn write_sync(&mut self, worker: u32, state: WorkerState<P>, grace: GraceState)
+        requires { MayActAt (worker_act grace.seq state.core) (slice_get (shown self.old).queues worker) }
+        ensures { shown self.new ≡ record (shown self.old) { queues = acted_at (shown self.old).queues worker (worker_act grace.seq state.core); objects = marked_life (shown self.old).objects None; workers = slice_set (shown self.old).workers worker state; grace = grace } }
+    {
+        self.act_now(worker, act_for(grace.seq, &state.core), None);
+        put(&mut self.workers, worker as usize, state);
+        self.grace = grace;
     }
 
     /// Pops the first ready item and runs it.

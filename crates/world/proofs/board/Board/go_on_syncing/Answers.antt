@@ -1,0 +1,16 @@
+use Rattle.std.proofs.Common.{sym, subst, ◌≡◌, List, Some, slice_get}
+use Rattle.world_state.specs.declared.worker.WorkerState.{WorkerState}
+use Rattle.call_rcu_worker.specs.declared.sync.SyncCore.{SyncCore}
+use Rattle.call_rcu_worker.specs.declared.worker.WorkerCore.TheVariants.{Syncs}
+use Rattle.world.proofs.InGrace.{starts_by_begin}
+use Rattle.world.proofs.board.Board.go_on_syncing.Goals as goal
+
+pub sync_at_once-requires-clause-start : goal.sync_at_once-requires-clause-start
+sync_at_once-requires-clause-start g c =
+    let there = subst (λ (xs : List (WorkerState _)). slice_get xs c.args.worker ≡ Some c.in-Some.state.now) c.deref.ensures.value (sym c.in-Some.ensures) in
+    starts_by_begin _ c.in-Syncs.sync (λ cookie starts. c.requires.range.worker_starts c.args.worker c.in-Some.state.now cookie c.in-Syncs.tickets there (subst (λ (sync : SyncCore _). c.in-Some.state.now.core ≡ Syncs sync c.in-Syncs.tickets) starts c.in-Syncs.is))
+
+pub sync_at_once-requires-clause-groups : goal.sync_at_once-requires-clause-groups
+sync_at_once-requires-clause-groups g c =
+    let there = subst (λ (xs : List (WorkerState _)). slice_get xs c.args.worker ≡ Some c.in-Some.state.now) c.deref.ensures.value (sym c.in-Some.ensures) in
+    c.requires.range.worker_plans_run c.args.worker c.in-Some.state.now c.in-Syncs.sync c.in-Syncs.tickets there c.in-Syncs.is
