@@ -50,8 +50,8 @@ HasMore q n log = n < length (line_of log q)
 
 module _ (qsbr : Bool) (allows : Log → LiveEvent → Type 0) (key : Sizes) (q : ℕ) where
   -- A worker began after all that had been seen and heard of, when the first so many were finished, and ran those that
-  -- came next, each in its turn. Where it was closed, no more were queued, and where memory was refused, more were. What is left comes next after them, and
-  -- nothing is but where the numbers were used up.
+  -- came next, each in its turn. Where it was closed, no more were queued, and where memory was refused, more were.
+  -- What is left comes next after them, and nothing is but where the numbers were used up.
   pub record HasWorked (seen heard : Log) (old new : Looks) (old_loads new_loads : List Log) (entries : List Finished) (items : List (Item JobValue)) (stop : Stop) (log : Log) : Type 0 where
     pub start : Log
     pub first : ℕ

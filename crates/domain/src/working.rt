@@ -266,8 +266,8 @@ impl<P: GracePlan + Drop, K: ChainRule, B: Site, D: Deleter> Domain<P, K, B, D> 
     ///
     /// It stops early where the sequence numbers are used up, and then nobody works for the queue any more; or where
     /// memory is refused for what is queued. Refused with `NoActor` exactly where there is no such queue, else with
-    /// `Busy` where its hold word was found to be 1, as while another works for it, and with `Exhausted` where that was
-    /// 2.
+    /// `Busy` where its hold word was found to be 1, as while another works for it, and with `Exhausted` where it was
+    /// found to be 2.
     pub fn run_worker<W: Witness, R: Wait>(
         &self,
         rt: &R,

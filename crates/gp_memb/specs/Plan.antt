@@ -8,7 +8,8 @@ use Rattle.gp_memb.specs.declared.plan.Action.TheVariants.{Load, LoadGroup, Stor
 use Rattle.gp_memb.specs.declared.plan.Turn.{Turn}
 use Rattle.gp_memb.specs.declared.plan.Turn.TheVariants.{Step, Wait}
 
--- the word of a slot in which a section is open that copied this phase (1 or 0), or in the quiescent-state flavour this number
+-- the word of a slot in which a section is open that copied this phase (1 or 0), or in the quiescent-state flavour this
+-- number
 abbrev pub Shows : Bool → Layout → ℕ → ℕ → Type 0
 Shows false layout mark word = (count_of layout word ≢ 0) × (phase_in layout word ≡ (mark == 1))
 Shows true layout mark word = word ≡ announced mark

@@ -27,7 +27,8 @@ abbrev pub AreNoted : Sizes → List ℕ → ℕ → List (ℕ × ℕ) → Type 
 AreNoted key counts zero looks = looks ≡ []
 AreNoted key counts (suc q) looks = (rest : List (ℕ × ℕ)) × (looks ≡ (queued_at key q, slice_index counts q) ∷ rest) × AreNoted key counts q rest
 
--- the finished counts of so many queues were loaded, each once and that of queue 0 first, and none was below the noted one
+-- the finished counts of so many queues were loaded, each once and that of queue 0 first, and none was below the noted
+-- one
 abbrev pub AreReached : Sizes → List ℕ → ℕ → List (ℕ × ℕ) → Type 0
 AreReached key counts zero looks = looks ≡ []
 AreReached key counts (suc q) looks = (n : ℕ) × (rest : List (ℕ × ℕ)) × (looks ≡ (finished_at key q, n) ∷ rest) × (slice_index counts q ≤ n) × AreReached key counts q rest

@@ -12,7 +12,8 @@ use rcu_model::Refusal;
 use std::sync::Wait;
 use std::thread::{Threads, join};
 
-/// One section that reads the first object of a chain.
+/// One section that reads the first object of a chain. Inlined, as a program's own loop would have it.
+#[inline(always)]
 pub(crate) fn read_first<P: GracePlan, B: Site>(
     reader: &mut Reader<P, AnyChain, B>,
     chain: usize,

@@ -116,7 +116,8 @@ abbrev pub IsHeld : View → ℕ → Type 0
 IsHeld v c = IsWriter v × ((own_in v.chains).chain ≡ c) × IsListed v
 
 module _ {S : Type 0} (qsbr : Bool) (allows : Log → LiveEvent → Type 0) where
-  -- a step that writes this event at a log in which the seat's chains are as it knows them, after which the view is this one
+  -- a step that writes this event at a log in which the seat's chains are as it knows them, after which the view is
+  -- this one
   abbrev pub Writes : View → LiveEvent → Me S View → Me S View → Type 0
   Writes v e m m' = (m'.1 ≡ m.1) × IsNow v m'.0 × (adds : Adds qsbr allows m.0 e m'.0) × AreAsKnown adds.0 m.0.chains
 

@@ -63,8 +63,8 @@ module _ (qsbr : Bool) where
       one p q (inl h) = h
       one p q (inr h) = absurd h
 
-  -- Of the chains with the note of a directory that stays linked none is left by a later replacement: what freed it then
-  -- frees it now.
+  -- Of the chains with the note of a directory that stays linked none is left by a later replacement: what freed it
+  -- then frees it now.
   pub stays_free : (start log : Log) (c d : ℕ) (o : ObjectId) → Begins start log → IsLiveRun qsbr tabled log → In ((state_of start).chain d) o → In ((state_of log).chain d) o → IsDirectory (note_of start o) → chain_note c log ≡ d + 1 → ((since before : Log) (e : ℕ) (old new : ObjectId) (cell : ℕ) (payload : List ℕ) → start ≡ since ++ Object (Replace e old new cell payload) ∷ before → IsDirectory (note_of before old) → Names (note_of before old) c → HaveEnded before log) → IsFree log c
   stays_free start log c d o b run at still directory noted earlier since before e old new cell payload is directory' names' = ⊎_elim
       (λ (later : Begins start before). ⊎_elim

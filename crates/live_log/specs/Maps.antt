@@ -28,8 +28,8 @@ module _ (qsbr : Bool) (allows : Log → LiveEvent → Type 0) where
       pub replaces : (log : Log) (c : ℕ) (old new : ObjectId) (cell : ℕ) (payload : List ℕ) → IsPlain log c → In ((state_of log).chain c) old → HasKey (cell, payload) → keyed_event log (Replace c old new cell payload) → allows log (Object (Replace c old new cell payload))
       pub cuts : (log : Log) (c : ℕ) (o : ObjectId) → IsPlain log c → In ((state_of log).chain c) o → keyed_event log (Cut c o) → allows log (Object (Cut c o))
 
-  -- In each chain keys differ and ranks fall. What takes the place of an object has its rank, and its key too, unless that
-  -- object was alone. A chain of keys with no note takes keys by the rule of keyed chains.
+  -- In each chain keys differ and ranks fall. What takes the place of an object has its rank, and its key too, unless
+  -- that object was alone. A chain of keys with no note takes keys by the rule of keyed chains.
   pub record HasMaps : Type 0 where
     pub falls : (log : Log) (c : ℕ) → IsLiveRun qsbr allows log → IsKeyed log c
     pub alike : (log : Log) (c : ℕ) (old new : ObjectId) (cell : ℕ) (payload : List ℕ) → IsLiveRun qsbr allows (Object (Replace c old new cell payload) ∷ log) → (rank_of (cell, payload) ≡ rank_of (note_of log old)) × ((key_of (cell, payload) ≡ key_of (note_of log old)) ⊎ ((state_of log).chain c ≡ old ∷ []))

@@ -63,7 +63,8 @@ tabled_event log (Replace c p o i w) = IsFree log c × ((HasKey (i, w) × HasKey
 tabled_event log (Cut c o) = IsFree log c × HasKey (note_of log o) × keyed_event log (Cut c o)
 tabled_event log _ = Unit {0}
 
--- A note goes from 0 to any number, and from there to 0 alone, where the chain is free and empty and no directory names it.
+-- A note goes from 0 to any number, and from there to 0 alone, where the chain is free and empty and no directory names
+-- it.
 abbrev pub tabled : Log → LiveEvent → Type 0
 tabled log (Object d) = tabled_event log d
 tabled log (ChainNote c x) = (chain_note c log ≡ 0) ⊎ ((x ≡ 0) × IsFree log c × ((state_of log).chain c ≡ []) × ¬ IsNamed log c)

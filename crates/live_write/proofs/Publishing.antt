@@ -26,8 +26,8 @@ use Rattle.live_read.specs.Hearing.{IsAfter, IsAsBefore, OnlyMakesLast}
 use Rattle.live_read.specs.declared.witness.Witness.{Ghosts}
 use Rattle.live_write.specs.Chains.{GoesOn, MayPublish, Publishes, list_in, push_by, replace_by}
 
--- what a seat with the writer's chains has seen and heard of: all that the writer had seen and heard of, and its caller,
--- and who allocated a record
+-- what a seat with the writer's chains has seen and heard of: all that the writer had seen and heard of, and its
+-- caller, and who allocated a record
 pub record Hears (v w : View) (seen heard owner : Log) : Type 0 where
   pub chains : w.chains ≡ v.chains
   pub of_writer : Begins v.seen w.seen × Begins v.heard w.seen

@@ -1,5 +1,5 @@
--- A bucket to which a directory led answers for the table: while the directory is linked, and afterwards by what the table
--- had when another one took its place, since the bucket stays as long as a section of then is open.
+-- A bucket to which a directory led answers for the table: while the directory is linked, and afterwards by what the
+-- table had when another one took its place, since the bucket stays as long as a section of then is open.
 use Rattle.std.proofs.Common.{Bool, ◌≡◌, ℕ, ◌<◌, ◌&&◌, List, [], ◌∷◌, ◌++◌, append_assoc, Some, None, cond, true, false, refl, sym, ap, ◌∙◌, subst, ⊎_elim, arith}
 use Rattle.std.proofs.lemmas.Bool.{eqb-true, ltb-true}
 use Rattle.std.proofs.lemmas.Nat.{mod_below}

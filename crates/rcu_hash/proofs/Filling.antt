@@ -1,5 +1,5 @@
--- The events of a growth before its last one: pushes into the new chains, and notes. None of them changes the table's map,
--- since the same directory was linked from before them until after them.
+-- The events of a growth before its last one: pushes into the new chains, and notes. None of them changes the table's
+-- map, since the same directory was linked from before them until after them.
 use Rattle.std.proofs.Common.{Bool, ◌≡◌, ◌≢◌, ◌⊎◌, ℕ, ◌+◌, ◌<◌, ◌≤◌, List, [], ◌∷◌, ◌++◌, Some, length, slice_get, refl, sym, ap, ◌∙◌, subst, inl, inr, ⊎_elim, arith, zero, suc}
 use Rattle.std.proofs.lemmas.Nat.{mod_below}
 use Rattle.rcu_model.specs.declared.event.ObjectId.{ObjectId}

@@ -1,5 +1,5 @@
--- One directory takes the place of another: that this is allowed, what it makes of the map, and that the chains that the
--- new one names are free.
+-- One directory takes the place of another: that this is allowed, what it makes of the map, and that the chains that
+-- the new one names are free.
 use Rattle.std.proofs.Common.{Bool, ◌≡◌, ◌≢◌, ◌⊎◌, ℕ, ◌+◌, ◌<◌, ◌≤◌, List, [], ◌∷◌, ◌++◌, Some, cond, true, false, length, slice_get, refl, sym, ap, ◌∙◌, subst, inl, inr, ⊎_elim, arith}
 use mathlib.Core.Logic.{dite}
 use native.Mathlib.Decide.{ℕ_discrete}

@@ -38,8 +38,8 @@ LeadsTo d log key c = (o : ObjectId) × (first_of ((state_of log).chain d) ≡ S
 abbrev pub directed_map : ℕ → ℕ → Log → ℕ → Option ℕ
 directed_map chains d log = value_through chains log (first_of ((state_of log).chain d))
 
--- A lookup that had seen and heard of these logs, and has seen the new one at its end, answers by the table's map in some
--- log between: the key had the value there, or none.
+-- A lookup that had seen and heard of these logs, and has seen the new one at its end, answers by the table's map in
+-- some log between: the key had the value there, or none.
 pub record AnswersThrough (seen heard new : Log) (chains d key : ℕ) (answer : Option ℕ) : Type 0 where
   pub at : Log
   pub after_seen : Begins seen at
@@ -55,8 +55,8 @@ pub record AnswersLinked (start now : Log) (chains d key : ℕ) (o : ObjectId) (
   pub linked : In ((state_of at).chain d) o
   pub is : directed_map chains d at key ≡ answer
 
--- A walk that had seen and heard of these logs, and has seen the new one at its end, met these keys with their values. The
--- key had each value in some log between; and a key that was not met exactly once had none in some log between.
+-- A walk that had seen and heard of these logs, and has seen the new one at its end, met these keys with their values.
+-- The key had each value in some log between; and a key that was not met exactly once had none in some log between.
 pub record WalksThrough (seen heard new : Log) (chains d : ℕ) (met : List (ℕ × ℕ)) : Type 0 where
   pub had : (key value : ℕ) → In met (key, value) → AnswersThrough seen heard new chains d key (Some value)
   pub lacked : (key : ℕ) → times key met ≢ 1 → AnswersThrough seen heard new chains d key None

@@ -40,8 +40,8 @@ abbrev pub NotesAll : (Log → LiveEvent → Log → Type 0) → (note first man
 NotesAll Tells note first zero heard log = Begins heard log
 NotesAll Tells note first (suc many) heard log = (at : Log) × Tells heard (ChainNote first note) at × NotesAll Tells note (first + 1) many at log
 
--- Each bucket of a new table got the table's note, and then its directory came into the directory's chain, all after what the
--- caller had seen and heard of.
+-- Each bucket of a new table got the table's note, and then its directory came into the directory's chain, all after
+-- what the caller had seen and heard of.
 pub record Founds (qsbr : Bool) (allows : Log → LiveEvent → Type 0) (d : ℕ) (seen heard : Log) (first buckets : ℕ) (log : Log) : Type 0 where
   pub noted : Log
   pub object : ObjectId
@@ -51,8 +51,8 @@ pub record Founds (qsbr : Bool) (allows : Log → LiveEvent → Type 0) (d : ℕ
 
 -- by the rule of chains, the chains of the domain, the directory's chain, and what the caller had seen
 module _ (qsbr : Bool) (allows : Log → LiveEvent → Type 0) (chains d : ℕ) (seen : Log) where
-  -- Another directory took the place of the one that was linked, and the table's map is as it was. Each key is led to its
-  -- bucket among those that the new one names; and these entries, no two of one key, are the map.
+  -- Another directory took the place of the one that was linked, and the table's map is as it was. Each key is led to
+  -- its bucket among those that the new one names; and these entries, no two of one key, are the map.
   pub record Exchanges (heard : Log) (old : ObjectId) (first buckets : ℕ) (entries : List (ℕ × ℕ)) (log : Log) : Type 0 where
     pub new : ObjectId
     pub cell : ℕ

@@ -11,9 +11,9 @@ use Rattle.rcu_hash.specs.Directories.{LeadsTo, directed_map}
 
 -- by the rule of chains, the chains of the domain, the directory's chain, and what the caller had seen and heard of
 module _ (qsbr : Bool) (allows : Log → LiveEvent → Type 0) (chains d : ℕ) (seen heard : Log) where
-  -- The event is the last one of the log, and came after all that the caller knew. Before it the directory led the key to
-  -- the chain, and the key had this value in the table's map, or none; after it the key has that, and each other key what
-  -- it had.
+  -- The event is the last one of the log, and came after all that the caller knew. Before it the directory led the key
+  -- to the chain, and the key had this value in the table's map, or none; after it the key has that, and each other key
+  -- what it had.
   pub record ChangesThrough (chain : ℕ) (event : LiveEvent) (key : ℕ) (had has : Option ℕ) (log : Log) : Type 0 where
     pub before : Log
     pub wrote : log ≡ event ∷ before

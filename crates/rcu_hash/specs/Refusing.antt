@@ -23,15 +23,16 @@ abbrev pub IsUnused : ℕ → Log → Type 0
 IsUnused c log = ((state_of log).chain c ≡ []) × (chain_note c log ≡ 0)
 
 module _ {W : Type 0} (w : Ghosts W) (qsbr : Bool) (allows : Log → LiveEvent → Type 0) (old new : W) where
-  -- it is so of some log of the call: one that comes after all that the caller knew, and that it has heard of at the end
+  -- it is so of some log of the call: one that comes after all that the caller knew, and that it has heard of at the
+  -- end
   pub record During (is_so : Log → Type 0) : Type 0 where
     pub at : Log
     pub after : IsAfter qsbr allows (w.seen old) (w.heard old) at
     pub before : Begins at (w.heard new)
     pub so : is_so at
 
-  -- one of these chains had a writer: in the call its hold word was found to be 1, and never 0; or the chain was in use in
-  -- some log of the call
+  -- one of these chains had a writer: in the call its hold word was found to be 1, and never 0; or the chain was in use
+  -- in some log of the call
   pub record FindsTaken (sizes : Sizes) (is_one : ℕ → Type 0) : Type 0 where
     pub chain : ℕ
     pub one : is_one chain

@@ -57,7 +57,8 @@ abbrev pub objects_in : List View → ℕ
 objects_in [] = 0
 objects_in (v ∷ vs) = length (list_in v) + objects_in vs
 
--- what a step does: it cuts and retires an object, or retires the record of an earlier directory, or takes a chain's note
+-- what a step does: it cuts and retires an object, or retires the record of an earlier directory, or takes a chain's
+-- note
 pub data Kind : Type 0 where
   Cuts : Kind
   Retires : Kind

@@ -159,8 +159,8 @@ impl<'d, P: GracePlan + Drop, B: Site, D: Deleter> RcuHash<'d, P, B, D> {
     /// is not 1 to 4,096 or a chain is not there, or is one of the table's, else with `Memory` where memory is, with
     /// `BadConfig` where a chain had a writer, linked an object or had a note other than 0 during the call, or with
     /// `PoolFull` where there is no record for a key or for the directory; then it made no change. That its records and
-    /// chains are free again, tests show. It waits for the table's locks, and for no grace period, but tries again where
-    /// other threads draw object numbers meanwhile.
+    /// chains are free again, tests show. It waits for the table's locks, and for no grace period, but tries again
+    /// where other threads draw object numbers meanwhile.
     pub fn grow<W: Witness, R: Wait>(
         &self,
         rt: &R,

@@ -162,8 +162,8 @@ impl<'d, P: GracePlan + Drop, B: Site, D: Deleter> RcuHash<'d, P, B, D> {
     /// all that the caller had seen and heard of, and the caller hears of it.
     ///
     /// Refused with `Exists` only where the key had a value in some log of the call, else with `PoolFull` where its
-    /// bucket's ranks are used up, or as `alloc`; then it made no change. It takes no memory, and waits for the locks of
-    /// the table alone, but tries again where other threads draw object numbers meanwhile.
+    /// bucket's ranks are used up, or as `alloc`; then it made no change. It takes no memory, and waits for the locks
+    /// of the table alone, but tries again where other threads draw object numbers meanwhile.
     pub fn insert<W: Witness, R: Wait>(
         &self,
         rt: &R,
@@ -215,8 +215,8 @@ impl<'d, P: GracePlan + Drop, B: Site, D: Deleter> RcuHash<'d, P, B, D> {
     /// is retired with the callback, `call_rcu`. Both come after all that the caller had seen and heard of, and the
     /// caller hears of them.
     ///
-    /// Refused with `Missing` only where the key had no value in some log of the call, else as `retire`; then it made no
-    /// change, and the callback comes back. It waits for the locks of the table and of the queue alone.
+    /// Refused with `Missing` only where the key had no value in some log of the call, else as `retire`; then it made
+    /// no change, and the callback comes back. It waits for the locks of the table and of the queue alone.
     pub fn remove<W: Witness, R: Wait>(
         &self,
         rt: &R,

@@ -11,9 +11,9 @@ use Rattle.rcu_list.specs.Maps.{map_of, words_of}
 
 -- by the rule of chains, the list's chain, what its writer knew, and what the caller had seen and heard of
 module _ (qsbr : Bool) (allows : Log → LiveEvent → Type 0) (c : ℕ) (known seen heard : Log) where
-  -- The event is the last one of the log, and came after all that was known. Before it the list's chain linked the objects
-  -- that its writer knew, so that the list's map was the one that it knew, and the key had this value or none; after it the
-  -- key has that, and each other key what it had.
+  -- The event is the last one of the log, and came after all that was known. Before it the list's chain linked the
+  -- objects that its writer knew, so that the list's map was the one that it knew, and the key had this value or none;
+  -- after it the key has that, and each other key what it had.
   pub record Changes (event : LiveEvent) (key : ℕ) (had has : Option ℕ) (log : Log) : Type 0 where
     pub before : Log
     pub wrote : log ≡ event ∷ before

@@ -9,9 +9,9 @@ abbrev pub times : ℕ → List (ℕ × ℕ) → ℕ
 times key [] = 0
 times key (e ∷ es) = if e.0 == key then times key es + 1 else times key es
 
--- A walk that had seen and heard of these logs, and has seen the new one at its end, met these keys with their values, of
--- those that it is after. The key had each value in some log between; and a key that was not met exactly once had none
--- in some log between.
+-- A walk that had seen and heard of these logs, and has seen the new one at its end, met these keys with their values,
+-- of those that it is after. The key had each value in some log between; and a key that was not met exactly once had
+-- none in some log between.
 pub record GoesThrough (wanted : ℕ → Type 0) (seen heard new : Log) (c : ℕ) (met : List (ℕ × ℕ)) : Type 0 where
   pub is_wanted : (key value : ℕ) → In met (key, value) → wanted key
   pub had : (key value : ℕ) → In met (key, value) → AnswersBetween seen heard new c key (Some value)

@@ -1,5 +1,5 @@
--- An ask is answered, and a barrier is over, at most once, and only after what they await has ended; a callback is queued
--- once before it runs.
+-- An ask is answered, and a barrier is over, at most once, and only after what they await has ended; a callback is
+-- queued once before it runs.
 use Rattle.std.proofs.Common.{◌≡◌, ◌≢◌, ◌⊎◌, ◌↔◌, inl, inr, ⊎_elim, ℕ, Bool, true, false, not, List, [], ◌∷◌, ◌++◌, Some, None, refl, sym, ap, ◌∙◌, subst}
 use Rattle.rcu_model.specs.declared.event.Event.{Event}
 use Rattle.rcu_model.specs.declared.event.Event.TheVariants.{Open, Close, First, Next, Touch, Push, Replace, Cut, Retire, Queue, Run, Ask, Answer, Bar, Clear}

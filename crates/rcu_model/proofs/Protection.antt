@@ -1,4 +1,5 @@
--- What was linked while a section was open is not reclaimed as long as it stays open, whether the section holds it or not.
+-- What was linked while a section was open is not reclaimed as long as it stays open, whether the section holds it or
+-- not.
 use Rattle.std.proofs.Common.{◌≡◌, inl, ⊎_elim, List, [], ◌∷◌, ◌++◌, Some, sym, ap, ◌∙◌, subst, append_assoc, append-nil}
 use Rattle.rcu_model.specs.declared.event.Event.{Event}
 use Rattle.rcu_model.specs.declared.event.SectionId.{SectionId}

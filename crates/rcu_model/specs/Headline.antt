@@ -1,5 +1,5 @@
--- What a log says of callbacks, asks and barriers, by its events alone: [saferecl.rcu], where an evaluation is scheduled by
--- `Retire` and done by `Run`.
+-- What a log says of callbacks, asks and barriers, by its events alone: [saferecl.rcu], where an evaluation is
+-- scheduled by `Retire` and done by `Run`.
 use Rattle.std.specs.Prelude.{◌≡◌, ◌⊎◌, ℕ, List, ◌∷◌, ◌++◌, Some}
 use Rattle.std.specs.List.{Contains}
 use Rattle.rcu_model.specs.declared.event.SectionId.{SectionId}

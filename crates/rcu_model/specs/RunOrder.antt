@@ -1,5 +1,5 @@
--- The order in which the callbacks of a queue run, in a log that is a run of the machine: so each object is queued once,
--- before it runs.
+-- The order in which the callbacks of a queue run, in a log that is a run of the machine: so each object is queued
+-- once, before it runs.
 use Rattle.std.specs.Prelude.{◌≡◌, ℕ, ◌==◌, if◌then◌else◌, List, ◌∷◌, ◌++◌, filter, Option, Some, None}
 use Rattle.std.specs.List.{filter_map}
 use Rattle.rcu_model.specs.declared.event.Event.{Event}

@@ -1,4 +1,5 @@
--- What makes a reading function the reading of a language: each text of it is read, nothing else is, and a fault is at the first byte with which no text of it goes on.
+-- What makes a reading function the reading of a language: each text of it is read, nothing else is, and a fault is at
+-- the first byte with which no text of it goes on.
 use Rattle.std.proofs.Common.{◌≡◌, ℕ, List, [], ◌∷◌, ◌++◌, Result, Ok, Err, refl, sym, ap, subst, ◌∙◌, append_assoc, inl, inr, ◌⊎◌}
 use Rattle.schedule.specs.Reading.{Reading, ◌>>=◌}
 use Rattle.schedule.specs.Grammar.{done}

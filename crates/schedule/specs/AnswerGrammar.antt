@@ -1,5 +1,5 @@
--- Lines of answers, read from left to right. A number that may end a line is read with the byte that ends it: a line feed,
--- or another one.
+-- Lines of answers, read from left to right. A number that may end a line is read with the byte that ends it: a line
+-- feed, or another one.
 use Rattle.std.specs.Prelude.{ℕ, List, [], ◌∷◌, map, Ok, Err, Option, Some, None, ◌==◌, if◌then◌else◌}
 use Rattle.rcu_model.specs.declared.event.SectionId.{SectionId}
 use Rattle.rcu_model.specs.declared.event.ObjectId.{ObjectId}

@@ -17,7 +17,8 @@ status_of_words _ = 3
 abbrev pub IsStatus : ℕ → Type 0
 IsStatus status = (status ≡ 0) ⊎ (status ≡ 1) ⊎ (status ≡ 2) ⊎ (status ≡ 3)
 
--- the words ask for something, which is done and ends so; or clap refuses them, which is told, and nothing is read or written
+-- the words ask for something, which is done and ends so; or clap refuses them, which is told, and nothing is read or
+-- written
 abbrev pub EndsAfter : List Text → Option (List ℕ) → Option (List ℕ) → Option (List ℕ) → Option (List ℕ) → ℕ → Type 0
 EndsAfter words given left before after status =
     ((said : Asked) × SayAsked words said × ExecutesAsked said given left before after status)

@@ -14,8 +14,8 @@ use Rattle.torture_run.specs.declared.fault.RunFault.TheVariants.{Write, Memory,
 abbrev pub counts_text : Counts → List ℕ
 counts_text c = codes "run retired=" ++ decimal c.retired ++ codes " finished=" ++ decimal c.finished ++ codes " mixed=" ++ decimal c.mixed ++ codes "\n"
 
--- all that was retired has run, no record was found mixed, no updater starved, and where no time was said all rounds were
--- made
+-- all that was retired has run, no record was found mixed, no updater starved, and where no time was said all rounds
+-- were made
 abbrev pub are_right : Run → Counts → Bool
 are_right run c = (c.retired == c.finished) && (c.mixed == 0) && (c.starved == 0) && (is_some run.load.seconds || (c.retired == run.load.updaters * run.load.rounds))
 

@@ -155,7 +155,8 @@ module _ {P : Type 0} (plans : Plans P) (layout : Layout) (slots : ℕ) (laws : 
       some_same : (y : A) → Some y ≡ Some x → y ≡ x
       some_same y e = cc
 
-  -- the turns of the plan: the lock's holder goes from one work to another that holds the lock, with the ask that it had
+  -- the turns of the plan: the lock's holder goes from one work to another that holds the lock, with the ask that it
+  -- had
   runs_same : (a c b d : ℕ) (p q : P) → Runs a c p ≡ Runs b d q → (c ≡ d) × (p ≡ q)
   runs_same a c b d p q e = let one : c ≡ d = cc in let two : p ≡ q = cc in (one, two)
 

@@ -14,8 +14,8 @@ use Rattle.world_state.specs.View.{Plans, BoardView}
 use Rattle.world.specs.Lines.{outcome_of}
 use Rattle.world.specs.Steps.{WorldView, OfMemb, OfQsbr, memb_plans, qsbr_plans}
 
--- a line of a reader that was not refused: the phase or number that was present, the answer, and the reader's word after
--- it
+-- a line of a reader that was not refused: the phase or number that was present, the answer, and the reader's word
+-- after it
 pub record Move : Type 0 where
   pub present : ℕ
   pub answer : Answer

@@ -50,8 +50,8 @@ module _ {P : Type 0} where
   abbrev pub with_header : BoardView P → ObjectId → Life → List ObjectState
   with_header w o life = marked_life w.objects (Some (record { object = o; life = life }))
 
-  -- the header is stored and told first; then the queued count is raised; then the item is pushed and told; and last the
-  -- lock is freed
+  -- the header is stored and told first; then the queued count is raised; then the item is pushed and told; and last
+  -- the lock is freed
   abbrev pub DoesItsStep : BoardView P → ℕ → ℕ → Outcome P → ObjectId → RetireStep → Type 0
   DoesItsStep w u q outcome o Mark = Makes u q outcome (Events (events.Retire o) None) (Some (record { object = o; step = Count })) (with_header w o life.Retired) (queue_in w q)
   DoesItsStep w u q outcome o Count = Makes u q outcome Quiet (Some (record { object = o; step = Push })) w.objects (record (queue_in w q) { queued = (queue_in w q).queued + 1 })

@@ -150,8 +150,8 @@ impl<P: WorldPlan + Drop> Board<P> {
         }
     }
 
-    /// A worker that waits for a grace period goes on. Most lines of a schedule are such steps, so this one writes where
-    /// the worker stands at once: a change would carry its plan there.
+    /// A worker that waits for a grace period goes on. Most lines of a schedule are such steps, so this one writes
+    /// where the worker stands at once: a change would carry its plan there.
     pub fn go_on_syncing(&mut self, worker: u32) -> Result<Answer, StepError>
         requires range { IsInRange (plans_of P.QSBR P.made P.action P.turn P.taken) (shown self.old) }
         requires syncs { is_syncing (slice_get (shown self.old).workers worker) ≡ true }

@@ -21,7 +21,8 @@ module _ {P : Type 0} (turn : P → ℕ → Turn) (moved : P → ℕ → P) wher
       by_turn Step = keeps plan word fact
       by_turn Wait = fact
 
--- a fact of the plan that lasts while such words are loaded, and that no finished plan has, keeps it from being finished
+-- a fact of the plan that lasts while such words are loaded, and that no finished plan has, keeps it from being
+-- finished
 waits_by : {P : Type 0} (action : P → Action) (taken : P → ℕ → P) (shows : Action → ℕ → Type 0) (Fact : P → Type 0) →
     ((plan : P) (word : ℕ) → Fact plan → shows (action plan) word → Fact (taken plan word)) →
     ((plan : P) → Fact plan → action plan ≢ Finished) →
@@ -45,8 +46,8 @@ waits_since action taken shows Fact lasts ends stores plan value is (word ∷ wo
 abbrev pub cost : (Action → Bool) → Action → ℕ
 cost counts action = if counts action then 1 else 0
 
--- a number of turns that are left of those that count, less by its cost after each turn that goes on, and none exactly in
--- a finished plan
+-- a number of turns that are left of those that count, less by its cost after each turn that goes on, and none exactly
+-- in a finished plan
 module _ {P : Type 0} (action : P → Action) (turn : P → ℕ → Turn) (moved : P → ℕ → P) (counts : Action → Bool) (Fact : P → Type 0) (rest : P → ℕ)
     (keeps : (plan : P) (word : ℕ) → Fact plan → Fact (moved plan word))
     (falls : (plan : P) (word : ℕ) → Fact plan → rest (moved plan word) ≡ rest plan - cost counts (action plan))

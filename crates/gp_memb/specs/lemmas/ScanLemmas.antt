@@ -1,4 +1,5 @@
--- What a scan of these slots does, of all or grouped: which slot it does not pass, which it loads, how many turns it takes.
+-- What a scan of these slots does, of all or grouped: which slot it does not pass, which it loads, how many turns it
+-- takes.
 use Rattle.std.specs.Prelude.{◌≡◌, ◌≢◌, ◌≤◌, ◌<◌, ℕ, zero, suc, ◌+◌, ◌-◌, ◌*◌, ◌/◌, ◌%◌, ◌==◌, nat_lt, Bool, true, false, if◌then◌else◌, Option, Some, None}
 use Rattle.std.proofs.Common.{true≢false, sym, refl, ap, ◌∙◌, subst, arith, ⊎_elim}
 use Rattle.std.proofs.lemmas.Bool.Decides.{Decides-ltb, eqb_tells}
