@@ -5,11 +5,11 @@ use Rattle.rcu_model.specs.declared.event.Event.{Event}
 use Rattle.rcu_model.specs.declared.verdict.Verdict.{Verdict}
 use Rattle.rcu_model.specs.declared.verdict.Verdict.TheVariants as verdicts
 use Rattle.rcu_model.specs.Machine.{IsRun}
-use Rattle.schedule.specs.declared.fault.ReplayFault.{ReplayFault}
-use Rattle.schedule.specs.declared.fault.ReplayFault.TheVariants as faults
-use Rattle.schedule.specs.AnswerLines.{BreaksOffAnswers}
-use Rattle.schedule.specs.AnswerPieces.{StopsAnswers}
-use Rattle.schedule.proofs.Lemmas.{more_text}
+use Rattle.schedule_text.specs.declared.fault.ReplayFault.{ReplayFault}
+use Rattle.schedule_text.specs.declared.fault.ReplayFault.TheVariants as faults
+use Rattle.schedule_text.specs.AnswerLines.{BreaksOffAnswers}
+use Rattle.schedule_text.specs.AnswerPieces.{StopsAnswers}
+use Rattle.schedule_text.proofs.Lemmas.{more_text}
 use Rattle.judging.specs.declared.judging.Judging.{Judging}
 use Rattle.judging.specs.declared.text_judge.Finding.{Finding}
 use Rattle.judging.specs.declared.text_judge.Finding.TheVariants.{Yes, No, BadText, Memory}

@@ -7,11 +7,11 @@ use Rattle.rcu_model.specs.declared.verdict.Verdict.TheVariants.{Yes, No}
 use Rattle.rcu_model.specs.Machine.{IsRun}
 use Rattle.rcu_model.specs.Judge.{HasTaken}
 use Rattle.rcu_model.specs.Verdict.{Judges}
-use Rattle.schedule.specs.declared.fault.AnswersFault.{AnswersFault}
-use Rattle.schedule.specs.declared.fault.AnswersFault.TheVariants.{BadText, Memory}
-use Rattle.schedule.specs.declared.fault.ReplayFault.{ReplayFault}
-use Rattle.schedule.specs.declared.fault.ReplayFault.TheVariants as faults
-use Rattle.schedule.specs.AnswerPieces.{HasRead, Takes, EndsAnswers}
+use Rattle.schedule_text.specs.declared.fault.AnswersFault.{AnswersFault}
+use Rattle.schedule_text.specs.declared.fault.AnswersFault.TheVariants.{BadText, Memory}
+use Rattle.schedule_text.specs.declared.fault.ReplayFault.{ReplayFault}
+use Rattle.schedule_text.specs.declared.fault.ReplayFault.TheVariants as faults
+use Rattle.schedule_text.specs.AnswerPieces.{HasRead, Takes, EndsAnswers}
 use Rattle.judging.specs.declared.judging.Judging.{Judging}
 use Rattle.judging.specs.Judging.{HasJudged, JudgesOn, JudgesAlong, JudgedAs, IsRunSoFar, Ends, replay_fault, so_far}
 

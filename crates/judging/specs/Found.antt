@@ -4,10 +4,10 @@ use Rattle.rcu_model.specs.declared.event.Event.{Event}
 use Rattle.rcu_model.specs.declared.verdict.Verdict.{Verdict}
 use Rattle.rcu_model.specs.declared.verdict.Verdict.TheVariants as verdicts
 use Rattle.rcu_model.specs.Machine.{IsRun}
-use Rattle.schedule.specs.declared.fault.ReplayFault.{ReplayFault}
-use Rattle.schedule.specs.declared.fault.ReplayFault.TheVariants as faults
-use Rattle.schedule.specs.AnswerLines.{TellsLog, BreaksOffAnswers}
-use Rattle.schedule.specs.AnswerPieces.{StopsAnswers}
+use Rattle.schedule_text.specs.declared.fault.ReplayFault.{ReplayFault}
+use Rattle.schedule_text.specs.declared.fault.ReplayFault.TheVariants as faults
+use Rattle.schedule_text.specs.AnswerLines.{TellsLog, BreaksOffAnswers}
+use Rattle.schedule_text.specs.AnswerPieces.{StopsAnswers}
 use Rattle.judging.specs.declared.judging.Judging.{Judging}
 use Rattle.judging.specs.declared.text_judge.Finding.{Finding}
 use Rattle.judging.specs.declared.text_judge.Finding.TheVariants.{Yes, No, BadText, Memory}

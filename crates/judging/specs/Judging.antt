@@ -6,13 +6,13 @@ use Rattle.rcu_model.specs.declared.verdict.Verdict.TheVariants.{Yes, No}
 use Rattle.rcu_model.specs.Machine.{IsRun}
 use Rattle.rcu_model.specs.Judge.{HasTaken}
 use Rattle.rcu_model.specs.Verdict.{Judges}
-use Rattle.schedule.specs.declared.fault.AnswersFault.{AnswersFault}
-use Rattle.schedule.specs.declared.fault.AnswersFault.TheVariants as answers_faults
-use Rattle.schedule.specs.declared.fault.ReplayFault.{ReplayFault}
-use Rattle.schedule.specs.declared.fault.ReplayFault.TheVariants.{BadText, BadConfig, Read, Write, Memory}
-use Rattle.schedule.specs.AnswerLines.{IsAnswerText, TellsLog, BreaksOffAnswers}
-use Rattle.schedule.specs.AnswerPieces.{ReadSoFar, HasRead, StopsAnswers}
-use Rattle.schedule.specs.Printed.{IsPartial}
+use Rattle.schedule_text.specs.declared.fault.AnswersFault.{AnswersFault}
+use Rattle.schedule_text.specs.declared.fault.AnswersFault.TheVariants as answers_faults
+use Rattle.schedule_text.specs.declared.fault.ReplayFault.{ReplayFault}
+use Rattle.schedule_text.specs.declared.fault.ReplayFault.TheVariants.{BadText, BadConfig, Read, Write, Memory}
+use Rattle.schedule_text.specs.AnswerLines.{IsAnswerText, TellsLog, BreaksOffAnswers}
+use Rattle.schedule_text.specs.AnswerPieces.{ReadSoFar, HasRead, StopsAnswers}
+use Rattle.schedule_text.specs.Fault.{IsPartial}
 use Rattle.judging.specs.declared.judging.Judging.{Judging}
 
 abbrev pub replay_fault : AnswersFault → ReplayFault

@@ -4,11 +4,11 @@ ghost use Rattle.std.specs.Prelude.{◌≡◌, ◌++◌, ℕ, List, length, OnOk
 ghost use Rattle.rcu_model.specs.declared.event.Event.{Event};
 ghost use Rattle.rcu_model.specs.Machine.{IsRun};
 ghost use Rattle.rcu_model.specs.Judge.{HasTaken};
-ghost use Rattle.schedule.specs.declared.fault.ReplayFault.TheVariants.{Memory};
+ghost use Rattle.schedule_text.specs.declared.fault.ReplayFault.TheVariants.{Memory};
 ghost use Rattle.judging.specs.Judging.{HasBegun, HasJudged, JudgesOn, JudgesAlong, Ends, is_bad_text, replay_fault, so_far};
 
 use rcu_model::{Event, Judge, Verdict};
-use schedule::{AnswerReader, AnswersFault, ReplayFault};
+use schedule_text::{AnswerReader, AnswersFault, ReplayFault};
 use std::alloc::Global;
 
 /// A judge of the log that lines of answers tell, which come in pieces. It keeps what is present in that log, the

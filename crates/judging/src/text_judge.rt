@@ -5,7 +5,7 @@ ghost use Rattle.judging.specs.Found.{IsFound, IsFoundAtEnd, WasFed, finding_of,
 
 use crate::judging::Judging;
 use rcu_model::{Rule, Verdict};
-use schedule::ReplayFault;
+use schedule_text::ReplayFault;
 use std::alloc::Global;
 
 /// What is found of a text of answers. All but `Yes` stand, whatever follows.

@@ -1,11 +1,9 @@
 -- Reading as the bytes come, for any language that is read exactly.
-use Rattle.std.proofs.Common.{◌≡◌, ℕ, ◌+◌, ◌<◌, ◌≤◌, List, [], ◌∷◌, ◌++◌, length, Ok, Err, ap, ◌∙◌, arith}
+use Rattle.std.proofs.Common.{◌≡◌, ℕ, ◌+◌, ◌≤◌, List, [], ◌∷◌, ◌++◌, length, Ok, Err, ap, ◌∙◌, arith}
 use Rattle.std.proofs.lemmas.List.{length-append}
-use Rattle.schedule.specs.Reading.{Reading}
+use Rattle.schedule_text.specs.Reading.{Reading}
 use Rattle.schedule.specs.Next.{IsIncremental}
-use Rattle.schedule.proofs.Exact.{Reads, not_both}
-use Rattle.schedule.proofs.Columns.{bad_within}
-use Rattle.schedule.proofs.More.{ok_more, err_more, last_byte, reads_partial, whole}
+use Rattle.schedule_text.proofs.Lemmas.{Reads, bad_within, some_read, ok_more, err_more, last_byte, reads_partial}
 
 -- a byte that is bad stays so
 pub next_bad : {A : Type 0} (read : List ℕ → Reading A) → IsIncremental read → (text after all bad : List ℕ) (column : ℕ) → all ≡ text ++ after
@@ -14,16 +12,6 @@ pub next_bad : {A : Type 0} (read : List ℕ → Reading A) → IsIncremental re
 next_bad read incremental text after all [] column at is le place = absurd (omega arith)
 next_bad read incremental text after all (b ∷ bs) column at is le place =
     (b, bs ++ after, ap read at ∙ incremental.bad text b bs after is, omega (arith, place, ap length at, length-append text after, length-append bs after))
-
--- what stands first takes some of the text, where the empty text is no text of the language
-pub some_read : {A : Type 0} (S : A → List ℕ → Type 0) (read : List ℕ → Reading A) → Reads S read → read [] ≡ Err [] → (text : List ℕ) (x : A) (rest : List ℕ) → read text ≡ Ok (x, rest) → length rest < length text
-some_read {A} S read reads empty text x rest e =
-    let f = reads.found text x rest e in
-    longer_by f.front f.spelled (ap length f.parts ∙ length-append f.front rest)
-  where
-    longer_by : (front : List ℕ) → S x front → length text ≡ length front + length rest → length rest < length text
-    longer_by [] s at = absurd (not_both (read []) (x, []) [] (whole S read reads x [] s) empty)
-    longer_by (b ∷ front) s at = omega (arith, at)
 
 -- a language that is read exactly may be read as the bytes come, where no text of it is long
 pub incremental : {A : Type 0} (S : A → List ℕ → Type 0) (read : List ℕ → Reading A) → Reads S read → read [] ≡ Err []

@@ -6,20 +6,17 @@ use Rattle.std.proofs.lemmas.List.Elements.{All-head, All-tail}
 use Rattle.world_state.specs.declared.config.Config.{Config}
 use Rattle.world_state.specs.declared.line.Line.{Line}
 use Rattle.world.specs.Steps.{fresh_world, is_supported, log_of, world_after_lines}
-use Rattle.schedule.specs.declared.counts.Counts.{Counts}
-use Rattle.schedule.specs.declared.fault.ReplayFault.{ReplayFault}
-use Rattle.schedule.specs.declared.fault.ReplayFault.TheVariants.{BadText, BadConfig, Read, Write, Memory}
-use Rattle.schedule.specs.Spelling.{spelling, IsLine, LineText, IsLineText}
-use Rattle.schedule.specs.Header.{header, IsHeader, HeaderText, IsHeaderText}
-use Rattle.schedule.specs.Reading.{Reading}
-use Rattle.schedule.specs.Grammar.{line_at, header_at}
-use Rattle.schedule.specs.Answers.{counts_of, end_line}
-use Rattle.schedule.specs.Printed.{lines_text, answers_of, line_after, IsBad, Prints, IsBeginning}
-use Rattle.schedule.proofs.Exact.{Reads, ok_is, not_both, result_cases}
-use Rattle.schedule.proofs.Columns.{bad_within}
-use Rattle.schedule.proofs.Lines.{line_reads, no_line}
-use Rattle.schedule.proofs.Headers.{header_reads}
-use Rattle.schedule.proofs.More.{bad_byte, bad_end, column_once, whole}
+use Rattle.schedule_text.specs.declared.counts.Counts.{Counts}
+use Rattle.schedule_text.specs.declared.fault.ReplayFault.{ReplayFault}
+use Rattle.schedule_text.specs.declared.fault.ReplayFault.TheVariants.{BadText, BadConfig, Read, Write, Memory}
+use Rattle.schedule_text.specs.Spelling.{spelling, IsLine, LineText, IsLineText, lines_text}
+use Rattle.schedule_text.specs.Header.{header, IsHeader, HeaderText, IsHeaderText}
+use Rattle.schedule_text.specs.Reading.{Reading}
+use Rattle.schedule_text.specs.Grammar.{line_at, header_at}
+use Rattle.schedule_text.specs.Answers.{counts_of, end_line}
+use Rattle.schedule.specs.Printed.{answers_of, Prints, IsBeginning}
+use Rattle.schedule_text.specs.Fault.{line_after, IsBad}
+use Rattle.schedule_text.proofs.Lemmas.{Reads, ok_is, not_both, result_cases, bad_within, line_reads, no_line, header_reads, bad_byte, bad_end, column_once, whole}
 use Rattle.schedule.proofs.Standing.{column_at, header_begins}
 
 -- ---- some thing

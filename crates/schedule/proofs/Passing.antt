@@ -3,9 +3,9 @@ use Rattle.std.proofs.Common.{◌≡◌, ℕ, ◌^◌, ◌<◌, List, [], ◌++�
 use Rattle.std.specs.Prelude.{OnOk}
 use Rattle.std.specs.Io.KnownBytes.{Appends, Consumes, Keeps, IsAtEnd}
 use Rattle.std.proofs.lemmas.List.{append-nil}
-use Rattle.schedule.specs.declared.counts.Counts.{Counts}
-use Rattle.schedule.specs.declared.fault.ReplayFault.{ReplayFault}
-use Rattle.schedule.specs.declared.fault.ReplayFault.TheVariants.{BadText, BadConfig, Read, Write, Memory}
+use Rattle.schedule_text.specs.declared.counts.Counts.{Counts}
+use Rattle.schedule_text.specs.declared.fault.ReplayFault.{ReplayFault}
+use Rattle.schedule_text.specs.declared.fault.ReplayFault.TheVariants.{BadText, BadConfig, Read, Write, Memory}
 use Rattle.schedule.specs.Printed.{Prints, IsBeginning, Ends}
 use Rattle.schedule.specs.Safety.{IsSafelyPrinted}
 use Rattle.schedule.specs.Stream.{Progress, Header, Lines, Failed, Stands, LeadsTo, LeadsToEnd, IsSound}

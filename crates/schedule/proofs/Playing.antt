@@ -5,12 +5,12 @@ use Rattle.std.proofs.lemmas.List.{append-nil, length_push, flat_map_more}
 use Rattle.std.proofs.lemmas.List.Elements.{All-nil, All-push}
 use Rattle.world_state.specs.declared.line.Line.{Line}
 use Rattle.world.specs.Steps.{WorldView, step_of, world_after_lines}
-use Rattle.schedule.specs.Spelling.{spelling, IsLine}
-use Rattle.schedule.specs.Grammar.{line_at}
-use Rattle.schedule.specs.Answers.{answer_line}
-use Rattle.schedule.specs.Printed.{lines_text, answers_of}
+use Rattle.schedule_text.specs.Spelling.{spelling, IsLine, lines_text}
+use Rattle.schedule_text.specs.Grammar.{line_at}
+use Rattle.schedule_text.specs.Answers.{answer_line}
+use Rattle.schedule.specs.Printed.{answers_of}
 use Rattle.schedule.specs.Play.{Point, number_on, Plays}
-use Rattle.schedule.proofs.Lines.{line_reads}
+use Rattle.schedule_text.proofs.Lemmas.{line_reads}
 
 number_more : (n k : ℕ) → number_on n (k + 1) ≡ number_on (number_on n k) 1
 number_more n zero = refl

@@ -18,35 +18,16 @@ use Rattle.world_state.specs.declared.line.Answer.TheVariants.{Events, Quiet, Wa
 use Rattle.world_state.specs.declared.line.Line.{Line}
 use Rattle.world.specs.Numbering.{IsFoundWithin, IsNumberedWithin}
 use Rattle.world.specs.Steps.{WorldView, step_of, world_after_lines, events_of, answered_events}
-use Rattle.schedule.specs.declared.counts.Counts.{Counts}
-use Rattle.schedule.specs.declared.answer_line.AnswerLine.{AnswerLine}
-use Rattle.schedule.specs.declared.answer_line.AnswerLine.TheVariants as line
-use Rattle.schedule.specs.Answers.{answer_line, opens, retires, runs, counts_of, end_line}
-use Rattle.schedule.specs.Spelling.{IsNumber}
+use Rattle.schedule_text.specs.declared.counts.Counts.{Counts}
+use Rattle.schedule_text.specs.declared.answer_line.AnswerLine.{AnswerLine}
+use Rattle.schedule_text.specs.declared.answer_line.AnswerLine.TheVariants as line
+use Rattle.schedule_text.specs.Answers.{answer_line, opens, retires, runs, counts_of, end_line}
+use Rattle.schedule_text.specs.Spelling.{IsNumber}
 use Rattle.schedule.specs.Printed.{answers_of}
-use Rattle.schedule.specs.AnswerLines.{IsLong, IsFound, IsEvent, IsAnswerLine, IsAnswerText, spelled, told_by, TellsLog}
+use Rattle.schedule_text.specs.AnswerLines.{IsLong, IsFound, IsEvent, IsAnswerLine, IsAnswerText, spelled, line_of, told_by, TellsLog}
+use Rattle.schedule_text.proofs.Lemmas.{answer_spelled}
 
--- the line of an answer
-answer_as : Result Answer Refusal → AnswerLine
-answer_as (Ok (Events first second)) = line.Events first second
-answer_as (Ok Quiet) = line.Quiet
-answer_as (Ok Wait) = line.Wait
-answer_as (Ok Blocked) = line.Blocked
-answer_as (Ok Idle) = line.Idle
-answer_as (Err e) = line.Refused (number_of e)
-
-answer_spelled : (a : Result Answer Refusal) → answer_line a ≡ spelled (answer_as a)
-unfolding answer_as
-answer_spelled (Ok (Events first None)) = refl
-answer_spelled (Ok (Events first (Some second))) = simp append_assoc
-answer_spelled (Ok Quiet) = refl
-answer_spelled (Ok Wait) = refl
-answer_spelled (Ok Blocked) = refl
-answer_spelled (Ok Idle) = refl
-answer_spelled (Err e) = simp append_assoc
-
-answer_told : (a : Result Answer Refusal) → events_of a ≡ told_by (answer_as a)
-unfolding answer_as
+answer_told : (a : Result Answer Refusal) → events_of a ≡ told_by (line_of a)
 answer_told (Ok (Events first None)) = refl
 answer_told (Ok (Events first (Some second))) = refl
 answer_told (Ok Quiet) = refl
@@ -103,8 +84,7 @@ module _ (n : ℕ) (long : IsLong n) where
   number_long refusals.Memory = lit< tt
   number_long refusals.FewJobs = lit< tt
 
-  answer_long : (a : Result Answer Refusal) → Every (IsNumberedWithin n) (events_of a) → IsAnswerLine (answer_as a)
-  unfolding answer_as
+  answer_long : (a : Result Answer Refusal) → Every (IsNumberedWithin n) (events_of a) → IsAnswerLine (line_of a)
   answer_long (Ok (Events first None)) h = (event_long first h.0, tt)
   answer_long (Ok (Events first (Some second))) h = (event_long first h.0, event_long second h.1.0)
   answer_long (Ok Quiet) h = tt
@@ -117,7 +97,7 @@ module _ (n : ℕ) (long : IsLong n) where
 
 lines_of : WorldView → List Line → List AnswerLine
 lines_of w [] = []
-lines_of w (l ∷ ls) = answer_as (step_of w l).answer ∷ lines_of ((step_of w l).world) ls
+lines_of w (l ∷ ls) = line_of (step_of w l).answer ∷ lines_of ((step_of w l).world) ls
 
 every_front : {X : Type 0} (F : X → Type 0) (xs ys : List X) → Every F (xs ++ ys) → Every F xs
 every_front F [] ys h = tt
@@ -132,14 +112,14 @@ unfolding lines_of
 lines_spelled w [] = refl
 lines_spelled w (l ∷ ls) =
     ap (λ (t : List ℕ). t ++ answers_of ((step_of w l).world) ls) (answer_spelled (step_of w l).answer)
-    ∙ ap (λ (t : List ℕ). spelled (answer_as (step_of w l).answer) ++ t) (lines_spelled ((step_of w l).world) ls)
+    ∙ ap (λ (t : List ℕ). spelled (line_of (step_of w l).answer) ++ t) (lines_spelled ((step_of w l).world) ls)
 
 lines_told : (w : WorldView) (ls : List Line) → answered_events w ls ≡ flat_map told_by (lines_of w ls)
 unfolding lines_of
 lines_told w [] = refl
 lines_told w (l ∷ ls) =
     ap (λ (es : List Event). es ++ answered_events ((step_of w l).world) ls) (answer_told (step_of w l).answer)
-    ∙ ap (λ (es : List Event). told_by (answer_as (step_of w l).answer) ++ es) (lines_told ((step_of w l).world) ls)
+    ∙ ap (λ (es : List Event). told_by (line_of (step_of w l).answer) ++ es) (lines_told ((step_of w l).world) ls)
 
 lines_long : (n : ℕ) → IsLong n → (w : WorldView) (ls : List Line) → Every (IsNumberedWithin n) (answered_events w ls) → Every IsAnswerLine (lines_of w ls)
 unfolding lines_of
@@ -221,7 +201,7 @@ pub lines_in : (w : WorldView) (ls : List Line) (rest printed : List ℕ) → pr
 lines_in w ls rest printed parts short = let low = lines_short w ls rest printed parts short in omega (arith, low)
 
 -- the answer to the last of these lines is one of the language
-last_is : (w : WorldView) (ls : List Line) (l : Line) → Every IsAnswerLine (lines_of w (ls ++ l ∷ [])) → IsAnswerLine (answer_as (step_of (world_after_lines w ls) l).answer)
+last_is : (w : WorldView) (ls : List Line) (l : Line) → Every IsAnswerLine (lines_of w (ls ++ l ∷ [])) → IsAnswerLine (line_of (step_of (world_after_lines w ls) l).answer)
 unfolding lines_of
 last_is w [] l each = each.0
 last_is w (m ∷ ls) l each = last_is ((step_of w m).world) ls l each.1
@@ -231,7 +211,7 @@ answer_is_text w ls l long numbered =
     let n = 2 * length (ls ++ l ∷ []) in
     let each = lines_long n long w (ls ++ l ∷ []) (recursion_from_All (IsNumberedWithin n) (answered_events w (ls ++ l ∷ [])) numbered) in
     let answer = (step_of (world_after_lines w ls) l).answer in
-    (answer_as answer, (last_is w ls l each, answer_spelled answer))
+    (line_of answer, (last_is w ls l each, answer_spelled answer))
 
 -- ---- the log
 

@@ -8,18 +8,18 @@ use Rattle.world_state.specs.declared.config.Config.{Config}
 use Rattle.world_state.specs.declared.line.Line.{Line}
 use Rattle.world.specs.Numbering.{IsNumberedWithin}
 use Rattle.world.specs.Steps.{WorldView, fresh_world, is_supported, step_of, log_of, world_after_lines, answered_events}
-use Rattle.schedule.specs.declared.answer_line.AnswerLine.TheVariants as line
-use Rattle.schedule.specs.declared.counts.Counts.{Counts}
-use Rattle.schedule.specs.declared.fault.ReplayFault.{ReplayFault}
-use Rattle.schedule.specs.declared.fault.ReplayFault.TheVariants.{BadText, BadConfig, Read, Write, Memory}
-use Rattle.schedule.specs.AnswerLines.{IsLong, IsAnswerLine, IsAnswerText, TellsLog}
-use Rattle.schedule.specs.Answers.{answer_line, counts_of, end_line}
+use Rattle.schedule_text.specs.declared.answer_line.AnswerLine.TheVariants as line
+use Rattle.schedule_text.specs.declared.counts.Counts.{Counts}
+use Rattle.schedule_text.specs.declared.fault.ReplayFault.{ReplayFault}
+use Rattle.schedule_text.specs.declared.fault.ReplayFault.TheVariants.{BadText, BadConfig, Read, Write, Memory}
+use Rattle.schedule_text.specs.AnswerLines.{IsLong, IsAnswerLine, IsAnswerText, TellsLog}
+use Rattle.schedule_text.specs.Answers.{answer_line, counts_of, end_line}
 use Rattle.schedule.specs.Ports.{IsAnsweredSoFar}
-use Rattle.schedule.specs.Printed.{IsPartial, answers_of, Prints, IsBeginning}
+use Rattle.schedule_text.specs.Fault.{IsPartial}
+use Rattle.schedule.specs.Printed.{answers_of, Prints, IsBeginning}
 use Rattle.schedule.specs.Safety.{TellsSafeLog, BeginsSafely}
 use Rattle.schedule.specs.Stream.{Progress, Header, Lines, Failed, Stands, IsSound}
-use Rattle.schedule.proofs.AnswerLogs.{tells_once}
-use Rattle.schedule.proofs.Exact.{seam}
+use Rattle.schedule_text.proofs.Lemmas.{tells_once, seam}
 use Rattle.schedule.proofs.RoundTrip.{lines_short, lines_in, answer_is_text, tells_answers, end_is_text, tells_all}
 
 -- ---- a beginning of answers: whole ones, and less than one more

@@ -4,9 +4,9 @@ use Rattle.std.specs.Prelude.{codes}
 use Rattle.std.specs.Fmt.{decimal}
 use Rattle.std.proofs.lemmas.Fmt.{length-decimal-le}
 use Rattle.std.proofs.lemmas.List.{length-append}
-use Rattle.schedule.specs.Spelling.{reader_verb, updater_verb, worker_verb, spelling, IsNumber, IsReaderVerb, IsUpdaterVerb, IsLine, LineText}
-use Rattle.schedule.specs.Header.{version, flavour_text, field, header, IsHeader, HeaderText}
-use Rattle.schedule.specs.Grammar.{line_at, header_at}
+use Rattle.schedule_text.specs.Spelling.{reader_verb, updater_verb, worker_verb, spelling, IsNumber, IsReaderVerb, IsUpdaterVerb, IsLine, LineText}
+use Rattle.schedule_text.specs.Header.{version, flavour_text, field, header, IsHeader, HeaderText}
+use Rattle.schedule_text.specs.Grammar.{line_at, header_at}
 use Rattle.reader_word.specs.declared.layout.Layout.{Layout}
 use Rattle.reader_word.specs.declared.layout.Layout.TheVariants.{Narrow, Wide}
 use Rattle.world_state.specs.declared.config.Config.{Config}
@@ -21,8 +21,7 @@ use Rattle.world_state.specs.declared.line.UpdaterVerb.TheVariants as updater
 use Rattle.world_state.specs.declared.line.WorkerVerb.{WorkerVerb}
 use Rattle.world_state.specs.declared.line.WorkerVerb.TheVariants as worker
 use Rattle.schedule.specs.Next.{IsIncremental}
-use Rattle.schedule.proofs.Lines.{line_reads, no_line}
-use Rattle.schedule.proofs.Headers.{header_reads, no_header}
+use Rattle.schedule_text.proofs.Lemmas.{line_reads, no_line, header_reads, no_header}
 use Rattle.schedule.proofs.Bytes.{incremental}
 
 short : (n : ℕ) → IsNumber n → length (decimal n) ≤ 9

@@ -6,22 +6,18 @@ use Rattle.std.proofs.lemmas.List.Elements.{All-nil, All-cons, All-head, All-tai
 use Rattle.world_state.specs.declared.config.Config.{Config}
 use Rattle.world_state.specs.declared.line.Line.{Line}
 use Rattle.world.specs.Steps.{WorldView, fresh_world, is_supported, log_of, world_after_lines}
-use Rattle.schedule.specs.declared.fault.ReplayFault.{ReplayFault}
-use Rattle.schedule.specs.declared.fault.ReplayFault.TheVariants.{BadText, BadConfig, Read, Write, Memory}
-use Rattle.schedule.specs.declared.counts.Counts.{Counts}
-use Rattle.schedule.specs.Spelling.{spelling, IsLine, LineText, IsLineText}
-use Rattle.schedule.specs.Header.{header, HeaderText, IsHeaderText}
-use Rattle.schedule.specs.Grammar.{line_at, header_at}
-use Rattle.schedule.specs.Answers.{counts_of, end_line}
-use Rattle.schedule.specs.Printed.{MakesWorld, lines_text, answers_of, line_after, IsSchedule, IsBad, OutOfLimits, Prints, IsBeginning, Ends}
+use Rattle.schedule_text.specs.declared.fault.ReplayFault.{ReplayFault}
+use Rattle.schedule_text.specs.declared.fault.ReplayFault.TheVariants.{BadText, BadConfig, Read, Write, Memory}
+use Rattle.schedule_text.specs.declared.counts.Counts.{Counts}
+use Rattle.schedule_text.specs.Spelling.{spelling, IsLine, LineText, IsLineText, lines_text}
+use Rattle.schedule_text.specs.Header.{header, HeaderText, IsHeaderText, MakesWorld}
+use Rattle.schedule_text.specs.Grammar.{line_at, header_at}
+use Rattle.schedule_text.specs.Answers.{counts_of, end_line}
+use Rattle.schedule.specs.Printed.{answers_of, IsSchedule, OutOfLimits, Prints, IsBeginning, Ends}
+use Rattle.schedule_text.specs.Fault.{line_after, IsBad}
 use Rattle.schedule.specs.Play.{point, number_on, Plays, PlaysAll, EndsLines}
 use Rattle.schedule.specs.Stream.{Progress, Header, Lines, Failed, Stands, Leads, LeadsTo, LeadsToEnd}
-use Rattle.schedule.proofs.Exact.{result_cases}
-use Rattle.schedule.proofs.Columns.{bad_within}
-use Rattle.schedule.proofs.Lines.{line_reads, no_line}
-use Rattle.schedule.proofs.Headers.{header_reads}
-use Rattle.schedule.proofs.More.{err_more, partial_reads, reads_partial, bad_byte, bad_end}
-use Rattle.schedule.proofs.Bytes.{some_read}
+use Rattle.schedule_text.proofs.Lemmas.{result_cases, bad_within, line_reads, no_line, header_reads, err_more, partial_reads, reads_partial, bad_byte, bad_end, some_read}
 use Rattle.schedule.proofs.Playing.{after_append, answers_append}
 
 -- a header and lines were taken from the text, and this is left

@@ -1,17 +1,7 @@
-pub mod Reading
-pub mod Spelling
-pub mod Header
-pub mod Fault
-pub mod Grammar
-pub mod Answers
 pub mod Printed
 pub mod Safety
 pub mod Stream
 pub mod Next
 pub mod Play
 pub mod Ports
-pub mod Whole
-pub mod AnswerLines
-pub mod AnswerPieces
-pub mod AnswerGrammar
 pub mod RoundTrip

@@ -1,7 +1,7 @@
 -- What stands first in held bytes and the text after them.
 use Rattle.std.specs.Prelude.{◌≡◌, ℕ, ◌+◌, ◌<◌, ◌≤◌, List, [], ◌∷◌, ◌++◌, length, Option, None, Some, Result, Ok, Err}
 use Rattle.std.specs.Borrow.{Bor}
-use Rattle.schedule.specs.Reading.{Reading}
+use Rattle.schedule_text.specs.Reading.{Reading}
 
 -- It is read whole, and what follows is left; or all is held, and may go on; or a byte is bad, in this column.
 abbrev pub Next : {A : Type 0} → (List ℕ → Reading A) → List ℕ → List ℕ → List ℕ → Result (Option (A × Bor (List ℕ))) ℕ → Type 0

@@ -2,13 +2,13 @@
 use Rattle.std.specs.Prelude.{◌≡◌, ℕ, zero, suc, ◌+◌, ◌-◌, ◌^◌, ◌<◌, min, List, [], ◌∷◌, ◌++◌, length, All, Result, Ok, Err}
 use Rattle.world_state.specs.declared.line.Line.{Line}
 use Rattle.world.specs.Steps.{WorldView, log_of, world_after_lines}
-use Rattle.schedule.specs.declared.counts.Counts.{Counts}
-use Rattle.schedule.specs.Answers.{counts_of, end_line}
-use Rattle.schedule.specs.declared.fault.ReplayFault.{ReplayFault}
-use Rattle.schedule.specs.declared.fault.ReplayFault.TheVariants.{BadText, BadConfig, Read, Write, Memory}
-use Rattle.schedule.specs.Spelling.{IsLine}
-use Rattle.schedule.specs.Grammar.{line_at}
-use Rattle.schedule.specs.Printed.{lines_text, answers_of}
+use Rattle.schedule_text.specs.declared.counts.Counts.{Counts}
+use Rattle.schedule_text.specs.Answers.{counts_of, end_line}
+use Rattle.schedule_text.specs.declared.fault.ReplayFault.{ReplayFault}
+use Rattle.schedule_text.specs.declared.fault.ReplayFault.TheVariants.{BadText, BadConfig, Read, Write, Memory}
+use Rattle.schedule_text.specs.Spelling.{IsLine, lines_text}
+use Rattle.schedule_text.specs.Grammar.{line_at}
+use Rattle.schedule.specs.Printed.{answers_of}
 
 -- the world, the number of the next line, the text that is to be read, and what is printed so far
 pub record Point : Type 0 where

@@ -1,9 +1,9 @@
 -- A replay from a reader to a writer, which may tell their bytes.
 use Rattle.std.specs.Prelude.{◌≡◌, ◌⊎◌, ℕ, ◌<◌, ◌^◌, List, ◌++◌, length, Option, None, Some, Result, Ok, Err}
 use Rattle.std.specs.Io.KnownBytes.{Appends, Consumes}
-use Rattle.schedule.specs.declared.counts.Counts.{Counts}
-use Rattle.schedule.specs.declared.fault.ReplayFault.{ReplayFault}
-use Rattle.schedule.specs.declared.fault.ReplayFault.TheVariants.{Read, Write, Memory}
+use Rattle.schedule_text.specs.declared.counts.Counts.{Counts}
+use Rattle.schedule_text.specs.declared.fault.ReplayFault.{ReplayFault}
+use Rattle.schedule_text.specs.declared.fault.ReplayFault.TheVariants.{Read, Write, Memory}
 use Rattle.schedule.specs.Printed.{IsBeginning, Ends}
 use Rattle.schedule.specs.Safety.{IsSafelyPrinted}
 use Rattle.schedule.specs.Stream.{Progress, Failed, Stands, IsSound}

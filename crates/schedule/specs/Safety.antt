@@ -2,10 +2,10 @@
 use Rattle.std.specs.Prelude.{◌≡◌, ℕ, ◌<◌, ◌^◌, List, ◌++◌, length, Result, Err}
 use Rattle.rcu_model.specs.declared.event.Event.{Event}
 use Rattle.rcu_model.specs.Promises.{IsSafeLog}
-use Rattle.schedule.specs.declared.fault.ReplayFault.{ReplayFault}
-use Rattle.schedule.specs.declared.fault.ReplayFault.TheVariants.{Write, Memory}
-use Rattle.schedule.specs.AnswerLines.{TellsLog, IsAnswerText}
-use Rattle.schedule.specs.Printed.{IsPartial}
+use Rattle.schedule_text.specs.declared.fault.ReplayFault.{ReplayFault}
+use Rattle.schedule_text.specs.declared.fault.ReplayFault.TheVariants.{Write, Memory}
+use Rattle.schedule_text.specs.AnswerLines.{TellsLog, IsAnswerText}
+use Rattle.schedule_text.specs.Fault.{IsPartial}
 
 -- lines of answers, whose events are one log and no other, and that log is safe
 pub record TellsSafeLog (printed : List ℕ) : Type 0 where

@@ -3,13 +3,14 @@ use Rattle.std.specs.Prelude.{◌≡◌, ◌≢◌, ℕ, List, [], ◌∷◌, �
 use Rattle.world_state.specs.declared.config.Config.{Config}
 use Rattle.world_state.specs.declared.line.Line.{Line}
 use Rattle.world.specs.Steps.{WorldView, fresh_world, world_after_lines}
-use Rattle.schedule.specs.declared.counts.Counts.{Counts}
-use Rattle.schedule.specs.declared.fault.ReplayFault.{ReplayFault}
+use Rattle.schedule_text.specs.declared.counts.Counts.{Counts}
+use Rattle.schedule_text.specs.declared.fault.ReplayFault.{ReplayFault}
 use Rattle.schedule.specs.declared.stage.Stage.{Stage}
 use Rattle.schedule.specs.declared.stage.Stage.TheVariants as stages
-use Rattle.schedule.specs.Spelling.{IsLineText}
-use Rattle.schedule.specs.Header.{header, IsHeaderText}
-use Rattle.schedule.specs.Printed.{IsPartial, IsSchedule, lines_text, answers_of, line_after, Ends}
+use Rattle.schedule_text.specs.Spelling.{IsLineText, lines_text}
+use Rattle.schedule_text.specs.Header.{header, IsHeaderText}
+use Rattle.schedule_text.specs.Fault.{IsPartial, line_after}
+use Rattle.schedule.specs.Printed.{IsSchedule, answers_of, Ends}
 
 -- where a replay stands
 pub data Progress : Type 0 where

@@ -4,12 +4,11 @@ ghost use Rattle.std.specs.Prelude.{◌≡◌, ℕ, List, [], IfErr, OnOk};
 ghost use Rattle.schedule.specs.Safety.{AppendsSafely};
 ghost use Rattle.schedule.specs.Stream.{Progress, Header, Failed, progress_of, Stands, Feeds, Finishes, StaysFailed, IsSound};
 
-use crate::counts::Counts;
-use crate::fault::ReplayFault;
 use crate::held::Held;
 use crate::laws::each_text_reclaims_safely;
 use crate::running::Running;
 use crate::stage::Stage;
+use schedule_text::{Counts, ReplayFault};
 use std::alloc::Global;
 use std::marker::Model;
 

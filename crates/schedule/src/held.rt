@@ -3,13 +3,12 @@
 ghost use Rattle.std.specs.Prelude.{◌≡◌, ◌<◌, ℕ, List, [], length, take, IfOk, IfSome};
 ghost use Rattle.std.specs.Borrow.{Bor};
 ghost use Rattle.world_state.specs.declared.line.Line.{Line};
-ghost use Rattle.schedule.specs.Grammar.{header_at, line_at};
+ghost use Rattle.schedule_text.specs.Grammar.{header_at, line_at};
 ghost use Rattle.schedule.specs.Next.{Next, IsIncremental};
-ghost use Rattle.schedule.specs.Reading.{Reading, Gives};
+ghost use Rattle.schedule_text.specs.Reading.{Reading, Gives};
 ghost use Rattle.world_state.specs.declared.config.Config.{Config};
 
-use crate::header::front_header;
-use crate::reading::{column_of, front_line};
+use schedule_text::{column_of, front_header, front_line};
 use std::marker::Model;
 use world::{Config, Line};
 

@@ -1,8 +1,8 @@
 //! What holds of all schedules' texts.
 
 ghost use Rattle.std.specs.Prelude.{◌≡◌, ℕ, ◌<◌, ◌^◌, List, [], length, Result};
-ghost use Rattle.schedule.specs.declared.counts.Counts.{Counts};
-ghost use Rattle.schedule.specs.declared.fault.ReplayFault.{ReplayFault};
+ghost use Rattle.schedule_text.specs.declared.counts.Counts.{Counts};
+ghost use Rattle.schedule_text.specs.declared.fault.ReplayFault.{ReplayFault};
 ghost use Rattle.schedule.specs.Printed.{Prints, IsBeginning, Ends};
 ghost use Rattle.schedule.specs.Ports.{IsAnsweredSoFar};
 ghost use Rattle.std.specs.List.{concat};

@@ -3,7 +3,7 @@
 ghost use Rattle.std.specs.Prelude.{◌≢◌, [], IfOk, IfErr};
 ghost use Rattle.schedule.specs.Ports.{Tells, Writes, ReadsNoMore};
 
-use crate::fault::ReplayFault;
+use schedule_text::ReplayFault;
 use std::alloc::Global;
 use std::io::{Read, Write};
 

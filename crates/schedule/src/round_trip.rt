@@ -2,8 +2,8 @@
 
 ghost use Rattle.std.specs.Prelude.{◌≡◌, ◌<◌, ◌^◌, ℕ, List, length};
 ghost use Rattle.world.specs.Steps.{WorldView, log_of};
-ghost use Rattle.schedule.specs.declared.counts.Counts.{Counts};
-ghost use Rattle.schedule.specs.AnswerLines.{TellsLog};
+ghost use Rattle.schedule_text.specs.declared.counts.Counts.{Counts};
+ghost use Rattle.schedule_text.specs.AnswerLines.{TellsLog};
 ghost use Rattle.schedule.specs.Printed.{Good, BadLine};
 ghost use Rattle.schedule.specs.RoundTrip.{TellsTheLogAfter};
 ghost use Rattle.schedule.specs.Stream.{IsAnswered};

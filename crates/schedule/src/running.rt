@@ -2,16 +2,14 @@
 
 ghost use Rattle.std.specs.Prelude.{◌≡◌, ◌⊎◌, ◌+◌, ◌-◌, ◌^◌, ◌++◌, min, [], false, IfOk, IfErr, OnOk, OnErr, IsTrue};
 ghost use Rattle.world.specs.Steps.{fresh_world, is_supported, step_of};
-ghost use Rattle.schedule.specs.declared.fault.ReplayFault.TheVariants.{BadConfig, Memory};
-ghost use Rattle.schedule.specs.Answers.{answer_line};
-ghost use Rattle.schedule.specs.Grammar.{line_at};
+ghost use Rattle.schedule_text.specs.declared.fault.ReplayFault.TheVariants.{BadConfig, Memory};
+ghost use Rattle.schedule_text.specs.Answers.{answer_line};
+ghost use Rattle.schedule_text.specs.Grammar.{line_at};
 ghost use Rattle.schedule.specs.Play.{point, number_on, PlaysAll, EndsLines};
 
-use crate::answers::{print_answer, print_end};
-use crate::counts::Counts;
-use crate::fault::ReplayFault;
 use crate::held::Held;
 use rcu_model::Refusal;
+use schedule_text::{Counts, ReplayFault, print_answer, print_end};
 use std::alloc::Global;
 use world::{Config, Line, World};
 

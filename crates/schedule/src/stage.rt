@@ -1,8 +1,8 @@
 //! How far a replay has come.
 
-use crate::fault::ReplayFault;
 use crate::held::Held;
 use crate::running::Running;
+use schedule_text::ReplayFault;
 
 /// How far a replay has come.
 #[derive(Drop)]

@@ -3,11 +3,10 @@
 ghost use Rattle.std.specs.Prelude.{◌≡◌, ◌≤◌, length, IfErr};
 ghost use Rattle.schedule.specs.Ports.{Passes, Closes, Replays};
 
-use crate::counts::Counts;
-use crate::fault::ReplayFault;
 use crate::feeding::Replay;
 use crate::laws::each_text_reclaims_safely;
 use crate::ports::{PIECE, write_whole};
+use schedule_text::{Counts, ReplayFault};
 use std::alloc::Global;
 use std::io::{Read, Write};
 

@@ -8,11 +8,11 @@ use Rattle.std.proofs.lemmas.List.{append-nil, flat_map_more, length-append}
 use Rattle.std.proofs.lemmas.List.Elements.{All-nil, All-push}
 use Rattle.rand_pcg.specs.Lcg.{Lcg}
 use Rattle.world_state.specs.Limits.{is_in, is_within_limits}
-use Rattle.schedule.specs.declared.fault.ReplayFault.{ReplayFault}
-use Rattle.schedule.specs.declared.fault.ReplayFault.TheVariants.{Memory}
-use Rattle.schedule.specs.Header.{header}
+use Rattle.schedule_text.specs.declared.fault.ReplayFault.{ReplayFault}
+use Rattle.schedule_text.specs.declared.fault.ReplayFault.TheVariants.{Memory}
+use Rattle.schedule_text.specs.Header.{header}
 use Rattle.schedule.specs.Ports.{Writes}
-use Rattle.schedule.specs.Spelling.{spelling, IsLine}
+use Rattle.schedule_text.specs.Spelling.{spelling, IsLine}
 use Rattle.schedule.proofs.Lemmas.{appends_none, appends_more, after_append}
 use Rattle.torture_commands.specs.declared.command.Walk.{Walk}
 use Rattle.torture_commands.specs.Limits.{is_walk_within}

@@ -9,10 +9,11 @@ use Rattle.rcu_model.specs.declared.verdict.Rule.{Rule}
 use Rattle.rcu_model.specs.Machine.{IsRun}
 use Rattle.rcu_model.specs.Verdict.{IsFirstBreak}
 use Rattle.rcu_model.proofs.Lemmas.{at_event}
-use Rattle.schedule.specs.declared.fault.ReplayFault.{ReplayFault}
-use Rattle.schedule.specs.declared.fault.ReplayFault.TheVariants.{BadText, BadConfig, Read, Write, Memory}
+use Rattle.schedule_text.specs.declared.fault.ReplayFault.{ReplayFault}
+use Rattle.schedule_text.specs.declared.fault.ReplayFault.TheVariants.{BadText, BadConfig, Read, Write, Memory}
 use Rattle.schedule.specs.Ports.{Tells, Writes}
-use Rattle.schedule.proofs.Lemmas.{appends_none, consumes_more, tells_more, tells_all, more_text}
+use Rattle.schedule.proofs.Lemmas.{appends_none, consumes_more, tells_more, tells_all}
+use Rattle.schedule_text.proofs.Lemmas.{more_text}
 use Rattle.judging.specs.declared.judging.Judging.{Judging}
 use Rattle.judging.specs.Judging.{HasJudged, JudgesOn, JudgesAlong, JudgedAs, IsJudgedSoFar, IsRunSoFar, Ends}
 use Rattle.torture_commands.specs.Checking.{verdict_line, Printed, Prints, TellsVerdict, Closed, Closes, Checked, Checks, EndsWrong, CheckedAlong, ChecksAlong}

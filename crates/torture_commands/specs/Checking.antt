@@ -7,9 +7,9 @@ use Rattle.rcu_model.specs.declared.verdict.Verdict.{Verdict}
 use Rattle.rcu_model.specs.declared.verdict.Verdict.TheVariants.{Yes, No}
 use Rattle.rcu_model.specs.Machine.{IsRun}
 use Rattle.rcu_model.specs.Verdict.{Judges, name_of}
-use Rattle.schedule.specs.declared.fault.ReplayFault.{ReplayFault}
-use Rattle.schedule.specs.declared.fault.ReplayFault.TheVariants.{BadText, BadConfig, Read, Write, Memory}
-use Rattle.schedule.specs.AnswerLines.{TellsLog, BreaksOffAnswers}
+use Rattle.schedule_text.specs.declared.fault.ReplayFault.{ReplayFault}
+use Rattle.schedule_text.specs.declared.fault.ReplayFault.TheVariants.{BadText, BadConfig, Read, Write, Memory}
+use Rattle.schedule_text.specs.AnswerLines.{TellsLog, BreaksOffAnswers}
 use Rattle.schedule.specs.Ports.{Tells}
 use Rattle.judging.specs.declared.judging.Judging.{Judging}
 use Rattle.judging.specs.Judging.{HasJudged, IsJudgedSoFar, IsRunSoFar}

@@ -9,14 +9,13 @@ use Rattle.rcu_model.specs.declared.verdict.Verdict.TheVariants.{Yes, No}
 use Rattle.rcu_model.specs.Verdict.{name_of}
 use Rattle.world_state.specs.declared.line.Line.{Line}
 use Rattle.world.specs.Steps.{WorldView, fresh_world, log_of, world_after_lines}
-use Rattle.schedule.specs.declared.counts.Counts.{Counts}
-use Rattle.schedule.specs.declared.fault.ReplayFault.{ReplayFault}
-use Rattle.schedule.specs.declared.fault.ReplayFault.TheVariants.{Write, Memory}
-use Rattle.schedule.specs.Answers.{counts_of}
-use Rattle.schedule.specs.Header.{header}
+use Rattle.schedule_text.specs.declared.counts.Counts.{Counts}
+use Rattle.schedule_text.specs.declared.fault.ReplayFault.{ReplayFault}
+use Rattle.schedule_text.specs.declared.fault.ReplayFault.TheVariants.{Write, Memory}
+use Rattle.schedule_text.specs.Answers.{counts_of}
+use Rattle.schedule_text.specs.Header.{header}
 use Rattle.schedule.specs.Ports.{Writes}
-use Rattle.schedule.specs.Printed.{lines_text}
-use Rattle.schedule.specs.Spelling.{IsLine}
+use Rattle.schedule_text.specs.Spelling.{lines_text, IsLine}
 use Rattle.torture_commands.specs.declared.command.Walk.{Walk}
 use Rattle.torture_commands.specs.Drawing.{draw_lines}
 

@@ -4,7 +4,7 @@ ghost use Rattle.std.specs.Prelude.{◌≡◌, ◌↔◌, ℕ, List, Some, IfOk,
 ghost use Rattle.rcu_model.specs.declared.verdict.Verdict.TheVariants.{Yes};
 ghost use Rattle.rcu_model.specs.Machine.{IsRun};
 ghost use Rattle.rcu_model.specs.Verdict.{Judges};
-ghost use Rattle.schedule.specs.declared.fault.ReplayFault.TheVariants.{Memory};
+ghost use Rattle.schedule_text.specs.declared.fault.ReplayFault.TheVariants.{Memory};
 ghost use Rattle.judging.specs.Judging.{HasJudged};
 ghost use Rattle.torture_commands.specs.Checking.{verdict_line, Prints, Closes, Checks, ChecksAlong};
 

@@ -4,7 +4,7 @@ ghost use Rattle.std.specs.Prelude.{◌≡◌, ◌<◌, ◌≤◌, ◌+◌, IsTr
 ghost use Rattle.rand_pcg.specs.Lcg.{Lcg};
 ghost use Rattle.world_state.specs.Limits.{is_within_limits};
 ghost use Rattle.world.specs.Actors.{objects_given};
-ghost use Rattle.schedule.specs.Spelling.{IsLine, IsReaderVerb, IsUpdaterVerb};
+ghost use Rattle.schedule_text.specs.Spelling.{IsLine, IsReaderVerb, IsUpdaterVerb};
 ghost use Rattle.torture_commands.specs.Limits.{is_walk_within};
 ghost use Rattle.torture_commands.specs.Drawing.{seeded, draw_below, draw_object, draw_actor, draw_reader_verb};
 ghost use Rattle.torture_commands.specs.Drawing.{draw_updater_verb, draw_line};

@@ -3,8 +3,8 @@
 ghost use Rattle.std.specs.Prelude.{◌≡◌, ◌+◌, ◌<◌, ◌≤◌, length, Some, IsTrue, IfOk, IfErr, OnOk};
 ghost use Rattle.world.specs.Actors.{objects_given};
 ghost use Rattle.world.specs.Steps.{fresh_world, step_of};
-ghost use Rattle.schedule.specs.declared.fault.ReplayFault.TheVariants.{Memory};
-ghost use Rattle.schedule.specs.Spelling.{IsLine};
+ghost use Rattle.schedule_text.specs.declared.fault.ReplayFault.TheVariants.{Memory};
+ghost use Rattle.schedule_text.specs.Spelling.{IsLine};
 ghost use Rattle.torture_commands.specs.Limits.{is_walk_within};
 ghost use Rattle.torture_commands.specs.Drawing.{seeded, draw_line};
 ghost use Rattle.torture_commands.specs.Walking.{counts_text, verdict_text, walk_text, IsWalked, Walks, Schedules, Flushes};

@@ -1,7 +1,7 @@
 use Rattle.std.proofs.Common.{◌<◌, ℕ, List, Option, Err, length, take, subst, arith}
 use Rattle.std.specs.Io.KnownBytes.{Consumes}
 use Rattle.std.proofs.lemmas.Result.{err_from_is_err_and}
-use Rattle.schedule.specs.declared.fault.ReplayFault.TheVariants.{Read}
+use Rattle.schedule_text.specs.declared.fault.ReplayFault.TheVariants.{Read}
 use Rattle.schedule.proofs.Lemmas.{consumes_more, consumes_kept}
 use Rattle.torture_commands.specs.Checking.{Checks}
 use Rattle.torture_commands.proofs.Verdicts.{checks_end, piece_fault, unread}

@@ -4,7 +4,7 @@ use Rattle.std.proofs.lemmas.List.{length-take}
 use Rattle.std.proofs.lemmas.Result.{err_from_is_err_and}
 use Rattle.rcu_model.specs.declared.verdict.Verdict.{Verdict}
 use Rattle.rcu_model.specs.Machine.{IsRun}
-use Rattle.schedule.specs.declared.fault.ReplayFault.TheVariants.{Read}
+use Rattle.schedule_text.specs.declared.fault.ReplayFault.TheVariants.{Read}
 use Rattle.schedule.proofs.Lemmas.{consumes_more, consumes_kept}
 use Rattle.judging.specs.Judging.{JudgesAlong}
 use Rattle.torture_commands.specs.Checking.{ChecksAlong}

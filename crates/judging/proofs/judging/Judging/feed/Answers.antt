@@ -1,7 +1,7 @@
 use Rattle.std.proofs.Common.{List, ◌++◌, Err, sym, subst}
 use Rattle.rcu_model.specs.declared.event.Event.{Event}
 use Rattle.rcu_model.specs.Judge.{HasTaken}
-use Rattle.schedule.specs.declared.fault.ReplayFault.{ReplayFault}
+use Rattle.schedule_text.specs.declared.fault.ReplayFault.{ReplayFault}
 use Rattle.judging.specs.declared.judging.Judging.{Judging}
 use Rattle.judging.specs.Judging.{JudgesOn}
 use Rattle.judging.proofs.Judgings.{judged_on, judged_stop}

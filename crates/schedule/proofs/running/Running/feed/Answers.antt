@@ -1,6 +1,6 @@
 use Rattle.std.proofs.Common.{◌++◌, List, ℕ, ap, ◌∙◌}
 use Rattle.schedule.specs.Play.{point}
-use Rattle.schedule.proofs.Lines.{no_line}
+use Rattle.schedule_text.proofs.Lemmas.{no_line}
 use Rattle.schedule.proofs.Playing.{plays_more}
 use Rattle.schedule.proofs.running.Running.feed.Goals as goal
 

@@ -1,5 +1,5 @@
 use Rattle.std.proofs.Common.{◌≡◌, ◌++◌, [], Err, length}
-use Rattle.schedule.specs.Grammar.{line_at}
+use Rattle.schedule_text.specs.Grammar.{line_at}
 use Rattle.schedule.specs.Play.{point, Plays}
 use Rattle.schedule.proofs.running.Running.feed.Given as goal
 

@@ -1,6 +1,0 @@
-use Rattle.schedule.specs.AnswerGrammar.{event_word_at}
-use Rattle.schedule.proofs.answer_reading.event_word.Goals as goal
-
-pub returns : goal.returns
-unfolding event_word_at
-returns c = c.word.ensures

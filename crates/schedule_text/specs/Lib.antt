@@ -1,0 +1,10 @@
+pub mod Reading
+pub mod Spelling
+pub mod Header
+pub mod Fault
+pub mod Grammar
+pub mod Answers
+pub mod Whole
+pub mod AnswerLines
+pub mod AnswerPieces
+pub mod AnswerGrammar
