@@ -25,7 +25,6 @@ mod DrainSteps
 mod DrainTrail
 mod DrainWorld
 mod DrainSettled
-pub mod Reserving
 pub mod Making
 pub mod Ranging
 pub mod Sweeping

@@ -43,7 +43,7 @@ use Rattle.world.specs.Answers.{answer_to}
 use Rattle.world.specs.Grace.{effect_of, planned, stepped, done_with, grace_row}
 use Rattle.world.specs.Lines.{worker_line, change_of}
 use Rattle.world.specs.Queues.{queue_of, retire_on}
-use Rattle.world.specs.Shown.{MayMake}
+use Rattle.world_kept.specs.Kept.{MayMake}
 use Rattle.world.specs.Workers.{is_none_left, first_in, take_row, ask_for, worker_act, worked, run_row, worker_on, is_resting}
 use Rattle.world.proofs.Sweeping.{Each, each_if, OfOthers, each_line}
 use Rattle.world.proofs.Callbacks.{Callbacks, RetireKept, BatchKept, WorkKept}

@@ -8,7 +8,8 @@ use Rattle.world_state.specs.declared.line.Line.{Line}
 use Rattle.world_state.specs.declared.queue.QueueState.{QueueState}
 use Rattle.world_state.specs.View.{Plans, BoardView}
 use Rattle.world.specs.Lines.{Outcome, outcome_of}
-use Rattle.world.specs.Shown.{Grows, Meets}
+use Rattle.world.specs.Shown.{Meets}
+use Rattle.world_kept.specs.Kept.{Grows}
 use Rattle.world.specs.Steps.{WorldView, IsPrompt}
 use Rattle.world.specs.Tests.{first_failing, hindered, line_tests, IsTested, MeetsTests}
 

@@ -16,7 +16,7 @@ use Rattle.world_state.specs.declared.worker.WorkerState.{WorkerState}
 use Rattle.world_state.specs.Readers.{is_open_in}
 use Rattle.world_state.specs.View.{Plans, BoardView}
 use Rattle.world.specs.Lines.{outcome_of, world_after}
-use Rattle.world.specs.Shown.{PartOf, Working}
+use Rattle.world_kept.specs.Kept.{PartOf, Working}
 use Rattle.world.specs.Steps.{WorldView, OfMemb, OfQsbr, memb_plans, qsbr_plans, step_of, world_after_lines, log_of, IsPrompt}
 use Rattle.world.specs.Workers.{is_none_left, is_resting}
 

@@ -1,5 +1,5 @@
 -- The world as the step table sees it.
-use Rattle.std.specs.Prelude.{◌≡◌, ◌≢◌, ◌⊎◌, ◌≤◌, ◌<◌, ◌^◌, ◌%◌, ℕ, true, false, List, Result, Ok, Err, length, slice_get, Some}
+use Rattle.std.specs.Prelude.{◌≡◌, ◌≢◌, ◌⊎◌, ◌≤◌, ◌<◌, ◌^◌, ◌%◌, ℕ, true, Result, Ok, Err, length, slice_get, Some}
 use Rattle.rcu_model.specs.declared.refusal.Refusal.{Refusal}
 use Rattle.rcu_model.specs.declared.refusal.Refusal.TheVariants.{Memory}
 use Rattle.world_state.specs.declared.line.Answer.{Answer}
@@ -14,8 +14,6 @@ use Rattle.world_state.specs.declared.queue.QueueState.{QueueState}
 use Rattle.world_state.specs.declared.worker.WorkerState.{WorkerState}
 use Rattle.world_state.specs.declared.line.Line.{Line}
 use Rattle.world_state.specs.declared.change.Change.{Change}
-use Rattle.world_state.specs.declared.change.Change.TheVariants.{Read, Begin, Publish, Grace, Hold, Retire, Bar, Work, Stay}
-use Rattle.world_state.specs.Queues.{MayActAt}
 use Rattle.gp_memb.specs.declared.plan.Action.TheVariants.{LoadGroup}
 use Rattle.callback_queue.specs.declared.item.Ticket.{Ticket}
 use Rattle.callback_queue.specs.Queue.{given_of}
@@ -31,22 +29,11 @@ use Rattle.call_rcu_worker.specs.Worker.{next_of}
 use Rattle.world.specs.Workers.{first_in}
 use Rattle.world_state.specs.View.{Plans, BoardView}
 use Rattle.world.specs.declared.board.Board.{Board}
+use Rattle.world_kept.specs.Kept.{shown as kept_shown, Grows, MayMake}
 use Rattle.world.specs.Lines.{Outcome, change_of}
 
 abbrev pub shown : {P : Type 0} → Board P → BoardView P
-shown b =
-    record {
-      layout = b.layout;
-      readers = b.readers.items;
-      updaters = b.updaters.items;
-      workers = b.workers.items;
-      queues = b.queues.items;
-      barriers = b.barriers;
-      grace = b.grace;
-      heads = b.heads.items;
-      objects = b.objects.items;
-      log = b.log.items;
-    }
+shown b = kept_shown b.kept
 
 -- a grace period can be begun with these numbers
 pub record CanStart (grace : GraceState) : Type 0 where
@@ -57,20 +44,6 @@ pub record CanStart (grace : GraceState) : Type 0 where
 -- the step is no load of a group word
 abbrev pub LoadsNoGroup : SyncStep → Type 0
 LoadsNoGroup step = (group : ℕ) → step ≢ Plan (LoadGroup group)
-
--- a queue has a place for one more item, and had none
-pub record Reserves (old new : List QueueState) : Type 0 where
-  pub queue : ℕ
-  pub before : QueueState
-  pub was : slice_get old queue ≡ Some before
-  pub had_none : before.items.reserved ≡ false
-  pub after : QueueState
-  pub is : slice_get new queue ≡ Some after
-  pub has : after.items.reserved ≡ true
-
--- the log or the list of objects is longer, or a queue has a place for one more item
-abbrev pub Grows : {P : Type 0} → BoardView P → BoardView P → Type 0
-Grows old new = (length old.log < length new.log) ⊎ ((length old.objects < length new.objects) ⊎ Reserves old.queues new.queues)
 
 -- the answer and the world after are those of the table, or memory for a growth was refused; an error changes nothing
 abbrev pub Meets : {P : Type 0} → Outcome P → BoardView P → BoardView P → Result Answer Refusal → Type 0
@@ -86,41 +59,6 @@ pub record HasQueues {P : Type 0} (w : BoardView P) : Type 0 where
 abbrev pub IsAtQueue : {P : Type 0} → BoardView P → BarrierStep → Type 0
 IsAtQueue w (Note q) = q < length w.queues
 IsAtQueue w (Check q) = q < length w.queues
-
--- the change asks no more of its queue than the queue has
-abbrev pub MayMake : {P : Type 0} → BoardView P → Change P → Type 0
-MayMake w (Read r step) = Unit {0}
-MayMake w (Begin u x object) = Unit {0}
-MayMake w (Publish u x splice event) = Unit {0}
-MayMake w (Grace u x grace answer) = Unit {0}
-MayMake w (Hold u x q) = Unit {0}
-MayMake w (Retire u x q act mark answer) = MayActAt act (slice_get w.queues q)
-MayMake w (Bar u x barriers answer) = Unit {0}
-MayMake w (Work k x grace act mark answer) = MayActAt act (slice_get w.queues k)
-MayMake w (Stay answer) = Unit {0}
-
--- who changes the board
-pub data Part : Type 0 where
-  Reading : Part
-  Publishing : Part
-  Waiting : Part
-  Retiring : Part
-  Working : Part
-  Nobody : Part
-
-abbrev pub part_of : {P : Type 0} → Change P → Part
-part_of (Read r step) = Reading
-part_of (Begin u x object) = Publishing
-part_of (Publish u x splice event) = Publishing
-part_of (Grace u x grace answer) = Waiting
-part_of (Hold u x q) = Retiring
-part_of (Retire u x q act mark answer) = Retiring
-part_of (Bar u x barriers answer) = Waiting
-part_of (Work k x grace act mark answer) = Working
-part_of (Stay answer) = Nobody
-
-abbrev pub PartOf : {P : Type 0} → Part → Change P → Type 0
-PartOf part change = part_of change ≡ part
 
 -- the numbers of the world are small enough for its next step
 pub record IsInRange {P : Type 0} (plans : Plans P) (w : BoardView P) : Type 0 where

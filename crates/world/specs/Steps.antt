@@ -18,7 +18,7 @@ use Rattle.world_state.specs.Limits.{is_within_limits}
 use Rattle.world_state.specs.View.{Plans, BoardView, plans_of, fresh_at, told}
 use Rattle.world.specs.Lines.{Outcome as BoardOutcome, outcome_of}
 use Rattle.world.specs.Reached.{IsReached}
-use Rattle.world.specs.Shown.{Grows as BoardGrows}
+use Rattle.world_kept.specs.Kept.{Grows as BoardGrows}
 
 abbrev pub memb_plans : Plans MembPlan
 memb_plans = plans_of false (λ layout slots seq word. memb_begun layout false slots seq (word == 1)) memb_action memb_turn memb_taken

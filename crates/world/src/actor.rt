@@ -26,15 +26,15 @@ impl<P: WorldPlan + Drop> Board<P> {
         ensures { result ≡ is_between_steps (shown self.now) actor }
     {
         match actor {
-            Actor::Reader(reader) => match at(&self.readers, reader as usize) {
+            Actor::Reader(reader) => match at(&self.kept.readers, reader as usize) {
                 Some(state) => state.copy.is_some(),
                 None => false,
             },
-            Actor::Updater(updater) => match at(&self.updaters, updater as usize) {
+            Actor::Updater(updater) => match at(&self.kept.updaters, updater as usize) {
                 Some(state) => !matches!(state.place, UpdaterPlace::Idle),
                 None => false,
             },
-            Actor::Worker(worker) => match at(&self.workers, worker as usize) {
+            Actor::Worker(worker) => match at(&self.kept.workers, worker as usize) {
                 Some(state) => !matches!(state.core, WorkerCore::Idle),
                 None => false,
             },
@@ -45,6 +45,6 @@ impl<P: WorldPlan + Drop> Board<P> {
     pub fn objects_given(&self) -> u64
         ensures { result ≡ length (shown self.now).objects - 1 }
     {
-        (self.objects.len() as u64).saturating_sub(1)
+        (self.kept.objects.len() as u64).saturating_sub(1)
     }
 }

@@ -18,7 +18,7 @@ impl<P: WorldPlan + Drop> Board<P> {
     fn noted_at(&self, mut counts: [u64; QUEUES], queue: u32) -> [u64; QUEUES]
         ensures { result ≡ noted_at (shown self.now) counts queue }
     {
-        let queued = entry(&self.queues, queue as usize).map_or(0, |state| state.queued);
+        let queued = entry(&self.kept.queues, queue as usize).map_or(0, |state| state.queued);
         put(&mut counts, queue as usize, queued);
         counts
     }
@@ -29,7 +29,7 @@ impl<P: WorldPlan + Drop> Board<P> {
         requires at { queue < length (shown self.now).queues }
         ensures { result ≡ after_note (shown self.now) queue }
     {
-        if queue as usize + 1 < self.queues.len() {
+        if queue as usize + 1 < self.kept.queues.len() {
             BarrierStep::Note(queue + 1)
         } else {
             BarrierStep::Check(0)
@@ -42,7 +42,7 @@ impl<P: WorldPlan + Drop> Board<P> {
         requires barriers { (shown self.now).barriers ≤ length (shown self.now).log }
         ensures { result ≡ barrier_row (shown self.now) updater state }
     {
-        let number = self.barriers + 1;
+        let number = self.kept.barriers + 1;
         state.place = UpdaterPlace::Bars(Barrier {
             number,
             counts: self.noted_at([0; QUEUES], 0),
@@ -75,7 +75,7 @@ impl<P: WorldPlan + Drop> Board<P> {
                 Change::Bar {
                     updater,
                     state,
-                    barriers: self.barriers,
+                    barriers: self.kept.barriers,
                     answer: Answer::Quiet,
                 }
             }
@@ -96,13 +96,13 @@ impl<P: WorldPlan + Drop> Board<P> {
         ensures { result ≡ barrier_on (shown self.now) updater state barrier (Check queue) }
     {
         let noted = barrier.counts.get(queue as usize).copied().unwrap_or(0);
-        let finished = entry(&self.queues, queue as usize).map_or(0, |state| state.finished);
+        let finished = entry(&self.kept.queues, queue as usize).map_or(0, |state| state.finished);
         if finished < noted {
             return Change::Stay(Answer::Wait);
         }
         let mut answer = one_event(Event::Clear(barrier.number));
         state.place = UpdaterPlace::Idle;
-        if queue as usize + 1 < self.queues.len() {
+        if queue as usize + 1 < self.kept.queues.len() {
             answer = Answer::Quiet;
             barrier.due = BarrierStep::Check(queue + 1);
             state.place = UpdaterPlace::Bars(barrier);
@@ -110,7 +110,7 @@ impl<P: WorldPlan + Drop> Board<P> {
         Change::Bar {
             updater,
             state,
-            barriers: self.barriers,
+            barriers: self.kept.barriers,
             answer,
         }
     }

@@ -1,37 +1,18 @@
 //! The board: what is kept between two lines, and one step of it.
 
-ghost use Rattle.std.specs.Prelude.{◌≡◌, ◌+◌, ◌≤◌, ◌<◌, ◌^◌, ◌++◌, length, slice_get, slice_set, replicate, OnOk, OnErr, IfOk, IfErr};
+ghost use Rattle.std.specs.Prelude.{◌≡◌, slice_get, IfOk, IfErr};
 ghost use Rattle.std.specs.Option.{option_copied};
 ghost use Rattle.rcu_model.specs.declared.refusal.Refusal.TheVariants as refusal;
-ghost use Rattle.world_state.specs.Queues.{empty_queue_state};
 
-use rcu_model::{Event, ObjectId, Refusal};
+use rcu_model::{Event, Refusal};
 use std::alloc::Global;
-use world_state::{
-    Answer, Change, Config, GraceState, Layout, Line, Mark, ObjectState, QueueAct, QueueState,
-    ReaderState, Splice, StepError, UpdaterState, WorkerState, WorkerVerb, WorldPlan, act_on,
-    hold_queue, mark_object, put, splice_heads, splice_objects,
-};
+use world_kept::Kept;
+use world_state::{Answer, Change, Config, Line, StepError, WorkerVerb, WorldPlan};
 
-/// The words, the bookkeeping beside them, and the log.
+/// What is kept, to which lines are put.
 #[derive(Drop)]
 pub struct Board<P> {
-    pub(crate) layout: Layout,
-    /// One for each actor of its kind.
-    pub(crate) readers: Vec<ReaderState>,
-    pub(crate) updaters: Vec<UpdaterState<P>>,
-    pub(crate) workers: Vec<WorkerState<P>>,
-    /// One for each worker.
-    pub(crate) queues: Vec<QueueState>,
-    /// How many barriers were begun.
-    pub(crate) barriers: u64,
-    pub(crate) grace: GraceState,
-    /// The first object of each chain.
-    pub(crate) heads: Vec<Option<ObjectId>>,
-    /// By their numbers; number 0 is of none.
-    pub(crate) objects: Vec<ObjectState>,
-    /// What the steps told, in order.
-    pub(crate) log: Vec<Event>,
+    pub(crate) kept: Kept<P>,
 }
 
 /// What stands at this place, if there is such a place.
@@ -49,51 +30,19 @@ pub(crate) fn entry<T>(items: &[T], place: usize) -> Option<&T>
 }
 
 impl<P: WorldPlan + Drop> Board<P> {
-    ghost use Rattle.world_state.specs.View.{fresh_at, changed, answer_of, told, plans_of};
-    ghost use Rattle.world_state.specs.Objects.{spliced_heads, spliced_objects, marked_life};
-    ghost use Rattle.world_state.specs.Queues.{acted_at, MayActAt};
+    ghost use Rattle.world_state.specs.View.{fresh_at, plans_of};
     ghost use Rattle.world.specs.Lines.{change_of, outcome_of};
-    ghost use Rattle.world.specs.Shown.{shown, Grows, Meets, MayMake, IsInRange, PartOf};
-    ghost use Rattle.world.specs.Shown.{Publishing, Waiting, Retiring, Working};
+    ghost use Rattle.world.specs.Shown.{shown, Meets, IsInRange};
 
     /// A board on which nothing has happened.
     pub fn new(alloc: Global, config: Config, seq: u64) -> Result<Board<P>, Refusal>
         ensures ok { IfOk result (λ b. shown b ≡ fresh_at config seq) }
         ensures memory { IfErr result (λ e. e ≡ refusal.Memory) }
     {
-        let Ok(readers) = vec![in alloc; ReaderState::new(); config.readers as usize] else {
-            return Err(Refusal::Memory);
-        };
-        let Ok(updaters) = vec![in alloc; UpdaterState::new(); config.updaters as usize] else {
-            return Err(Refusal::Memory);
-        };
-        let Ok(workers) = vec![in alloc; WorkerState::new(); config.workers as usize] else {
-            return Err(Refusal::Memory);
-        };
-        let queues = new_queues(alloc, config.workers)?;
-        let Ok(heads) = vec![in alloc; None; config.chains as usize] else {
-            return Err(Refusal::Memory);
-        };
-        let Ok(objects) = vec![in alloc; ObjectState::fresh(0, None)] else {
-            return Err(Refusal::Memory);
-        };
-        Ok(Board {
-            layout: config.layout,
-            readers,
-            updaters,
-            workers,
-            queues,
-            barriers: 0,
-            grace: GraceState {
-                seq,
-                word: 0,
-                holder: None,
-                asks: 0,
-            },
-            heads,
-            objects,
-            log: Vec::new(alloc),
-        })
+        match Kept::new(alloc, config, seq) {
+            Ok(kept) => Ok(Board { kept }),
+            Err(refusal) => Err(refusal),
+        }
     }
 
     /// One step of the world.
@@ -107,14 +56,14 @@ impl<P: WorldPlan + Drop> Board<P> {
             }
         }
         let change = self.change(line)?;
-        self.commit(change)
+        self.kept.commit(change)
     }
 
     /// What the steps told.
     pub fn log(&self) -> &[Event]
         ensures { result.now ≡ (shown self.now).log }
     {
-        &self.log
+        &self.kept.log
     }
 
     /// What a line makes of the world.
@@ -124,260 +73,24 @@ impl<P: WorldPlan + Drop> Board<P> {
     {
         match *line {
             Line::Reader(reader, verb) => {
-                let Some(state) = at(&self.readers, reader as usize) else {
+                let Some(state) = at(&self.kept.readers, reader as usize) else {
                     return Err(Refusal::NoActor);
                 };
                 let step = self.reader_line(reader, state, verb)?;
                 Ok(Change::Read { reader, step })
             }
             Line::Updater(updater, verb) => {
-                let Some(state) = at(&self.updaters, updater as usize) else {
+                let Some(state) = at(&self.kept.updaters, updater as usize) else {
                     return Err(Refusal::NoActor);
                 };
                 self.updater_line(updater, state, verb)
             }
             Line::Worker(worker, verb) => {
-                let Some(state) = at(&self.workers, worker as usize) else {
+                let Some(state) = at(&self.kept.workers, worker as usize) else {
                     return Err(Refusal::NoActor);
                 };
                 self.worker_line(worker, state, verb)
             }
         }
     }
-
-    /// A change, unless there is no memory for what it adds. That comes first, so a refusal leaves all as it was.
-    fn commit(&mut self, change: Change<P>) -> Result<Answer, StepError>
-        requires { MayMake (shown self.old) change }
-        ensures ok { OnOk result (shown self.new ≡ changed (shown self.old) change) }
-        ensures answer { IfOk result (λ a. a ≡ answer_of change) }
-        ensures err { OnErr result (shown self.new ≡ shown self.old) }
-        ensures memory { IfErr result (λ e. (e ≡ refusal.Memory) × Grows (shown self.old) (changed (shown self.old) change)) }
-    {
-        match change {
-            Change::Read { reader, step } => {
-                self.tell(step.answer)?;
-                put(&mut self.readers, reader as usize, step.state);
-                Ok(step.answer)
-            }
-            Change::Begin { .. } | Change::Publish { .. } => self.commit_publishing(change),
-            Change::Grace { .. } | Change::Bar { .. } => self.commit_waiting(change),
-            Change::Hold { .. } | Change::Retire { .. } => self.commit_retirement(change),
-            Change::Work { .. } => self.commit_worker(change),
-            Change::Stay(answer) => Ok(answer),
-        }
-    }
-
-    /// A change of one who publishes; any other changes nothing.
-    fn commit_publishing(&mut self, change: Change<P>) -> Result<Answer, StepError>
-        ensures ok { PartOf Publishing change → OnOk result (shown self.new ≡ changed (shown self.old) change) }
-        ensures answer { PartOf Publishing change → IfOk result (λ a. a ≡ answer_of change) }
-        ensures err { PartOf Publishing change → OnErr result (shown self.new ≡ shown self.old) }
-        ensures memory { PartOf Publishing change → IfErr result (λ e. (e ≡ refusal.Memory) × Grows (shown self.old) (changed (shown self.old) change)) }
-    {
-        match change {
-            Change::Begin {
-                updater,
-                state,
-                object,
-            } => {
-                if self.objects.push(object).is_err() {
-                    return Err(Refusal::Memory);
-                }
-                put(&mut self.updaters, updater as usize, state);
-                Ok(Answer::Quiet)
-            }
-            Change::Publish {
-                updater,
-                state,
-                splice,
-                event,
-            } => {
-                let answer = Answer::Events {
-                    first: event,
-                    second: None,
-                };
-                self.tell(answer)?;
-                self.publish_now(updater, state, splice);
-                Ok(answer)
-            }
-            _ => Ok(Answer::Quiet),
-        }
-    }
-
-    /// A change of one who waits for a grace period or a barrier; any other changes nothing.
-    fn commit_waiting(&mut self, change: Change<P>) -> Result<Answer, StepError>
-        ensures ok { PartOf Waiting change → OnOk result (shown self.new ≡ changed (shown self.old) change) }
-        ensures answer { PartOf Waiting change → IfOk result (λ a. a ≡ answer_of change) }
-        ensures err { PartOf Waiting change → OnErr result (shown self.new ≡ shown self.old) }
-        ensures memory { PartOf Waiting change → IfErr result (λ e. (e ≡ refusal.Memory) × Grows (shown self.old) (changed (shown self.old) change)) }
-    {
-        match change {
-            Change::Grace {
-                updater,
-                state,
-                grace,
-                answer,
-            } => {
-                self.tell(answer)?;
-                put(&mut self.updaters, updater as usize, state);
-                self.grace = grace;
-                Ok(answer)
-            }
-            Change::Bar {
-                updater,
-                state,
-                barriers,
-                answer,
-            } => {
-                self.tell(answer)?;
-                put(&mut self.updaters, updater as usize, state);
-                self.barriers = barriers;
-                Ok(answer)
-            }
-            _ => Ok(Answer::Quiet),
-        }
-    }
-
-    /// A change of one who retires; any other changes nothing.
-    fn commit_retirement(&mut self, change: Change<P>) -> Result<Answer, StepError>
-        requires { MayMake (shown self.old) change }
-        ensures ok { PartOf Retiring change → OnOk result (shown self.new ≡ changed (shown self.old) change) }
-        ensures answer { PartOf Retiring change → IfOk result (λ a. a ≡ answer_of change) }
-        ensures err { PartOf Retiring change → OnErr result (shown self.new ≡ shown self.old) }
-        ensures memory { PartOf Retiring change → IfErr result (λ e. (e ≡ refusal.Memory) × Grows (shown self.old) (changed (shown self.old) change)) }
-    {
-        match change {
-            Change::Hold {
-                updater,
-                state,
-                queue,
-            } => {
-                hold_queue(&mut self.queues, queue as usize, updater)?;
-                put(&mut self.updaters, updater as usize, state);
-                Ok(Answer::Quiet)
-            }
-            Change::Retire {
-                updater,
-                state,
-                queue,
-                act,
-                mark,
-                answer,
-            } => {
-                self.tell(answer)?;
-                self.act_now(queue, act, mark);
-                put(&mut self.updaters, updater as usize, state);
-                Ok(answer)
-            }
-            _ => Ok(Answer::Quiet),
-        }
-    }
-
-    /// A change of a worker; any other changes nothing.
-    fn commit_worker(&mut self, change: Change<P>) -> Result<Answer, StepError>
-        requires { MayMake (shown self.old) change }
-        ensures ok { PartOf Working change → OnOk result (shown self.new ≡ changed (shown self.old) change) }
-        ensures answer { PartOf Working change → IfOk result (λ a. a ≡ answer_of change) }
-        ensures err { PartOf Working change → OnErr result (shown self.new ≡ shown self.old) }
-        ensures memory { PartOf Working change → IfErr result (λ e. (e ≡ refusal.Memory) × Grows (shown self.old) (changed (shown self.old) change)) }
-    {
-        let Change::Work { answer, .. } = change else {
-            return Ok(Answer::Quiet);
-        };
-        self.tell(answer)?;
-        self.work_now(change);
-        Ok(answer)
-    }
-
-    /// What a worker's step changes beside the log.
-    pub(crate) fn work_now(&mut self, change: Change<P>)
-        requires { MayMake (shown self.old) change }
-        ensures world { PartOf Working change → shown self.new ≡ record (changed (shown self.old) change) { log = (shown self.old).log } }
-        ensures log { self.new.log ≡ self.old.log }
-    {
-        if let Change::Work {
-            worker,
-            state,
-            grace,
-            act,
-            mark,
-            ..
-        } = change
-        {
-            self.act_now(worker, act, mark);
-            put(&mut self.workers, worker as usize, state);
-            self.grace = grace;
-        }
-    }
-
-    /// What a step changes of a queue, and of an object with it.
-    pub(crate) fn act_now(&mut self, queue: u32, act: QueueAct, mark: Option<Mark>)
-        requires { MayActAt act (slice_get (shown self.old).queues queue) }
-        ensures world { shown self.new ≡ record (shown self.old) { queues = acted_at (shown self.old).queues queue act; objects = marked_life (shown self.old).objects mark } }
-        ensures log { self.new.log ≡ self.old.log }
-    {
-        act_on(&mut self.queues, queue as usize, act);
-        mark_object(&mut self.objects, mark);
-    }
-
-    /// An updater's store into a chain.
-    fn publish_now(&mut self, updater: u32, state: UpdaterState<P>, splice: Splice)
-        ensures { shown self.new ≡ record (shown self.old) { updaters = slice_set (shown self.old).updaters updater state; heads = spliced_heads (shown self.old).heads splice; objects = spliced_objects (shown self.old).objects splice } }
-    {
-        put(&mut self.updaters, updater as usize, state);
-        self.splice(splice);
-    }
-
-    /// One store into a chain, and the bookkeeping beside it.
-    fn splice(&mut self, splice: Splice)
-        ensures heads { self.new.heads.items ≡ spliced_heads self.old.heads.items splice }
-        ensures objects { self.new.objects.items ≡ spliced_objects self.old.objects.items splice }
-        ensures layout { self.new.layout ≡ self.old.layout }
-        ensures readers { self.new.readers ≡ self.old.readers }
-        ensures updaters { self.new.updaters ≡ self.old.updaters }
-        ensures workers { self.new.workers ≡ self.old.workers }
-        ensures queues { self.new.queues ≡ self.old.queues }
-        ensures barriers { self.new.barriers ≡ self.old.barriers }
-        ensures grace { self.new.grace ≡ self.old.grace }
-        ensures log { self.new.log ≡ self.old.log }
-    {
-        splice_heads(&mut self.heads, splice);
-        splice_objects(&mut self.objects, splice);
-    }
-
-    /// Adds the events of an answer to the log, or none where memory is refused.
-    pub(crate) fn tell(&mut self, answer: Answer) -> Result<(), StepError>
-        ensures ok { OnOk result (shown self.new ≡ record (shown self.old) { log = (shown self.old).log ++ told answer }) }
-        ensures err { OnErr result (shown self.new ≡ shown self.old) }
-        ensures memory { IfErr result (λ e. (e ≡ refusal.Memory) × (0 < length (told answer))) }
-    {
-        let Answer::Events { first, second } = answer else {
-            return Ok(());
-        };
-        let count = if second.is_some() { 2 } else { 1 };
-        if self.log.reserve(count).is_err() {
-            return Err(Refusal::Memory);
-        }
-        let is_first = self.log.push(first).is_ok();
-        let is_second = match second {
-            Some(event) => self.log.push(event).is_ok(),
-            None => true,
-        };
-        prove!(is_first && is_second);
-        Ok(())
-    }
-}
-
-/// A queue for each worker.
-fn new_queues(alloc: Global, workers: u32) -> Result<Vec<QueueState>, Refusal>
-    ensures ok { IfOk result (λ queues. queues.items ≡ replicate workers empty_queue_state) }
-    ensures memory { IfErr result (λ e. e ≡ refusal.Memory) }
-{
-    let mut queues = Vec::new(alloc);
-    for _ in 0..workers {
-        if queues.push(QueueState::new(alloc)).is_err() {
-            return Err(Refusal::Memory);
-        }
-    }
-    Ok(queues)
 }

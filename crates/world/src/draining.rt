@@ -1,6 +1,6 @@
 //! A drain: one worker alone, until its batch is counted.
 
-ghost use Rattle.std.specs.Prelude.{◌≡◌, ◌≤◌, ◌<◌, ◌^◌, ◌++◌, ℕ, length, vec_capacity};
+ghost use Rattle.std.specs.Prelude.{◌≡◌, ◌≤◌, ◌<◌, ◌^◌, length, vec_capacity};
 ghost use Rattle.world_state.specs.declared.line.Line.TheVariants.{Worker as WorkerLine};
 ghost use Rattle.world_state.specs.View.{BoardView, plans_of};
 ghost use Rattle.world.specs.Reached.{IsReached};
@@ -10,9 +10,7 @@ use crate::board::{Board, at, entry};
 use crate::laws::{numbers_stay_in_range, plan_keeps_its_laws};
 use call_rcu_worker::WorkerCore;
 use rcu_model::Refusal;
-use world_state::{
-    Answer, Change, Line, QueueState, StepError, WorkerState, WorkerVerb, WorldPlan,
-};
+use world_state::{Line, QueueState, StepError, WorkerState, WorkerVerb, WorldPlan};
 
 /// From here on no grace period can be asked for: 2^62.
 const END_OF_NUMBERS: u64 = 1 << 62;
@@ -25,9 +23,8 @@ fn workers_rest<P: WorldPlan>()
 }
 
 impl<P: WorldPlan + Drop> Board<P> {
-    ghost use Rattle.world_state.specs.View.{told, changed};
     ghost use Rattle.world.specs.Lines.{change_of, outcome_of};
-    ghost use Rattle.world.specs.Shown.{shown, IsInRange, MayMake, PartOf, Working};
+    ghost use Rattle.world.specs.Shown.{shown, IsInRange};
     ghost use Rattle.world.specs.Drain.{some_open, is_busy, steps_for, items_to_drain, Drains, IsWork};
 
     /// Steps one worker alone from its `take` until its batch is counted, and answers the number of steps.
@@ -43,7 +40,7 @@ impl<P: WorldPlan + Drop> Board<P> {
         }
         // The log has room for the ask, its answer, and a run of each item, or it is refused; no memory has 2^62
         // events.
-        if items >= END_OF_NUMBERS || self.log.reserve(items as usize + 2).is_err() {
+        if items >= END_OF_NUMBERS || self.kept.log.reserve(items as usize + 2).is_err() {
             return Err(Refusal::Memory);
         }
         let steps = self.steps_for(items);
@@ -59,10 +56,10 @@ impl<P: WorldPlan + Drop> Board<P> {
         requires { IsSettled (shown self.now) }
         ensures { result ≡ items_to_drain P.QSBR (shown self.now) worker }
     {
-        let Some(state) = at(&self.workers, worker as usize) else {
+        let Some(state) = at(&self.kept.workers, worker as usize) else {
             return Err(Refusal::NoActor);
         };
-        let Some(queue) = entry(&self.queues, worker as usize) else {
+        let Some(queue) = entry(&self.kept.queues, worker as usize) else {
             return Err(Refusal::NoActor);
         };
         if self.is_busy(state, queue) {
@@ -71,7 +68,7 @@ impl<P: WorldPlan + Drop> Board<P> {
         if queue.items.is_empty() {
             return Ok(0);
         }
-        if self.grace.seq >= END_OF_NUMBERS {
+        if self.kept.grace.seq >= END_OF_NUMBERS {
             return Err(Refusal::Exhausted);
         }
         // All of them are fresh, since the worker rests.
@@ -85,7 +82,7 @@ impl<P: WorldPlan + Drop> Board<P> {
     {
         let is_resting = matches!(state.core, WorkerCore::Idle);
         self.has_open_section()
-            || self.grace.holder.is_some()
+            || self.kept.grace.holder.is_some()
             || queue.holder.is_some()
             || !is_resting
     }
@@ -94,8 +91,8 @@ impl<P: WorldPlan + Drop> Board<P> {
     fn has_open_section(&self) -> bool
         ensures { result ≡ some_open P.QSBR (shown self.now).layout (shown self.now).readers }
     {
-        for reader in &self.readers {
-            if reader.is_in_section(P::QSBR, self.layout) {
+        for reader in &self.kept.readers {
+            if reader.is_in_section(P::QSBR, self.kept.layout) {
                 return true;
             }
         }
@@ -109,7 +106,7 @@ impl<P: WorldPlan + Drop> Board<P> {
         requires readers { length (shown self.now).readers ≤ 64 }
         ensures { result ≡ steps_for P.QSBR (length (shown self.now).readers) items }
     {
-        let readers = self.readers.len() as u64;
+        let readers = self.kept.readers.len() as u64;
         if P::QSBR {
             readers + 8 + 2 * items
         } else {
@@ -121,40 +118,12 @@ impl<P: WorldPlan + Drop> Board<P> {
     fn work(&mut self, worker: u32, verb: WorkerVerb)
         requires range { IsInRange (plans_of P.QSBR P.made P.action P.turn P.taken) (shown self.old) }
         requires work { IsWork (change_of (plans_of P.QSBR P.made P.action P.turn P.taken) (shown self.old) (WorkerLine worker verb)) }
-        requires room { length (outcome_of (plans_of P.QSBR P.made P.action P.turn P.taken) (shown self.old) (WorkerLine worker verb)).world.log ≤ vec_capacity self.old.log }
+        requires room { length (outcome_of (plans_of P.QSBR P.made P.action P.turn P.taken) (shown self.old) (WorkerLine worker verb)).world.log ≤ vec_capacity self.old.kept.log }
         ensures world { shown self.new ≡ (outcome_of (plans_of P.QSBR P.made P.action P.turn P.taken) (shown self.old) (WorkerLine worker verb)).world }
-        ensures room { vec_capacity self.new.log ≡ vec_capacity self.old.log }
+        ensures room { vec_capacity self.new.kept.log ≡ vec_capacity self.old.kept.log }
     {
         if let Ok(change) = self.change(&Line::Worker(worker, verb)) {
-            self.commit_work(change);
-        }
-    }
-
-    /// Makes a change of a worker, for whose events the log has room.
-    fn commit_work(&mut self, change: Change<P>)
-        requires may { MayMake (shown self.old) change }
-        requires room { length (changed (shown self.old) change).log ≤ vec_capacity self.old.log }
-        ensures world { PartOf Working change → shown self.new ≡ changed (shown self.old) change }
-        ensures room { vec_capacity self.new.log ≡ vec_capacity self.old.log }
-    {
-        if let Change::Work { answer, .. } = change {
-            self.tell_in_place(answer);
-            self.work_now(change);
-        }
-    }
-
-    /// Adds the events of an answer to the log, which has room for them.
-    fn tell_in_place(&mut self, answer: Answer)
-        requires { length ((shown self.old).log ++ told answer) ≤ vec_capacity self.old.log }
-        ensures log { shown self.new ≡ record (shown self.old) { log = (shown self.old).log ++ told answer } }
-        ensures room { vec_capacity self.new.log ≡ vec_capacity self.old.log }
-    {
-        let Answer::Events { first, second } = answer else {
-            return;
-        };
-        self.log.push_reserved(first);
-        if let Some(event) = second {
-            self.log.push_reserved(event);
+            self.kept.commit_work(change);
         }
     }
 }

@@ -15,13 +15,13 @@ impl<P: WorldPlan + Drop> Board<P> {
         requires { 0 < length (shown self.now).updaters }
         ensures { result ≡ writes (shown self.now) updater chain }
     {
-        chain as usize % self.updaters.len() == updater as usize
+        chain as usize % self.kept.updaters.len() == updater as usize
     }
 
     fn next_object(&self) -> ObjectId
         ensures { result ≡ next_object (shown self.now) }
     {
-        ObjectId(self.objects.len() as u64)
+        ObjectId(self.kept.objects.len() as u64)
     }
 
     /// The object, where it is linked in a chain that the updater writes.
@@ -29,7 +29,7 @@ impl<P: WorldPlan + Drop> Board<P> {
         requires { 0 < length (shown self.now).updaters }
         ensures { result ≡ linked_by (shown self.now) updater (slice_get (shown self.now).objects object.0) }
     {
-        let state = at(&self.objects, object.0 as usize)?;
+        let state = at(&self.kept.objects, object.0 as usize)?;
         if state.is_linked() && self.writes(updater, state.chain) {
             Some(state)
         } else {
@@ -47,7 +47,7 @@ impl<P: WorldPlan + Drop> Board<P> {
         requires { 0 < length (shown self.now).updaters }
         ensures { result ≡ push_row (shown self.now) updater state chain (slice_get (shown self.now).heads chain) }
     {
-        let Some(head) = at(&self.heads, chain as usize) else {
+        let Some(head) = at(&self.kept.heads, chain as usize) else {
             return Err(Refusal::NoPlace);
         };
         if !self.writes(updater, chain) {
@@ -143,7 +143,7 @@ impl<P: WorldPlan + Drop> Board<P> {
     ) -> Result<Change<P>, Refusal>
         ensures { result ≡ pushed_row updater state new (slice_get (shown self.now).objects new.0) }
     {
-        let Some(object) = at(&self.objects, new.0 as usize) else {
+        let Some(object) = at(&self.kept.objects, new.0 as usize) else {
             return Err(Refusal::NoPlace);
         };
         Ok(Change::Publish {
@@ -173,7 +173,7 @@ impl<P: WorldPlan + Drop> Board<P> {
     ) -> Result<Change<P>, Refusal>
         ensures { result ≡ replaced_row updater state old new (slice_get (shown self.now).objects old.0) }
     {
-        let Some(object) = at(&self.objects, old.0 as usize) else {
+        let Some(object) = at(&self.kept.objects, old.0 as usize) else {
             return Err(Refusal::NoPlace);
         };
         Ok(Change::Publish {

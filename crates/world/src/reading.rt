@@ -44,7 +44,7 @@ impl<P: WorldPlan + Drop> Board<P> {
             return Err(Refusal::NotOpen);
         };
         if !P::QSBR {
-            return state.enter(reader, self.layout, copy);
+            return state.enter(reader, self.kept.layout, copy);
         }
         if qs_is_online(state.word) {
             Ok(state.announce(reader, copy))
@@ -64,16 +64,16 @@ impl<P: WorldPlan + Drop> Board<P> {
     {
         match verb {
             ReaderVerb::Lock | ReaderVerb::Unlock if P::QSBR => Err(Refusal::WrongFlavour),
-            ReaderVerb::Lock => state.lock(self.layout, self.grace.word),
-            ReaderVerb::Unlock => state.unlock(reader, self.layout),
+            ReaderVerb::Lock => state.lock(self.kept.layout, self.kept.grace.word),
+            ReaderVerb::Unlock => state.unlock(reader, self.kept.layout),
             ReaderVerb::Online | ReaderVerb::Quiescent | ReaderVerb::Offline if !P::QSBR => {
                 Err(Refusal::WrongFlavour)
             }
-            ReaderVerb::Online => state.online(self.grace.word),
-            ReaderVerb::Quiescent => state.quiescent(self.grace.word),
+            ReaderVerb::Online => state.online(self.kept.grace.word),
+            ReaderVerb::Quiescent => state.quiescent(self.kept.grace.word),
             ReaderVerb::Offline => state.offline(reader),
             ReaderVerb::GoOn => Err(Refusal::NotOpen),
-            _ if !state.is_in_section(P::QSBR, self.layout) => Err(Refusal::NotOpen),
+            _ if !state.is_in_section(P::QSBR, self.kept.layout) => Err(Refusal::NotOpen),
             ReaderVerb::First(chain) => self.first(reader, state, chain),
             ReaderVerb::Next => self.next(reader, state),
             ReaderVerb::Touch => state.touch(reader),
@@ -83,7 +83,7 @@ impl<P: WorldPlan + Drop> Board<P> {
     fn first(&self, reader: u32, state: ReaderState, chain: u32) -> Result<ReaderStep, Refusal>
         ensures { result ≡ first_row reader state chain (slice_get (shown self.now).heads chain) }
     {
-        let Some(found) = at(&self.heads, chain as usize) else {
+        let Some(found) = at(&self.kept.heads, chain as usize) else {
             return Err(Refusal::NoPlace);
         };
         Ok(state.first(reader, chain, found))
@@ -95,7 +95,7 @@ impl<P: WorldPlan + Drop> Board<P> {
         let Some(from) = state.cursor else {
             return Err(Refusal::NoPlace);
         };
-        let Some(object) = at(&self.objects, from.0 as usize) else {
+        let Some(object) = at(&self.kept.objects, from.0 as usize) else {
             return Err(Refusal::NoPlace);
         };
         Ok(state.next(reader, from, object.link))

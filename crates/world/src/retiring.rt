@@ -18,7 +18,7 @@ impl<P: WorldPlan + Drop> Board<P> {
         requires queues { HasQueues (shown self.now) }
         ensures { result ≡ queue_of (shown self.now) updater }
     {
-        (updater as usize % self.queues.len()) as u32
+        (updater as usize % self.kept.queues.len()) as u32
     }
 
     /// Whether the object is cut and not retired, in a chain that the updater writes.
@@ -26,7 +26,7 @@ impl<P: WorldPlan + Drop> Board<P> {
         requires { 0 < length (shown self.now).updaters }
         ensures { result ≡ may_retire (shown self.now) updater (slice_get (shown self.now).objects object.0) }
     {
-        let Some(state) = at(&self.objects, object.0 as usize) else {
+        let Some(state) = at(&self.kept.objects, object.0 as usize) else {
             return false;
         };
         matches!(state.stage, Stage::Cut)
@@ -49,7 +49,7 @@ impl<P: WorldPlan + Drop> Board<P> {
             return Err(Refusal::NoPlace);
         }
         let queue = self.queue_of(updater);
-        let Some(locked) = entry(&self.queues, queue as usize) else {
+        let Some(locked) = entry(&self.kept.queues, queue as usize) else {
             return Err(Refusal::NoPlace);
         };
         if locked.holder.is_some() {

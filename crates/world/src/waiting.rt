@@ -78,7 +78,7 @@ impl<P: WorldPlan + Drop> Board<P> {
             UpdaterVerb::Cut(object) => self.cut(updater, state, object),
             UpdaterVerb::Retire(object) => self.retire(updater, state, object),
             UpdaterVerb::Sync => {
-                let ask = self.grace.asks + 1;
+                let ask = self.kept.grace.asks + 1;
                 self.sync(updater, state, ask, SyncCore::new())
             }
             UpdaterVerb::Start => self.start(updater, state),
@@ -93,8 +93,8 @@ impl<P: WorldPlan + Drop> Board<P> {
         requires range { IsInRange (plans_of P.QSBR P.made P.action P.turn P.taken) (shown self.now) }
         ensures { result ≡ start_row (shown self.now) updater state (cookie_for (shown self.now).grace.seq) }
     {
-        let cookie = cookie_of(self.grace.seq)?;
-        let mut grace = self.grace;
+        let cookie = cookie_of(self.kept.grace.seq)?;
+        let mut grace = self.kept.grace;
         let ask = grace.asks + 1;
         grace.asks = ask;
         state.started = Some(Started { ask, cookie });
@@ -114,14 +114,14 @@ impl<P: WorldPlan + Drop> Board<P> {
         let Some(started) = noted else {
             return Err(Refusal::NotOpen);
         };
-        if !is_past(started.cookie, self.grace.seq) {
+        if !is_past(started.cookie, self.kept.grace.seq) {
             return Ok(Change::Stay(Answer::Wait));
         }
         state.started = None;
         Ok(Change::Grace {
             updater,
             state,
-            grace: self.grace,
+            grace: self.kept.grace,
             answer: one_event(Event::Answer(started.ask)),
         })
     }
@@ -172,7 +172,7 @@ impl<P: WorldPlan + Drop> Board<P> {
         let Some(effect) = self.effect(me, ask, core.next()) else {
             return Ok(GraceStep {
                 core,
-                grace: self.grace,
+                grace: self.kept.grace,
                 answer: Answer::Blocked,
             });
         };
@@ -194,7 +194,7 @@ impl<P: WorldPlan + Drop> Board<P> {
         ensures effect { result ≡ effect_of (plans_of P.QSBR P.made P.action P.turn P.taken) (shown self.now) me ask step }
         ensures plan { HandsOver P.is_begun step result }
     {
-        let mut grace = self.grace;
+        let mut grace = self.kept.grace;
         let mut loaded = 0;
         match step {
             SyncStep::Ask => {
@@ -223,10 +223,10 @@ impl<P: WorldPlan + Drop> Board<P> {
         ensures effect { result ≡ record (action_effect (shown self.now) (P.action (plan_now (plans_of P.QSBR P.made P.action P.turn P.taken) (shown self.now)))) { plan = Some (plan_now (plans_of P.QSBR P.made P.action P.turn P.taken) (shown self.now)) } }
     {
         let plan = P::make(
-            self.layout,
-            self.readers.len(),
-            self.grace.seq,
-            self.grace.word,
+            self.kept.layout,
+            self.kept.readers.len(),
+            self.kept.grace.seq,
+            self.kept.grace.word,
         );
         let mut effect = self.act(plan.next());
         effect.plan = Some(plan);
@@ -238,11 +238,11 @@ impl<P: WorldPlan + Drop> Board<P> {
         requires { (group : ℕ) → action ≢ LoadGroup group }
         ensures { result ≡ action_effect (shown self.now) action }
     {
-        let mut grace = self.grace;
+        let mut grace = self.kept.grace;
         let mut loaded = 0;
         match action {
             Action::Load(slot) => {
-                if let Some(reader) = at(&self.readers, slot) {
+                if let Some(reader) = at(&self.kept.readers, slot) {
                     loaded = reader.word;
                 }
             }

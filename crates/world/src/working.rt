@@ -58,7 +58,7 @@ impl<P: WorldPlan + Drop> Board<P> {
         requires given { (queue : QueueState) → slice_get (shown self.now).queues worker ≡ Some queue → given_of queue.items ≤ length (shown self.now).log }
         ensures { result ≡ take_row (shown self.now) worker state (slice_get (shown self.now).queues worker) }
     {
-        let Some(queue) = entry(&self.queues, worker as usize) else {
+        let Some(queue) = entry(&self.kept.queues, worker as usize) else {
             return Err(Refusal::NoActor);
         };
         if queue.holder.is_some() {
@@ -73,7 +73,7 @@ impl<P: WorldPlan + Drop> Board<P> {
         Ok(Change::Work {
             worker,
             state,
-            grace: self.grace,
+            grace: self.kept.grace,
             act: QueueAct::Seal,
             mark: None,
             answer: Answer::Quiet,
@@ -99,7 +99,7 @@ impl<P: WorldPlan + Drop> Board<P> {
                 Ok(Change::Work {
                     worker,
                     state,
-                    grace: self.grace,
+                    grace: self.kept.grace,
                     act: QueueAct::Finish,
                     mark: None,
                     answer: Answer::Quiet,
@@ -117,7 +117,7 @@ impl<P: WorldPlan + Drop> Board<P> {
         ensures { result ≡ ask_for (shown self.now) ask sync }
     {
         match sync {
-            SyncCore::Asks => self.grace.asks + 1,
+            SyncCore::Asks => self.kept.grace.asks + 1,
             _ => ask,
         }
     }
@@ -144,7 +144,7 @@ impl<P: WorldPlan + Drop> Board<P> {
     pub fn is_syncing(&self, worker: u32) -> bool
         ensures { result ≡ is_syncing (slice_get (shown self.now).workers worker) }
     {
-        match entry(&self.workers, worker as usize) {
+        match entry(&self.kept.workers, worker as usize) {
             Some(state) => matches!(state.core, WorkerCore::Syncs { .. }),
             None => false,
         }
@@ -157,7 +157,7 @@ impl<P: WorldPlan + Drop> Board<P> {
         requires syncs { is_syncing (slice_get (shown self.old).workers worker) ≡ true }
         ensures { Meets (outcome_of (plans_of P.QSBR P.made P.action P.turn P.taken) (shown self.old) (WorkerLine worker GoOn)) (shown self.old) (shown self.new) result }
     {
-        let Some(state) = entry(&self.workers, worker as usize) else {
+        let Some(state) = entry(&self.kept.workers, worker as usize) else {
             return Err(Refusal::NoActor);
         };
         let WorkerCore::Syncs { sync, tickets } = &state.core else {
@@ -230,7 +230,7 @@ impl<P: WorldPlan + Drop> Board<P> {
         requires change { change_of (plans_of P.QSBR P.made P.action P.turn P.taken) (shown self.old) (WorkerLine worker GoOn) ≡ Ok (Work worker state grace (worker_act grace.seq state.core) None answer) }
         ensures { Meets (outcome_of (plans_of P.QSBR P.made P.action P.turn P.taken) (shown self.old) (WorkerLine worker GoOn)) (shown self.old) (shown self.new) result }
     {
-        self.tell(answer)?;
+        self.kept.tell(answer)?;
         self.write_sync(worker, state, grace);
         Ok(answer)
     }
@@ -240,9 +240,9 @@ impl<P: WorldPlan + Drop> Board<P> {
         requires { MayActAt (worker_act grace.seq state.core) (slice_get (shown self.old).queues worker) }
         ensures { shown self.new ≡ record (shown self.old) { queues = acted_at (shown self.old).queues worker (worker_act grace.seq state.core); objects = marked_life (shown self.old).objects None; workers = slice_set (shown self.old).workers worker state; grace = grace } }
     {
-        self.act_now(worker, act_for(grace.seq, &state.core), None);
-        put(&mut self.workers, worker as usize, state);
-        self.grace = grace;
+        self.kept.act_now(worker, act_for(grace.seq, &state.core), None);
+        put(&mut self.kept.workers, worker as usize, state);
+        self.kept.grace = grace;
     }
 
     /// Pops the first ready item and runs it.
@@ -256,7 +256,7 @@ impl<P: WorldPlan + Drop> Board<P> {
         requires next { (first : Ticket × ObjectId) → first_in (slice_get (shown self.now).queues worker) ≡ Some first → first.0 ≡ next_of tickets }
         ensures { result ≡ run_row (shown self.now) worker state tickets (first_in (slice_get (shown self.now).queues worker)) }
     {
-        let Some(queue) = entry(&self.queues, worker as usize) else {
+        let Some(queue) = entry(&self.kept.queues, worker as usize) else {
             return Err(Refusal::NotOpen);
         };
         let Some((ticket, object)) = queue.items.first_ready() else {
@@ -267,7 +267,7 @@ impl<P: WorldPlan + Drop> Board<P> {
         Ok(Change::Work {
             worker,
             state,
-            grace: self.grace,
+            grace: self.kept.grace,
             act: QueueAct::Pop,
             mark: Some(Mark {
                 object,

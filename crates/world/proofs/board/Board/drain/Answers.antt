@@ -58,9 +58,9 @@ loop-init g c =
     let some_item = c.if-items-eq0.false in
     let room = ok_holds c.reserve.result (sym c.is_err.ensures.value ∙ c.if-is_err.false) c.reserve.ensures.ok in
     loop_first plans old c.args.worker c.in_ok-items.items (sym c.items_to_drain.ensures ∙ c.in_ok-items.was) (c.workers_rest.ensures old c.requires) (c.numbers_stay_in_range.ensures old c.requires).some_reader (omega (arith, some_item)) c.requires
-    (record old { log = c.reserve.new.self.items }) (shown c.work.new.self) c.steps_for-steps.result (vec_capacity c.work.new.self.log)
+    (record old { log = c.reserve.new.self.items }) (shown c.work.new.self) c.steps_for-steps.result (vec_capacity c.work.new.self.kept.log)
     (ap (λ (l : List Event). record old { log = l }) c.reserve.ensures.items) c.work.ensures.world c.steps_for-steps.ensures
-    (omega (arith, room, c.work.ensures.room, c.reserve.ensures.len, c.args.self.now.log.ok))
+    (omega (arith, room, c.work.ensures.room, c.reserve.ensures.len, c.args.self.now.kept.log.ok))
 
 pub work-requires-in-loop-clause-range : goal.work-requires-in-loop-clause-range
 work-requires-in-loop-clause-range g c = c.numbers_stay_in_range.ensures (shown c.loop.self) c.loop.invariant.reached
@@ -68,18 +68,18 @@ work-requires-in-loop-clause-range g c = c.numbers_stay_in_range.ensures (shown 
 pub work-requires-in-loop-clause-work : goal.work-requires-in-loop-clause-work
 work-requires-in-loop-clause-work g c =
     let p = g.P.GracePlan in
-    (loop_makes (plans_of p.QSBR g.P.WorldPlan.made p.action p.turn p.taken) (sound g) (shown c.args.self.now) (shown c.loop.self) c.args.worker c.loop.counter c.steps_for-steps.result (length (shown c.args.self.now).log + (c.in_ok-items.items + 2)) (vec_capacity c.loop.self.log) c.loop-test.true c.loop.invariant).work
+    (loop_makes (plans_of p.QSBR g.P.WorldPlan.made p.action p.turn p.taken) (sound g) (shown c.args.self.now) (shown c.loop.self) c.args.worker c.loop.counter c.steps_for-steps.result (length (shown c.args.self.now).log + (c.in_ok-items.items + 2)) (vec_capacity c.loop.self.kept.log) c.loop-test.true c.loop.invariant).work
 
 pub work-requires-in-loop-clause-room : goal.work-requires-in-loop-clause-room
 work-requires-in-loop-clause-room g c =
     let p = g.P.GracePlan in
-    loop_room (plans_of p.QSBR g.P.WorldPlan.made p.action p.turn p.taken) (sound g) (shown c.args.self.now) (shown c.loop.self) c.args.worker c.loop.counter c.steps_for-steps.result (length (shown c.args.self.now).log + (c.in_ok-items.items + 2)) (vec_capacity c.loop.self.log) c.loop-test.true c.loop.invariant
+    loop_room (plans_of p.QSBR g.P.WorldPlan.made p.action p.turn p.taken) (sound g) (shown c.args.self.now) (shown c.loop.self) c.args.worker c.loop.counter c.steps_for-steps.result (length (shown c.args.self.now).log + (c.in_ok-items.items + 2)) (vec_capacity c.loop.self.kept.log) c.loop-test.true c.loop.invariant
 
 pub loop-preserved : goal.loop-preserved
 loop-preserved g c =
     let p = g.P.GracePlan in
     loop_on (plans_of p.QSBR g.P.WorldPlan.made p.action p.turn p.taken) (sound g) (shown c.args.self.now) (shown c.loop.self) (shown c.work-in-loop.new.self) c.args.worker c.loop.counter c.steps_for-steps.result (length (shown c.args.self.now).log + (c.in_ok-items.items + 2))
-    (vec_capacity c.loop.self.log) (vec_capacity c.work-in-loop.new.self.log) c.loop-test.true c.loop.invariant c.work-in-loop.ensures.world c.work-in-loop.ensures.room
+    (vec_capacity c.loop.self.kept.log) (vec_capacity c.work-in-loop.new.self.kept.log) c.loop-test.true c.loop.invariant c.work-in-loop.ensures.world c.work-in-loop.ensures.room
 
 pub returns-then-items-eq0 : goal.returns-then-items-eq0
 returns-then-items-eq0 g c =
@@ -105,4 +105,4 @@ returns g c =
     let past = c.loop-test.false in
     let within = c.loop.auto.counter-end in
     drained_after plans old c.args.worker items drains settled some_reader some_item
-    (shown c.loop.self) c.loop.counter c.steps_for-steps.result (vec_capacity c.loop.self.log) (c.workers_rest.ensures (shown c.loop.self) c.loop.invariant.reached) count c.loop.invariant (omega (arith, past)) (omega (arith, within, count, some))
+    (shown c.loop.self) c.loop.counter c.steps_for-steps.result (vec_capacity c.loop.self.kept.log) (c.workers_rest.ensures (shown c.loop.self) c.loop.invariant.reached) count c.loop.invariant (omega (arith, past)) (omega (arith, within, count, some))

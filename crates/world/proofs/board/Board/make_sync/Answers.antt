@@ -15,7 +15,7 @@ use Rattle.world.proofs.board.Board.make_sync.Goals as goal
 
 pub write_sync-requires : goal.write_sync-requires
 write_sync-requires g c =
-    let may = c.requires.range.may_make (let small = c.args.self.now.log.small in let ok = c.args.self.now.log.ok in omega (arith, small, ok)) (the_lines.Worker c.args.worker GoOn) _ c.requires.change in
+    let may = c.requires.range.may_make (let small = c.args.self.now.kept.log.small in let ok = c.args.self.now.kept.log.ok in omega (arith, small, ok)) (the_lines.Worker c.args.worker GoOn) _ c.requires.change in
     subst (λ (w : BoardView _). MayActAt (worker_act c.args.grace.seq c.args.state.core) (slice_get w.queues c.args.worker)) (sym c.in_ok-tell.ensures.ok) may
 
 pub returns : goal.returns

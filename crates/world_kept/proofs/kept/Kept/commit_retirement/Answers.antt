@@ -3,9 +3,9 @@ use Rattle.world_state.specs.declared.queue.QueueState.{QueueState}
 use Rattle.world_state.specs.Queues.{NeedsPlace}
 use Rattle.world_state.specs.declared.change.Change.{Change}
 use Rattle.world_state.specs.View.{changed}
-use Rattle.world.specs.Shown.{shown, Grows}
-use Rattle.world.proofs.Reserving.{reserves}
-use Rattle.world.proofs.board.Board.commit_retirement.Goals as goal
+use Rattle.world_kept.specs.Kept.{shown, Grows}
+use Rattle.world_kept.proofs.Reserving.{reserves}
+use Rattle.world_kept.proofs.kept.Kept.commit_retirement.Goals as goal
 
 pub returns-in_err-hold_queue-in-Hold-clause-memory : goal.returns-in_err-hold_queue-in-Hold-clause-memory
 returns-in_err-hold_queue-in-Hold-clause-memory g c =

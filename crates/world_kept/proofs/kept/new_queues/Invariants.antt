@@ -1,6 +1,6 @@
 use Rattle.std.proofs.Common.{◌≡◌, replicate}
 use Rattle.world_state.specs.Queues.{empty_queue_state}
-use Rattle.world.proofs.board.new_queues.Given as goal
+use Rattle.world_kept.proofs.kept.new_queues.Given as goal
 
 abbrev pub invariant-loop : goal.invariant-loop
 invariant-loop l = l.queues.items ≡ replicate l.counter empty_queue_state

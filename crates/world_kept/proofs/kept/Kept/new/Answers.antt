@@ -8,7 +8,7 @@ use Rattle.world_state.specs.declared.updater.UpdaterState.{UpdaterState}
 use Rattle.world_state.specs.declared.updater.UpdaterPlace.{UpdaterPlace}
 use Rattle.world_state.specs.declared.updater.UpdaterPlace.TheVariants.{Idle, Publishes, Syncs, Retires, Bars}
 use Rattle.world_state.specs.View.{idle}
-use Rattle.world.proofs.board.Board.new.Goals as goal
+use Rattle.world_kept.proofs.kept.Kept.new.Goals as goal
 
 abbrev IsIdle : {P : Type 0} → UpdaterPlace P → Type 0
 IsIdle Idle = Unit {0}

@@ -1,8 +1,8 @@
 use Rattle.std.proofs.Common.{sym, ap, ◌∙◌, slice_set}
 use Rattle.world_state.specs.Objects.{spliced_heads, spliced_objects}
 use Rattle.world_state.specs.View.{BoardView, changed}
-use Rattle.world.specs.Shown.{shown}
-use Rattle.world.proofs.board.Board.commit_publishing.Goals as goal
+use Rattle.world_kept.specs.Kept.{shown}
+use Rattle.world_kept.proofs.kept.Kept.commit_publishing.Goals as goal
 
 pub returns-in_ok-tell-in-Publish-clause-ok : goal.returns-in_ok-tell-in-Publish-clause-ok
 returns-in_ok-tell-in-Publish-clause-ok g c = λ publishing.

@@ -1,7 +1,7 @@
 use Rattle.std.proofs.Common.{rules, ◌≡◌, ℕ, subst, replicate, arith}
 use Rattle.std.proofs.lemmas.List.{replicate_more}
 use Rattle.world_state.specs.Queues.{empty_queue_state}
-use Rattle.world.proofs.board.new_queues.Goals as goal
+use Rattle.world_kept.proofs.kept.new_queues.Goals as goal
 
 pub loop-init : goal.loop-init
 loop-init c = c.new-queues.ensures.items
