@@ -1,7 +1,7 @@
 //! The words of a schedule, each with what it stands for.
 //! In no table does one word begin another. What comes most often stands first.
 
-use world::{Flavour, Layout, ReaderVerb, UpdaterVerb, WorkerVerb};
+use world_state::{Flavour, Layout, ReaderVerb, UpdaterVerb, WorkerVerb};
 
 /// Who acts.
 #[derive(Clone, Copy)]

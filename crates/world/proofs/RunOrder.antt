@@ -1,10 +1,6 @@
 -- The callbacks of each queue run in the order in which they were queued.
-use Rattle.std.proofs.Common.{◌≡◌, ◌≢◌, ◌⊎◌, inl, inr, ⊎_elim, ℕ, ◌+◌, ◌==◌, ◌%◌, ◌^◌, ◌<◌, ◌≤◌, ◌||◌, cond, Bool, true, false, List, [], ◌∷◌, ◌++◌, length, filter, slice_get, Option, Some, None, Result, Ok, Err, refl, sym, ap, ◌∙◌, subst, arith, append-nil}
-use Rattle.std.specs.Prelude.{if◌then◌else◌}
+use Rattle.std.proofs.Common.{◌≡◌, ◌≢◌, ◌⊎◌, inl, inr, ⊎_elim, ℕ, ◌+◌, ◌%◌, ◌^◌, ◌<◌, ◌≤◌, true, List, [], ◌∷◌, ◌++◌, length, slice_get, Some, None, Result, Ok, Err, refl, sym, ap, ◌∙◌, subst, arith}
 use Rattle.std.specs.List.{cons_option, filter_map}
-use Rattle.std.proofs.lemmas.Bool.Decides.{eqb_tells}
-use Rattle.std.proofs.lemmas.List.{append_assoc}
-use Rattle.std.proofs.lemmas.List.Elements.{filter-append, filter_map-append}
 use Rattle.std.proofs.lemmas.Nat.{mod_below}
 use Rattle.std.proofs.lemmas.Option.{get_or_from_slice_get, slice_get-get_or, slice_get_within}
 use Rattle.rcu_model.specs.declared.event.Event.{Event}
@@ -12,7 +8,7 @@ use Rattle.rcu_model.specs.declared.event.Event.TheVariants as events
 use Rattle.rcu_model.specs.declared.event.ObjectId.{ObjectId}
 use Rattle.rcu_model.specs.declared.refusal.Refusal.{Refusal}
 use Rattle.rcu_model.specs.Machine.{State, start, after, after_all}
-use Rattle.rcu_model.specs.Sets.{same_object, has_object}
+use Rattle.rcu_model.specs.Sets.{has_object}
 use Rattle.rcu_model.proofs.Lemmas.{In, in_append, filter_has, runs_of, NoTurn, InTurn, quiet_turn, queued_turn, queued_elsewhere, run_turn, run_elsewhere}
 use Rattle.callback_queue.specs.declared.item.Item.{Item}
 use Rattle.callback_queue.specs.declared.item.Ticket.{Ticket}

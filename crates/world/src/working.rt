@@ -240,7 +240,8 @@ impl<P: WorldPlan + Drop> Board<P> {
         requires { MayActAt (worker_act grace.seq state.core) (slice_get (shown self.old).queues worker) }
         ensures { shown self.new ≡ record (shown self.old) { queues = acted_at (shown self.old).queues worker (worker_act grace.seq state.core); objects = marked_life (shown self.old).objects None; workers = slice_set (shown self.old).workers worker state; grace = grace } }
     {
-        self.kept.act_now(worker, act_for(grace.seq, &state.core), None);
+        self.kept
+            .act_now(worker, act_for(grace.seq, &state.core), None);
         put(&mut self.kept.workers, worker as usize, state);
         self.kept.grace = grace;
     }

@@ -1,10 +1,9 @@
-use Rattle.std.proofs.Common.{refl, sym, subst, ◌∙◌, arith, ◌≡◌, Ok, Result, slice_get, slice_set, None, rules}
+use Rattle.std.proofs.Common.{refl, sym, subst, ◌∙◌, arith, ◌≡◌, Ok, Result, slice_get, slice_set, None}
 use Rattle.rcu_model.specs.declared.refusal.Refusal.{Refusal}
 use Rattle.world_state.specs.declared.line.Line.TheVariants as the_lines
 use Rattle.world_state.specs.declared.line.WorkerVerb.TheVariants.{GoOn}
 use Rattle.world_state.specs.declared.change.Change.{Change}
 use Rattle.world_state.specs.declared.change.Change.TheVariants.{Work}
-use Rattle.world_state.specs.declared.queue.QueueAct.{QueueAct}
 use Rattle.world_state.specs.Objects.{marked_life}
 use Rattle.world_state.specs.Queues.{acted_at, MayActAt}
 use Rattle.world_state.specs.View.{BoardView}
