@@ -7,6 +7,7 @@ ghost use Rattle.std.specs.Thread.{IsSync};
 use crate::deleter::Adds;
 use crate::growths::callbacks;
 use crate::looking::{Idle, Told, of_two_readers, registered, waits_for, works};
+use crate::plain::{close, grow, put, tidy};
 use crossbeam_utils::Backoff;
 use domain::{Domain, Opened, Reader, Record, Site, Stop};
 use gp_memb::{GracePlan, MembPlan};
@@ -119,8 +120,8 @@ fn grows_once<P: GracePlan + Drop, B: Site, R: Wait>(
 ) -> Result<usize, Refusal> {
     let backoff = Backoff::new();
     for _ in 0..1_000_000_000u64 {
-        match table.grow(rt, alloc, record, chains.0, chains.1) {
-            Ok(left) => return Ok(table.tidy(rt, record, callbacks(alloc, left)?).retired),
+        match grow(rt, alloc, table, record, chains.0, chains.1) {
+            Ok(left) => return Ok(tidy(rt, table, record, callbacks(alloc, left)?).retired),
             Err(Refusal::PoolFull) => backoff.snooze(),
             Err(refusal) => return Err(refusal),
         }
@@ -146,7 +147,7 @@ fn grows<P: GracePlan + Drop, B: Site, R: Wait>(
         retired = retired.wrapping_add(grows_once(rt, alloc, &table, record, chains)?);
     }
     told.done.store(true, Ordering::SeqCst);
-    domain.close(rt, record);
+    close(rt, domain, record);
     Ok(retired)
 }
 
@@ -159,7 +160,7 @@ fn tabled<'d, P: GracePlan + Drop, B: Site, R: Wait>(
 ) -> Result<RcuHash<'d, P, B, Adds>, Refusal> {
     let table = RcuHash::new(rt, alloc, domain, record, 0, 1, 2)?;
     for key in 1..=KEYS {
-        table.insert(rt, record, key, key.wrapping_mul(10))?;
+        put(rt, &table, record, key, key.wrapping_mul(10))?;
     }
     Ok(table)
 }

@@ -3,6 +3,7 @@
 ghost use Rattle.std.specs.Prelude.{◌≡◌, IfOk};
 
 use crate::deleter::Adds;
+use crate::plain::{close, grow, put, records_in_use, tidy};
 use domain::{Domain, LiveConfig, Opened, Reader, Record, Site};
 use gp_memb::{GracePlan, MembPlan};
 use gp_qsbr::QsbrPlan;
@@ -70,9 +71,9 @@ fn tabled<'d, P: GracePlan + Drop, B: Site, R: Wait>(
     record: &mut Record<B>,
 ) -> Result<RcuHash<'d, P, B, Adds>, Refusal> {
     let table = RcuHash::new(rt, alloc, domain, record, 0, 1, 2)?;
-    table.insert(rt, record, 1, 10)?;
-    table.insert(rt, record, 2, 20)?;
-    table.insert(rt, record, 3, 30)?;
+    put(rt, &table, record, 1, 10)?;
+    put(rt, &table, record, 2, 20)?;
+    put(rt, &table, record, 3, 30)?;
     Ok(table)
 }
 
@@ -88,12 +89,12 @@ fn grows<P: GracePlan + Drop, B: Site, R: Wait>(
 {
     let mut reader = domain.register(rt, record)?;
     let table = tabled(rt, alloc, domain, record)?;
-    let left = table.grow(rt, alloc, record, 3, 4)?;
+    let left = grow(rt, alloc, &table, record, 3, 4)?;
     let found = look(&mut reader, table.view(), 3)?;
-    let busy = matches!(table.grow(rt, alloc, record, 3, 4), Err(Refusal::Busy));
-    let first = ended(table.tidy(rt, record, callbacks(alloc, 2)?));
-    let second = ended(table.tidy(rt, record, callbacks(alloc, 5)?));
-    let third = ended(table.tidy(rt, record, callbacks(alloc, 1)?));
+    let busy = matches!(grow(rt, alloc, &table, record, 3, 4), Err(Refusal::Busy));
+    let first = ended(tidy(rt, &table, record, callbacks(alloc, 2)?));
+    let second = ended(tidy(rt, &table, record, callbacks(alloc, 5)?));
+    let third = ended(tidy(rt, &table, record, callbacks(alloc, 1)?));
     Ok((left, found, busy, [first, second, third]))
 }
 
@@ -136,10 +137,10 @@ fn closes<P: GracePlan + Drop, B: Site, R: Wait>(
 {
     let mut reader = domain.register(rt, record)?;
     let table = tabled(rt, alloc, domain, record)?;
-    table.grow(rt, alloc, record, 3, 4)?;
-    domain.close(rt, record);
-    let end = ended(table.tidy(rt, record, callbacks(alloc, 5)?));
-    let busy = matches!(table.grow(rt, alloc, record, 1, 2), Err(Refusal::Busy));
+    grow(rt, alloc, &table, record, 3, 4)?;
+    close(rt, domain, record);
+    let end = ended(tidy(rt, &table, record, callbacks(alloc, 5)?));
+    let busy = matches!(grow(rt, alloc, &table, record, 1, 2), Err(Refusal::Busy));
     let found = look(&mut reader, table.view(), 3)?;
     Ok((end, busy, found))
 }
@@ -179,17 +180,35 @@ fn refusals<P: GracePlan + Drop, B: Site, R: Wait>(
 {
     let mut reader = domain.register(rt, record)?;
     let table = tabled(rt, alloc, domain, record)?;
-    let own = matches!(table.grow(rt, alloc, record, 2, 2), Err(Refusal::BadConfig));
-    let directory = matches!(table.grow(rt, alloc, record, 0, 1), Err(Refusal::BadConfig));
-    let none = matches!(table.grow(rt, alloc, record, 3, 0), Err(Refusal::BadConfig));
-    let past = matches!(table.grow(rt, alloc, record, 5, 3), Err(Refusal::BadConfig));
+    let own = matches!(
+        grow(rt, alloc, &table, record, 2, 2),
+        Err(Refusal::BadConfig)
+    );
+    let directory = matches!(
+        grow(rt, alloc, &table, record, 0, 1),
+        Err(Refusal::BadConfig)
+    );
+    let none = matches!(
+        grow(rt, alloc, &table, record, 3, 0),
+        Err(Refusal::BadConfig)
+    );
+    let past = matches!(
+        grow(rt, alloc, &table, record, 5, 3),
+        Err(Refusal::BadConfig)
+    );
     let writer = domain.chain(record, 6)?;
-    let held = matches!(table.grow(rt, alloc, record, 3, 4), Err(Refusal::BadConfig));
+    let held = matches!(
+        grow(rt, alloc, &table, record, 3, 4),
+        Err(Refusal::BadConfig)
+    );
     drop(writer);
-    let before = domain.counts(record).records;
-    let full = matches!(table.grow(rt, alloc, record, 3, 4), Err(Refusal::PoolFull));
-    let same = domain.counts(record).records == before;
-    table.insert(rt, record, 4, 40)?;
+    let before = records_in_use(domain, record);
+    let full = matches!(
+        grow(rt, alloc, &table, record, 3, 4),
+        Err(Refusal::PoolFull)
+    );
+    let same = records_in_use(domain, record) == before;
+    put(rt, &table, record, 4, 40)?;
     let found = look(&mut reader, table.view(), 3)?;
     Ok(([own, directory, none, past, held, full, same], found))
 }
@@ -230,9 +249,15 @@ fn occupied<P: GracePlan + Drop, B: Site, R: Wait>(
     let mut reader = domain.register(rt, record)?;
     let table = tabled(rt, alloc, domain, record)?;
     drop(RcuHash::new(rt, alloc, domain, record, 4, 5, 1)?);
-    let filled = matches!(table.grow(rt, alloc, record, 4, 1), Err(Refusal::BadConfig));
-    let noted = matches!(table.grow(rt, alloc, record, 5, 1), Err(Refusal::BadConfig));
-    table.insert(rt, record, 4, 40)?;
+    let filled = matches!(
+        grow(rt, alloc, &table, record, 4, 1),
+        Err(Refusal::BadConfig)
+    );
+    let noted = matches!(
+        grow(rt, alloc, &table, record, 5, 1),
+        Err(Refusal::BadConfig)
+    );
+    put(rt, &table, record, 4, 40)?;
     let found = look(&mut reader, table.view(), 4)?;
     Ok(([filled, noted], found))
 }

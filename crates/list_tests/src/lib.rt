@@ -14,6 +14,8 @@ mod looking;
 #[cfg(test)]
 mod lookups;
 #[cfg(test)]
+mod plain;
+#[cfg(test)]
 mod sharing;
 #[cfg(test)]
 mod tables;

@@ -3,6 +3,7 @@
 ghost use Rattle.std.specs.Prelude.{◌≡◌, IfOk};
 
 use crate::deleter::Adds;
+use crate::plain::{close, list_change, list_put, list_take_out, records_in_use};
 use domain::{Chain, Domain, LiveConfig, Opened, Reader, Record, Site, Ticket};
 use gp_memb::{GracePlan, MembPlan};
 use gp_qsbr::QsbrPlan;
@@ -78,13 +79,13 @@ fn calls<P: GracePlan + Drop, B: Site, R: Wait>(
     let mut list = listed(domain, record)?;
     let view = list.view();
     let empty = look(&mut reader, view, 7)?;
-    let inserted = list.insert(rt, record, 7, 70);
-    let again = list.insert(rt, record, 7, 71);
-    let replaced = list.replace(rt, record, 7, 71, Adds(1));
+    let inserted = list_put(rt, &mut list, record, 7, 70);
+    let again = list_put(rt, &mut list, record, 7, 71);
+    let replaced = list_change(rt, &mut list, record, 7, 71, Adds(1));
     let found = look(&mut reader, view, 7)?;
     let other = look(&mut reader, view, 9)?;
-    let missing = list.remove(rt, record, 9, Adds(5));
-    let removed = list.remove(rt, record, 7, Adds(2));
+    let missing = list_take_out(rt, &mut list, record, 9, Adds(5));
+    let removed = list_take_out(rt, &mut list, record, 7, Adds(2));
     let gone = look(&mut reader, view, 7)?;
     Ok((
         [
@@ -132,18 +133,18 @@ fn walks<P: GracePlan + Drop, B: Site, R: Wait>(
     let mut reader = registered(rt, domain, record)?;
     let mut list = listed(domain, record)?;
     for (key, value) in [(1, 10), (2, 20), (3, 30), (4, 40)] {
-        list.insert(rt, record, key, value)?;
+        list_put(rt, &mut list, record, key, value)?;
     }
     for (key, value) in [(1, 100), (3, 300), (4, 400)] {
-        if let Err((refusal, _)) = list.replace(rt, record, key, value, Adds(0)) {
+        if let Err((refusal, _)) = list_change(rt, &mut list, record, key, value, Adds(0)) {
             return Err(refusal);
         }
     }
-    if let Err((refusal, _)) = list.remove(rt, record, 2, Adds(0)) {
+    if let Err((refusal, _)) = list_take_out(rt, &mut list, record, 2, Adds(0)) {
         return Err(refusal);
     }
-    list.insert(rt, record, 5, 50)?;
-    if let Err((refusal, _)) = list.remove(rt, record, 4, Adds(0)) {
+    list_put(rt, &mut list, record, 5, 50)?;
+    if let Err((refusal, _)) = list_take_out(rt, &mut list, record, 4, Adds(0)) {
         return Err(refusal);
     }
     let view = ListView::of(domain, 0)?;
@@ -189,14 +190,14 @@ fn refusals<P: GracePlan + Drop, B: Site, R: Wait>(
 {
     let mut reader = registered(rt, domain, record)?;
     let mut list = listed(domain, record)?;
-    list.insert(rt, record, 3, 30)?;
-    domain.close(rt, record);
-    let closed = list.replace(rt, record, 3, 31, Adds(5));
-    let kept = list.remove(rt, record, 3, Adds(6));
-    let unused = domain.counts(record).records == 1;
-    let last = list.insert(rt, record, 4, 40);
-    let full = list.insert(rt, record, 5, 50);
-    let no_room = list.replace(rt, record, 4, 41, Adds(7));
+    list_put(rt, &mut list, record, 3, 30)?;
+    close(rt, domain, record);
+    let closed = list_change(rt, &mut list, record, 3, 31, Adds(5));
+    let kept = list_take_out(rt, &mut list, record, 3, Adds(6));
+    let unused = records_in_use(domain, record) == 1;
+    let last = list_put(rt, &mut list, record, 4, 40);
+    let full = list_put(rt, &mut list, record, 5, 50);
+    let no_room = list_change(rt, &mut list, record, 4, 41, Adds(7));
     let view = list.view();
     let third = look(&mut reader, view, 3)?;
     let fourth = look(&mut reader, view, 4)?;
@@ -255,7 +256,7 @@ fn bad_chains<P: GracePlan + Drop, B: Site, R: Wait>(
     record: &mut Record<B>,
 ) -> Result<[bool; 5], Refusal> {
     let mut list = listed(domain, record)?;
-    list.insert(rt, record, 3, 30)?;
+    list_put(rt, &mut list, record, 3, 30)?;
     drop(list);
     let held = domain.chain(record, 0)?;
     let held = refused(held);

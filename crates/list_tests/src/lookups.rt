@@ -6,6 +6,7 @@ ghost use Rattle.std.specs.Thread.{IsSync};
 
 use crate::deleter::Adds;
 use crate::looking::{Idle, Told, of_two_readers, registered, waits_for, works};
+use crate::plain::{close, list_change, list_put};
 use crossbeam_utils::Backoff;
 use domain::{Domain, Opened, Reader, Record, Site, Stop};
 use gp_memb::{GracePlan, MembPlan};
@@ -103,7 +104,7 @@ fn replaces_once<P: GracePlan + Drop, B: Site, R: Wait>(
 ) -> bool {
     let backoff = Backoff::new();
     for _ in 0..1_000_000_000u64 {
-        match list.replace(rt, record, KEY, value, Adds(0)) {
+        match list_change(rt, list, record, KEY, value, Adds(0)) {
             Ok(_) => return true,
             Err((Refusal::PoolFull, _)) => backoff.snooze(),
             Err(_) => return false,
@@ -131,7 +132,7 @@ fn replaces<P: GracePlan + Drop, B: Site, R: Wait>(
         }
     }
     told.done.store(true, Ordering::SeqCst);
-    domain.close(rt, record);
+    close(rt, domain, record);
     Ok(last)
 }
 
@@ -144,7 +145,7 @@ fn listed<'d, P: GracePlan + Drop, B: Site, R: Wait>(
     let chain = domain.chain(record, 0)?;
     match RcuList::new(chain) {
         Ok(mut list) => {
-            list.insert(rt, record, KEY, 1)?;
+            list_put(rt, &mut list, record, KEY, 1)?;
             Ok(list)
         }
         Err((refusal, _)) => Err(refusal),

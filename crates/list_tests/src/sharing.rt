@@ -7,6 +7,7 @@ ghost use Rattle.std.specs.Thread.{IsSync};
 use crate::deleter::Adds;
 use crate::growths::callbacks;
 use crate::looking::{Idle, of_two_readers, registered, waits_for};
+use crate::plain::{grow, put, tidy};
 use domain::{Opened, Record, Site};
 use gp_memb::{GracePlan, MembPlan};
 use gp_qsbr::QsbrPlan;
@@ -31,7 +32,7 @@ fn fills<P: GracePlan + Drop, B: Site, R: Wait>(
 ) -> Result<(), Refusal> {
     for number in 0..KEYS {
         let key = first.wrapping_add(number);
-        table.insert(rt, record, key, key)?;
+        put(rt, table, record, key, key)?;
         thread::yield_now();
     }
     Ok(())
@@ -85,7 +86,7 @@ fn tidies<P: GracePlan + Drop, B: Site, R: Wait>(
     let jobs = callbacks(alloc, left)?;
     waits_for(&told.open);
     told.begun.store(true, Ordering::SeqCst);
-    Ok(table.tidy(rt, &mut record, jobs).retired)
+    Ok(tidy(rt, table, &mut record, jobs).retired)
 }
 
 /// Two writers and one who tidies, in a thread each. How many were retired.
@@ -142,7 +143,7 @@ fn shares<P: GracePlan + Drop + Send + Sync, B: Site + Send + Sync, R: Threads +
     let Idle { reader: mut last } = registered(rt, &domain, &mut record)?;
     let table = RcuHash::new(rt, alloc, &domain, &mut record, 0, 1, 2)?;
     fills(rt, &table, &mut record, 0)?;
-    let left = table.grow(rt, alloc, &mut record, 3, 3)?;
+    let left = grow(rt, alloc, &table, &mut record, 3, 3)?;
     let records = (
         domain.split(&mut record),
         domain.split(&mut record),

@@ -3,6 +3,7 @@
 ghost use Rattle.std.specs.Prelude.{◌≡◌, IfOk};
 
 use crate::deleter::Adds;
+use crate::plain::{change, close, put, records_in_use, take_out};
 use domain::{Domain, LiveConfig, Opened, Reader, Record, Site, Ticket};
 use gp_memb::{GracePlan, MembPlan};
 use gp_qsbr::QsbrPlan;
@@ -83,13 +84,13 @@ fn calls<P: GracePlan + Drop, B: Site, R: Wait>(
     let mut reader = registered(rt, domain, record)?;
     let table = RcuHash::new(rt, alloc, domain, record, 4, 0, 4)?;
     let empty = look(&mut reader, &table, 3)?;
-    let inserted = table.insert(rt, record, 3, 30);
-    let beside = table.insert(rt, record, 7, 70);
-    let again = table.insert(rt, record, 3, 31);
-    let replaced = table.replace(rt, record, 3, 32, Adds(1));
+    let inserted = put(rt, &table, record, 3, 30);
+    let beside = put(rt, &table, record, 7, 70);
+    let again = put(rt, &table, record, 3, 31);
+    let replaced = change(rt, &table, record, 3, 32, Adds(1));
     let found = look(&mut reader, &table, 3)?;
-    let missing = table.remove(rt, record, 11, Adds(5));
-    let removed = table.remove(rt, record, 3, Adds(2));
+    let missing = take_out(rt, &table, record, 11, Adds(5));
+    let removed = take_out(rt, &table, record, 3, Adds(2));
     let gone = look(&mut reader, &table, 3)?;
     let kept = look(&mut reader, &table, 7)?;
     let second = refuses(rt, alloc, domain, record, (4, 0, 1));
@@ -159,7 +160,7 @@ fn taken_chains<P: GracePlan + Drop, B: Site, R: Wait>(
     record: &mut Record<B>,
 ) -> Result<[bool; 7], Refusal> {
     let table = RcuHash::new(rt, alloc, domain, record, 4, 0, 4)?;
-    table.insert(rt, record, 3, 30)?;
+    put(rt, &table, record, 3, 30)?;
     let held = refuses(rt, alloc, domain, record, (5, 0, 1));
     drop(table);
     Ok([
@@ -213,14 +214,14 @@ fn refusals<P: GracePlan + Drop, B: Site, R: Wait>(
 {
     let mut reader = registered(rt, domain, record)?;
     let table = RcuHash::new(rt, alloc, domain, record, 0, 1, 2)?;
-    table.insert(rt, record, 3, 30)?;
-    domain.close(rt, record);
-    let closed = table.replace(rt, record, 3, 31, Adds(5));
-    let kept = table.remove(rt, record, 3, Adds(6));
-    let unused = domain.counts(record).records == 2;
-    let last = table.insert(rt, record, 4, 40);
-    let full = table.insert(rt, record, 5, 50);
-    let no_room = table.replace(rt, record, 4, 41, Adds(7));
+    put(rt, &table, record, 3, 30)?;
+    close(rt, domain, record);
+    let closed = change(rt, &table, record, 3, 31, Adds(5));
+    let kept = take_out(rt, &table, record, 3, Adds(6));
+    let unused = records_in_use(domain, record) == 2;
+    let last = put(rt, &table, record, 4, 40);
+    let full = put(rt, &table, record, 5, 50);
+    let no_room = change(rt, &table, record, 4, 41, Adds(7));
     let no_table = RcuHash::new(rt, alloc, domain, record, 3, 4, 1);
     let third = look(&mut reader, &table, 3)?;
     let fourth = look(&mut reader, &table, 4)?;

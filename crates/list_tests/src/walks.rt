@@ -3,6 +3,7 @@
 ghost use Rattle.std.specs.Prelude.{◌≡◌, IfOk};
 
 use crate::deleter::Adds;
+use crate::plain::{list_change, list_put, list_take_out, put};
 use domain::{Domain, LiveConfig, Opened, Reader, Record, Site};
 use gp_memb::{GracePlan, MembPlan};
 use gp_qsbr::QsbrPlan;
@@ -82,21 +83,21 @@ fn walks<P: GracePlan + Drop, B: Site, R: Wait>(
         return Err(Refusal::BadConfig);
     };
     let empty = through_list(&mut reader, list.view())?;
-    list.insert(rt, record, 2, 10)?;
-    list.insert(rt, record, 3, 100)?;
-    list.insert(rt, record, 5, 1000)?;
-    if list.replace(rt, record, 3, 7, Adds(0)).is_err() {
+    list_put(rt, &mut list, record, 2, 10)?;
+    list_put(rt, &mut list, record, 3, 100)?;
+    list_put(rt, &mut list, record, 5, 1000)?;
+    if list_change(rt, &mut list, record, 3, 7, Adds(0)).is_err() {
         return Err(Refusal::BadConfig);
     }
-    if list.remove(rt, record, 5, Adds(0)).is_err() {
+    if list_take_out(rt, &mut list, record, 5, Adds(0)).is_err() {
         return Err(Refusal::BadConfig);
     }
     let listed = through_list(&mut reader, list.view())?;
     let table = RcuHash::new(rt, alloc, domain, record, 4, 0, 3)?;
     let none = through_table(&mut reader, &table)?;
-    table.insert(rt, record, 4, 1)?;
-    table.insert(rt, record, 7, 10)?;
-    table.insert(rt, record, 2, 100)?;
+    put(rt, &table, record, 4, 1)?;
+    put(rt, &table, record, 7, 10)?;
+    put(rt, &table, record, 2, 100)?;
     let tabled = through_table(&mut reader, &table)?;
     Ok([empty, listed, none, tabled])
 }
