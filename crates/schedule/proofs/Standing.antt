@@ -10,7 +10,7 @@ use Rattle.schedule_text.specs.declared.fault.ReplayFault.{ReplayFault}
 use Rattle.schedule_text.specs.declared.fault.ReplayFault.TheVariants.{BadText, BadConfig, Read, Write, Memory}
 use Rattle.schedule_text.specs.declared.counts.Counts.{Counts}
 use Rattle.schedule_text.specs.Spelling.{spelling, IsLine, LineText, IsLineText, lines_text}
-use Rattle.schedule_text.specs.Header.{header, HeaderText, IsHeaderText, MakesWorld}
+use Rattle.schedule_text.specs.Header.{header, HeaderText, IsHeaderText, BeginsWithinLimits}
 use Rattle.schedule_text.specs.Grammar.{line_at, header_at}
 use Rattle.schedule_text.specs.Answers.{counts_of, end_line}
 use Rattle.schedule.specs.Printed.{answers_of, IsSchedule, OutOfLimits, Prints, IsBeginning, Ends}
@@ -150,7 +150,7 @@ mid_prints w n left text printed mid c =
 pub mid_begins : (w : WorldView) (n : ℕ) (left text printed : List ℕ) → Mid w n left text printed → IsBeginning text printed
 mid_begins w n left text printed mid = mid_prints w n left text printed mid (cut (length left) left (omega arith))
 
-pub mid_makes : (w : WorldView) (n : ℕ) (left text printed : List ℕ) → Mid w n left text printed → MakesWorld text
+pub mid_makes : (w : WorldView) (n : ℕ) (left text printed : List ℕ) → Mid w n left text printed → BeginsWithinLimits text
 mid_makes w n left text printed mid = (mid.config, lines_text mid.lines ++ left, record { is_header = mid.schedule.header; within = mid.schedule.supported; parts = mid.parts })
 
 -- ---- where a replay stands

@@ -7,7 +7,7 @@ use Rattle.schedule_text.specs.declared.counts.Counts.{Counts}
 use Rattle.schedule_text.specs.declared.fault.ReplayFault.{ReplayFault}
 use Rattle.schedule_text.specs.declared.fault.ReplayFault.TheVariants.{BadText, BadConfig, Read, Write, Memory}
 use Rattle.schedule_text.specs.Spelling.{IsLine, IsLineText, lines_text}
-use Rattle.schedule_text.specs.Header.{header, IsHeader, IsHeaderText, MakesWorld}
+use Rattle.schedule_text.specs.Header.{header, IsHeader, IsHeaderText, BeginsWithinLimits}
 use Rattle.schedule_text.specs.Fault.{IsBad, line_after}
 use Rattle.schedule_text.specs.Answers.{answer_line, counts_of, end_line}
 
@@ -79,5 +79,5 @@ IsBeginning text printed = (more : List ℕ) × (result : Result Counts ReplayFa
 
 -- what is printed where memory may be refused, as it may be once there is a world
 abbrev pub Ends : List ℕ → List ℕ → Result Counts ReplayFault → Type 0
-Ends text printed (Err Memory) = IsBeginning text printed × MakesWorld text
+Ends text printed (Err Memory) = IsBeginning text printed × BeginsWithinLimits text
 Ends text printed result = Prints text printed result

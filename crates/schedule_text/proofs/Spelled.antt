@@ -1,10 +1,11 @@
--- What is printed of an answer is the text of its line.
+-- What is printed of an answer is the text of its line, which tells the answer's events.
 use Rattle.std.proofs.Common.{◌≡◌, Some, None, Result, Ok, Err, refl, append_assoc}
 use Rattle.rcu_model.specs.declared.refusal.Refusal.{Refusal}
 use Rattle.world_state.specs.declared.line.Answer.{Answer}
 use Rattle.world_state.specs.declared.line.Answer.TheVariants.{Events, Quiet, Wait, Blocked, Idle}
 use Rattle.schedule_text.specs.Answers.{answer_line}
-use Rattle.schedule_text.specs.AnswerLines.{spelled, line_of}
+use Rattle.world_state.specs.View.{told}
+use Rattle.schedule_text.specs.AnswerLines.{spelled, line_of, told_by}
 
 pub answer_spelled : (a : Result Answer Refusal) → answer_line a ≡ spelled (line_of a)
 answer_spelled (Ok (Events first None)) = refl
@@ -14,3 +15,11 @@ answer_spelled (Ok Wait) = refl
 answer_spelled (Ok Blocked) = refl
 answer_spelled (Ok Idle) = refl
 answer_spelled (Err e) = simp append_assoc
+
+pub answer_told : (a : Answer) → told_by (line_of (Ok a)) ≡ told a
+answer_told (Events first None) = refl
+answer_told (Events first (Some second)) = refl
+answer_told Quiet = refl
+answer_told Wait = refl
+answer_told Blocked = refl
+answer_told Idle = refl

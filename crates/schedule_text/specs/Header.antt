@@ -43,5 +43,6 @@ pub record HasHeader (text : List ℕ) (config : Config) (rest : List ℕ) : Typ
   pub within : IsTrue (is_within_limits config)
   pub parts : text ≡ header config ++ rest
 
-abbrev pub MakesWorld : List ℕ → Type 0
-MakesWorld text = (config : Config) × (rest : List ℕ) × HasHeader text config rest
+-- some header within its limits stands first
+abbrev pub BeginsWithinLimits : List ℕ → Type 0
+BeginsWithinLimits text = (config : Config) × (rest : List ℕ) × HasHeader text config rest

@@ -6,7 +6,7 @@ use Rattle.world_state.specs.declared.line.Line.{Line}
 use Rattle.schedule_text.specs.declared.fault.ScheduleFault.{ScheduleFault}
 use Rattle.schedule_text.specs.declared.fault.ScheduleFault.TheVariants.{BadText, BadConfig, Memory}
 use Rattle.schedule_text.specs.Spelling.{IsLine, IsLineText, lines_text}
-use Rattle.schedule_text.specs.Header.{header, IsHeader, IsHeaderText, HasHeader, MakesWorld}
+use Rattle.schedule_text.specs.Header.{header, IsHeader, IsHeaderText, HasHeader, BeginsWithinLimits}
 use Rattle.schedule_text.specs.Fault.{line_after, IsBad}
 
 pub record AreLines (text : List ℕ) (lines : List Line) : Type 0 where
@@ -59,4 +59,4 @@ pub record HasBadLine (text : List ℕ) (line column : ℕ) : Type 0 where
 abbrev pub IsNoSchedule : List ℕ → ScheduleFault → Type 0
 IsNoSchedule text (BadText line column) = HasNoHeader text line column ⊎ HasBadLine text line column
 IsNoSchedule text BadConfig = IsOutOfLimits text
-IsNoSchedule text Memory = MakesWorld text
+IsNoSchedule text Memory = BeginsWithinLimits text

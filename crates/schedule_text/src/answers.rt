@@ -45,7 +45,7 @@ fn write_answer(answer: &Result<Answer, StepError>, text: &mut String) -> Result
 }
 
 /// Writes what a step answered at the end, a line. What is in `text` is lost: it is made use of, so that not each
-/// answer takes memory of its own. `AllocError` changes nothing.
+/// answer takes memory of its own. `AllocError` leaves `out` as it was.
 pub fn print_answer(
     answer: &Result<Answer, StepError>,
     text: &mut String,

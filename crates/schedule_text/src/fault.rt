@@ -1,4 +1,4 @@
-//! Why a text is no schedule, or a replay stopped.
+//! Why a text is no schedule or no log of answers, or a replay stopped.
 
 ghost use Rattle.std.specs.Prelude.{◌≡◌};
 ghost use Rattle.schedule_text.specs.declared.fault.ReplayFault.TheVariants as replay_faults;

@@ -7,8 +7,8 @@ use crate::pieces::{number, word};
 use crate::words::{FLAVOURS, LAYOUTS};
 use world_state::Config;
 
-/// The header at the front of the text, and what comes after it; or the bytes from the first bad one on.
-/// Its numbers may be out of their limits.
+/// The header at the front of the text, and what comes after it; or the bytes from the first bad one on, of which there
+/// are none where the text may go on. Its numbers may be out of their limits.
 #[tactic(auto, unfolding(crate::specs::Grammar::header_at))]
 pub fn front_header(text: &[u8]) -> Result<(Config, &[u8]), &[u8]>
     ensures { Gives (λ c. c) result (header_at text.now) }

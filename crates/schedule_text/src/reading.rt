@@ -62,7 +62,8 @@ fn worker_verb(text: &[u8]) -> Result<(WorkerVerb, &[u8]), &[u8]>
     word(&WORKER_WORDS, text)
 }
 
-/// The line at the front of the text, and what comes after it; or the bytes from the first bad one on.
+/// The line at the front of the text, and what comes after it; or the bytes from the first bad one on, of which there
+/// are none where the text may go on.
 #[tactic(auto, unfolding(crate::specs::Grammar::line_at))]
 pub fn front_line(text: &[u8]) -> Result<(Line, &[u8]), &[u8]>
     ensures { Gives (λ l. l) result (line_at text.now) }

@@ -9,7 +9,7 @@ use std::alloc::Global;
 use world_kept::Kept;
 use world_state::{Answer, Change, Config, Line, StepError, WorkerVerb, WorldPlan};
 
-/// What is kept, to which lines are put.
+/// What is kept, and the steps that change it.
 #[derive(Drop)]
 pub struct Board<P> {
     pub(crate) kept: Kept<P>,
@@ -34,7 +34,7 @@ impl<P: WorldPlan + Drop> Board<P> {
     ghost use Rattle.world.specs.Lines.{change_of, outcome_of};
     ghost use Rattle.world.specs.Shown.{shown, Meets, IsInRange};
 
-    /// A board on which nothing has happened.
+    /// A board on which nothing has happened. `Memory` where that was refused.
     pub fn new(alloc: Global, config: Config, seq: u64) -> Result<Board<P>, Refusal>
         ensures ok { IfOk result (λ b. shown b ≡ fresh_at config seq) }
         ensures memory { IfErr result (λ e. e ≡ refusal.Memory) }
@@ -45,7 +45,7 @@ impl<P: WorldPlan + Drop> Board<P> {
         }
     }
 
-    /// One step of the world.
+    /// One step, answered or refused as the step table says. `Memory` and each other refusal change nothing.
     pub fn step(&mut self, line: &Line) -> Result<Answer, StepError>
         requires { IsInRange (plans_of P.QSBR P.made P.action P.turn P.taken) (shown self.old) }
         ensures { Meets (outcome_of (plans_of P.QSBR P.made P.action P.turn P.taken) (shown self.old) line.now) (shown self.old) (shown self.new) result }
@@ -66,7 +66,7 @@ impl<P: WorldPlan + Drop> Board<P> {
         &self.kept.log
     }
 
-    /// What a line makes of the world.
+    /// What a line makes of the world, or why it is refused: `NoActor`, or as its actor's row says.
     pub(crate) fn change(&self, line: &Line) -> Result<Change<P>, Refusal>
         requires { IsInRange (plans_of P.QSBR P.made P.action P.turn P.taken) (shown self.now) }
         ensures { result ≡ change_of (plans_of P.QSBR P.made P.action P.turn P.taken) (shown self.now) line.now }

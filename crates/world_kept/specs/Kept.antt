@@ -48,7 +48,7 @@ MayMake w (Bar u x barriers answer) = Unit {0}
 MayMake w (Work k x grace act mark answer) = MayActAt act (slice_get w.queues k)
 MayMake w (Stay answer) = Unit {0}
 
--- who changes the board
+-- who makes the change
 pub data Part : Type 0 where
   Reading : Part
   Publishing : Part

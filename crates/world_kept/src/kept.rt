@@ -15,15 +15,19 @@ use world_state::{
 /// The words, the bookkeeping beside them, and the log.
 #[derive(Drop)]
 pub struct Kept<P> {
+    /// How the words of readers are laid out.
     pub layout: Layout,
-    /// One for each actor of its kind.
+    /// One for each reader.
     pub readers: Vec<ReaderState>,
+    /// One for each updater.
     pub updaters: Vec<UpdaterState<P>>,
+    /// One for each worker.
     pub workers: Vec<WorkerState<P>>,
     /// One for each worker.
     pub queues: Vec<QueueState>,
     /// How many barriers were begun.
     pub barriers: u64,
+    /// The sequence number, the phase or number, who holds the grace lock, and how many asks were begun.
     pub grace: GraceState,
     /// The first object of each chain.
     pub heads: Vec<Option<ObjectId>>,
@@ -39,7 +43,7 @@ impl<P: WorldPlan + Drop> Kept<P> {
     ghost use Rattle.world_state.specs.Queues.{acted_at, MayActAt};
     ghost use Rattle.world_kept.specs.Kept.{shown, Grows, MayMake, PartOf, Publishing, Waiting, Retiring, Working};
 
-    /// What is kept before the first line. `Memory`.
+    /// What is kept before the first line. `Memory` where that was refused.
     pub fn new(alloc: Global, config: Config, seq: u64) -> Result<Kept<P>, Refusal>
         ensures ok { IfOk result (λ b. shown b ≡ fresh_at config seq) }
         ensures memory { IfErr result (λ e. e ≡ refusal.Memory) }
@@ -79,7 +83,8 @@ impl<P: WorldPlan + Drop> Kept<P> {
         })
     }
 
-    /// A change, unless there is no memory for what it adds. That comes first, so a refusal leaves all as it was.
+    /// Makes the change, and answers what it tells. `Memory` where there is none for what it adds, which comes first:
+    /// then all is as it was.
     pub fn commit(&mut self, change: Change<P>) -> Result<Answer, StepError>
         requires { MayMake (shown self.old) change }
         ensures ok { OnOk result (shown self.new ≡ changed (shown self.old) change) }
@@ -224,7 +229,7 @@ impl<P: WorldPlan + Drop> Kept<P> {
     }
 
     /// What a worker's step changes beside the log.
-    pub fn work_now(&mut self, change: Change<P>)
+    fn work_now(&mut self, change: Change<P>)
         requires { MayMake (shown self.old) change }
         ensures world { PartOf Working change → shown self.new ≡ record (changed (shown self.old) change) { log = (shown self.old).log } }
         ensures log { self.new.log ≡ self.old.log }
@@ -279,7 +284,7 @@ impl<P: WorldPlan + Drop> Kept<P> {
         splice_objects(&mut self.objects, splice);
     }
 
-    /// Adds the events of an answer to the log, or none where memory is refused.
+    /// Adds the events of an answer to the log. `Memory` adds none.
     pub fn tell(&mut self, answer: Answer) -> Result<(), StepError>
         ensures ok { OnOk result (shown self.new ≡ record (shown self.old) { log = (shown self.old).log ++ told answer }) }
         ensures err { OnErr result (shown self.new ≡ shown self.old) }
