@@ -3,6 +3,7 @@
 ghost use Rattle.std.specs.Prelude.{◌≡◌, true, false};
 
 use crate::deleter::Adds;
+use crate::plain;
 use domain::{Domain, LiveConfig, Opened, Reader, Record, Site};
 use gp_memb::MembPlan;
 use gp_qsbr::QsbrPlan;
@@ -101,24 +102,32 @@ fn no_slot_is_left_after_the_last(rt: HostRuntime) {
     assert_eq!(rt; filled, (255, true, true));
 }
 
-/// An ask is answered by a whole grace period of another caller. A reader with an open section is not unregistered.
-fn waits<B: Site, R: Wait>(
+/// An ask is answered by a whole grace period of another caller, and not before.
+fn polls<B: Site, R: Wait>(
     rt: &R,
-    alloc: Global,
-    opened: Opened<MembPlan, AnyChain>,
-) -> Result<[bool; 4], Refusal>
-    requires { (B.qsbr ≡ false) × (opened.table.words.shared.table_id ≡ B.table) × (opened.table.words.shared.key ≡ B.sizes) }
+    domain: &Domain<MembPlan, AnyChain, B, Adds>,
+    record: &mut Record<B>,
+) -> Result<[bool; 2], Refusal> {
+    let mut other = domain.split(record);
+    let cookie = plain::start_poll(domain, record)?;
+    let early = plain::poll(domain, record, &cookie);
+    plain::synchronize(rt, domain, &mut other)?;
+    let late = plain::poll(domain, record, &cookie);
+    domain.inform(&mut other, record);
+    Ok([!early, late])
+}
+
+/// A reader with an open section is not unregistered; it waits and asks for itself.
+fn leaves_at_last<B: Site, R: Wait>(
+    rt: &R,
+    domain: &Domain<MembPlan, AnyChain, B, Adds>,
+    record: &mut Record<B>,
+) -> Result<[bool; 2], Refusal>
+    requires { B.qsbr ≡ false }
 {
-    let (domain, mut record) = opened.named::<B, Adds>(alloc)?;
-    let mut other = domain.split(&mut record);
-    let cookie = domain.start_poll(&mut record)?;
-    let early = domain.poll(&mut record, &cookie);
-    domain.synchronize(rt, &mut other)?;
-    let late = domain.poll(&mut record, &cookie);
-    domain.inform(&mut other, &mut record);
-    let mut reader = domain.register(rt, &mut record)?;
+    let mut reader = domain.register(rt, record)?;
     reader.lock()?;
-    let Err((Refusal::Busy, mut reader)) = domain.unregister(rt, &mut record, reader) else {
+    let Err((Refusal::Busy, mut reader)) = domain.unregister(rt, record, reader) else {
         return Err(Refusal::NotOpen);
     };
     reader.unlock()?;
@@ -126,19 +135,26 @@ fn waits<B: Site, R: Wait>(
     let section = reader.section()?;
     let asked = domain.start_poll(section.reader).is_ok();
     section.close();
-    Ok([
-        !early,
-        late,
-        asked,
-        domain.unregister(rt, &mut record, reader).is_ok(),
-    ])
+    Ok([asked, domain.unregister(rt, record, reader).is_ok()])
+}
+
+fn waits<B: Site, R: Wait>(
+    rt: &R,
+    alloc: Global,
+    opened: Opened<MembPlan, AnyChain>,
+) -> Result<([bool; 2], [bool; 2]), Refusal>
+    requires { (B.qsbr ≡ false) × (opened.table.words.shared.table_id ≡ B.table) × (opened.table.words.shared.key ≡ B.sizes) }
+{
+    let (domain, mut record) = opened.named::<B, Adds>(alloc)?;
+    let polled = polls(rt, &domain, &mut record)?;
+    Ok((polled, leaves_at_last(rt, &domain, &mut record)?))
 }
 
 #[test]
 fn asks_are_answered(rt: HostRuntime) {
     let opened = Opened::new(rt.alloc(), of_slots(2)).expect(&rt, "memory");
     let answers = waits::<Brand, _>(&rt, rt.alloc(), opened).expect(&rt, "not refused");
-    assert_eq!(rt; answers, [true, true, true, true]);
+    assert_eq!(rt; answers, ([true; 2], [true; 2]));
 }
 
 /// What a quiescent-state reader is refused.
@@ -157,6 +173,21 @@ fn refused<B: Site>(reader: &mut Reader<QsbrPlan, AnyChain, B>) -> Result<[bool;
     Ok([outside, silent, gone, twice, locked, held])
 }
 
+/// What a reader is refused before it leaves, whether it leaves, and a grace period that is waited for after it.
+fn comes_and_goes<B: Site, R: Wait>(
+    rt: &R,
+    domain: &Domain<QsbrPlan, AnyChain, B, Adds>,
+    record: &mut Record<B>,
+) -> Result<([bool; 6], bool), Refusal>
+    requires { B.qsbr ≡ true }
+{
+    let mut reader = domain.register(rt, record)?;
+    let row = refused(&mut reader)?;
+    let left = domain.unregister(rt, record, reader).is_ok();
+    plain::synchronize(rt, domain, record)?;
+    Ok((row, left))
+}
+
 fn announces<B: Site, R: Wait>(
     rt: &R,
     alloc: Global,
@@ -165,11 +196,7 @@ fn announces<B: Site, R: Wait>(
     requires { (B.qsbr ≡ true) × (opened.table.words.shared.table_id ≡ B.table) × (opened.table.words.shared.key ≡ B.sizes) }
 {
     let (domain, mut record) = opened.named::<B, Adds>(alloc)?;
-    let mut reader = domain.register(rt, &mut record)?;
-    let row = refused(&mut reader)?;
-    let left = domain.unregister(rt, &mut record, reader).is_ok();
-    domain.synchronize(rt, &mut record)?;
-    Ok((row, left))
+    comes_and_goes(rt, &domain, &mut record)
 }
 
 #[test]

@@ -6,6 +6,8 @@ mod deleter;
 #[cfg(test)]
 mod domains;
 #[cfg(test)]
+mod plain;
+#[cfg(test)]
 mod publishing;
 #[cfg(test)]
 mod readings;

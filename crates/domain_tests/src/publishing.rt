@@ -5,6 +5,7 @@ ghost use Rattle.std.specs.Prelude.{◌≡◌, ◌<◌, false, true};
 ghost use Rattle.std.specs.Thread.{IsSync};
 
 use crate::deleter::Adds;
+use crate::plain;
 use domain::{Chain, Domain, LiveConfig, Opened, Owned, Reader, Record, Section, Site};
 use gp_memb::{GracePlan, MembPlan};
 use gp_qsbr::QsbrPlan;
@@ -76,14 +77,14 @@ fn pushes<P: GracePlan + Drop, B: Site, R: Wait>(
     chain: usize,
     count: u64,
 ) -> bool {
-    let Ok(mut writer) = domain.chain(record, chain) else {
+    let Ok(mut writer) = plain::chain(domain, record, chain) else {
         return false;
     };
     for number in 0..count {
-        let Ok(owned) = domain.alloc(rt, record, [number; 4]) else {
+        let Ok(owned) = plain::alloc(rt, domain, record, [number; 4]) else {
             return false;
         };
-        writer.push(record, owned);
+        plain::push(&mut writer, record, owned);
     }
     true
 }
@@ -95,11 +96,11 @@ fn cuts<P: GracePlan + Drop, B: Site>(
     chain: usize,
     count: usize,
 ) -> bool {
-    let Ok(mut writer) = domain.chain(record, chain) else {
+    let Ok(mut writer) = plain::chain(domain, record, chain) else {
         return false;
     };
     for index in 0..count {
-        if writer.cut(record, index).is_err() {
+        if plain::cut(&mut writer, record, index).is_err() {
             return false;
         }
     }
@@ -114,10 +115,10 @@ fn replaces<P: GracePlan + Drop, B: Site, R: Wait>(
     writer: &mut Chain<P, AnyChain, B, Adds>,
     word: u64,
 ) -> bool {
-    let Ok(owned) = domain.alloc(rt, record, [word; 4]) else {
+    let Ok(owned) = plain::alloc(rt, domain, record, [word; 4]) else {
         return false;
     };
-    writer.replace(record, 0, owned).is_ok()
+    plain::replace(writer, record, 0, owned).is_ok()
 }
 
 /// Pushes records to a chain, replaces every second one, and cuts one behind it after every fourth. Whether none was
@@ -128,18 +129,18 @@ fn writes<P: GracePlan + Drop, B: Site, R: Wait>(
     record: &mut Record<B>,
     chain: usize,
 ) -> bool {
-    let Ok(mut writer) = domain.chain(record, chain) else {
+    let Ok(mut writer) = plain::chain(domain, record, chain) else {
         return false;
     };
     for number in 0..PUSHES {
-        let Ok(owned) = domain.alloc(rt, record, [2 * number; 4]) else {
+        let Ok(owned) = plain::alloc(rt, domain, record, [2 * number; 4]) else {
             return false;
         };
-        writer.push(record, owned);
+        plain::push(&mut writer, record, owned);
         if number % 2 == 1 && !replaces(rt, domain, record, &mut writer, 2 * number + 1) {
             return false;
         }
-        if number % 4 == 3 && writer.cut(record, 1).is_err() {
+        if number % 4 == 3 && plain::cut(&mut writer, record, 1).is_err() {
             return false;
         }
     }
@@ -244,21 +245,21 @@ fn two_write<P: GracePlan + Drop + Send + Sync, B: Site + Send + Sync, R: Thread
     first && second
 }
 
-/// Four readers and two writers on two chains. Whether no call was refused, and each payload was whole.
-fn serves<P: GracePlan + Drop + Send + Sync, B: Site + Send + Sync, R: Threads + Wait + Sync>(
+/// Four readers and two writers on two chains. Whether each payload was whole, and no call of a writer was refused.
+fn reads_and_writes<
+    P: GracePlan + Drop + Send + Sync,
+    B: Site + Send + Sync,
+    R: Threads + Wait + Sync,
+>(
     rt: &R,
-    alloc: Global,
-    opened: Opened<P, AnyChain>,
-) -> Result<(bool, bool, bool), Refusal>
-    requires { (P.QSBR ≡ B.qsbr) × (opened.table.words.shared.table_id ≡ B.table) × (opened.table.words.shared.key ≡ B.sizes) }
+    domain: &Domain<P, AnyChain, B, Adds>,
+    readers: [Idle<P, B>; 4],
+    record: Record<B>,
+    other: Record<B>,
+) -> (bool, bool, bool)
+    requires { P.QSBR ≡ B.qsbr }
 {
-    let (domain, mut record) = opened.named::<B, Adds>(alloc)?;
-    let other = domain.split(&mut record);
-    let one = registered(rt, &domain, &mut record)?;
-    let two = registered(rt, &domain, &mut record)?;
-    let three = registered(rt, &domain, &mut record)?;
-    let four = registered(rt, &domain, &mut record)?;
-    let home = &domain;
+    let [one, two, three, four] = readers;
     let (first, (second, written)) = join(
         rt,
         move ||
@@ -274,11 +275,30 @@ fn serves<P: GracePlan + Drop + Send + Sync, B: Site + Send + Sync, R: Threads +
                 { two_read(rt, three, four) },
                 move ||
                     requires { IsSync R.row }
-                { two_write(rt, home, record, other) },
+                { two_write(rt, domain, record, other) },
             )
         },
     );
-    Ok((first, second, written))
+    (first, second, written)
+}
+
+/// The same in a domain of its own.
+fn serves<P: GracePlan + Drop + Send + Sync, B: Site + Send + Sync, R: Threads + Wait + Sync>(
+    rt: &R,
+    alloc: Global,
+    opened: Opened<P, AnyChain>,
+) -> Result<(bool, bool, bool), Refusal>
+    requires { (P.QSBR ≡ B.qsbr) × (opened.table.words.shared.table_id ≡ B.table) × (opened.table.words.shared.key ≡ B.sizes) }
+{
+    let (domain, mut record) = opened.named::<B, Adds>(alloc)?;
+    let other = domain.split(&mut record);
+    let readers = [
+        registered(rt, &domain, &mut record)?,
+        registered(rt, &domain, &mut record)?,
+        registered(rt, &domain, &mut record)?,
+        registered(rt, &domain, &mut record)?,
+    ];
+    Ok(reads_and_writes(rt, &domain, readers, record, other))
 }
 
 /// A reader walks a long chain while its writer cuts the records of odd words. Whether each walk met all that stay:
@@ -314,7 +334,7 @@ fn replaces_nothing<B: Site>(
     writer: &mut Chain<MembPlan, AnyChain, B, Adds>,
     owned: Owned<B>,
 ) -> bool {
-    match writer.replace(record, 0, owned) {
+    match plain::replace(writer, record, 0, owned) {
         Ok(_) => false,
         Err((refusal, owned)) => {
             domain.discard(record, owned);
@@ -336,62 +356,88 @@ fn finds_no_chain<B: Site>(reader: &mut Reader<MembPlan, AnyChain, B>) -> Result
     }
 }
 
-/// What is refused: a second record of one, a chain that is held, one that is not there, and an index past the end. A
-/// record that was to replace what is not there comes back.
+/// Whether a second record of one is refused. The first one is given back.
+fn refuses_a_record<B: Site, R: Wait>(
+    rt: &R,
+    domain: &Domain<MembPlan, AnyChain, B, Adds>,
+    record: &mut Record<B>,
+) -> Result<bool, Refusal> {
+    let owned = plain::alloc(rt, domain, record, [1, 2, 3, 4])?;
+    let second = plain::alloc(rt, domain, record, [5; 4]).err();
+    domain.discard(record, owned);
+    Ok(second == Some(Refusal::PoolFull))
+}
+
+/// What is refused: a chain that is held, one that is not there, and an index past the end. A record that was to
+/// replace what is not there comes back.
+fn refuses_writers<B: Site, R: Wait>(
+    rt: &R,
+    domain: &Domain<MembPlan, AnyChain, B, Adds>,
+    record: &mut Record<B>,
+) -> Result<[bool; 5], Refusal> {
+    let owned = plain::alloc(rt, domain, record, [6; 4])?;
+    let mut writer = plain::chain(domain, record, 0)?;
+    let held = matches!(plain::chain(domain, record, 0), Err(Refusal::Busy));
+    let absent = matches!(plain::chain(domain, record, 2), Err(Refusal::NoPlace));
+    let past = matches!(plain::cut(&mut writer, record, 0), Err(Refusal::NoPlace));
+    let missing = replaces_nothing(domain, record, &mut writer, owned);
+    drop(writer);
+    let free = plain::chain(domain, record, 0).is_ok();
+    Ok([held, absent, past, missing, free])
+}
+
+/// All that is refused in a domain of one record, which is free at the end, and of two chains.
 fn refuses<B: Site, R: Wait>(
     rt: &R,
     alloc: Global,
     opened: Opened<MembPlan, AnyChain>,
-) -> Result<[bool; 8], Refusal>
+) -> Result<(bool, [bool; 5], [bool; 2]), Refusal>
     requires { (B.qsbr ≡ false) × (opened.table.words.shared.table_id ≡ B.table) × (opened.table.words.shared.key ≡ B.sizes) }
 {
     let (domain, mut record) = opened.named::<B, Adds>(alloc)?;
-    let owned = domain.alloc(rt, &mut record, [1, 2, 3, 4])?;
-    let second = matches!(
-        domain.alloc(rt, &mut record, [5; 4]),
-        Err(Refusal::PoolFull)
-    );
-    domain.discard(&mut record, owned);
-    let again = domain.alloc(rt, &mut record, [6; 4])?;
-    let mut writer = domain.chain(&mut record, 0)?;
-    let held = matches!(domain.chain(&mut record, 0), Err(Refusal::Busy));
-    let absent = matches!(domain.chain(&mut record, 2), Err(Refusal::NoPlace));
-    let past = matches!(writer.cut(&mut record, 0), Err(Refusal::NoPlace));
-    let missing = replaces_nothing(&domain, &mut record, &mut writer, again);
-    let back = domain.alloc(rt, &mut record, [7; 4]).is_ok();
-    drop(writer);
-    let free = domain.chain(&mut record, 0).is_ok();
+    let second = refuses_a_record(rt, &domain, &mut record)?;
+    let writers = refuses_writers(rt, &domain, &mut record)?;
+    let back = plain::alloc(rt, &domain, &mut record, [7; 4]).is_ok();
     let mut reader = domain.register(rt, &mut record)?;
     let unread = finds_no_chain(&mut reader)?;
-    Ok([second, held, absent, past, missing, back, free, unread])
+    Ok((second, writers, [back, unread]))
 }
 
-/// What a writer and a section tell of one chain: two are pushed, the first is replaced, and the second cut.
+/// What a writer tells of a chain: two are pushed, the first is replaced, and the second cut.
+fn writes_two<B: Site, R: Wait>(
+    rt: &R,
+    domain: &Domain<QsbrPlan, AnyChain, B, Adds>,
+    record: &mut Record<B>,
+) -> Result<(usize, [Option<[u64; 4]>; 2], u64), Refusal> {
+    let one = plain::alloc(rt, domain, record, [1, 2, 3, 4])?;
+    let two = plain::alloc(rt, domain, record, [5, 6, 7, 8])?;
+    let three = plain::alloc(rt, domain, record, [9; 4])?;
+    let mut writer = plain::chain(domain, record, 1)?;
+    plain::push(&mut writer, record, one);
+    plain::push(&mut writer, record, two);
+    let last = writer.get(1);
+    let _replaced = plain::replace(&mut writer, record, 0, three).is_ok();
+    let _cut = plain::cut(&mut writer, record, 1).is_ok();
+    writer.set_note(record, 11);
+    let length = writer.len();
+    let first = writer.get(0);
+    Ok((length, [last, first], writer.note()))
+}
+
+/// What a writer and then a section tell of one chain.
 fn tells<B: Site, R: Wait>(
     rt: &R,
     alloc: Global,
     opened: Opened<QsbrPlan, AnyChain>,
-) -> Result<(usize, Option<[u64; 4]>, Option<[u64; 4]>, u64, (bool, u64)), Refusal>
+) -> Result<((usize, [Option<[u64; 4]>; 2], u64), (bool, u64)), Refusal>
     requires { (B.qsbr ≡ true) × (opened.table.words.shared.table_id ≡ B.table) × (opened.table.words.shared.key ≡ B.sizes) }
 {
     let (domain, mut record) = opened.named::<B, Adds>(alloc)?;
+    let written = writes_two(rt, &domain, &mut record)?;
     let mut reader = domain.register(rt, &mut record)?;
-    let one = domain.alloc(rt, &mut record, [1, 2, 3, 4])?;
-    let two = domain.alloc(rt, &mut record, [5, 6, 7, 8])?;
-    let three = domain.alloc(rt, &mut record, [9; 4])?;
-    let mut writer = domain.chain(&mut record, 1)?;
-    writer.push(&mut record, one);
-    writer.push(&mut record, two);
-    let last = writer.get(1);
-    let _replaced = writer.replace(&mut record, 0, three).is_ok();
-    let _cut = writer.cut(&mut record, 1).is_ok();
-    writer.set_note(&mut record, 11);
-    let length = writer.len();
-    let first = writer.get(0);
-    let note = writer.note();
     reader.online()?;
     let walked = one_walk(&mut reader, 1)?;
-    Ok((length, last, first, note, (walked.whole, walked.met)))
+    Ok((written, (walked.whole, walked.met)))
 }
 
 fn of_one_record() -> LiveConfig {
@@ -418,7 +464,7 @@ fn what_is_not_there_is_refused(rt: HostRuntime) {
         &rt, "memory",
     );
     let refused = refuses::<Brand, _>(&rt, rt.alloc(), opened).expect(&rt, "not refused");
-    assert_eq!(rt; refused, [true; 8]);
+    assert_eq!(rt; refused, (true, [true; 5], [true; 2]));
 }
 
 #[test]
@@ -427,7 +473,10 @@ fn a_chain_is_written_and_read(rt: HostRuntime) {
         &rt, "memory",
     );
     let told = tells::<Brand, _>(&rt, rt.alloc(), opened).expect(&rt, "not refused");
-    assert_eq!(rt; told, (1, Some([1, 2, 3, 4]), Some([9; 4]), 11, (true, 1)));
+    assert_eq!(rt;
+        told,
+        ((1, [Some([1, 2, 3, 4]), Some([9; 4])], 11), (true, 1))
+    );
 }
 
 #[test]

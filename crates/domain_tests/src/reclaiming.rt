@@ -3,6 +3,7 @@
 ghost use Rattle.std.specs.Prelude.{◌≡◌, false, true};
 
 use crate::deleter::Adds;
+use crate::plain;
 use crossbeam_utils::Backoff;
 use domain::{
     Callback, Deleter, Domain, Finished, LiveConfig, Opened, Owned, Record, Ripe, Site, Stop,
@@ -35,10 +36,10 @@ fn cut_one<B: Site, R: Wait>(
     chain: usize,
     word: u64,
 ) -> Result<Unlinked<B>, Refusal> {
-    let owned = domain.alloc(rt, record, [word, 0, 0, 0])?;
-    let mut writer = domain.chain(record, chain)?;
-    writer.push(record, owned);
-    writer.cut(record, 0)
+    let owned = plain::alloc(rt, domain, record, [word, 0, 0, 0])?;
+    let mut writer = plain::chain(domain, record, chain)?;
+    plain::push(&mut writer, record, owned);
+    plain::cut(&mut writer, record, 0)
 }
 
 /// Pushes records of these words on chain 0.
@@ -48,10 +49,10 @@ fn pushes<B: Site, R: Wait>(
     record: &mut Record<B>,
     words: [u64; 3],
 ) -> Result<(), Refusal> {
-    let mut writer = domain.chain(record, 0)?;
+    let mut writer = plain::chain(domain, record, 0)?;
     for word in words {
-        let owned = domain.alloc(rt, record, [word, 0, 0, 0])?;
-        writer.push(record, owned);
+        let owned = plain::alloc(rt, domain, record, [word, 0, 0, 0])?;
+        plain::push(&mut writer, record, owned);
     }
     Ok(())
 }
@@ -63,16 +64,17 @@ fn three<B: Site, R: Wait>(
     record: &mut Record<B>,
 ) -> Result<[u64; 3], Refusal> {
     pushes(rt, domain, record, [1, 2, 3])?;
-    let owned = domain.alloc(rt, record, [4, 0, 0, 0])?;
-    let mut writer = domain.chain(record, 0)?;
-    let Ok(replaced) = domain.replace_retire(rt, record, &mut writer, 0, owned, Adds(1)) else {
+    let owned = plain::alloc(rt, domain, record, [4, 0, 0, 0])?;
+    let mut writer = plain::chain(domain, record, 0)?;
+    let Ok(replaced) = plain::replace_retire(rt, domain, record, &mut writer, 0, owned, Adds(1))
+    else {
         return Err(Refusal::Memory);
     };
-    let unlinked = writer.cut(record, 0)?;
+    let unlinked = plain::cut(&mut writer, record, 0)?;
     let Ok(alone) = writer.domain().retire(rt, record, unlinked, Adds(2)) else {
         return Err(Refusal::Memory);
     };
-    let unlinked = writer.cut(record, 0)?;
+    let unlinked = plain::cut(&mut writer, record, 0)?;
     let Ok(last) = domain.rcu_retire(rt, record, unlinked, Adds(3)) else {
         return Err(Refusal::Memory);
     };
@@ -104,14 +106,14 @@ fn past_the_end<B: Site, R: Wait>(
     domain: &Domain<MembPlan, AnyChain, B, Adds>,
     record: &mut Record<B>,
 ) -> Result<bool, Refusal> {
-    let pushed = domain.alloc(rt, record, [1; 4])?;
-    let owned = domain.alloc(rt, record, [2; 4])?;
-    let mut writer = domain.chain(record, 0)?;
-    writer.push(record, pushed);
-    let Err((cut, callback)) = domain.cut_retire(rt, record, &mut writer, 1, Adds(5)) else {
+    let pushed = plain::alloc(rt, domain, record, [1; 4])?;
+    let owned = plain::alloc(rt, domain, record, [2; 4])?;
+    let mut writer = plain::chain(domain, record, 0)?;
+    plain::push(&mut writer, record, pushed);
+    let Err((cut, callback)) = plain::cut_retire(rt, domain, record, &mut writer, 1, Adds(5)) else {
         return Ok(false);
     };
-    let again = domain.replace_retire(rt, record, &mut writer, 1, owned, Adds(6));
+    let again = plain::replace_retire(rt, domain, record, &mut writer, 1, owned, Adds(6));
     let Err((replaced, owned, other)) = again else {
         return Ok(false);
     };
@@ -127,16 +129,17 @@ fn once_closed<B: Site, R: Wait>(
     record: &mut Record<B>,
 ) -> Result<bool, Refusal> {
     let unlinked = cut_one(rt, domain, record, 1, 7)?;
-    let owned = domain.alloc(rt, record, [2; 4])?;
-    domain.close(rt, record);
-    let mut writer = domain.chain(record, 0)?;
-    let Err((alone, mut unlinked, first)) = domain.retire(rt, record, unlinked, Adds(7)) else {
+    let owned = plain::alloc(rt, domain, record, [2; 4])?;
+    plain::close(rt, domain, record);
+    let mut writer = plain::chain(domain, record, 0)?;
+    let Err((alone, mut unlinked, first)) = plain::retire(rt, domain, record, unlinked, Adds(7))
+    else {
         return Ok(false);
     };
-    let Err((cut, second)) = domain.cut_retire(rt, record, &mut writer, 0, Adds(8)) else {
+    let Err((cut, second)) = plain::cut_retire(rt, domain, record, &mut writer, 0, Adds(8)) else {
         return Ok(false);
     };
-    let again = domain.replace_retire(rt, record, &mut writer, 0, owned, Adds(9));
+    let again = plain::replace_retire(rt, domain, record, &mut writer, 0, owned, Adds(9));
     let Err((replaced, owned, third)) = again else {
         return Ok(false);
     };
@@ -175,18 +178,22 @@ fn bars<B: Site, R: Wait>(
     requires { (B.qsbr ≡ false) × (opened.table.words.shared.table_id ≡ B.table) × (opened.table.words.shared.key ≡ B.sizes) }
 {
     let (domain, mut record) = opened.named::<B, Adds>(alloc)?;
-    domain.barrier(rt, &mut record);
+    plain::barrier(rt, &domain, &mut record);
     domain.rcu_barrier(rt, &mut record);
     domain.rcu_synchronize(rt, &mut record)?;
-    let before = domain.barrier_start(&mut record);
-    let first = domain.barrier_done(&mut record, &before);
+    let before = plain::barrier_start(&domain, &mut record);
+    let first = plain::barrier_done(&domain, &mut record, &before);
     let unlinked = cut_one(rt, &domain, &mut record, 1, 7)?;
-    let Ok(_) = domain.retire(rt, &mut record, unlinked, Adds(1)) else {
+    let Ok(_) = plain::retire(rt, &domain, &mut record, unlinked, Adds(1)) else {
         return Err(Refusal::Memory);
     };
-    let after = domain.barrier_start(&mut record);
-    let second = domain.barrier_done(&mut record, &after);
-    Ok([first, second, domain.barrier_done(&mut record, &before)])
+    let after = plain::barrier_start(&domain, &mut record);
+    let second = plain::barrier_done(&domain, &mut record, &after);
+    Ok([
+        first,
+        second,
+        plain::barrier_done(&domain, &mut record, &before),
+    ])
 }
 
 #[test]
@@ -215,14 +222,14 @@ fn reclaims<B: Site, R: Wait>(
     record: &mut Record<B>,
     callback: Callback,
 ) -> Result<(u64, (usize, Option<Finished>, usize, Stop)), Refusal> {
-    let owned = domain.alloc(rt, record, [5, 0, 0, 0])?;
-    let mut writer = domain.chain(record, 0)?;
-    writer.push(record, owned);
-    let Ok(ticket) = domain.cut_retire(rt, record, &mut writer, 0, callback) else {
+    let owned = plain::alloc(rt, domain, record, [5, 0, 0, 0])?;
+    let mut writer = plain::chain(domain, record, 0)?;
+    plain::push(&mut writer, record, owned);
+    let Ok(ticket) = plain::cut_retire(rt, domain, record, &mut writer, 0, callback) else {
         return Err(Refusal::Memory);
     };
-    domain.close(rt, record);
-    let end = domain.run_worker(rt, alloc, record, 0)?;
+    plain::close(rt, domain, record);
+    let end = plain::run_worker(rt, alloc, domain, record, 0)?;
     Ok((ticket.0, told(&end)))
 }
 
@@ -262,13 +269,13 @@ fn retires_and_closes<B: Site, R: Wait>(
     record: &mut Record<B>,
     words: [u64; 4],
 ) -> Result<u64, Refusal> {
-    let owned = domain.alloc(rt, record, words)?;
-    let mut writer = domain.chain(record, 0)?;
-    writer.push(record, owned);
-    let Ok(ticket) = domain.cut_retire(rt, record, &mut writer, 0, Adds(0)) else {
+    let owned = plain::alloc(rt, domain, record, words)?;
+    let mut writer = plain::chain(domain, record, 0)?;
+    plain::push(&mut writer, record, owned);
+    let Ok(ticket) = plain::cut_retire(rt, domain, record, &mut writer, 0, Adds(0)) else {
         return Err(Refusal::Memory);
     };
-    domain.close(rt, record);
+    plain::close(rt, domain, record);
     Ok(ticket.0)
 }
 
@@ -279,7 +286,8 @@ fn refuses_the_second<B: Site, R: Wait>(
     record: &mut Record<B>,
 ) -> Result<bool, Refusal> {
     let unlinked = cut_one(rt, domain, record, 1, 7)?;
-    let Err((refusal, mut unlinked, back)) = domain.retire(rt, record, unlinked, Adds(8)) else {
+    let Err((refusal, mut unlinked, back)) = plain::retire(rt, domain, record, unlinked, Adds(8))
+    else {
         return Ok(false);
     };
     Ok(refusal == Refusal::Closed && domain.object(&mut unlinked).0 == 2 && back.0 == 8)
@@ -292,10 +300,10 @@ fn refuses_past_one<B: Site, R: Wait>(
     domain: &Domain<MembPlan, AnyChain, B, Adds>,
     record: &mut Record<B>,
 ) -> Result<bool, Refusal> {
-    let owned = domain.alloc(rt, record, [9, 0, 0, 0])?;
-    let mut writer = domain.chain(record, 0)?;
-    writer.push(record, owned);
-    let Err((refusal, back)) = domain.cut_retire(rt, record, &mut writer, 1, Adds(9)) else {
+    let owned = plain::alloc(rt, domain, record, [9, 0, 0, 0])?;
+    let mut writer = plain::chain(domain, record, 0)?;
+    plain::push(&mut writer, record, owned);
+    let Err((refusal, back)) = plain::cut_retire(rt, domain, record, &mut writer, 1, Adds(9)) else {
         return Ok(false);
     };
     Ok(refusal == Refusal::NoPlace && back.0 == 9 && writer.len() == 1)
@@ -313,8 +321,8 @@ fn one_queue<B: Site, R: Wait>(
     let (domain, mut record) = opened.named::<B, Adds>(alloc)?;
     let ticket = retires_and_closes(rt, &domain, &mut record, [5, 0, 0, 0])?;
     let closed = refuses_the_second(rt, &domain, &mut record)?;
-    let end = domain.run_worker(rt, alloc, &mut record, 0)?;
-    let absent = domain.run_worker(rt, alloc, &mut record, 1);
+    let end = plain::run_worker(rt, alloc, &domain, &mut record, 0)?;
+    let absent = plain::run_worker(rt, alloc, &domain, &mut record, 1);
     let past = refuses_past_one(rt, &domain, &mut record)?;
     let nobody = matches!(absent, Err(Refusal::NoActor));
     Ok((ticket, [closed, nobody, past], told(&end)))
@@ -341,10 +349,10 @@ fn ends<B: Site, R: Wait>(
     requires { (B.qsbr ≡ false) × (opened.table.words.shared.table_id ≡ B.table) × (opened.table.words.shared.key ≡ B.sizes) }
 {
     let (domain, mut record) = opened.named::<B, Adds>(alloc)?;
-    let absent = domain.run_worker(rt, alloc, &mut record, 2);
-    domain.close(rt, &mut record);
-    let once = domain.run_worker(rt, alloc, &mut record, 1)?;
-    let twice = domain.run_worker(rt, alloc, &mut record, 1)?;
+    let absent = plain::run_worker(rt, alloc, &domain, &mut record, 2);
+    plain::close(rt, &domain, &mut record);
+    let once = plain::run_worker(rt, alloc, &domain, &mut record, 1)?;
+    let twice = plain::run_worker(rt, alloc, &domain, &mut record, 1)?;
     Ok([
         matches!(absent, Err(Refusal::NoActor)),
         once.stop == Stop::Closed,
@@ -368,7 +376,7 @@ fn when_free<P: GracePlan + Drop, B: Site, R: Wait>(
 ) -> Option<Owned<B>> {
     let backoff = Backoff::new();
     for _ in 0..1_000_000_000u64 {
-        match domain.alloc(rt, record, [word, 0, 0, 0]) {
+        match plain::alloc(rt, domain, record, [word, 0, 0, 0]) {
             Ok(owned) => return Some(owned),
             Err(Refusal::PoolFull) => backoff.snooze(),
             Err(_) => return None,
@@ -385,24 +393,21 @@ fn updates<P: GracePlan + Drop, B: Site, R: Wait>(
     record: &mut Record<B>,
     count: u64,
 ) -> u64 {
-    let Ok(mut writer) = domain.chain(record, 0) else {
+    let Ok(mut writer) = plain::chain(domain, record, 0) else {
         return 0;
     };
     let mut retired = 0u64;
     for number in 0..count {
         let word = number + 1;
         if let Some(owned) = when_free(rt, domain, record, word) {
-            writer.push(record, owned);
-            if domain
-                .cut_retire(rt, record, &mut writer, 0, Adds(0))
-                .is_ok()
-            {
+            plain::push(&mut writer, record, owned);
+            if plain::cut_retire(rt, domain, record, &mut writer, 0, Adds(0)).is_ok() {
                 retired = word;
             }
         }
     }
-    domain.barrier(rt, record);
-    domain.close(rt, record);
+    plain::barrier(rt, domain, record);
+    plain::close(rt, domain, record);
     retired
 }
 
@@ -413,7 +418,7 @@ fn works<P: GracePlan + Drop, B: Site, R: Wait>(
     domain: &Domain<P, AnyChain, B, Adds>,
     record: &mut Record<B>,
 ) -> Result<(u64, Stop), Refusal> {
-    let end = domain.run_worker(rt, alloc, record, 0)?;
+    let end = plain::run_worker(rt, alloc, domain, record, 0)?;
     let mut good = 0u64;
     for entry in end.finished.iter() {
         if entry.ticket.0 == entry.code && entry.code == good.wrapping_add(1) {
@@ -471,12 +476,12 @@ fn second_worker<B: Site, R: Wait>(
     record: &mut Record<B>,
 ) -> Result<Option<Refusal>, Refusal> {
     let unlinked = cut_one(rt, domain, record, 0, 1)?;
-    if domain.retire(rt, record, unlinked, Adds(0)).is_err() {
+    if plain::retire(rt, domain, record, unlinked, Adds(0)).is_err() {
         return Err(Refusal::Memory);
     }
-    domain.barrier(rt, record);
-    let refused = domain.run_worker(rt, alloc, record, 0).err();
-    domain.close(rt, record);
+    plain::barrier(rt, domain, record);
+    let refused = plain::run_worker(rt, alloc, domain, record, 0).err();
+    plain::close(rt, domain, record);
     Ok(refused)
 }
 

@@ -3,6 +3,7 @@
 ghost use Rattle.std.specs.Prelude.{◌≡◌, false, true};
 
 use crate::deleter::Adds;
+use crate::plain;
 use domain::{Counts, Deleter, Domain, LiveConfig, Opened, Reader, Record, Ripe, Site};
 use gp_memb::{GracePlan, MembPlan};
 use gp_qsbr::QsbrPlan;
@@ -39,13 +40,13 @@ fn retires_two<B: Site, R: Wait>(
     domain: &Domain<MembPlan, AnyChain, B, Adds>,
     record: &mut Record<B>,
 ) -> Result<(), Refusal> {
-    let mut writer = domain.chain(record, 1)?;
+    let mut writer = plain::chain(domain, record, 1)?;
     for word in 1..4 {
-        let owned = domain.alloc(rt, record, [word; 4])?;
-        writer.push(record, owned);
+        let owned = plain::alloc(rt, domain, record, [word; 4])?;
+        plain::push(&mut writer, record, owned);
     }
-    let first = domain.cut_retire(rt, record, &mut writer, 0, Adds(1));
-    let second = domain.cut_retire(rt, record, &mut writer, 0, Adds(2));
+    let first = plain::cut_retire(rt, domain, record, &mut writer, 0, Adds(1));
+    let second = plain::cut_retire(rt, domain, record, &mut writer, 0, Adds(2));
     if first.is_err() || second.is_err() {
         return Err(Refusal::Memory);
     }
@@ -61,14 +62,14 @@ fn counts<B: Site, R: Wait>(
     requires { (B.qsbr ≡ false) × (opened.table.words.shared.table_id ≡ B.table) × (opened.table.words.shared.key ≡ B.sizes) }
 {
     let (domain, mut record) = opened.named::<B, Adds>(alloc)?;
-    let new = domain.counts(&mut record);
+    let new = plain::counts(&domain, &mut record);
     retires_two(rt, &domain, &mut record)?;
-    let retired = domain.counts(&mut record);
-    domain.synchronize(rt, &mut record)?;
-    let waited = domain.counts(&mut record);
-    domain.close(rt, &mut record);
-    domain.run_worker(rt, alloc, &mut record, 1)?;
-    let run = domain.counts(&mut record);
+    let retired = plain::counts(&domain, &mut record);
+    plain::synchronize(rt, &domain, &mut record)?;
+    let waited = plain::counts(&domain, &mut record);
+    plain::close(rt, &domain, &mut record);
+    plain::run_worker(rt, alloc, &domain, &mut record, 1)?;
+    let run = plain::counts(&domain, &mut record);
     Ok([new, retired, waited, run])
 }
 
@@ -115,16 +116,13 @@ fn retires<B: Site, R: Wait, D: Deleter>(
     record: &mut Record<B>,
     callback: D,
 ) -> Result<(), Refusal> {
-    let mut writer = domain.chain(record, 0)?;
-    let owned = domain.alloc(rt, record, [1; 4])?;
-    writer.push(record, owned);
-    if domain
-        .cut_retire(rt, record, &mut writer, 0, callback)
-        .is_err()
-    {
+    let mut writer = plain::chain(domain, record, 0)?;
+    let owned = plain::alloc(rt, domain, record, [1; 4])?;
+    plain::push(&mut writer, record, owned);
+    if plain::cut_retire(rt, domain, record, &mut writer, 0, callback).is_err() {
         return Err(Refusal::Memory);
     }
-    domain.close(rt, record);
+    plain::close(rt, domain, record);
     Ok(())
 }
 
@@ -135,8 +133,8 @@ fn takes_each_lock<B: Site, R: Wait, D: Deleter>(
     domain: &Domain<MembPlan, AnyChain, B, D>,
     record: &mut Record<B>,
 ) -> Result<(), Refusal> {
-    domain.close(rt, record);
-    domain.synchronize(rt, record)?;
+    plain::close(rt, domain, record);
+    plain::synchronize(rt, domain, record)?;
     let _reader = domain.register(rt, record)?;
     Ok(())
 }
@@ -153,12 +151,10 @@ fn counts_within<B: Site + Send + Sync, R: Threads + Wait + Sync, D: Deleter + S
     let mut other = domain.split(record);
     let (worked, counts) = join(
         rt,
-        move || domain
-            .run_worker(rt, alloc, record, 0)
-            .map(|end| end.finished.len()),
+        move || plain::run_worker(rt, alloc, domain, record, 0).map(|end| end.finished.len()),
         move || {
             until_raised(entered);
-            let counts = domain.counts(&mut other);
+            let counts = plain::counts(domain, &mut other);
             let free = takes_each_lock(rt, domain, &mut other);
             seen.store(1, Ordering::SeqCst);
             match free {
@@ -243,7 +239,7 @@ fn looks<P: GracePlan + Drop, B: Site, R: Wait>(
     requires { P.QSBR ≡ B.qsbr }
 {
     for _ in rt.forever() {
-        let slots = domain.stalled(alloc, record)?;
+        let slots = plain::stalled(alloc, domain, record)?;
         if slots.len() > 0 {
             leaves(&mut reader)?;
             return Ok(slots);
@@ -270,7 +266,7 @@ fn while_one_waits<
     let mut other = domain.split(record);
     let (waited, found) = join(
         rt,
-        move || domain.synchronize(rt, record),
+        move || plain::synchronize(rt, domain, record),
         move ||
             requires { P.QSBR ≡ B.qsbr }
         { looks(rt, alloc, domain, &mut other, reader) },
@@ -292,9 +288,9 @@ fn sees<P: GracePlan + Drop + Send + Sync, B: Site + Send + Sync, R: Threads + W
     let mut second = domain.register(rt, &mut record)?;
     let _third = domain.register(rt, &mut record)?;
     stands(&mut second)?;
-    let before = domain.stalled(alloc, &mut record)?.len();
+    let before = plain::stalled(alloc, &domain, &mut record)?.len();
     let found = while_one_waits(rt, alloc, &domain, &mut record, second)?;
-    let after = domain.stalled(alloc, &mut record)?.len();
+    let after = plain::stalled(alloc, &domain, &mut record)?.len();
     Ok((before, found, after))
 }
 

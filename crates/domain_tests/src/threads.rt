@@ -6,6 +6,7 @@ ghost use Rattle.std.specs.Prelude.{◌≡◌, false};
 ghost use Rattle.std.specs.Thread.{IsSync};
 
 use crate::deleter::Adds;
+use crate::plain;
 use domain::{Chain, Domain, LiveConfig, Opened, Owned, Reader, Record, Site};
 use gp_memb::{GracePlan, MembPlan};
 use gp_qsbr::QsbrPlan;
@@ -149,9 +150,9 @@ fn waits_once<P: GracePlan + Drop, B: Site, R: Wait>(
     all: &[Numbers],
 ) -> Result<bool, Refusal> {
     let found = all_begun(all);
-    let cookie = domain.start_poll(record)?;
-    domain.synchronize(rt, record)?;
-    Ok(domain.poll(record, &cookie) && have_ended(all, &found))
+    let cookie = plain::start_poll(domain, record)?;
+    plain::synchronize(rt, domain, record)?;
+    Ok(plain::poll(domain, record, &cookie) && have_ended(all, &found))
 }
 
 /// Whether a grace period that was polled for saw the sections end. Where none ends soon, it waits for one.
@@ -162,15 +163,15 @@ fn polls_once<P: GracePlan + Drop, B: Site, R: Wait>(
     all: &[Numbers],
 ) -> Result<bool, Refusal> {
     let found = all_begun(all);
-    let cookie = domain.start_poll(record)?;
+    let cookie = plain::start_poll(domain, record)?;
     for _ in 0..1000 {
-        if domain.poll(record, &cookie) {
+        if plain::poll(domain, record, &cookie) {
             return Ok(have_ended(all, &found));
         }
         thread::yield_now();
     }
-    domain.synchronize(rt, record)?;
-    Ok(domain.poll(record, &cookie) && have_ended(all, &found))
+    plain::synchronize(rt, domain, record)?;
+    Ok(plain::poll(domain, record, &cookie) && have_ended(all, &found))
 }
 
 /// Waits and polls in turn. Whether each saw the sections end.
@@ -212,22 +213,22 @@ fn two_wait<P: GracePlan + Drop + Send + Sync, B: Site + Send + Sync, R: Threads
 }
 
 /// Four readers and two who wait. Whether no section was refused, and each wait saw the sections end.
-fn serves<P: GracePlan + Drop + Send + Sync, B: Site + Send + Sync, R: Threads + Wait + Sync>(
+fn reads_and_waits<
+    P: GracePlan + Drop + Send + Sync,
+    B: Site + Send + Sync,
+    R: Threads + Wait + Sync,
+>(
     rt: &R,
-    alloc: Global,
-    opened: Opened<P, AnyChain>,
-) -> Result<(bool, bool, bool), Refusal>
-    requires { (P.QSBR ≡ B.qsbr) × (opened.table.words.shared.table_id ≡ B.table) × (opened.table.words.shared.key ≡ B.sizes) }
+    domain: &Domain<P, AnyChain, B, Adds>,
+    readers: [Idle<P, B>; 4],
+    record: Record<B>,
+    other: Record<B>,
+) -> (bool, bool, bool)
+    requires { P.QSBR ≡ B.qsbr }
 {
-    let (domain, mut record) = opened.named::<B, Adds>(alloc)?;
-    let other = domain.split(&mut record);
-    let one = registered(rt, &domain, &mut record)?;
-    let two = registered(rt, &domain, &mut record)?;
-    let three = registered(rt, &domain, &mut record)?;
-    let four = registered(rt, &domain, &mut record)?;
+    let [one, two, three, four] = readers;
     let numbers = [no_sections(), no_sections(), no_sections(), no_sections()];
     let all = numbers.as_slice();
-    let home = &domain;
     let (first, (second, waited)) = join(
         rt,
         move ||
@@ -243,11 +244,30 @@ fn serves<P: GracePlan + Drop + Send + Sync, B: Site + Send + Sync, R: Threads +
                 { two_read(rt, three, four, all) },
                 move ||
                     requires { IsSync R.row }
-                { two_wait(rt, home, record, other, all) },
+                { two_wait(rt, domain, record, other, all) },
             )
         },
     );
-    Ok((first, second, waited))
+    (first, second, waited)
+}
+
+/// The same in a domain of its own.
+fn serves<P: GracePlan + Drop + Send + Sync, B: Site + Send + Sync, R: Threads + Wait + Sync>(
+    rt: &R,
+    alloc: Global,
+    opened: Opened<P, AnyChain>,
+) -> Result<(bool, bool, bool), Refusal>
+    requires { (P.QSBR ≡ B.qsbr) × (opened.table.words.shared.table_id ≡ B.table) × (opened.table.words.shared.key ≡ B.sizes) }
+{
+    let (domain, mut record) = opened.named::<B, Adds>(alloc)?;
+    let other = domain.split(&mut record);
+    let readers = [
+        registered(rt, &domain, &mut record)?,
+        registered(rt, &domain, &mut record)?,
+        registered(rt, &domain, &mut record)?,
+        registered(rt, &domain, &mut record)?,
+    ];
+    Ok(reads_and_waits(rt, &domain, readers, record, other))
 }
 
 /// Sections of a reader that no table of numbers is kept of. Whether none was refused.
@@ -316,10 +336,10 @@ fn moves_a_writer<
 {
     let (domain, mut record) = opened.named::<B, Adds>(alloc)?;
     let other = domain.split(&mut record);
-    let owned = domain.alloc(rt, &mut record, [3, 5, 7, 11])?;
-    let chain = domain.chain(&mut record, 0)?;
+    let owned = plain::alloc(rt, &domain, &mut record, [3, 5, 7, 11])?;
+    let chain = plain::chain(&domain, &mut record, 0)?;
     let (first, ()) = join(rt, move || pushes(chain, other, owned), || ());
-    let next = domain.chain(&mut record, 0)?;
+    let next = plain::chain(&domain, &mut record, 0)?;
     Ok((first, next.len()))
 }
 

@@ -5,7 +5,7 @@ use std::fmt::Write;
 use world::{Answer, StepError};
 
 /// What a step answered, shown as a replay prints it, without its line feed.
-#[derive(Clone, Copy, Debug, Drop)]
+#[derive(Clone, Copy, Drop)]
 pub struct AnswerText(pub Result<Answer, StepError>);
 
 impl fmt::Display for AnswerText {

@@ -131,7 +131,7 @@ pub enum Finding {
 }
 
 /// What was refused: a call, or a step of an operation, which answered this when it was made again.
-#[derive(Clone, Copy, Debug, Drop)]
+#[derive(Clone, Copy, Drop)]
 enum Refused {
     Call(Call),
     Step(Operation, AnswerText),
@@ -147,7 +147,7 @@ impl fmt::Display for Refused {
 }
 
 /// How many refusals calls answered, and what answered the last one.
-#[derive(Clone, Copy, Debug, Drop)]
+#[derive(Clone, Copy, Drop)]
 pub struct Ledger {
     refusals: u32,
     last: Option<Refused>,

@@ -13,7 +13,7 @@ pub const ACTORS: [Actor; 5] = [
 ];
 
 /// An operation of an actor: the line that began it.
-#[derive(Clone, Copy, Debug, Drop)]
+#[derive(Clone, Copy, Drop)]
 pub struct Operation(Line);
 
 /// Writes who makes it, and the word of its verb in a schedule.
@@ -85,7 +85,7 @@ fn goes_on(line: Line) -> bool {
 }
 
 /// The last line with a verb of each actor, if it has made one.
-#[derive(Clone, Copy, Debug, Drop)]
+#[derive(Clone, Copy, Drop)]
 pub struct Begun([Option<Line>; 5]);
 
 impl Begun {

@@ -14,7 +14,7 @@ use std::sync::Wait;
 use world::Flavour;
 
 /// Calls that are made one after the other.
-#[derive(Clone, Copy, Debug, PartialEq, Eq, Drop)]
+#[derive(Clone, Copy, PartialEq, Eq, Drop)]
 pub enum Scenario {
     /// Worlds are made.
     New,

@@ -1,5 +1,5 @@
-//! Calls of lists and tables without what their contracts tell: a test proves no more than that its calls are safe, and
-//! each clause that it hears costs time.
+//! Calls of lists, tables and domains without what their contracts tell: a test proves no more than that its calls are
+//! safe, and each clause that it hears costs time.
 
 use crate::deleter::Adds;
 use domain::{Domain, Record, Site, Ticket};

@@ -8,6 +8,8 @@ mod grace_periods;
 #[cfg(test)]
 mod keyed;
 #[cfg(test)]
+mod plain;
+#[cfg(test)]
 mod queues;
 #[cfg(test)]
 mod readers;

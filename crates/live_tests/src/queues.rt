@@ -5,6 +5,7 @@
 ghost use Rattle.std.specs.Prelude.{◌≡◌, []};
 ghost use Rattle.live_rule.specs.Views.{first_view};
 
+use crate::plain;
 use callback_queue::Item;
 use gp_memb::{GracePlan, MembPlan};
 use gp_qsbr::QsbrPlan;
@@ -15,7 +16,7 @@ use live_words::{
     AnyChain, LiveSeat, LiveTable, end_work, free_work, hold_work, load_closed, load_finished,
     load_queued,
 };
-use live_write::{Chain, Owned, Unlinked, alloc};
+use live_write::Unlinked;
 use poll_cookie::cookie_of;
 use rcu_model::{ObjectId, Refusal};
 use std::alloc::Global;
@@ -31,10 +32,10 @@ fn cut_one<P: GracePlan, B: Site, R: Wait>(
 ) -> Result<Unlinked<B>, Refusal>
     requires { (table.now.words.shared.table_id ≡ B.table) × (table.now.words.shared.key ≡ B.sizes) }
 {
-    let mut chain: Chain<P, AnyChain, B, _> = Chain::hold(table, table, record, 0)?;
-    let owned: Owned<B> = alloc(rt, table, record, words)?;
-    chain.push(record, owned);
-    chain.cut(record, 0)
+    let mut chain = plain::hold(table, record, 0)?;
+    let owned = plain::alloc(rt, table, record, words)?;
+    plain::push(&mut chain, record, owned);
+    plain::cut(&mut chain, record, 0)
 }
 
 /// Whether a barrier that begins now is passed at once.
@@ -62,17 +63,44 @@ fn retires<P: GracePlan, B: Site, R: Wait>(
     let mut record: Record<B> = Record::new(root);
     let first: Unlinked<B> = cut_one(rt, table, &mut record, [5, 0, 0, 0])?;
     let before = is_passed(table, &mut record);
-    let Ok(ticket) = items.retire(table, &mut record, first, ObjectId(7)) else {
+    let Ok(ticket) = plain::retire(&mut items, table, &mut record, first, ObjectId(7)) else {
         return Err(Refusal::Memory);
     };
     let after = is_passed(table, &mut record);
     let second: Unlinked<B> = cut_one(rt, table, &mut record, [6, 0, 0, 0])?;
     items.close(table, &mut record);
-    let Err((why, _second, callback)) = items.retire(table, &mut record, second, ObjectId(9)) else {
+    let Err((why, _second, callback)) = plain::retire(
+        &mut items,
+        table,
+        &mut record,
+        second,
+        ObjectId(9),
+    ) else {
         return Err(Refusal::Memory);
     };
     let back = matches!(why, Refusal::Closed) && callback.0 == 9;
     Ok((ticket.0, [before, after], back))
+}
+
+/// Two objects are cut and retired, and 7 and 9 are to be called.
+fn retires_two<P: GracePlan, B: Site, R: Wait>(
+    rt: &R,
+    table: &LiveTable<P, AnyChain>,
+    items: &mut Items<B, ObjectId>,
+    record: &mut Record<B>,
+) -> Result<(), Refusal>
+    requires { (table.now.words.shared.table_id ≡ B.table) × (table.now.words.shared.key ≡ B.sizes) }
+    ensures { items.new.2 ≡ items.old.2 }
+{
+    let first = cut_one(rt, table, record, [5, 0, 0, 0])?;
+    let Ok(_ticket) = plain::retire(items, table, record, first, ObjectId(7)) else {
+        return Err(Refusal::Memory);
+    };
+    let second = cut_one(rt, table, record, [6, 0, 0, 0])?;
+    let Ok(_ticket) = plain::retire(items, table, record, second, ObjectId(9)) else {
+        return Err(Refusal::Memory);
+    };
+    Ok(())
 }
 
 /// How many tickets were given as a batch of two was sealed, and the objects of the items that were taken out once
@@ -89,14 +117,7 @@ fn batches<P: GracePlan, B: Site, R: Wait>(
     let queue = table.cut_spare_queue(&mut root);
     let mut items: Items<B, ObjectId> = Items::new(memory, queue, 0);
     let mut record: Record<B> = Record::new(root);
-    let first: Unlinked<B> = cut_one(rt, table, &mut record, [5, 0, 0, 0])?;
-    let Ok(_ticket) = items.retire(table, &mut record, first, ObjectId(7)) else {
-        return Err(Refusal::Memory);
-    };
-    let second: Unlinked<B> = cut_one(rt, table, &mut record, [6, 0, 0, 0])?;
-    let Ok(_ticket) = items.retire(table, &mut record, second, ObjectId(9)) else {
-        return Err(Refusal::Memory);
-    };
+    retires_two(rt, table, &mut items, &mut record)?;
     let mut worker = record.tell(table);
     let mut list: Vec<u64> = Vec::new(memory);
     let mut batch: Vec<Item<Job<B, ObjectId>>> = Vec::new(memory);
@@ -131,14 +152,7 @@ fn takes_back<P: GracePlan, B: Site, R: Wait>(
     let queue = table.cut_spare_queue(&mut root);
     let mut items: Items<B, ObjectId> = Items::new(memory, queue, 0);
     let mut record: Record<B> = Record::new(root);
-    let first: Unlinked<B> = cut_one(rt, table, &mut record, [5, 0, 0, 0])?;
-    let Ok(_ticket) = items.retire(table, &mut record, first, ObjectId(7)) else {
-        return Err(Refusal::Memory);
-    };
-    let second: Unlinked<B> = cut_one(rt, table, &mut record, [6, 0, 0, 0])?;
-    let Ok(_ticket) = items.retire(table, &mut record, second, ObjectId(9)) else {
-        return Err(Refusal::Memory);
-    };
+    retires_two(rt, table, &mut items, &mut record)?;
     let mut worker = record.tell(table);
     let mut list: Vec<u64> = Vec::new(memory);
     let mut left: Vec<Item<Job<B, ObjectId>>> = Vec::new(memory);

@@ -4,11 +4,12 @@
 ghost use Rattle.std.specs.Prelude.{◌≡◌, ◌<◌, []};
 ghost use Rattle.std.specs.Thread.{IsSync};
 
+use crate::plain;
 use gp_memb::{GracePlan, MembPlan};
 use gp_qsbr::QsbrPlan;
 use live_read::{Record, Site};
 use live_words::{AnyChain, LiveSeat, LiveTable};
-use live_write::{Owned, alloc, discard};
+use live_write::discard;
 use rcu_model::Refusal;
 use std::alloc::Global;
 use std::marker::Brand;
@@ -43,14 +44,14 @@ fn allocates_twice<P: GracePlan, B: Site, R: Wait>(
     requires sizes { (table.now.slots ≡ 1) × (table.now.chains ≡ 0) × (table.now.queues ≡ 0) × (table.now.pool ≡ 1) }
 {
     let mut record: Record<B> = Record::new(root);
-    let first: Owned<B> = alloc(rt, table, &mut record, [3, 5, 7, 11])?;
+    let first = plain::alloc(rt, table, &mut record, [3, 5, 7, 11])?;
     let allocated = first_record(table);
-    let refused: Result<Owned<B>, Refusal> = alloc(rt, table, &mut record, [1; 4]);
+    let refused = plain::alloc(rt, table, &mut record, [1; 4]);
     let full = matches!(refused, Err(Refusal::PoolFull));
     let one = first.object().0;
     discard(table, &mut record, first);
     let discarded = first_record(table);
-    let second: Owned<B> = alloc(rt, table, &mut record, [13, 17, 19, 23])?;
+    let second = plain::alloc(rt, table, &mut record, [13, 17, 19, 23])?;
     Ok((
         [one, second.object().0],
         [allocated, discarded, first_record(table)],
@@ -93,7 +94,7 @@ fn is_refused<P: GracePlan, B: Site, R: Wait>(
     requires { (table.now.words.shared.table_id ≡ B.table) × (table.now.words.shared.key ≡ B.sizes) × (root.table_id ≡ B.table) × (root.me.0.sizes ≡ B.sizes) × (root.me.1 ≡ []) }
 {
     let mut record: Record<B> = Record::new(root);
-    let refused: Result<Owned<B>, Refusal> = alloc(rt, table, &mut record, [1; 4]);
+    let refused = plain::alloc(rt, table, &mut record, [1; 4]);
     matches!(refused, Err(Refusal::PoolFull))
 }
 
@@ -108,7 +109,7 @@ fn allocates_many<P: GracePlan, B: Site, R: Wait>(
 {
     let mut numbers = Vec::new(alloc_in);
     for _ in 0..EACH {
-        let owned: Owned<B> = alloc(rt, table, &mut record, [1; 4])?;
+        let owned = plain::alloc(rt, table, &mut record, [1; 4])?;
         if numbers.push(owned.object().0).is_err() {
             return Err(Refusal::Memory);
         }

@@ -4,11 +4,11 @@
 ghost use Rattle.std.specs.Prelude.{◌≡◌, []};
 ghost use Rattle.live_table.specs.Steps.{Keeps};
 
+use crate::plain;
 use gp_memb::{GracePlan, MembPlan};
 use gp_qsbr::QsbrPlan;
 use live_read::{Record, Site};
 use live_words::{AnyChain, LiveSeat, LiveTable, load_head, load_link, load_word};
-use live_write::{Chain, Owned, Unlinked, alloc};
 use rcu_model::Refusal;
 use std::marker::Brand;
 use std::sync::Wait;
@@ -54,26 +54,26 @@ fn publishes<P: GracePlan, B: Site, R: Wait>(
 {
     let mut walker = table.tell(&mut root);
     let mut record: Record<B> = Record::new(root);
-    let mut chain: Chain<P, AnyChain, B, _> = Chain::hold(table, table, &mut record, 0)?;
-    let first: Owned<B> = alloc(rt, table, &mut record, [3, 5, 7, 11])?;
-    chain.push(&mut record, first);
-    let second: Owned<B> = alloc(rt, table, &mut record, [13, 17, 19, 23])?;
-    chain.push(&mut record, second);
-    let third: Owned<B> = alloc(rt, table, &mut record, [29, 31, 37, 41])?;
-    chain.push(&mut record, third);
+    let mut chain = plain::hold(table, &mut record, 0)?;
+    let first = plain::alloc(rt, table, &mut record, [3, 5, 7, 11])?;
+    plain::push(&mut chain, &mut record, first);
+    let second = plain::alloc(rt, table, &mut record, [13, 17, 19, 23])?;
+    plain::push(&mut chain, &mut record, second);
+    let third = plain::alloc(rt, table, &mut record, [29, 31, 37, 41])?;
+    plain::push(&mut chain, &mut record, third);
     let pushed = first_words(table, &mut walker);
     let lengths = chain.len();
     let head = load_head(table, &mut walker, 0);
     let middle = after(table, &mut walker, head);
     let last = after(table, &mut walker, middle);
-    let fourth: Owned<B> = alloc(rt, table, &mut record, [43, 47, 53, 59])?;
+    let fourth = plain::alloc(rt, table, &mut record, [43, 47, 53, 59])?;
     let Ok(_replaced) = chain.replace(&mut record, 1, fourth) else {
         return Err(Refusal::NoPlace);
     };
     let replaced = first_words(table, &mut walker);
     let past_replaced = after(table, &mut walker, middle) == last;
     let between = chain.len();
-    let _cut: Unlinked<B> = chain.cut(&mut record, 0)?;
+    let _cut = plain::cut(&mut chain, &mut record, 0)?;
     let cut = first_words(table, &mut walker);
     let past_cut = after(table, &mut walker, head) == load_head(table, &mut walker, 0);
     Ok((
@@ -107,19 +107,14 @@ fn refuses<P: GracePlan, B: Site, R: Wait>(
     requires site { (table.now.words.shared.table_id ≡ B.table) × (table.now.words.shared.key ≡ B.sizes) × (root.table_id ≡ B.table) × (root.me.0.sizes ≡ B.sizes) × (root.me.1 ≡ []) }
 {
     let mut record: Record<B> = Record::new(root);
-    let missing: Result<Chain<P, AnyChain, B, _>, Refusal> = Chain::hold(
-        table,
-        table,
-        &mut record,
-        1,
-    );
-    let mut chain: Chain<P, AnyChain, B, _> = Chain::hold(table, table, &mut record, 0)?;
-    let busy: Result<Chain<P, AnyChain, B, _>, Refusal> = Chain::hold(table, table, &mut record, 0);
-    let first: Owned<B> = alloc(rt, table, &mut record, [3, 5, 7, 11])?;
-    chain.push(&mut record, first);
+    let missing = plain::hold(table, &mut record, 1);
+    let mut chain = plain::hold(table, &mut record, 0)?;
+    let busy = plain::hold(table, &mut record, 0);
+    let first = plain::alloc(rt, table, &mut record, [3, 5, 7, 11])?;
+    plain::push(&mut chain, &mut record, first);
     let payload = chain.get(0);
     let beyond = chain.get(1);
-    let cut: Result<Unlinked<B>, Refusal> = chain.cut(&mut record, 1);
+    let cut = plain::cut(&mut chain, &mut record, 1);
     let before = chain.note();
     chain.set_note(&mut record, 9);
     let notes = [before, chain.note()];
@@ -130,7 +125,7 @@ fn refuses<P: GracePlan, B: Site, R: Wait>(
         matches!(cut, Err(Refusal::NoPlace)),
     ];
     drop(chain);
-    let again: Chain<P, AnyChain, B, _> = Chain::hold(table, table, &mut record, 0)?;
+    let again = plain::hold(table, &mut record, 0)?;
     Ok((payload, notes, again.len(), refusals))
 }
 

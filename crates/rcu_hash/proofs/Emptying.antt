@@ -30,7 +30,7 @@ use Rattle.rcu_hash.specs.Directories.{directed_map}
 use Rattle.rcu_hash.specs.Leaving.{LeavesMap, Writes}
 use Rattle.rcu_hash.specs.Naming.{words_by}
 use Rattle.rcu_hash.specs.Tables.{bucket_of}
-use Rattle.rcu_hash.specs.Tidying.{ClearsNote, Cuts, Clears, Does, FindsMore, Follow, HasWaited, IsLeft, IsRefused, Kind, Retires, Tidies, Uses, WasReplaced, cut_by, cuts_in, objects_in, retired_by, retired_in}
+use Rattle.rcu_hash.specs.Tidying.{ClearsNote, Cuts, Clears, Does, FindsMore, Follow, HasWaited, IsLeft, IsRefused, Kind, Retires, Uses, WasReplaced, cut_by, cuts_in, objects_in, retired_by, retired_in}
 use Rattle.rcu_hash.specs.Writers.{Each, HasKeysIn, HasNote, IsAlone, IsOutside}
 use Rattle.rcu_hash.proofs.Changing.{other_map}
 use Rattle.rcu_hash.proofs.Held.{each_last}
@@ -310,8 +310,3 @@ objects_taken (y ∷ ys) (suc i) x f is = let rest = objects_taken ys i x f is i
 
 pub objects_next : {X : Type 0} (xs : List X) (i : ℕ) (x : X) (f : X → View) → slice_get xs i ≡ Some x → objects_in (map f (take (i + 1) xs)) ≡ objects_in (map f (take i xs)) + length (list_in (f x))
 objects_next xs i x f is = let next : i + 1 ≡ suc i = omega arith in ap (λ (n : ℕ). objects_in (map f (take n xs))) next ∙ objects_taken xs i x f is
-
--- what was used of the callbacks
-pub jobs_spent : {W D : Type 0} (w : Ghosts W) (qsbr : Bool) (allows : Log → LiveEvent → Type 0) (old new : W) (sizes : Sizes) (d : ℕ) (jobs left : List D) (Other : Type 0) → Tidies w qsbr allows old new sizes d jobs left ⊎ ((left ≡ jobs) × Other) → (used : List D) × (jobs ≡ left ++ used) × (length jobs ≡ length left + length used)
-jobs_spent w qsbr allows old new sizes d jobs left Other (inl t) = let u = t.uses in (u.used, u.are, ap length u.are ∙ length-append left u.used)
-jobs_spent w qsbr allows old new sizes d jobs left Other (inr k) = ([], sym k.0 ∙ sym (append-nil left), let same = ap length k.0 in omega (arith, same))

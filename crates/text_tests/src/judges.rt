@@ -34,13 +34,18 @@ const ROWS: [Row<'static>; 6] = [
     ),
 ];
 
+/// `TextJudge::feed`, without what it tells.
+fn feed(judge: &mut TextJudge, piece: &[u8]) {
+    judge.feed(piece);
+}
+
 #[test]
 fn a_text_is_judged_in_pieces(rt: HostRuntime) {
     for (text, so_far, at_end) in ROWS {
         for length in [1, 7, 4096] {
             let mut judge = TextJudge::new(rt.alloc());
             for piece in text.chunks(length) {
-                judge.feed(piece);
+                feed(&mut judge, piece);
             }
             assert_eq!(rt; judge.found(), so_far);
             assert_eq!(rt; judge.found_at_end(), at_end);
@@ -51,11 +56,11 @@ fn a_text_is_judged_in_pieces(rt: HostRuntime) {
 #[test]
 fn what_is_final_stands(rt: HostRuntime) {
     let mut judge = TextJudge::new(rt.alloc());
-    judge.feed(b"open r0.1\n");
+    feed(&mut judge, b"open r0.1\n");
     assert!(rt; !judge.found().is_final());
-    judge.feed(b"close r0.2\n");
+    feed(&mut judge, b"close r0.2\n");
     assert_eq!(rt; judge.found(), WRONG);
-    judge.feed(b"close r0.1\n");
+    feed(&mut judge, b"close r0.1\n");
     assert_eq!(rt; judge.found(), WRONG);
     assert!(rt; judge.found().is_final());
 }

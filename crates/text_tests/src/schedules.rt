@@ -283,14 +283,15 @@ fn a_whole_schedule_is_read(rt: HostRuntime) {
     assert_eq!(rt; read_line(b"w0 push c0\n"), Err(TextFault { column: 4 }));
 }
 
+const SECTION: SectionId = SectionId {
+    reader: 3,
+    ordinal: 2,
+};
+
 #[test]
-fn counts_and_events(rt: HostRuntime) -> Result<(), Fail> {
-    let section = SectionId {
-        reader: 3,
-        ordinal: 2,
-    };
+fn a_log_is_counted(rt: HostRuntime) {
     let log = [
-        Event::Open(section),
+        Event::Open(SECTION),
         Event::Retire(ObjectId(1)),
         Event::Retire(ObjectId(2)),
         Event::Run(ObjectId(1)),
@@ -301,24 +302,30 @@ fn counts_and_events(rt: HostRuntime) -> Result<(), Fail> {
         runs: 1,
     };
     assert_eq!(rt; Counts::of(&log), counts);
+}
+
+const EVENTS: [Event; 3] = [
+    Event::First {
+        section: SECTION,
+        chain: 0,
+        found: None,
+    },
+    Event::Next {
+        section: SECTION,
+        from: ObjectId(4),
+        found: Some(ObjectId(5)),
+    },
+    Event::Queue {
+        object: ObjectId(18_446_744_073_709_551_615),
+        queue: 7,
+    },
+];
+
+#[test]
+fn events_have_their_texts(rt: HostRuntime) -> Result<(), Fail> {
     let mut out = String::new(rt.alloc());
-    for event in [
-        Event::First {
-            section,
-            chain: 0,
-            found: None,
-        },
-        Event::Next {
-            section,
-            from: ObjectId(4),
-            found: Some(ObjectId(5)),
-        },
-        Event::Queue {
-            object: ObjectId(18_446_744_073_709_551_615),
-            queue: 7,
-        },
-    ] {
-        print_event(rt.alloc(), &event, &mut out)?;
+    for event in &EVENTS {
+        print_event(rt.alloc(), event, &mut out)?;
     }
     let texts = "first r3.2 c0 nonenext r3.2 o4 o5queue o18446744073709551615 q7";
     assert_eq!(rt; out.as_str(), texts);

@@ -26,9 +26,9 @@ const DEFAULT: Walk = Walk {
 };
 
 /// Takes the words as what asks for this.
-fn check_words(rt: &impl Abort, alloc: Global, words: &[&str], wanted: Asked) {
+fn check_words(rt: &impl Abort, alloc: Global, words: &[&str], wanted: &Asked) {
     match read_words(alloc, words) {
-        Ok(asked) => assert_eq!(rt; asked, wanted),
+        Ok(asked) => assert_eq!(rt; asked, *wanted),
         Err(_) => assert!(rt; false),
     }
 }
@@ -157,7 +157,7 @@ const COMMANDS: [(&[&str], Asked); 9] = [
 
 #[test]
 fn words_name_a_command(rt: HostRuntime) {
-    for (words, asked) in COMMANDS {
+    for (words, asked) in &COMMANDS {
         check_words(&rt, rt.alloc(), words, asked);
     }
 }
@@ -179,12 +179,8 @@ fn an_actor_may_stop(rt: HostRuntime) {
     ];
     for (words, wanted) in rows {
         let stop = wanted.map(|(actor, from)| Stop { actor, from });
-        check_words(
-            &rt,
-            rt.alloc(),
-            words,
-            Asked::Command(Command::Walk(Walk { stop, ..DEFAULT })),
-        );
+        let wanted = Asked::Command(Command::Walk(Walk { stop, ..DEFAULT }));
+        check_words(&rt, rt.alloc(), words, &wanted);
     }
 }
 
@@ -318,16 +314,28 @@ const OTHER_WORDS: [(&[&str], u8, &str); 17] = [
     ),
 ];
 
+/// Refuses the words with this status and a text that begins so.
+fn check_told(
+    rt: &impl Abort,
+    alloc: Global,
+    words: &[&str],
+    status: u8,
+    text: &str,
+) -> Result<(), Fail> {
+    match read_words(alloc, words) {
+        Ok(_) => assert!(rt; false),
+        Err(fault) => {
+            assert_eq!(rt; fault.status(), status);
+            assert!(rt; fault.to_string(alloc)?.as_str().starts_with(text));
+        }
+    }
+    Ok(())
+}
+
 #[test]
 fn other_words_are_told(rt: HostRuntime) -> Result<(), Fail> {
-    for (words, status, text) in OTHER_WORDS {
-        match read_words(rt.alloc(), words) {
-            Ok(_) => assert!(rt; false),
-            Err(fault) => {
-                assert_eq!(rt; fault.status(), status);
-                assert!(rt; fault.to_string(rt.alloc())?.as_str().starts_with(text));
-            }
-        }
+    for (words, status, text) in &OTHER_WORDS {
+        check_told(&rt, rt.alloc(), words, *status, text)?;
     }
     Ok(())
 }

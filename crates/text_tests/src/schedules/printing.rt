@@ -31,19 +31,25 @@ const LINES: [(Line, &[u8]); 11] = [
     (Line::Worker(0, WorkerVerb::GoOn), b"w0 .\n"),
 ];
 
+/// Asserts that the line has this text.
+fn expect_text(rt: &impl Abort, alloc: Global, line: &Line, text: &[u8]) -> Result<(), Fail> {
+    let mut out: Vec<u8> = Vec::new(alloc);
+    print_line(alloc, line, &mut out)?;
+    assert_eq!(rt; out.as_slice(), text);
+    Ok(())
+}
+
 #[test]
 fn each_line_has_its_text(rt: HostRuntime) -> Result<(), Fail> {
-    for (line, text) in LINES {
-        let mut out: Vec<u8> = Vec::new(rt.alloc());
-        print_line(rt.alloc(), &line, &mut out)?;
-        assert_eq!(rt; out.as_slice(), text);
+    for (line, text) in &LINES {
+        expect_text(&rt, rt.alloc(), line, text)?;
     }
     Ok(())
 }
 
 fn print_lines(alloc: Global, out: &mut Vec<u8>) -> Result<(), Fail> {
-    for (line, _) in LINES {
-        print_line(alloc, &line, out)?;
+    for (line, _) in &LINES {
+        print_line(alloc, line, out)?;
     }
     Ok(())
 }

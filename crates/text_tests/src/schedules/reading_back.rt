@@ -6,14 +6,19 @@ use schedule::{AnswersFault, read_answers, read_schedule};
 use std::alloc::Global;
 use std::process::Abort;
 use std::test::Fail;
-use world::{StepError, World};
+use world::{Line, StepError, World};
+
+/// Plays the line, without what `World::step` tells of it. Whether there was memory.
+fn plays(world: &mut World, line: &Line) -> bool {
+    world.step(line) != Err(StepError::Memory)
+}
 
 /// What `replay` writes of the schedule is read back as the log of a world in which its lines were played.
 fn check_log(rt: &impl Abort, alloc: Global, text: &[u8]) -> Result<(), Fail> {
     let schedule = read_schedule(alloc, text)?;
     let mut world = World::new(alloc, schedule.config)?;
     for line in &schedule.lines {
-        assert!(rt; world.step(line) != Err(StepError::Memory));
+        assert!(rt; plays(&mut world, line));
     }
     let reader = Pieces { text, most: 4096 };
     let (fault, printed) = replayed(alloc, reader)?;
@@ -215,15 +220,15 @@ const BAD_TEXTS: [(&[u8], u64, usize); 47] = [
     (b"run o1; run o2;\n", 1, 15),
 ];
 
+/// Asserts that the text is refused at this byte.
+fn expect_fault(rt: &impl Abort, alloc: Global, text: &[u8], line: u64, column: usize) {
+    let fault = read_answers(alloc, text).err();
+    assert_eq!(rt; fault, Some(AnswersFault::BadText { line, column }));
+}
+
 #[test]
 fn a_fault_is_at_the_first_byte_that_no_line_has(rt: HostRuntime) {
-    for (text, line, column) in BAD_TEXTS {
-        match read_answers(rt.alloc(), text) {
-            Ok(_) => assert!(rt; false, "no fault at line {line} column {column}"),
-            Err(fault) => {
-                let place = AnswersFault::BadText { line, column };
-                assert_eq!(rt; fault, place, "line {line} column {column}");
-            }
-        }
+    for (text, line, column) in &BAD_TEXTS {
+        expect_fault(&rt, rt.alloc(), text, *line, *column);
     }
 }

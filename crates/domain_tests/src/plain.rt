@@ -1,0 +1,184 @@
+//! Calls of domains and chains without what their contracts tell: a test proves no more than that its calls are safe,
+//! and each clause that it hears costs time.
+
+use domain::{
+    BarrierMark, Chain, Counts, Deleter, Domain, LiveCookie, Owned, Record, Site, Ticket, Unlinked,
+    WorkerEnd,
+};
+use gp_memb::GracePlan;
+use live_words::AnyChain;
+use rcu_model::Refusal;
+use std::alloc::Global;
+use std::sync::Wait;
+
+/// `Domain::alloc`.
+pub(crate) fn alloc<P: GracePlan + Drop, B: Site, D: Deleter, R: Wait>(
+    rt: &R,
+    domain: &Domain<P, AnyChain, B, D>,
+    record: &mut Record<B>,
+    words: [u64; 4],
+) -> Result<Owned<B>, Refusal> {
+    domain.alloc(rt, record, words)
+}
+
+/// `Domain::chain`.
+pub(crate) fn chain<'d, P: GracePlan + Drop, B: Site, D: Deleter>(
+    domain: &'d Domain<P, AnyChain, B, D>,
+    record: &mut Record<B>,
+    number: usize,
+) -> Result<Chain<'d, P, AnyChain, B, D>, Refusal> {
+    domain.chain(record, number)
+}
+
+/// `Chain::push`.
+pub(crate) fn push<P: GracePlan + Drop, B: Site, D: Deleter>(
+    writer: &mut Chain<'_, P, AnyChain, B, D>,
+    record: &mut Record<B>,
+    owned: Owned<B>,
+) {
+    writer.push(record, owned);
+}
+
+/// `Chain::cut`.
+pub(crate) fn cut<P: GracePlan + Drop, B: Site, D: Deleter>(
+    writer: &mut Chain<'_, P, AnyChain, B, D>,
+    record: &mut Record<B>,
+    index: usize,
+) -> Result<Unlinked<B>, Refusal> {
+    writer.cut(record, index)
+}
+
+/// `Chain::replace`.
+pub(crate) fn replace<P: GracePlan + Drop, B: Site, D: Deleter>(
+    writer: &mut Chain<'_, P, AnyChain, B, D>,
+    record: &mut Record<B>,
+    index: usize,
+    owned: Owned<B>,
+) -> Result<Unlinked<B>, (Refusal, Owned<B>)> {
+    writer.replace(record, index, owned)
+}
+
+/// `Domain::retire`.
+pub(crate) fn retire<P: GracePlan + Drop, B: Site, D: Deleter, R: Wait>(
+    rt: &R,
+    domain: &Domain<P, AnyChain, B, D>,
+    record: &mut Record<B>,
+    unlinked: Unlinked<B>,
+    callback: D,
+) -> Result<Ticket, (Refusal, Unlinked<B>, D)> {
+    domain.retire(rt, record, unlinked, callback)
+}
+
+/// `Domain::cut_retire`.
+pub(crate) fn cut_retire<P: GracePlan + Drop, B: Site, D: Deleter, R: Wait>(
+    rt: &R,
+    domain: &Domain<P, AnyChain, B, D>,
+    record: &mut Record<B>,
+    writer: &mut Chain<'_, P, AnyChain, B, D>,
+    index: usize,
+    callback: D,
+) -> Result<Ticket, (Refusal, D)> {
+    domain.cut_retire(rt, record, writer, index, callback)
+}
+
+/// `Domain::replace_retire`.
+pub(crate) fn replace_retire<P: GracePlan + Drop, B: Site, D: Deleter, R: Wait>(
+    rt: &R,
+    domain: &Domain<P, AnyChain, B, D>,
+    record: &mut Record<B>,
+    writer: &mut Chain<'_, P, AnyChain, B, D>,
+    index: usize,
+    owned: Owned<B>,
+    callback: D,
+) -> Result<Ticket, (Refusal, Owned<B>, D)> {
+    domain.replace_retire(rt, record, writer, index, owned, callback)
+}
+
+/// `Domain::close`.
+pub(crate) fn close<P: GracePlan + Drop, B: Site, D: Deleter, R: Wait>(
+    rt: &R,
+    domain: &Domain<P, AnyChain, B, D>,
+    record: &mut Record<B>,
+) {
+    domain.close(rt, record)
+}
+
+/// `Domain::run_worker`.
+pub(crate) fn run_worker<P: GracePlan + Drop, B: Site, D: Deleter, R: Wait>(
+    rt: &R,
+    alloc: Global,
+    domain: &Domain<P, AnyChain, B, D>,
+    record: &mut Record<B>,
+    queue: usize,
+) -> Result<WorkerEnd<B, D>, Refusal> {
+    domain.run_worker(rt, alloc, record, queue)
+}
+
+/// `Domain::barrier`.
+pub(crate) fn barrier<P: GracePlan + Drop, B: Site, D: Deleter, R: Wait>(
+    rt: &R,
+    domain: &Domain<P, AnyChain, B, D>,
+    record: &mut Record<B>,
+) {
+    domain.barrier(rt, record)
+}
+
+/// `Domain::barrier_start`.
+pub(crate) fn barrier_start<P: GracePlan + Drop, B: Site, D: Deleter>(
+    domain: &Domain<P, AnyChain, B, D>,
+    record: &mut Record<B>,
+) -> BarrierMark {
+    domain.barrier_start(record)
+}
+
+/// `Domain::barrier_done`.
+pub(crate) fn barrier_done<P: GracePlan + Drop, B: Site, D: Deleter>(
+    domain: &Domain<P, AnyChain, B, D>,
+    record: &mut Record<B>,
+    mark: &BarrierMark,
+) -> bool {
+    domain.barrier_done(record, mark)
+}
+
+/// `Domain::synchronize`.
+pub(crate) fn synchronize<P: GracePlan + Drop, B: Site, D: Deleter, R: Wait>(
+    rt: &R,
+    domain: &Domain<P, AnyChain, B, D>,
+    record: &mut Record<B>,
+) -> Result<(), Refusal> {
+    domain.synchronize(rt, record)
+}
+
+/// `Domain::start_poll`.
+pub(crate) fn start_poll<P: GracePlan + Drop, B: Site, D: Deleter>(
+    domain: &Domain<P, AnyChain, B, D>,
+    record: &mut Record<B>,
+) -> Result<LiveCookie, Refusal> {
+    domain.start_poll(record)
+}
+
+/// `Domain::poll`.
+pub(crate) fn poll<P: GracePlan + Drop, B: Site, D: Deleter>(
+    domain: &Domain<P, AnyChain, B, D>,
+    record: &mut Record<B>,
+    cookie: &LiveCookie,
+) -> bool {
+    domain.poll(record, cookie)
+}
+
+/// `Domain::counts`.
+pub(crate) fn counts<P: GracePlan + Drop, B: Site, D: Deleter>(
+    domain: &Domain<P, AnyChain, B, D>,
+    record: &mut Record<B>,
+) -> Counts {
+    domain.counts(record)
+}
+
+/// `Domain::stalled`.
+pub(crate) fn stalled<P: GracePlan + Drop, B: Site, D: Deleter>(
+    alloc: Global,
+    domain: &Domain<P, AnyChain, B, D>,
+    record: &mut Record<B>,
+) -> Result<Vec<usize>, Refusal> {
+    domain.stalled(alloc, record)
+}
