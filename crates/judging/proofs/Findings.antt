@@ -83,3 +83,11 @@ found_unended judging fed (Yes events) fault goes s ends = found_cut_off judging
 found_unended judging fed (No at rule) fault goes s ends = absurd cc
 found_unended judging fed (BadText line column) fault goes s ends = absurd cc
 found_unended judging fed Memory fault goes s ends = absurd cc
+
+-- the end wants no memory
+pub unended_told : (judging : Judging) (fed : List ℕ) (found : Finding) (fault : ReplayFault) → is_final found ≡ false → Stands judging fed found → ((text : List ℕ) (j : HasJudged judging text) → Ends text j.log (Err fault)) → finding_of fault ≡ Memory → found ≡ Memory
+unended_told judging fed found (faults.BadText line column) goes s ends is = absurd cc
+unended_told judging fed found faults.Memory goes s ends is = absurd (ends fed (still_judged judging fed found goes s))
+unended_told judging fed found faults.BadConfig goes s ends is = absurd (ends fed (still_judged judging fed found goes s))
+unended_told judging fed found faults.Read goes s ends is = absurd (ends fed (still_judged judging fed found goes s))
+unended_told judging fed found faults.Write goes s ends is = absurd (ends fed (still_judged judging fed found goes s))

@@ -1,6 +1,7 @@
 //! A judge of a text of answers, which can be asked at any moment.
 
 ghost use Rattle.std.specs.Prelude.{◌≡◌, ◌++◌, ℕ, List, [], true};
+ghost use Rattle.judging.specs.declared.text_judge.Finding.TheVariants.{Memory};
 ghost use Rattle.judging.specs.Found.{IsFound, IsFoundAtEnd, WasFed, finding_of, found_along, is_final};
 
 use crate::judging::Judging;
@@ -109,10 +110,11 @@ impl TextJudge {
     }
 
     /// What is found of the text if it ends here: a line that has no end is a bad text. The judge is as it was, and
-    /// more may follow all the same.
+    /// more may follow all the same. It takes no memory, so it finds `Memory` only where that stands already.
     pub fn found_at_end(&self) -> Finding
         ensures found { (fed : List ℕ) → WasFed self.now fed → IsFoundAtEnd fed result }
         ensures stands { is_final self.now.found ≡ true → result ≡ self.now.found }
+        ensures memory { (fed : List ℕ) → WasFed self.now fed → result ≡ Memory → self.now.found ≡ Memory }
     {
         if self.found.is_final() {
             return self.found;

@@ -47,6 +47,15 @@ verdict_of Memory = record { answer = 3; rule = 0; event = 0; line = 0; column =
 abbrev pub no_judge : Verdict
 no_judge = record { answer = 4; rule = 0; event = 0; line = 0; column = 0 }
 
+-- of a handle that keeps this
+abbrev pub answer_by : Option TextJudge → ℕ
+answer_by None = 4
+answer_by (Some judge) = answer_of judge.found
+
+abbrev pub verdict_by : Option TextJudge → Verdict
+verdict_by None = no_judge
+verdict_by (Some judge) = verdict_of judge.found
+
 -- the answer is that of what is found of the text
 abbrev pub Answers : List ℕ → ℕ → Type 0
 Answers text answer = (found : Finding) × IsFound text found × (answer ≡ answer_of found)

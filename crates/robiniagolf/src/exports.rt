@@ -1,7 +1,7 @@
 //! The calls of C. `include/robiniagolf.h` tells what each asks of its caller. None has a `requires`.
 
-ghost use Rattle.std.specs.Prelude.{◌≡◌, ◌≢◌, ◌↔◌, ◌++◌, ℕ, List, [], None, IsSome, IsNone};
-ghost use Rattle.robiniagolf.specs.Verdicts.{Answers, IsDone, IsVerdict, IsVerdictAtEnd, Keeps, no_judge};
+ghost use Rattle.std.specs.Prelude.{◌≡◌, ◌≢◌, ◌↔◌, ◌++◌, ◌⊎◌, ℕ, List, [], None, IsSome, IsNone};
+ghost use Rattle.robiniagolf.specs.Verdicts.{Answers, IsDone, IsVerdict, IsVerdictAtEnd, Keeps, answer_by, verdict_by};
 
 use crate::handle::{JudgeHandle, put_judge, take_judge};
 use crate::verdict::{Verdict, answer_of};
@@ -14,6 +14,7 @@ use std::alloc::Global;
 pub extern "C" fn robiniagolf_judge_new(alloc: Global, judge: &mut JudgeHandle) -> u32
     ensures made { result ≡ 0 → Keeps judge.new.kept.value [] }
     ensures refused { result ≢ 0 → judge.new.kept.value ≡ judge.old.kept.value }
+    ensures answers { (result ≡ 0) ⊎ ((result ≡ 3) ⊎ (result ≡ 5)) }
     ensures in_use { (result ≡ 5) ↔ IsSome judge.old.kept.value }
 {
     if judge.full {
@@ -26,7 +27,8 @@ pub extern "C" fn robiniagolf_judge_new(alloc: Global, judge: &mut JudgeHandle) 
     0
 }
 
-/// Takes the next piece of the text. The answer so far: 0 yes, 1 no, 2 bad text, 3 memory, 4 the handle keeps nothing.
+/// Takes the next piece of the text. The answer so far, which is that of the verdict: 0 yes, 1 no, 2 bad text, 3 memory,
+/// 4 the handle keeps nothing.
 #[unsafe(no_mangle)]
 pub extern "C" fn robiniagolf_judge_feed(
     alloc: Global,
@@ -35,7 +37,7 @@ pub extern "C" fn robiniagolf_judge_feed(
 ) -> u32
     ensures fed { (fed : List ℕ) → Keeps judge.old.kept.value fed → Keeps judge.new.kept.value (fed ++ piece.now) × Answers (fed ++ piece.now) result }
     ensures stands { IsDone judge.old.kept.value → judge.new.kept.value ≡ judge.old.kept.value }
-    ensures empty { judge.old.kept.value ≡ None → result ≡ 4 }
+    ensures told { result ≡ answer_by judge.new.kept.value }
 {
     match take_judge(alloc, judge) {
         Some(mut held) => {
@@ -53,7 +55,7 @@ pub extern "C" fn robiniagolf_judge_feed(
 pub extern "C" fn robiniagolf_judge_verdict(alloc: Global, judge: &mut JudgeHandle) -> Verdict
     ensures so_far { (fed : List ℕ) → Keeps judge.old.kept.value fed → IsVerdict fed result }
     ensures stays { judge.new.kept.value ≡ judge.old.kept.value }
-    ensures empty { judge.old.kept.value ≡ None → result ≡ no_judge }
+    ensures told { result ≡ verdict_by judge.old.kept.value }
 {
     match take_judge(alloc, judge) {
         Some(held) => {
@@ -66,12 +68,13 @@ pub extern "C" fn robiniagolf_judge_verdict(alloc: Global, judge: &mut JudgeHand
 }
 
 /// The verdict on the text if it ends here: a line that has no end is a bad text. The judge is as it was, and more may
-/// follow all the same.
+/// follow all the same. It takes no memory, so it answers 3 only where that stands already.
 #[unsafe(no_mangle)]
 pub extern "C" fn robiniagolf_judge_finish(alloc: Global, judge: &mut JudgeHandle) -> Verdict
     ensures whole { (fed : List ℕ) → Keeps judge.old.kept.value fed → IsVerdictAtEnd fed result }
     ensures stays { judge.new.kept.value ≡ judge.old.kept.value }
-    ensures empty { judge.old.kept.value ≡ None → result ≡ no_judge }
+    ensures done { IsDone judge.old.kept.value → result ≡ verdict_by judge.old.kept.value }
+    ensures memory { (fed : List ℕ) → Keeps judge.old.kept.value fed → result.answer ≡ 3 → answer_by judge.old.kept.value ≡ 3 }
 {
     match take_judge(alloc, judge) {
         Some(held) => {
@@ -87,6 +90,7 @@ pub extern "C" fn robiniagolf_judge_finish(alloc: Global, judge: &mut JudgeHandl
 #[unsafe(no_mangle)]
 pub extern "C" fn robiniagolf_judge_free(alloc: Global, judge: &mut JudgeHandle) -> u32
     ensures freed { judge.new.kept.value ≡ None }
+    ensures answers { IsSome judge.old.kept.value → result ≡ 0 }
     ensures empty { (result ≡ 4) ↔ IsNone judge.old.kept.value }
 {
     match take_judge(alloc, judge) {

@@ -1,7 +1,8 @@
-use Rattle.std.proofs.Common.{◌++◌, sym, subst}
+use Rattle.std.proofs.Common.{◌++◌, sym, ap, subst}
 use Rattle.judging.specs.declared.text_judge.TextJudge.{TextJudge}
 use Rattle.judging.specs.Found.{WasFed}
-use Rattle.robiniagolf.proofs.Handles.{kept_was_fed, keeps_fed, none_was_fed}
+use Rattle.robiniagolf.specs.Verdicts.{answer_by}
+use Rattle.robiniagolf.proofs.Handles.{kept_was_fed, keeps_fed, none_was_fed, told_answer}
 use Rattle.robiniagolf.proofs.exports.robiniagolf_judge_feed.Goals as goal
 
 pub returns-in-Some-clause-fed : goal.returns-in-Some-clause-fed
@@ -13,3 +14,9 @@ returns-in-Some-clause-fed c = λ fed k.
 
 pub returns-in-None-clause-fed : goal.returns-in-None-clause-fed
 returns-in-None-clause-fed c = λ fed k. absurd (none_was_fed c.args.judge.now.kept.value fed c.in-None.ensures.nothing k)
+
+pub returns-in-Some-clause-told : goal.returns-in-Some-clause-told
+returns-in-Some-clause-told c = told_answer c.put_judge.new.handle.kept.value c.feed.new.self c.deref.result.now c.found.result c.answer_of-answer.result c.put_judge.ensures c.deref.ensures c.found.ensures.same c.answer_of-answer.ensures
+
+pub returns-in-None-clause-told : goal.returns-in-None-clause-told
+returns-in-None-clause-told c = sym (ap answer_by c.in-None.ensures.empty)

@@ -9,7 +9,7 @@ use denote.Param.Send.{IsSend, AllSend, owning_send, struct_send, sendable}
 use Rattle.std.proofs.Crossing.{frees}
 use Rattle.std_alloc.proofs.SendSync.{quiet, lies}
 use Rattle.judging.specs.contracts.text_judge.TextJudge.{the_row as R}
-use Rattle.judging.proofs.text_judge.TextJudge.TheSendSync.{the_send as sent}
+use Rattle.judging.proofs.Lemmas.{judge_crosses as sent}
 use Rattle.robiniagolf.specs.Owned.{heap, heap_token, owned_at}
 use Rattle.robiniagolf.specs.contracts.kept.Kept.{the_row, the_type}
 
