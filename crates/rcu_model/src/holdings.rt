@@ -9,11 +9,19 @@ use crate::event::{ObjectId, SectionId};
 use std::alloc::{AllocError, Global};
 use std::collections::{HashMap, HashSet};
 
+/// What a section got.
+#[derive(Drop)]
+struct Got {
+    newest: ObjectId,
+    // Those that it got before, so that who gets one alone wants no table.
+    older: HashSet<ObjectId>,
+}
+
 /// What each section got since it was opened, until it closes.
 #[derive(Drop)]
 pub(crate) struct Holdings {
     alloc: Global,
-    got: HashMap<SectionId, HashSet<ObjectId>>,
+    got: HashMap<SectionId, Got>,
 }
 
 impl Holdings {
@@ -35,13 +43,18 @@ impl Holdings {
         ensures got { OnOk result ((s : SectionId) (o : ObjectId) → HasGot self.new s o ↔ (HasGot self.old s o ⊎ ((section ≡ s) × (object ≡ o)))) }
         ensures refused { OnErr result ((s : SectionId) (o : ObjectId) → HasGot self.new s o ↔ HasGot self.old s o) }
     {
-        if let Some(objects) = self.got.get_mut(&section) {
-            objects.insert(object)?;
+        if let Some(got) = self.got.get_mut(&section) {
+            if got.newest != object {
+                got.older.insert(got.newest)?;
+                got.newest = object;
+            }
             return Ok(());
         }
-        let mut objects = HashSet::new(self.alloc);
-        objects.insert(object)?;
-        self.got.insert(section, objects)?;
+        let got = Got {
+            newest: object,
+            older: HashSet::new(self.alloc),
+        };
+        self.got.insert(section, got)?;
         Ok(())
     }
 
@@ -57,7 +70,7 @@ impl Holdings {
         ensures { IsTrue result ↔ HasGot self.now section object }
     {
         match self.got.get(&section) {
-            Some(objects) => objects.contains(&object),
+            Some(got) => got.newest == object || got.older.contains(&object),
             None => false,
         }
     }

@@ -15,9 +15,9 @@ use std::alloc::Global;
 
 /// A judge of a log that is told event by event: whether the events that it has taken are a run of the abstract
 /// machine, or else the first of them that breaks its rule. It keeps what is present: open sections and what they got,
-/// objects whose callbacks have not run, asks and barriers that are not over, and who came since the first section, or
-/// queued object, that is still there. What is past it knows by the runs of its numbers. Beside a look-up among these
-/// runs an event takes constant time, amortized and on the average (its maps hash without a secret).
+/// objects whose callbacks have not run, asks and barriers that are not over. What is past it knows by the runs of its
+/// numbers. Beside a search among these runs, and one among the open sections or queued objects where they end in another
+/// order than they began, an event takes constant time, amortized and on the average (its maps hash without a secret).
 #[derive(Drop)]
 pub struct Judge {
     checker: Checker,

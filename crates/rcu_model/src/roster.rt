@@ -1,24 +1,33 @@
 //! Who came, in order, and who has left since.
 
-ghost use Rattle.std.specs.Prelude.{◌≡◌, ◌≤◌, ◌↔◌, ◌++◌, ◌∷◌, [], true, false, length, slice_set, IsTrue, IfOk, OnOk, OnErr, List, Bool};
-ghost use Rattle.rcu_model.specs.Roster.{IsThere, HaveLeft, IsNext};
+ghost use Rattle.std.specs.Prelude.{◌≡◌, ◌<◌, ◌≤◌, ◌↔◌, ◌++◌, ◌∷◌, [], true, false, length, slice_set, IsTrue, IfOk, OnOk, OnErr, List, Bool};
+ghost use Rattle.rcu_model.specs.Roster.{IsThere, HaveLeft, AreInOrder, IsFoundAt, IsNext};
 
 use std::alloc::{AllocError, Global};
 use std::marker::Model;
 
-// So many places are kept in any case.
+// So many are kept in any case.
 const FEW: usize = 64;
 
 /// Those that came, each at its place, in the order of their coming, from 0: whether they are still there. Memory is
-/// linear in the number of those that came since the first one that is still there.
+/// linear in the greatest number of those that were there at once.
 #[derive(Drop)]
 pub(crate) struct Roster {
-    // How many of the first places are forgotten: their holders have left.
-    forgotten: usize,
-    // The places after them.
-    present: Vec<bool>,
-    // The first of these whose holder is still there.
+    // How many came.
+    came: usize,
+    // Those that are still there, in the order of their places, and some that have left.
+    kept: Vec<Kept>,
+    // The first of these that is still there.
     oldest: usize,
+    // How many left since those that had left were last dropped.
+    left: usize,
+}
+
+/// One that came, and whether it is still there.
+#[derive(Clone, Copy, Drop)]
+struct Kept {
+    place: usize,
+    is_there: bool,
 }
 
 impl Model for Roster {
@@ -27,9 +36,9 @@ impl Model for Roster {
 
     ghost Value = { List Bool };
 
-    ghost view = { λ r. all_places r.forgotten r.present.items };
+    ghost view = { λ r. all_places r.came r.kept.items };
 
-    ghost invariant = { λ r. IsKept r.forgotten r.present.items r.oldest };
+    ghost invariant = { λ r. IsKept r.came r.kept.items r.oldest };
 }
 
 impl Roster {
@@ -38,9 +47,10 @@ impl Roster {
         ensures { result ≡ [] }
     {
         Roster {
-            forgotten: 0,
-            present: Vec::new(alloc),
+            came: 0,
+            kept: Vec::new(alloc),
             oldest: 0,
+            left: 0,
         }
     }
 
@@ -53,11 +63,15 @@ impl Roster {
         ensures came { OnOk result (self.new ≡ self.old ++ true ∷ []) }
         ensures refused { OnErr result (self.new ≡ self.old) }
     {
-        let place = self.moment();
+        let place = self.came;
         if place == usize::MAX {
             return Err(AllocError);
         }
-        self.present.push(true)?;
+        self.kept.push(Kept {
+            place,
+            is_there: true,
+        })?;
+        self.came += 1;
         Ok(place)
     }
 
@@ -65,8 +79,9 @@ impl Roster {
     pub(crate) fn forget_last(&mut self)
         ensures { (before : List Bool) → self.old ≡ before ++ true ∷ [] → self.new ≡ before }
     {
-        self.present.pop();
-        self.oldest = self.oldest.min(self.present.len());
+        self.kept.pop();
+        self.came = self.came.saturating_sub(1);
+        self.oldest = self.oldest.min(self.kept.len());
     }
 
     /// The one at the place leaves: whether it was there.
@@ -74,64 +89,72 @@ impl Roster {
         ensures was { IsTrue result ↔ IsThere self.old place }
         ensures left { self.new ≡ slice_set self.old place false }
     {
-        if !self.is_there(place) {
+        let Some(at) = find(&self.kept, self.came, place) else {
+            return false;
+        };
+        if !self.kept[at].is_there {
             return false;
         }
-        let at = place - self.forgotten;
-        self.present[at] = false;
-        self.oldest = first_present(&self.present, self.oldest);
-        self.forget_the_first();
+        self.kept[at].is_there = false;
+        self.oldest = first_present(&self.kept, self.oldest);
+        self.left = self.left.saturating_add(1);
+        self.drop_the_left();
         true
     }
 
-    // Forgets the places before the first whose holder is still there, once they are half of them.
-    fn forget_the_first(&mut self)
+    // Drops those that have left, once they are half of those that are kept.
+    fn drop_the_left(&mut self)
         ensures { self.new ≡ self.old }
     {
-        let kept = self.present.len() - self.oldest;
-        if self.oldest < FEW || self.oldest < kept {
+        if self.left < FEW || self.left < self.kept.len() / 2 {
             return;
         }
-        self.present.rotate_left(self.oldest);
-        self.present.truncate(kept);
-        self.forgotten += self.oldest;
+        self.kept.retain(|kept| kept.is_there);
         self.oldest = 0;
-    }
-
-    /// Whether the one at the place came and has not left.
-    pub(crate) fn is_there(&self, place: usize) -> bool
-        ensures { IsTrue result ↔ IsThere self.now place }
-    {
-        match place.checked_sub(self.forgotten) {
-            Some(at) => at < self.present.len() && self.present[at],
-            None => false,
-        }
+        self.left = 0;
     }
 
     /// How many came so far.
     pub(crate) fn moment(&self) -> usize
         ensures { result ≡ length self.now }
     {
-        self.forgotten + self.present.len()
+        self.came
     }
 
     /// Whether all that came before the moment have left.
     pub(crate) fn all_left(&self, moment: usize) -> bool
         ensures { IsTrue result ↔ HaveLeft self.now moment }
     {
-        moment <= self.forgotten + self.oldest || self.oldest == self.present.len()
+        match self.kept.get(self.oldest) {
+            Some(kept) => moment <= kept.place,
+            None => true,
+        }
     }
 }
 
-// The first place from here on whose holder is still there, or the number of places. What `leave` passes over it never
-// passes over again.
-fn first_present(present: &[bool], from: usize) -> usize
-    requires within { from ≤ length present.now }
-    ensures front { IsNext present.now from result }
+// Where the one at the place is kept. None of those that came since one was last dropped is missing, so that a place
+// says how far from the end it is kept; where it does not, it is searched.
+fn find(kept: &[Kept], came: usize, place: usize) -> Option<usize>
+    requires order { AreInOrder 0 came kept.now }
+    ensures { IsFoundAt kept.now place result }
 {
-    let mut place = from;
-    while place < present.len() && !present[place] {
-        place += 1;
+    if let Some(at) = kept.len().checked_sub(came.saturating_sub(place)) {
+        if at < kept.len() && kept[at].place == place {
+            return Some(at);
+        }
     }
-    place
+    kept.binary_search_by_key(&place, |kept| kept.place).ok()
+}
+
+// The first from here on that is still there, or the number of those kept. What `leave` passes over it never passes
+// over again.
+fn first_present(kept: &[Kept], from: usize) -> usize
+    requires within { from ≤ length kept.now }
+    ensures front { IsNext kept.now from result }
+{
+    let mut at = from;
+    while at < kept.len() && !kept[at].is_there {
+        at += 1;
+    }
+    at
 }

@@ -1,8 +1,9 @@
-use Rattle.std.proofs.Common.{◌≡◌, ℕ, ◌-◌, ◌≤◌, ◌<◌, length, get_or, true, false}
+use Rattle.std.proofs.Common.{◌≡◌, ℕ, ◌-◌, ◌≤◌, ◌<◌, length, true}
+use Rattle.rcu_model.specs.Roster.{kept_at}
 use Rattle.rcu_model.proofs.roster.first_present.Given as goal
 
-abbrev pub invariant-loop-place : goal.invariant-loop-place
-invariant-loop-place l = (l.from ≤ l.place) × (l.place ≤ length l.present) × ((k : ℕ) → l.from ≤ k → k < l.place → get_or l.present k false ≡ true → ⊥)
+abbrev pub invariant-loop-at : goal.invariant-loop-at
+invariant-loop-at l = (l.from ≤ l.at) × (l.at ≤ length l.kept) × ((k : ℕ) → l.from ≤ k → k < l.at → (kept_at l.kept k).is_there ≡ true → ⊥)
 
-abbrev pub decreases-loop-place : goal.decreases-loop-place
-decreases-loop-place l = length l.present - l.place
+abbrev pub decreases-loop-at : goal.decreases-loop-at
+decreases-loop-at l = length l.kept - l.at

@@ -1,7 +1,13 @@
 use Rattle.std.proofs.Common.{◌∙◌, arith}
-use Rattle.rcu_model.proofs.Places.{last_forgotten}
+use Rattle.rcu_model.proofs.Places.{forgotten, in_order_popped, next_pop}
 use Rattle.rcu_model.proofs.roster.Roster.forget_last.Goals as goal
+
+pub invariant_of-self : goal.invariant_of-self
+invariant_of-self c = record {
+  order = in_order_popped c.self.inside.came c.saturating_sub-self-inside.result c.self.inside.kept.items c.pop.new.self.items c.pop.result c.self.invariant.order c.pop.ensures.items (λ more. c.pop.ensures.variant.1 (grind arith)) (grind arith);
+  front = next_pop c.self.inside.kept.items c.pop.new.self.items c.pop.result c.self.inside.oldest c.min-self-inside.result c.pop.ensures.items (grind arith) c.self.invariant.front;
+}
 
 pub returns : goal.returns
 returns c before e =
-    last_forgotten c.self.inside.forgotten c.self.inside.present.items c.pop.new.self.items c.pop.result c.pop.ensures.items (λ more. c.pop.ensures.variant.1 (grind arith)) before (c.self.view_is ∙ e)
+    forgotten c.self.inside.came c.saturating_sub-self-inside.result c.self.inside.kept.items c.pop.new.self.items c.pop.result before c.self.invariant.order c.pop.ensures.items (λ more. c.pop.ensures.variant.1 (grind arith)) (grind arith) (c.self.view_is ∙ e)
