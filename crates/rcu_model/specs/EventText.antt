@@ -19,12 +19,6 @@ abbrev pub found_text : Option ObjectId → List ℕ
 found_text None = codes "none"
 found_text (Some o) = object_text o
 
--- the two texts with a space between them, where both are known
-abbrev pub two_texts : Option (List ℕ) → Option (List ℕ) → Option (List ℕ)
-two_texts None b = None
-two_texts (Some a) None = None
-two_texts (Some a) (Some b) = Some (a ++ codes " " ++ b)
-
 abbrev pub text_of : Event → List ℕ
 text_of (Open s) = codes "open " ++ section_text s
 text_of (Close s) = codes "close " ++ section_text s

@@ -1,12 +1,10 @@
 //! The text of an event.
 
-ghost use Rattle.std.specs.Prelude.{Some, ◌++◌, codes};
-ghost use Rattle.std.specs.Fmt.{decimal};
-ghost use Rattle.rcu_model.specs.EventText.{section_text, object_text, chain_text, found_text, text_of, two_texts};
+ghost use Rattle.std.specs.Prelude.{Some};
+ghost use Rattle.rcu_model.specs.EventText.{section_text, object_text, found_text, text_of};
 
 use crate::event::{Event, ObjectId, SectionId};
 use std::fmt;
-use std::fmt::Display;
 
 /// Writes the reader and the ordinal.
 impl fmt::Display for SectionId {
@@ -41,75 +39,40 @@ impl fmt::Display for Found {
     }
 }
 
-/// The number of a chain.
-#[derive(Clone, Copy, Drop)]
-struct Chain(u32);
-
-impl fmt::Display for Chain {
-    ghost output = { λ chain. Some (chain_text chain.0) };
-
-    fn fmt<W: fmt::Write>(&self, f: &mut fmt::Formatter<W>) -> fmt::Result {
-        write!(f, "c{}", self.0)
-    }
-}
-
-/// A letter, and the number of a queue, an ask or a barrier.
-#[derive(Clone, Copy, Drop)]
-struct Numbered<'a>(&'a str, u64);
-
-impl fmt::Display for Numbered<'_> {
-    ghost output = { λ it. Some (it.0.now ++ decimal it.1) };
-
-    fn fmt<W: fmt::Write>(&self, f: &mut fmt::Formatter<W>) -> fmt::Result {
-        write!(f, "{}{}", self.0, self.1)
-    }
-}
-
-/// Two texts with a space between them.
-#[derive(Drop)]
-struct Two<A, B>(A, B);
-
-impl<A: fmt::Display, B: fmt::Display> fmt::Display for Two<A, B> {
-    ghost output = { λ it. two_texts (A.output it.0) (B.output it.1) };
-
-    fn fmt<W: fmt::Write>(&self, f: &mut fmt::Formatter<W>) -> fmt::Result {
-        write!(f, "{} {}", self.0, self.1)
-    }
-}
-
 /// Writes the event's one text, without a line feed.
 impl fmt::Display for Event {
     ghost output = { λ event. Some (text_of event) };
 
     fn fmt<W: fmt::Write>(&self, f: &mut fmt::Formatter<W>) -> fmt::Result {
         match *self {
-            Event::Open(section) => Two("open", section).fmt(f),
-            Event::Close(section) => Two("close", section).fmt(f),
+            Event::Open(section) => write!(f, "open r{}.{}", section.reader, section.ordinal),
+            Event::Close(section) => write!(f, "close r{}.{}", section.reader, section.ordinal),
             Event::First {
-                section,
+                section: SectionId { reader, ordinal },
                 chain,
                 found,
-            } => Two("first", Two(section, Two(Chain(chain), Found(found)))).fmt(f),
+            } => write!(f, "first r{reader}.{ordinal} c{chain} {}", Found(found)),
             Event::Next {
-                section,
+                section: SectionId { reader, ordinal },
                 from,
                 found,
-            } => Two("next", Two(section, Two(from, Found(found)))).fmt(f),
-            Event::Touch { section, object } => Two("touch", Two(section, object)).fmt(f),
-            Event::Push { chain, object } => Two("push", Two(Chain(chain), object)).fmt(f),
+            } => write!(f, "next r{reader}.{ordinal} o{} {}", from.0, Found(found)),
+            Event::Touch {
+                section: SectionId { reader, ordinal },
+                object,
+            } => write!(f, "touch r{reader}.{ordinal} o{}", object.0),
+            Event::Push { chain, object } => write!(f, "push c{chain} o{}", object.0),
             Event::Replace { chain, old, new } => {
-                Two("replace", Two(Chain(chain), Two(old, new))).fmt(f)
+                write!(f, "replace c{chain} o{} o{}", old.0, new.0)
             }
-            Event::Cut { chain, object } => Two("cut", Two(Chain(chain), object)).fmt(f),
-            Event::Retire(object) => Two("retire", object).fmt(f),
-            Event::Queue { object, queue } => {
-                Two("queue", Two(object, Numbered("q", queue as u64))).fmt(f)
-            }
-            Event::Run(object) => Two("run", object).fmt(f),
-            Event::Ask(ask) => Numbered("ask a", ask).fmt(f),
-            Event::Answer(ask) => Numbered("answer a", ask).fmt(f),
-            Event::Bar(barrier) => Numbered("bar b", barrier).fmt(f),
-            Event::Clear(barrier) => Numbered("clear b", barrier).fmt(f),
+            Event::Cut { chain, object } => write!(f, "cut c{chain} o{}", object.0),
+            Event::Retire(object) => write!(f, "retire o{}", object.0),
+            Event::Queue { object, queue } => write!(f, "queue o{} q{queue}", object.0),
+            Event::Run(object) => write!(f, "run o{}", object.0),
+            Event::Ask(ask) => write!(f, "ask a{ask}"),
+            Event::Answer(ask) => write!(f, "answer a{ask}"),
+            Event::Bar(barrier) => write!(f, "bar b{barrier}"),
+            Event::Clear(barrier) => write!(f, "clear b{barrier}"),
         }
     }
 }
