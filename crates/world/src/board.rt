@@ -7,7 +7,7 @@ ghost use Rattle.rcu_model.specs.declared.refusal.Refusal.TheVariants as refusal
 use rcu_model::{Event, Refusal};
 use std::alloc::Global;
 use world_kept::Kept;
-use world_state::{Answer, Change, Config, Line, StepError, WorkerVerb, WorldPlan};
+use world_state::{Answer, Change, Config, Line, ReaderVerb, StepError, WorkerVerb, WorldPlan};
 
 /// What is kept, and the steps that change it.
 #[derive(Drop)]
@@ -31,6 +31,7 @@ pub(crate) fn entry<T>(items: &[T], place: usize) -> Option<&T>
 
 impl<P: WorldPlan + Drop> Board<P> {
     ghost use Rattle.world_state.specs.View.{fresh_at, plans_of};
+    ghost use Rattle.world_state.specs.declared.line.Line.TheVariants.{Reader as ReaderLine};
     ghost use Rattle.world.specs.Lines.{change_of, outcome_of};
     ghost use Rattle.world.specs.Shown.{shown, Meets, IsInRange};
 
@@ -50,13 +51,27 @@ impl<P: WorldPlan + Drop> Board<P> {
         requires { IsInRange (plans_of P.QSBR P.made P.action P.turn P.taken) (shown self.old) }
         ensures { Meets (outcome_of (plans_of P.QSBR P.made P.action P.turn P.taken) (shown self.old) line.now) (shown self.old) (shown self.new) result }
     {
-        if let Line::Worker(worker, WorkerVerb::GoOn) = *line {
-            if self.is_syncing(worker) {
+        match *line {
+            Line::Reader(reader, verb) => return self.read(reader, verb),
+            Line::Worker(worker, WorkerVerb::GoOn) if self.is_syncing(worker) => {
                 return self.go_on_syncing(worker);
             }
+            _ => {}
         }
         let change = self.change(line)?;
         self.kept.commit(change)
+    }
+
+    /// A line of a reader. What it changes is made at once: a `Change` has room for what updaters and workers change.
+    fn read(&mut self, reader: u32, verb: ReaderVerb) -> Result<Answer, StepError>
+        requires { IsInRange (plans_of P.QSBR P.made P.action P.turn P.taken) (shown self.old) }
+        ensures { Meets (outcome_of (plans_of P.QSBR P.made P.action P.turn P.taken) (shown self.old) (ReaderLine reader verb)) (shown self.old) (shown self.new) result }
+    {
+        let Some(state) = at(&self.kept.readers, reader as usize) else {
+            return Err(Refusal::NoActor);
+        };
+        let step = self.reader_line(reader, state, verb)?;
+        self.kept.read(reader, step)
     }
 
     /// What the steps told.

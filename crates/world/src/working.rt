@@ -2,6 +2,7 @@
 
 ghost use Rattle.std.specs.Prelude.{◌≡◌, ◌+◌, ◌<◌, ◌≤◌, length, slice_get, slice_set, Some, None, Ok, true};
 ghost use Rattle.call_rcu_worker.specs.Sync.{told_of, step_of as sync_step};
+ghost use Rattle.call_rcu_worker.specs.Worker.{synced};
 ghost use Rattle.world.specs.Grace.{MayHand, planned, stepped};
 ghost use Rattle.world.specs.Workers.{worker_act, worked};
 
@@ -188,7 +189,8 @@ impl<P: WorldPlan + Drop> Board<P> {
         self.tell_sync(worker, ask, sync, tickets, effect)
     }
 
-    /// What comes of a step of the grace period of a worker's batch, with what the step loaded.
+    /// What comes of a step of the grace period of a worker's batch, with what the step loaded. It tells the grace period
+    /// itself, and not the worker's core around it, so that the compiler moves no more of it than changes.
     fn tell_sync(
         &mut self,
         worker: u32,
@@ -202,23 +204,28 @@ impl<P: WorldPlan + Drop> Board<P> {
         requires change { change_of (plans_of P.QSBR P.made P.action P.turn P.taken) (shown self.old) (WorkerLine worker GoOn) ≡ worked worker ask tickets (stepped effect.grace ask (told_of P.action P.turn P.taken (planned sync effect.plan) effect.loaded)) }
         ensures { Meets (outcome_of (plans_of P.QSBR P.made P.action P.turn P.taken) (shown self.old) (WorkerLine worker GoOn)) (shown self.old) (shown self.new) result }
     {
-        let mut core = WorkerCore::Syncs { sync, tickets };
+        let mut sync = sync;
         if let Some(plan) = effect.plan {
-            core.begin(plan);
+            sync.begin(plan);
         }
-        let told = core.told(effect.loaded)?;
-        if told == Told::Waiting {
-            return Ok(Answer::Wait);
+        let told = sync.told(effect.loaded)?;
+        let core = synced(sync, tickets);
+        match told {
+            Told::Waiting => Ok(Answer::Wait),
+            Told::Quiet => {
+                self.write_sync(worker, WorkerState { ask, core }, effect.grace);
+                Ok(Answer::Quiet)
+            }
+            _ => self.make_sync(
+                worker,
+                WorkerState { ask, core },
+                effect.grace,
+                answer_to(ask, told),
+            ),
         }
-        self.make_sync(
-            worker,
-            WorkerState { ask, core },
-            effect.grace,
-            answer_to(ask, told),
-        )
     }
 
-    /// Makes a step of the grace period of a worker's batch.
+    /// Makes a step of the grace period of a worker's batch, which tells something.
     fn make_sync(
         &mut self,
         worker: u32,
@@ -276,6 +283,16 @@ impl<P: WorldPlan + Drop> Board<P> {
             }),
             answer: one_event(Event::Run(object)),
         })
+    }
+}
+
+/// Where a worker stands once its grace period stands there: after the last step its batch is ready.
+fn synced<P: WorldPlan + Drop>(sync: SyncCore<P>, tickets: Tickets) -> WorkerCore<P, ()>
+    ensures { result ≡ synced sync tickets }
+{
+    match sync {
+        SyncCore::Done => WorkerCore::Pops { tickets },
+        _ => WorkerCore::Syncs { sync, tickets },
     }
 }
 

@@ -8,7 +8,7 @@ use rcu_model::{Event, ObjectId, Refusal};
 use std::alloc::Global;
 use world_state::{
     Answer, Change, Config, GraceState, Layout, Mark, ObjectState, QueueAct, QueueState,
-    ReaderState, Splice, StepError, UpdaterState, WorkerState, WorldPlan, act_on, hold_queue,
+    ReaderState, ReaderStep, Splice, StepError, UpdaterState, WorkerState, WorldPlan, act_on, hold_queue,
     mark_object, put, splice_heads, splice_objects,
 };
 
@@ -38,6 +38,7 @@ pub struct Kept<P> {
 }
 
 impl<P: WorldPlan + Drop> Kept<P> {
+    ghost use Rattle.world_state.specs.declared.change.Change.TheVariants.{Read};
     ghost use Rattle.world_state.specs.View.{fresh_at, changed, answer_of, told};
     ghost use Rattle.world_state.specs.Objects.{spliced_heads, spliced_objects, marked_life};
     ghost use Rattle.world_state.specs.Queues.{acted_at, MayActAt};
@@ -93,17 +94,26 @@ impl<P: WorldPlan + Drop> Kept<P> {
         ensures memory { IfErr result (λ e. (e ≡ refusal.Memory) × Grows (shown self.old) (changed (shown self.old) change)) }
     {
         match change {
-            Change::Read { reader, step } => {
-                self.tell(step.answer)?;
-                put(&mut self.readers, reader as usize, step.state);
-                Ok(step.answer)
-            }
+            Change::Read { reader, step } => self.read(reader, step),
             Change::Begin { .. } | Change::Publish { .. } => self.commit_publishing(change),
             Change::Grace { .. } | Change::Bar { .. } => self.commit_waiting(change),
             Change::Hold { .. } | Change::Retire { .. } => self.commit_retirement(change),
             Change::Work { .. } => self.commit_worker(change),
             Change::Stay(answer) => Ok(answer),
         }
+    }
+
+    /// Makes the step of a reader, and answers what it tells. `Memory` where there is none for that: then all is as it
+    /// was.
+    pub fn read(&mut self, reader: u32, step: ReaderStep) -> Result<Answer, StepError>
+        ensures ok { OnOk result (shown self.new ≡ changed (shown self.old) (Read reader step)) }
+        ensures answer { IfOk result (λ a. a ≡ step.answer) }
+        ensures err { OnErr result (shown self.new ≡ shown self.old) }
+        ensures memory { IfErr result (λ e. (e ≡ refusal.Memory) × Grows (shown self.old) (changed (shown self.old) (Read reader step))) }
+    {
+        self.tell(step.answer)?;
+        put(&mut self.readers, reader as usize, step.state);
+        Ok(step.answer)
     }
 
     /// A change of one who publishes; any other changes nothing.
@@ -293,15 +303,17 @@ impl<P: WorldPlan + Drop> Kept<P> {
         let Answer::Events { first, second } = answer else {
             return Ok(());
         };
-        let count = if second.is_some() { 2 } else { 1 };
-        if self.log.reserve(count).is_err() {
+        let Some(second) = second else {
+            return match self.log.push(first) {
+                Ok(()) => Ok(()),
+                Err(_) => Err(Refusal::Memory),
+            };
+        };
+        if self.log.reserve(2).is_err() {
             return Err(Refusal::Memory);
         }
         let is_first = self.log.push(first).is_ok();
-        let is_second = match second {
-            Some(event) => self.log.push(event).is_ok(),
-            None => true,
-        };
+        let is_second = self.log.push(second).is_ok();
         prove!(is_first && is_second);
         Ok(())
     }
