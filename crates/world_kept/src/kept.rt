@@ -8,8 +8,8 @@ use rcu_model::{Event, ObjectId, Refusal};
 use std::alloc::Global;
 use world_state::{
     Answer, Change, Config, GraceState, Layout, Mark, ObjectState, QueueAct, QueueState,
-    ReaderState, ReaderStep, Splice, StepError, UpdaterState, WorkerState, WorldPlan, act_on, hold_queue,
-    mark_object, put, splice_heads, splice_objects,
+    ReaderState, ReaderStep, Splice, StepError, UpdaterState, WorkerState, WorldPlan, act_on,
+    hold_queue, mark_object, put, splice_heads, splice_objects,
 };
 
 /// The words, the bookkeeping beside them, and the log.
