@@ -1,10 +1,13 @@
 -- One line more.
-use Rattle.std.proofs.Common.{◌≡◌, ℕ, zero, suc, ◌+◌, ◌-◌, ◌^◌, List, [], ◌∷◌, ◌++◌, length, Ok, refl, sym, ap, ◌∙◌, append_assoc, arith}
+use Rattle.std.proofs.Common.{◌≡◌, ℕ, zero, suc, ◌+◌, ◌-◌, ◌^◌, List, [], ◌∷◌, ◌++◌, length, Result, Ok, Err, refl, sym, ap, ◌∙◌, append_assoc, inl, inr, arith}
 use Rattle.std.specs.Prelude.{min}
 use Rattle.std.proofs.lemmas.List.{append-nil, length_push, flat_map_more}
 use Rattle.std.proofs.lemmas.List.Elements.{All-nil, All-push}
 use Rattle.world_state.specs.declared.line.Line.{Line}
-use Rattle.world.specs.Steps.{WorldView, step_of, world_after_lines}
+use Rattle.world.specs.Steps.{Outcome, WorldView, Meets, step_of, world_after_lines}
+use Rattle.world_state.specs.declared.line.Answer.{Answer}
+use Rattle.rcu_model.specs.declared.refusal.Refusal.{Refusal}
+use Rattle.rcu_model.specs.declared.refusal.Refusal.TheVariants.{Memory}
 use Rattle.schedule_text.specs.Spelling.{spelling, IsLine, lines_text}
 use Rattle.schedule_text.specs.Grammar.{line_at}
 use Rattle.schedule_text.specs.Answers.{answer_line}
@@ -45,3 +48,8 @@ plays_more start stop l rest next p read text world line printed =
       printed = printed ∙ ap (λ (t : List ℕ). t ++ answer_line (step_of stop.world l).answer) p.printed ∙ append_assoc start.printed (answers_of start.world p.lines) (answer_line (step_of stop.world l).answer)
           ∙ ap (λ (t : List ℕ). start.printed ++ t) (ap (λ (w : WorldView). answers_of start.world p.lines ++ answer_line (step_of w l).answer) p.world ∙ sym (ap (λ (t : List ℕ). answers_of start.world p.lines ++ t) one) ∙ sym (answers_append start.world p.lines (l ∷ [])));
     }
+
+-- a step that is not out of memory answers what it should, and leads to the world that it should
+pub met_answer : (outcome : Outcome) (old new : WorldView) (result : Result Answer Refusal) → Meets outcome old new result → (result ≡ Err Memory → ⊥) → (new ≡ outcome.world) × (result ≡ outcome.answer)
+met_answer outcome old new (Ok a) met some = (met.1, sym met.0)
+met_answer outcome old new (Err e) met some = elim met.1 [ inl h ↦ (met.0 ∙ sym h.1, sym h.0) | inr h ↦ absurd (some (rw h.0 refl)) ]

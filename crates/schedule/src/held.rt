@@ -8,7 +8,7 @@ ghost use Rattle.schedule.specs.Next.{Next, IsIncremental};
 ghost use Rattle.schedule_text.specs.Reading.{Reading, Gives};
 ghost use Rattle.world_state.specs.declared.config.Config.{Config};
 
-use schedule_text::{column_of, front_header, front_line};
+use schedule_text::{column_of, front_go_on, front_header, front_line};
 use std::marker::Model;
 use world::{Config, Line};
 
@@ -37,6 +37,7 @@ impl Front for Config {
 impl Front for Line {
     ghost read = { line_at };
 
+    #[inline(always)]
     fn front(text: &[u8]) -> Result<(Line, &[u8]), &[u8]> {
         front_line(text)
     }
@@ -77,6 +78,8 @@ impl Held {
     }
 
     /// The same as `next`, where something is held: byte by byte, so that no more than one header or line is kept.
+    #[cold]
+    #[inline(never)]
     fn cut<'a, T: Front>(&mut self, text: &'a [u8]) -> Result<Option<(T, &'a [u8])>, usize>
         requires { IsIncremental T.read }
         ensures next { T.read self.old ≡ Err [] → Next T.read self.old text.now self.new result }
@@ -101,6 +104,8 @@ impl Held {
 
     /// What stands first in what is held and the text, and what follows it, if it is whole; else the text is held. Or
     /// the column of a byte with which it does not go on.
+    // Out of the short way of `next_line`.
+    #[inline(never)]
     fn next<'a, T: Front>(&mut self, text: &'a [u8]) -> Result<Option<(T, &'a [u8])>, usize>
         requires { IsIncremental T.read }
         ensures next { T.read self.old ≡ Err [] → Next T.read self.old text.now self.new result }
@@ -131,11 +136,20 @@ impl Held {
 
     /// The line that stands first in what is held and the text, and what follows it, if it is whole; else the text is
     /// held. Or the column of a byte with which no line goes on.
+    #[inline(always)]
     #[tactic(auto, using(crate::proofs::Short::line_incremental))]
     pub fn next_line<'a>(&mut self, text: &'a [u8]) -> Result<Option<(Line, &'a [u8])>, usize>
         ensures next { line_at self.old ≡ Err [] → Next line_at self.old text.now self.new result }
         ensures shrinks { IfOk result (λ next. IfSome next (λ x. length x.1.now < length text.now)) }
     {
-        self.next(text)
+        // The short way, which most lines take.
+        if self.len == 0
+            && let Some(found) = front_go_on(text)
+        {
+            return Ok(Some(found));
+        }
+        // Taken apart, so that what is found the short way goes through no memory.
+        let next = self.next(text)?;
+        Ok(next)
     }
 }

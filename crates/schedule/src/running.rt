@@ -1,9 +1,8 @@
 //! The lines of a schedule, stepped one after the other.
 
 ghost use Rattle.std.specs.Prelude.{◌≡◌, ◌⊎◌, ◌+◌, ◌-◌, ◌^◌, ◌++◌, min, [], false, IfOk, IfErr, OnOk, OnErr, IsTrue};
-ghost use Rattle.world.specs.Steps.{fresh_world, is_supported, step_of};
+ghost use Rattle.world.specs.Steps.{fresh_world, is_supported};
 ghost use Rattle.schedule_text.specs.declared.fault.ReplayFault.TheVariants.{BadConfig, Memory};
-ghost use Rattle.schedule_text.specs.Answers.{answer_line};
 ghost use Rattle.schedule_text.specs.Grammar.{line_at};
 ghost use Rattle.schedule.specs.Play.{point, number_on, PlaysAll, EndsLines};
 
@@ -11,7 +10,7 @@ use crate::held::Held;
 use rcu_model::Refusal;
 use schedule_text::{Counts, ReplayFault, print_answer, print_end};
 use std::alloc::Global;
-use world::{Config, Line, World};
+use world::{Answer, Config, World};
 
 /// A world, and where its schedule stands.
 #[derive(Drop)]
@@ -41,28 +40,6 @@ impl Running {
         }
     }
 
-    /// Steps the line, and writes its answer at the end. `Memory` writes nothing.
-    fn answer(
-        &mut self,
-        line: &Line,
-        text: &mut String,
-        out: &mut Vec<u8>,
-    ) -> Result<(), ReplayFault>
-        ensures world { OnOk result (self.new.world ≡ (step_of self.old.world line.now).world) }
-        ensures line { OnOk result (self.new.line ≡ number_on self.old.line 1) }
-        ensures held { self.new.held ≡ self.old.held }
-        ensures printed { OnOk result (out.new.items ≡ out.old.items ++ answer_line (step_of self.old.world line.now).answer) }
-        ensures err { IfErr result (λ fault. (fault ≡ Memory) × (out.new.items ≡ out.old.items)) }
-    {
-        let answer = self.world.step(line);
-        if let Err(Refusal::Memory) = answer {
-            return Err(ReplayFault::Memory);
-        }
-        print_answer(&answer, text, out)?;
-        self.line = self.line.saturating_add(1);
-        Ok(())
-    }
-
     /// Answers each line that ends in the piece. `BadText` at the first byte with which no line goes on; `Memory`.
     pub fn feed(
         &mut self,
@@ -77,7 +54,13 @@ impl Running {
         loop {
             match self.held.next_line(rest) {
                 Ok(Some((line, after))) => {
-                    self.answer(&line, &mut text, out)?;
+                    match self.world.step(&line) {
+                        // Most answers are this one, and it need not be moved.
+                        Ok(Answer::Quiet) => print_answer(&Ok(Answer::Quiet), &mut text, out)?,
+                        Err(Refusal::Memory) => return Err(ReplayFault::Memory),
+                        answer => print_answer(&answer, &mut text, out)?,
+                    }
+                    self.line = self.line.saturating_add(1);
                     rest = after;
                 }
                 Ok(None) => return Ok(()),

@@ -3,6 +3,7 @@ pub mod Exact
 pub mod Tables
 pub mod Numbers
 pub mod Verbs
+pub mod GoOn
 pub mod Lines
 pub mod Columns
 pub mod Langs

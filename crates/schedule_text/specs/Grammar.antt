@@ -1,5 +1,5 @@
 -- Headers and lines, read from left to right.
-use Rattle.std.specs.Prelude.{ℕ, List, map, Ok}
+use Rattle.std.specs.Prelude.{◌≡◌, ◌≤◌, ◌⊎◌, ◌∷◌, ℕ, List, map, Ok}
 use Rattle.rcu_model.specs.declared.event.ObjectId.{ObjectId}
 use Rattle.reader_word.specs.declared.layout.Layout.{Layout}
 use Rattle.world_state.specs.declared.config.Flavour.{Flavour}
@@ -11,6 +11,7 @@ use Rattle.world_state.specs.declared.line.ReaderVerb.TheVariants as reader
 use Rattle.world_state.specs.declared.line.UpdaterVerb.{UpdaterVerb}
 use Rattle.world_state.specs.declared.line.UpdaterVerb.TheVariants as updater
 use Rattle.world_state.specs.declared.line.WorkerVerb.{WorkerVerb}
+use Rattle.world_state.specs.declared.line.WorkerVerb.TheVariants as worker
 use Rattle.schedule_text.specs.Reading.{Reading, ◌>>=◌, word_at, number_at}
 use Rattle.schedule_text.specs.declared.words.ActorWord.{ActorWord}
 use Rattle.schedule_text.specs.declared.words.ActorWord.TheVariants as actors
@@ -79,6 +80,21 @@ verb_of actors.Worker n text = worker_verb_at text >>= λ v. done (Worker n v.0)
 
 unfoldable pub line_at : List ℕ → Reading Line
 line_at text = word_at actor_words text >>= λ a. number_at 32 a.1 >>= λ n. verb_of a.0 n.0 n.1
+
+-- the actor of this letter goes on
+abbrev pub GoesOn : ℕ → ℕ → Line → Type 0
+GoesOn actor n (Reader k verb) = (actor ≡ 114) × (k ≡ n) × (verb ≡ reader.GoOn)
+GoesOn actor n (Updater k verb) = (actor ≡ 117) × (k ≡ n) × (verb ≡ updater.GoOn)
+GoesOn actor n (Worker k verb) = (actor ≡ 119) × (k ≡ n) × (verb ≡ worker.GoOn)
+
+-- an actor below ten goes on at the front of the text
+pub record BeginsGoingOn (text : List ℕ) : Type 0 where
+  pub actor : ℕ
+  pub digit : ℕ
+  pub rest : List ℕ
+  pub whole : text ≡ actor ∷ digit ∷ 32 ∷ 46 ∷ 10 ∷ rest
+  pub letter : (actor ≡ 114) ⊎ ((actor ≡ 117) ⊎ (actor ≡ 119))
+  pub number : (48 ≤ digit) × (digit ≤ 57)
 
 -- ---- the header
 

@@ -44,6 +44,21 @@ fn write_answer(answer: &Result<Answer, StepError>, text: &mut String) -> Result
     }
 }
 
+/// As `print_answer`, whatever the answer. It stands alone, so that what is left of `print_answer` is inlined.
+#[inline(never)]
+fn print_any_answer(
+    answer: &Result<Answer, StepError>,
+    text: &mut String,
+    out: &mut Vec<u8>,
+) -> Result<(), AllocError>
+    ensures ok { OnOk result (out.new.items ≡ out.old.items ++ answer_line answer.now) }
+    ensures err { OnErr result (out.new.items ≡ out.old.items) }
+{
+    text.clear();
+    write_answer(answer, text)?;
+    out.extend_from_slice(text.as_bytes())
+}
+
 /// Writes what a step answered at the end, a line. What is in `text` is lost: it is made use of, so that not each
 /// answer takes memory of its own. `AllocError` leaves `out` as it was.
 pub fn print_answer(
@@ -58,9 +73,7 @@ pub fn print_answer(
     if let Ok(Answer::Quiet) = answer {
         return out.extend_from_slice(b".\n");
     }
-    text.clear();
-    write_answer(answer, text)?;
-    out.extend_from_slice(text.as_bytes())
+    print_any_answer(answer, text, out)
 }
 
 /// Writes the end line at the end. `AllocError` changes nothing.

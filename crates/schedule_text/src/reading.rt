@@ -1,11 +1,11 @@
 //! A line of text as a line.
 
-ghost use Rattle.std.specs.Prelude.{◌≡◌, ◌≤◌, ◌+◌, length, IfOk, IfErr};
+ghost use Rattle.std.specs.Prelude.{◌≡◌, ◌≢◌, ◌<◌, ◌≤◌, ◌+◌, length, Ok, IfOk, IfErr, IfSome, IfNone};
 ghost use Rattle.world_state.specs.declared.line.Line.{Line};
 ghost use Rattle.schedule_text.specs.Spelling.{IsLine, IsLineText, spelling};
 ghost use Rattle.schedule_text.specs.Fault.{IsColumn};
 ghost use Rattle.schedule_text.specs.Reading.{Gives};
-ghost use Rattle.schedule_text.specs.Grammar.{reader_verb_at, updater_verb_at, worker_verb_at, line_at};
+ghost use Rattle.schedule_text.specs.Grammar.{reader_verb_at, updater_verb_at, worker_verb_at, line_at, GoesOn, BeginsGoingOn};
 
 use crate::pieces::{number, word};
 use crate::words::{
@@ -64,6 +64,7 @@ fn worker_verb(text: &[u8]) -> Result<(WorkerVerb, &[u8]), &[u8]>
 
 /// The line at the front of the text, and what comes after it; or the bytes from the first bad one on, of which there
 /// are none where the text may go on.
+#[inline(always)]
 #[tactic(auto, unfolding(crate::specs::Grammar::line_at))]
 pub fn front_line(text: &[u8]) -> Result<(Line, &[u8]), &[u8]>
     ensures { Gives (λ l. l) result (line_at text.now) }
@@ -84,6 +85,37 @@ pub fn front_line(text: &[u8]) -> Result<(Line, &[u8]), &[u8]>
             Ok((Line::Worker(n, verb), rest))
         }
     }
+}
+
+/// The line with which the actor of this letter goes on, if it is one.
+#[inline(always)]
+fn go_on_line(actor: u8, n: u32) -> Option<Line>
+    ensures line { IfSome result (λ line. GoesOn actor n line) }
+    ensures none { IfNone result ((actor ≢ 114) × (actor ≢ 117) × (actor ≢ 119)) }
+{
+    match actor {
+        b'w' => Some(Line::Worker(n, WorkerVerb::GoOn)),
+        b'u' => Some(Line::Updater(n, UpdaterVerb::GoOn)),
+        b'r' => Some(Line::Reader(n, ReaderVerb::GoOn)),
+        _ => None,
+    }
+}
+
+/// The line at the front of the text, and what comes after it, if an actor below ten goes on there; else none, whatever
+/// stands there. Most lines are such ones, and are read faster here than by `front_line`.
+#[inline(always)]
+pub fn front_go_on(text: &[u8]) -> Option<(Line, &[u8])>
+    ensures front { IfSome result (λ found. line_at text.now ≡ Ok (found.0, found.1.now)) }
+    ensures none { IfNone result (¬ BeginsGoingOn text.now) }
+    ensures shrinks { IfSome result (λ found. length found.1.now < length text.now) }
+{
+    if let [actor, digit, b' ', b'.', b'\n', rest @ ..] = text
+        && digit.is_ascii_digit()
+    {
+        let line = go_on_line(*actor, u32::from(*digit - b'0'))?;
+        return Some((line, rest));
+    }
+    None
 }
 
 /// Text that is no line, and the column of its first byte with which no line goes on.
