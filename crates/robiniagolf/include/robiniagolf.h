@@ -3,9 +3,10 @@
  * A program writes a line for each event of its RCU ("open r0.1", "retire o7": docs/FORMATS.md), as docs/JUDGING.md
  * says, and gives the text to a judge in pieces of any length, which need not end where a line does. At each moment the
  * judge tells the verdict on what it was fed. Once that is other than ROBINIAGOLF_YES it stays, whatever is fed then.
- * These are the answers of `torture check --follow`. A judge keeps what is open, linked or awaited in the log, the
- * events of one piece, and less than a line of text: so feed a long text in pieces of some thousand bytes. What is past
- * takes next to nothing where numbers count up.
+ * These are the answers of `torture check --follow`. A judge keeps what is open, linked or awaited in the log (objects
+ * until their callbacks run), the events of one piece, and less than a line of text: so feed a long text in pieces of
+ * some thousand bytes. Its memory is that of the most that it kept at once, and is given back as it is freed. What is
+ * past takes next to nothing where numbers count up.
  *
  *     struct robiniagolf_judge judge = ROBINIAGOLF_JUDGE_EMPTY;
  *     if (robiniagolf_judge_new(&judge) != ROBINIAGOLF_YES)

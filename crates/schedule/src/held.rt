@@ -148,7 +148,7 @@ impl Held {
         {
             return Ok(Some(found));
         }
-        // Taken apart, so that what is found the short way goes through no memory.
+        // Taken apart, so that what the short way found stays in registers.
         let next = self.next(text)?;
         Ok(next)
     }

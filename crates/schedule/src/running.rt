@@ -1,10 +1,10 @@
 //! The lines of a schedule, stepped one after the other.
 
-ghost use Rattle.std.specs.Prelude.{◌≡◌, ◌⊎◌, ◌+◌, ◌-◌, ◌^◌, ◌++◌, min, [], false, IfOk, IfErr, OnOk, OnErr, IsTrue};
+ghost use Rattle.std.specs.Prelude.{◌≡◌, ◌⊎◌, ◌++◌, [], false, IfOk, IfErr, IsTrue};
 ghost use Rattle.world.specs.Steps.{fresh_world, is_supported};
 ghost use Rattle.schedule_text.specs.declared.fault.ReplayFault.TheVariants.{BadConfig, Memory};
 ghost use Rattle.schedule_text.specs.Grammar.{line_at};
-ghost use Rattle.schedule.specs.Play.{point, number_on, PlaysAll, EndsLines};
+ghost use Rattle.schedule.specs.Play.{point, PlaysAll, EndsLines};
 
 use crate::held::Held;
 use rcu_model::Refusal;

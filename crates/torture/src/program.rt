@@ -75,7 +75,7 @@ It writes `yes events=N` where the log, of N events, is a run of read-copy-updat
   D7   a retired record is queued once, and its callback runs once, when no section that it awaits is left
   D8   a grace period or a barrier is over once, when nothing that it awaits is left
 
-Lines without events and end lines are passed over. The answers are judged as they come, in memory for what is open, linked or awaited; what is past takes next to none where numbers count up.
+Lines without events and end lines are passed over. The answers are judged as they come, in memory for the most that was open, linked or awaited at once; what is past takes next to none where numbers count up.
 
 The verdict is written at the end: a text that is bad has none, even after a wrong event. With `--follow` the first wrong event ends the command at once, with its verdict and status 1, and what follows it is not looked at. So it can stand beside a program that runs.
 

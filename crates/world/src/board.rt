@@ -62,7 +62,8 @@ impl<P: WorldPlan + Drop> Board<P> {
         self.kept.commit(change)
     }
 
-    /// A line of a reader. What it changes is made at once: a `Change` has room for what updaters and workers change.
+    /// A line of a reader, made at once: a `Change` is as large as what an updater or a worker changes, and would be
+    /// moved.
     fn read(&mut self, reader: u32, verb: ReaderVerb) -> Result<Answer, StepError>
         requires { IsInRange (plans_of P.QSBR P.made P.action P.turn P.taken) (shown self.old) }
         ensures { Meets (outcome_of (plans_of P.QSBR P.made P.action P.turn P.taken) (shown self.old) (ReaderLine reader verb)) (shown self.old) (shown self.new) result }

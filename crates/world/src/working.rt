@@ -189,8 +189,8 @@ impl<P: WorldPlan + Drop> Board<P> {
         self.tell_sync(worker, ask, sync, tickets, effect)
     }
 
-    /// What comes of a step of the grace period of a worker's batch, with what the step loaded. It tells the grace period
-    /// itself, and not the worker's core around it, so that the compiler moves no more of it than changes.
+    /// What comes of a step of the grace period of a worker's batch, with what the step loaded. It tells the grace
+    /// period itself, and not the worker's core around it, so that the compiler moves no more of it than changes.
     fn tell_sync(
         &mut self,
         worker: u32,
