@@ -1,17 +1,13 @@
 //! A grace period, by any plan.
 ghost use Rattle.std.specs.Prelude.{◌≡◌, ◌+◌, ◌≤◌, ◌^◌, ◌%◌, false};
-ghost use Rattle.call_rcu_worker.specs.declared.sync.SyncCore.TheVariants.{Starts};
 ghost use Rattle.live_log.specs.Log.{IsBound};
 ghost use Rattle.live_rule.specs.declared.rights.GraceRight.TheVariants.{Rests};
 ghost use Rattle.live_rule.specs.Steps.{at_log};
 ghost use Rattle.live_table.specs.Steps.{Keeps};
 ghost use Rattle.live_grace.specs.Answers.{HasWords, RanPlan, WholeGracePeriod};
-ghost use Rattle.live_grace.specs.Asks.{cookie_in};
 
-use crate::asks::go_on;
-use call_rcu_worker::{SyncCore, SyncStep, Told};
 use crossbeam_utils::Backoff;
-use gp_memb::{Action, GracePlan};
+use gp_memb::{Action, GracePlan, Turn};
 use live_log::ChainRule;
 use live_rule::LiveSeat;
 use live_table::LiveTable;
@@ -19,18 +15,16 @@ use live_words::{load_group, load_slot, store_even, store_odd, store_present};
 use std::sync::Wait;
 
 /// A whole grace period by the seat that has the right to its words, from their present values: the sequence number,
-/// and the phase or number; answers the phase or number that it stored last. The core, whose check found the cookie not
-/// reached, names each step. It waits for each section that is open at its first store, with a back-off.
+/// and the phase or number; answers the phase or number that it stored last. A plan names each step. It waits for each
+/// section that is open at its first store, with a back-off.
 pub(crate) fn grace_period<P: GracePlan + Drop, K: ChainRule, R: Wait>(
     rt: &R,
     table: &LiveTable<P, K>,
     seat: &mut LiveSeat,
-    mut core: SyncCore<P>,
     seq: u64,
     first: u64,
 ) -> u64
     requires seat { seat.old.table_id ≡ table.now.words.shared.table_id }
-    requires core { core ≡ Starts (cookie_in core) }
     requires right { (seat.old.me.0.grace ≡ Rests seq first) × (seq % 2 ≡ 0) × (seq ≤ 2 ^ 62) × IsBound P.QSBR seq first }
     ensures seat { Keeps seat.old seat.new }
     ensures right { (seat.new.me ≡ (record (at_log seat.old.me.0 seat.new.me.0.seen) { grace = Rests (seq + 2) result }, seat.old.me.1)) × IsBound P.QSBR (seq + 2) result }
@@ -38,37 +32,32 @@ pub(crate) fn grace_period<P: GracePlan + Drop, K: ChainRule, R: Wait>(
     ensures period { WholeGracePeriod P.QSBR K.allows seat.old.me.0 seq first seat.new.me.0.seen }
     ensures plan { RanPlan P.is_begun P.action P.taken P.present table.now.slots seq first result seat.new.me.0.seen }
 {
-    core.begin(P::start(table.slots, seq, first));
-    let SyncStep::Plan(Action::StoreSeq(odd)) = core.next() else {
+    let mut plan = P::start(table.slots, seq, first);
+    let Action::StoreSeq(odd) = plan.next() else {
         unreachable!()
     };
     store_odd(table, seat, odd);
-    go_on(&mut core, 0);
+    plan.take(0);
     let mut present = first;
     let backoff = Backoff::new();
     for _ in rt.forever() {
-        let SyncStep::Plan(action) = core.next() else {
-            unreachable!()
-        };
-        match action {
+        match plan.next() {
             Action::Load(slot) => {
                 let word = load_slot(table, seat, slot);
-                back_off(&backoff, go_on(&mut core, word));
+                back_off(&backoff, plan.take(word));
             }
             Action::LoadGroup(group) => {
                 let word = load_group(table, seat, group);
-                go_on(&mut core, word);
+                plan.take(word);
             }
             Action::StorePhase(value) => {
                 store_present(table, seat, value);
-                go_on(&mut core, 0);
+                plan.take(0);
                 present = value;
             }
             Action::StoreSeq(value) => {
                 store_even(table, seat, value);
-                if matches!(go_on(&mut core, 0), Told::Answered) {
-                    return present;
-                }
+                return present;
             }
             Action::Finished => unreachable!(),
         }
@@ -76,9 +65,9 @@ pub(crate) fn grace_period<P: GracePlan + Drop, K: ChainRule, R: Wait>(
     unreachable!()
 }
 
-fn back_off(backoff: &Backoff, told: Told) {
-    match told {
-        Told::Waiting => backoff.snooze(),
-        _ => backoff.reset(),
+fn back_off(backoff: &Backoff, turn: Turn) {
+    match turn {
+        Turn::Wait => backoff.snooze(),
+        Turn::Step => backoff.reset(),
     }
 }

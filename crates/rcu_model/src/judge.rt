@@ -16,8 +16,9 @@ use std::alloc::Global;
 /// A judge of a log that is told event by event: whether the events that it has taken are a run of the abstract
 /// machine, or else the first of them that breaks its rule. It keeps what is present: open sections and what they got,
 /// objects whose callbacks have not run, asks and barriers that are not over. What is past it knows by the runs of its
-/// numbers. Beside a search among these runs, and one among the open sections or queued objects where they end in another
-/// order than they began, an event takes constant time, amortized and on the average (its maps hash without a secret).
+/// numbers. Beside a search among these runs, and one among the open sections or queued objects once most of those that
+/// came beside them are gone, an event takes constant time, amortized and on the average (its maps hash without a
+/// secret).
 #[derive(Drop)]
 pub struct Judge {
     checker: Checker,
@@ -81,8 +82,8 @@ impl Judge {
 }
 
 /// Whether the log is a run of the abstract machine, or else the first event that breaks its rule, and that rule. Takes
-/// any log, in memory linear in its length, and on the average in time that is so where numbers count up in a few
-/// threads of order (its maps hash without a secret).
+/// any log, in memory linear in its length, and on the average in time that is so, beside the searches of a [`Judge`],
+/// where numbers count up in a few threads of order (its maps hash without a secret).
 ///
 /// # Errors
 /// `Memory` where memory was refused.

@@ -43,6 +43,7 @@ impl fmt::Display for Found {
 impl fmt::Display for Event {
     ghost output = { λ event. Some (text_of event) };
 
+    // Sections are printed by their numbers: one by its own `Display` takes a call more, for each line of an answer.
     fn fmt<W: fmt::Write>(&self, f: &mut fmt::Formatter<W>) -> fmt::Result {
         match *self {
             Event::Open(section) => write!(f, "open r{}.{}", section.reader, section.ordinal),

@@ -6,8 +6,11 @@ ghost use Rattle.rcu_model.specs.Roster.{IsThere, HaveLeft, AreInOrder, IsFoundA
 use std::alloc::{AllocError, Global};
 use std::marker::Model;
 
-// So many are kept in any case.
+// Those that have left are dropped once they are so many at least,
 const FEW: usize = 64;
+
+// and at most one of so many that are kept is still there: until then most are found without a search.
+const SHARE: usize = 8;
 
 /// Those that came, each at its place, in the order of their coming, from 0: whether they are still there. Memory is
 /// linear in the greatest number of those that were there at once.
@@ -17,10 +20,10 @@ pub(crate) struct Roster {
     came: usize,
     // Those that are still there, in the order of their places, and some that have left.
     kept: Vec<Kept>,
-    // The first of these that is still there.
+    // The index of the first one kept that is still there, or the number of those kept.
     oldest: usize,
-    // How many left since those that had left were last dropped.
-    left: usize,
+    // How many of those that are kept have left.
+    gone: usize,
 }
 
 /// One that came, and whether it is still there.
@@ -50,7 +53,7 @@ impl Roster {
             came: 0,
             kept: Vec::new(alloc),
             oldest: 0,
-            left: 0,
+            gone: 0,
         }
     }
 
@@ -97,21 +100,22 @@ impl Roster {
         }
         self.kept[at].is_there = false;
         self.oldest = first_present(&self.kept, self.oldest);
-        self.left = self.left.saturating_add(1);
-        self.drop_the_left();
+        self.gone = self.gone.saturating_add(1);
+        self.drop_the_gone();
         true
     }
 
-    // Drops those that have left, once they are half of those that are kept.
-    fn drop_the_left(&mut self)
+    // Drops those that have left, once few of those that are kept are still there.
+    fn drop_the_gone(&mut self)
         ensures { self.new ≡ self.old }
     {
-        if self.left < FEW || self.left < self.kept.len() / 2 {
+        let there = self.kept.len().saturating_sub(self.gone);
+        if self.gone < FEW || self.kept.len() / SHARE < there {
             return;
         }
         self.kept.retain(|kept| kept.is_there);
         self.oldest = 0;
-        self.left = 0;
+        self.gone = 0;
     }
 
     /// How many came so far.

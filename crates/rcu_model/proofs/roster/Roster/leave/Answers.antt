@@ -56,7 +56,7 @@ returns-clause-left c =
     let ks = c.self.inside.kept.items in
     let found = found_in c.deref.result.now ks c.in-Some.at c.args.place c.deref.ensures.value c.in-Some.ensures in
     let now = marked_at ks c.in-Some.at c.index_mut.result.now (read_at ks c.in-Some.at c.index_mut.result.now found.0 c.index_mut.ensures.value) in
-    c.drop_the_left.ensures
+    c.drop_the_gone.ensures
     ∙ ap (all_places c.self.inside.came) (sym now)
     ∙ left_at c.self.inside.came ks c.in-Some.at c.args.place c.self.invariant.order found.0 found.1
     ∙ ap (λ (bits : List Bool). set bits c.args.place false) c.self.view_is

@@ -4,7 +4,7 @@ use Rattle.std.proofs.lemmas.Fn.{filter_same}
 use Rattle.rcu_model.specs.declared.roster.Kept.{Kept}
 use Rattle.rcu_model.specs.Roster.{IsKept, all_places}
 use Rattle.rcu_model.proofs.Places.{dropped, in_order_dropped, next_dropped}
-use Rattle.rcu_model.proofs.roster.Roster.drop_the_left.Goals as goal
+use Rattle.rcu_model.proofs.roster.Roster.drop_the_gone.Goals as goal
 
 rest : (c : goal.After-self-2-1) → c.retain.new.self.items ≡ filter (λ (k : Kept). k.is_there) c.self.inside.kept.items
 rest c = filter_same _ _ _ (λ x b f' k. search rules) _ _ c.retain.ensures.filtered
