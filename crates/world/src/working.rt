@@ -2,7 +2,6 @@
 
 ghost use Rattle.std.specs.Prelude.{◌≡◌, ◌+◌, ◌<◌, ◌≤◌, length, slice_get, slice_set, Some, None, Ok, true};
 ghost use Rattle.call_rcu_worker.specs.Sync.{told_of, step_of as sync_step};
-ghost use Rattle.call_rcu_worker.specs.Worker.{synced};
 ghost use Rattle.world.specs.Grace.{MayHand, planned, stepped};
 ghost use Rattle.world.specs.Workers.{worker_act, worked};
 
@@ -195,7 +194,7 @@ impl<P: WorldPlan + Drop> Board<P> {
         &mut self,
         worker: u32,
         ask: u64,
-        sync: SyncCore<P>,
+        mut sync: SyncCore<P>,
         tickets: Tickets,
         effect: Effect<P>,
     ) -> Result<Answer, StepError>
@@ -204,19 +203,18 @@ impl<P: WorldPlan + Drop> Board<P> {
         requires change { change_of (plans_of P.QSBR P.made P.action P.turn P.taken) (shown self.old) (WorkerLine worker GoOn) ≡ worked worker ask tickets (stepped effect.grace ask (told_of P.action P.turn P.taken (planned sync effect.plan) effect.loaded)) }
         ensures { Meets (outcome_of (plans_of P.QSBR P.made P.action P.turn P.taken) (shown self.old) (WorkerLine worker GoOn)) (shown self.old) (shown self.new) result }
     {
-        let mut sync = sync;
         if let Some(plan) = effect.plan {
             sync.begin(plan);
         }
         let told = sync.told(effect.loaded)?;
-        let core = synced(sync, tickets);
+        let core = WorkerCore::synced(sync, tickets);
         match told {
             Told::Waiting => Ok(Answer::Wait),
             Told::Quiet => {
                 self.write_sync(worker, WorkerState { ask, core }, effect.grace);
                 Ok(Answer::Quiet)
             }
-            _ => self.make_sync(
+            Told::Asked | Told::Answered => self.make_sync(
                 worker,
                 WorkerState { ask, core },
                 effect.grace,
@@ -283,16 +281,6 @@ impl<P: WorldPlan + Drop> Board<P> {
             }),
             answer: one_event(Event::Run(object)),
         })
-    }
-}
-
-/// Where a worker stands once its grace period stands there: after the last step its batch is ready.
-fn synced<P: WorldPlan + Drop>(sync: SyncCore<P>, tickets: Tickets) -> WorkerCore<P, ()>
-    ensures { result ≡ synced sync tickets }
-{
-    match sync {
-        SyncCore::Done => WorkerCore::Pops { tickets },
-        _ => WorkerCore::Syncs { sync, tickets },
     }
 }
 
