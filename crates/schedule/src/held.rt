@@ -37,6 +37,7 @@ impl Front for Config {
 impl Front for Line {
     ghost read = { line_at };
 
+    // As `front_line` itself.
     #[inline(always)]
     fn front(text: &[u8]) -> Result<(Line, &[u8]), &[u8]> {
         front_line(text)
@@ -78,6 +79,7 @@ impl Held {
     }
 
     /// The same as `next`, where something is held: byte by byte, so that no more than one header or line is kept.
+    // Only a line that a piece cuts in two comes here.
     #[cold]
     #[inline(never)]
     fn cut<'a, T: Front>(&mut self, text: &'a [u8]) -> Result<Option<(T, &'a [u8])>, usize>
@@ -136,6 +138,7 @@ impl Held {
 
     /// The line that stands first in what is held and the text, and what follows it, if it is whole; else the text is
     /// held. Or the column of a byte with which no line goes on.
+    // One call for each line of a schedule, whose answer then stays in registers.
     #[inline(always)]
     #[tactic(auto, using(crate::proofs::Short::line_incremental))]
     pub fn next_line<'a>(&mut self, text: &'a [u8]) -> Result<Option<(Line, &'a [u8])>, usize>

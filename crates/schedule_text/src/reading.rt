@@ -64,6 +64,7 @@ fn worker_verb(text: &[u8]) -> Result<(WorkerVerb, &[u8]), &[u8]>
 
 /// The line at the front of the text, and what comes after it; or the bytes from the first bad one on, of which there
 /// are none where the text may go on.
+// One call for each line, whose answer then stays in registers.
 #[inline(always)]
 #[tactic(auto, unfolding(crate::specs::Grammar::line_at))]
 pub fn front_line(text: &[u8]) -> Result<(Line, &[u8]), &[u8]>
@@ -88,6 +89,7 @@ pub fn front_line(text: &[u8]) -> Result<(Line, &[u8]), &[u8]>
 }
 
 /// The line with which the actor of this letter goes on, if it is one.
+// One call for each line of a schedule.
 #[inline(always)]
 fn go_on_line(actor: u8, n: u32) -> Option<Line>
     ensures line { IfSome result (λ line. GoesOn actor n line) }
@@ -103,6 +105,7 @@ fn go_on_line(actor: u8, n: u32) -> Option<Line>
 
 /// The line at the front of the text, and what comes after it, if an actor below ten goes on there; else none, whatever
 /// stands there. Most lines are such ones, and are read faster here than by `front_line`.
+// One call for each line of a schedule, whose answer then stays in registers.
 #[inline(always)]
 pub fn front_go_on(text: &[u8]) -> Option<(Line, &[u8])>
     ensures front { IfSome result (λ found. line_at text.now ≡ Ok (found.0, found.1.now)) }

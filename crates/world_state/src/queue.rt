@@ -114,6 +114,7 @@ pub fn hold_queue(queues: &mut [QueueState], place: usize, updater: u32) -> Resu
 }
 
 /// Makes a change of a queue of these, where there is such a queue.
+// Most steps of workers leave their queue as it is, and then cost no call.
 #[inline(always)]
 pub fn act_on(queues: &mut [QueueState], place: usize, act: QueueAct)
     requires { MayActAt act (slice_get queues.old place) }
