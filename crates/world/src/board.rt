@@ -7,7 +7,9 @@ ghost use Rattle.rcu_model.specs.declared.refusal.Refusal.TheVariants as refusal
 use rcu_model::{Event, Refusal};
 use std::alloc::Global;
 use world_kept::Kept;
-use world_state::{Answer, Change, Config, Line, ReaderVerb, StepError, WorkerVerb, WorldPlan};
+use world_state::{
+    Answer, Change, Config, Line, ReaderStep, ReaderVerb, StepError, WorkerVerb, WorldPlan,
+};
 
 /// What is kept, and the steps that change it.
 #[derive(Drop)]
@@ -32,7 +34,7 @@ pub(crate) fn entry<T>(items: &[T], place: usize) -> Option<&T>
 impl<P: WorldPlan + Drop> Board<P> {
     ghost use Rattle.world_state.specs.View.{fresh_at, plans_of};
     ghost use Rattle.world_state.specs.declared.line.Line.TheVariants.{Reader as ReaderLine};
-    ghost use Rattle.world.specs.Lines.{change_of, outcome_of};
+    ghost use Rattle.world.specs.Lines.{change_of, read_by, outcome_of};
     ghost use Rattle.world.specs.Shown.{shown, Meets, IsInRange};
 
     /// A board on which nothing has happened. `Memory` where that was refused.
@@ -68,11 +70,19 @@ impl<P: WorldPlan + Drop> Board<P> {
         requires { IsInRange (plans_of P.QSBR P.made P.action P.turn P.taken) (shown self.old) }
         ensures { Meets (outcome_of (plans_of P.QSBR P.made P.action P.turn P.taken) (shown self.old) (ReaderLine reader verb)) (shown self.old) (shown self.new) result }
     {
+        let step = self.reader_step(reader, verb)?;
+        self.kept.read(reader, step)
+    }
+
+    /// What a line of a reader makes of it, or why it is refused.
+    fn reader_step(&self, reader: u32, verb: ReaderVerb) -> Result<ReaderStep, Refusal>
+        requires { IsInRange (plans_of P.QSBR P.made P.action P.turn P.taken) (shown self.now) }
+        ensures { change_of (plans_of P.QSBR P.made P.action P.turn P.taken) (shown self.now) (ReaderLine reader verb) ≡ read_by reader result }
+    {
         let Some(state) = at(&self.kept.readers, reader as usize) else {
             return Err(Refusal::NoActor);
         };
-        let step = self.reader_line(reader, state, verb)?;
-        self.kept.read(reader, step)
+        self.reader_line(reader, state, verb)
     }
 
     /// What the steps told.
@@ -89,10 +99,7 @@ impl<P: WorldPlan + Drop> Board<P> {
     {
         match *line {
             Line::Reader(reader, verb) => {
-                let Some(state) = at(&self.kept.readers, reader as usize) else {
-                    return Err(Refusal::NoActor);
-                };
-                let step = self.reader_line(reader, state, verb)?;
+                let step = self.reader_step(reader, verb)?;
                 Ok(Change::Read { reader, step })
             }
             Line::Updater(updater, verb) => {
