@@ -312,9 +312,8 @@ impl<P: WorldPlan + Drop> Kept<P> {
         if self.log.reserve(2).is_err() {
             return Err(Refusal::Memory);
         }
-        let is_first = self.log.push(first).is_ok();
-        let is_second = self.log.push(second).is_ok();
-        prove!(is_first && is_second);
+        self.log.push_reserved(first);
+        self.log.push_reserved(second);
         Ok(())
     }
 
