@@ -84,6 +84,7 @@ impl<P: GracePlan + Drop, K: ChainRule, B: Site, D: Deleter> Domain<P, K, B, D> 
     /// record's seat. It never waits.
     pub fn object(&self, unlinked: &mut Unlinked<B>) -> ObjectId
         ensures object { result ≡ object_in unlinked.old.seat.me.0.object }
+        ensures chain { unlinked.new.chain ≡ unlinked.old.chain }
         ensures seat { Keeps unlinked.old.seat unlinked.new.seat }
         ensures looked { Went P.QSBR K.allows (looked_view (cell_at B.sizes (cell_in unlinked.old.seat.me.0.object) 0) (2 * result.0) unlinked.old.seat.me.0) unlinked.old.seat.me unlinked.new.seat.me }
     {

@@ -83,6 +83,7 @@ impl<B: Site> Unlinked<B> {
     pub fn object<P: GracePlan, K: ChainRule>(&mut self, table: &LiveTable<P, K>) -> ObjectId
         requires { (table.now.words.shared.table_id ≡ B.table) × (table.now.words.shared.key ≡ B.sizes) }
         ensures object { result ≡ object_in self.old.seat.me.0.object }
+        ensures chain { self.new.chain ≡ self.old.chain }
         ensures seat { Keeps self.old.seat self.new.seat }
         ensures looked { Went P.QSBR K.allows (looked_view (cell_at B.sizes (cell_in self.old.seat.me.0.object) 0) (2 * result.0) self.old.seat.me.0) self.old.seat.me self.new.seat.me }
     {

@@ -1,7 +1,7 @@
 #![tactic(auto)]
 //! `torture`: replays schedules of atomic steps, checks their answers, draws schedules, and runs live threads.
 
-ghost use Rattle.std.specs.Prelude.{◌≡◌, map, string_bytes, IfOk, IfErr};
+ghost use Rattle.std.specs.Prelude.{◌≡◌, ◌⊎◌, map, string_bytes, IfOk, IfErr};
 ghost use Rattle.std.specs.IoError.{error_kind};
 ghost use Rattle.clap.specs.Words.{kind_of};
 ghost use Rattle.torture.specs.Status.{IsStatus, EndsAfter, status_of_words};
@@ -57,7 +57,7 @@ fn own_words(rt: &HostRuntime) -> io::Result<Vec<String>> {
 }
 
 /// Executes the command of these words, from the reader to the writer, or tells why they give none, or why they cannot
-/// be had. Answers what the program ends with.
+/// be had. Answers what the program ends with: where that is 0 or 1, nothing is told of a fault.
 fn run<H: Threads + Wait + Clock + Sync, V: Watch + Sync, R: Read, W: Write, F: Write>(
     rt: &HostRuntime,
     threads: &H,
@@ -69,7 +69,8 @@ fn run<H: Threads + Wait + Clock + Sync, V: Watch + Sync, R: Read, W: Write, F: 
 ) -> u8
     ensures status { IsStatus result }
     ensures had { IfOk words (λ words. EndsAfter (map string_bytes words.items) (R.remaining reader.old) (R.remaining reader.new) (W.contents writer.old) (W.contents writer.new) result) }
-    ensures not_had { IfErr words (λ fault. result ≡ status_of_words (error_kind fault)) }
+    ensures not_had { IfErr words (λ fault. (result ≡ status_of_words (error_kind fault)) × (R.remaining reader.new ≡ R.remaining reader.old) × (W.contents writer.new ≡ W.contents writer.old)) }
+    ensures silent { (result ≡ 0) ⊎ (result ≡ 1) → faults.new ≡ faults.old }
 {
     let words = match words {
         Ok(words) => words,

@@ -39,8 +39,9 @@ abbrev pub ExecutesWalk : Bool → Walk → Option (List ℕ) → Option (List �
 ExecutesWalk true walk before after status = EndsAs (λ _. 0) (Schedules walk before after) status
 ExecutesWalk false walk before after status = EndsAs status_of_verdict (Walks walk before after) status
 
+-- a walk reads nothing
 abbrev pub Executes : Command → Option (List ℕ) → Option (List ℕ) → Option (List ℕ) → Option (List ℕ) → ℕ → Type 0
 Executes command.Replay given left before after status = EndsAs (λ _. 0) (Replays given left before after) status
 Executes command.Check given left before after status = EndsAs status_of_verdict (Checks given left before after) status
 Executes command.Follow given left before after status = EndsAs status_of_verdict (ChecksAlong given left before after) status
-Executes (command.Walk walk) given left before after status = ExecutesWalk walk.schedule walk before after status
+Executes (command.Walk walk) given left before after status = (left ≡ given) × ExecutesWalk walk.schedule walk before after status
