@@ -99,6 +99,34 @@ fn tickets_count_from_one(rt: HostRuntime) {
     assert_eq!(rt; tickets, [1, 2, 3]);
 }
 
+/// The code of what a worker ran as the one of this place.
+fn code_of<B: Site, D: Deleter>(end: &WorkerEnd<B, D>, place: usize) -> Option<u64> {
+    end.finished.get(place).map(|entry| entry.code)
+}
+
+/// The codes of what `three` retires, which a worker takes in one batch.
+fn three_codes<B: Site, R: Wait>(
+    rt: &R,
+    alloc: Global,
+    opened: Opened<MembPlan, AnyChain>,
+) -> Result<[Option<u64>; 3], Refusal>
+    requires { (B.qsbr ≡ false) × (opened.table.words.shared.table_id ≡ B.table) × (opened.table.words.shared.key ≡ B.sizes) }
+{
+    let (domain, mut record) = opened.named::<B, Adds>(alloc)?;
+    three(rt, &domain, &mut record)?;
+    plain::close(rt, &domain, &mut record);
+    let end = plain::run_worker(rt, alloc, &domain, &mut record, 0)?;
+    Ok([code_of(&end, 0), code_of(&end, 1), code_of(&end, 2)])
+}
+
+#[test]
+fn callbacks_of_a_batch_have_their_own_objects(rt: HostRuntime) {
+    let opened = Opened::<MembPlan, AnyChain>::new(rt.alloc(), of_queues(1)).expect(&rt, "memory");
+    let codes = three_codes::<Brand, _>(&rt, rt.alloc(), opened).expect(&rt, "not refused");
+    // The first words 3, 4 and 2, with 1, 2 and 3 added.
+    assert_eq!(rt; codes, [Some(4), Some(6), Some(5)]);
+}
+
 /// What is refused past the end of a chain: a cut and a replacement; whether all came back, and the chain is as long as
 /// before.
 fn past_the_end<B: Site, R: Wait>(
@@ -401,7 +429,7 @@ fn updates<P: GracePlan + Drop, B: Site, R: Wait>(
         let word = number + 1;
         if let Some(owned) = when_free(rt, domain, record, word) {
             plain::push(&mut writer, record, owned);
-            if plain::cut_retire(rt, domain, record, &mut writer, 0, Adds(0)).is_ok() {
+            if plain::cut_retire(rt, domain, record, &mut writer, 0, Adds(word)).is_ok() {
                 retired = word;
             }
         }
@@ -411,7 +439,8 @@ fn updates<P: GracePlan + Drop, B: Site, R: Wait>(
     retired
 }
 
-/// How many entries have their ticket's number as their code, from the first one on, and why the worker stopped.
+/// How many entries have twice their ticket's number as their code, which the object's word and its callback's number
+/// make together, from the first one on; and why the worker stopped.
 fn works<P: GracePlan + Drop, B: Site, R: Wait>(
     rt: &R,
     alloc: Global,
@@ -421,8 +450,9 @@ fn works<P: GracePlan + Drop, B: Site, R: Wait>(
     let end = plain::run_worker(rt, alloc, domain, record, 0)?;
     let mut good = 0u64;
     for entry in end.finished.iter() {
-        if entry.ticket.0 == entry.code && entry.code == good.wrapping_add(1) {
-            good = entry.code;
+        let next = good.wrapping_add(1);
+        if entry.ticket.0 == next && entry.code == next.wrapping_mul(2) {
+            good = next;
         }
     }
     Ok((good, end.stop))
