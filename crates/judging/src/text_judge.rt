@@ -1,7 +1,7 @@
 //! A judge of a text of answers, which can be asked at any moment.
 
 ghost use Rattle.std.specs.Prelude.{◌≡◌, ◌++◌, ℕ, List, [], true};
-ghost use Rattle.judging.specs.declared.text_judge.Finding.TheVariants.{Memory};
+ghost use Rattle.judging.specs.declared.text_judge.Finding.TheVariants.{Yes, Memory};
 ghost use Rattle.judging.specs.Found.{IsFound, IsFoundAtEnd, WasFed, finding_of, found_along, is_final};
 
 use crate::judging::Judging;
@@ -79,9 +79,10 @@ pub struct TextJudge {
 }
 
 impl TextJudge {
-    /// A judge that was fed nothing. It takes no memory yet.
+    /// A judge that was fed nothing. It takes no memory yet, so it has found a run of no events.
     pub fn new(alloc: Global) -> Self
-        ensures { WasFed result [] }
+        ensures fed { WasFed result [] }
+        ensures found { result.found ≡ Yes 0 }
     {
         TextJudge {
             judging: Judging::new(alloc),

@@ -8,11 +8,12 @@ use crate::verdict::{Verdict, answer_of};
 use judging::TextJudge;
 use std::alloc::Global;
 
-/// Makes a judge that was fed nothing. 0 made, 3 memory, 5 the handle keeps one already. Where it is not 0, the handle
-/// is as it was.
+/// Makes a judge that was fed nothing, and answers yes so far. 0 made, 3 memory, 5 the handle keeps one already. Where
+/// it is not 0, the handle is as it was.
 #[unsafe(no_mangle)]
 pub extern "C" fn robiniagolf_judge_new(alloc: Global, judge: &mut JudgeHandle) -> u32
     ensures made { result ≡ 0 → Keeps judge.new.kept.value [] }
+    ensures ready { result ≡ 0 → answer_by judge.new.kept.value ≡ 0 }
     ensures refused { result ≢ 0 → judge.new.kept.value ≡ judge.old.kept.value }
     ensures answers { (result ≡ 0) ⊎ ((result ≡ 3) ⊎ (result ≡ 5)) }
     ensures in_use { (result ≡ 5) ↔ IsSome judge.old.kept.value }

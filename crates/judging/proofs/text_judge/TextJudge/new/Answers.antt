@@ -3,8 +3,8 @@ use Rattle.rcu_model.specs.declared.event.Event.{Event}
 use Rattle.rcu_model.specs.Machine.{IsRun}
 use Rattle.judging.proofs.text_judge.TextJudge.new.Goals as goal
 
-pub returns : goal.returns
-returns c = record {
+pub returns-clause-fed : goal.returns-clause-fed
+returns-clause-fed c = record {
   judged = c.new.ensures.judged;
   run = subst IsRun (sym c.new.ensures.none) tt;
   counted = ap (λ (es : List Event). length es) (sym c.new.ensures.none);
