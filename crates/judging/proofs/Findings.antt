@@ -61,7 +61,8 @@ pub found_final : (judging : Judging) (fed : List ℕ) (found : Finding) → is_
 found_final judging fed (Yes events) final s = absurd cc
 found_final judging fed (No at rule) final s = s
 found_final judging fed (BadText line column) final s =
-    (subst (λ (t : List ℕ). BreaksOffAnswers t line column) (append-nil fed) (s.stops.breaks []), record { log = s.log; rest = s.stops.rest; line = line; read = s.stops.read; judged = s.run })
+    let breaks = subst (λ (t : List ℕ). BreaksOffAnswers t line column) (append-nil fed) (s.stops.breaks []) in
+    record { log = s.log; breaks = record { rest = s.stops.rest; read = s.stops.read; breaks = breaks }; run = s.run }
 found_final judging fed Memory final s = tt
 
 pub found_whole : (judging : Judging) (fed : List ℕ) (found : Finding) (judged : Verdict × ℕ) → is_final found ≡ false → Stands judging fed found → ((text : List ℕ) (j : HasJudged judging text) → Ends text j.log (Ok judged)) → IsFoundAtEnd fed found
@@ -71,8 +72,7 @@ found_whole judging fed (BadText line column) judged goes s ends = absurd cc
 found_whole judging fed Memory judged goes s ends = absurd cc
 
 found_cut_off : (judging : Judging) (fed : List ℕ) (events : ℕ) (fault : ReplayFault) → Stands judging fed (Yes events) → ((text : List ℕ) (j : HasJudged judging text) → Ends text j.log (Err fault)) → IsFoundAtEnd fed (finding_of fault)
-found_cut_off judging fed events (faults.BadText line column) s ends =
-    (ends fed s.judged, record { log = s.judged.log; rest = judging.answers.held.items; line = judging.answers.line; read = s.judged.read.read; judged = s.run })
+found_cut_off judging fed events (faults.BadText line column) s ends = record { log = s.judged.log; breaks = ends fed s.judged; run = s.run }
 found_cut_off judging fed events faults.Memory s ends = tt
 found_cut_off judging fed events faults.BadConfig s ends = absurd (ends fed s.judged)
 found_cut_off judging fed events faults.Read s ends = absurd (ends fed s.judged)

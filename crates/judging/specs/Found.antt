@@ -6,13 +6,13 @@ use Rattle.rcu_model.specs.declared.verdict.Verdict.TheVariants as verdicts
 use Rattle.rcu_model.specs.Machine.{IsRun}
 use Rattle.schedule_text.specs.declared.fault.ReplayFault.{ReplayFault}
 use Rattle.schedule_text.specs.declared.fault.ReplayFault.TheVariants as faults
-use Rattle.schedule_text.specs.AnswerLines.{TellsLog, BreaksOffAnswers}
+use Rattle.schedule_text.specs.AnswerLines.{TellsLog}
 use Rattle.schedule_text.specs.AnswerPieces.{StopsAnswers}
 use Rattle.judging.specs.declared.judging.Judging.{Judging}
 use Rattle.judging.specs.declared.text_judge.Finding.{Finding}
 use Rattle.judging.specs.declared.text_judge.Finding.TheVariants.{Yes, No, BadText, Memory}
 use Rattle.judging.specs.declared.text_judge.TextJudge.{TextJudge}
-use Rattle.judging.specs.Judging.{HasJudged, IsJudgedSoFar, IsRunSoFar}
+use Rattle.judging.specs.Judging.{HasJudged, IsJudgedSoFar, IsRunSoFar, BreaksRun}
 
 -- ---- of a text that may go on
 
@@ -42,7 +42,7 @@ pub record TellsRun (text : List ℕ) (events : ℕ) : Type 0 where
 abbrev pub IsFoundAtEnd : List ℕ → Finding → Type 0
 IsFoundAtEnd text (Yes events) = TellsRun text events
 IsFoundAtEnd text (No at rule) = IsJudgedSoFar text (verdicts.No at rule)
-IsFoundAtEnd text (BadText line column) = BreaksOffAnswers text line column × IsJudgedSoFar text verdicts.Yes
+IsFoundAtEnd text (BadText line column) = BreaksRun text line column
 IsFoundAtEnd text Memory = Unit {0}
 
 -- ---- the judge

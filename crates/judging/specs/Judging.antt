@@ -10,8 +10,8 @@ use Rattle.schedule_text.specs.declared.fault.AnswersFault.{AnswersFault}
 use Rattle.schedule_text.specs.declared.fault.AnswersFault.TheVariants as answers_faults
 use Rattle.schedule_text.specs.declared.fault.ReplayFault.{ReplayFault}
 use Rattle.schedule_text.specs.declared.fault.ReplayFault.TheVariants.{BadText, BadConfig, Read, Write, Memory}
-use Rattle.schedule_text.specs.AnswerLines.{IsAnswerText, TellsLog, BreaksOffAnswers}
-use Rattle.schedule_text.specs.AnswerPieces.{ReadSoFar, HasRead, StopsAnswers}
+use Rattle.schedule_text.specs.AnswerLines.{IsAnswerText, TellsLog}
+use Rattle.schedule_text.specs.AnswerPieces.{ReadSoFar, HasRead, StopsAnswers, BreaksOffAfter}
 use Rattle.schedule_text.specs.Fault.{IsPartial}
 use Rattle.judging.specs.declared.judging.Judging.{Judging}
 
@@ -52,7 +52,7 @@ pub record JudgedAs (text : List ℕ) (log : List Event) (verdict : Verdict) (ev
 -- what the end of the input comes to
 abbrev pub Ends : List ℕ → List Event → Result (Verdict × ℕ) ReplayFault → Type 0
 Ends fed log (Ok judged) = JudgedAs fed log judged.0 judged.1
-Ends fed log (Err (BadText line column)) = BreaksOffAnswers fed line column
+Ends fed log (Err (BadText line column)) = BreaksOffAfter fed log line column
 Ends fed log (Err _) = ⊥
 
 -- ---- a text that is followed
@@ -85,6 +85,12 @@ pub record IsRunSoFar (text : List ℕ) : Type 0 where
   pub line : ℕ
   pub read : ReadSoFar text rest log line
   pub partial : IsPartial IsAnswerText rest
+  pub run : IsRun log
+
+-- lines of answers whose log is a run, and then what is none
+pub record BreaksRun (text : List ℕ) (line column : ℕ) : Type 0 where
+  pub log : List Event
+  pub breaks : BreaksOffAfter text log line column
   pub run : IsRun log
 
 -- what a piece comes to where a wrong event ends it

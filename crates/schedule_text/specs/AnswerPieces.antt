@@ -41,8 +41,14 @@ Takes reader fed log (Ok _) = HasRead reader fed log
 Takes reader fed log (Err (BadText line column)) = StopsAnswers fed log line column
 Takes reader fed log (Err Memory) = Unit {0}
 
+-- lines of answers whose events are the log, and then, at the line of this number, what is none
+pub record BreaksOffAfter (text : List ℕ) (log : List Event) (at column : ℕ) : Type 0 where
+  pub rest : List ℕ
+  pub read : ReadSoFar text rest log at
+  pub breaks : BreaksOffAnswers text at column
+
 -- what the end of the input comes to
 abbrev pub EndsAnswers : List ℕ → List Event → Result (Unit {0}) AnswersFault → Type 0
 EndsAnswers fed log (Ok _) = TellsLog fed log
-EndsAnswers fed log (Err (BadText line column)) = BreaksOffAnswers fed line column
+EndsAnswers fed log (Err (BadText line column)) = BreaksOffAfter fed log line column
 EndsAnswers fed log (Err Memory) = ⊥

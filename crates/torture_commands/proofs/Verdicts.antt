@@ -77,7 +77,7 @@ piece_fault given left before judging fed Write c j = absurd j
 -- the reader is at the end of the text
 checked_by : (given left : Option (List ℕ)) (text : List ℕ) (log : List Event) (printed : List ℕ) (result : Result Verdict ReplayFault) → Tells given text → Closed text log printed result → Checked given left text printed result
 checked_by given left text log printed (Ok verdict) t c = (t, (log, c))
-checked_by given left text log printed (Err (BadText line column)) t c = (t, c)
+checked_by given left text log printed (Err (BadText line column)) t c = (t, (c.0.breaks, c.1))
 checked_by given left text log printed (Err Write) t c = (t, (c.0, (c.1.0, (log, c.1.1))))
 checked_by given left text log printed (Err Read) t c = absurd c
 checked_by given left text log printed (Err Memory) t c = c
@@ -105,7 +105,7 @@ no_break log at rule run b = b.breaks (at_event log b.before b.later b.event run
 along_by : (given left : Option (List ℕ)) (text : List ℕ) (judging : Judging) (j : HasJudged judging text) (printed : List ℕ) (result : Result Verdict ReplayFault) → IsRun j.log → Tells given text → Closed text j.log printed result → CheckedAlong given left text printed result
 along_by given left text judging j printed (Ok Yes) run t c = (t, (j.log, c))
 along_by given left text judging j printed (Ok (No at rule)) run t c = absurd (no_break j.log at rule run c.judged)
-along_by given left text judging j printed (Err (BadText line column)) run t c = (t, (c.0, (record { log = j.log; rest = judging.answers.held.items; line = judging.answers.line; read = j.read.read; judged = run }, c.1)))
+along_by given left text judging j printed (Err (BadText line column)) run t c = (t, (record { log = j.log; breaks = c.0; run = run }, c.1))
 along_by given left text judging j printed (Err Write) run t c = inl (t, (c.0, (c.1.0, (j.log, c.1.1))))
 along_by given left text judging j printed (Err Read) run t c = absurd c
 along_by given left text judging j printed (Err Memory) run t c = c
@@ -135,7 +135,7 @@ along_wrong given left before after earlier piece at rule result reads short rig
     by (Err (BadText line column)) is = absurd is
     by (Err BadConfig) is = absurd is
     by (Err Read) is = absurd is
-    by (Err Write) is = inr (reads, (No at rule, (is.0, ends (p.printed ++ is.0) is.1)))
+    by (Err Write) is = inr (reads, (at, (rule, (is.0, ends (p.printed ++ is.0) is.1))))
     by (Err Memory) is = is
 
 -- a fault before anything was written
@@ -150,7 +150,7 @@ along_fault given left before judging fed (BadText line column) c j =
       text = fed ++ t.0;
       printed = [];
       writes = appends_none before;
-      checked = (t.1, (s.breaks t.0, (record { log = j.0.log; rest = s.rest ++ t.0; line = line; read = more_text fed s.rest t.0 j.0.log line s.read; judged = j.1 }, refl)));
+      checked = (t.1, (record { log = j.0.log; breaks = record { rest = s.rest ++ t.0; read = more_text fed s.rest t.0 j.0.log line s.read; breaks = s.breaks t.0 }; run = j.1 }, refl));
     }
 along_fault given left before judging fed Memory c j = record { text = []; printed = []; writes = appends_none before; checked = refl }
 along_fault given left before judging fed BadConfig c j = absurd j

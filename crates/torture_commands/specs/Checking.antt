@@ -3,6 +3,7 @@ use Rattle.std.specs.Prelude.{◌≡◌, ◌⊎◌, ℕ, ◌≤◌, List, [], �
 use Rattle.std.specs.Fmt.{decimal}
 use Rattle.std.specs.Io.KnownBytes.{Appends, Consumes}
 use Rattle.rcu_model.specs.declared.event.Event.{Event}
+use Rattle.rcu_model.specs.declared.verdict.Rule.{Rule}
 use Rattle.rcu_model.specs.declared.verdict.Verdict.{Verdict}
 use Rattle.rcu_model.specs.declared.verdict.Verdict.TheVariants.{Yes, No}
 use Rattle.rcu_model.specs.Machine.{IsRun}
@@ -10,9 +11,10 @@ use Rattle.rcu_model.specs.Verdict.{Judges, name_of}
 use Rattle.schedule_text.specs.declared.fault.ReplayFault.{ReplayFault}
 use Rattle.schedule_text.specs.declared.fault.ReplayFault.TheVariants.{BadText, BadConfig, Read, Write, Memory}
 use Rattle.schedule_text.specs.AnswerLines.{TellsLog, BreaksOffAnswers}
+use Rattle.schedule_text.specs.AnswerPieces.{BreaksOffAfter}
 use Rattle.schedule.specs.Ports.{Tells}
 use Rattle.judging.specs.declared.judging.Judging.{Judging}
-use Rattle.judging.specs.Judging.{HasJudged, IsJudgedSoFar, IsRunSoFar}
+use Rattle.judging.specs.Judging.{HasJudged, IsJudgedSoFar, IsRunSoFar, BreaksRun}
 
 -- the line of a verdict on a log of so many events
 abbrev pub verdict_line : Verdict → ℕ → List ℕ
@@ -48,7 +50,7 @@ IsFrontOfVerdict text printed = (verdict : Verdict) × ((more : List ℕ) × Jud
 -- what is written at the end of the input, whose lines tell the log
 abbrev pub Closed : List ℕ → List Event → List ℕ → Result Verdict ReplayFault → Type 0
 Closed text log printed (Ok verdict) = TellsVerdict text log verdict printed
-Closed text log printed (Err (BadText line column)) = BreaksOffAnswers text line column × (printed ≡ [])
+Closed text log printed (Err (BadText line column)) = BreaksOffAfter text log line column × (printed ≡ [])
 Closed text log printed (Err Write) = (verdict : Verdict) × ((more : List ℕ) × TellsVerdict text log verdict (printed ++ more))
 Closed text log printed (Err Memory) = printed ≡ []
 Closed text log printed (Err _) = ⊥
@@ -93,15 +95,15 @@ pub record EndsWrong (text : List ℕ) (verdict : Verdict) (printed : List ℕ) 
   pub wrong : IsJudgedSoFar text verdict
   pub line : printed ≡ verdict_line verdict 0
 
--- the line of some verdict that ends the text begins like this
+-- the line of some wrong event that ends the text begins like this
 abbrev pub IsFrontOfWrong : List ℕ → List ℕ → Type 0
-IsFrontOfWrong text printed = (verdict : Verdict) × ((more : List ℕ) × EndsWrong text verdict (printed ++ more))
+IsFrontOfWrong text printed = (at : ℕ) × ((rule : Rule) × ((more : List ℕ) × EndsWrong text (No at rule) (printed ++ more)))
 
 -- Nothing is read after the piece that has the first wrong event. A bad text counts where no event before it is wrong.
 abbrev pub CheckedAlong : Option (List ℕ) → Option (List ℕ) → List ℕ → List ℕ → Result Verdict ReplayFault → Type 0
 CheckedAlong given left text printed (Ok Yes) = Tells given text × Judged text Yes printed
 CheckedAlong given left text printed (Ok (No at rule)) = Consumes given left text × EndsWrong text (No at rule) printed
-CheckedAlong given left text printed (Err (BadText line column)) = Tells given text × (BreaksOffAnswers text line column × (IsJudgedSoFar text Yes × (printed ≡ [])))
+CheckedAlong given left text printed (Err (BadText line column)) = Tells given text × (BreaksRun text line column × (printed ≡ []))
 CheckedAlong given left text printed (Err Write) = (Tells given text × IsFrontOfVerdict text printed) ⊎ (Consumes given left text × IsFrontOfWrong text printed)
 CheckedAlong given left text printed (Err Read) = Consumes given left text × (IsRunSoFar text × (printed ≡ []))
 CheckedAlong given left text printed (Err Memory) = printed ≡ []
