@@ -5,7 +5,7 @@ ghost use Rattle.std.specs.List.{FoldsTo};
 ghost use Rattle.std.specs.Sync.RwLock.{read_guard_value};
 ghost use Rattle.rcu_model.specs.declared.event.ObjectId.{ObjectId};
 ghost use Rattle.rcu_model.specs.declared.refusal.Refusal.TheVariants.{BadConfig, Memory, PoolFull};
-ghost use Rattle.live_log.specs.Log.{Log};
+ghost use Rattle.live_log.specs.Log.{Begins, Log};
 ghost use Rattle.live_log.specs.Tables.{tabled};
 ghost use Rattle.live_read.specs.Hearing.{IsAfter, MakesLast, Stays};
 ghost use Rattle.live_read.specs.Holding.{log_of};
@@ -87,6 +87,7 @@ impl<'d, P: GracePlan + Drop, B: Site, D: Deleter> RcuHash<'d, P, B, D> {
         ensures free { IfOk result (λ _. FindsFree W.Witness P.QSBR tabled witness.old witness.new (λ c. (c ≡ directory) ⊎ IsAmong first buckets c)) }
         ensures map { IfOk result (λ _. (key : ℕ) → (directed_map B.sizes.chains directory (W.heard witness.new) key ≡ None) × LeadsTo directory (W.heard witness.new) key (bucket_of first buckets key)) }
         ensures heard { IfOk result (λ _. IsAfter P.QSBR tabled (W.seen witness.old) (W.heard witness.old) (W.heard witness.new)) }
+        ensures later { Begins (W.heard witness.old) (W.heard witness.new) }
         ensures refused { IfErr result (λ e. ((e ≡ BadConfig) × ((fits B.sizes.chains directory first buckets ≡ false) ⊎ FindsTaken W.Witness P.QSBR tabled witness.old witness.new B.sizes (λ c. (c ≡ directory) ⊎ IsAmong first buckets c))) ⊎ ((fits B.sizes.chains directory first buckets ≡ true) × ((e ≡ Memory) ⊎ (e ≡ PoolFull)))) }
         ensures looks { (found : List (ℕ × ℕ)) × (W.looks witness.new ≡ found ++ W.looks witness.old) × IfErr result (λ e. (e ≡ PoolFull) → IsUsedUp B.sizes found ⊎ AreTaken B.sizes found) }
         ensures changes { IfOk result (λ _. MakesLast W.Witness witness.old witness.new (W.heard witness.new)) × IfErr result (λ _. Stays W.Witness witness.old witness.new) }

@@ -56,6 +56,35 @@ returns-in-Err-clause-looks g c =
     let held = looks_both (w.looks c.args.witness.now) (w.looks c.hold_empty.new.witness) (w.looks c.hold_all.new.witness) one.0 two.0 one.1 two.1 in
     (three.0 ++ (two.0 ++ one.0), looks_both (w.looks c.args.witness.now) (w.looks c.hold_all.new.witness) (w.looks c.alloc.new.witness) (two.0 ++ one.0) three.0 held three.1, λ full. found_more g.B.Site.sizes three.0 (two.0 ++ one.0) three.2.1)
 
+-- what the caller hears of in a call that is refused comes after all that it had heard of
+pub returns-in_err-chains-clause-later : goal.returns-in_err-chains-clause-later
+returns-in_err-chains-clause-later g c = ([], refl)
+
+pub returns-in_err-noted-clause-later : goal.returns-in_err-noted-clause-later
+returns-in_err-noted-clause-later g c = ([], refl)
+
+pub returns-in_err-back-clause-later : goal.returns-in_err-back-clause-later
+returns-in_err-back-clause-later g c = ([], refl)
+
+pub returns-in_err-places-clause-later : goal.returns-in_err-places-clause-later
+returns-in_err-places-clause-later g c = ([], refl)
+
+pub returns-in_err-own-clause-later : goal.returns-in_err-own-clause-later
+returns-in_err-own-clause-later g c = c.hold_empty.ensures.heard.after_heard
+
+pub returns-in_err-chains-2-clause-later : goal.returns-in_err-chains-2-clause-later
+returns-in_err-chains-2-clause-later g c =
+    let w = g.W.Witness in begins_trans (w.heard c.args.witness.now) (w.heard c.hold_empty.new.witness) (w.heard c.hold_all.new.witness) c.hold_empty.ensures.heard.after_heard c.hold_all.ensures.heard
+
+pub returns-in_err-lents-clause-later : goal.returns-in_err-lents-clause-later
+returns-in_err-lents-clause-later g c =
+    let w = g.W.Witness in begins_trans (w.heard c.args.witness.now) (w.heard c.hold_empty.new.witness) (w.heard c.hold_all.new.witness) c.hold_empty.ensures.heard.after_heard c.hold_all.ensures.heard
+
+pub returns-in-Err-clause-later : goal.returns-in-Err-clause-later
+returns-in-Err-clause-later g c =
+    let w = g.W.Witness in let w0 = c.args.witness.now in let w1 = c.hold_empty.new.witness in let w2 = c.hold_all.new.witness in let w3 = c.alloc.new.witness in
+    begins_trans (w.heard w0) (w.heard w1) (w.heard w3) c.hold_empty.ensures.heard.after_heard (begins_trans (w.heard w1) (w.heard w2) (w.heard w3) c.hold_all.ensures.heard c.alloc.ensures.heard.after_heard)
+
 pub note_all-chains-requires-clause-chains : goal.note_all-chains-requires-clause-chains
 note_all-chains-requires-clause-chains g c = let h = c.in_ok-chains-2.ensures.held in (each_map IsEmpty HasNoNote (λ v e. e.1) _ h.2, h.3)
 
@@ -83,6 +112,9 @@ returns-clause-heard g c =
       after_heard = begins_trans (w.heard w0) (w.heard w1) (w.heard w5) a.heard.after_heard (begins_trans (w.heard w1) (w.heard w2) (w.heard w5) b.heard (begins_trans (w.heard w2) (w.heard w3) (w.heard w5) o.heard.after_heard (begins_trans (w.heard w3) (w.heard w4) (w.heard w5) n.heard d.after_heard)));
       run = d.run;
     }
+
+pub returns-clause-later : goal.returns-clause-later
+returns-clause-later g c = (returns-clause-heard g c).after_heard
 
 pub returns-clause-looks : goal.returns-clause-looks
 returns-clause-looks g c =
