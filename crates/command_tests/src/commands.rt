@@ -166,9 +166,9 @@ fn a_follow_ends_at_the_first_wrong_event(rt: HostRuntime) {
 
 #[test]
 fn a_follow_reads_no_more_after_a_wrong_event(rt: HostRuntime) {
-    let text = b"open r0.1\nopen r0.1\nclose r0.1\n";
+    let text = b"wait\nopen r0.1\nopen r0.1\nclose r0.1\n";
     let mut reader = Pieces {
-        before: Some(20),
+        before: Some(25),
         ..Pieces::new(text, 1)
     };
     let mut out: Vec<u8> = Vec::new(rt.alloc());
@@ -183,6 +183,36 @@ fn a_follow_reads_no_more_after_a_wrong_event(rt: HostRuntime) {
     assert_eq!(rt; status, 1);
     assert_eq!(rt; out.as_slice(), b"no event=2 rule=D3\n".as_slice());
     assert!(rt; faults.is_empty());
+}
+
+/// What a command that gets a text byte by byte leaves of it, and its status.
+fn left_of(alloc: Global, command: Command, text: &[u8]) -> (&[u8], u8) {
+    let mut reader = Pieces::new(text, 1);
+    let mut printed: Vec<u8> = Vec::new(alloc);
+    let mut told: Vec<u8> = Vec::new(alloc);
+    let status = executed_on(alloc, command, &mut reader, &mut printed, &mut told);
+    (reader.text, status)
+}
+
+#[test]
+fn nothing_is_read_after_a_bad_line(rt: HostRuntime) {
+    let answers = b"wait\nidlf\nwait\n";
+    let left: (&[u8], u8) = (b"\nwait\n", 2);
+    assert_eq!(rt; left_of(rt.alloc(), Command::Check, answers), left);
+    assert_eq!(rt; left_of(rt.alloc(), Command::Follow, answers), left);
+    let schedule = b"schedule 1 memb 1 1 1 1\nr0 lonk\nr0 lock\n";
+    let left: (&[u8], u8) = (b"k\nr0 lock\n", 2);
+    assert_eq!(rt; left_of(rt.alloc(), Command::Replay, schedule), left);
+    let header = b"schedulx 1 memb 1 1 1 1\nr0 lock\n";
+    let left: (&[u8], u8) = (b" 1 memb 1 1 1 1\nr0 lock\n", 2);
+    assert_eq!(rt; left_of(rt.alloc(), Command::Replay, header), left);
+}
+
+#[test]
+fn a_walk_reads_nothing(rt: HostRuntime) {
+    let text = b"schedule 1 memb 1 1 1 1\n";
+    let left: (&[u8], u8) = (text, 0);
+    assert_eq!(rt; left_of(rt.alloc(), Command::Walk(DEFAULT), text), left);
 }
 
 #[test]
