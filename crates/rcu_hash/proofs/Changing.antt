@@ -60,6 +60,7 @@ module _ (qsbr : Bool) (allows : Log → LiveEvent → Type 0) where
       below = i.below;
       changes = table_changes None (Some value) (Object (Push bucket i.object i.cell (words_of key value i.rank))) i.changes
           (λ c apart. at_number_other bucket c (i.object ∷ (state_of i.changes.before).chain bucket) (state_of i.changes.before).chain apart);
+      next = i.next;
     }
 
     pub table_replaces : (value : ℕ) (left : ObjectId) → list.Replaces qsbr allows bucket known seen heard key value left log → Replaces qsbr allows first buckets seen' heard' key value left log

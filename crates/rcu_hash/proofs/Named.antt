@@ -16,9 +16,9 @@ use Rattle.live_rule.specs.declared.view.View.{View}
 use Rattle.live_table.specs.Rights.{AreAsKnown, IsListed, own_in}
 use Rattle.live_write.specs.Chains.{list_in}
 use Rattle.live_write.proofs.Lemmas.{index_has}
-use Rattle.rcu_list.specs.Maps.{map_of}
+use Rattle.rcu_list.specs.Maps.{map_of, next_rank}
 use Rattle.rcu_list.specs.Preparing.{MayComeIn, MayTakeOver}
-use Rattle.rcu_list.proofs.Lemmas.{MayWriteIn}
+use Rattle.rcu_list.proofs.Lemmas.{MayWriteIn, rank_same}
 use Rattle.rcu_hash.specs.Directories.{LeadsTo, directed_map, leads}
 use Rattle.rcu_hash.specs.Naming.{WasNamed, words_by}
 use Rattle.rcu_hash.proofs.Ranges.{Changes, Inserts, Removes, Replaces, table_of}
@@ -46,14 +46,15 @@ may_write_named qsbr v known d o x began lent is alone named log begins run note
 
 -- a record that was ready is so in a later log, in which the chain is the same
 pub ready_later : (qsbr : Bool) (v w u : View) (key value : ℕ) → IsListed v → Begins v.seen w.seen → IsLiveRun qsbr tabled w.seen → list_in w ≡ list_in v → MayComeIn v u key value → MayComeIn w u key value
-ready_later qsbr v w u key value listed later run same ready = record {
-  rank = ready.rank;
-  words = ready.words;
-  others = λ o h.
-      let had : In (list_in v) o = subst (λ (l : List ObjectId). In l o) same h in
-      let note = note_stays qsbr tabled v.seen w.seen o later run (chain_used qsbr tabled v.seen (own_in v.chains).chain o (run_of qsbr tabled v.seen w.seen later run) (subst (λ (l : List ObjectId). In l o) (sym listed.0) had)) in
-      subst (λ (x : ℕ × List ℕ). (key_of x ≢ key) × (rank_of x < ready.rank)) (sym note) (ready.others o had);
-}
+ready_later qsbr v w u key value listed later run same ready =
+    let note : (o : ObjectId) → In (list_in v) o → note_of w.seen o ≡ note_of v.seen o = λ o had. note_stays qsbr tabled v.seen w.seen o later run (chain_used qsbr tabled v.seen (own_in v.chains).chain o (run_of qsbr tabled v.seen w.seen later run) (subst (λ (l : List ObjectId). In l o) (sym listed.0) had)) in record {
+      rank = ready.rank;
+      words = ready.words;
+      next = ready.next ∙ (sym (rank_same (note_of v.seen) (note_of w.seen) (list_in v) note) ∙ ap (next_rank (note_of w.seen)) (sym same));
+      others = λ o h.
+          let had : In (list_in v) o = subst (λ (l : List ObjectId). In l o) same h in
+          subst (λ (x : ℕ × List ℕ). (key_of x ≢ key) × (rank_of x < ready.rank)) (sym (note o had)) (ready.others o had);
+    }
 
 pub over_later : (qsbr : Bool) (v w u : View) (key value index : ℕ) → IsListed v → Begins v.seen w.seen → IsLiveRun qsbr tabled w.seen → list_in w ≡ list_in v → MayTakeOver v u key value index → MayTakeOver w u key value index
 over_later qsbr v w u key value index listed later run same ready =
@@ -158,7 +159,7 @@ module _ (chains first buckets : ℕ) (many : 0 < buckets) (fits : first + bucke
       }
 
     pub inserts_through : (value : ℕ) → Inserts qsbr tabled first buckets seen heard key value log → InsertsThrough qsbr tabled chains d seen heard key value (bucket_of first buckets key) log
-    inserts_through value i = record { object = i.object; cell = i.cell; rank = i.rank; below = i.below; changes = changes_through _ None (Some value) i.changes }
+    inserts_through value i = record { object = i.object; cell = i.cell; rank = i.rank; below = i.below; changes = changes_through _ None (Some value) i.changes; next = i.next }
 
     pub replaces_through : (value : ℕ) (left : ObjectId) → Replaces qsbr tabled first buckets seen heard key value left log → ReplacesThrough qsbr tabled chains d seen heard key value (bucket_of first buckets key) left log
     replaces_through value left i = record { object = i.object; cell = i.cell; rank = i.rank; had = i.had; changes = changes_through _ (Some i.had) (Some value) i.changes }

@@ -5,8 +5,8 @@ use Rattle.rcu_model.specs.Sets.{at_number}
 use Rattle.live_log.specs.declared.event.LiveEvent.{LiveEvent}
 use Rattle.live_log.specs.declared.event.LiveEvent.TheVariants.{Object}
 use Rattle.live_log.specs.declared.event.ObjectEvent.TheVariants.{Push, Replace, Cut}
-use Rattle.live_log.specs.Log.{Log, Begins, IsLiveRun}
-use Rattle.rcu_list.specs.Maps.{words_of}
+use Rattle.live_log.specs.Log.{Log, Begins, IsLiveRun, note_of, state_of}
+use Rattle.rcu_list.specs.Maps.{next_rank, words_of}
 use Rattle.rcu_hash.specs.Directories.{LeadsTo, directed_map}
 
 -- by the rule of chains, the chains of the domain, the directory's chain, and what the caller had seen and heard of
@@ -23,13 +23,14 @@ module _ (qsbr : Bool) (allows : Log → LiveEvent → Type 0) (chains d : ℕ) 
     pub was : directed_map chains d before key ≡ had
     pub map : (k : ℕ) → directed_map chains d log k ≡ at_number key has (directed_map chains d before) k
 
-  -- a key that had no value has this one, by a push into the chain
+  -- a key that had no value has this one, by a push into the chain, with the rank that came next in it
   pub record InsertsThrough (key value chain : ℕ) (log : Log) : Type 0 where
     pub object : ObjectId
     pub cell : ℕ
     pub rank : ℕ
     pub below : rank < 2 ^ 62
     pub changes : ChangesThrough chain (Object (Push chain object cell (words_of key value rank))) key None (Some value) log
+    pub next : rank ≡ next_rank (note_of changes.before) ((state_of changes.before).chain chain)
 
   -- a key that had a value has this one, by a replacement in the chain
   pub record ReplacesThrough (key value chain : ℕ) (left : ObjectId) (log : Log) : Type 0 where

@@ -13,8 +13,8 @@ use Rattle.live_log.specs.Log.{Log, Begins, IsLiveRun, note_of, state_of}
 use Rattle.live_log.proofs.Lemmas.{by_object, chain_used, grows_log, not_has, note_stays, run_of}
 use Rattle.live_log.specs.Maps.{HasMaps}
 use Rattle.rcu_list.specs.Calls.{Inserts, Replaces, Removes}
-use Rattle.rcu_list.specs.Maps.{map_of, value_in, value_of, words_of}
-use Rattle.rcu_list.proofs.Values.{one_key, value_absent, value_at, value_first, value_kept, value_same}
+use Rattle.rcu_list.specs.Maps.{map_of, next_rank, value_in, value_of, words_of}
+use Rattle.rcu_list.proofs.Values.{one_key, rank_same, value_absent, value_at, value_first, value_kept, value_same}
 
 module _ (qsbr : Bool) (allows : Log → LiveEvent → Type 0) (maps : HasMaps qsbr allows) (c : ℕ) where
   -- the objects of the chain
@@ -40,8 +40,8 @@ module _ (qsbr : Bool) (allows : Log → LiveEvent → Type 0) (maps : HasMaps q
     same_map linked k = ap (λ (os : List ObjectId). value_in (note_of log) os k) linked ∙ value_same (note_of known) (note_of log) (chain_in known) k same_note
 
   module _ (known seen heard before : Log) (after : Begins known before × Begins seen before × Begins heard before) (linked : chain_in before ≡ chain_in known) (key value rank cell : ℕ) (o : ObjectId) where
-    pub inserts : rank < 2 ^ 62 → IsLiveRun qsbr allows (Object (Push c o cell (words_of key value rank)) ∷ before) → map_of known c key ≡ None → Inserts qsbr allows c known seen heard key value (Object (Push c o cell (words_of key value rank)) ∷ before)
-    inserts below run none =
+    pub inserts : rank < 2 ^ 62 → rank ≡ next_rank (note_of known) (chain_in known) → IsLiveRun qsbr allows (Object (Push c o cell (words_of key value rank)) ∷ before) → map_of known c key ≡ None → Inserts qsbr allows c known seen heard key value (Object (Push c o cell (words_of key value rank)) ∷ before)
+    inserts below next run none =
         let e : LiveEvent = Object (Push c o cell (words_of key value rank)) in
         let now : List ObjectId = chain_in (e ∷ before) in
         let pushed : now ≡ o ∷ chain_in before = at_number_same c (o ∷ chain_in before) (state_of before).chain in
@@ -64,6 +64,7 @@ module _ (qsbr : Bool) (allows : Log → LiveEvent → Type 0) (maps : HasMaps q
                 ∙ (value_first (note_of (e ∷ before)) (chain_in before) o k
                 ∙ (λ i. at_number (key_of (here i)) (Some (value_of (here i))) (λ n. value_same (note_of before) (note_of (e ∷ before)) (chain_in before) n (same_note before (e ∷ before) (e ∷ [], refl) run) i) k));
           };
+          next = next ∙ (sym (rank_same (note_of known) (note_of before) (chain_in known) (same_note known before after.0 run.1)) ∙ ap (next_rank (note_of before)) (sym linked));
         }
 
     module _ (p : ObjectId) (at : In (chain_in known) p) (is : key_of (note_of known p) ≡ key) where

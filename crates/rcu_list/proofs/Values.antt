@@ -1,12 +1,12 @@
 -- The values of keys among objects.
-use Rattle.std.proofs.Common.{◌≡◌, ◌≢◌, ◌⊎◌, ℕ, ◌<◌, ◌==◌, Bool, if◌then◌else◌, List, [], ◌∷◌, Some, None, refl, sym, ap, ◌∙◌, subst, inl, inr, ⊎_elim, arith, eq-eqb, ne_eqb, slice_get}
+use Rattle.std.proofs.Common.{◌≡◌, ◌≢◌, ◌⊎◌, ℕ, ◌+◌, ◌<◌, ◌≤◌, ◌==◌, Bool, if◌then◌else◌, List, [], ◌∷◌, length, Some, None, refl, sym, ap, ◌∙◌, subst, inl, inr, ⊎_elim, arith, eq-eqb, ne_eqb, slice_get}
 use mathlib.Core.Logic.{dite}
 use native.Mathlib.Decide.{ℕ_discrete}
 use Rattle.rcu_model.specs.declared.event.ObjectId.{ObjectId}
 use Rattle.rcu_model.specs.Sets.{In, first_of, next_of, same_object, at_number}
 use Rattle.rcu_model.proofs.Lemmas.{Tells, object_tells, none_some, some_is}
 use Rattle.live_log.specs.Keys.{key_of, rank_of, Falls}
-use Rattle.rcu_list.specs.Maps.{value_of, value_in}
+use Rattle.rcu_list.specs.Maps.{next_rank, value_of, value_in}
 
 -- a test of two numbers, either way round
 test_back : (m n : ℕ) → (m == n) ≡ (n == m)
@@ -18,6 +18,19 @@ test_back m n = dite (ℕ_discrete m n)
 pub value_same : (note note' : ObjectId → ℕ × List ℕ) (os : List ObjectId) (key : ℕ) → ((o : ObjectId) → In os o → note' o ≡ note o) → value_in note' os key ≡ value_in note os key
 value_same note note' [] key same = refl
 value_same note note' (o ∷ os) key same = λ i. if key_of (same o (inl refl) i) == key then Some (value_of (same o (inl refl) i)) else value_same note note' os key (λ p h. same p (inr h)) i
+
+-- so the same rank comes next, above that of the first one
+pub rank_same : (note note' : ObjectId → ℕ × List ℕ) (os : List ObjectId) → ((o : ObjectId) → In os o → note' o ≡ note o) → next_rank note' os ≡ next_rank note os
+rank_same note note' [] same = refl
+rank_same note note' (o ∷ os) same = ap (λ (x : ℕ × List ℕ). rank_of x + 1) (same o (inl refl))
+
+pub rank_first : (note : ObjectId → ℕ × List ℕ) (os : List ObjectId) (o : ObjectId) → slice_get os 0 ≡ Some o → next_rank note os ≡ rank_of (note o) + 1
+rank_first note [] o at = absurd (none_some o at)
+rank_first note (p ∷ os) o at = ap (λ (q : ObjectId). rank_of (note q) + 1) (some_is p o at)
+
+pub rank_none : (note : ObjectId → ℕ × List ℕ) (os : List ObjectId) → length os ≤ 0 → next_rank note os ≡ 0
+rank_none note [] none = refl
+rank_none note (o ∷ os) none = absurd (omega (arith, none))
 
 -- a key that no object has
 pub value_absent : (note : ObjectId → ℕ × List ℕ) (os : List ObjectId) (key : ℕ) → ((o : ObjectId) → In os o → key_of (note o) ≢ key) → value_in note os key ≡ None

@@ -25,9 +25,10 @@ use Rattle.live_log.specs.Tables.{HasKey}
 use Rattle.live_log.proofs.Lemmas.{begins_trans, not_has}
 use Rattle.rcu_list.proofs.Allowing.{may_cut, may_push, may_replace}
 use Rattle.rcu_list.specs.Calls.{Inserts, Replaces, Removes}
-use Rattle.rcu_list.specs.Maps.{HasLastRank, map_of, value_of, words_of}
+use Rattle.rcu_list.specs.Maps.{HasLastRank, map_of, next_rank, value_of, words_of}
 use Rattle.rcu_list.specs.Preparing.{MayComeIn, MayTakeOver}
 use Rattle.rcu_list.proofs.Changing.{inserts, key_missing, key_there, removes, replaces, same_note}
+use Rattle.rcu_list.proofs.Values.{rank_same}
 
 -- the chain of a log is the list that the writer knows
 pub chain_known : (v : View) (c : ℕ) → IsListed v → (own_in v.chains).chain ≡ c → (state_of v.seen).chain c ≡ list_in v
@@ -56,6 +57,10 @@ module _ {S : Type 0} (qsbr : Bool) (allows : Log → LiveEvent → Type 0) (map
   pub same_own : own_in n.0.chains ≡ own_in m.0.chains
   same_own = ap (λ (u : View). own_in u.chains) went.1
 
+  pub rank_walked : next_rank (note_of n.0.seen) (list_in n.0) ≡ next_rank (note_of m.0.seen) ((state_of m.0.seen).chain c)
+  rank_walked = ap (λ (x : ChainRight). next_rank (note_of n.0.seen) x.objects) same_own
+      ∙ (rank_same (note_of m.0.seen) (note_of n.0.seen) (list_in m.0) note_walked ∙ ap (next_rank (note_of m.0.seen)) (sym (chain_known m.0 c listed is)))
+
   pub last_rank : IsListed n.0 → HasLastRank n.0.seen c → HasLastRank m.0.seen c
   last_rank listed' (o, first, last) =
       let list : (state_of n.0.seen).chain c ≡ list_in m.0 = chain_known n.0 c listed' (ap (λ (x : ChainRight). x.chain) same_own ∙ is) ∙ ap (λ (x : ChainRight). x.objects) same_own in
@@ -68,13 +73,13 @@ module _ (qsbr : Bool) (allows : Log → LiveEvent → Type 0) (maps : HasMaps q
   linked : (e : LiveEvent) (p : Publishes qsbr allows v seen' heard' owner e w.seen) → (state_of p.before).chain c ≡ (state_of known).chain c
   linked e p = ap (state_of p.before).chain (sym is_v) ∙ ((subst (AreAsKnown p.before) own p.known).0.0 ∙ sym knows)
 
-  pub pushed_map : (u : View) (key value rank : ℕ) → rank < 2 ^ 62 → payload_in u.object ≡ words_of key value rank → (p : Publishes qsbr allows v seen' heard' owner (push_by v u) w.seen) → Begins known p.before × Begins seen p.before × Begins heard p.before → map_of known c key ≡ None → Inserts qsbr allows c known seen heard key value w.seen
-  pushed_map u key value rank below words p after none =
+  pub pushed_map : (u : View) (key value rank : ℕ) → rank < 2 ^ 62 → rank ≡ next_rank (note_of known) ((state_of known).chain c) → payload_in u.object ≡ words_of key value rank → (p : Publishes qsbr allows v seen' heard' owner (push_by v u) w.seen) → Begins known p.before × Begins seen p.before × Begins heard p.before → map_of known c key ≡ None → Inserts qsbr allows c known seen heard key value w.seen
+  pushed_map u key value rank below next words p after none =
       let o : ObjectId = object_in u.object in
       let e : LiveEvent = Object (Push c o (cell_in u.object) (words_of key value rank)) in
       let wrote : w.seen ≡ e ∷ p.before = p.wrote ∙ (λ i. Object (Push (is_v i) o (cell_in u.object) (words i)) ∷ p.before) in
       subst (Inserts qsbr allows c known seen heard key value) (sym wrote)
-      (inserts qsbr allows maps c known seen heard p.before after (linked (push_by v u) p) key value rank (cell_in u.object) o below (subst (IsLiveRun qsbr allows) wrote p.run) none)
+      (inserts qsbr allows maps c known seen heard p.before after (linked (push_by v u) p) key value rank (cell_in u.object) o below next (subst (IsLiveRun qsbr allows) wrote p.run) none)
 
   module _ (key : ℕ) (o : ObjectId) (at : In (list_in v) o) (key_is : key_of (note_of known o) ≡ key) where
     known_in : In ((state_of known).chain c) o

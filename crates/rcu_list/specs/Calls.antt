@@ -5,9 +5,9 @@ use Rattle.rcu_model.specs.Sets.{at_number}
 use Rattle.live_log.specs.declared.event.LiveEvent.{LiveEvent}
 use Rattle.live_log.specs.declared.event.LiveEvent.TheVariants.{Object}
 use Rattle.live_log.specs.declared.event.ObjectEvent.TheVariants.{Push, Replace, Cut}
-use Rattle.live_log.specs.Log.{Log, Begins, IsLiveRun, state_of}
+use Rattle.live_log.specs.Log.{Log, Begins, IsLiveRun, note_of, state_of}
 use Rattle.live_items.specs.Retiring.{Queues}
-use Rattle.rcu_list.specs.Maps.{map_of, words_of}
+use Rattle.rcu_list.specs.Maps.{map_of, next_rank, words_of}
 
 -- by the rule of chains, the list's chain, what its writer knew, and what the caller had seen and heard of
 module _ (qsbr : Bool) (allows : Log → LiveEvent → Type 0) (c : ℕ) (known seen heard : Log) where
@@ -24,13 +24,14 @@ module _ (qsbr : Bool) (allows : Log → LiveEvent → Type 0) (c : ℕ) (known 
     pub was : map_of before c key ≡ had
     pub map : (k : ℕ) → map_of log c k ≡ at_number key has (map_of before c) k
 
-  -- a key that had no value has this one, by a push
+  -- a key that had no value has this one, by a push, with the rank that came next in the chain
   pub record Inserts (key value : ℕ) (log : Log) : Type 0 where
     pub object : ObjectId
     pub cell : ℕ
     pub rank : ℕ
     pub below : rank < 2 ^ 62
     pub changes : Changes (Object (Push c object cell (words_of key value rank))) key None (Some value) log
+    pub next : rank ≡ next_rank (note_of changes.before) ((state_of changes.before).chain c)
 
   -- a key that had a value has this one, by a replacement
   pub record Replaces (key value : ℕ) (left : ObjectId) (log : Log) : Type 0 where

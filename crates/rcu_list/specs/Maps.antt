@@ -21,6 +21,11 @@ value_in note (o ∷ os) key = if key_of (note o) == key then Some (value_of (no
 abbrev pub map_of : Log → ℕ → ℕ → Option ℕ
 map_of log c = value_in (note_of log) ((state_of log).chain c)
 
+-- the rank that comes next above those of objects of which the first one has the highest
+abbrev pub next_rank : (ObjectId → ℕ × List ℕ) → List ObjectId → ℕ
+next_rank note [] = 0
+next_rank note (o ∷ os) = rank_of (note o) + 1
+
 -- the first object of the chain has the last rank, above which there is none
 abbrev pub HasLastRank : Log → ℕ → Type 0
 HasLastRank log c = (o : ObjectId) × (first_of ((state_of log).chain c) ≡ Some o) × (2 ^ 62 ≤ rank_of (note_of log o) + 1)

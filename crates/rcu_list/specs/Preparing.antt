@@ -7,14 +7,15 @@ use Rattle.live_log.specs.Log.{note_of}
 use Rattle.live_rule.specs.declared.view.View.{View}
 use Rattle.live_table.specs.Rights.{payload_in}
 use Rattle.live_write.specs.Chains.{IsFirstWith, list_in}
-use Rattle.rcu_list.specs.Maps.{words_of}
+use Rattle.rcu_list.specs.Maps.{next_rank, words_of}
 
 -- by what the writer of a chain knows, and the record
 module _ (v u : View) (key value : ℕ) where
-  -- it has the key, which no object of the chain has, and a rank above all of theirs
+  -- it has the key, which no object of the chain has, and the rank that comes next, which is above all of theirs
   pub record MayComeIn : Type 0 where
     pub rank : ℕ
     pub words : payload_in u.object ≡ words_of key value rank
+    pub next : rank ≡ next_rank (note_of v.seen) (list_in v)
     pub others : (o : ObjectId) → In (list_in v) o → (key_of (note_of v.seen o) ≢ key) × (rank_of (note_of v.seen o) < rank)
 
   -- it has the key and the rank of the object at the index

@@ -8,7 +8,7 @@ ghost use Rattle.live_log.specs.Log.{note_of};
 ghost use Rattle.live_table.specs.Steps.{IsLater, Keeps, Went};
 ghost use Rattle.live_read.specs.Hearing.{IsAfter, Stays};
 ghost use Rattle.live_write.specs.Chains.{list_in};
-ghost use Rattle.rcu_list.specs.Maps.{HasLastRank, map_of};
+ghost use Rattle.rcu_list.specs.Maps.{HasLastRank, map_of, next_rank};
 ghost use Rattle.rcu_list.specs.Preparing.{MayComeIn, MayTakeOver};
 ghost use Rattle.rcu_list.specs.Refusing.{RefusesInsertion, RefusesSuccessor};
 
@@ -21,12 +21,13 @@ use std::sync::Wait;
 /// No key has a rank above this.
 const LAST_RANK: u64 = 4_611_686_018_427_387_903;
 
-/// A rank above those of all keys, unless one has the last.
+/// The rank that comes next above those of all keys, unless one has the last: 0 in an empty chain.
 fn fresh_rank<P: GracePlan + Drop, K: MapRule, B: Site, D: Deleter>(
     chain: &mut Chain<'_, P, K, B, D>,
 ) -> Option<u64>
     requires { IsLater P.QSBR K.allows chain.old.seat.me.0 chain.old.seat.me.0 }
     ensures above { IfSome result (λ rank. (rank < 2 ^ 62) × ((o : ObjectId) → In (list_in chain.old.seat.me.0) o → rank_of (note_of chain.new.seat.me.0.seen o) < rank)) }
+    ensures next { IfSome result (λ rank. rank ≡ next_rank (note_of chain.new.seat.me.0.seen) (list_in chain.new.seat.me.0)) }
     ensures none { IfNone result (HasLastRank chain.new.seat.me.0.seen chain.old.number) }
     ensures looked { Keeps chain.old.seat chain.new.seat × Went P.QSBR K.allows chain.old.seat.me.0 chain.old.seat.me chain.new.seat.me × (chain.new.number ≡ chain.old.number) × (chain.new.home.now ≡ chain.old.home.now) }
 {

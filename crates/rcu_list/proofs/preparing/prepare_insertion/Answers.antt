@@ -61,6 +61,7 @@ returns-clause-ready g c =
       record {
         rank = c.in-Some.rank;
         words = a.0;
+        next = f.next;
         others = λ q h.
             let had : In (list_in mid.seat.me.0) q = subst (λ (x : ChainRight). In x.objects q) then h in
             let note : note_of seen q ≡ note_of mid.seat.me.0.seen q = note_walked qsbr allows maps mid.number mid.seat.me new.seat.me f.looked.1 mid.owns.1 mid.owns.2 q had in

@@ -18,7 +18,7 @@ use Rattle.rcu_list.specs.Maps.{map_of}
 use Rattle.rcu_list.specs.Refusing as refusing
 use Rattle.rcu_hash.specs.Directories.{LeadsTo, directed_map}
 use Rattle.rcu_hash.proofs.Hearing.{insertion_through}
-use Rattle.rcu_list.proofs.Lemmas.{chain_known, comes_in, keys_on, keys_pushed, keys_walked, pushed_map, same_own}
+use Rattle.rcu_list.proofs.Lemmas.{chain_known, comes_in, keys_on, keys_pushed, keys_walked, pushed_map, rank_walked, same_own}
 use Rattle.rcu_hash.specs.declared.directory.Naming.{Naming}
 use Rattle.rcu_hash.specs.Naming.{WasNamed, words_by}
 use Rattle.rcu_hash.specs.Publishing.{InsertsThrough}
@@ -91,7 +91,8 @@ returns-clause-inserted g c =
     let list_is : list_in three.seat.me.0 ≡ list_in one.seat.me.0 = ap (λ (x : ChainRight). x.objects) (ap own_in e.chains.0 ∙ same_own q tabled maps one.number one.seat.me two.seat.me l.1 one.owns.1 one.owns.2) in
     let came = pushed_map q tabled maps one.number known seen heard three.seat.me.0 four.seat.me.0 (three.owns.2 ∙ number) three.owns.0
     (chain_known one.seat.me.0 one.number one.owns.1 one.owns.2 ∙ sym list_is)
-    (w.seen w2) (w.heard w2) owned.seat.me.0.seen owned.seat.me.0 key value r.ready.0.rank r.ready.1 r.ready.0.words p.pushed (
+    (w.seen w2) (w.heard w2) owned.seat.me.0.seen owned.seat.me.0 key value r.ready.0.rank r.ready.1
+    (r.ready.0.next ∙ rank_walked q tabled maps one.number one.seat.me two.seat.me l.1 one.owns.1 one.owns.2) r.ready.0.words p.pushed (
       begins_trans known s before (begins_trans known two.seat.me.0.seen s l.1.2.0 e.later.0) p.pushed.after.after_writer.0,
       subst (λ (x : Log). Begins x before) (r.same.0.0 ∙ h.same.0.0.0.0) p.pushed.after.after_caller.0,
       begins_trans heard (w.heard w1) before h.told.0.after_heard (begins_trans (w.heard w1) (w.heard w2) before r.heard.after_heard p.pushed.after.after_caller.1),

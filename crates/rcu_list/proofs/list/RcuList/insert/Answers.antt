@@ -8,7 +8,7 @@ use Rattle.live_rule.specs.declared.rights.ChainRight.{ChainRight}
 use Rattle.live_read.proofs.Lemmas.{stays_makes}
 use Rattle.live_write.specs.Chains.{list_in}
 use Rattle.rcu_list.specs.Refusing.{RefusesInsertion}
-use Rattle.rcu_list.proofs.Writing.{by_no_note, chain_known, comes_in, keys_pushed, keys_walked, note_still, pushed_map, same_own}
+use Rattle.rcu_list.proofs.Writing.{by_no_note, chain_known, comes_in, keys_pushed, keys_walked, note_still, pushed_map, rank_walked, same_own}
 use Rattle.rcu_list.proofs.list.RcuList.insert.Goals as goal
 
 pub push-requires-clause-rule : goal.push-requires-clause-rule
@@ -27,7 +27,8 @@ returns-clause-inserted g c =
     let same = same_own qsbr allows maps old.number old.seat.me new.seat.me a.looked.1 old.owns.1 old.owns.2 in (
       pushed_map qsbr allows maps old.number known (g.W.Witness.seen c.args.witness.now) (g.W.Witness.heard c.args.witness.now) new.seat.me.0 done.seat.me.0 (new.owns.2 ∙ a.looked.2) new.owns.0
           (chain_known old.seat.me.0 old.number old.owns.1 old.owns.2 ∙ ap (λ (x : ChainRight). x.objects) (sym same))
-          (g.W.Witness.seen c.prepare_insertion.new.witness) (g.W.Witness.heard c.prepare_insertion.new.witness) owned.seat.me.0.seen owned.seat.me.0 c.args.key c.args.value ready.rank a.ready.1 ready.words p.pushed (
+          (g.W.Witness.seen c.prepare_insertion.new.witness) (g.W.Witness.heard c.prepare_insertion.new.witness) owned.seat.me.0.seen owned.seat.me.0 c.args.key c.args.value ready.rank a.ready.1
+          (ready.next ∙ rank_walked qsbr allows maps old.number old.seat.me new.seat.me a.looked.1 old.owns.1 old.owns.2) ready.words p.pushed (
             begins_trans known new.seat.me.0.seen before a.looked.1.2.0 p.pushed.after.after_writer.0,
             subst (λ (l : Log). Begins l before) a.same.0.0 p.pushed.after.after_caller.0,
             begins_trans (g.W.Witness.heard c.args.witness.now) (g.W.Witness.heard c.prepare_insertion.new.witness) before a.heard.after_heard p.pushed.after.after_caller.1,
