@@ -1,11 +1,11 @@
 #![tactic(auto)]
 //! `torture`: replays schedules of atomic steps, checks their answers, draws schedules, and runs live threads.
 
-ghost use Rattle.std.specs.Prelude.{◌≡◌, ◌⊎◌, map, string_bytes, IfOk, IfErr};
+ghost use Rattle.std.specs.Prelude.{◌≡◌, ◌≢◌, ◌⊎◌, map, string_bytes, IfOk, IfErr};
 ghost use Rattle.std.specs.IoError.{error_kind};
 ghost use Rattle.clap.specs.Words.{kind_of};
 ghost use Rattle.torture.specs.Status.{IsStatus, EndsAfter, status_of_words};
-ghost use Rattle.torture.specs.Words.{EndsBy};
+ghost use Rattle.torture.specs.Words.{EndsBy, status_of_kind};
 
 mod program;
 mod progress;
@@ -13,6 +13,7 @@ mod words;
 
 use live_stress::Watch;
 use progress::Progress;
+use std::alloc::Global;
 use std::io::{IsTerminal, Read, Write};
 use std::process::ExitCode;
 use std::sync::Wait;
@@ -22,32 +23,34 @@ use std::{env, io};
 use torture_run::execute;
 use words::{WordsFault, read_words};
 
-/// Tells why the words give no command: help and the version on standard output, all else on standard error, where a
-/// write fault is passed over.
-fn tell(rt: &HostRuntime, fault: &WordsFault) -> u8
-    ensures { EndsBy (kind_of fault.now.error) result }
+/// Tells why the words give no command: help and the version on the writer, all else on `faults`, where a write error is
+/// passed over.
+fn tell<W: Write, F: Write>(fault: &WordsFault, writer: &mut W, faults: &mut F) -> u8
+    ensures ends { EndsBy (kind_of fault.now.error) result }
+    ensures mistake { status_of_kind (kind_of fault.now.error) ≢ 0 → W.contents writer.new ≡ W.contents writer.old }
+    ensures silent { (result ≡ 0) ⊎ (result ≡ 1) → faults.new ≡ faults.old }
 {
     let status = fault.status();
     if status != 0 {
-        let _ = rt.eprint(fault);
+        let _ = write!(faults, "{fault}");
         return status;
     }
-    if rt.print(fault).is_err() {
-        let _ = rt.eprintln("write fault");
+    if write!(writer, "{fault}").is_err() {
+        let _ = writeln!(faults, "write fault");
         return 3;
     }
     0
 }
 
-/// Tells why the words cannot be had.
-fn tell_unreadable(rt: &HostRuntime, fault: &io::Error) -> u8
+/// Tells why the words cannot be had, where a write error is passed over.
+fn tell_unreadable<F: Write>(fault: &io::Error, faults: &mut F) -> u8
     ensures { result ≡ status_of_words (error_kind fault.now) }
 {
     if fault.kind() == io::ErrorKind::InvalidData {
-        let _ = rt.eprintln("error: a word is not UTF-8");
+        let _ = writeln!(faults, "error: a word is not UTF-8");
         return 2;
     }
-    let _ = rt.eprintln("no memory");
+    let _ = writeln!(faults, "no memory");
     3
 }
 
@@ -59,7 +62,7 @@ fn own_words(rt: &HostRuntime) -> io::Result<Vec<String>> {
 /// Executes the command of these words, from the reader to the writer, or tells why they give none, or why they cannot
 /// be had. Answers what the program ends with: where that is 0 or 1, nothing is told of a fault.
 fn run<H: Threads + Wait + Clock + Sync, V: Watch + Sync, R: Read, W: Write, F: Write>(
-    rt: &HostRuntime,
+    alloc: Global,
     threads: &H,
     watch: &V,
     words: io::Result<Vec<String>>,
@@ -74,11 +77,11 @@ fn run<H: Threads + Wait + Clock + Sync, V: Watch + Sync, R: Read, W: Write, F: 
 {
     let words = match words {
         Ok(words) => words,
-        Err(fault) => return tell_unreadable(rt, &fault),
+        Err(fault) => return tell_unreadable(&fault, faults),
     };
-    match read_words(rt.alloc(), &words) {
-        Ok(asked) => execute(threads, rt.alloc(), asked, watch, reader, writer, faults),
-        Err(fault) => tell(rt, &fault),
+    match read_words(alloc, &words) {
+        Ok(asked) => execute(threads, alloc, asked, watch, reader, writer, faults),
+        Err(fault) => tell(&fault, writer, faults),
     }
 }
 
@@ -89,7 +92,7 @@ fn main(rt: HostRuntime) -> ExitCode {
         is_shown: rt.stderr().is_terminal(),
     };
     ExitCode::from(run(
-        &rt,
+        rt.alloc(),
         &rt,
         &progress,
         words,

@@ -1,6 +1,6 @@
 //! The words of the command line.
 
-ghost use Rattle.std.specs.Prelude.{◌≡◌, codes, map, IfOk, IfErr};
+ghost use Rattle.std.specs.Prelude.{◌≡◌, ◌≢◌, ◌≤◌, codes, map, IfOk, IfErr};
 ghost use Rattle.clap.specs.Words.{first_of, found_of, kind_of, rows_of, subcommand_rows_of};
 ghost use Rattle.clap.specs.declared.error.kind.ErrorKind.TheVariants.{ValueValidation};
 ghost use Rattle.torture_run.specs.Limits.{IsAskedWithin};
@@ -27,7 +27,8 @@ pub struct WordsFault {
 impl WordsFault {
     /// What the program ends with: 0 after help and the version, 2 after a mistake, 3 where memory was refused.
     pub fn status(&self) -> u8
-        ensures { result ≡ status_of_kind (kind_of self.now.error) }
+        ensures kind { result ≡ status_of_kind (kind_of self.now.error) }
+        ensures grave { result ≢ 0 → 2 ≤ result }
     {
         match self.error.kind() {
             ErrorKind::DisplayHelp | ErrorKind::DisplayVersion => 0,

@@ -8,4 +8,4 @@ returns-in-Ok-read_words-clause-had g c =
 pub returns-clause-had : goal.returns-clause-had
 returns-clause-had g c =
     let error = c.in-Err-read_words.fault.error in
-    rw c.in-Ok.is (inr ((error, (rw c.deref.ensures.value at c.in-Err-read_words.ensures.refused), c.tell.ensures), refl, refl))
+    rw c.in-Ok.is (inr ((error, (rw c.deref.ensures.value at c.in-Err-read_words.ensures.refused), c.tell.ensures.ends, c.tell.ensures.mistake), refl))
