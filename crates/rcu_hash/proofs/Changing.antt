@@ -53,6 +53,7 @@ module _ (qsbr : Bool) (allows : Log → LiveEvent → Type 0) where
       }
 
     pub table_inserts : (value : ℕ) → list.Inserts qsbr allows bucket known seen heard key value log → Inserts qsbr allows first buckets seen' heard' key value log
+    unfolding table_changes
     table_inserts value i = record {
       object = i.object;
       cell = i.cell;

@@ -21,7 +21,7 @@ use Rattle.live_write.specs.Chains.{MayPublish, Publishes, list_in, push_by}
 use Rattle.live_write.specs.Searching.{AreTaken, IsUsedUp}
 use Rattle.live_write.proofs.Lemmas.{index_has, went_both}
 use Rattle.rcu_list.specs.Maps.{value_in, value_of, words_of}
-use Rattle.rcu_list.proofs.Lemmas.{comes_in, keys_pushed, note_walked, same_own, value_same}
+use Rattle.rcu_list.proofs.Lemmas.{comes_above, keys_pushed, note_walked, same_own, value_same}
 use Rattle.rcu_hash.specs.Copies.{AreApart, AreRanked, value_among}
 use Rattle.rcu_hash.specs.Writers.{Each, HasKeysIn, HasNoNote, IsAlone, IsEmpty, value_at}
 
@@ -289,11 +289,8 @@ no_value (v ∷ vs) (suc index) key empty = no_value vs index key empty.1
 -- the writer of a chain with no note puts in a copy with another key, and a rank above all others
 module _ (qsbr : Bool) (v : View) (seen heard owner : Log) (own : IsWriter v) (listed : IsListed v) (rank : ℕ) (holds : Holds rank v) (u : View) (key value : ℕ) (words : payload_in u.object ≡ words_of key value rank) where
   pub may_put : value_at (Some v) key ≡ None → MayPublish qsbr tabled v seen heard owner (push_by v u)
-  may_put none = comes_in qsbr tabled (tabled_maps qsbr) IsUnnoted ((tabled_maps qsbr).takes) v seen heard owner own listed (λ log begins run note lent. note ∙ holds.unnoted) holds.keys u key value (record {
-    rank = rank;
-    words = words;
-    others = λ o h. (none_has (note_of v.seen) (list_in v) key none o h, holds.below o h);
-  })
+  may_put none = comes_above qsbr tabled (tabled_maps qsbr) IsUnnoted ((tabled_maps qsbr).takes) v seen heard owner own listed (λ log begins run note lent. note ∙ holds.unnoted) holds.keys u key value rank words
+      (λ o h. (none_has (note_of v.seen) (list_in v) key none o h, holds.below o h))
 
   module _ (w : View) (put : Publishes qsbr tabled v seen heard owner (push_by v u) w.seen) (list : list_in w ≡ object_in u.object ∷ list_in v) where
     note_still : (o : ObjectId) → In (list_in v) o → note_of w.seen o ≡ note_of v.seen o

@@ -159,6 +159,7 @@ module _ (chains first buckets : ℕ) (many : 0 < buckets) (fits : first + bucke
       }
 
     pub inserts_through : (value : ℕ) → Inserts qsbr tabled first buckets seen heard key value log → InsertsThrough qsbr tabled chains d seen heard key value (bucket_of first buckets key) log
+    unfolding changes_through
     inserts_through value i = record { object = i.object; cell = i.cell; rank = i.rank; below = i.below; changes = changes_through _ None (Some value) i.changes; next = i.next }
 
     pub replaces_through : (value : ℕ) (left : ObjectId) → Replaces qsbr tabled first buckets seen heard key value left log → ReplacesThrough qsbr tabled chains d seen heard key value (bucket_of first buckets key) left log

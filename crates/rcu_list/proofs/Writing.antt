@@ -156,11 +156,15 @@ module _ (qsbr : Bool) (allows : Log → LiveEvent → Type 0) (maps : HasMaps q
   may_remove o at log on run known made =
       may_cut qsbr allows maps free takes (own_in v.chains).chain v.seen log on.after_writer.0 run (list_in v) listed.0 (all_known log known).0.0 (is_free log on run known) keys o at
 
+  -- by a record with another key, and a rank above all others
+  pub comes_above : (u : View) (key value rank : ℕ) → payload_in u.object ≡ words_of key value rank → ((o : ObjectId) → In (list_in v) o → (key_of (note_of v.seen o) ≢ key) × (rank_of (note_of v.seen o) < rank)) → MayPublish qsbr allows v seen heard owner (push_by v u)
+  comes_above u key value rank words others = may_insert u (ap (λ (l : List ℕ). slice_index_or l 3 0) words) (λ p h.
+      let x = others p h in
+      (λ same. x.0 (same ∙ ap (λ (l : List ℕ). slice_index_or l 0 0) words), subst (λ (l : List ℕ). rank_of (note_of v.seen p) < slice_index_or l 2 0) (sym words) x.1))
+
   -- by a record that was made ready
   pub comes_in : (u : View) (key value : ℕ) → MayComeIn v u key value → MayPublish qsbr allows v seen heard owner (push_by v u)
-  comes_in u key value ready = may_insert u (ap (λ (l : List ℕ). slice_index_or l 3 0) ready.words) (λ p h.
-      let x = ready.others p h in
-      (λ same. x.0 (same ∙ ap (λ (l : List ℕ). slice_index_or l 0 0) ready.words), subst (λ (l : List ℕ). rank_of (note_of v.seen p) < slice_index_or l 2 0) (sym ready.words) x.1))
+  comes_in u key value ready = comes_above u key value ready.rank ready.words ready.others
 
   pub takes_over : (u : View) (key value index : ℕ) → MayTakeOver v u key value index → (o : ObjectId) → slice_get (list_in v) index ≡ Some o → MayPublish qsbr allows v seen heard owner (replace_by o v u)
   takes_over u key value index ready o at =
