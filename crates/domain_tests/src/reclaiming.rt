@@ -506,7 +506,7 @@ fn second_worker<B: Site, R: Wait>(
     record: &mut Record<B>,
 ) -> Result<Option<Refusal>, Refusal> {
     let unlinked = cut_one(rt, domain, record, 0, 1)?;
-    if plain::retire(rt, domain, record, unlinked, Adds(0)).is_err() {
+    if plain::retire(rt, domain, record, unlinked, Adds(1)).is_err() {
         return Err(Refusal::Memory);
     }
     plain::barrier(rt, domain, record);
