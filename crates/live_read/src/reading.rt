@@ -24,8 +24,11 @@ impl<P: GracePlan, K: ChainRule, B: Site> Reader<P, K, B> {
         chain < self.table.chains
     }
 
-    // The first object of a chain.
-    pub(crate) fn find_first(&mut self, chain: usize) -> Result<Option<Held>, Refusal>
+    /// The first object of a chain, which the reader holds from then on, in the lock or section that is open.
+    ///
+    /// Refused with `NoPlace` exactly where there is no such chain, and then the reader is as it was. It never waits
+    /// and takes no memory.
+    pub fn first(&mut self, chain: usize) -> Result<Option<Held>, Refusal>
         requires { (P.QSBR ≡ B.qsbr) × (0 < self.old.depth) }
         ensures refused { IfErr result (λ e. (e ≡ NoPlace) × (B.sizes.chains ≤ chain) × (self.new ≡ self.old)) }
         ensures looked { IfOk result (λ _. (chain < B.sizes.chains) × Looks P.QSBR K.allows self.old self.new) }
@@ -44,8 +47,8 @@ impl<P: GracePlan, K: ChainRule, B: Site> Reader<P, K, B> {
         }))
     }
 
-    // What follows an object.
-    pub(crate) fn find_next(&mut self, held: Held) -> Option<Held>
+    /// What follows an object that the reader holds, and is held from then on too. It never waits and takes no memory.
+    pub fn next(&mut self, held: Held) -> Option<Held>
         requires open_section { (P.QSBR ≡ B.qsbr) × (0 < self.old.depth) }
         requires held { MayHoldIn self.old held.cell }
         ensures looked { Looks P.QSBR K.allows self.old self.new }
@@ -63,8 +66,8 @@ impl<P: GracePlan, K: ChainRule, B: Site> Reader<P, K, B> {
         })
     }
 
-    // One word of an object.
-    pub(crate) fn read_word(&mut self, held: Held, index: usize) -> u64
+    /// One of the four words of an object that the reader holds. It never waits and takes no memory.
+    pub fn read_word(&mut self, held: Held, index: usize) -> u64
         requires open_section { (P.QSBR ≡ B.qsbr) × (0 < self.old.depth) × (index < 4) }
         requires held { MayHoldIn self.old held.cell }
         ensures looked { Looks P.QSBR K.allows self.old self.new }
@@ -74,8 +77,8 @@ impl<P: GracePlan, K: ChainRule, B: Site> Reader<P, K, B> {
         load_word(&self.table, &mut self.seat, held.cell, index)
     }
 
-    // The four words of an object.
-    pub(crate) fn read_words(&mut self, held: Held) -> [u64; 4]
+    /// The four words of an object that the reader holds. It never waits and takes no memory.
+    pub fn read(&mut self, held: Held) -> [u64; 4]
         requires open_section { (P.QSBR ≡ B.qsbr) × (0 < self.old.depth) }
         requires held { MayHoldIn self.old held.cell }
         ensures looked { Looks P.QSBR K.allows self.old self.new }

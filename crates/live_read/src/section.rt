@@ -55,7 +55,7 @@ impl<'a, P: GracePlan, K: ChainRule, B: Site> Section<'a, P, K, B> {
         ensures some { IfOk result (λ found. IfSome found (λ h. (o : ObjectId) × FindsFirst self.new.reader.now chain (Some o) × MayHold self.new.reader.now o h.cell)) }
         ensures held { IfOk result (λ found. IfSome found (λ h. MayHoldIn self.new.reader.now h.cell)) }
     {
-        self.reader.find_first(chain)
+        self.reader.first(chain)
     }
 
     /// What follows an object that the section holds, and is held from then on too: liburcu's `rcu_dereference` of its
@@ -71,7 +71,7 @@ impl<'a, P: GracePlan, K: ChainRule, B: Site> Section<'a, P, K, B> {
         ensures held { IfSome result (λ h. MayHoldIn self.new.reader.now h.cell) }
         ensures some { IfSome result (λ h. (o : ObjectId) → MayHold self.old.reader.now o held.cell → (next : ObjectId) × FindsNext self.new.reader.now o (Some next) × MayHold self.new.reader.now next h.cell) }
     {
-        self.reader.find_next(held)
+        self.reader.next(held)
     }
 
     /// The four words of an object that the section holds: those that were published with it. It never waits and takes
@@ -84,7 +84,7 @@ impl<'a, P: GracePlan, K: ChainRule, B: Site> Section<'a, P, K, B> {
         ensures still { MayHoldIn self.new.reader.now held.cell }
         ensures payload { (o : ObjectId) → MayHold self.old.reader.now o held.cell → result ≡ payload_of (log_of self.old.reader.now) o }
     {
-        self.reader.read_words(held)
+        self.reader.read(held)
     }
 
     /// One of the four words of an object that the section holds, the first one at `index` 0: that which was published

@@ -1,6 +1,6 @@
 use Rattle.std.proofs.Common.{ℕ, List, [], ◌∷◌, slice_index_or, ap, ◌∙◌}
 use Rattle.live_read.proofs.Finding.{looks_twice}
-use Rattle.live_read.proofs.reader.Reader.read_words.Goals as goal
+use Rattle.live_read.proofs.reader.Reader.read.Goals as goal
 
 pub returns-clause-looked : goal.returns-clause-looked
 returns-clause-looked g c = let q = g.P.GracePlan.QSBR in let a = g.K.ChainRule.allows in

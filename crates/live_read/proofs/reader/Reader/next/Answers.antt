@@ -1,6 +1,6 @@
 use Rattle.std.proofs.Common.{refl}
 use Rattle.live_read.proofs.Finding.{stands, held_on, looks, next_none, next_some}
-use Rattle.live_read.proofs.reader.Reader.find_next.Goals as goal
+use Rattle.live_read.proofs.reader.Reader.next.Goals as goal
 
 pub returns-then-word-eq0-clause-looked : goal.returns-then-word-eq0-clause-looked
 returns-then-word-eq0-clause-looked g c = let q = g.P.GracePlan.QSBR in let a = g.K.ChainRule.allows in let r = c.args.self.now in looks q a r _ refl refl refl refl c.load_link-word.ensures.looked.1 c.load_link-word.ensures.looked.2 (c.load_link-word.ensures.known.1 _ _ (stands q a r c.requires.open_section.0 c.requires.open_section.1))

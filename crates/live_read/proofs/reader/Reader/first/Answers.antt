@@ -4,7 +4,7 @@ use Rattle.live_log.specs.Log.{state_of, section}
 use Rattle.live_table.specs.Rights.{count_in}
 use Rattle.live_rule.specs.declared.view.View.{View}
 use Rattle.live_read.proofs.Finding.{stands, looks, first_some}
-use Rattle.live_read.proofs.reader.Reader.find_first.Goals as goal
+use Rattle.live_read.proofs.reader.Reader.first.Goals as goal
 
 pub returns-then-word-eq0-clause-looked : goal.returns-then-word-eq0-clause-looked
 returns-then-word-eq0-clause-looked g c = let q = g.P.GracePlan.QSBR in let a = g.K.ChainRule.allows in let r = c.args.self.now in
