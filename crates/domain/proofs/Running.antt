@@ -147,6 +147,7 @@ worked_for qsbr allows key sizes q seen heard v looks found before loads loaded 
       left = h.left;
       nothing = h.nothing;
       closed = h.closed;
+      served = h.served;
       memory = h.memory;
       exhausted = λ e. let u = h.exhausted e in record {
         at = u.at;

@@ -14,7 +14,7 @@ use Rattle.live_items.specs.Running.{KeepsFinds}
 use Rattle.live_reclaim.specs.Batches.{Lists}
 use Rattle.live_reclaim.specs.Working.{IsEmptied}
 use Rattle.domain.specs.declared.worker_end.Stop.{Stop}
-use Rattle.domain.specs.declared.worker_end.Stop.TheVariants.{Closed, Exhausted, Memory}
+use Rattle.domain.specs.declared.worker_end.Stop.TheVariants.{Closed, Served, Exhausted, Memory}
 
 -- what was loaded or stored, by its place, the last one first
 abbrev pub Looks : Type 0
@@ -23,6 +23,7 @@ Looks = List (ℕ × ℕ)
 -- the hold word that a worker leaves: nobody works for the queue after one that found the numbers used up
 abbrev pub left_by : Stop → ℕ
 left_by Closed = 0
+left_by Served = 0
 left_by Exhausted = 2
 left_by Memory = 0
 
@@ -50,8 +51,9 @@ HasMore q n log = n < length (line_of log q)
 
 module _ (qsbr : Bool) (allows : Log → LiveEvent → Type 0) (key : Sizes) (q : ℕ) where
   -- A worker began after all that had been seen and heard of, when the first so many were finished, and ran those that
-  -- came next, each in its turn. Where it was closed, no more were queued, and where memory was refused, more were.
-  -- What is left comes next after them, and nothing is but where the numbers were used up.
+  -- came next, each in its turn. Where it was closed, no more were queued; where it was served, no more had been when it
+  -- began; and where memory was refused, more were. What is left comes next after them, and nothing is but where the
+  -- numbers were used up.
   pub record HasWorked (seen heard : Log) (old new : Looks) (old_loads new_loads : List Log) (entries : List Finished) (items : List (Item JobValue)) (stop : Stop) (log : Log) : Type 0 where
     pub start : Log
     pub first : ℕ
@@ -69,6 +71,7 @@ module _ (qsbr : Bool) (allows : Log → LiveEvent → Type 0) (key : Sizes) (q 
     pub left : InOrder q log last items
     pub nothing : stop ≢ Exhausted → items ≡ []
     pub closed : stop ≡ Closed → IsEmptied q last log
+    pub served : stop ≡ Served → length (line_of start q) ≤ last
     pub memory : stop ≡ Memory → HasMore q last log
     pub exhausted : stop ≡ Exhausted → FoundUsedUp start log old_loads new_loads
     pub looks : new ≡ (work_at key q, left_by stop) ∷ (looks_since ++ ((finished_at key q, first) ∷ (work_at key q, 0) ∷ old))

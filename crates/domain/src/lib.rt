@@ -11,6 +11,7 @@ mod opened;
 mod queue;
 mod retiring;
 mod seeing;
+mod serving;
 mod worker_end;
 mod working;
 mod writing;

@@ -9,8 +9,10 @@ use live_reclaim::Deleter;
 /// Why a worker stopped.
 #[derive(Clone, Copy, Debug, PartialEq, Eq, Drop)]
 pub enum Stop {
-    /// Its queue was closed, and all that was queued is finished.
+    /// Its queue was closed, and all that was queued is finished: of `run_worker` alone.
     Closed,
+    /// All that was queued when it began is finished: of `run_queued` alone.
+    Served,
     /// The sequence numbers are used up: nobody works for the queue any more.
     Exhausted,
     /// Memory was refused. Another may work for the queue.

@@ -1,37 +1,32 @@
-//! How a program works for a queue.
+//! How batches of a queue are run.
 
 ghost use Rattle.std.specs.Prelude.{◌≡◌, ◌≢◌, ◌+◌, ◌-◌, ◌<◌, ◌≤◌, [], IfErr, IfOk, length, reverse, vec_capacity, vec_len};
 ghost use Rattle.live_log.specs.Log.{IsLiveRun, line_of};
-ghost use Rattle.live_rule.specs.Places.{work_at};
-ghost use Rattle.live_rule.specs.Seats.{but_work};
-ghost use Rattle.live_table.specs.Rights.{IsWorker, work_in};
-ghost use Rattle.live_table.specs.Steps.{IsKnown, IsLater, Keeps, Went, looked_view};
-ghost use Rattle.live_read.specs.Hearing.{IsAfter, Stays};
+ghost use Rattle.live_table.specs.Steps.{IsKnown};
 ghost use Rattle.live_items.specs.Items.{InOrder};
 ghost use Rattle.live_reclaim.specs.Batches.{IsDue, Lists, WorksFor};
-ghost use Rattle.live_reclaim.specs.Working.{IsEmptied, RefusesWork};
+ghost use Rattle.live_reclaim.specs.Working.{IsEmptied};
 ghost use Rattle.domain.specs.declared.worker_end.Stop.TheVariants as stopped;
 ghost use Rattle.domain.specs.declared.working.Outcome.TheVariants as outcome;
-ghost use Rattle.domain.specs.Working.{FoundUsedUp, GoesOn, HasMore, HasWorked, left_by};
+ghost use Rattle.domain.specs.Working.{FoundUsedUp, GoesOn, HasMore};
 
 use crate::domain::Domain;
-use crate::worker_end::{Stop, WorkerEnd};
+use crate::worker_end::Stop;
 use call_rcu_worker::Finished;
 use callback_queue::Item;
 use crossbeam_utils::Backoff;
 use gp_memb::GracePlan;
 use live_grace::ask;
 use live_items::Job;
-use live_read::{Site, Witness};
-use live_reclaim::{Deleter, begin_work, is_emptied, run_next};
-use live_words::{ChainRule, LiveSeat, end_work, free_work, load_closed, load_seq};
+use live_read::Site;
+use live_reclaim::{Deleter, is_emptied, run_next};
+use live_words::{ChainRule, LiveSeat, load_closed, load_seq};
 use rcu_model::Refusal;
-use std::alloc::Global;
 use std::sync::Wait;
 
 /// What came of a batch.
 #[derive(Clone, Copy, Debug, PartialEq, Eq, Drop)]
-enum Outcome {
+pub(crate) enum Outcome {
     /// All its items ran.
     Ran,
     /// There was none.
@@ -120,7 +115,7 @@ impl<P: GracePlan + Drop, K: ChainRule, B: Site, D: Deleter> Domain<P, K, B, D> 
     }
 
     /// Takes a batch, waits for a grace period, and runs the batch. Answers how many are finished.
-    fn run_batch<R: Wait>(
+    pub(crate) fn run_batch<R: Wait>(
         &self,
         rt: &R,
         seat: &mut LiveSeat,
@@ -164,7 +159,7 @@ impl<P: GracePlan + Drop, K: ChainRule, B: Site, D: Deleter> Domain<P, K, B, D> 
     }
 
     /// Runs batch after batch, until the queue is closed and all that was queued is finished. Answers how many are.
-    fn work<R: Wait>(
+    pub(crate) fn work<R: Wait>(
         &self,
         rt: &R,
         seat: &mut LiveSeat,
@@ -184,6 +179,7 @@ impl<P: GracePlan + Drop, K: ChainRule, B: Site, D: Deleter> Domain<P, K, B, D> 
         ensures closed { result.1 ≡ stopped.Closed → IsEmptied queue result.0 seat.new.me.0.seen }
         ensures exhausted { result.1 ≡ stopped.Exhausted → FoundUsedUp seat.old.me.0.seen seat.new.me.0.seen seat.old.me.0.loads seat.new.me.0.loads }
         ensures memory { result.1 ≡ stopped.Memory → IsKnown (HasMore queue result.0) seat.new.me.0 }
+        ensures other { result.1 ≢ stopped.Served }
     {
         let mut count = first;
         for _ in rt.forever() {
@@ -217,77 +213,5 @@ impl<P: GracePlan + Drop, K: ChainRule, B: Site, D: Deleter> Domain<P, K, B, D> 
     {
         back_off(rt);
         self.queues[queue].parker.lock(rt).park(rt);
-    }
-
-    /// Gives the right to work for the queue back, or up for good where the sequence numbers are used up.
-    fn leave(&self, seat: &mut LiveSeat, queue: usize, stop: Stop)
-        requires seat { (seat.old.table_id ≡ B.table) × (queue < B.sizes.queues) }
-        requires right { IsWorker seat.old.me.0 × (work_in seat.old.me.0.work ≡ queue) }
-        ensures seat { Keeps seat.old seat.new }
-        ensures left { Went P.QSBR K.allows (looked_view (work_at B.sizes queue) (left_by stop) (but_work seat.old.me.0)) seat.old.me seat.new.me }
-    {
-        match stop {
-            Stop::Exhausted => end_work(&self.table, seat, queue),
-            Stop::Closed => free_work(&self.table, seat, queue),
-            Stop::Memory => free_work(&self.table, seat, queue),
-        }
-    }
-
-    /// Begins to work for the queue, works, and ends.
-    fn employ<R: Wait>(
-        &self,
-        rt: &R,
-        alloc: Global,
-        seat: &mut LiveSeat,
-        queue: usize,
-    ) -> Result<WorkerEnd<B, D>, Refusal>
-        requires { (seat.old.table_id ≡ B.table) × (seat.old.me.0.sizes ≡ B.sizes) × (seat.old.me.1 ≡ []) }
-        ensures seat { (seat.new.table_id ≡ B.table) × (seat.new.me.1 ≡ []) }
-        ensures worked { IfOk result (λ e. HasWorked P.QSBR K.allows B.sizes queue seat.old.me.0.seen seat.old.me.0.heard seat.old.me.0.looks seat.new.me.0.looks seat.old.me.0.loads seat.new.me.0.loads e.finished.items e.left.items e.stop seat.new.me.0.seen) }
-        ensures refused { IfErr result (λ e. RefusesWork B.sizes queue seat.old.me.0.looks seat.new.me.0.looks e) }
-        ensures later { IfErr result (λ _. queue < B.sizes.queues → IsLater P.QSBR K.allows seat.old.me.0 seat.new.me.0) }
-    {
-        let first = begin_work(&self.table, seat, queue)?;
-        let mut finished = Vec::new(alloc);
-        let mut left = Vec::new(alloc);
-        let (_, stop) = self.work(rt, seat, queue, first, &mut finished, &mut left);
-        self.leave(seat, queue, stop);
-        Ok(WorkerEnd {
-            finished,
-            left,
-            stop,
-        })
-    }
-
-    /// Works for a queue, liburcu's thread of `call_rcu`, until it is closed and all that was queued is finished: takes
-    /// what is queued, waits for a grace period, and runs it, each object in the turn of its ticket and with no lock
-    /// held. It rests while nothing is queued. The caller, who has no section or lock open and is offline where its
-    /// reader is of the quiescent-state flavour, hears of all that.
-    ///
-    /// It stops early where the sequence numbers are used up, and then nobody works for the queue any more; or where
-    /// memory is refused for what is queued. Refused with `NoActor` exactly where there is no such queue, else with
-    /// `Busy` where its hold word was found to be 1, as while another works for it, and with `Exhausted` where it was
-    /// found to be 2.
-    pub fn run_worker<W: Witness, R: Wait>(
-        &self,
-        rt: &R,
-        alloc: Global,
-        witness: &mut W,
-        queue: usize,
-    ) -> Result<WorkerEnd<B, D>, Refusal>
-        requires { W.home witness.old ≡ (B.table, B.sizes) }
-        ensures worked { IfOk result (λ e. HasWorked P.QSBR K.allows B.sizes queue (W.seen witness.old) (W.heard witness.old) (W.looks witness.old) (W.looks witness.new) (W.loads witness.old) (W.loads witness.new) e.finished.items e.left.items e.stop (W.heard witness.new)) }
-        ensures refused { IfErr result (λ e. RefusesWork B.sizes queue (W.looks witness.old) (W.looks witness.new) e) }
-        ensures heard { IfErr result (λ _. queue < B.sizes.queues → IsAfter P.QSBR K.allows (W.seen witness.old) (W.heard witness.old) (W.heard witness.new)) }
-        ensures nobody { B.sizes.queues ≤ queue → witness.new ≡ witness.old }
-        ensures same { Stays W.Witness witness.old witness.new }
-    {
-        if queue >= self.queues.len() {
-            return Err(Refusal::NoActor);
-        }
-        let mut seat = witness.tell(&self.table);
-        let end = self.employ(rt, alloc, &mut seat, queue);
-        witness.learn(&self.table, seat);
-        end
     }
 }

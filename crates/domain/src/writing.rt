@@ -30,8 +30,9 @@ impl<P: GracePlan + Drop, K: ChainRule, B: Site, D: Deleter> Domain<P, K, B, D> 
     /// A record with these four words, which no chain links yet. The caller hears of what was seen at that.
     ///
     /// Refused with `PoolFull` only where it found the header of each record other than 0, or the last object number at
-    /// or above 2^62: `looks` tells the words that it found. It takes no memory, and waits for nobody, but tries again
-    /// where other threads draw object numbers meanwhile.
+    /// or above 2^62: `looks` tells the words that it found. A number is drawn before a record is looked for, so a
+    /// refusal by a full pool uses one up. It takes no memory, and waits for nobody, but tries again where other
+    /// threads draw object numbers meanwhile.
     pub fn alloc<W: Witness, R: Wait>(
         &self,
         rt: &R,

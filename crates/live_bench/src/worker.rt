@@ -16,7 +16,7 @@ pub(crate) fn works<P: GracePlan + Drop, K: ChainRule, B: Site, D: Deleter, R: W
 ) -> Result<u64, Refusal> {
     let end = domain.run_worker(rt, alloc, record, 0)?;
     match end.stop {
-        Stop::Closed => Ok(end.finished.len() as u64),
+        Stop::Closed | Stop::Served => Ok(end.finished.len() as u64),
         Stop::Exhausted => Err(Refusal::Exhausted),
         Stop::Memory => Err(Refusal::Memory),
     }

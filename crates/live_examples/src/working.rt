@@ -21,7 +21,7 @@ pub(crate) fn work<P: GracePlan + Drop, K: ChainRule, B: Site, D: Deleter, R: Wa
         let end = domain.run_worker(rt, alloc, record, 0)?;
         reclaimed = reclaimed.saturating_add(end.finished.len() as u64);
         match end.stop {
-            Stop::Closed => return Ok(reclaimed),
+            Stop::Closed | Stop::Served => return Ok(reclaimed),
             Stop::Memory => thread::yield_now(),
             Stop::Exhausted => return Err(Refusal::Exhausted),
         }

@@ -62,8 +62,9 @@ fn take_filled<P: GracePlan, K: ChainRule, R: Wait>(
 /// Takes a free record for a new object, whose payload these words become. The witness hears of what it saw.
 ///
 /// Refused with `PoolFull` only where it found the header of each record other than 0, or the last object number at or
-/// above 2^62: `looks` tells the words that it found. It takes no memory. It waits for nobody, but tries again where
-/// other threads draw numbers meanwhile.
+/// above 2^62: `looks` tells the words that it found. A number is drawn before a record is looked for, so a refusal by a
+/// full pool uses one up. It takes no memory. It waits for nobody, but tries again where other threads draw numbers
+/// meanwhile.
 pub fn alloc<P: GracePlan, K: ChainRule, B: Site, W: Witness, R: Wait>(
     rt: &R,
     table: &LiveTable<P, K>,

@@ -14,17 +14,17 @@ returns-clause-worked g c =
     let q = c.args.queue in
     let old : View = c.args.seat.now.me.0 in
     let start : Log = c.begin_work.new.seat.me.0.seen in
-    let between : Log = c.work-stop.new.seat.me.0.seen in
+    let between : Log = c.work_until-stop.new.seat.me.0.seen in
     let last : Log = c.leave.new.seat.me.0.seen in
     let first : ℕ = c.in_ok-first.first in
-    let n : ℕ = c.work-stop.result.0 in
-    let items = c.work-stop.new.list.items in
+    let n : ℕ = c.work_until-stop.result.0 in
+    let items = c.work_until-stop.new.list.items in
     let begun = c.in_ok-first.ensures.begun in
-    let w = c.work-stop.ensures in
+    let w = c.work_until-stop.ensures in
     let left = c.leave.ensures.left in
     let finds = w.seat.finds.0 in
     let key : c.deref.result.now.words.shared.key ≡ g.B.Site.sizes = search rules in
-    let look : ℕ × ℕ = (work_at g.B.Site.sizes q, left_by c.work-stop.result.1) in
+    let look : ℕ × ℕ = (work_at g.B.Site.sizes q, left_by c.work_until-stop.result.1) in
     let more : Begins between last = left.2.0 in
     let later : Begins start last = begins_trans start between last w.seat.later more in
     let lists = list_later q between last first n items items more refl w.list in
@@ -42,10 +42,11 @@ returns-clause-worked g c =
       run = left.2.2;
       lists = lists;
       through = ran_through q start last first n items later begun.3 begun.2 lists;
-      left = order_later q c.work-stop.new.seat.me.0.heard last n c.work-stop.new.left.items left.2.1 w.left.0;
+      left = order_later q c.work_until-stop.new.seat.me.0.heard last n c.work_until-stop.new.left.items left.2.1 w.left.0;
       nothing = w.left.1;
-      closed = λ x. let e = w.closed x in let k = closed_stays g.P.GracePlan.QSBR g.K.ChainRule.allows between last q more left.2.2 e.0 in (k.0, ap (λ (l : List ObjectId). length l) k.1 ∙ e.1);
-      memory = λ x. more_known q n c.work-stop.new.seat.me.0 last more left.2.1 (w.memory x);
+      closed = λ x. let e = (w.closed x).0 in let k = closed_stays g.P.GracePlan.QSBR g.K.ChainRule.allows between last q more left.2.2 e.0 in (k.0, ap (λ (l : List ObjectId). length l) k.1 ∙ e.1);
+      served = λ x. (w.served x).0;
+      memory = λ x. more_known q n c.work_until-stop.new.seat.me.0 last more left.2.1 (w.memory x);
       exhausted = λ x. let u = w.exhausted x in record {
         at = u.at;
         earlier = u.earlier;

@@ -4,7 +4,7 @@ use Rattle.call_rcu_worker.specs.declared.finished.Finished.{Finished}
 use Rattle.live_log.specs.Log.{Log}
 use Rattle.live_reclaim.specs.Batches.{AreRunAs}
 use Rattle.domain.specs.Working.{GoesOn}
-use Rattle.domain.proofs.Running.{all_and, all_later, due_later, goes_same, goes_trans, none_left, order_later, order_popped}
+use Rattle.domain.proofs.Running.{all_and, all_later, due_later, goes_same, goes_trans, order_later, order_popped}
 use Rattle.domain.proofs.domain.Domain.run_all.Goals as goal
 
 pub loop-count-init : goal.loop-count-init

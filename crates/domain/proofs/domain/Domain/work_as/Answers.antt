@@ -4,7 +4,7 @@ use Rattle.live_log.specs.Log.{Log, Begins, IsLiveRun}
 use Rattle.live_rule.specs.declared.view.View.{View}
 use Rattle.domain.specs.Working.{HasWorked, Looks}
 use Rattle.domain.proofs.Running.{worked_for}
-use Rattle.domain.proofs.domain.Domain.run_worker.Goals as goal
+use Rattle.domain.proofs.domain.Domain.work_as.Goals as goal
 
 pub returns-clause-worked : goal.returns-clause-worked
 returns-clause-worked g c =

@@ -1,0 +1,37 @@
+use Rattle.std.proofs.Common.{rules, ◌≡◌, ℕ, [], sym, ap, ◌∙◌, subst, arith}
+use Rattle.live_rule.specs.declared.view.View.{View}
+use Rattle.live_reclaim.specs.Batches.{Lists}
+use Rattle.domain.specs.declared.working.Outcome.TheVariants as outcome
+use Rattle.domain.proofs.Running.{goes_looked_once, goes_trans, line_longer, used_up_since}
+use Rattle.domain.proofs.domain.Domain.serve.Goals as goal
+
+pub loop-init : goal.loop-init
+loop-init g c =
+    let q = c.args.queue in
+    let first : ℕ = c.args.first in
+    let e = c.load_queued-queued.ensures in
+    let now = c.load_queued-queued.new.seat in
+    let none : Lists q now.me.0.seen first first [] = (tt, omega arith) in
+    let longer = line_longer c.args.seat.now.me.0.seen now.me.0.seen q e.looked.2.0 in
+    (goes_looked_once g.P.GracePlan.QSBR g.K.ChainRule.allows c.args.seat.now now e.seat _ _ e.looked, ap (λ (v : View). v.work) e.looked.1 ∙ c.requires.queue.1, subst (Lists q now.me.0.seen first first) (sym c.requires.list) none, c.requires.left, let same = e.count.0 in omega (arith, longer, same))
+
+pub loop-preserved : goal.loop-preserved
+loop-preserved g c =
+    let i = c.loop.invariant in
+    let b = c.run_batch-now.ensures in
+    (goes_trans g.P.GracePlan.QSBR g.K.ChainRule.allows c.args.seat.now c.loop.seat c.run_batch-now.new.seat i.0 b.seat, b.work, b.list, search rules, i.4)
+
+pub returns-in-Exhausted-clause-seat : goal.returns-in-Exhausted-clause-seat
+returns-in-Exhausted-clause-seat g c = goes_trans g.P.GracePlan.QSBR g.K.ChainRule.allows c.args.seat.now c.loop.seat c.run_batch-now.new.seat c.loop.invariant.0 c.run_batch-now.ensures.seat
+
+pub returns-in-Memory-clause-seat : goal.returns-in-Memory-clause-seat
+returns-in-Memory-clause-seat g c = goes_trans g.P.GracePlan.QSBR g.K.ChainRule.allows c.args.seat.now c.loop.seat c.run_batch-now.new.seat c.loop.invariant.0 c.run_batch-now.ensures.seat
+
+pub returns-in-Exhausted-clause-exhausted : goal.returns-in-Exhausted-clause-exhausted
+returns-in-Exhausted-clause-exhausted g c _ =
+    let old : View = c.args.seat.now.me.0 in
+    let now : View = c.loop.seat.me.0 in
+    let new : View = c.run_batch-now.new.seat.me.0 in
+    let i = c.loop.invariant.0 in
+    let is : c.run_batch-now.result.1 ≡ outcome.Exhausted = search rules in
+    used_up_since old.seen now.seen new.seen old.loads now.loads new.loads i.later i.finds.1.0 i.finds.1.1 (c.run_batch-now.ensures.exhausted is)

@@ -1,0 +1,13 @@
+use Rattle.std.proofs.Common.{◌≡◌, ◌≤◌, [], length}
+use Rattle.live_log.specs.Log.{line_of}
+use Rattle.live_reclaim.specs.Batches.{Lists, WorksFor}
+use Rattle.domain.specs.Working.{GoesOn}
+use Rattle.domain.proofs.domain.Domain.serve.Given as goal
+
+abbrev pub invariant-loop : goal.invariant-loop
+invariant-loop g l =
+    GoesOn g.P.GracePlan.QSBR g.K.ChainRule.allows l.fn.seat l.seat
+    × WorksFor l.queue l.count l.seat.me.0
+    × Lists l.queue l.seat.me.0.seen l.first l.count l.list.items
+    × (l.left.items ≡ [])
+    × (length (line_of l.fn.seat.me.0.seen l.queue) ≤ l.queued)
