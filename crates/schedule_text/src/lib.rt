@@ -24,6 +24,7 @@ pub use counts::Counts;
 pub use fault::{AnswersFault, ReplayFault, ScheduleFault};
 pub use header::front_header;
 pub use laws::answers_are_lines;
+pub use pieces::{NINE, NINETEEN, ended_number, number, word};
 pub use reading::{TextFault, column_of, front_go_on, front_line, read_line};
 pub use spelling::{print_header, print_line};
 pub use whole::{Schedule, read_schedule};

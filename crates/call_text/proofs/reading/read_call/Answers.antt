@@ -1,0 +1,33 @@
+use Rattle.std.proofs.Common.{length, ap, sym, Ok}
+use Rattle.std.proofs.lemmas.Bool.{eqb-true, eqb-false}
+use Rattle.call_text.specs.Grammar.{call_at}
+use Rattle.call_text.specs.Spelling.{CallText}
+use Rattle.schedule_text.proofs.Lemmas.{bad_within, rest_within, bad_column, long_column, found_whole, only_whole, no_whole}
+use Rattle.call_text.proofs.Calls.{call_reads}
+use Rattle.call_text.proofs.reading.read_call.Goals as goal
+
+pub column_of-column-requires : goal.column_of-column-requires
+column_of-column-requires c = rest_within CallText call_at call_reads c.args.text.now c.in-Ok.call c.in-Ok.rest.now c.in-Ok.ensures
+
+pub returns-then-is_empty-clause-found : goal.returns-then-is_empty-clause-found
+returns-then-is_empty-clause-found c = found_whole CallText call_at call_reads c.args.text.now c.in-Ok.call c.in-Ok.rest.now c.in-Ok.ensures (eqb-true _ _ (sym c.if-is_empty.ensures))
+
+pub returns-then-is_empty-clause-only : goal.returns-then-is_empty-clause-only
+returns-then-is_empty-clause-only c = λ x is same. ap (λ l. Ok l) (only_whole CallText call_at call_reads c.args.text.now c.in-Ok.call x c.in-Ok.rest.now c.in-Ok.ensures (is, same)).0
+
+pub returns-else-is_empty-clause-only : goal.returns-else-is_empty-clause-only
+returns-else-is_empty-clause-only c = λ x is same.
+    absurd (eqb-false _ _ (sym c.if-is_empty.ensures) (ap length (only_whole CallText call_at call_reads c.args.text.now c.in-Ok.call x c.in-Ok.rest.now c.in-Ok.ensures (is, same)).1))
+
+pub returns-else-is_empty-clause-column : goal.returns-else-is_empty-clause-column
+returns-else-is_empty-clause-column c =
+    long_column CallText call_at call_reads c.args.text.now c.in-Ok.call c.in-Ok.rest.now c.column_of-column.result c.in-Ok.ensures (eqb-false _ _ (sym c.if-is_empty.ensures)) c.column_of-column.ensures
+
+pub column_of-column-requires-in-Err : goal.column_of-column-requires-in-Err
+column_of-column-requires-in-Err c = bad_within CallText call_at call_reads c.args.text.now c.in-Err.bad.now c.in-Err.ensures
+
+pub returns-in-Err-clause-only : goal.returns-in-Err-clause-only
+returns-in-Err-clause-only c = λ x is same. absurd (no_whole CallText call_at call_reads c.args.text.now c.in-Err.bad.now x c.in-Err.ensures (is, same))
+
+pub returns-in-Err-clause-column : goal.returns-in-Err-clause-column
+returns-in-Err-clause-column c = bad_column CallText call_at call_reads c.args.text.now c.in-Err.bad.now c.column_of-column-in-Err.result c.in-Err.ensures c.column_of-column-in-Err.ensures

@@ -1,0 +1,4 @@
+pub mod Spelling
+pub mod Header
+pub mod Grammar
+pub mod Answers
