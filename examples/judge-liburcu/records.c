@@ -2,7 +2,7 @@
    docs/JUDGING.md says where each event is told, and why a `no` is then a mistake of the program.
 
    Compile with one of -DFLAVOUR_MEMB, -DFLAVOUR_MB, -DFLAVOUR_QSBR and -DFLAVOUR_BP. With -DBROKEN, one callback in a
-   thousand runs at once, beside the sections that may still read its record.
+   thousand runs at once, beside a section that is open and may still read its record.
 
    records N: the updater replaces the record N times. The events are written at the end. */
 #define _POSIX_C_SOURCE 200809L
@@ -26,7 +26,7 @@
 #include <stdlib.h>
 #include <urcu/compiler.h>
 
-enum { READERS = 3, SECTIONS_EACH = 4, LOADS_EACH = 100, ASKS_EVERY = 64, BARS_EVERY = 512, BROKEN_EVERY = 1000 };
+enum { READERS = 3, SECTIONS_EACH = 4, LOADS_EACH = 100, ASKS_EVERY = 64, BARS_EVERY = 512 };
 
 enum kind { OPEN, CLOSE, PUSH, REPLACE, RETIRE, QUEUE, RUN, ASK, ANSWER, BAR, CLEAR };
 
@@ -66,6 +66,50 @@ static void reclaim(struct rcu_head *head) {
     free(record);
 }
 
+#ifdef BROKEN
+enum { BROKEN_EVERY = 1000, MOST_TURNS = 10000000 };
+
+/* Whether a section is to stay open, and does. */
+enum stay { NONE, WANTED, STAYS };
+
+static atomic_int stay;
+
+static int is_wanted(void) {
+    return atomic_load(&stay) == WANTED;
+}
+
+/* The first section that gets here stays open until it is let go. */
+static void stay_open(void) {
+    int wanted = WANTED;
+    if (atomic_compare_exchange_strong(&stay, &wanted, STAYS))
+        while (atomic_load(&stay) == STAYS)
+            sched_yield();
+}
+
+/* Waits until a section stays open. */
+static void want_open(void) {
+    atomic_store(&stay, WANTED);
+    for (int turns = 0; atomic_load(&stay) != STAYS; turns++) {
+        if (turns == MOST_TURNS) {
+            fprintf(stderr, "records: no section was opened\n");
+            exit(2);
+        }
+        sched_yield();
+    }
+}
+
+static void let_go(void) {
+    atomic_store(&stay, NONE);
+}
+#else
+static int is_wanted(void) {
+    return 0;
+}
+
+static void stay_open(void) {
+}
+#endif
+
 /* One section, which reads the current record for a while. */
 static unsigned long read_once(unsigned long reader, unsigned long section) {
     unsigned long sum = 0;
@@ -74,6 +118,7 @@ static unsigned long read_once(unsigned long reader, unsigned long section) {
     for (int i = 0; i < LOADS_EACH; i++)
         sum += rcu_dereference(current)->value;
     sched_yield(); /* so that the updater often runs while a section is open */
+    stay_open();
     tell(CLOSE, reader, section); /* before the unlock is called */
     rcu_read_unlock();
     return sum;
@@ -84,7 +129,7 @@ static void *read_records(void *argument) {
     rcu_register_thread();
     while (!atomic_load(&stopped)) {
         /* No reader runs far ahead of the updater: so there is room for all events. */
-        if (section <= SECTIONS_EACH * atomic_load(&replaced))
+        if (section <= SECTIONS_EACH * atomic_load(&replaced) || is_wanted())
             sum += read_once((unsigned long)argument, ++section);
         else
             sched_yield();
@@ -111,13 +156,18 @@ static struct record *make_record(unsigned long number) {
 static void replace_record(unsigned long number) {
     struct record *old = current, *record = make_record(number);
     unsigned long was = old->number; /* whoever runs the callback frees the record */
+#ifdef BROKEN
+    if (was % BROKEN_EVERY == 1)
+        want_open();
+#endif
     tell(REPLACE, was, number);
     rcu_assign_pointer(current, record);
     tell(RETIRE, was, 0); /* once no new section can find it, and before call_rcu is called */
     tell(QUEUE, was, 0);
 #ifdef BROKEN
-    if (number % BROKEN_EVERY == 0) {
+    if (was % BROKEN_EVERY == 1) {
         reclaim(&old->head);
+        let_go();
         return;
     }
 #endif

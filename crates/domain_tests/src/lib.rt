@@ -4,11 +4,7 @@
 #[cfg(test)]
 mod deleter;
 #[cfg(test)]
-mod domains;
-#[cfg(test)]
 mod plain;
-#[cfg(test)]
-mod publishing;
 #[cfg(test)]
 mod readings;
 #[cfg(test)]

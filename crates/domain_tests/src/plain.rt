@@ -2,8 +2,7 @@
 //! and each clause that it hears costs time.
 
 use domain::{
-    BarrierMark, Chain, Counts, Deleter, Domain, LiveCookie, Owned, Record, Site, Ticket, Unlinked,
-    WorkerEnd,
+    Chain, Counts, Deleter, Domain, LiveCookie, Owned, Record, Site, Ticket, Unlinked, WorkerEnd,
 };
 use gp_memb::GracePlan;
 use live_words::AnyChain;
@@ -48,16 +47,6 @@ pub(crate) fn cut<P: GracePlan + Drop, B: Site, D: Deleter>(
     writer.cut(record, index)
 }
 
-/// `Chain::replace`.
-pub(crate) fn replace<P: GracePlan + Drop, B: Site, D: Deleter>(
-    writer: &mut Chain<'_, P, AnyChain, B, D>,
-    record: &mut Record<B>,
-    index: usize,
-    owned: Owned<B>,
-) -> Result<Unlinked<B>, (Refusal, Owned<B>)> {
-    writer.replace(record, index, owned)
-}
-
 /// `Domain::retire`.
 pub(crate) fn retire<P: GracePlan + Drop, B: Site, D: Deleter, R: Wait>(
     rt: &R,
@@ -79,19 +68,6 @@ pub(crate) fn cut_retire<P: GracePlan + Drop, B: Site, D: Deleter, R: Wait>(
     callback: D,
 ) -> Result<Ticket, (Refusal, D)> {
     domain.cut_retire(rt, record, writer, index, callback)
-}
-
-/// `Domain::replace_retire`.
-pub(crate) fn replace_retire<P: GracePlan + Drop, B: Site, D: Deleter, R: Wait>(
-    rt: &R,
-    domain: &Domain<P, AnyChain, B, D>,
-    record: &mut Record<B>,
-    writer: &mut Chain<'_, P, AnyChain, B, D>,
-    index: usize,
-    owned: Owned<B>,
-    callback: D,
-) -> Result<Ticket, (Refusal, Owned<B>, D)> {
-    domain.replace_retire(rt, record, writer, index, owned, callback)
 }
 
 /// `Domain::close`.
@@ -121,23 +97,6 @@ pub(crate) fn barrier<P: GracePlan + Drop, B: Site, D: Deleter, R: Wait>(
     record: &mut Record<B>,
 ) {
     domain.barrier(rt, record)
-}
-
-/// `Domain::barrier_start`.
-pub(crate) fn barrier_start<P: GracePlan + Drop, B: Site, D: Deleter>(
-    domain: &Domain<P, AnyChain, B, D>,
-    record: &mut Record<B>,
-) -> BarrierMark {
-    domain.barrier_start(record)
-}
-
-/// `Domain::barrier_done`.
-pub(crate) fn barrier_done<P: GracePlan + Drop, B: Site, D: Deleter>(
-    domain: &Domain<P, AnyChain, B, D>,
-    record: &mut Record<B>,
-    mark: &BarrierMark,
-) -> bool {
-    domain.barrier_done(record, mark)
 }
 
 /// `Domain::synchronize`.

@@ -73,17 +73,6 @@ fn counts<B: Site, R: Wait>(
     Ok([new, retired, waited, run])
 }
 
-#[test]
-fn counts_tell_what_is_in_use_and_what_waits(rt: HostRuntime) {
-    let opened = Opened::<MembPlan, AnyChain>::new(rt.alloc(), SMALL).expect(&rt, "memory");
-    let found = counts::<Brand, _>(&rt, rt.alloc(), opened).expect(&rt, "not refused");
-    let [new, retired, waited, run] = found;
-    assert_eq!(rt; new, counted(0, 0, [0, 0]));
-    assert_eq!(rt; retired, counted(0, 3, [0, 2]));
-    assert_eq!(rt; waited, counted(2, 3, [0, 2]));
-    assert_eq!(rt; run, counted(4, 1, [0, 0]));
-}
-
 /// A callback that returns once somebody has looked.
 #[derive(Drop)]
 struct Pauses {

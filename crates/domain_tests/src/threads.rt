@@ -32,13 +32,6 @@ struct Numbers {
     ended: AtomicU64,
 }
 
-fn no_sections() -> Numbers {
-    Numbers {
-        begun: AtomicU64::new(0),
-        ended: AtomicU64::new(0),
-    }
-}
-
 /// One section, in which the numbers are raised.
 fn one_section<P: GracePlan, B: Site>(
     reader: &mut Reader<P, AnyChain, B>,
@@ -93,27 +86,6 @@ fn reads<P: GracePlan, B: Site>(idle: Idle<P, B>, all: &[Numbers]) -> bool
         }
     }
     !P::QSBR || reader.offline().is_ok()
-}
-
-/// Two readers, in a thread each.
-fn two_read<P: GracePlan + Send + Sync, B: Site + Send + Sync, R: Threads + Sync>(
-    rt: &R,
-    one: Idle<P, B>,
-    two: Idle<P, B>,
-    all: &[Numbers],
-) -> bool
-    requires { P.QSBR ≡ B.qsbr }
-{
-    let (first, second) = join(
-        rt,
-        move ||
-            requires { P.QSBR ≡ B.qsbr }
-        { reads(one, all) },
-        move ||
-            requires { P.QSBR ≡ B.qsbr }
-        { reads(two, all) },
-    );
-    first && second
 }
 
 fn begun(all: &[Numbers], reader: usize) -> u64 {
@@ -190,84 +162,6 @@ fn waits<P: GracePlan + Drop, B: Site, R: Wait>(
         }
     }
     true
-}
-
-/// Two who wait, in a thread each.
-fn two_wait<P: GracePlan + Drop + Send + Sync, B: Site + Send + Sync, R: Threads + Wait + Sync>(
-    rt: &R,
-    domain: &Domain<P, AnyChain, B, Adds>,
-    one: Record<B>,
-    two: Record<B>,
-    all: &[Numbers],
-) -> bool {
-    let (first, second) = join(
-        rt,
-        move ||
-            requires { IsSync R.row }
-        { waits(rt, domain, one, all) },
-        move ||
-            requires { IsSync R.row }
-        { waits(rt, domain, two, all) },
-    );
-    first && second
-}
-
-/// Four readers and two who wait. Whether no section was refused, and each wait saw the sections end.
-fn reads_and_waits<
-    P: GracePlan + Drop + Send + Sync,
-    B: Site + Send + Sync,
-    R: Threads + Wait + Sync,
->(
-    rt: &R,
-    domain: &Domain<P, AnyChain, B, Adds>,
-    readers: [Idle<P, B>; 4],
-    record: Record<B>,
-    other: Record<B>,
-) -> (bool, bool, bool)
-    requires { P.QSBR ≡ B.qsbr }
-{
-    let [one, two, three, four] = readers;
-    let numbers = [no_sections(), no_sections(), no_sections(), no_sections()];
-    let all = numbers.as_slice();
-    let (first, (second, waited)) = join(
-        rt,
-        move ||
-            requires { IsSync R.row × (P.QSBR ≡ B.qsbr) }
-        { two_read(rt, one, two, all) },
-        move ||
-            requires { IsSync R.row × (P.QSBR ≡ B.qsbr) }
-        {
-            join(
-                rt,
-                move ||
-                    requires { IsSync R.row × (P.QSBR ≡ B.qsbr) }
-                { two_read(rt, three, four, all) },
-                move ||
-                    requires { IsSync R.row }
-                { two_wait(rt, domain, record, other, all) },
-            )
-        },
-    );
-    (first, second, waited)
-}
-
-/// The same in a domain of its own.
-fn serves<P: GracePlan + Drop + Send + Sync, B: Site + Send + Sync, R: Threads + Wait + Sync>(
-    rt: &R,
-    alloc: Global,
-    opened: Opened<P, AnyChain>,
-) -> Result<(bool, bool, bool), Refusal>
-    requires { (P.QSBR ≡ B.qsbr) × (opened.table.words.shared.table_id ≡ B.table) × (opened.table.words.shared.key ≡ B.sizes) }
-{
-    let (domain, mut record) = opened.named::<B, Adds>(alloc)?;
-    let other = domain.split(&mut record);
-    let readers = [
-        registered(rt, &domain, &mut record)?,
-        registered(rt, &domain, &mut record)?,
-        registered(rt, &domain, &mut record)?,
-        registered(rt, &domain, &mut record)?,
-    ];
-    Ok(reads_and_waits(rt, &domain, readers, record, other))
 }
 
 /// Sections of a reader that no table of numbers is kept of. Whether none was refused.
@@ -352,24 +246,6 @@ fn of_four_slots() -> LiveConfig
         chains: 1,
         pool: 4,
     }
-}
-
-#[test]
-fn waits_see_sections_end(rt: HostRuntime) {
-    let opened = Opened::<MembPlan, AnyChain>::new(rt.alloc(), of_four_slots()).expect(
-        &rt, "memory",
-    );
-    let served = serves::<MembPlan, Brand, _>(&rt, rt.alloc(), opened).expect(&rt, "not refused");
-    assert_eq!(rt; served, (true, true, true));
-}
-
-#[test]
-fn waits_see_announcements(rt: HostRuntime) {
-    let opened = Opened::<QsbrPlan, AnyChain>::new(rt.alloc(), of_four_slots()).expect(
-        &rt, "memory",
-    );
-    let served = serves::<QsbrPlan, Brand, _>(&rt, rt.alloc(), opened).expect(&rt, "not refused");
-    assert_eq!(rt; served, (true, true, true));
 }
 
 #[test]

@@ -30,34 +30,6 @@ pub enum Call {
     NewRegistry,
     /// `Registry::claim`.
     Claim,
-    /// `domain::Opened::new`.
-    OpenDomain,
-    /// `domain::Opened::named`.
-    NameDomain,
-    /// `domain::Domain::retire`.
-    Retire,
-    /// `domain::Domain::cut_retire`.
-    CutRetire,
-    /// `domain::Domain::replace_retire`.
-    ReplaceRetire,
-    /// `domain::Domain::run_worker`.
-    RunWorker,
-    /// `domain::Domain::stalled`.
-    Stalled,
-    /// `rcu_list::RcuList::replace`.
-    ListReplace,
-    /// `rcu_list::RcuList::remove`.
-    ListRemove,
-    /// `rcu_hash::RcuHash::new`.
-    NewTable,
-    /// `rcu_hash::RcuHash::replace`.
-    TableReplace,
-    /// `rcu_hash::RcuHash::remove`.
-    TableRemove,
-    /// `rcu_hash::RcuHash::grow`.
-    TableGrow,
-    /// `rcu_hash::RcuHash::tidy`.
-    TableTidy,
     /// `rcu_model::check_log`.
     CheckLog,
     /// `schedule::read_line`.
@@ -90,20 +62,6 @@ impl fmt::Display for Call {
             Call::PopReady => "pop_ready",
             Call::NewRegistry => "new_registry",
             Call::Claim => "claim",
-            Call::OpenDomain => "open_domain",
-            Call::NameDomain => "name_domain",
-            Call::Retire => "retire",
-            Call::CutRetire => "cut_retire",
-            Call::ReplaceRetire => "replace_retire",
-            Call::RunWorker => "run_worker",
-            Call::Stalled => "stalled",
-            Call::ListReplace => "list_replace",
-            Call::ListRemove => "list_remove",
-            Call::NewTable => "new_table",
-            Call::TableReplace => "table_replace",
-            Call::TableRemove => "table_remove",
-            Call::TableGrow => "table_grow",
-            Call::TableTidy => "table_tidy",
             Call::CheckLog => "check_log",
             Call::ReadLine => "read_line",
             Call::ReadSchedule => "read_schedule",

@@ -2,26 +2,20 @@
 //! `fault_injection`: calls of the library that may each be refused memory once, from outside, and what that left.
 
 mod answers;
-mod domains;
 mod ledger;
-mod lists;
 mod logs;
 mod operations;
 mod queues;
 mod registries;
 mod replays;
-mod retiring;
 mod rows;
 mod scenario;
 mod stepping;
-mod tables;
-mod workers;
 mod worlds;
 
 use ledger::{Call, Finding, Ledger};
 use scenario::{SCENARIOS, Scenario};
 use std::process::ExitCode;
-use std::sync::Wait;
 use std::{env, io};
 
 /// The words of the command line.
@@ -30,9 +24,9 @@ fn own_words(rt: &HostRuntime) -> io::Result<Vec<String>> {
 }
 
 /// Runs a scenario, and prints what it found. Answers whether all is as it has to be.
-fn tell<R: Wait>(rt: &HostRuntime, waits: &R, scenario: Scenario, ledger: &mut Ledger) -> bool {
+fn tell(rt: &HostRuntime, scenario: Scenario, ledger: &mut Ledger) -> bool {
     let name = scenario.name();
-    match scenario.run(waits, rt.alloc(), ledger) {
+    match scenario.run(rt.alloc(), ledger) {
         Ok(count) => println!(rt; "{name}: {count} hold").is_ok(),
         Err(finding) => {
             let _ = println!(rt; "{name}: {finding}");
@@ -42,7 +36,7 @@ fn tell<R: Wait>(rt: &HostRuntime, waits: &R, scenario: Scenario, ledger: &mut L
 }
 
 /// Runs the scenario of this name, or all of them where none is named.
-fn run<R: Wait>(rt: &HostRuntime, waits: &R, ledger: &mut Ledger) -> Result<bool, Finding> {
+fn run(rt: &HostRuntime, ledger: &mut Ledger) -> Result<bool, Finding> {
     let words = ledger.again(Call::Own, || own_words(rt))?;
     let mut good = true;
     for scenario in SCENARIOS {
@@ -50,7 +44,7 @@ fn run<R: Wait>(rt: &HostRuntime, waits: &R, ledger: &mut Ledger) -> Result<bool
             Some(word) => word.as_str() == scenario.name(),
             None => true,
         };
-        if is_named && !tell(rt, waits, scenario, ledger) {
+        if is_named && !tell(rt, scenario, ledger) {
             good = false;
         }
     }
@@ -59,7 +53,7 @@ fn run<R: Wait>(rt: &HostRuntime, waits: &R, ledger: &mut Ledger) -> Result<bool
 
 fn main(rt: HostRuntime) -> ExitCode {
     let mut ledger = Ledger::new();
-    let status = match run(&rt, &rt, &mut ledger) {
+    let status = match run(&rt, &mut ledger) {
         Ok(true) => 0,
         Ok(false) => 1,
         Err(finding) => {

@@ -1,16 +1,12 @@
 //! The scenarios by name.
 
-use crate::domains::make_domains;
 use crate::ledger::{Finding, Ledger};
-use crate::lists::make_lists;
 use crate::logs::{check_logs, read_logs, read_schedules};
 use crate::queues::push_items;
 use crate::registries::claim_slots;
 use crate::replays::{Way, replay_worked};
-use crate::tables::make_tables;
 use crate::worlds::{drain_worked, make_worlds, step_worked};
 use std::alloc::Global;
-use std::sync::Wait;
 use world::Flavour;
 
 /// Calls that are made one after the other.
@@ -26,12 +22,6 @@ pub enum Scenario {
     Queue,
     /// A registry is made, and its slots are claimed.
     Registry,
-    /// A domain of live threads is made in each flavour, and its record is taken, published and read.
-    Domain,
-    /// A list is made in each flavour, and a key of it replaced and removed.
-    List,
-    /// A table is made in each flavour, keys of it are replaced and removed, and it grows and is tidied.
-    Table,
     /// The logs of the worked schedules are judged, and broken ones.
     CheckLog,
     /// The texts of the worked schedules are read.
@@ -45,7 +35,7 @@ pub enum Scenario {
 }
 
 /// All scenarios, in the order in which they run.
-pub const SCENARIOS: [Scenario; 17] = [
+pub const SCENARIOS: [Scenario; 14] = [
     Scenario::New,
     Scenario::Step(Flavour::Memb),
     Scenario::Step(Flavour::Qsbr),
@@ -53,9 +43,6 @@ pub const SCENARIOS: [Scenario; 17] = [
     Scenario::Drain(Flavour::Qsbr),
     Scenario::Queue,
     Scenario::Registry,
-    Scenario::Domain,
-    Scenario::List,
-    Scenario::Table,
     Scenario::CheckLog,
     Scenario::ReadSchedule,
     Scenario::ReadAnswers,
@@ -76,9 +63,6 @@ impl Scenario {
             Scenario::Drain(Flavour::Qsbr) => "drain-qsbr",
             Scenario::Queue => "queue",
             Scenario::Registry => "registry",
-            Scenario::Domain => "domain",
-            Scenario::List => "list",
-            Scenario::Table => "table",
             Scenario::CheckLog => "check-log",
             Scenario::ReadSchedule => "read-schedule",
             Scenario::ReadAnswers => "read-answers",
@@ -90,16 +74,13 @@ impl Scenario {
     }
 
     /// Makes the calls, and answers how many answers were found to be as they have to be.
-    pub fn run<R: Wait>(self, rt: &R, alloc: Global, ledger: &mut Ledger) -> Result<u64, Finding> {
+    pub fn run(self, alloc: Global, ledger: &mut Ledger) -> Result<u64, Finding> {
         match self {
             Scenario::New => make_worlds(alloc, ledger),
             Scenario::Step(flavour) => step_worked(alloc, ledger, flavour),
             Scenario::Drain(flavour) => drain_worked(alloc, ledger, flavour),
             Scenario::Queue => push_items(alloc, ledger),
             Scenario::Registry => claim_slots(alloc, ledger),
-            Scenario::Domain => make_domains(rt, alloc, ledger),
-            Scenario::List => make_lists(rt, alloc, ledger),
-            Scenario::Table => make_tables(rt, alloc, ledger),
             Scenario::CheckLog => check_logs(alloc, ledger),
             Scenario::ReadSchedule => read_schedules(alloc, ledger),
             Scenario::ReadAnswers => read_logs(alloc, ledger),

@@ -4,20 +4,12 @@
 #[cfg(test)]
 mod deleter;
 #[cfg(test)]
-mod growing;
-#[cfg(test)]
 mod growths;
 #[cfg(test)]
 mod lists;
 #[cfg(test)]
 mod looking;
 #[cfg(test)]
-mod lookups;
-#[cfg(test)]
 mod plain;
 #[cfg(test)]
 mod sharing;
-#[cfg(test)]
-mod tables;
-#[cfg(test)]
-mod walks;

@@ -3,11 +3,10 @@
 ghost use Rattle.std.specs.Prelude.{◌≡◌};
 
 use crate::deleter::Adds;
-use domain::{Domain, LiveConfig, Reader, Record, Site, Stop};
+use domain::{Domain, LiveConfig, Reader, Record, Site};
 use gp_memb::GracePlan;
 use live_words::ChainRule;
 use rcu_model::Refusal;
-use std::alloc::Global;
 use std::sync::Wait;
 use std::sync::atomic::{AtomicBool, Ordering};
 use std::thread;
@@ -36,39 +35,6 @@ pub(crate) fn registered<P: GracePlan + Drop, K: ChainRule, B: Site, R: Wait>(
 ) -> Result<Idle<P, K, B>, Refusal> {
     let reader = domain.register(rt, record)?;
     Ok(Idle { reader })
-}
-
-/// How many callbacks a worker ran, and why it stopped.
-pub(crate) fn works<P: GracePlan + Drop, K: ChainRule, B: Site, R: Wait>(
-    rt: &R,
-    alloc: Global,
-    domain: &Domain<P, K, B, Adds>,
-    record: &mut Record<B>,
-) -> Result<(usize, Stop), Refusal> {
-    let end = domain.run_worker(rt, alloc, record, 0)?;
-    Ok((end.finished.len(), end.stop))
-}
-
-/// What two readers and a writer tell one another.
-#[derive(Drop)]
-pub(crate) struct Told {
-    /// The first reader has found the key.
-    pub(crate) first: AtomicBool,
-    /// The second reader has.
-    pub(crate) second: AtomicBool,
-    /// The writer is done.
-    pub(crate) done: AtomicBool,
-}
-
-impl Told {
-    /// Nothing was told yet.
-    pub(crate) fn new() -> Told {
-        Told {
-            first: AtomicBool::new(false),
-            second: AtomicBool::new(false),
-            done: AtomicBool::new(false),
-        }
-    }
 }
 
 /// Waits until another thread has told this, but not for ever, so that a test fails where it never does.

@@ -1,46 +1,51 @@
 //! What the benchmark repeats, and how large a domain that takes.
 
-use crate::growing::CHAINS;
 use domain::LiveConfig;
+use live_load::Buckets;
+use rcu_model::Refusal;
 
 /// How many records a domain has.
 pub(crate) const RECORDS: u64 = 65_536;
 
-/// What is repeated while nobody reclaims.
-#[derive(Clone, Copy, Drop)]
-pub(crate) enum Operation {
+/// What is repeated on chains.
+#[derive(Clone, Copy, PartialEq, Eq, Drop)]
+pub(crate) enum OnChains {
     /// A read-side section with nothing in it.
     Section,
-    /// The same by two readers, each in a thread of its own.
-    SectionByTwo,
     /// An inner section with nothing in it.
     Nested,
     /// A section, and then a quiescent state.
     Announcement,
-    /// A grace period that is waited for, with two readers that are in no section.
-    Synchronize,
-    /// A look whether an ask is answered.
-    Poll,
     /// A section that reads the first object of a chain.
     Read,
-    /// The same by two readers, each in a thread of its own.
-    ReadByTwo,
     /// A further read in a section.
     FurtherRead,
     /// A step along a chain of 1,000 objects.
     Walk,
+    /// A grace period that is waited for, with two readers that are in no section.
+    Synchronize,
+    /// A look whether an ask is answered.
+    Poll,
     /// A record allocated and pushed.
     Push,
     /// The same, cut at once.
     Cut,
-    /// A record allocated and put in the place of the first one of a chain, which is retired.
-    Queue,
     /// A record allocated and discarded, while so many of 100 are in use.
     Alloc(u64),
+    /// A record allocated and put in the place of the first one of a chain, which is retired, while nobody reclaims.
+    Queue,
+    /// The same beside a worker that reclaims all.
+    Retire,
+    /// The same with a boxed callback.
+    RetireBoxed,
+    /// The same, and a barrier.
+    Barrier,
+    /// A section that reads, or a record retired once in 100 times, beside a worker.
+    Mix,
 }
 
 /// How many keys a table has, and in how many buckets.
-#[derive(Clone, Copy, Drop)]
+#[derive(Clone, Copy, PartialEq, Eq, Drop)]
 pub(crate) enum Entries {
     /// 1,024 keys in 1,024 buckets.
     Few,
@@ -48,138 +53,129 @@ pub(crate) enum Entries {
     Many,
 }
 
-/// What is repeated on a hash table while nobody reclaims.
-#[derive(Clone, Copy, Drop)]
-pub(crate) enum TableOperation {
-    /// A section that looks up a key that is there, by so many readers.
-    Hit(Entries, usize),
-    /// A section that looks up a key that is not there, by so many readers.
-    Miss(Entries, usize),
+/// What is repeated on a hash table.
+#[derive(Clone, Copy, PartialEq, Eq, Drop)]
+pub(crate) enum OnTable {
+    /// A section that looks up a key that is there.
+    Hit(Entries),
+    /// A section that looks up a key that is not there.
+    Miss(Entries),
     /// A key gets a value, among at most 65,535 in 4,095 buckets.
     Insert,
     /// A key gets a value and is taken out again, among 1,024 in 1,024 buckets.
     Remove,
     /// An entry met, while a section goes through all of 1,024 in 1,024 buckets.
     Through,
-}
-
-/// What is repeated.
-#[derive(Clone, Copy, Drop)]
-pub(crate) enum Kind {
-    /// While nobody reclaims.
-    Alone(Operation),
-    /// A record retired, beside a worker that reclaims all.
-    Retire,
-    /// The same with a boxed callback.
-    RetireBoxed,
-    /// A record retired, and a barrier.
-    Barrier,
-    /// A section that reads, or a record retired once in 100 times, by two threads beside a worker.
-    MixByTwo,
-    /// The same by four threads.
-    MixByFour,
-}
-
-/// What is repeated on a hash table.
-#[derive(Clone, Copy, Drop)]
-pub(crate) enum TableKind {
-    /// While nobody reclaims.
-    Alone(TableOperation),
     /// A table of 10,000 keys grows and is tidied, beside a worker that reclaims all.
-    Growth,
+    Grow,
     /// A section that looks up a key of it, while it grows all the time.
     HitWhileGrowing,
     /// The same, each section timed.
     SlowestWhileGrowing,
 }
 
-/// On what it is repeated.
+/// What is repeated, by how many threads.
 #[derive(Clone, Copy, Drop)]
-pub(crate) enum Place {
-    /// On chains.
-    Chains(Kind),
-    /// On a hash table.
-    Table(TableKind),
+pub(crate) enum Kind {
+    Chains(OnChains, usize),
+    Table(OnTable, usize),
 }
 
-fn operation_of(word: &str) -> Option<Operation> {
-    Some(match word {
-        "section" => Operation::Section,
-        "section-by-two" => Operation::SectionByTwo,
-        "nested" => Operation::Nested,
-        "announcement" => Operation::Announcement,
-        "synchronize" => Operation::Synchronize,
-        "poll" => Operation::Poll,
-        "read" => Operation::Read,
-        "read-by-two" => Operation::ReadByTwo,
-        "further-read" => Operation::FurtherRead,
-        "walk" => Operation::Walk,
-        "push" => Operation::Push,
-        "cut" => Operation::Cut,
-        "queue" => Operation::Queue,
-        "alloc-10" => Operation::Alloc(10),
-        "alloc-90" => Operation::Alloc(90),
-        "alloc-99" => Operation::Alloc(99),
-        _ => return None,
-    })
-}
-
-fn table_operation_of(word: &str) -> Option<TableOperation> {
-    Some(match word {
-        "hit" => TableOperation::Hit(Entries::Few, 1),
-        "hit-by-two" => TableOperation::Hit(Entries::Few, 2),
-        "miss" => TableOperation::Miss(Entries::Few, 1),
-        "miss-by-two" => TableOperation::Miss(Entries::Few, 2),
-        "hit-large" => TableOperation::Hit(Entries::Many, 1),
-        "hit-large-by-two" => TableOperation::Hit(Entries::Many, 2),
-        "miss-large" => TableOperation::Miss(Entries::Many, 1),
-        "miss-large-by-two" => TableOperation::Miss(Entries::Many, 2),
-        "insert" => TableOperation::Insert,
-        "remove" => TableOperation::Remove,
-        "through" => TableOperation::Through,
-        _ => return None,
-    })
-}
-
-fn kind_of(word: &str) -> Option<Kind> {
-    Some(match word {
-        "retire" => Kind::Retire,
-        "retire-boxed" => Kind::RetireBoxed,
-        "barrier" => Kind::Barrier,
-        "mix-by-two" => Kind::MixByTwo,
-        "mix-by-four" => Kind::MixByFour,
-        other => Kind::Alone(operation_of(other)?),
-    })
-}
-
-fn table_kind_of(word: &str) -> Option<TableKind> {
-    Some(match word {
-        "grow" => TableKind::Growth,
-        "hit-while-growing" => TableKind::HitWhileGrowing,
-        "slowest-while-growing" => TableKind::SlowestWhileGrowing,
-        other => TableKind::Alone(table_operation_of(other)?),
-    })
-}
+/// What each word of the command line names.
+const KINDS: [(&str, Kind); 35] = [
+    ("section", Kind::Chains(OnChains::Section, 1)),
+    ("section-by-two", Kind::Chains(OnChains::Section, 2)),
+    ("nested", Kind::Chains(OnChains::Nested, 1)),
+    ("announcement", Kind::Chains(OnChains::Announcement, 1)),
+    ("read", Kind::Chains(OnChains::Read, 1)),
+    ("read-by-two", Kind::Chains(OnChains::Read, 2)),
+    ("further-read", Kind::Chains(OnChains::FurtherRead, 1)),
+    ("walk", Kind::Chains(OnChains::Walk, 1)),
+    ("synchronize", Kind::Chains(OnChains::Synchronize, 1)),
+    ("poll", Kind::Chains(OnChains::Poll, 1)),
+    ("push", Kind::Chains(OnChains::Push, 1)),
+    ("cut", Kind::Chains(OnChains::Cut, 1)),
+    ("alloc-10", Kind::Chains(OnChains::Alloc(10), 1)),
+    ("alloc-90", Kind::Chains(OnChains::Alloc(90), 1)),
+    ("alloc-99", Kind::Chains(OnChains::Alloc(99), 1)),
+    ("queue", Kind::Chains(OnChains::Queue, 1)),
+    ("retire", Kind::Chains(OnChains::Retire, 1)),
+    ("retire-boxed", Kind::Chains(OnChains::RetireBoxed, 1)),
+    ("barrier", Kind::Chains(OnChains::Barrier, 1)),
+    ("mix-by-two", Kind::Chains(OnChains::Mix, 2)),
+    ("mix-by-four", Kind::Chains(OnChains::Mix, 4)),
+    ("hit", Kind::Table(OnTable::Hit(Entries::Few), 1)),
+    ("hit-by-two", Kind::Table(OnTable::Hit(Entries::Few), 2)),
+    ("miss", Kind::Table(OnTable::Miss(Entries::Few), 1)),
+    ("miss-by-two", Kind::Table(OnTable::Miss(Entries::Few), 2)),
+    ("hit-large", Kind::Table(OnTable::Hit(Entries::Many), 1)),
+    (
+        "hit-large-by-two",
+        Kind::Table(OnTable::Hit(Entries::Many), 2),
+    ),
+    ("miss-large", Kind::Table(OnTable::Miss(Entries::Many), 1)),
+    (
+        "miss-large-by-two",
+        Kind::Table(OnTable::Miss(Entries::Many), 2),
+    ),
+    ("insert", Kind::Table(OnTable::Insert, 1)),
+    ("remove", Kind::Table(OnTable::Remove, 1)),
+    ("through", Kind::Table(OnTable::Through, 1)),
+    ("grow", Kind::Table(OnTable::Grow, 1)),
+    (
+        "hit-while-growing",
+        Kind::Table(OnTable::HitWhileGrowing, 2),
+    ),
+    (
+        "slowest-while-growing",
+        Kind::Table(OnTable::SlowestWhileGrowing, 3),
+    ),
+];
 
 /// What the word of the command line names.
-pub(crate) fn place_of(word: &str) -> Option<Place> {
-    Some(match table_kind_of(word) {
-        Some(kind) => Place::Table(kind),
-        None => Place::Chains(kind_of(word)?),
-    })
+pub(crate) fn kind_of(word: &str) -> Option<Kind> {
+    for (name, kind) in &KINDS {
+        if *name == word {
+            return Some(*kind);
+        }
+    }
+    None
 }
 
-impl Operation {
-    /// Whether it reads a chain.
-    pub(crate) fn reads(self) -> bool {
+/// What the last thread answers, or the first refusal.
+pub(crate) fn last_of(parts: Vec<Result<u64, Refusal>>) -> Result<u64, Refusal> {
+    let mut answer = 0;
+    for part in parts {
+        answer = part?;
+    }
+    Ok(answer)
+}
+
+impl OnChains {
+    /// Whether it is repeated by a reader, on chain 0.
+    pub(crate) fn is_read(self) -> bool {
         matches!(
             self,
-            Operation::Read | Operation::ReadByTwo | Operation::FurtherRead | Operation::Walk
+            OnChains::Section
+                | OnChains::Nested
+                | OnChains::Announcement
+                | OnChains::Read
+                | OnChains::FurtherRead
+                | OnChains::Walk
+        )
+    }
+
+    /// Whether a worker reclaims all meanwhile.
+    pub(crate) fn has_worker(self) -> bool {
+        matches!(
+            self,
+            OnChains::Retire | OnChains::RetireBoxed | OnChains::Barrier | OnChains::Mix
         )
     }
 }
 
-fn of_chains(chains: usize) -> LiveConfig {
+/// A domain of so many chains.
+pub(crate) fn of_chains(chains: usize) -> LiveConfig {
     LiveConfig {
         slots: 256,
         queues: 1,
@@ -188,72 +184,50 @@ fn of_chains(chains: usize) -> LiveConfig {
     }
 }
 
-impl Entries {
-    /// In how many buckets.
-    pub(crate) fn buckets(self) -> usize {
-        match self {
-            Entries::Few => 1_024,
-            Entries::Many => 4_095,
-        }
-    }
-
-    /// In how many chains, with the directory's.
-    pub(crate) fn chains(self) -> usize {
-        match self {
-            Entries::Few => 1_025,
-            Entries::Many => 4_096,
-        }
-    }
-
-    /// The keys go from 0 to this number, but that of many keys this one is not there.
-    pub(crate) fn mask(self) -> u64 {
-        match self {
-            Entries::Few => 1_023,
-            Entries::Many => 65_535,
-        }
-    }
-}
-
-impl TableOperation {
-    /// Of what table.
-    pub(crate) fn entries(self) -> Entries {
-        match self {
-            TableOperation::Hit(entries, _) | TableOperation::Miss(entries, _) => entries,
-            TableOperation::Insert => Entries::Many,
-            TableOperation::Remove | TableOperation::Through => Entries::Few,
-        }
-    }
-
-    /// How many keys it has before.
+impl OnTable {
+    /// How many keys its table has at first.
     pub(crate) fn keys(self) -> u64 {
         match self {
-            TableOperation::Insert => 0,
-            TableOperation::Remove | TableOperation::Through => 1_024,
-            TableOperation::Hit(entries, _) | TableOperation::Miss(entries, _) => match entries {
-                Entries::Few => 1_024,
-                Entries::Many => RECORDS - 1,
-            },
+            OnTable::Insert => 0,
+            OnTable::Hit(Entries::Many) | OnTable::Miss(Entries::Many) => RECORDS - 1,
+            OnTable::Grow | OnTable::HitWhileGrowing | OnTable::SlowestWhileGrowing => 10_000,
+            _ => 1_024,
         }
     }
-}
 
-impl Kind {
-    /// A domain with a chain for each thread that writes.
-    pub(crate) fn size(self) -> LiveConfig {
+    /// What a number is cut down to, so that it is a key: that of many keys one is not there.
+    pub(crate) fn mask(self) -> u64 {
         match self {
-            Kind::MixByTwo => of_chains(2),
-            Kind::MixByFour => of_chains(4),
-            _ => of_chains(1),
+            OnTable::Hit(Entries::Many) | OnTable::Miss(Entries::Many) => RECORDS - 1,
+            OnTable::HitWhileGrowing | OnTable::SlowestWhileGrowing => 8_191,
+            _ => 1_023,
         }
     }
-}
 
-impl TableKind {
-    /// A domain with a chain for each bucket and one for the directory.
-    pub(crate) fn size(self) -> LiveConfig {
+    /// The buckets that its table has at first.
+    pub(crate) fn buckets(self) -> Buckets {
+        let number = match self {
+            OnTable::Insert | OnTable::Hit(Entries::Many) | OnTable::Miss(Entries::Many) => 4_095,
+            _ => 1_024,
+        };
+        Buckets { first: 1, number }
+    }
+
+    /// How many chains its domain has: one for the directory, one for each bucket, and for each bucket of twice as many
+    /// where it grows.
+    pub(crate) fn chains(self) -> usize {
         match self {
-            TableKind::Alone(operation) => of_chains(operation.entries().chains()),
-            _ => of_chains(CHAINS),
+            OnTable::Insert | OnTable::Hit(Entries::Many) | OnTable::Miss(Entries::Many) => 4_096,
+            OnTable::Grow | OnTable::HitWhileGrowing | OnTable::SlowestWhileGrowing => 3_073,
+            _ => 1_025,
         }
+    }
+
+    /// Whether a worker reclaims all meanwhile.
+    pub(crate) fn has_worker(self) -> bool {
+        matches!(
+            self,
+            OnTable::Grow | OnTable::HitWhileGrowing | OnTable::SlowestWhileGrowing
+        )
     }
 }

@@ -2,7 +2,6 @@
 //! number is word 16, and the phase or number word 32.
 
 use gp_memb::MembPlan;
-use gp_qsbr::QsbrPlan;
 use live_grace::{Answer, GraceWriter, ask, poll, start_poll};
 use live_log::AnyChain;
 use live_table::LiveTable;
@@ -31,16 +30,4 @@ fn phases_answer_asks(rt: HostRuntime) {
     let late = ask(&table, &mut third).expect(&rt, "not exhausted");
     assert_eq!(rt; writer.answer(&rt, &table, &mut third, late), Answer::Own);
     assert_eq!(rt; table.words.shared.peek(16), 4);
-}
-
-#[test]
-fn numbers_answer_asks(rt: HostRuntime) {
-    let (table, mut root) = LiveTable::<QsbrPlan, AnyChain>::new(rt.alloc(), 3, 1, 1, 4).expect(
-        &rt, "memory",
-    );
-    let mut writer = GraceWriter::<QsbrPlan>::new(table.cut_grace(&mut root));
-    let own = ask(&table, &mut root).expect(&rt, "not exhausted");
-    assert_eq!(rt; writer.answer(&rt, &table, &mut root, own), Answer::Own);
-    assert_eq!(rt; table.words.shared.peek(16), 2);
-    assert_eq!(rt; table.words.shared.peek(32), 1);
 }

@@ -8,8 +8,6 @@ ghost use Rattle.live_rule.specs.Views.{first_view};
 use crate::plain;
 use callback_queue::Item;
 use gp_memb::{GracePlan, MembPlan};
-use gp_qsbr::QsbrPlan;
-use live_barrier::{barrier_done, barrier_start};
 use live_items::{Items, Job};
 use live_read::{Record, Site, Witness};
 use live_words::{
@@ -36,50 +34,6 @@ fn cut_one<P: GracePlan, B: Site, R: Wait>(
     let owned = plain::alloc(rt, table, record, words)?;
     plain::push(&mut chain, record, owned);
     plain::cut(&mut chain, record, 0)
-}
-
-/// Whether a barrier that begins now is passed at once.
-fn is_passed<P: GracePlan, B: Site>(table: &LiveTable<P, AnyChain>, record: &mut Record<B>) -> bool
-    requires { (table.now.words.shared.table_id ≡ B.table) × (table.now.words.shared.key ≡ B.sizes) × (table.now.queues ≡ 1) }
-{
-    let mut seat = record.tell(table);
-    let mark = barrier_start(table, &mut seat);
-    barrier_done(table, &mut seat, &mark)
-}
-
-/// The ticket of a retirement; whether a barrier was passed before it and after it; and whether another retirement,
-/// once the queue was closed, was refused with both parts.
-fn retires<P: GracePlan, B: Site, R: Wait>(
-    rt: &R,
-    memory: Global,
-    table: &LiveTable<P, AnyChain>,
-    mut root: LiveSeat,
-) -> Result<(u64, [bool; 2], bool), Refusal>
-    requires site { (table.now.words.shared.table_id ≡ B.table) × (table.now.words.shared.key ≡ B.sizes) × (root.table_id ≡ B.table) × (root.me ≡ (first_view B.sizes, [])) }
-    requires sizes { (table.now.chains ≡ 1) × (table.now.queues ≡ 1) × (table.now.pool ≡ 4) }
-{
-    let queue = table.cut_spare_queue(&mut root);
-    let mut items: Items<B, ObjectId> = Items::new(memory, queue, 0);
-    let mut record: Record<B> = Record::new(root);
-    let first: Unlinked<B> = cut_one(rt, table, &mut record, [5, 0, 0, 0])?;
-    let before = is_passed(table, &mut record);
-    let Ok(ticket) = plain::retire(&mut items, table, &mut record, first, ObjectId(7)) else {
-        return Err(Refusal::Memory);
-    };
-    let after = is_passed(table, &mut record);
-    let second: Unlinked<B> = cut_one(rt, table, &mut record, [6, 0, 0, 0])?;
-    items.close(table, &mut record);
-    let Err((why, _second, callback)) = plain::retire(
-        &mut items,
-        table,
-        &mut record,
-        second,
-        ObjectId(9),
-    ) else {
-        return Err(Refusal::Memory);
-    };
-    let back = matches!(why, Refusal::Closed) && callback.0 == 9;
-    Ok((ticket.0, [before, after], back))
 }
 
 /// Two objects are cut and retired, and 7 and 9 are to be called.
@@ -193,35 +147,6 @@ fn what_waits_is_taken_back(rt: HostRuntime) {
     );
     assert_eq!(rt; numbers, [0, 0, 0, 2]);
     assert_eq!(rt; last, 9);
-}
-
-#[test]
-fn a_closed_queue_takes_nothing(rt: HostRuntime) {
-    let (table, root) = LiveTable::<MembPlan, AnyChain>::new(rt.alloc(), 1, 1, 1, 4).expect(
-        &rt, "memory",
-    );
-    let (ticket, passed, back) = retires::<_, Brand, _>(&rt, rt.alloc(), &table, root).expect(
-        &rt, "memory",
-    );
-    assert_eq!(rt; ticket, 1);
-    assert_eq!(rt; passed, [true, false]);
-    assert!(rt; back);
-    assert_eq!(rt; table.words.shared.peek(104), 1);
-    assert_eq!(rt; table.words.shared.peek(105), 1);
-    assert_eq!(rt; table.words.shared.peek(178), 3);
-}
-
-#[test]
-fn retirements_of_the_quiescent_state_flavour(rt: HostRuntime) {
-    let (table, root) = LiveTable::<QsbrPlan, AnyChain>::new(rt.alloc(), 1, 1, 1, 4).expect(
-        &rt, "memory",
-    );
-    let (ticket, passed, back) = retires::<_, Brand, _>(&rt, rt.alloc(), &table, root).expect(
-        &rt, "memory",
-    );
-    assert_eq!(rt; ticket, 1);
-    assert_eq!(rt; passed, [true, false]);
-    assert!(rt; back);
 }
 
 #[test]

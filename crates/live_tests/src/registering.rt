@@ -6,7 +6,6 @@ ghost use Rattle.std.specs.Arc.{arc_value};
 ghost use Rattle.live_rule.specs.Views.{first_view};
 
 use gp_memb::{GracePlan, MembPlan};
-use gp_qsbr::QsbrPlan;
 use live_read::{Record, Registrar, Site};
 use live_words::{AnyChain, ChainRule, LiveSeat, LiveTable};
 use rcu_model::Refusal;
@@ -85,25 +84,6 @@ fn leaves<B: Site>(
     Ok([set, locked, left, cleared, next])
 }
 
-/// An online reader goes offline as it leaves.
-fn leaves_online<B: Site>(
-    alloc: Global,
-    words: &Arc<LiveTable<QsbrPlan, AnyChain>>,
-    root: LiveSeat,
-) -> Result<[bool; 4], Refusal>
-    requires site { (B.qsbr ≡ true) × ((arc_value words.now).words.shared.table_id ≡ B.table) × (root.table_id ≡ B.table) × ((arc_value words.now).words.shared.key ≡ B.sizes) × (0 < B.sizes.slots) }
-    requires new { root.me ≡ (first_view (arc_value words.now).words.shared.key, []) }
-{
-    let (mut registrar, mut record) = opened::<QsbrPlan, AnyChain, B>(alloc, words, root)?;
-    let mut reader = registrar.register(&mut record)?;
-    let offline = reader.word == 0;
-    reader.online()?;
-    let online = words.words.shared.peek(64) == 1;
-    let left = registrar.unregister(reader).is_ok();
-    let closed = words.words.shared.peek(64) == 0 && words.words.shared.peek(48) == 0;
-    Ok([offline, online, left, closed])
-}
-
 #[test]
 fn no_slot_is_left_after_the_last(rt: HostRuntime) {
     let (table, root) = LiveTable::<MembPlan, AnyChain>::new(rt.alloc(), 256, 1, 1, 4).expect(
@@ -125,14 +105,4 @@ fn a_busy_reader_comes_back(rt: HostRuntime) {
     let words = Arc::new(rt.alloc(), table).expect(&rt, "memory");
     let left = leaves::<Brand>(rt.alloc(), &words, root).expect(&rt, "not refused");
     assert_eq!(rt; left, [true, true, true, true, true]);
-}
-
-#[test]
-fn an_online_reader_leaves(rt: HostRuntime) {
-    let (table, root) = LiveTable::<QsbrPlan, AnyChain>::new(rt.alloc(), 2, 1, 1, 4).expect(
-        &rt, "memory",
-    );
-    let words = Arc::new(rt.alloc(), table).expect(&rt, "memory");
-    let left = leaves_online::<Brand>(rt.alloc(), &words, root).expect(&rt, "not refused");
-    assert_eq!(rt; left, [true, true, true, true]);
 }

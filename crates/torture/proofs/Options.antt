@@ -1,5 +1,5 @@
 -- Options, added one after the other.
-use Rattle.std.proofs.Common.{◌≡◌, ℕ, List, Option, Some, codes, Bool, true, false, ◌||◌, refl, ap, ap₂, ◌∙◌}
+use Rattle.std.proofs.Common.{◌≡◌, ℕ, List, Option, Some, Bool, true, false, ◌||◌, refl, ap, ap₂, ◌∙◌}
 use Rattle.std.specs.Borrow.{Bor}
 use Rattle.std.specs.Prelude.{Result, Ok, Err, IfOk, IfErr}
 use Rattle.std.proofs.Common.{inl}
@@ -33,10 +33,10 @@ default_rule a b text r e is = ap rule_of e ∙ ap (or_else text.now) is
 pub default_own : (a b : Arg) (text : Bor (List ℕ)) → b ≡ record a { default_vals = One text } → a.global ≡ false → b.global ≡ false
 default_own a b text e is = ap (λ (x : Arg). x.global) e ∙ is
 
--- the flavour's names stand where the code has them
-pub flavour_known : (a b d e : Arg) (q : ValueParser) (long name : Bor (List ℕ)) (names : Bor (List (Bor (List ℕ)))) → rule_of a ≡ new_rule (codes "flavour") → b ≡ record a { long = Some long } → d ≡ record b { val_names = One name } → e ≡ record d { value_parser = e.value_parser } → e.value_parser ≡ Some q → q ≡ Names names
-    → rule_of e ≡ record (new_rule (codes "flavour")) { long = Some long.now; value_names = 1; parser = Some (Names names) }
-flavour_known a b d e q long name names is to_b to_d to_e has named =
+-- an option's names stand where the code has them
+pub names_known : (id : List ℕ) (a b d e : Arg) (q : ValueParser) (long name : Bor (List ℕ)) (names : Bor (List (Bor (List ℕ)))) → rule_of a ≡ new_rule id → b ≡ record a { long = Some long } → d ≡ record b { val_names = One name } → e ≡ record d { value_parser = e.value_parser } → e.value_parser ≡ Some q → q ≡ Names names
+    → rule_of e ≡ record (new_rule id) { long = Some long.now; value_names = 1; parser = Some (Names names) }
+names_known id a b d e q long name names is to_b to_d to_e has named =
     ap rule_of to_e
     ∙ ap (λ (p : Option ValueParser). record (rule_of d) { parser = p }) (has ∙ ap Some named)
     ∙ ap (λ (r : Rule). record r { parser = Some (Names names) }) (ap rule_of to_d ∙ ap (λ (r : Rule). record r { value_names = 1 }) (ap rule_of to_b ∙ ap (λ (r : Rule). record r { long = Some long.now }) is))

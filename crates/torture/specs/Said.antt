@@ -13,7 +13,9 @@ use Rattle.world_state.specs.declared.config.Flavour.TheVariants.{Memb, Qsbr}
 use Rattle.torture_commands.specs.declared.command.Command.{Command}
 use Rattle.torture_commands.specs.declared.command.Command.TheVariants as command
 use Rattle.torture_commands.specs.declared.command.Walk.{Walk}
-use Rattle.live_stress.specs.declared.load.Load.{Load}
+use Rattle.live_load.specs.declared.load.Load.{Load}
+use Rattle.live_load.specs.declared.target.Target.{Target}
+use Rattle.live_load.specs.declared.target.Target.TheVariants as target
 use Rattle.torture_run.specs.declared.asked.Asked.{Asked}
 use Rattle.torture_run.specs.declared.asked.Asked.TheVariants as asked
 use Rattle.torture_run.specs.declared.asked.Run.{Run}
@@ -39,6 +41,17 @@ layout_said version = if version == 2 then Wide else Narrow
 
 abbrev pub flavour_said : Option Text → Flavour
 flavour_said name = if option_map_or (λ text. bytes_eq text (codes "qsbr")) name false then Qsbr else Memb
+
+abbrev pub says : Option Text → Text → Bool
+says found name = option_map_or (λ text. bytes_eq text name) found false
+
+-- chains, where it names none of the others
+abbrev pub target_said : Option Text → Target
+target_said name =
+    if says name (codes "lists") then target.Lists
+    else if says name (codes "tables") then target.Tables
+    else if says name (codes "growth") then target.Growth
+    else target.Chains
 
 abbrev pub config_said : List Row → Config
 config_said rows = record {
@@ -77,7 +90,7 @@ load_said rows = record {
 }
 
 abbrev pub run_said : List Row → Run
-run_said rows = record { flavour = flavour_said (first_of (codes "flavour") rows); load = load_said rows }
+run_said rows = record { flavour = flavour_said (first_of (codes "flavour") rows); target = target_said (first_of (codes "load") rows); load = load_said rows }
 
 -- the command of that name, with its options
 abbrev pub asked_by_name : Text → List Row → Asked
@@ -85,6 +98,7 @@ asked_by_name name rows =
     if bytes_eq name (codes "check") then asked.Command (check_said rows)
     else if bytes_eq name (codes "walk") then asked.Command (command.Walk (walk_said rows))
     else if bytes_eq name (codes "run") then asked.Run (run_said rows)
+    else if bytes_eq name (codes "call") then asked.Calls
     else asked.Command command.Replay
 
 -- what the words ask for; `replay` where they name none of the others

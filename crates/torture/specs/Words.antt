@@ -25,11 +25,25 @@ or_else text rule = record rule { defaults = text ∷ [] }
 abbrev pub AreFlavours : Bor (List (Bor (List ℕ))) → Type 0
 AreFlavours names = map (λ name. name.now) names.now ≡ codes "memb" ∷ codes "qsbr" ∷ []
 
+-- an option that says one of these names
+abbrev pub names_rule : Text → Bor (List (Bor (List ℕ))) → Rule
+names_rule name names = record (new_rule name) { long = Some name; value_names = 1; parser = Some (Names names) }
+
 abbrev pub flavour_rule : Bor (List (Bor (List ℕ))) → Rule
-flavour_rule names = record (new_rule (codes "flavour")) { long = Some (codes "flavour"); value_names = 1; parser = Some (Names names) }
+flavour_rule names = names_rule (codes "flavour") names
 
 abbrev pub IsFlavourRule : Rule → Type 0
 IsFlavourRule rule = (flavours : Bor (List (Bor (List ℕ)))) × AreFlavours flavours × (rule ≡ or_else (codes "memb") (flavour_rule flavours))
+
+-- the names of what a run puts its load on, wherever they stand
+abbrev pub AreTargets : Bor (List (Bor (List ℕ))) → Type 0
+AreTargets names = map (λ name. name.now) names.now ≡ codes "chains" ∷ codes "lists" ∷ codes "tables" ∷ codes "growth" ∷ []
+
+abbrev pub target_rule : Bor (List (Bor (List ℕ))) → Rule
+target_rule names = names_rule (codes "load") names
+
+abbrev pub IsTargetRule : Rule → Type 0
+IsTargetRule rule = (targets : Bor (List (Bor (List ℕ)))) × AreTargets targets × (rule ≡ or_else (codes "chains") (target_rule targets))
 
 -- an option that takes no value
 abbrev pub flag_rule : Text → Rule
@@ -55,11 +69,12 @@ with_course app =
     (number_rule (codes "stop") 0 87))
     (or_else (codes "1") (number_rule (codes "from") 1 1000000))
 
--- the options of `run`: the threads, and when they end
-abbrev pub with_load : Bor (List (Bor (List ℕ))) → App → App
-with_load flavours app =
-    with_rule (with_rule (with_rule (with_rule (with_rule (with_rule app
+-- the options of `run`: the threads, what they work on, and when they end
+abbrev pub with_load : Bor (List (Bor (List ℕ))) → Bor (List (Bor (List ℕ))) → App → App
+with_load flavours targets app =
+    with_rule (with_rule (with_rule (with_rule (with_rule (with_rule (with_rule app
     (or_else (codes "memb") (flavour_rule flavours)))
+    (or_else (codes "chains") (target_rule targets)))
     (or_else (codes "2") (number_rule (codes "readers") 1 64)))
     (or_else (codes "1") (number_rule (codes "updaters") 1 16)))
     (or_else (codes "1") (number_rule (codes "workers") 1 8)))
@@ -83,29 +98,29 @@ walk_app flavours = with_course (with_world flavours (new_app (codes "walk")))
 abbrev pub IsWalk : Command → Type 0
 IsWalk c = (flavours : Bor (List (Bor (List ℕ)))) × AreFlavours flavours × (app_of c ≡ walk_app flavours) × ((fields_of c).has_globals ≡ false)
 
-abbrev pub run_app : Bor (List (Bor (List ℕ))) → App
-run_app flavours = with_load flavours (new_app (codes "run"))
+abbrev pub run_app : Bor (List (Bor (List ℕ))) → Bor (List (Bor (List ℕ))) → App
+run_app flavours targets = with_load flavours targets (new_app (codes "run"))
 
 abbrev pub IsRun : Command → Type 0
-IsRun c = (flavours : Bor (List (Bor (List ℕ)))) × AreFlavours flavours × (app_of c ≡ run_app flavours) × ((fields_of c).has_globals ≡ false)
+IsRun c = (flavours targets : Bor (List (Bor (List ℕ)))) × AreFlavours flavours × AreTargets targets × (app_of c ≡ run_app flavours targets) × ((fields_of c).has_globals ≡ false)
 
 -- `torture`, which wants a subcommand and has a version, and its subcommands
 abbrev pub bare_app : App
 bare_app = let app = new_app (codes "torture") in record app { top = record (app.top) { has_version = true; subcommand_required = true; arg_required_else_help = true } }
 
-abbrev pub torture_app : Bor (List (Bor (List ℕ))) → Bor (List (Bor (List ℕ))) → App
-torture_app of_walk of_run = with_subcommand (with_subcommand (with_subcommand (with_subcommand bare_app ((new_app (codes "replay")).top)) (check_app.top)) ((walk_app of_walk).top)) ((run_app of_run).top)
+abbrev pub torture_app : Bor (List (Bor (List ℕ))) → Bor (List (Bor (List ℕ))) → Bor (List (Bor (List ℕ))) → App
+torture_app of_walk of_run targets = with_subcommand (with_subcommand (with_subcommand (with_subcommand (with_subcommand bare_app ((new_app (codes "replay")).top)) (check_app.top)) ((walk_app of_walk).top)) ((run_app of_run targets).top)) ((new_app (codes "call")).top)
 
 -- what the program is to `clap`
 abbrev pub IsTorture : App → Type 0
-IsTorture app = (of_walk of_run : Bor (List (Bor (List ℕ)))) × AreFlavours of_walk × AreFlavours of_run × (app ≡ torture_app of_walk of_run)
+IsTorture app = (of_walk of_run targets : Bor (List (Bor (List ℕ)))) × AreFlavours of_walk × AreFlavours of_run × AreTargets targets × (app ≡ torture_app of_walk of_run targets)
 
 -- what adds options to a command that has no global ones
 abbrev pub AddsWorld : Command → Command → Type 0
 AddsWorld old new = (flavours : Bor (List (Bor (List ℕ)))) × AreFlavours flavours × (app_of new ≡ with_world flavours (app_of old)) × ((fields_of new).has_globals ≡ (fields_of old).has_globals)
 
 abbrev pub AddsLoad : Command → Command → Type 0
-AddsLoad old new = (flavours : Bor (List (Bor (List ℕ)))) × AreFlavours flavours × (app_of new ≡ with_load flavours (app_of old)) × ((fields_of new).has_globals ≡ (fields_of old).has_globals)
+AddsLoad old new = (flavours targets : Bor (List (Bor (List ℕ)))) × AreFlavours flavours × AreTargets targets × (app_of new ≡ with_load flavours targets (app_of old)) × ((fields_of new).has_globals ≡ (fields_of old).has_globals)
 
 abbrev pub AddsCourse : Command → Command → Type 0
 AddsCourse old new = (app_of new ≡ with_course (app_of old)) × ((fields_of new).has_globals ≡ (fields_of old).has_globals)

@@ -11,7 +11,7 @@ mod program;
 mod progress;
 mod words;
 
-use live_stress::Watch;
+use live_load::Watch;
 use progress::Progress;
 use std::alloc::Global;
 use std::io::{IsTerminal, Read, Write};
@@ -101,6 +101,3 @@ fn main(rt: HostRuntime) -> ExitCode {
         &mut rt.stderr(),
     ))
 }
-
-#[cfg(test)]
-mod tests;

@@ -2,14 +2,14 @@
 
 ghost use Rattle.std.specs.Prelude.{◌≡◌, Some, IfOk, codes, false};
 ghost use Rattle.clap.specs.Words.{app_of, rule_of};
-ghost use Rattle.torture.specs.Words.{IsPlain, IsCheck, IsWalk, IsRun, IsTorture, bare_app, number_rule, flag_rule, IsFlavourRule, AddsWorld, AddsCourse, AddsLoad};
+ghost use Rattle.torture.specs.Words.{IsPlain, IsCheck, IsWalk, IsRun, IsTorture, bare_app, number_rule, flag_rule, IsFlavourRule, IsTargetRule, AddsWorld, AddsCourse, AddsLoad};
 
 use clap::builder::ValueParser;
 use clap::{Arg, ArgAction, Command as Program};
 use std::alloc::{AllocError, Global};
 
 const ABOUT: &str =
-    "Replays, checks and draws schedules of read-copy-update, one atomic step a line, and runs live threads";
+    "Replays, checks and draws schedules of read-copy-update, one atomic step a line, runs live threads, and makes calls";
 
 /// What `--version` prints after the program's name.
 const VERSION: &str = "0.1.0";
@@ -19,6 +19,8 @@ const EXAMPLES: &str = "Examples:
   torture replay < examples/replaced-while-read | torture check
   torture walk --lines 5000 --seed 7
   torture run --updaters 3 --workers 2 --rounds 5000
+  torture run --load growth --seconds 10
+  torture call < SCRIPT
 
 `torture help COMMAND` says more; docs/FORMATS.md has the texts.";
 
@@ -59,6 +61,34 @@ Example: printf 'schedule 1 memb 1 1 1 1\\nr0 lock\\nr0 .\\n' | torture replay
 
 Exit status: 0 good, 2 a bad schedule or bad words, 3 a fault of reading, writing or memory.";
 
+const CALL_USAGE: &str = "torture call < SCRIPT";
+
+const CALL_ABOUT: &str =
+    "Reads calls of the live library, a line each, makes them and answers each";
+
+const CALL_HELP: &str =
+    "Reads a script from standard input: calls of the library over live threads, a line each. It makes them in order, on one thread, and writes an answer for each to standard output.
+
+The first line is the header: `calls 1 memb S Q C P`, `qsbr` in place of `memb` for the quiescent-state flavour, with the numbers of reader slots (1 to 256), callback queues (1 to 8), chains (1 to 4096) and records (1 to 65536). ` maps` after it has lists and tables write the chains. Then each line is one whole call:
+
+  r0 register, r0 unregister        a reader comes and goes
+  r0 lock, r0 unlock                open and close its section
+  r0 online, r0 quiescent           the same in the quiescent-state flavour
+  r0 first c0, r0 next, r0 read     find the first record of chain 0, the one after it, read its words
+  u0 chain c0, u0 alloc 7 8 9 10    updater 0 takes chain 0 to write, and allocates a record
+  u0 push c0, u0 cut_retire c0 0 5  publish it, take it out again and retire it with a callback
+  u0 synchronize, u0 barrier        wait for a grace period, or for all callbacks
+  w0 run                            run what queue 0 has
+  l0 new c0, l0 insert 7 70         a keyed list over chain 0 (maps)
+  t0 new c0 1 4, t0 grow 5 8        a hash table, which grows (maps)
+  d counts, d close                 how full the domain is; no more retirements
+
+docs/CALLS.md has all calls and answers. A call that is refused answers `refused E` and a number; one that would wait for ever on one thread answers `would wait`; both change nothing.
+
+Example: printf 'calls 1 memb 1 1 1 1\\nr0 register\\nr0 lock\\n' | torture call
+
+Exit status: 0 good, 2 a bad script or bad words, 3 a fault of reading, writing or memory.";
+
 const CHECK_USAGE: &str = "torture check [--follow] < ANSWERS";
 
 const CHECK_ABOUT: &str = "Reads answers and judges the log that they tell";
@@ -97,13 +127,18 @@ Exit status: 0 good, 1 the log is no run, 2 bad words, 3 a fault of writing or m
 const RUN_ABOUT: &str = "Runs readers, updaters and workers in threads of their own";
 
 const RUN_HELP: &str =
-    "Runs readers, updaters and workers in threads of their own, on a domain of 1,024 records with a chain for each updater and a queue for each worker.
+    "Runs readers, updaters and workers in threads of their own, on a domain of 1,024 records with a queue for each worker. Each worker waits for grace periods and runs the callbacks of its queue. `--load` says what the others work on.
 
-Updater u pushes a record of four zeros on chain u. In its round i it puts a record whose four words are i in that one's place and retires the old one; where no record is free it tries again, and ends after 1,000,000 tries in a row. Each reader opens as many sections as there are rounds and reads the first record of one chain after the other; it counts a record whose four words differ. Each worker waits for grace periods and runs the callbacks of its queue.
+  chains   Updater u pushes a record of four zeros on chain u. In its round i it puts a record whose four words are i in that one's place and retires the old one. Each reader opens as many sections as there are rounds and reads the first record of one chain after the other; it counts a record whose four words differ.
+  lists    One keyed list, whose updaters take turns. Sixteen keys are there all along. In one round an updater puts a key of its own in and gives one of those another value, in the next it takes its own key out. Each reader by turns looks one of the sixteen up and goes through all keys; it counts a look that misses its key or finds an older value, and a walk that does not meet each of them once. One more thread waits and polls for grace periods, and counts a section that one did not see end.
+  tables   The same on a hash table, whose updaters work side by side.
+  growth   The same on a hash table that one more thread lets grow and tidies all the time.
 
-It writes `run retired=A finished=B mixed=M`: the records retired, the callbacks run, and the records found mixed. The counts are right where A is B, M is 0, and without `--seconds` A is the number of updaters times the rounds.
+Where no record is free an updater tries again, and ends after 1,000,000 tries in a row.
 
-Example: torture run --flavour qsbr --readers 8 --updaters 3 --workers 2 --rounds 5000
+It writes `run retired=A finished=B mixed=M` of chains, and else `run lists retired=A finished=B wrong=W`: the records retired, the callbacks run, and what readers and waiters counted. The counts are right where A is B, M or W is 0, and without `--seconds` A is the number of updaters times the rounds, or more where a table grew.
+
+Example: torture run --load growth --flavour qsbr --readers 8 --updaters 3 --workers 2 --rounds 5000
 
 Exit status: 0 the counts are right, 1 they are wrong, 2 bad words, 3 a fault of writing or memory.";
 
@@ -111,6 +146,9 @@ const ROUNDS_HELP: &str =
     "How many rounds, 1 to 1,000,000; where it is left out 1000, or with --seconds as many as the time allows";
 
 const SECONDS_HELP: &str = "End after so many seconds at the latest, 1 to 86,400";
+
+const TARGET_HELP: &str =
+    "What the load is put on: chains, a keyed list, a hash table, or one that grows all the time";
 
 const FORMAT_HELP: &str = "The version of the schedule: 1 has narrow reader words, 2 wide ones";
 
@@ -124,6 +162,9 @@ const FROM_HELP: &str = "The first line that the actor of --stop does not get, 1
 
 /// The names of the flavours.
 pub const FLAVOURS: &[&str] = &["memb", "qsbr"];
+
+/// The names of what a run puts its load on.
+pub const TARGETS: &[&str] = &["chains", "lists", "tables", "growth"];
 
 /// An option of a number between limits, both included.
 fn number<'a>(alloc: Global, name: &'a str, least: u64, most: u64, help: &'a str) -> Arg<'a>
@@ -160,6 +201,19 @@ fn flavour<'a>(alloc: Global) -> Arg<'a>
         .value_parser(FLAVOURS)
         .default_value("memb")
         .help("memb: readers lock and unlock; qsbr: they announce quiescent states")
+}
+
+/// The option of what a run puts its load on.
+fn target<'a>(alloc: Global) -> Arg<'a>
+    ensures rule { IsTargetRule (rule_of result) }
+    ensures own { result.global ≡ false }
+{
+    Arg::new(alloc, "load")
+        .long("load")
+        .value_name("L")
+        .value_parser(TARGETS)
+        .default_value("chains")
+        .help(TARGET_HELP)
 }
 
 /// The options that say in which world a walk goes.
@@ -201,12 +255,13 @@ fn with_course<'a>(alloc: Global, program: Program<'a>) -> Result<Program<'a>, A
         .arg(number(alloc, "from", 1, 1_000_000, FROM_HELP).default_value("1"))
 }
 
-/// The options that say how many threads there are, in which flavour, and when they end.
+/// The options that say how many threads there are, in which flavour, on what, and when they end.
 fn with_load<'a>(alloc: Global, program: Program<'a>) -> Result<Program<'a>, AllocError>
     ensures { IfOk result (λ c. AddsLoad program.entry c) }
 {
     program
         .arg(flavour(alloc))?
+        .arg(target(alloc))?
         .arg(number(alloc, "readers", 1, 64, "How many readers, 1 to 64").default_value("2"))?
         .arg(number(alloc, "updaters", 1, 16, "How many updaters, 1 to 16").default_value("1"))?
         .arg(number(alloc, "workers", 1, 8, "How many workers, 1 to 8").default_value("1"))?
@@ -224,6 +279,16 @@ fn replay_command<'a>(alloc: Global) -> Program<'a>
         .long_about(REPLAY_HELP)
 }
 
+/// The command `call`.
+fn call_command<'a>(alloc: Global) -> Program<'a>
+    ensures { IsPlain (codes "call") result }
+{
+    Program::new(alloc, "call")
+        .override_usage(CALL_USAGE)
+        .about(CALL_ABOUT)
+        .long_about(CALL_HELP)
+}
+
 /// The command `check`, with its option.
 fn check_command<'a>(alloc: Global) -> Result<Program<'a>, AllocError>
     ensures { IfOk result IsCheck }
@@ -236,7 +301,7 @@ fn check_command<'a>(alloc: Global) -> Result<Program<'a>, AllocError>
 }
 
 /// The command `walk`, with its options.
-fn walk_command<'a>(alloc: Global) -> Result<Program<'a>, AllocError>
+pub fn walk_command<'a>(alloc: Global) -> Result<Program<'a>, AllocError>
     ensures { IfOk result IsWalk }
 {
     let walk = Program::new(alloc, "walk")
@@ -278,5 +343,6 @@ pub fn program<'a>(alloc: Global) -> Result<Program<'a>, AllocError>
         .subcommand(replay_command(alloc))?
         .subcommand(check)?
         .subcommand(walk)?
-        .subcommand(run)
+        .subcommand(run)?
+        .subcommand(call_command(alloc))
 }

@@ -1,6 +1,6 @@
 //! How far a run is, on standard error.
 
-use live_stress::Watch;
+use live_load::Watch;
 
 /// Tells how far a run is, a line at a time, where somebody may be looking: a write error is passed over.
 #[derive(Drop)]

@@ -4,13 +4,13 @@ ghost use Rattle.std.specs.Prelude.{◌≡◌, ◌≢◌, ◌≤◌, codes, map,
 ghost use Rattle.clap.specs.Words.{first_of, found_of, kind_of, rows_of, subcommand_rows_of};
 ghost use Rattle.clap.specs.declared.error.kind.ErrorKind.TheVariants.{ValueValidation};
 ghost use Rattle.torture_run.specs.Limits.{IsAskedWithin};
-ghost use Rattle.torture.specs.Said.{number_of, number_or, flag_of, layout_said, flavour_said, check_said, config_said, walk_said, rounds_beside, load_said, run_said, asked_said};
+ghost use Rattle.torture.specs.Said.{number_of, number_or, flag_of, layout_said, flavour_said, target_said, check_said, config_said, walk_said, rounds_beside, load_said, run_said, asked_said};
 ghost use Rattle.torture.specs.Words.{status_of_kind, text_of_kind, IsTaken, IsRefused, SayAsked};
 
-use crate::program::program;
+use crate::program::{program, walk_command};
 use clap::error::ErrorKind;
 use clap::{ArgMatches, Error};
-use live_stress::Load;
+use live_load::{Load, Target};
 use std::alloc::{AllocError, Global};
 use std::convert::AsStr;
 use std::fmt;
@@ -81,6 +81,18 @@ fn flavour_of(matches: &ArgMatches) -> Flavour
     match matches.get_str("flavour") {
         Some("qsbr") => Flavour::Qsbr,
         _ => Flavour::Memb,
+    }
+}
+
+/// The target that `--load` says.
+fn target_of(matches: &ArgMatches) -> Target
+    ensures { result ≡ target_said (first_of (codes "load") (rows_of (found_of matches.now))) }
+{
+    match matches.get_str("load") {
+        Some("lists") => Target::Lists,
+        Some("tables") => Target::Tables,
+        Some("growth") => Target::Growth,
+        _ => Target::Chains,
     }
 }
 
@@ -167,6 +179,7 @@ fn run_of(matches: &ArgMatches) -> Run
 {
     Run {
         flavour: flavour_of(matches),
+        target: target_of(matches),
         load: load_of(matches),
     }
 }
@@ -179,6 +192,7 @@ fn asked_of(matches: &ArgMatches) -> Asked
         Some(("check", options)) => Asked::Command(check_of(options)),
         Some(("walk", options)) => Asked::Command(Command::Walk(walk_of(options))),
         Some(("run", options)) => Asked::Run(run_of(options)),
+        Some(("call", _)) => Asked::Calls,
         _ => Asked::Command(Command::Replay),
     }
 }
@@ -191,7 +205,8 @@ fn parsed<'a, S: AsStr>(alloc: Global, words: &'a [S]) -> Result<ArgMatches<'a>,
     program(alloc)?.try_get_matches_from(words)
 }
 
-/// The fault of a walk in which nobody is who stops, told as `clap` tells of a number out of its range.
+/// The fault of a walk in which nobody is who stops, told as `clap` tells of a number out of its range, with the usage
+/// of `walk`.
 fn no_such_actor(alloc: Global, walk: &Walk) -> Result<Error, AllocError>
     ensures { IfOk result (λ e. kind_of e ≡ ValueValidation) }
 {
@@ -207,7 +222,9 @@ fn no_such_actor(alloc: Global, walk: &Walk) -> Result<Error, AllocError>
     let text = format!(in alloc;
         "invalid value '{actor}' for '--stop <N>': {actor} is not in 0..={last}"
     )?;
-    program(alloc)?.error(ErrorKind::ValueValidation, &text)
+    walk_command(alloc)?
+        .bin_name("torture walk")?
+        .error(ErrorKind::ValueValidation, &text)
 }
 
 /// The fault of what is out of its limits, though `clap` took it: of all numbers it leaves who stops alone unbounded.

@@ -13,7 +13,7 @@ use std::alloc::Global;
 use std::io::{Read, Write};
 
 /// What the program ends with after a fault: 2 for a bad text, 3 for a fault of reading, writing or memory.
-fn status_of_fault(fault: ReplayFault) -> u8
+pub fn status_of_fault(fault: ReplayFault) -> u8
     ensures { result ≡ status_of_fault fault }
 {
     match fault {

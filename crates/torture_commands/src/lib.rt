@@ -8,4 +8,4 @@ mod execution;
 mod walking;
 
 pub use command::{Command, MOST_LINES, Stop, Walk};
-pub use execution::execute;
+pub use execution::{execute, status_of_fault};

@@ -2,10 +2,10 @@
 use Rattle.std.specs.Prelude.{◌&&◌, Bool, true, IsTrue}
 use Rattle.std.specs.Option.{option_map_or}
 use Rattle.world_state.specs.Limits.{is_in}
-use Rattle.live_stress.specs.declared.load.Load.{Load}
+use Rattle.live_load.specs.declared.load.Load.{Load}
 use Rattle.torture_commands.specs.Limits.{is_within}
 use Rattle.torture_run.specs.declared.asked.Asked.{Asked}
-use Rattle.torture_run.specs.declared.asked.Asked.TheVariants.{Command as CommandOf, Run as RunOf}
+use Rattle.torture_run.specs.declared.asked.Asked.TheVariants.{Command as CommandOf, Run as RunOf, Calls}
 use Rattle.torture_run.specs.declared.asked.Run.{Run}
 
 -- as many threads as a world has actors, and an end
@@ -21,6 +21,7 @@ IsRunWithin run = IsTrue (is_run_within run)
 abbrev pub is_asked_within : Asked → Bool
 is_asked_within (CommandOf command) = is_within command
 is_asked_within (RunOf run) = is_run_within run
+is_asked_within Calls = true
 
 abbrev pub IsAskedWithin : Asked → Type 0
 IsAskedWithin asked = IsTrue (is_asked_within asked)

@@ -2,7 +2,7 @@
 
 ghost use Rattle.std.specs.Prelude.{◌≡◌};
 
-use live_stress::Load;
+use live_load::{Load, Target};
 use torture_commands::Command;
 use world::Flavour;
 
@@ -19,6 +19,8 @@ pub enum Asked {
     Command(Command),
     /// A run of live threads.
     Run(Run),
+    /// A script of calls.
+    Calls,
 }
 
 /// A run of live threads.
@@ -26,6 +28,8 @@ pub enum Asked {
 pub struct Run {
     /// How readers say where their sections end.
     pub flavour: Flavour,
+    /// What they work on.
+    pub target: Target,
     /// How many threads there are, and when they end.
     pub load: Load,
 }
@@ -62,6 +66,7 @@ impl Asked {
         match self {
             Asked::Command(command) => command.is_within_limits(),
             Asked::Run(run) => run.is_within_limits(),
+            Asked::Calls => true,
         }
     }
 }

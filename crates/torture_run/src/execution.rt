@@ -1,6 +1,7 @@
 //! What the program is asked to do, done.
 
 ghost use Rattle.std.specs.Prelude.{◌≡◌, ◌⊎◌};
+ghost use Rattle.torture_commands.specs.Ending.{status_of};
 ghost use Rattle.torture_run.specs.Limits.{IsAskedWithin, IsRunWithin};
 ghost use Rattle.torture_run.specs.Running.{HasRun, ended_with};
 ghost use Rattle.torture_run.specs.Ending.{ExecutesAsked};
@@ -8,15 +9,18 @@ ghost use Rattle.torture_run.specs.Ending.{ExecutesAsked};
 use crate::asked::{Asked, Run};
 use crate::counting::{are_right, write_counts};
 use crate::fault::{RunFault, fault_of};
+use calls::answer_calls;
 use gp_memb::MembPlan;
 use gp_qsbr::QsbrPlan;
-use live_stress::{Counts, Watch, stress};
+use live_load::{Counts, Watch, stress_on};
 use rcu_model::Refusal;
+use schedule::ReplayFault;
 use std::alloc::Global;
 use std::io::{Read, Write};
 use std::sync::Wait;
 use std::thread::Threads;
 use std::time::Clock;
+use torture_commands::status_of_fault;
 use world::Flavour;
 
 /// The threads of a run, in its flavour. What they count.
@@ -29,8 +33,8 @@ fn counted<R: Threads + Wait + Clock + Sync, V: Watch + Sync>(
     requires { IsRunWithin run.now }
 {
     match run.flavour {
-        Flavour::Memb => stress::<MembPlan, R, V>(rt, alloc, run.load, watch),
-        Flavour::Qsbr => stress::<QsbrPlan, R, V>(rt, alloc, run.load, watch),
+        Flavour::Memb => stress_on::<MembPlan, R, V>(rt, alloc, run.target, run.load, watch),
+        Flavour::Qsbr => stress_on::<QsbrPlan, R, V>(rt, alloc, run.target, run.load, watch),
     }
 }
 
@@ -44,10 +48,10 @@ fn run_threads<R: Threads + Wait + Clock + Sync, V: Watch + Sync, W: Write>(
     writer: &mut W,
 ) -> Result<Counts, RunFault>
     requires { IsRunWithin run.now }
-    ensures { HasRun (W.contents writer.old) (W.contents writer.new) result }
+    ensures { HasRun run.now.target (W.contents writer.old) (W.contents writer.new) result }
 {
     match counted(rt, alloc, run, watch) {
-        Ok(counts) => write_counts(alloc, counts, writer),
+        Ok(counts) => write_counts(alloc, run.target, counts, writer),
         Err(refusal) => Err(fault_of(refusal)),
     }
 }
@@ -64,6 +68,20 @@ fn end<F: Write>(run: &Run, ended: Result<Counts, RunFault>, faults: &mut F) -> 
         Err(fault) => {
             let _ = writeln!(faults, "{fault}");
             3
+        }
+    }
+}
+
+/// What the program ends with after a script of calls. A fault is told on `faults`, where a write error is passed over.
+fn end_calls<F: Write>(ended: Result<(), ReplayFault>, faults: &mut F) -> u8
+    ensures status { result ≡ status_of (λ _. 0) ended }
+    ensures silent { (result ≡ 0) ⊎ (result ≡ 1) → faults.new ≡ faults.old }
+{
+    match ended {
+        Ok(()) => 0,
+        Err(fault) => {
+            let _ = writeln!(faults, "{fault}");
+            status_of_fault(fault)
         }
     }
 }
@@ -91,6 +109,10 @@ pub fn execute<R: Threads + Wait + Clock + Sync, V: Watch + Sync, I: Read, W: Wr
         Asked::Run(run) => {
             let ended = run_threads(rt, alloc, &run, watch, writer);
             end(&run, ended, faults)
+        }
+        Asked::Calls => {
+            let ended = answer_calls(rt, alloc, reader, writer);
+            end_calls(ended, faults)
         }
     }
 }

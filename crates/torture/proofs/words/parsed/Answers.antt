@@ -12,9 +12,9 @@ returns-in_err-program-clause-refused g c =
 pub returns-clause-taken : goal.returns-clause-taken
 returns-clause-taken g c =
     let app = c.in_ok-program.ensures in
-    taken _ _ app (ap is_simple app.4) c.try_get_matches_from.result (c.try_get_matches_from.ensures.kinds (ap is_simple_and_free app.4)) c.try_get_matches_from.ensures.matches
+    taken _ _ app (ap is_simple app.6) c.try_get_matches_from.result (c.try_get_matches_from.ensures.kinds (ap is_simple_and_free app.6)) c.try_get_matches_from.ensures.matches
 
 pub returns-clause-refused : goal.returns-clause-refused
 returns-clause-refused g c =
     let app = c.in_ok-program.ensures in
-    refused _ _ app c.try_get_matches_from.result (c.try_get_matches_from.ensures.kinds (ap is_simple_and_free app.4))
+    refused _ _ app c.try_get_matches_from.result (c.try_get_matches_from.ensures.kinds (ap is_simple_and_free app.6))

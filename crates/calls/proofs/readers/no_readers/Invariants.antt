@@ -1,0 +1,7 @@
+use Rattle.std.proofs.Common.{IfSome}
+use Rattle.std.specs.List.{All}
+use Rattle.calls.specs.Standing.{Stands}
+use Rattle.calls.proofs.readers.no_readers.Given as goal
+
+abbrev pub invariant-loop : goal.invariant-loop
+invariant-loop g l = All (λ o. IfSome o (λ w. Stands w.reader w.held)) l.places.items

@@ -1,5 +1,0 @@
-use Rattle.std.specs.Prelude.{true}
-use Rattle.domain_tests.proofs.publishing.announcing_readers_read_whole_payloads.Given as goal
-
-abbrev pub ghosts-serves : goal.ghosts-serves
-ghosts-serves g a = record { table = a.opened.table.words.shared.table_id; sizes = a.opened.table.words.shared.key; qsbr = true }

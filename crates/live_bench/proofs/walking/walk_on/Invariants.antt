@@ -1,6 +1,0 @@
-use Rattle.std.proofs.Common.{◌≤◌, ◌<◌, IfSome}
-use Rattle.live_read.specs.Holding.{MayHoldIn}
-use Rattle.live_bench.proofs.walking.walk_on.Given as goal
-
-abbrev pub invariant-loop : goal.invariant-loop
-invariant-loop g l = (0 < l.section.reader.now.depth) × IfSome l.at (λ h. MayHoldIn l.section.reader.now h.cell) × (l.walks ≤ l.counter)

@@ -1,5 +1,0 @@
-#![tactic(auto)]
-//! Tests of the world by its public face.
-
-#[cfg(test)]
-mod worlds;

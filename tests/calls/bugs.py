@@ -1,0 +1,378 @@
+#!/usr/bin/env python3
+"""Bugs to plant in the live library, each of which a row or a drawn script has to show.
+
+bugs.py                   whether the text of each stands once in its file
+bugs.py plant NAME TOP    plants one in the repository TOP, which is a copy
+bugs.py catch PROGRAM..   of each program the rows and how many drawn scripts it answers wrongly
+"""
+
+import pathlib
+import sys
+
+sys.dont_write_bytecode = True
+from comparing import ROWS, answered, difference, made, row_of, scripts
+
+CRATES = pathlib.Path(__file__).resolve().parents[2] / "crates"
+SCRIPTS, SECONDS, HANGS = 300, 3, 5
+
+# A name, the file of a crate, what stands there, and what is put in its place.
+BUGS = [
+    # Readers
+    (
+        "an unregister loses the slot",
+        "live_read/src/registrar.rt",
+        "Place::Claimed(slot) => self.registry.give_back(slot),",
+        "Place::Claimed(_) => {}",
+    ),
+    (
+        "an unregister does not look for open locks",
+        "live_read/src/registrar.rt",
+        "        if reader.depth != 0 {\n            return Err((Refusal::Busy, reader));\n        }\n",
+        "",
+    ),
+    (
+        "a reader that leaves stays online",
+        "live_read/src/parked.rt",
+        "            offline(&table, &mut seat, slot);\n",
+        "",
+    ),
+    (
+        "an inner unlock ends the section of an online reader",
+        "live_read/src/reader.rt",
+        "if depth == 1 { 0 } else { inner_one_less(depth) }",
+        "0",
+    ),
+    (
+        "a lock that is tried says the contrary",
+        "live_read/src/reader.rt",
+        "self.lock().is_ok()",
+        "self.lock().is_err()",
+    ),
+    (
+        "a reader goes along the first chain whatever it is asked",
+        "live_read/src/reading.rt",
+        "load_head(&self.table, &mut self.seat, chain)",
+        "load_head(&self.table, &mut self.seat, chain - chain)",
+    ),
+    (
+        "a read has one word twice",
+        "live_read/src/reading.rt",
+        "let two = self.read_word(held, 1);",
+        "let two = self.read_word(held, 2);",
+    ),
+    # Records and chains
+    (
+        "an allocation takes two records",
+        "domain/src/writing.rt",
+        "        live_write::alloc(rt, &self.table, witness, words)",
+        "        let _more: Result<Owned<B>, Refusal> = live_write::alloc(rt, &self.table, witness, words);\n"
+        "        live_write::alloc(rt, &self.table, witness, words)",
+    ),
+    (
+        "a discard loses the record",
+        "domain/src/writing.rt",
+        "        live_write::discard(&self.table, witness, owned);",
+        "        let _lost = owned;",
+    ),
+    (
+        "a search does not come round",
+        "live_write/src/search.rt",
+        "None => take_from(table, seat, number, 0, start),",
+        "None => None,",
+    ),
+    (
+        "a push is not made",
+        "live_write/src/publish.rt",
+        "    push(table, seat, chain, cell, head);\n",
+        "",
+    ),
+    (
+        "a push loses what was linked",
+        "live_write/src/publish.rt",
+        "push(table, seat, chain, cell, head);",
+        "push(table, seat, chain, cell, head - head);",
+    ),
+    (
+        "a replacement loses what follows",
+        "live_write/src/publish.rt",
+        "replace(table, seat, chain, before, cell, next);",
+        "replace(table, seat, chain, before, cell, next - next);",
+    ),
+    (
+        "a cut is not made",
+        "live_write/src/publish.rt",
+        "    cut(table, seat, chain, before, cell);\n",
+        "",
+    ),
+    (
+        "a cut counts on",
+        "live_write/src/chain.rt",
+        "        let (seat, cell) = cut_record(self.table, &mut self.seat, self.number, witness, index);\n"
+        "        self.linked -= 1;",
+        "        let (seat, cell) = cut_record(self.table, &mut self.seat, self.number, witness, index);",
+    ),
+    (
+        "a chain that is taken again has no objects",
+        "live_write/src/chain.rt",
+        "let linked = count(table, &mut seat, chain);",
+        "let linked = count(table, &mut seat, chain) * 0;",
+    ),
+    (
+        "a writer that is dropped keeps its chain",
+        "live_write/src/chain.rt",
+        "        free_chain(table, &mut seat, number);\n",
+        "",
+    ),
+    (
+        "an index is that of the second word",
+        "live_write/src/walk.rt",
+        "let found = load_word(table, seat, cell, 0);",
+        "let found = load_word(table, seat, cell, 1);",
+    ),
+    # Retiring, running and waiting
+    (
+        "all is queued in one queue",
+        "domain/src/retiring.rt",
+        "        chain % self.queues.len()",
+        "        chain % self.queues.len() * 0",
+    ),
+    (
+        "a close closes one queue",
+        "domain/src/retiring.rt",
+        "for number in 0..self.queues.len()",
+        "for number in 0..1usize",
+    ),
+    (
+        "a batch is run backwards",
+        "live_items/src/items.rt",
+        "            list.reverse();\n        }\n    }\n\n    /// Moves what waits",
+        "        }\n    }\n\n    /// Moves what waits",
+    ),
+    (
+        "two callbacks of a batch are swapped",
+        "live_items/src/items.rt",
+        "            list.reverse();\n        }\n    }\n\n    /// Moves what waits",
+        "            list.reverse();\n            let one = list.pop();\n            let two = list.pop();\n"
+        "            if let Some(mut one) = one {\n                if let Some(mut two) = two {\n"
+        "                    std::mem::swap(&mut one.job.callback, &mut two.job.callback);\n"
+        "                    list.push_reserved(two);\n                }\n                list.push_reserved(one);\n"
+        "            }\n        }\n    }\n\n    /// Moves what waits",
+    ),
+    (
+        "a worker drops every second item of a batch",
+        "domain/src/working.rt",
+        "            let done = run_next(",
+        "            if count % 2 == 1 {\n                continue;\n            }\n            let done = run_next(",
+    ),
+    (
+        "a worker loses the record of what it runs",
+        "live_items/src/running.rt",
+        "        store_run(table, &mut seat, cell);\n",
+        "",
+    ),
+    (
+        "a callback gets another word",
+        "live_items/src/running.rt",
+        "let first = load_payload(table, seat, cell, 0);",
+        "let first = load_payload(table, seat, cell, 1);",
+    ),
+    (
+        "what has run is not counted",
+        "live_reclaim/src/run.rt",
+        "    store_finished(table, seat, queue, finished + 1);\n",
+        "",
+    ),
+    (
+        "tickets are told from 0",
+        "live_reclaim/src/run.rt",
+        "        ticket: Ticket(finished + 1),",
+        "        ticket: Ticket(finished),",
+    ),
+    (
+        "a poll is early by one grace period",
+        "live_grace/src/cookie.rt",
+        "    let seq = load_seq(table, seat);\n    is_past(",
+        "    let seq = load_seq(table, seat) + 2;\n    is_past(",
+    ),
+    (
+        "a barrier looks at one queue",
+        "live_barrier/src/barring.rt",
+        "for queue in 0..table.queues {",
+        "for queue in 0..1usize {",
+    ),
+    (
+        "a barrier notes one queue",
+        "live_barrier/src/barring.rt",
+        "for queue in 1..table.queues {",
+        "for queue in 1..1usize {",
+    ),
+    (
+        "counts leave out a record",
+        "live_status/src/counting.rt",
+        "for cell in 0..table.pool {",
+        "for cell in 1..table.pool {",
+    ),
+    # Lists
+    (
+        "a list that replaces a value keeps the old one",
+        "rcu_list/src/preparing.rt",
+        "alloc(rt, witness, [key, value, words[2], 0])",
+        "alloc(rt, witness, [key, value - value + words[1], words[2], 0])",
+    ),
+    (
+        "a list removes its last key in place of another",
+        "rcu_list/src/list.rt",
+        "        domain.cut_retire(rt, witness, &mut self.chain, index, callback)",
+        "        let last = self.chain.len() - 1 + index - index;\n"
+        "        domain.cut_retire(rt, witness, &mut self.chain, last, callback)",
+    ),
+    (
+        "keys have the rank of the one before",
+        "rcu_list/src/preparing.rt",
+        "    Some(first[2] + 1)",
+        "    Some(first[2])",
+    ),
+    (
+        "a refused replacement loses its record",
+        "rcu_list/src/list.rt",
+        "                domain.discard(witness, owned);\n",
+        "                let _lost = owned;\n",
+    ),
+    (
+        "a list begins over a chain with objects",
+        "rcu_list/src/list.rt",
+        "        if note != 0 || chain.len() != 0 {",
+        "        if note != 0 {",
+    ),
+    # Tables
+    (
+        "writers look for a key in another bucket",
+        "rcu_hash/src/shelf.rt",
+        "(key % self.naming.buckets as u64) as usize",
+        "(key / 2 % self.naming.buckets as u64) as usize",
+    ),
+    (
+        "a walk through a table leaves out its first bucket",
+        "rcu_hash/src/view.rt",
+        "for number in 0..buckets {",
+        "for number in 1..buckets {",
+    ),
+    (
+        "a refused table leaves notes",
+        "rcu_hash/src/table.rt",
+        "        let lents = room(alloc, buckets)?;\n"
+        "        let owned = match domain.alloc(rt, witness, [first as u64, buckets as u64, 0, 1]) {\n"
+        "            Ok(owned) => owned,\n"
+        "            Err(refusal) => {\n"
+        "                lents.destroy_empty();\n"
+        "                return Err(refusal);\n"
+        "            }\n"
+        "        };\n"
+        "        let chains = note_all(chains, noted, witness, directory as u64 + 1);\n",
+        "        let lents = room(alloc, buckets)?;\n"
+        "        let chains = note_all(chains, noted, witness, directory as u64 + 1);\n"
+        "        let owned = match domain.alloc(rt, witness, [first as u64, buckets as u64, 0, 1]) {\n"
+        "            Ok(owned) => owned,\n"
+        "            Err(refusal) => {\n"
+        "                lents.destroy_empty();\n"
+        "                return Err(refusal);\n"
+        "            }\n"
+        "        };\n",
+    ),
+    (
+        "a growth answers one too few",
+        "rcu_hash/src/grow.rt",
+        "let left = growth.copied.len() + 1;",
+        "let left = growth.copied.len();",
+    ),
+    (
+        "a growth loses keys",
+        "rcu_hash/src/copying.rt",
+        "        chains[(key % buckets) as usize].push(witness, owned);",
+        "        if key % 3 == 1 {\n            let _lost = owned;\n        } else {\n"
+        "            chains[(key % buckets) as usize].push(witness, owned);\n        }",
+    ),
+    (
+        "a growth puts all keys into one bucket",
+        "rcu_hash/src/copying.rt",
+        "        chains[(key % buckets) as usize].push(witness, owned);",
+        "        chains[(key % buckets * 0) as usize].push(witness, owned);",
+    ),
+    (
+        "a refused growth loses its copies",
+        "rcu_hash/src/copying.rt",
+        "        domain.discard(witness, owned);\n",
+        "        let _lost = owned;\n",
+    ),
+    (
+        "a tidying forgets the record of the directory",
+        "rcu_hash/src/tidying.rt",
+        "        retire_record(rt, self.domain, witness, replaced, jobs)?;",
+        "        let _forgotten = replaced.take();",
+    ),
+    (
+        "a tidying leaves the notes",
+        "rcu_hash/src/tidying.rt",
+        "        chain.set_note(witness, 0);\n",
+        "",
+    ),
+    (
+        "a tidying does not wait",
+        "rcu_hash/src/tidying.rt",
+        "        match domain.synchronize(rt, witness) {",
+        "        let waited: Result<(), Refusal> = Ok(());\n        match waited {",
+    ),
+]
+
+
+def misplaced():
+    """The names of those whose text does not stand once in its file."""
+    for name, path, old, _ in BUGS:
+        count = (CRATES / path).read_text().count(old)
+        if count != 1:
+            yield f"{name}: {count} times in {path}"
+
+
+def plant(name, top):
+    """Plants a bug in a copy of the repository."""
+    path, old, new = next(it[1:] for it in BUGS if it[0] == name)
+    file = pathlib.Path(top) / "crates" / path
+    text = file.read_text()
+    if text.count(old) != 1:
+        sys.exit(f"{name}: not once in {file}")
+    file.write_text(text.replace(old, new))
+
+
+def catch(program):
+    """The rows that a program answers wrongly, how many scripts, and the first of these. One that hangs is given up."""
+    rows = [it.name for it in sorted(ROWS.iterdir()) if made(program, row_of(it)[0], SECONDS) != row_of(it)[1]]
+    wrong, hangs = [], 0
+    for name, text, _ in scripts(SCRIPTS, "catch"):
+        got = made(program, text.encode(), SECONDS)
+        if difference(text.encode(), got, answered(text.encode())) is not None:
+            wrong.append(name)
+        hangs += got[2] is None
+        if hangs == HANGS:
+            break
+    first = wrong[0] if wrong else "none"
+    print(f"{program}: {len(rows)} rows, {' '.join(rows[:5])}; {len(wrong)} of {SCRIPTS} scripts, {first}", flush=True)
+
+
+def main(words):
+    match words:
+        case []:
+            found = list(misplaced())
+            print("\n".join([*found, f"bugs: {len(BUGS) - len(found)} stand once, {len(found)} do not"]))
+            return 1 if found else 0
+        case ["plant", name, top]:
+            plant(name, top)
+        case ["catch", *programs]:
+            for program in programs:
+                catch(program)
+        case _:
+            sys.exit(__doc__)
+    return 0
+
+
+if __name__ == "__main__":
+    sys.exit(main(sys.argv[1:]))

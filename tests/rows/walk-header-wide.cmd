@@ -1,0 +1,1 @@
+walk --lines 0 --schedule --flavour qsbr --format 2
