@@ -434,38 +434,43 @@ pub(crate) fn on_chains<
     )?)
 }
 
-/// Records that are retired with a boxed callback each; then the queue is closed.
-fn boxed_retirements<P: GracePlan + Drop, B: Site, R: Wait>(
+/// Records that are retired, each with a callback that this makes.
+fn retires<P: GracePlan + Drop, B: Site, D: Deleter, R: Wait, F: Fn() -> Option<D>>(
     rt: &R,
-    alloc: Global,
-    domain: &Domain<P, AnyChain, B, Callback>,
+    domain: &Domain<P, AnyChain, B, D>,
     record: &mut Record<B>,
     count: u64,
-) -> Result<u64, Refusal> {
+    callback: F,
+) -> Result<u64, Refusal>
+    requires { F.IsAlwaysCallable callback }
+{
     let mut writer = published(rt, domain, record, 0)?;
     for number in 0..count {
-        let Ok(call) = Box::new(alloc, |ripe: Ripe| ripe.payload[0]) else {
+        let Some(callback) = callback() else {
             return Err(Refusal::Memory);
         };
-        replaces(rt, domain, record, &mut writer, number, Callback { call })?;
+        replaces(rt, domain, record, &mut writer, number, callback)?;
     }
     Ok(count)
 }
 
-/// A worker, or one who retires with a boxed callback each.
-fn boxed_part<P: GracePlan + Drop, B: Site, R: Wait>(
+/// A worker, or one who retires with a callback that this makes, and then closes the queue.
+fn retiring_part<P: GracePlan + Drop, B: Site, D: Deleter, R: Wait, F: Fn() -> Option<D>>(
     rt: &R,
     alloc: Global,
-    domain: &Domain<P, AnyChain, B, Callback>,
+    domain: &Domain<P, AnyChain, B, D>,
     root: &Mutex<Record<B>>,
     count: u64,
     number: usize,
-) -> Result<u64, Refusal> {
+    callback: F,
+) -> Result<u64, Refusal>
+    requires { F.IsAlwaysCallable callback }
+{
     let mut record = domain.split(&mut *root.lock(rt));
     if number == 0 {
         return works(rt, alloc, domain, &mut record, 0);
     }
-    let done = boxed_retirements(rt, alloc, domain, &mut record, count);
+    let done = retires(rt, domain, &mut record, count, callback);
     domain.close(rt, &mut record);
     done
 }
@@ -484,6 +489,11 @@ pub(crate) fn boxed<
         rt,
         alloc,
         2,
-        &|number| { boxed_part(rt, alloc, &domain, &root, count, number) },
+        &|number| {
+            retiring_part(rt, alloc, &domain, &root, count, number, || {
+                let call = Box::new(alloc, |ripe: Ripe| ripe.payload[0]).ok()?;
+                Some(Callback { call })
+            })
+        },
     )?)
 }
