@@ -2,7 +2,7 @@
  *
  * It is fed in pieces of PIECE bytes, or of 4,096. One line tells the verdict, and the exit status is its number. What
  * is no verdict, a bad text or no memory, goes to standard error, as that of `torture check --follow` does. */
-#include <robiniagolf.h>
+#include <robiniagolf/judge.h>
 
 #include <stdio.h>
 #include <stdlib.h>

@@ -1,9 +1,9 @@
 -- What a reader holds, from one line to the next.
+use Rattle.gp_memb.specs.declared.plan.GracePlan as plan
 use Rattle.std.proofs.Common.{◌≡◌, ◌<◌, refl, subst, Option, Some, None, Result, Ok, Err, IfSome, IfOk, IfErr}
 use Rattle.std.specs.Prelude.{Bool, true, false, MatchBool}
 use Rattle.live_read.specs.declared.held.Held.{Held}
-use Rattle.live_read.specs.declared.reader.Reader.{Reader}
-use Rattle.live_read.specs.declared.site.Site.{Ghosts}
+use Rattle.live_read.specs.declared.reader_core.ReaderCore.{ReaderCore}
 use Rattle.live_read.specs.Holding.{KeepsHeld}
 use Rattle.live_read.proofs.Lemmas.{held_in}
 use Rattle.calls.specs.Standing.{Stands}
@@ -18,16 +18,16 @@ pub either_way : (b : Bool) (P Q G : Type 0) → MatchBool b P Q → (P → G) �
 either_way true P Q G a f h = f a
 either_way false P Q G a f h = h a
 
-module _ {P K B : Type 0} {g : Ghosts B} where
+module _ {P K : Type 0} {g : plan.Ghosts P} where
   -- what stood stands on, where a lock stays open and what was held is kept
-  pub stand_on : (r s : Reader P K B g) (held : Option Held) → (0 < r.depth → (0 < s.depth) × KeepsHeld r s) → Stands r held → Stands s held
+  pub stand_on : (r s : ReaderCore P K g) (held : Option Held) → (0 < r.depth → (0 < s.depth) × KeepsHeld r s) → Stands r held → Stands s held
   stand_on r s (Some h) on x = let y = on x.0 in (y.0, held_in r s h.cell y.1 x.1)
   stand_on r s None on x = tt
 
   -- what is kept at the new depth stands on
-  pub stand_kept : (r s : Reader P K B g) (old new : Option Held) → IfSome new (λ h. (0 < s.depth) × (old ≡ Some h)) → (0 < s.depth → KeepsHeld r s) → Stands r old → Stands s new
+  pub stand_kept : (r s : ReaderCore P K g) (old new : Option Held) → IfSome new (λ h. (0 < s.depth) × (old ≡ Some h)) → (0 < s.depth → KeepsHeld r s) → Stands r old → Stands s new
   stand_kept r s old (Some h) x on stands = let y : Stands r (Some h) = subst (λ (o : Option Held). Stands r o) x.1 stands in (x.0, held_in r s h.cell (on x.0) y.1)
   stand_kept r s old None x on stands = tt
 
-  pub keeps_same : (r : Reader P K B g) → KeepsHeld r r
+  pub keeps_same : (r : ReaderCore P K g) → KeepsHeld r r
   keeps_same r = record { held = λ o cell x. x; notes = λ o cell x. refl }

@@ -134,15 +134,15 @@ fn look<P: GracePlan + Drop, B: Site>(
     numbers: [u64; 4],
 ) -> Answer
     requires flavour { P.QSBR ≡ B.qsbr }
-    requires stands { Stands walker.old.reader walker.old.held }
-    ensures { Stands walker.new.reader walker.new.held }
+    requires stands { Stands walker.old.reader.core walker.old.held }
+    ensures { Stands walker.new.reader.core walker.new.held }
 {
     let number = numbers[0] as usize;
     let is_list = verb == Verb::GetInList || verb == Verb::WalkList;
     if !is_there(maps, is_list, number) {
         return Answer::Refused(Refusal::NoActor);
     }
-    if walker.reader.depth == 0 {
+    if walker.reader.core.depth == 0 {
         return Answer::Refused(Refusal::NotOpen);
     }
     let room = if verb == Verb::WalkList || verb == Verb::WalkTable {
@@ -205,8 +205,8 @@ pub(crate) fn look_line<P: GracePlan + Drop, B: Site>(
     numbers: [u64; 4],
 ) -> Answer
     requires flavour { P.QSBR ≡ B.qsbr }
-    requires stand { All (λ o. IfSome o (λ w. Stands w.reader w.held)) places.old.items }
-    ensures { All (λ o. IfSome o (λ w. Stands w.reader w.held)) places.new.items }
+    requires stand { All (λ o. IfSome o (λ w. Stands w.reader.core w.held)) places.old.items }
+    ensures { All (λ o. IfSome o (λ w. Stands w.reader.core w.held)) places.new.items }
 {
     if reader >= places.len() {
         return Answer::Refused(Refusal::NoActor);

@@ -21,7 +21,7 @@ const READERS: usize = 256;
 pub(crate) fn no_readers<P: GracePlan, K: ChainRule, B: Site>(
     alloc: Global,
 ) -> Result<Vec<Option<Walker<P, K, B>>>, AllocError>
-    ensures { IfOk result (λ v. All (λ o. IfSome o (λ w. Stands w.reader w.held)) v.items) }
+    ensures { IfOk result (λ v. All (λ o. IfSome o (λ w. Stands w.reader.core w.held)) v.items) }
 {
     let mut places = Vec::new(alloc);
     for _ in 0..READERS {
@@ -37,8 +37,8 @@ fn register<P: GracePlan + Drop, K: ChainRule, B: Site, R: Wait>(
     record: &mut Record<B>,
     place: &mut Option<Walker<P, K, B>>,
 ) -> Answer
-    requires { IfSome place.old (λ w. Stands w.reader w.held) }
-    ensures { IfSome place.new (λ w. Stands w.reader w.held) }
+    requires { IfSome place.old (λ w. Stands w.reader.core w.held) }
+    ensures { IfSome place.new (λ w. Stands w.reader.core w.held) }
 {
     if place.is_some() {
         return Answer::Refused(Refusal::Busy);
@@ -53,20 +53,18 @@ fn register<P: GracePlan + Drop, K: ChainRule, B: Site, R: Wait>(
 }
 
 /// Gives a reader's slot back.
-fn unregister<P: GracePlan + Drop, K: ChainRule, B: Site, R: Wait>(
-    rt: &R,
-    domain: &Domain<P, K, B, Code>,
+fn unregister<P: GracePlan, K: ChainRule, B: Site>(
     record: &mut Record<B>,
     place: &mut Option<Walker<P, K, B>>,
 ) -> Answer
-    requires { IfSome place.old (λ w. Stands w.reader w.held) }
-    ensures { IfSome place.new (λ w. Stands w.reader w.held) }
+    requires { IfSome place.old (λ w. Stands w.reader.core w.held) }
+    ensures { IfSome place.new (λ w. Stands w.reader.core w.held) }
 {
     let Some(walker) = place.take() else {
         return Answer::Refused(Refusal::NoActor);
     };
     let Walker { reader, held } = walker;
-    match domain.unregister(rt, record, reader) {
+    match reader.unregister(record) {
         Ok(()) => Answer::Done,
         Err((refusal, reader)) => {
             *place = Some(Walker { reader, held });
@@ -85,12 +83,12 @@ fn at_place<P: GracePlan + Drop, K: ChainRule, B: Site, R: Wait>(
     number: usize,
 ) -> Answer
     requires flavour { P.QSBR ≡ B.qsbr }
-    requires stands { IfSome place.old (λ w. Stands w.reader w.held) }
-    ensures { IfSome place.new (λ w. Stands w.reader w.held) }
+    requires stands { IfSome place.old (λ w. Stands w.reader.core w.held) }
+    ensures { IfSome place.new (λ w. Stands w.reader.core w.held) }
 {
     match verb {
         Verb::Register => register(rt, domain, record, place),
-        Verb::Unregister => unregister(rt, domain, record, place),
+        Verb::Unregister => unregister(record, place),
         _ => match place {
             Some(walker) => walk(walker, verb, number),
             None => Answer::Refused(Refusal::NoActor),
@@ -109,8 +107,8 @@ pub(crate) fn reader_line<P: GracePlan + Drop, K: ChainRule, B: Site, R: Wait>(
     number: usize,
 ) -> Answer
     requires flavour { P.QSBR ≡ B.qsbr }
-    requires stand { All (λ o. IfSome o (λ w. Stands w.reader w.held)) places.old.items }
-    ensures { All (λ o. IfSome o (λ w. Stands w.reader w.held)) places.new.items }
+    requires stand { All (λ o. IfSome o (λ w. Stands w.reader.core w.held)) places.old.items }
+    ensures { All (λ o. IfSome o (λ w. Stands w.reader.core w.held)) places.new.items }
 {
     if reader >= places.len() {
         return Answer::Refused(Refusal::NoActor);
@@ -121,9 +119,9 @@ pub(crate) fn reader_line<P: GracePlan + Drop, K: ChainRule, B: Site, R: Wait>(
 /// Whether a reader's section stands in the way of a grace period.
 fn is_inside<P: GracePlan, K: ChainRule, B: Site>(walker: &Walker<P, K, B>) -> bool {
     if P::QSBR {
-        walker.reader.word != 0
+        walker.reader.core.word != 0
     } else {
-        walker.reader.depth != 0
+        walker.reader.core.depth != 0
     }
 }
 

@@ -48,7 +48,7 @@ impl<'d, P: GracePlan + Drop, B: Site> OfChains<'d, P, B> {
         queues: usize,
     ) -> Result<OfChains<'d, P, B>, AllocError>
         requires { P.QSBR ≡ B.qsbr }
-        ensures { IfOk result (λ s. All (λ o. IfSome o (λ w. Stands w.reader w.held)) s.places.items) }
+        ensures { IfOk result (λ s. All (λ o. IfSome o (λ w. Stands w.reader.core w.held)) s.places.items) }
     {
         Ok(OfChains {
             session: Session::new(alloc, domain, record, queues)?,
@@ -115,7 +115,7 @@ fn is_of_maps(verb: Verb) -> bool {
 }
 
 impl<'d, P: GracePlan + Drop, B: Site> Answers for OfChains<'d, P, B> {
-    ghost stands = { λ s. All (λ o. IfSome o (λ w. Stands w.reader w.held)) s.places.items };
+    ghost stands = { λ s. All (λ o. IfSome o (λ w. Stands w.reader.core w.held)) s.places.items };
 
     fn answer<R: Wait>(&mut self, rt: &R, alloc: Global, call: &Call) -> Answer {
         let inside = are_inside(&self.places);
@@ -175,7 +175,7 @@ impl<'d, P: GracePlan + Drop, B: Site> OfMaps<'d, P, B> {
         queues: usize,
     ) -> Result<OfMaps<'d, P, B>, AllocError>
         requires { P.QSBR ≡ B.qsbr }
-        ensures { IfOk result (λ s. All (λ o. IfSome o (λ w. Stands w.reader w.held)) s.places.items) }
+        ensures { IfOk result (λ s. All (λ o. IfSome o (λ w. Stands w.reader.core w.held)) s.places.items) }
     {
         Ok(OfMaps {
             session: Session::new(alloc, domain, record, queues)?,
@@ -186,8 +186,8 @@ impl<'d, P: GracePlan + Drop, B: Site> OfMaps<'d, P, B> {
 
     /// A call of a reader.
     fn reader_line<R: Wait>(&mut self, rt: &R, alloc: Global, reader: usize, call: &Call) -> Answer
-        requires { All (λ o. IfSome o (λ w. Stands w.reader w.held)) self.old.places.items }
-        ensures { All (λ o. IfSome o (λ w. Stands w.reader w.held)) self.new.places.items }
+        requires { All (λ o. IfSome o (λ w. Stands w.reader.core w.held)) self.old.places.items }
+        ensures { All (λ o. IfSome o (λ w. Stands w.reader.core w.held)) self.new.places.items }
     {
         let session = &mut self.session;
         if is_of_maps(call.verb) {
@@ -215,7 +215,7 @@ impl<'d, P: GracePlan + Drop, B: Site> OfMaps<'d, P, B> {
 }
 
 impl<'d, P: GracePlan + Drop, B: Site> Answers for OfMaps<'d, P, B> {
-    ghost stands = { λ s. All (λ o. IfSome o (λ w. Stands w.reader w.held)) s.places.items };
+    ghost stands = { λ s. All (λ o. IfSome o (λ w. Stands w.reader.core w.held)) s.places.items };
 
     fn answer<R: Wait>(&mut self, rt: &R, alloc: Global, call: &Call) -> Answer {
         let inside = are_inside(&self.places);

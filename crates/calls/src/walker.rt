@@ -36,8 +36,8 @@ fn found(held: Option<Held>) -> Answer {
 /// One lock more, in which is held what was held before.
 fn lock<P: GracePlan, K: ChainRule, B: Site>(walker: &mut Walker<P, K, B>) -> Answer
     requires flavour { P.QSBR ≡ B.qsbr }
-    requires stands { Stands walker.old.reader walker.old.held }
-    ensures { Stands walker.new.reader walker.new.held }
+    requires stands { Stands walker.old.reader.core walker.old.held }
+    ensures { Stands walker.new.reader.core walker.new.held }
 {
     let made = walker.reader.lock();
     done(made)
@@ -46,8 +46,8 @@ fn lock<P: GracePlan, K: ChainRule, B: Site>(walker: &mut Walker<P, K, B>) -> An
 /// As `lock`, but that it tells whether it locked.
 fn try_lock<P: GracePlan, K: ChainRule, B: Site>(walker: &mut Walker<P, K, B>) -> Answer
     requires flavour { P.QSBR ≡ B.qsbr }
-    requires stands { Stands walker.old.reader walker.old.held }
-    ensures { Stands walker.new.reader walker.new.held }
+    requires stands { Stands walker.old.reader.core walker.old.held }
+    ensures { Stands walker.new.reader.core walker.new.held }
 {
     let locked = walker.reader.try_lock();
     Answer::Says(locked)
@@ -63,21 +63,21 @@ fn kept(depth: u64, held: Option<Held>) -> Option<Held>
 /// One lock less. After the last one nothing is held.
 fn unlock<P: GracePlan, K: ChainRule, B: Site>(walker: &mut Walker<P, K, B>) -> Answer
     requires flavour { P.QSBR ≡ B.qsbr }
-    requires stands { Stands walker.old.reader walker.old.held }
-    ensures { Stands walker.new.reader walker.new.held }
+    requires stands { Stands walker.old.reader.core walker.old.held }
+    ensures { Stands walker.new.reader.core walker.new.held }
 {
     let made = walker.reader.unlock();
-    walker.held = kept(walker.reader.depth, walker.held);
+    walker.held = kept(walker.reader.core.depth, walker.held);
     done(made)
 }
 
 /// `first`: refused with `NotOpen` where no lock is open.
 fn first<P: GracePlan, K: ChainRule, B: Site>(walker: &mut Walker<P, K, B>, chain: usize) -> Answer
     requires flavour { P.QSBR ≡ B.qsbr }
-    requires stands { Stands walker.old.reader walker.old.held }
-    ensures { Stands walker.new.reader walker.new.held }
+    requires stands { Stands walker.old.reader.core walker.old.held }
+    ensures { Stands walker.new.reader.core walker.new.held }
 {
-    if walker.reader.depth == 0 {
+    if walker.reader.core.depth == 0 {
         return Answer::Refused(Refusal::NotOpen);
     }
     match walker.reader.first(chain) {
@@ -92,8 +92,8 @@ fn first<P: GracePlan, K: ChainRule, B: Site>(walker: &mut Walker<P, K, B>, chai
 /// `next`: refused with `NoPlace` where nothing was found last.
 fn next<P: GracePlan, K: ChainRule, B: Site>(walker: &mut Walker<P, K, B>) -> Answer
     requires flavour { P.QSBR ≡ B.qsbr }
-    requires stands { Stands walker.old.reader walker.old.held }
-    ensures { Stands walker.new.reader walker.new.held }
+    requires stands { Stands walker.old.reader.core walker.old.held }
+    ensures { Stands walker.new.reader.core walker.new.held }
 {
     let Some(held) = walker.held else {
         return Answer::Refused(Refusal::NoPlace);
@@ -106,8 +106,8 @@ fn next<P: GracePlan, K: ChainRule, B: Site>(walker: &mut Walker<P, K, B>) -> An
 /// `read`: refused with `NoPlace` where nothing was found last.
 fn read<P: GracePlan, K: ChainRule, B: Site>(walker: &mut Walker<P, K, B>) -> Answer
     requires flavour { P.QSBR ≡ B.qsbr }
-    requires stands { Stands walker.old.reader walker.old.held }
-    ensures { Stands walker.new.reader walker.new.held }
+    requires stands { Stands walker.old.reader.core walker.old.held }
+    ensures { Stands walker.new.reader.core walker.new.held }
 {
     let Some(held) = walker.held else {
         return Answer::Refused(Refusal::NoPlace);
@@ -119,8 +119,8 @@ fn read<P: GracePlan, K: ChainRule, B: Site>(walker: &mut Walker<P, K, B>) -> An
 /// `read_word`: refused with `NoPlace` where nothing was found last, and at an index above 3.
 fn word<P: GracePlan, K: ChainRule, B: Site>(walker: &mut Walker<P, K, B>, index: usize) -> Answer
     requires flavour { P.QSBR ≡ B.qsbr }
-    requires stands { Stands walker.old.reader walker.old.held }
-    ensures { Stands walker.new.reader walker.new.held }
+    requires stands { Stands walker.old.reader.core walker.old.held }
+    ensures { Stands walker.new.reader.core walker.new.held }
 {
     let Some(held) = walker.held else {
         return Answer::Refused(Refusal::NoPlace);
@@ -135,15 +135,15 @@ fn word<P: GracePlan, K: ChainRule, B: Site>(walker: &mut Walker<P, K, B>, index
 /// The calls of the quiescent-state flavour, which are refused while a lock is open.
 fn announce<P: GracePlan, K: ChainRule, B: Site>(walker: &mut Walker<P, K, B>, verb: Verb) -> Answer
     requires flavour { P.QSBR ≡ B.qsbr }
-    requires stands { Stands walker.old.reader walker.old.held }
-    ensures { Stands walker.new.reader walker.new.held }
+    requires stands { Stands walker.old.reader.core walker.old.held }
+    ensures { Stands walker.new.reader.core walker.new.held }
 {
     let made = match verb {
         Verb::Online => walker.reader.online(),
         Verb::Quiescent => walker.reader.quiescent(),
         _ => walker.reader.offline(),
     };
-    if walker.reader.depth == 0 {
+    if walker.reader.core.depth == 0 {
         walker.held = None;
     }
     done(made)
@@ -156,8 +156,8 @@ fn look<P: GracePlan, K: ChainRule, B: Site>(
     number: usize,
 ) -> Answer
     requires flavour { P.QSBR ≡ B.qsbr }
-    requires stands { Stands walker.old.reader walker.old.held }
-    ensures { Stands walker.new.reader walker.new.held }
+    requires stands { Stands walker.old.reader.core walker.old.held }
+    ensures { Stands walker.new.reader.core walker.new.held }
 {
     match verb {
         Verb::First => first(walker, number),
@@ -175,8 +175,8 @@ pub(crate) fn walk<P: GracePlan, K: ChainRule, B: Site>(
     number: usize,
 ) -> Answer
     requires flavour { P.QSBR ≡ B.qsbr }
-    requires stands { Stands walker.old.reader walker.old.held }
-    ensures { Stands walker.new.reader walker.new.held }
+    requires stands { Stands walker.old.reader.core walker.old.held }
+    ensures { Stands walker.new.reader.core walker.new.held }
 {
     match verb {
         Verb::Lock => lock(walker),

@@ -2,13 +2,13 @@
 
 ghost use Rattle.std.specs.Prelude.{◌≡◌, ◌≢◌, ◌<◌, ◌≤◌, ◌^◌, ◌↔◌, true, IfErr, IfOk, IsOk, IsTrue, vec_len};
 ghost use Rattle.std.specs.Arc.{arc_value};
-ghost use Rattle.rcu_model.specs.declared.refusal.Refusal.TheVariants.{Busy, Exhausted, NoSlot};
+ghost use Rattle.rcu_model.specs.declared.refusal.Refusal.TheVariants.{Exhausted, NoSlot};
 ghost use Rattle.poll_cookie.specs.Cookie.{cookie_for};
-ghost use Rattle.live_log.specs.declared.event.LiveEvent.TheVariants.{Close};
-ghost use Rattle.live_log.specs.Log.{Begins, Has, HaveEnded, seq_of};
-ghost use Rattle.live_table.specs.Rights.{count_in};
+ghost use Rattle.live_log.specs.Log.{Begins, HaveEnded, seq_of};
 ghost use Rattle.live_table.specs.Steps.{Keeps};
-ghost use Rattle.live_read.specs.Hearing.{FindsNothing, IsAfter, IsAsBefore};
+ghost use Rattle.live_read.specs.Hearing.{FindsNothing, IsAfter, IsAsBefore, Stays};
+ghost use Rattle.live_read.specs.Holding.{log_of};
+ghost use Rattle.live_read.specs.Registering.{FindsAllClaimed, WasFree};
 ghost use Rattle.domain.specs.Waiting.{LoadedOnce, Synchronized};
 
 use crate::grace_lock::GraceLock;
@@ -16,7 +16,7 @@ use crate::queue::Queue;
 use callback_queue::Callback;
 use gp_memb::GracePlan;
 use live_grace::{LiveCookie, ask};
-use live_read::{Reader, Record, Registrar, Site, Witness, learn_more};
+use live_read::{Reader, Record, Site, Witness};
 use live_reclaim::Deleter;
 use live_words::{ChainRule, LiveSeat, LiveTable};
 use rcu_model::Refusal;
@@ -28,7 +28,6 @@ use std::sync::{Arc, Mutex, Wait};
 #[derive(Drop)]
 pub struct Domain<P: GracePlan, K: ChainRule, B: Site, D: Deleter = Callback> {
     pub(crate) table: Arc<LiveTable<P, K>>,
-    pub(crate) registrar: Mutex<Registrar<P, K, B>>,
     pub(crate) grace: Mutex<GraceLock<P, B>>,
     pub(crate) queues: Vec<Queue<B, D>>,
     pub(crate) ghost queued: { (vec_len queues ≡ B.sizes.queues) × (1 ≤ B.sizes.queues) },
@@ -36,49 +35,27 @@ pub struct Domain<P: GracePlan, K: ChainRule, B: Site, D: Deleter = Callback> {
 }
 
 impl<P: GracePlan + Drop, K: ChainRule, B: Site, D: Deleter> Domain<P, K, B, D> {
-    /// Registers a reader, liburcu's `rcu_register_thread`. It is offline in the quiescent-state flavour, hears what
-    /// the caller has seen and heard of, and may be moved into any thread.
+    /// Registers a reader in the first slot that is found free, liburcu's `rcu_register_thread`: one atomic step claims
+    /// the slot. It is offline in the quiescent-state flavour, has seen all that the caller has seen and heard of, and
+    /// may be moved into any thread. `Reader::unregister` gives its slot back.
     ///
-    /// Refused with `NoSlot` where every slot is claimed. It takes no memory, and waits for the registry lock alone.
+    /// Refused with `NoSlot` only where the bit of every slot was found set: `looks` tells the words that it found. It
+    /// takes no lock and no memory, and waits for nobody.
     pub fn register<W: Witness, R: Wait>(
         &self,
         rt: &R,
         witness: &mut W,
     ) -> Result<Reader<P, K, B>, Refusal>
         requires { W.home witness.old ≡ (B.table, B.sizes) }
-        ensures idle { IfOk result (λ r. (r.depth ≡ 0) × (r.locks ≡ 0) × (B.qsbr ≡ true → r.word ≡ 0)) }
-        ensures told { IfOk result (λ r. IsAfter P.QSBR K.allows (W.seen witness.old) (W.heard witness.old) r.seat.me.0.heard) }
-        ensures refused { IfErr result (λ e. e ≡ NoSlot) }
-        ensures witness { IsAsBefore W.Witness witness.old witness.new }
+        ensures idle { IfOk result (λ r. (r.core.depth ≡ 0) × (r.core.locks ≡ 0) × (P.QSBR ≡ true → r.core.word ≡ 0)) }
+        ensures slot { IfOk result (λ r. (r.core.slot < B.sizes.slots) × WasFree r.core.slot r.core.seat.me.0.looks) }
+        ensures told { IfOk result (λ r. IsAfter P.QSBR K.allows (W.seen witness.old) (W.heard witness.old) (log_of r.core)) }
+        ensures same { IfOk result (λ _. IsAsBefore W.Witness witness.old witness.new) }
+        ensures refused { IfErr result (λ e. (e ≡ NoSlot) × FindsAllClaimed B.sizes (W.looks witness.old) (W.looks witness.new)) }
+        ensures heard { IfErr result (λ _. IsAfter P.QSBR K.allows (W.seen witness.old) (W.heard witness.old) (W.heard witness.new)) }
+        ensures witness { Stays W.Witness witness.old witness.new × (W.loads witness.new ≡ W.loads witness.old) }
     {
-        self.registrar.lock(rt).register(witness)
-    }
-
-    /// Gives the slot of a reader back, liburcu's `rcu_unregister_thread`. An online reader of the quiescent-state
-    /// flavour goes offline first, which closes its section. The caller hears of that, and of all that the reader had
-    /// seen. A reader that is dropped keeps its slot claimed.
-    ///
-    /// Refused with `Busy` exactly while a section or a lock of it is open, and then it comes back as it was. It takes
-    /// no memory, and waits for the registry lock alone.
-    pub fn unregister<W: Witness, R: Wait>(
-        &self,
-        rt: &R,
-        witness: &mut W,
-        reader: Reader<P, K, B>,
-    ) -> Result<(), (Refusal, Reader<P, K, B>)>
-        requires { W.home witness.old ≡ (B.table, B.sizes) }
-        ensures left { IfOk result (λ _. reader.depth ≡ 0) }
-        ensures kept { IfOk result (λ _. IsAfter P.QSBR K.allows (W.seen witness.old) (W.heard witness.old) (W.heard witness.new)) }
-        ensures told { IfOk result (λ _. Begins reader.seat.me.0.seen (W.heard witness.new)) }
-        ensures closed { IfOk result (λ _. P.QSBR ≡ true → reader.word ≢ 0 → Has (Close reader.slot (count_in reader.seat.me.0.slot)) (W.heard witness.new)) }
-        ensures busy { IfErr result (λ e. (e.0 ≡ Busy) × (e.1 ≡ reader) × (0 < reader.depth) × IsAsBefore W.Witness witness.old witness.new) }
-        ensures witness { FindsNothing W.Witness witness.old witness.new }
-    {
-        let mut registrar = self.registrar.lock(rt);
-        registrar.unregister(reader)?;
-        let told = registrar.tell(&self.table);
-        learn_more(&self.table, witness, told);
-        Ok(())
+        Reader::register(rt, &self.table, witness)
     }
 
     /// A record that has seen and heard as much as the witness, for another thread. It never waits.

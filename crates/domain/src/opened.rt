@@ -10,7 +10,7 @@ use crate::domain::Domain;
 use crate::grace_lock::GraceLock;
 use crate::queue::queues_of;
 use gp_memb::GracePlan;
-use live_read::{Record, Registrar, Site};
+use live_read::{Record, Site};
 use live_reclaim::Deleter;
 use live_words::{ChainRule, LiveSeat, LiveTable};
 use rcu_model::Refusal;
@@ -53,7 +53,7 @@ impl<P: GracePlan + Drop, K: ChainRule> Opened<P, K> {
     }
 
     /// The domain under this name, none of whose slots is claimed, and the first record, which has seen nothing yet.
-    /// All the memory that registering takes is taken here. `D` is what is called with each object that is reclaimed:
+    /// `D` is what is called with each object that is reclaimed:
     /// the boxed `Callback`, or a type of the program's own.
     ///
     /// Refused with `Memory` where memory is. It never waits.
@@ -69,7 +69,6 @@ impl<P: GracePlan + Drop, K: ChainRule> Opened<P, K> {
         let Ok(table) = Arc::new(alloc, table) else {
             return Err(Refusal::Memory);
         };
-        let registrar = Registrar::new(alloc, &table, &mut seat)?;
         let grace = GraceLock::new(table.cut_grace(&mut seat));
         let Ok(queues) = queues_of(alloc, &table, &mut seat) else {
             return Err(Refusal::Memory);
@@ -78,7 +77,6 @@ impl<P: GracePlan + Drop, K: ChainRule> Opened<P, K> {
         Ok((
             Domain {
                 table,
-                registrar: Mutex::new(registrar),
                 grace: Mutex::new(grace),
                 queues,
             },

@@ -36,11 +36,11 @@ fn publishes<P: GracePlan + Drop, B: Site, R: Wait>(
     chain: usize,
     words: [u64; 4],
 ) -> Result<(Option<[u64; 4]>, Option<[u64; 4]>), Refusal>
-    requires { (P.QSBR ≡ B.qsbr) × (0 < section.old.reader.now.depth) }
+    requires { (P.QSBR ≡ B.qsbr) × (0 < section.old.reader.now.core.depth) }
     ensures reader { section.new.reader.ghost_name ≡ section.old.reader.ghost_name }
-    ensures counts { (section.new.reader.now.depth ≡ section.old.reader.now.depth) × (section.new.reader.now.locks ≡ section.old.reader.now.locks) }
+    ensures counts { (section.new.reader.now.core.depth ≡ section.old.reader.now.core.depth) × (section.new.reader.now.core.locks ≡ section.old.reader.now.core.locks) }
     ensures writer { IfOk result (λ got. got.0 ≡ Some words) }
-    ensures found { IfOk result (λ got. IfSome got.1 (λ read. (log : Log) × (pushed o : ObjectId) × (cell : ℕ) × IsLiveRun P.QSBR (λ before event. Unit {0}) log × Begins log (log_of section.new.reader.now) × Has (Object (Push chain pushed cell words)) log × (first_of ((objects_of log).chain chain) ≡ Some o) × (read ≡ payload_of log o) × (o ≡ pushed → read ≡ words))) }
+    ensures found { IfOk result (λ got. IfSome got.1 (λ read. (log : Log) × (pushed o : ObjectId) × (cell : ℕ) × IsLiveRun P.QSBR (λ before event. Unit {0}) log × Begins log (log_of section.new.reader.now.core) × Has (Object (Push chain pushed cell words)) log × (first_of ((objects_of log).chain chain) ≡ Some o) × (read ≡ payload_of log o) × (o ≡ pushed → read ≡ words))) }
 {
     published_words_stay::<AnyChain>();
     let owned = domain.alloc(rt, section.reader, words)?;
@@ -60,9 +60,9 @@ fn reads_across<P: GracePlan + Drop, B: Site>(
     section: &mut Section<P, AnyChain, B>,
     chain: usize,
 ) -> Result<Option<[u64; 4]>, Refusal>
-    requires { (P.QSBR ≡ B.qsbr) × (0 < section.old.reader.now.depth) }
+    requires { (P.QSBR ≡ B.qsbr) × (0 < section.old.reader.now.core.depth) }
     ensures reader { section.new.reader.ghost_name ≡ section.old.reader.ghost_name }
-    ensures counts { (section.new.reader.now.depth ≡ section.old.reader.now.depth) × (section.new.reader.now.locks ≡ section.old.reader.now.locks) }
+    ensures counts { (section.new.reader.now.core.depth ≡ section.old.reader.now.core.depth) × (section.new.reader.now.core.locks ≡ section.old.reader.now.core.locks) }
 {
     let Some(held) = section.first(chain)? else {
         return Ok(None);
@@ -80,12 +80,12 @@ fn reads_on<P: GracePlan, B: Site>(
     section: &mut Section<P, AnyChain, B>,
     chain: usize,
 ) -> Result<Option<([u64; 4], bool)>, Refusal>
-    requires { (P.QSBR ≡ B.qsbr) × (0 < section.old.reader.now.depth) }
+    requires { (P.QSBR ≡ B.qsbr) × (0 < section.old.reader.now.core.depth) }
     ensures reader { section.new.reader.ghost_name ≡ section.old.reader.ghost_name }
-    ensures counts { (section.new.reader.now.depth ≡ section.old.reader.now.depth) × (section.new.reader.now.locks ≡ section.old.reader.now.locks) }
-    ensures run { IfOk result (λ got. IfSome got (λ _. (s : SectionId) (m : Readings) → HasRead s m section.old.reader.now → (a b c : Log) × (o : ObjectId) × (found : Option ObjectId) × HasRead s (Read s (Next o found) ∷ later c (Read s (Touch o) ∷ later b (Read s (First chain (Some o)) ∷ later a m))) section.new.reader.now)) }
+    ensures counts { (section.new.reader.now.core.depth ≡ section.old.reader.now.core.depth) × (section.new.reader.now.core.locks ≡ section.old.reader.now.core.locks) }
+    ensures run { IfOk result (λ got. IfSome got (λ _. (s : SectionId) (m : Readings) → HasRead s m section.old.reader.now.core → (a b c : Log) × (o : ObjectId) × (found : Option ObjectId) × HasRead s (Read s (Next o found) ∷ later c (Read s (Touch o) ∷ later b (Read s (First chain (Some o)) ∷ later a m))) section.new.reader.now.core)) }
 {
-    readings_fit::<P, AnyChain, B>();
+    readings_fit::<P, AnyChain>();
     let Some(held) = section.first(chain)? else {
         return Ok(None);
     };
@@ -107,7 +107,7 @@ fn reads_all<P: GracePlan + Drop, B: Site, R: Wait>(
     domain: &Domain<P, AnyChain, B, Adds>,
     reader: &mut Reader<P, AnyChain, B>,
 ) -> Result<Told, Refusal>
-    requires { (P.QSBR ≡ B.qsbr) × (reader.old.depth ≡ 0) × (reader.old.locks ≡ 0) }
+    requires { (P.QSBR ≡ B.qsbr) × (reader.old.core.depth ≡ 0) × (reader.old.core.locks ≡ 0) }
 {
     let mut section = reader.section()?;
     let (own, first) = publishes(rt, domain, &mut section, 0, [1, 2, 3, 4])?;

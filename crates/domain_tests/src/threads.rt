@@ -38,8 +38,8 @@ fn one_section<P: GracePlan, B: Site>(
     numbers: &Numbers,
     number: u64,
 ) -> Result<(), Refusal>
-    requires { (P.QSBR ≡ B.qsbr) × (reader.old.depth ≡ 0) × (reader.old.locks ≡ 0) }
-    ensures { (reader.new.depth ≡ 0) × (reader.new.locks ≡ 0) }
+    requires { (P.QSBR ≡ B.qsbr) × (reader.old.core.depth ≡ 0) × (reader.old.core.locks ≡ 0) }
+    ensures { (reader.new.core.depth ≡ 0) × (reader.new.core.locks ≡ 0) }
 {
     let section = reader.section()?;
     numbers.begun.store(number, Ordering::SeqCst);
@@ -53,7 +53,7 @@ fn one_section<P: GracePlan, B: Site>(
 #[derive(Drop)]
 struct Idle<P: GracePlan, B: Site> {
     reader: Reader<P, AnyChain, B>,
-    ghost idle: { (reader.depth ≡ 0) × (reader.locks ≡ 0) },
+    ghost idle: { (reader.core.depth ≡ 0) × (reader.core.locks ≡ 0) },
 }
 
 fn registered<P: GracePlan + Drop, B: Site, R: Wait>(
@@ -71,7 +71,7 @@ fn reads<P: GracePlan, B: Site>(idle: Idle<P, B>, all: &[Numbers]) -> bool
     requires { P.QSBR ≡ B.qsbr }
 {
     let Idle { mut reader } = idle;
-    let Some(numbers) = all.get(reader.slot) else {
+    let Some(numbers) = all.get(reader.core.slot) else {
         return false;
     };
     if P::QSBR && reader.online().is_err() {

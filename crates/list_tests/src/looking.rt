@@ -25,7 +25,7 @@ pub(crate) fn of_two_readers(chains: usize, pool: usize) -> LiveConfig {
 #[derive(Drop)]
 pub(crate) struct Idle<P: GracePlan, K: ChainRule, B: Site> {
     pub(crate) reader: Reader<P, K, B>,
-    pub(crate) ghost idle: { (reader.depth ≡ 0) × (reader.locks ≡ 0) },
+    pub(crate) ghost idle: { (reader.core.depth ≡ 0) × (reader.core.locks ≡ 0) },
 }
 
 pub(crate) fn registered<P: GracePlan + Drop, K: ChainRule, B: Site, R: Wait>(

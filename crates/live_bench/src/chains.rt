@@ -111,8 +111,8 @@ fn read_again<P: GracePlan, B: Site>(
     held: Held,
     count: u64,
 ) -> u64
-    requires open_section { (P.QSBR ≡ B.qsbr) × (0 < section.old.reader.now.depth) }
-    requires held { MayHoldIn section.old.reader.now held.cell }
+    requires open_section { (P.QSBR ≡ B.qsbr) × (0 < section.old.reader.now.core.depth) }
+    requires held { MayHoldIn section.old.reader.now.core held.cell }
 {
     let mut sum = 0;
     for _ in 0..count {
@@ -127,7 +127,7 @@ fn walk_on<P: GracePlan, B: Site>(
     section: &mut Section<P, AnyChain, B>,
     count: u64,
 ) -> Result<u64, Refusal>
-    requires { (P.QSBR ≡ B.qsbr) × (0 < section.old.reader.now.depth) }
+    requires { (P.QSBR ≡ B.qsbr) × (0 < section.old.reader.now.core.depth) }
 {
     let mut at = section.first(0)?;
     let mut walks = 0;

@@ -40,7 +40,7 @@ module _ {S : Type 0} (qsbr : Bool) (allows : Log → LiveEvent → Type 0) (key
   Rule = KeepsRule qsbr allows key
 
   -- a store of a chain's own word beside its head
-  own_word : (s : State S View) (r : Rule s) (id c n x : ℕ) (v w : View) (log : Log) (at : get_elem? s.views id ≡ lists.some v) → c < key.chains → (n ≡ 1) ⊎ (n ≡ 2) → Calm r.log log → IsLiveRun qsbr allows log → (w.seen ≡ log) × (w.heard ≡ v.heard) × (w.slot ≡ v.slot) × (w.groups ≡ v.groups) × (w.grace ≡ v.grace) → (w.object ≡ v.object) × (w.queue ≡ v.queue) × (w.work ≡ v.work)
+  own_word : (s : State S View) (r : Rule s) (id c n x : ℕ) (v w : View) (log : Log) (at : get_elem? s.views id ≡ lists.some v) → c < key.chains → (n ≡ 1) ⊎ (n ≡ 2) → Calm r.log log → IsLiveRun qsbr allows log → (w.seen ≡ log) × (w.heard ≡ v.heard) × (w.slot ≡ v.slot) × (w.grace ≡ v.grace) → (w.object ≡ v.object) × (w.queue ≡ v.queue) × (w.work ≡ v.work)
       → objects_of log ≡ objects_of r.log → QueueWords key log (set s.words (head_at key c + n) x) → HoldWords key (set s.words (head_at key c + n) x)
       → ((e : ℕ) (y : List ChainRight) → ClaimsChain y e → ¬ ClaimsChain v.chains e → KnowsChain qsbr key r.log s.words y e → (e ≢ c) × (chain_note e log ≡ chain_note e r.log))
       → ((e : ℕ) → ClaimsChain w.chains e → KnowsChain qsbr key log (set s.words (head_at key c + n) x) w.chains e × (ClaimsChain v.chains e ⊎ Unclaimed key s.views id (chain e)))
@@ -94,7 +94,7 @@ module _ {S : Type 0} (qsbr : Bool) (allows : Log → LiveEvent → Type 0) (key
         keeps,
         tt,
         subst (λ (i : ℕ). Rule record { words = set s.words i 1; homes = s.homes; views = set s.views id w }) (sym a_is)
-            (own_word s r id c 1 1 v w r.log at low (inl refl) (calm_same r.log) r.run (refl, refl, refl, refl, refl) (refl, refl, refl) refl (lines_hold s r c 1 low) (guards_hold s r c 1 low (omega arith))
+            (own_word s r id c 1 1 v w r.log at low (inl refl) (calm_same r.log) r.run (refl, refl, refl, refl) (refl, refl, refl) refl (lines_hold s r c 1 low) (guards_hold s r c 1 low (omega arith))
             (λ e y claim _ k. ((λ is. free y (subst (ClaimsChain y) is claim) (subst (KnowsChain qsbr key r.log s.words y) is k)), refl))
             (λ e. ⊎_elim
             (λ (is : c ≡ e). let gone : ¬ ClaimsChain v.chains e = subst (λ (d : ℕ). ¬ ClaimsChain v.chains d) is none in (
@@ -108,7 +108,7 @@ module _ {S : Type 0} (qsbr : Bool) (allows : Log → LiveEvent → Type 0) (key
         ((λ _ d l is. ((refl, refl, (b.0, b.1, r.run)), (refl, same_chain d is, (refl, r.agree.heap.leads (head c) low (first_of os) refl, refl)))), (λ ne. absurd (ne zero)), small),
       ))
       (λ ne. let w : View = record (looked_view a found v) { seen = r.log } in
-      (w, keeps, tt, looks qsbr allows key s r id a v w at refl refl (look_all qsbr allows key s r id v w at (refl, refl, refl, refl, refl, refl, refl)), ((λ zero. absurd (ne zero)), (λ _. (refl, refl, (b.0, b.1, r.run))), small)))
+      (w, keeps, tt, looks qsbr allows key s r id a v w at refl refl (look_all qsbr allows key s r id v w at (refl, refl, refl, refl, refl, refl)), ((λ zero. absurd (ne zero)), (λ _. (refl, refl, (b.0, b.1, r.run))), small)))
     where
       same_chain : (d : ℕ) → a ≡ hold_at me.0.sizes d → c ≡ d
       same_chain d is = let z : a ≡ hold_at key d = is ∙ ap (λ (k : Sizes). hold_at k d) sizes in omega arith
@@ -135,7 +135,7 @@ module _ {S : Type 0} (qsbr : Bool) (allows : Log → LiveEvent → Type 0) (key
         keeps,
         tt,
         subst (λ (i : ℕ). Rule record { words = set s.words i 0; homes = s.homes; views = set s.views id w }) (sym a_is)
-            (own_word s r id c 1 0 v w r.log at kc.0 (inl refl) (calm_same r.log) r.run (refl, refl, refl, refl, refl) (refl, refl, refl) refl (lines_hold s r c 0 kc.0) (guards_hold s r c 0 kc.0 (omega arith))
+            (own_word s r id c 1 0 v w r.log at kc.0 (inl refl) (calm_same r.log) r.run (refl, refl, refl, refl) (refl, refl, refl) refl (lines_hold s r c 0 kc.0) (guards_hold s r c 0 kc.0 (omega arith))
             (λ e y claim far k. ((λ is. far (claims_own qsbr allows key s r id v at own e (sym is))), refl))
             (λ e claim. given_up s r id v at own e claim)),
         (refl, refl, (b.0, b.1, r.run)),
@@ -161,7 +161,7 @@ module _ {S : Type 0} (qsbr : Bool) (allows : Log → LiveEvent → Type 0) (key
         keeps,
         tt,
         subst (λ (i : ℕ). Rule record { words = set s.words i x; homes = s.homes; views = set s.views id w }) (sym a_is)
-            (own_word s r id c 2 x v w log at kc.0 (inr refl) (calm_note c x r.log) run (refl, refl, refl, refl, refl) (refl, refl, refl) refl
+            (own_word s r id c 2 x v w log at kc.0 (inr refl) (calm_note c x r.log) run (refl, refl, refl, refl) (refl, refl, refl) refl
             (record {
               notes = λ e l. dite (ℕ_discrete e c) (λ is. subst (λ (z : ℕ). get_or (set s.words (note_at key c) x) (note_at key z) 0 ≡ chain_note z log) (sym is) (here ∙ sym now))
                   (λ ne. far (note_at key e) (λ z. ne (omega arith)) ∙ (r.agree.lines.notes e l ∙ sym (else e ne)));

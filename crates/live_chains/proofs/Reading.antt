@@ -43,7 +43,7 @@ module _ {S : Type 0} (qsbr : Bool) (allows : Log → LiveEvent → Type 0) (key
     inside : (q n : ℕ) → IsInSection qsbr v q n → IsOpen (state_of r.log) (section q n)
     inside q n stands =
         let w : ℕ = word_in v.slot in
-        let kn : KnowsSlot qsbr key r.log s.words (slot_right.Owns q w (count_in v.slot)) q = subst (λ (y : SlotRight). KnowsSlot qsbr key r.log s.words y q) stands.0 (r.knows (slot q) id v at (subst (λ (y : SlotRight). ClaimsSlot key y q) (sym stands.0) refl)) in
+        let kn : KnowsSlot qsbr key r.log s.words (slot_right.Owns q w (count_in v.slot)) q = subst (λ (y : SlotRight). KnowsSlot qsbr key r.log s.words y q) stands.0 (r.knows (slot q) id v at (subst (λ (y : SlotRight). ClaimsSlot y q) (sym stands.0) refl)) in
         let o = open_fits qsbr w (open_of q r.log) (subst (λ (z : ℕ). Fits qsbr z (open_of q r.log)) kn.1 (r.agree.readers.each_slot q kn.0)) stands.1 in
         let ordinal : o.0.0 ≡ n = sym (last_opened qsbr allows r.log q o.0.0 o.0.1 r.run o.1).0 ∙ (kn.2 ∙ stands.2) in
         has_section_in (state_of r.log).sections (section q n) (open_inside r.log q n o.0.1 (o.1 ∙ (λ i. lists.some (ordinal i, o.0.1))))
@@ -69,7 +69,7 @@ module _ {S : Type 0} (qsbr : Bool) (allows : Log → LiveEvent → Type 0) (key
 
     -- the rule after a load that leaves all rights as they are
     loaded : (a : ℕ) → Rule record { words = set s.words a (get_or s.words a 0); homes = s.homes; views = set s.views id (record v { seen = r.log }) }
-    loaded a = let w : View = record v { seen = r.log } in looks qsbr allows key s r id a v w at refl refl (look_all qsbr allows key s r id v w at (refl, refl, refl, refl, refl, refl, refl))
+    loaded a = let w : View = record v { seen = r.log } in looks qsbr allows key s r id a v w at refl refl (look_all qsbr allows key s r id v w at (refl, refl, refl, refl, refl, refl))
 
   pub looks_head : (slots id : ℕ) (me : Me S View) (a : ℕ) → me.0.sizes ≡ key → Allows Rule slots id me a (λ n. n) (looked_head qsbr allows (step slots a 0 0 lists.none) me)
   looks_head slots id me a sizes s r deep at fits = (

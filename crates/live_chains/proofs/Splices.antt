@@ -65,7 +65,7 @@ module _ {S : Type 0} (qsbr : Bool) (allows : Log → LiveEvent → Type 0) (key
       let stored : x ≡ ref now (Some o) = x_is ∙ sym (ap (λ (z : ℕ × List ℕ). z.0 + 1) note) in
       let link : link_in v.object ≡ ref now next = linked ∙ (sym kc.2 ∙ (r.agree.heap.leads (head c) kc.0 next refl ∙ sym (ref_same was now next (λ m f. moved.note m (λ e. moved.enters_fresh m e (first_used qsbr allows r.log c m r.run f)))))) in
       let w : View = record (pushed_view x v) { seen = push_of v ∷ r.log } in
-      let done = spliced qsbr allows key s r id v at own (Push c o i p) None next None (Some o) x x (o ∷ (own_in v.chains).objects) w run moved tt refl (refl, refl, refl, refl, refl) (refl, refl) list stored (head_stored qsbr allows key s r id v at own None x)
+      let done = spliced qsbr allows key s r id v at own (Push c o i p) None next None (Some o) x x (o ∷ (own_in v.chains).objects) w run moved tt refl (refl, refl, refl, refl) (refl, refl) list stored (head_stored qsbr allows key s r id v at own None x)
       (λ m e. let same = some_is o m e in (subst (Enters key now s.words next) same (enters_fresh qsbr allows key s r id v at own now next i o (link_in v.object) p ko note refl link), owns_fresh v fresh m same))
       (λ m claim. absurd claim) in (
         w,
@@ -122,7 +122,7 @@ module _ {S : Type 0} (qsbr : Bool) (allows : Log → LiveEvent → Type 0) (key
       let next_is : next ≡ next_of os o = ap (λ (l : List ObjectId). next_of l o) kc.3 in
       let link : link_in v.object ≡ ref now next = linked ∙ (sym (next_ref s r id v at own listed (replace_of o v) run o has (next_of os o) refl) ∙ ap (ref now) (sym next_is)) in
       let w : View = record (replaced_view p o x v) { seen = replace_of o v ∷ r.log } in
-      let done = spliced qsbr allows key s r id v at own (Replace c o m i y) p next (Some o) (Some m) x (head_after p x (own_in v.chains).head) (replaced o m os) w run moved before.0 refl (refl, refl, refl, refl, refl) (refl, refl) list stored (head_stored qsbr allows key s r id v at own p x)
+      let done = spliced qsbr allows key s r id v at own (Replace c o m i y) p next (Some o) (Some m) x (head_after p x (own_in v.chains).head) (replaced o m os) w run moved before.0 refl (refl, refl, refl, refl) (refl, refl) list stored (head_stored qsbr allows key s r id v at own p x)
       (λ q e. let same = some_is m q e in (subst (Enters key now s.words next) same (enters_fresh qsbr allows key s r id v at own now next i m (link_in v.object) y ko note refl link), owns_fresh v fresh q same))
       (λ q claim. unlinked_now s r id (spot_of_now p) x v at own listed (replace_of o v) run o has (moved.left o refl).0 refl q claim) in
       let place = place_now qsbr allows key s r id v at own listed p before.0 sizes in (
@@ -164,7 +164,7 @@ module _ {S : Type 0} (qsbr : Bool) (allows : Log → LiveEvent → Type 0) (key
       let next_is : next ≡ next_of os o = ap (λ (l : List ObjectId). next_of l o) kc.3 in
       let stored : x ≡ ref now next = x_is ∙ (sym (next_ref s r id v at own listed (cut_of o v) run o has (next_of os o) refl) ∙ ap (ref now) (sym next_is)) in
       let w : View = record (cut_view p o x v) { seen = cut_of o v ∷ r.log } in
-      let done = spliced qsbr allows key s r id v at own (Cut c o) p next (Some o) None x (head_after p x (own_in v.chains).head) (without_object o os) w run moved before.0 refl (refl, refl, refl, refl, refl) (refl, refl) list stored (head_stored qsbr allows key s r id v at own p x)
+      let done = spliced qsbr allows key s r id v at own (Cut c o) p next (Some o) None x (head_after p x (own_in v.chains).head) (without_object o os) w run moved before.0 refl (refl, refl, refl, refl) (refl, refl) list stored (head_stored qsbr allows key s r id v at own p x)
       (λ q e. absurd (none_some q e))
       (λ q claim. unlinked_now s r id (spot_of_now p) x v at own listed (cut_of o v) run o has (moved.left o refl).0 refl q claim) in
       let place = place_now qsbr allows key s r id v at own listed p before.0 sizes in (

@@ -133,7 +133,7 @@ module _ {S : Type 0} (qsbr : Bool) (allows : Log → LiveEvent → Type 0) (key
     abbrev a : ℕ
     a = spot_at key (objects_of r.log) (spot_of (own_in v.chains).chain p)
 
-    pub spliced : IsPlace (own_in v.chains).objects p → w.chains ≡ record (own_in v.chains) { head = h'; objects = os' } ∷ lent_chains v.chains → (w.seen ≡ log) × (w.heard ≡ v.heard) × (w.slot ≡ v.slot) × (w.groups ≡ v.groups) × (w.grace ≡ v.grace) → (w.queue ≡ v.queue) × (w.work ≡ v.work)
+    pub spliced : IsPlace (own_in v.chains).objects p → w.chains ≡ record (own_in v.chains) { head = h'; objects = os' } ∷ lent_chains v.chains → (w.seen ≡ log) × (w.heard ≡ v.heard) × (w.slot ≡ v.slot) × (w.grace ≡ v.grace) → (w.queue ≡ v.queue) × (w.work ≡ v.work)
         → (objects_of log).chain (own_in v.chains).chain ≡ os' → x ≡ ref (objects_of log) (option_or enters next) → get_or (set s.words a x) (head_at key (own_in v.chains).chain) 0 ≡ h'
         → ((m : ObjectId) → enters ≡ Some m → Enters key (objects_of log) s.words next m × ClaimsObject v.object m)
         → ((o : ObjectId) → ClaimsObject w.object o → KnowsObject qsbr key log (set s.words a x) (objects_of log) w.object × (ClaimsObject v.object o ⊎ Unclaimed key s.views id (object o)))

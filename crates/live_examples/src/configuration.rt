@@ -88,7 +88,7 @@ fn reads<B: Site, R: Wait>(
 {
     let mut reader = domain.register(rt, record)?;
     let found = newest(&mut reader);
-    match domain.unregister(rt, record, reader) {
+    match reader.unregister(record) {
         Ok(()) => found,
         Err((refusal, _)) => Err(refusal),
     }

@@ -14,8 +14,8 @@ const TURNS: u64 = 1_000;
 
 /// One turn: the event is handled by the record that is found now. Answers its first word.
 fn handle<B: Site>(reader: &mut Reader<QsbrPlan, AnyChain, B>) -> Result<u64, Refusal>
-    requires { (B.qsbr ≡ true) × (reader.old.depth ≡ 0) × (reader.old.locks ≡ 0) }
-    ensures { (reader.new.depth ≡ 0) × (reader.new.locks ≡ 0) }
+    requires { (B.qsbr ≡ true) × (reader.old.core.depth ≡ 0) × (reader.old.core.locks ≡ 0) }
+    ensures { (reader.new.core.depth ≡ 0) × (reader.new.core.locks ≡ 0) }
 {
     let mut section = reader.section()?;
     let found = match section.first(0) {
@@ -29,7 +29,7 @@ fn handle<B: Site>(reader: &mut Reader<QsbrPlan, AnyChain, B>) -> Result<u64, Re
 /// So many turns, with an announcement after each, and then offline, as before a wait for input. Answers how many found
 /// the record.
 fn turns<B: Site>(reader: &mut Reader<QsbrPlan, AnyChain, B>) -> Result<u64, Refusal>
-    requires { (B.qsbr ≡ true) × (reader.old.depth ≡ 0) × (reader.old.locks ≡ 0) }
+    requires { (B.qsbr ≡ true) × (reader.old.core.depth ≡ 0) × (reader.old.core.locks ≡ 0) }
 {
     reader.online()?;
     let mut found = 0;
@@ -68,7 +68,7 @@ pub(crate) fn run<B: Site, R: Wait>(
     let mut reader = domain.register(rt, &mut record)?;
     let found = turns(&mut reader);
     domain.synchronize(rt, &mut record)?;
-    match domain.unregister(rt, &mut record, reader) {
+    match reader.unregister(&mut record) {
         Ok(()) => found,
         Err((refusal, _)) => Err(refusal),
     }

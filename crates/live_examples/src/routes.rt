@@ -52,8 +52,8 @@ impl<'d, B: Site> Routes<'d, B> {
 
     /// Where an address goes: the longest prefix leads. 0 where none does.
     fn next_hop(&self, section: &mut Section<'_, MembPlan, Tabled, B>, address: u64) -> u64
-        requires { (B.qsbr ≡ false) × (0 < section.old.reader.now.depth) }
-        ensures { (section.new.reader.ghost_name ≡ section.old.reader.ghost_name) × (section.new.reader.now.depth ≡ section.old.reader.now.depth) }
+        requires { (B.qsbr ≡ false) × (0 < section.old.reader.now.core.depth) }
+        ensures { (section.new.reader.ghost_name ≡ section.old.reader.ghost_name) × (section.new.reader.now.core.depth ≡ section.old.reader.now.core.depth) }
     {
         match self.longer.get(section, address & LONGER) {
             Some(hop) => hop,
@@ -172,7 +172,7 @@ pub(crate) fn look_up<B: Site, R: Wait>(
     let hops = changes(rt, alloc, &domain, &mut record, &mut reader);
     domain.close(rt, &mut record);
     work(rt, alloc, &domain, &mut record)?;
-    match domain.unregister(rt, &mut record, reader) {
+    match reader.unregister(&mut record) {
         Ok(()) => hops,
         Err((refusal, _)) => Err(refusal),
     }

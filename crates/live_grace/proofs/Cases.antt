@@ -1,5 +1,6 @@
 -- What each turn of the loop keeps.
 use Rattle.std.proofs.Common.{◌≡◌, ℕ, ◌+◌, ◌≤◌, ◌^◌, List, [], ◌∷◌, ◌++◌, Bool, true, false, sym, refl, ap, ◌∙◌, subst, inl, arith, true≢false}
+use Rattle.std.specs.Coded.{le_prop, ×_prop}
 use Rattle.atomic_table.specs.Table.{Me}
 use Rattle.gp_memb.specs.declared.plan.Action.{Action}
 use Rattle.gp_memb.specs.declared.plan.Action.TheVariants.{Load, LoadGroup, StorePhase, StoreSeq, Finished}
@@ -12,7 +13,7 @@ use Rattle.live_rule.specs.Places.{group_at, slot_at}
 use Rattle.live_table.specs.Rights.{looks_in, before_in, seq_in, present_in}
 use Rattle.live_log.specs.declared.event.LiveEvent.TheVariants.{Present, SeqOdd}
 use Rattle.live_grace.specs.Answers.{Gained, stored_by, stores_of}
-use Rattle.live_grace.specs.Going.{Going, IsLogged, Begun, WasTold}
+use Rattle.live_grace.specs.Going.{Going, InLoop, IsLogged, Begun, WasTold}
 use Rattle.live_log.specs.Log.{IsBound}
 use Rattle.live_grace.proofs.Tellings.{told_load, told_store}
 
@@ -29,7 +30,7 @@ same_present (StorePhase value) place loads n = absurd loads
 same_present (StoreSeq value) place loads n = absurd loads
 same_present Finished place loads n = absurd loads
 
-logged : (a : Action) (place : ℕ) → Loads a place → (word : ℕ) (looks : List (ℕ × ℕ)) → IsLogged ((place, word) ∷ looks) a word
+pub logged : (a : Action) (place : ℕ) → Loads a place → (word : ℕ) (looks : List (ℕ × ℕ)) → IsLogged ((place, word) ∷ looks) a word
 logged (Load k) place loads word looks = inl (ap (λ (i : ℕ). (i, word)) loads)
 logged (LoadGroup g) place loads word looks = inl (ap (λ (i : ℕ). (i, word)) loads)
 logged (StorePhase value) place loads word looks = absurd loads
@@ -84,13 +85,9 @@ module _ {P : Type 0} (is_begun : P → Type 0) (action : P → Action) (taken :
       },
     )
 
-  -- what holds between two turns
-  abbrev pub InLoop : {S : Type 0} → Bool → (Log → LiveEvent → Type 0) → Me S View → ℕ → P → Me S View → Type 0
-  InLoop qsbr allows old first plan now = Going qsbr allows old (seq + 1) first (present plan) (looks_in now.0.grace) now × Begun is_begun action taken plan (looks_in now.0.grace) (before_in now.0.grace) now.0.seen × IsBound qsbr (seq + 1) (present plan)
-
   -- a turn that led the seat on, and the plan
   pub in_loop : {S : Type 0} (qsbr : Bool) (allows : Log → LiveEvent → Type 0) (old : Me S View) (first number : ℕ) (looks : List (ℕ × ℕ)) (plan : P) (now : Me S View)
-      → Going qsbr allows old (seq + 1) first number looks now → number ≡ present plan → Begun is_begun action taken plan looks (before_in now.0.grace) now.0.seen → IsBound qsbr (seq + 1) number → InLoop qsbr allows old first plan now
+      → Going qsbr allows old (seq + 1) first number looks now → number ≡ present plan → Begun is_begun action taken plan looks (before_in now.0.grace) now.0.seen → IsBound qsbr (seq + 1) number → InLoop is_begun action taken present seq qsbr allows old first plan now
   in_loop qsbr allows old first number looks plan now go is b low = let same : looks_in now.0.grace ≡ looks = ap looks_in go.is in
       (subst (λ (z : ℕ × List (ℕ × ℕ)). Going qsbr allows old (seq + 1) first z.0 z.1 now) (λ i. (is i, sym same i)) go, subst (λ (ls : List (ℕ × ℕ)). Begun is_begun action taken plan ls (before_in now.0.grace) now.0.seen) (sym same) b, subst (IsBound qsbr (seq + 1)) is low)
 
@@ -110,6 +107,10 @@ bound_next true seq number b = omega arith
 pub bound_turn : (qsbr : Bool) (seq number value : ℕ) → MayBePresent qsbr seq number value → IsBound qsbr seq value
 bound_turn false seq number value t = t
 bound_turn true seq number value t = t.1
+
+pub may_prop : (qsbr : Bool) (seq present p : ℕ) → IsProp (MayBePresent qsbr seq present p)
+may_prop false seq present p = le_prop
+may_prop true seq present p = ×_prop le_prop le_prop
 
 pub at_most : (qsbr : Bool) (seq number : ℕ) → IsBound qsbr seq number → qsbr ≡ true → number ≤ seq
 at_most true seq number b q = b

@@ -6,12 +6,12 @@ use Rattle.gp_memb.specs.declared.plan.Action.TheVariants.{Load, LoadGroup, Stor
 use Rattle.gp_memb.specs.Plan.{after_loads}
 use Rattle.live_log.specs.declared.event.LiveEvent.{LiveEvent}
 use Rattle.live_log.specs.declared.event.LiveEvent.TheVariants.{SeqOdd}
-use Rattle.live_log.specs.Log.{Log, present_of, seq_of, IsLiveRun, Begins}
+use Rattle.live_log.specs.Log.{Log, present_of, seq_of, IsBound, IsLiveRun, Begins}
 use Rattle.live_rule.specs.declared.view.View.{View}
 use Rattle.live_rule.specs.declared.rights.GraceRight.TheVariants.{Works}
 use Rattle.live_rule.specs.Places.{group_at, slot_at}
 use Rattle.live_rule.specs.Steps.{Precedes, at_log}
-use Rattle.live_table.specs.Rights.{before_in}
+use Rattle.live_table.specs.Rights.{IsWorking, before_in, looks_in, present_in, seq_in}
 use Rattle.live_grace.specs.Answers.{Gained, stored_by}
 
 -- the period, with SEQ at q, began after `old`, when PHASE or NUM was `first`
@@ -54,3 +54,16 @@ pub record Begun {P : Type 0} (is_begun : P → Type 0) (action : P → Action) 
   pub start : P
   pub begun : is_begun start
   pub told : WasTold action taken start plan looks old log
+
+-- a grace period is going, between two turns of its plan
+abbrev pub InLoop : {P S : Type 0} → (P → Type 0) → (P → Action) → (P → ℕ → P) → (P → ℕ) → ℕ → Bool → (Log → LiveEvent → Type 0) → Me S View → ℕ → P → Me S View → Type 0
+InLoop is_begun action taken present seq qsbr allows old first plan now =
+    Going qsbr allows old (seq + 1) first (present plan) (looks_in now.0.grace) now × Begun is_begun action taken plan (looks_in now.0.grace) (before_in now.0.grace) now.0.seen × IsBound qsbr (seq + 1) (present plan)
+
+-- so of a seat at which the grace period began, whichever that was
+abbrev pub IsWithin : {P S : Type 0} → (P → Type 0) → (P → Action) → (P → ℕ → P) → (P → ℕ) → ℕ → Bool → (Log → LiveEvent → Type 0) → ℕ → P → Me S View → Type 0
+IsWithin {S = S} is_begun action taken present seq qsbr allows first plan now = ∥ ((old : Me S View) × InLoop is_begun action taken present seq qsbr allows old first plan now) ∥₁
+
+-- the seat's right within it
+abbrev pub WorksAt : ℕ → ℕ → View → Type 0
+WorksAt seq present v = IsWorking v × (seq_in v.grace ≡ seq + 1) × (present_in v.grace ≡ present)

@@ -1,11 +1,17 @@
-//! What a store of a group word tells.
-ghost use Rattle.live_groups.specs.Groups.{claimed, released};
+//! What a step on a group word tells.
+ghost use Rattle.live_groups.specs.Groups.{claimed, looked_group, released};
 
 use atomic_table::Play;
 use gp_memb::GracePlan;
 use live_log::ChainRule;
 use live_rule::View;
 use std::marker::PhantomData;
+
+pub(crate) struct LooksGroup<P, K>(PhantomData<(P, K)>);
+
+impl<P: GracePlan, K: ChainRule> Play<(), View> for LooksGroup<P, K> {
+    ghost then = { looked_group P.QSBR K.allows };
+}
 
 pub(crate) struct Claims<P, K>(PhantomData<(P, K)>);
 

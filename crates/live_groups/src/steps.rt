@@ -1,54 +1,69 @@
-//! One function for each kind of store of a group word.
+//! One function for each kind of step on a group word. None waits, and none tries again.
 ghost use Rattle.std.specs.Prelude.{◌≡◌, ◌/◌, ◌%◌, ◌<◌, true, false};
-ghost use Rattle.live_rule.specs.declared.rights.SlotRight.TheVariants.{Idle, Owns};
-ghost use Rattle.live_rule.specs.Readers.{IsClosed};
 ghost use Rattle.gp_memb.specs.Plan.{bit_of};
-ghost use Rattle.live_table.specs.Steps.{Keeps};
-ghost use Rattle.live_table.specs.Rights.{HasGroups, IsIdle, IsOwner, count_in, word_in};
-ghost use Rattle.live_groups.specs.Groups.{DiffersAt, Regrouped, group_word};
+ghost use Rattle.live_rule.specs.Places.{group_at};
+ghost use Rattle.live_rule.specs.Readers.{IsClosed};
+ghost use Rattle.live_table.specs.Rights.{IsOwner, word_in};
+ghost use Rattle.live_table.specs.Steps.{Keeps, Went, looked_view};
+ghost use Rattle.live_groups.specs.Groups.{GivesSlot, TakesSlot};
 
-use crate::plays::{Claims, Releases};
+use crate::masks::{all_bits_but, bit_alone};
+use crate::plays::{Claims, LooksGroup, Releases};
 use gp_memb::GracePlan;
 use live_log::ChainRule;
 use live_rule::LiveSeat;
 use live_table::LiveTable;
 
-/// The store that sets the bit of an idle slot, before its reader is handed out. From here on sections may be opened in
-/// the slot.
-pub fn store_set<P: GracePlan, K: ChainRule>(
+/// Loads the word of a group of 64 slots. What it found is kept among the looks.
+pub fn look_group<P: GracePlan, K: ChainRule>(
     table: &LiveTable<P, K>,
     seat: &mut LiveSeat,
-    slot: usize,
-    word: u64,
-)
-    requires seat { (seat.old.table_id ≡ table.now.words.shared.table_id) × (slot < table.now.slots) }
-    requires right { IsIdle seat.old.me.0 slot × HasGroups seat.old.me.0 }
-    requires word { DiffersAt slot (group_word seat.old.me.0 slot) word × (bit_of word (slot % 64) ≡ true) }
+    group: usize,
+) -> u64
+    requires { (seat.old.table_id ≡ table.now.words.shared.table_id) × (group < 4) }
     ensures seat { Keeps seat.old seat.new }
-    ensures claimed { Regrouped P.QSBR K.allows slot word (Owns slot (word_in seat.old.me.0.slot) (count_in seat.old.me.0.slot)) seat.old.me seat.new.me }
+    ensures looked { Went P.QSBR K.allows (looked_view (group_at group) result seat.old.me.0) seat.old.me seat.new.me }
 {
-    let place = table.group_place(slot / 64);
-    table.words.shared.store::<Claims<P, K>>(seat, place, word);
+    let place = table.group_place(group);
+    table.words.shared.load::<LooksGroup<P, K>>(seat, place)
 }
 
-/// The store that clears the bit of a slot, once its reader's word is closed. From here on no section may be opened
-/// there.
-pub fn store_clear<P: GracePlan, K: ChainRule>(
+/// Sets the bit of a slot in its group word, and answers the word that it found, which is kept among the looks. Where
+/// the bit was 0 the slot is the seat's: its word is closed, and no section is open in it. Else another has it.
+pub fn claim<P: GracePlan, K: ChainRule>(
     table: &LiveTable<P, K>,
     seat: &mut LiveSeat,
     slot: usize,
-    word: u64,
-)
-    requires seat { (seat.old.table_id ≡ table.now.words.shared.table_id) × (slot < table.now.slots) }
-    requires right { IsOwner seat.old.me.0 slot × IsClosed P.QSBR (word_in seat.old.me.0.slot) × HasGroups seat.old.me.0 }
-    requires word { DiffersAt slot (group_word seat.old.me.0 slot) word × (bit_of word (slot % 64) ≡ false) }
+) -> u64
+    requires { (seat.old.table_id ≡ table.now.words.shared.table_id) × (slot < table.now.slots) }
     ensures seat { Keeps seat.old seat.new }
-    ensures was_set { bit_of (group_word seat.old.me.0 slot) (slot % 64) ≡ true }
-    ensures released { Regrouped P.QSBR K.allows slot word (Idle slot (word_in seat.old.me.0.slot) (count_in seat.old.me.0.slot)) seat.old.me seat.new.me }
+    ensures claimed { bit_of result (slot % 64) ≡ false → TakesSlot P.QSBR K.allows slot result seat.old.me seat.new.me }
+    ensures missed { bit_of result (slot % 64) ≡ true → Went P.QSBR K.allows (looked_view (group_at (slot / 64)) result seat.old.me.0) seat.old.me seat.new.me }
 {
+    let mask = bit_alone(slot % 64);
     let place = table.group_place(slot / 64);
     table
         .words
         .shared
-        .store::<Releases<P, K>>(seat, place, word);
+        .fetch_or::<Claims<P, K>>(seat, place, mask)
+}
+
+/// Clears the bit of the seat's slot, whose word is closed, in its group word: from here on the slot is nobody's. The
+/// bit was set, and the word that this leaves is kept among the looks.
+pub fn release<P: GracePlan, K: ChainRule>(
+    table: &LiveTable<P, K>,
+    seat: &mut LiveSeat,
+    slot: usize,
+)
+    requires seat { (seat.old.table_id ≡ table.now.words.shared.table_id) × (slot < table.now.slots) }
+    requires right { IsOwner seat.old.me.0 slot × IsClosed P.QSBR (word_in seat.old.me.0.slot) }
+    ensures seat { Keeps seat.old seat.new }
+    ensures released { GivesSlot P.QSBR K.allows slot seat.old.me seat.new.me }
+{
+    let mask = all_bits_but(slot % 64);
+    let place = table.group_place(slot / 64);
+    table
+        .words
+        .shared
+        .fetch_and::<Releases<P, K>>(seat, place, mask);
 }

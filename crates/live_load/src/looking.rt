@@ -140,7 +140,7 @@ pub(crate) fn looks<P: GracePlan + Drop, B: Site, R: Wait + Clock, W: Watch>(
     }
     let key = number as u64 % u64::from(shared.load.updaters);
     let wrong = sections(rt, shared, &mut reader, view, mark, key);
-    match shared.domain.unregister(rt, record, reader) {
+    match reader.unregister(record) {
         Ok(()) => wrong,
         Err((refusal, _)) => Err(refusal),
     }

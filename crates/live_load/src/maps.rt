@@ -171,7 +171,7 @@ pub fn look<P: GracePlan, B: Site>(
     view: &View<B>,
     key: u64,
 ) -> Option<u64>
-    requires { (P.QSBR ≡ B.qsbr) × (0 < section.old.reader.now.depth) }
+    requires { (P.QSBR ≡ B.qsbr) × (0 < section.old.reader.now.core.depth) }
 {
     match view {
         View::List(list) => list.get(section, key),
@@ -185,7 +185,7 @@ pub fn walk<P: GracePlan, B: Site, F: FnMut(u64, u64)>(
     view: &View<B>,
     visit: &mut F,
 )
-    requires open_section { (P.QSBR ≡ B.qsbr) × (0 < section.old.reader.now.depth) }
+    requires open_section { (P.QSBR ≡ B.qsbr) × (0 < section.old.reader.now.core.depth) }
     requires callable { F.IsAlwaysCallable visit.old }
 {
     match view {

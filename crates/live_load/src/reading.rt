@@ -35,8 +35,8 @@ fn one_section<P: GracePlan, B: Site>(
     reader: &mut Reader<P, AnyChain, B>,
     chain: usize,
 ) -> Result<bool, Refusal>
-    requires { (P.QSBR ≡ B.qsbr) × (reader.old.depth ≡ 0) × (reader.old.locks ≡ 0) }
-    ensures { (reader.new.depth ≡ 0) × (reader.new.locks ≡ 0) }
+    requires { (P.QSBR ≡ B.qsbr) × (reader.old.core.depth ≡ 0) × (reader.old.core.locks ≡ 0) }
+    ensures { (reader.new.core.depth ≡ 0) × (reader.new.core.locks ≡ 0) }
 {
     let mut section = reader.section()?;
     let mixed = match section.first(chain) {
@@ -56,8 +56,8 @@ fn sections<P: GracePlan, B: Site, R: Clock>(
     load: &Load,
     deadline: &Deadline,
 ) -> Result<u64, Refusal>
-    requires { (P.QSBR ≡ B.qsbr) × (reader.old.depth ≡ 0) × (reader.old.locks ≡ 0) × (0 < load.now.updaters) }
-    ensures idle { (reader.new.depth ≡ 0) × (reader.new.locks ≡ 0) }
+    requires { (P.QSBR ≡ B.qsbr) × (reader.old.core.depth ≡ 0) × (reader.old.core.locks ≡ 0) × (0 < load.now.updaters) }
+    ensures idle { (reader.new.core.depth ≡ 0) × (reader.new.core.locks ≡ 0) }
     ensures count { IfOk result (λ mixed. mixed ≤ load.now.rounds) }
 {
     let mut mixed = 0;
@@ -92,7 +92,7 @@ pub(crate) fn reads<P: GracePlan + Drop, B: Site, R: Wait + Clock>(
         reader.online()?;
     }
     let mixed = sections(rt, &mut reader, load, deadline);
-    match domain.unregister(rt, record, reader) {
+    match reader.unregister(record) {
         Ok(()) => mixed,
         Err((refusal, _)) => Err(refusal),
     }

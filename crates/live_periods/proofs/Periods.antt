@@ -74,7 +74,7 @@ module _ {S : Type 0} (qsbr : Bool) (allows : Log → LiveEvent → Type 0) (key
     at_load me.0 r.log,
     keeps,
     tt,
-    looks qsbr allows key s r id seq_at me.0 (at_load me.0 r.log) at refl refl (look_all qsbr allows key s r id me.0 (at_load me.0 r.log) at (refl, refl, refl, refl, refl, refl, refl)),
+    looks qsbr allows key s r id seq_at me.0 (at_load me.0 r.log) at refl refl (look_all qsbr allows key s r id me.0 (at_load me.0 r.log) at (refl, refl, refl, refl, refl, refl)),
     ((refl, told s r [] at r.run), sym r.agree.readers.seq, λ c. let k = known r.log s.words me.0.grace c (r.knows grace id me.0 at c) in (r.agree.readers.seq ∙ k.0, k.1)),
   )
 

@@ -45,7 +45,7 @@ module _ {S : Type 0} (qsbr : Bool) (allows : Log → LiveEvent → Type 0) (key
   guards_stay s r q k x low small = guards_far key s.words (set s.words (queued_at key q + k) x) (λ c l. far s q k x low (omega arith) (hold_at key c) (λ z. omega arith)) (λ e l. far s q k x low (omega arith) (work_at key e) (λ z. omega arith)) r.agree.holds
 
   -- a store of a queue's word, with no event of objects
-  pub own_word : (s : State S View) (r : Rule s) (id q k x : ℕ) (v w : View) (log : Log) (at : get_elem? s.views id ≡ lists.some v) → q < key.queues → k < 32 → Calm r.log log → IsLiveRun qsbr allows log → (w.seen ≡ log) × (w.heard ≡ v.heard) × (w.slot ≡ v.slot) × (w.groups ≡ v.groups) × (w.grace ≡ v.grace) → (w.object ≡ v.object) × (w.chains ≡ v.chains)
+  pub own_word : (s : State S View) (r : Rule s) (id q k x : ℕ) (v w : View) (log : Log) (at : get_elem? s.views id ≡ lists.some v) → q < key.queues → k < 32 → Calm r.log log → IsLiveRun qsbr allows log → (w.seen ≡ log) × (w.heard ≡ v.heard) × (w.slot ≡ v.slot) × (w.grace ≡ v.grace) → (w.object ≡ v.object) × (w.chains ≡ v.chains)
       → objects_of log ≡ objects_of r.log → ((c : ℕ) → chain_note c log ≡ chain_note c r.log) → QueueWords key log (set s.words (queued_at key q + k) x) → HoldWords key (set s.words (queued_at key q + k) x)
       → QueueStep qsbr allows key s r id (queued_at key q + k) x v w log at → WorkStep qsbr allows key s r id (queued_at key q + k) x v w log at
       → Rule record { words = set s.words (queued_at key q + k) x; homes = s.homes; views = set s.views id w }
@@ -59,7 +59,7 @@ module _ {S : Type 0} (qsbr : Bool) (allows : Log → LiveEvent → Type 0) (key
     w,
     keeps,
     tt,
-    looks qsbr allows key s r id a v w at refl refl (look_all qsbr allows key s r id v w at (refl, refl, refl, refl, refl, refl, refl)),
+    looks qsbr allows key s r id a v w at refl refl (look_all qsbr allows key s r id v w at (refl, refl, refl, refl, refl, refl)),
     (
       (refl, refl, (b.0, b.1, r.run)),
       (λ q high. r.agree.lines.beyond q (subst (λ (k : Sizes). k.queues ≤ q) sizes high)),

@@ -58,7 +58,7 @@ module _ {S : Type 0} (qsbr : Bool) (allows : Log → LiveEvent → Type 0) (key
         keeps,
         tt,
         subst (λ (i : ℕ). Rule record { words = set s.words i 1; homes = s.homes; views = set s.views id w }) (sym a_is)
-            (own_word qsbr allows key s r id q 1 1 v w log at low (omega arith) (calm_close q r.log) run (refl, refl, refl, refl, refl) (refl, refl) refl (λ _. refl)
+            (own_word qsbr allows key s r id q 1 1 v w log at low (omega arith) (calm_close q r.log) run (refl, refl, refl, refl) (refl, refl) refl (λ _. refl)
             (record {
               notes = λ c l. far qsbr allows key s q 1 1 low (omega arith) (note_at key c) (λ z. omega arith) ∙ r.agree.lines.notes c l;
               queued = λ e l. far qsbr allows key s q 1 1 low (omega arith) (queued_at key e) (λ z. omega arith) ∙ r.agree.lines.queued e l;
@@ -111,7 +111,7 @@ module _ {S : Type 0} (qsbr : Bool) (allows : Log → LiveEvent → Type 0) (key
         keeps,
         tt,
         subst (λ (m : ℕ). Rule record { words = set s.words m x; homes = s.homes; views = set s.views id w }) (sym a_is)
-            (stores qsbr allows key s r id a0 x v w log at (calm_object (Queue o q) r.log) run (omega arith) (refl, refl, refl, refl, refl)
+            (stores qsbr allows key s r id a0 x v w log at (calm_object (Queue o q) r.log) run (omega arith) (refl, refl, refl, refl)
             (heap_beside key was now s.words W (record {
               leads = leads_queued r.log o q;
               note = λ _. refl;

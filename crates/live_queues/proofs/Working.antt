@@ -60,7 +60,7 @@ module _ {S : Type 0} (qsbr : Bool) (allows : Log → LiveEvent → Type 0) (key
         keeps,
         tt,
         subst (λ (i : ℕ). Rule record { words = set s.words i 1; homes = s.homes; views = set s.views id w }) (sym a_is)
-            (own_word qsbr allows key s r id q 17 1 v w r.log at low (omega arith) (calm_same r.log) r.run (refl, refl, refl, refl, refl) (refl, refl) refl (λ _. refl) (lines_stay qsbr allows key s r q 1 low) (guards_work qsbr allows key s r q 1 low (omega arith))
+            (own_word qsbr allows key s r id q 17 1 v w r.log at low (omega arith) (calm_same r.log) r.run (refl, refl, refl, refl) (refl, refl) refl (λ _. refl) (lines_stay qsbr allows key s r q 1 low) (guards_work qsbr allows key s r q 1 low (omega arith))
             (queues_kept qsbr allows key s r id (queued_at key q + 17) 1 v w r.log at refl (λ e l. (far qsbr allows key s q 17 1 low (omega arith) (queued_at key e) (λ z. omega arith), far qsbr allows key s q 17 1 low (omega arith) (closed_at key e) (λ z. omega arith))))
             (record {
               others = λ e y claim _ k. let ne : e ≢ q = λ is. free y (subst (ClaimsWork y) is claim) k in
@@ -73,7 +73,7 @@ module _ {S : Type 0} (qsbr : Bool) (allows : Log → LiveEvent → Type 0) (key
         ((λ _ e l is. let same : q ≡ e = same_queue e is in ((refl, (λ i. record (looked_view a m v) { seen = r.log; work = work_right.Works (same i) f }), (b.0, b.1, r.run)), subst (λ (n : ℕ). HaveRun n f r.log) same (r.agree.lines.done q low))), (λ ne. absurd (ne found)), guard),
       ))
       (λ ne. let w : View = record (looked_view a m v) { seen = r.log } in
-      (w, keeps, tt, looks qsbr allows key s r id a v w at refl refl (look_all qsbr allows key s r id v w at (refl, refl, refl, refl, refl, refl, refl)), ((λ found. absurd (ne found)), (λ _. (refl, refl, (b.0, b.1, r.run))), guard)))
+      (w, keeps, tt, looks qsbr allows key s r id a v w at refl refl (look_all qsbr allows key s r id v w at (refl, refl, refl, refl, refl, refl)), ((λ found. absurd (ne found)), (λ _. (refl, refl, (b.0, b.1, r.run))), guard)))
     where
       same_queue : (e : ℕ) → a ≡ work_at me.0.sizes e → q ≡ e
       same_queue e is = let z : a ≡ work_at key e = is ∙ ap (λ (k : Sizes). work_at k e) sizes in omega arith
@@ -93,7 +93,7 @@ module _ {S : Type 0} (qsbr : Bool) (allows : Log → LiveEvent → Type 0) (key
         keeps,
         tt,
         subst (λ (i : ℕ). Rule record { words = set s.words i x; homes = s.homes; views = set s.views id w }) (sym a_is)
-            (own_word qsbr allows key s r id q 17 x v w r.log at low (omega arith) (calm_same r.log) r.run (refl, refl, refl, refl, refl) (refl, refl) refl (λ _. refl) (lines_stay qsbr allows key s r q x low) (guards_work qsbr allows key s r q x low small)
+            (own_word qsbr allows key s r id q 17 x v w r.log at low (omega arith) (calm_same r.log) r.run (refl, refl, refl, refl) (refl, refl) refl (λ _. refl) (lines_stay qsbr allows key s r q x low) (guards_work qsbr allows key s r q x low small)
             (queues_kept qsbr allows key s r id (queued_at key q + 17) x v w r.log at refl (λ e l. (far qsbr allows key s q 17 x low (omega arith) (queued_at key e) (λ z. omega arith), far qsbr allows key s q 17 x low (omega arith) (closed_at key e) (λ z. omega arith))))
             (record {
               others = λ e y claim ne k. let other : e ≢ q = λ e_is. ne (at_work v is e (sym e_is)) in
@@ -122,7 +122,7 @@ module _ {S : Type 0} (qsbr : Bool) (allows : Log → LiveEvent → Type 0) (key
         keeps,
         tt,
         subst (λ (i : ℕ). Rule record { words = set s.words i x; homes = s.homes; views = set s.views id w }) (sym a_is)
-            (own_word qsbr allows key s r id q 16 x v w r.log at low (omega arith) (calm_same r.log) r.run (refl, refl, refl, refl, refl) (refl, refl) refl (λ _. refl)
+            (own_word qsbr allows key s r id q 16 x v w r.log at low (omega arith) (calm_same r.log) r.run (refl, refl, refl, refl) (refl, refl) refl (λ _. refl)
             (record {
               notes = λ c l. far qsbr allows key s q 16 x low (omega arith) (note_at key c) (λ z. omega arith) ∙ r.agree.lines.notes c l;
               queued = λ e l. far qsbr allows key s q 16 x low (omega arith) (queued_at key e) (λ z. omega arith) ∙ r.agree.lines.queued e l;

@@ -1,4 +1,5 @@
 -- What the steps on a reader's word tell of its section.
+use Rattle.gp_memb.specs.declared.plan.GracePlan as plan
 use Rattle.std.proofs.Common.{◌≡◌, ◌≢◌, ℕ, zero, suc, ◌+◌, ◌-◌, Bool, true, false, [], Ok, sym, refl, ap, ◌∙◌, subst, arith, true≢false}
 use mathlib.Core.Option.{Option, none, some}
 use native.Mathlib.Numerals.{unary_clauses}
@@ -14,8 +15,7 @@ use Rattle.live_rule.specs.declared.view.View.{View}
 use Rattle.live_rule.specs.Readers.{Fits, IsClosed}
 use Rattle.live_table.specs.Rights.{count_in}
 use Rattle.live_readers.specs.Sections.{Announced, Closed, CopiedBefore, Nested, Opened, Stored, announces, opens}
-use Rattle.live_read.specs.declared.reader.Reader.{Reader}
-use Rattle.live_read.specs.declared.site.Site.{Ghosts}
+use Rattle.live_read.specs.declared.reader_core.ReaderCore.{ReaderCore}
 use Rattle.live_read.specs.Holding.{KeepsHeld, log_of, ordinal, section_of}
 use Rattle.live_read.specs.Sections.{IsIn, Enters, Leaves, GoesOnline, Announces}
 use Rattle.live_read.proofs.Leaving.{wrote_later}
@@ -38,9 +38,9 @@ pub deeper : (w new d : ℕ) (phase : Bool) → count_of Wide w ≡ d → entere
 deeper w new zero phase e made = (entered_of-opens Wide w phase new e made).0
 deeper w new (suc d) phase e made = (entered_of-nests Wide w phase new (λ z. absurd (omega arith)) made).count ∙ ap (λ n. n + 1) e
 
-module _ {P K B : Type 0} {g : Ghosts B} (qsbr : Bool) (allows : Log → LiveEvent → Type 0) where
+module _ {P K : Type 0} {g : plan.Ghosts P} (qsbr : Bool) (allows : Log → LiveEvent → Type 0) where
   -- the reader is in the section that the word which it stored stands for
-  stored_in : (s : Reader P K B g) (q x count : ℕ) (events : Log) (m : Me Unit View) → s.slot ≡ q → Stored qsbr allows q x count events m s.seat.me → (IsClosed qsbr x → ⊥) → IsIn s
+  stored_in : (s : ReaderCore P K g) (q x count : ℕ) (events : Log) (m : Me Unit View) → s.slot ≡ q → Stored qsbr allows q x count events m s.seat.me → (IsClosed qsbr x → ⊥) → IsIn s
   stored_in s q x count events m slot st stands =
       let at = subst (λ (z : ℕ). Fits qsbr x (open_of z (log_of s))) (sym slot) st.2.0 in
       let o = fits_some qsbr x (open_of s.slot (log_of s)) at stands in
@@ -55,12 +55,12 @@ module _ {P K B : Type 0} {g : Ghosts B} (qsbr : Bool) (allows : Log → LiveEve
       }
 
   -- an inner lock leaves what is held
-  nested_keeps : (r s : Reader P K B g) → s.slot ≡ r.slot → Nested qsbr allows r.slot s.word r.seat.me s.seat.me → KeepsHeld r s
+  nested_keeps : (r s : ReaderCore P K g) → s.slot ≡ r.slot → Nested qsbr allows r.slot s.word r.seat.me s.seat.me → KeepsHeld r s
   nested_keeps r s slot st =
       let count : ordinal s ≡ ordinal r = simp unary_clauses at (ap (λ (me : Me Unit View). count_in me.0.slot) st.0) in
-      held_later qsbr allows r s slot count (wrote_later qsbr allows r.seat.me.0 [] (log_of s) st.1) st.1.4
+      held_later qsbr allows r s slot (ap (λ (me : Me Unit View). me.0.sizes) st.0) count (wrote_later qsbr allows r.seat.me.0 [] (log_of s) st.1) st.1.4
 
-  pub enters : (r s : Reader P K B g) → qsbr ≡ false → s.slot ≡ r.slot → s.depth ≡ r.depth + 1 → count_of Wide r.word ≡ r.depth → (phase : Bool) → entered_of Wide r.word phase ≡ Ok s.word
+  pub enters : (r s : ReaderCore P K g) → qsbr ≡ false → s.slot ≡ r.slot → s.depth ≡ r.depth + 1 → count_of Wide r.word ≡ r.depth → (phase : Bool) → entered_of Wide r.word phase ≡ Ok s.word
       → (count_of Wide r.word ≡ 0 → Opened qsbr allows r.slot s.word r.seat.me s.seat.me)
       → (count_of Wide r.word ≡ 0 → CopiedBefore qsbr allows r.slot s.word r.seat.me s.seat.me (opens qsbr r.slot (ordinal r) s.word))
       → (count_of Wide r.word ≢ 0 → Nested qsbr allows r.slot s.word r.seat.me s.seat.me) → Enters qsbr allows r s
@@ -80,7 +80,7 @@ module _ {P K B : Type 0} {g : Ghosts B} (qsbr : Bool) (allows : Log → LiveEve
       by_depth zero e = stored_in s r.slot s.word (ordinal r + 1) (opens qsbr r.slot (ordinal r) s.word) r.seat.me slot (outermost (counted ∙ e)) stands
       by_depth (suc d) e = stored_in s r.slot s.word (ordinal r + 0) [] r.seat.me slot (inner (λ z. absurd (omega arith))) stands
 
-  pub leaves : (r s : Reader P K B g) → qsbr ≡ false → s.slot ≡ r.slot → s.depth ≡ r.depth - 1 → count_of Wide r.word ≡ r.depth → left_of Wide r.word ≡ Ok s.word
+  pub leaves : (r s : ReaderCore P K g) → qsbr ≡ false → s.slot ≡ r.slot → s.depth ≡ r.depth - 1 → count_of Wide r.word ≡ r.depth → left_of Wide r.word ≡ Ok s.word
       → (count_of Wide s.word ≡ 0 → Closed qsbr allows r.slot s.word r.seat.me s.seat.me)
       → (count_of Wide s.word ≢ 0 → Nested qsbr allows r.slot s.word r.seat.me s.seat.me) → Leaves qsbr allows r s
   leaves r s flavour slot depth counted made outermost inner =
@@ -93,7 +93,7 @@ module _ {P K B : Type 0} {g : Ghosts B} (qsbr : Bool) (allows : Log → LiveEve
         inner = λ l. let n : count_of Wide s.word ≢ 0 = λ z. absurd (omega arith) in (inner n, stored_in s r.slot s.word (ordinal r + 0) [] r.seat.me slot (inner n) (locked qsbr flavour s.word n));
       }
 
-  pub goes_online : (r s : Reader P K B g) → qsbr ≡ true → r.word ≡ 0 → s.slot ≡ r.slot → s.depth ≡ r.depth → s.locks ≡ r.locks → s.word ≢ 0
+  pub goes_online : (r s : ReaderCore P K g) → qsbr ≡ true → r.word ≡ 0 → s.slot ≡ r.slot → s.depth ≡ r.depth → s.locks ≡ r.locks → s.word ≢ 0
       → Opened qsbr allows r.slot s.word r.seat.me s.seat.me
       → CopiedBefore qsbr allows r.slot s.word r.seat.me s.seat.me (opens qsbr r.slot (ordinal r) s.word) → GoesOnline qsbr allows r s
   goes_online r s flavour was slot depth locks word opened copied = record {
@@ -104,7 +104,7 @@ module _ {P K B : Type 0} {g : Ghosts B} (qsbr : Bool) (allows : Log → LiveEve
     inside = stored_in s r.slot s.word (ordinal r + 1) (opens qsbr r.slot (ordinal r) s.word) r.seat.me slot opened (online qsbr flavour s.word word);
   }
 
-  pub announces_now : (r s : Reader P K B g) → qsbr ≡ true → r.word ≢ 0 → r.depth ≡ 0 → s.slot ≡ r.slot → s.depth ≡ r.depth → s.locks ≡ r.locks → s.word ≢ 0
+  pub announces_now : (r s : ReaderCore P K g) → qsbr ≡ true → r.word ≢ 0 → r.depth ≡ 0 → s.slot ≡ r.slot → s.depth ≡ r.depth → s.locks ≡ r.locks → s.word ≢ 0
       → Announced qsbr allows r.slot s.word r.seat.me s.seat.me
       → CopiedBefore qsbr allows r.slot s.word r.seat.me s.seat.me (announces qsbr r.slot (ordinal r) s.word) → Announces qsbr allows r s
   announces_now r s flavour was none_open slot depth locks word announced copied = record {

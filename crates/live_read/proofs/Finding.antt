@@ -1,4 +1,5 @@
 -- What a load tells a reader in a section.
+use Rattle.gp_memb.specs.declared.plan.GracePlan as plan
 use Rattle.std.proofs.Common.{◌≡◌, ℕ, ◌-◌, ◌<◌, Bool, true, false, Option, Some, None, sym, refl, ap, ◌∙◌, subst, inl, arith}
 use mathlib.Core.Option.{some}
 use Rattle.rcu_model.specs.declared.event.ObjectId.{ObjectId}
@@ -11,14 +12,14 @@ use Rattle.reader_word.specs.Word.{count_of}
 use Rattle.live_log.specs.declared.event.LiveEvent.{LiveEvent}
 use Rattle.live_log.specs.Log.{Log, Begins, WasLinked, Objects, Follows, open_of, section, state_of, note_of, objects_of}
 use Rattle.live_log.proofs.Lemmas.{begins_trans, first_linked, inside_open, is_open}
+use Rattle.live_rule.specs.declared.view.Sizes.{Sizes}
 use Rattle.live_rule.specs.declared.view.View.{View}
 use Rattle.live_rule.specs.Objects.{ref}
 use Rattle.live_rule.specs.Readers.{IsClosed}
 use Rattle.live_table.specs.Rights.{count_in}
 use Rattle.live_table.specs.Steps.{IsNow, IsLater}
 use Rattle.live_words.specs.Chains.{IsInSection, IsNext, MayRead}
-use Rattle.live_read.specs.declared.reader.Reader.{Reader}
-use Rattle.live_read.specs.declared.site.Site.{Ghosts}
+use Rattle.live_read.specs.declared.reader_core.ReaderCore.{ReaderCore}
 use Rattle.live_read.specs.Holding.{MayHold, MayHoldIn, log_of, ordinal, section_of}
 use Rattle.live_read.specs.Reads.{FindsFirst, FindsNext, Looks}
 use Rattle.live_read.proofs.Staying.{held_in, held_later}
@@ -36,15 +37,15 @@ stands_open : (qsbr site : Bool) (w d : ℕ) → qsbr ≡ site → (site ≡ fal
 stands_open false site w d e general quiet above closed = let c = general (sym e) in omega arith
 stands_open true site w d e general quiet above closed = let c = quiet (sym e) closed in omega arith
 
-module _ {P K B : Type 0} {g : Ghosts B} (qsbr : Bool) (allows : Log → LiveEvent → Type 0) where
+module _ {P K : Type 0} {g : plan.Ghosts P} (qsbr : Bool) (allows : Log → LiveEvent → Type 0) where
   -- the reader's word stands for its section
-  pub stands : (r : Reader P K B g) → qsbr ≡ g.qsbr → 0 < r.depth → IsInSection qsbr r.seat.me.0 r.slot (ordinal r)
-  stands r e above = (r.owns.0, subst (λ (w : ℕ). IsClosed qsbr w → ⊥) (sym r.owns.1) (stands_open qsbr g.qsbr r.word r.depth e r.counted.0 r.counted.1 above), refl)
+  pub stands : (r : ReaderCore P K g) → qsbr ≡ g.QSBR → 0 < r.depth → IsInSection qsbr r.seat.me.0 r.slot (ordinal r)
+  stands r e above = (r.owns.0, subst (λ (w : ℕ). IsClosed qsbr w → ⊥) (sym r.owns.1) (stands_open qsbr g.QSBR r.word r.depth e r.counted.0 r.counted.1 above), refl)
 
-  pub may_read : (r : Reader P K B g) (o : ObjectId) (cell : ℕ) → qsbr ≡ g.qsbr → 0 < r.depth → MayHold r o cell → MayRead qsbr r.seat.me.0 o cell
+  pub may_read : (r : ReaderCore P K g) (o : ObjectId) (cell : ℕ) → qsbr ≡ g.QSBR → 0 < r.depth → MayHold r o cell → MayRead qsbr r.seat.me.0 o cell
   may_read r o cell e above x = (x.lies, inl (r.slot, ordinal r, stands r e above, x.was_linked))
 
-  pub looks : (r s : Reader P K B g) → s.slot ≡ r.slot → s.word ≡ r.word → s.depth ≡ r.depth → s.locks ≡ r.locks → IsNow r.seat.me.0 s.seat.me.0 → IsLater qsbr allows r.seat.me.0 s.seat.me.0 → IsOpen (state_of (log_of s)) (section_of r) → Looks qsbr allows r s
+  pub looks : (r s : ReaderCore P K g) → s.slot ≡ r.slot → s.word ≡ r.word → s.depth ≡ r.depth → s.locks ≡ r.locks → IsNow r.seat.me.0 s.seat.me.0 → IsLater qsbr allows r.seat.me.0 s.seat.me.0 → IsOpen (state_of (log_of s)) (section_of r) → Looks qsbr allows r s
   looks r s slot word depth locks now later is =
       let number : ordinal s ≡ ordinal r = ap (λ (v : View). count_in v.slot) now in
       let one : section_of s ≡ section_of r = (λ i. section (slot i) (number i)) in
@@ -60,11 +61,11 @@ module _ {P K B : Type 0} {g : Ghosts B} (qsbr : Bool) (allows : Log → LiveEve
           inside = is_open qsbr allows (log_of s) s.slot (ordinal s) here.0 later.2 at;
           is_open = subst (λ (t : SectionId). IsOpen (state_of (log_of s)) t) (sym one) is;
         };
-        keeps = held_later qsbr allows r s slot number later.0 later.2;
+        keeps = held_later qsbr allows r s slot (ap (λ (v : View). v.sizes) now) number later.0 later.2;
       }
 
   -- one load after another
-  pub looks_twice : (r s t : Reader P K B g) → Looks qsbr allows r s → Looks qsbr allows s t → Looks qsbr allows r t
+  pub looks_twice : (r s t : ReaderCore P K g) → Looks qsbr allows r s → Looks qsbr allows s t → Looks qsbr allows r t
   looks_twice r s t a b = record {
     same = (b.same.0 ∙ a.same.0, b.same.1 ∙ a.same.1, b.same.2 ∙ a.same.2, b.same.3 ∙ a.same.3, b.same.4 ∙ a.same.4);
     later = record {
@@ -80,25 +81,25 @@ module _ {P K B : Type 0} {g : Ghosts B} (qsbr : Bool) (allows : Log → LiveEve
     };
   }
 
-  pub held_on : (r s : Reader P K B g) (cell : ℕ) → Looks qsbr allows r s → MayHoldIn r cell → MayHoldIn s cell
+  pub held_on : (r s : ReaderCore P K g) (cell : ℕ) → Looks qsbr allows r s → MayHoldIn r cell → MayHoldIn s cell
   held_on r s cell l = held_in r s cell l.keeps
 
-  pub first_none : (s : Reader P K B g) (c n : ℕ) → n ≡ ref (objects_of (log_of s)) (first_of ((objects_of (log_of s)).chain c)) → n ≡ 0 → FindsFirst s c None
+  pub first_none : (s : ReaderCore P K g) (c n : ℕ) → n ≡ ref (objects_of (log_of s)) (first_of ((objects_of (log_of s)).chain c)) → n ≡ 0 → FindsFirst s c None
   first_none s c n e z = ref_none (objects_of (log_of s)) (first_of ((objects_of (log_of s)).chain c)) n e z
 
-  pub first_some : (s : Reader P K B g) (c n pool : ℕ) → pool ≡ g.sizes.pool → IsOpen (state_of (log_of s)) (section_of s) → n ≡ ref (objects_of (log_of s)) (first_of ((objects_of (log_of s)).chain c)) → (n ≡ 0 → ⊥)
+  pub first_some : (s : ReaderCore P K g) (c n pool : ℕ) → pool ≡ s.seat.me.0.sizes.pool → IsOpen (state_of (log_of s)) (section_of s) → n ≡ ref (objects_of (log_of s)) (first_of ((objects_of (log_of s)).chain c)) → (n ≡ 0 → ⊥)
       → ((o : ObjectId) → first_of ((objects_of (log_of s)).chain c) ≡ Some o → (note_of (log_of s) o).0 < pool) → (o : ObjectId) × FindsFirst s c (Some o) × MayHold s o (n - 1)
   first_some s c n pool size is e z low =
       let x = ref_some (objects_of (log_of s)) (first_of ((objects_of (log_of s)).chain c)) n e z in
       (x.0, x.1, record { was_linked = first_linked (log_of s) (section_of s) c x.0 is x.1; lies = x.2; low = subst (λ (k : ℕ). n - 1 < k) size (subst (λ (k : ℕ). k < pool) x.2 (low x.0 x.1)) })
 
-  module _ (r : Reader P K B g) (w : View) (n cell : ℕ) (e : qsbr ≡ g.qsbr) (above : 0 < r.depth)
+  module _ (r : ReaderCore P K g) (w : View) (n cell : ℕ) (e : qsbr ≡ g.QSBR) (above : 0 < r.depth)
       (tells : (o : ObjectId) → MayRead qsbr r.seat.me.0 o cell → (found : Option ObjectId) × IsNext qsbr r.seat.me.0 w o n found) where
     pub next_none : n ≡ 0 → (o : ObjectId) → MayHold r o cell → Follows (objects_of w.seen) o None
     next_none z o x = let y = tells o (may_read r o cell e above x) in subst (λ (found : Option ObjectId). Follows (objects_of w.seen) o found) (ref_none (objects_of w.seen) y.0 n y.1.1 z) y.1.0
 
-    pub next_some : (s : Reader P K B g) → s.seat.me.0 ≡ w → Looks qsbr allows r s → (n ≡ 0 → ⊥) → (o : ObjectId) → MayHold r o cell → (m : ObjectId) × FindsNext s o (Some m) × MayHold s m (n - 1)
-    next_some s same l z o x =
+    pub next_some : (s : ReaderCore P K g) → s.seat.me.0 ≡ w → s.seat.me.0.sizes ≡ r.seat.me.0.sizes → Looks qsbr allows r s → (n ≡ 0 → ⊥) → (o : ObjectId) → MayHold r o cell → (m : ObjectId) × FindsNext s o (Some m) × MayHold s m (n - 1)
+    next_some s same sizes l z o x =
         let y = tells o (may_read r o cell e above x) in
         let m = ref_some (objects_of w.seen) y.0 n y.1.1 z in
         let t = y.1.2 m.0 m.1 in
@@ -109,6 +110,6 @@ module _ {P K B : Type 0} {g : Ghosts B} (qsbr : Bool) (allows : Log → LiveEve
           record {
             was_linked = subst (λ (u : SectionId). WasLinked u m.0 (log_of s)) (sym one) (subst (WasLinked (section_of r) m.0) log (t.1 _ _ (stands r e above) x.was_linked));
             lies = ap (λ (x : Log). (note_of x m.0).0) (sym log) ∙ m.2;
-            low = subst (λ (k : ℕ). n - 1 < k) (λ i. (r.seated.2 i).pool) (subst (λ (k : ℕ). k < r.seat.me.0.sizes.pool) m.2 t.0);
+            low = subst (λ (z : Sizes). n - 1 < z.pool) (sym sizes) (subst (λ (k : ℕ). k < r.seat.me.0.sizes.pool) m.2 t.0);
           },
         )

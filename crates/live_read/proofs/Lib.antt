@@ -3,6 +3,7 @@ mod Finding
 mod Leaving
 pub mod Lemmas
 mod Making
+mod Naming
 mod Onward
-mod Rows
+mod Seeking
 mod Staying

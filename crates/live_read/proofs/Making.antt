@@ -1,5 +1,5 @@
 -- What a witness knows after one call and another, where a change of a chain was made for it in one of them.
-use Rattle.std.proofs.Common.{ℕ, ◌+◌, [], ◌∷◌, ◌++◌, ◌∙◌, length, ap, sym, refl, append_assoc, arith}
+use Rattle.std.proofs.Common.{ℕ, ◌+◌, [], ◌∷◌, ◌++◌, ◌∙◌, ap, sym, refl, append_assoc, arith}
 use Rattle.std.proofs.lemmas.List.{length-append}
 use Rattle.live_log.specs.Log.{Log}
 use Rattle.live_read.specs.Hearing.{MakesLast, MakesMany, OnlyHears, OnlyMakesLast, OnlyMakesMany, Stays}

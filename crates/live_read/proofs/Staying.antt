@@ -1,5 +1,6 @@
 -- What a reader keeps of its section while it hears of something, nests or looks.
-use Rattle.std.proofs.Common.{◌≡◌, ℕ, Bool, List, sym, ap, ◌∙◌, subst}
+use Rattle.gp_memb.specs.declared.plan.GracePlan as plan
+use Rattle.std.proofs.Common.{◌≡◌, ℕ, ◌<◌, Bool, List, sym, ap, ◌∙◌, subst}
 use mathlib.Core.Option.{some}
 use Rattle.rcu_model.specs.declared.event.ObjectId.{ObjectId}
 use Rattle.rcu_model.specs.declared.event.SectionId.{SectionId}
@@ -7,14 +8,16 @@ use Rattle.rcu_model.specs.Machine.{IsOpen}
 use Rattle.live_log.specs.declared.event.LiveEvent.{LiveEvent}
 use Rattle.live_log.specs.Log.{Log, Begins, IsLiveRun, IsOpenSection, WasLinked, note_of, open_of, section, state_of}
 use Rattle.live_log.proofs.Lemmas.{note_stays, run_of, was_later, was_used}
+use Rattle.live_rule.specs.declared.view.Sizes.{Sizes}
 use Rattle.live_read.specs.declared.reader.Reader.{Reader}
 use Rattle.live_read.specs.declared.site.Site.{Ghosts}
+use Rattle.live_read.specs.declared.reader_core.ReaderCore.{ReaderCore}
 use Rattle.live_read.specs.Holding.{KeepsHeld, MayHoldIn, log_of, ordinal, section_of}
 use Rattle.live_read.specs.Sections.{IsIn}
 use Rattle.live_read.specs.Standings.{Standing}
 
-module _ {P K B : Type 0} {g : Ghosts B} where
-  pub stays_in : (r s : Reader P K B g) → s.slot ≡ r.slot → log_of s ≡ log_of r → ordinal s ≡ ordinal r → IsIn r → IsIn s
+module _ {P K : Type 0} {g : plan.Ghosts P} where
+  pub stays_in : (r s : ReaderCore P K g) → s.slot ≡ r.slot → log_of s ≡ log_of r → ordinal s ≡ ordinal r → IsIn r → IsIn s
   stays_in r s slot log count i = record {
     note = i.note;
     stands = ap (λ (x : ℕ). open_of x (log_of s)) slot ∙ (ap (open_of r.slot) log ∙ (i.stands ∙ ap (λ (n : ℕ). some (n, i.note)) (sym count)));
@@ -23,23 +26,23 @@ module _ {P K B : Type 0} {g : Ghosts B} where
   }
 
   -- what it has seen has not grown
-  pub held_stays : (r s : Reader P K B g) → s.slot ≡ r.slot → log_of s ≡ log_of r → ordinal s ≡ ordinal r → KeepsHeld r s
-  held_stays r s slot log count = record {
+  pub held_stays : (r s : ReaderCore P K g) → s.slot ≡ r.slot → s.seat.me.0.sizes ≡ r.seat.me.0.sizes → log_of s ≡ log_of r → ordinal s ≡ ordinal r → KeepsHeld r s
+  held_stays r s slot sizes log count = record {
     held = λ o cell x. record {
       was_linked = subst (λ (t : SectionId). WasLinked t o (log_of s)) (λ k. section (sym slot k) (sym count k)) (subst (WasLinked (section_of r) o) (sym log) x.was_linked);
       lies = ap (λ (l : Log). (note_of l o).0) log ∙ x.lies;
-      low = x.low;
+      low = subst (λ (z : Sizes). cell < z.pool) (sym sizes) x.low;
     };
     notes = λ o cell x. ap (λ (l : Log). note_of l o) log;
   }
 
   -- it has seen more
-  pub held_later : (qsbr : Bool) (allows : Log → LiveEvent → Type 0) (r s : Reader P K B g) → s.slot ≡ r.slot → ordinal s ≡ ordinal r → Begins (log_of r) (log_of s) → IsLiveRun qsbr allows (log_of s) → KeepsHeld r s
-  held_later qsbr allows r s slot count later run = record {
+  pub held_later : (qsbr : Bool) (allows : Log → LiveEvent → Type 0) (r s : ReaderCore P K g) → s.slot ≡ r.slot → s.seat.me.0.sizes ≡ r.seat.me.0.sizes → ordinal s ≡ ordinal r → Begins (log_of r) (log_of s) → IsLiveRun qsbr allows (log_of s) → KeepsHeld r s
+  held_later qsbr allows r s slot sizes count later run = record {
     held = λ o cell x. record {
       was_linked = subst (λ (t : SectionId). WasLinked t o (log_of s)) (λ k. section (sym slot k) (sym count k)) (was_later (log_of r) (log_of s) (section_of r) o later x.was_linked);
       lies = ap (λ (z : ℕ × List ℕ). z.0) (stays o x.was_linked) ∙ x.lies;
-      low = x.low;
+      low = subst (λ (z : Sizes). cell < z.pool) (sym sizes) x.low;
     };
     notes = λ o cell x. stays o x.was_linked;
   }
@@ -47,12 +50,13 @@ module _ {P K B : Type 0} {g : Ghosts B} where
       stays : (o : ObjectId) → WasLinked (section_of r) o (log_of r) → note_of (log_of s) o ≡ note_of (log_of r) o
       stays o was = note_stays qsbr allows (log_of r) (log_of s) o later run (was_used qsbr allows (log_of r) (section_of r) o (run_of qsbr allows (log_of r) (log_of s) later run) was)
 
-  pub held_in : (r s : Reader P K B g) (cell : ℕ) → KeepsHeld r s → MayHoldIn r cell → MayHoldIn s cell
+  pub held_in : (r s : ReaderCore P K g) (cell : ℕ) → KeepsHeld r s → MayHoldIn r cell → MayHoldIn s cell
   held_in r s cell keeps x = record { object = x.object; holds = keeps.held x.object cell x.holds }
 
-  abbrev standing : Reader P K B g → Standing
+  abbrev standing : ReaderCore P K g → Standing
   standing r = record { slot = r.slot; word = r.word; ordinal = ordinal r; depth = r.depth; locks = r.locks }
 
-  -- a call was made for it as a witness: it has heard of something, has seen no more, and stands as it stood
-  pub held_across : (r s : Reader P K B g) → log_of s ≡ log_of r → standing s ≡ standing r → KeepsHeld r s
-  held_across r s log same = held_stays r s (ap (λ (x : Standing). x.slot) same) log (ap (λ (x : Standing). x.ordinal) same)
+  -- a call was made for the one that bears its table's name, as a witness: it has heard of something, has seen no more,
+  -- and stands as it stood
+  pub held_across : {B : Type 0} {site : Ghosts B} (r s : Reader P K B g site) → log_of s.core ≡ log_of r.core → standing s.core ≡ standing r.core → KeepsHeld r.core s.core
+  held_across r s log same = held_stays r.core s.core (ap (λ (x : Standing). x.slot) same) (s.named.1 ∙ sym r.named.1) log (ap (λ (x : Standing). x.ordinal) same)

@@ -1,54 +1,70 @@
--- Which slots are claimed.
-use Rattle.std.specs.Prelude.{◌≡◌, ℕ, ◌==◌, ◌&&◌, Bool, true, false, List, length, Some, slice_get, slice_set}
-use Rattle.std.specs.List.{list_any}
-use Rattle.registry.specs.Registry.{Registry, Claims, GivesBack}
-use Rattle.registry.specs.declared.slot.Slot.{Slot}
+-- What claiming a slot, and giving it back, tells.
+use Rattle.std.specs.Prelude.{◌≡◌, ℕ, ◌/◌, ◌%◌, ◌<◌, Bool, true, false, List, [], ◌∷◌, ◌++◌}
+use Rattle.atomic_table.specs.Table.{Me}
+use Rattle.atomic_table.specs.declared.shared.Seat.{Seat}
+use Rattle.gp_memb.specs.declared.plan.GracePlan as plan
+use Rattle.gp_memb.specs.Plan.{bit_of}
+use Rattle.live_log.specs.declared.event.LiveEvent.{LiveEvent}
+use Rattle.live_log.specs.declared.event.LiveEvent.TheVariants.{Close}
+use Rattle.live_log.specs.Log.{Log, Begins, Has, IsLiveRun, sections_of}
+use Rattle.live_rule.specs.declared.view.Sizes.{Sizes}
+use Rattle.live_rule.specs.declared.view.View.{View}
+use Rattle.live_rule.specs.declared.rights.SlotRight.{SlotRight}
+use Rattle.live_rule.specs.Places.{group_at}
+use Rattle.live_rule.specs.Readers.{IsClosed}
 use Rattle.live_table.specs.Rights.{count_in}
-use Rattle.live_read.specs.Bits.{bit_in}
-use Rattle.live_read.specs.declared.parked.Parked.{Parked}
-use Rattle.live_read.specs.declared.parked.Place.{Place}
-use Rattle.live_read.specs.declared.parked.Place.TheVariants.{Claimed, Free}
-use Rattle.live_read.specs.declared.site.Site.{Ghosts}
+use Rattle.live_table.specs.Steps.{FoundIn, Went}
+use Rattle.live_groups.specs.Groups.{IsClaimed}
+use Rattle.live_read.specs.declared.reader_core.ReaderCore.{ReaderCore}
 
-abbrev pub is_same : Slot → Slot → Bool
-is_same s t = (s.claim == t.claim) && (s.number == t.number)
+-- the bit of slot r was found set, or clear, in its group word
+abbrev pub WasClaimed : ℕ → List (ℕ × ℕ) → Type 0
+WasClaimed r found = FoundIn found (group_at (r / 64)) (λ n. bit_of n (r % 64) ≡ true)
 
--- whether the slot was claimed and not given back: a test, since what a type keeps in a field has to be a proposition,
--- and the registry's `IsClaimed` is none
-abbrev pub is_claimed : Registry → Slot → Bool
-is_claimed registry s = list_any (is_same s) registry.claimed
+abbrev pub WasFree : ℕ → List (ℕ × ℕ) → Type 0
+WasFree r found = FoundIn found (group_at (r / 64)) (λ n. bit_of n (r % 64) ≡ false)
 
-module _ {P K B : Type 0} {g : Ghosts B} where
-  -- each slot of the registry has a place: a claimed one, whose bit is 1, keeps its claim there, and one that is not
-  -- claimed, whose bit is 0, its seat
-  pub record Fits (registry : Registry) (words : List ℕ) (row : List (Place P K B g)) : Type 0 where
-    pub sized : length row ≡ registry.slots
-    pub kept : (s : Slot) → is_claimed registry s ≡ true → slice_get row s.number ≡ Some (Claimed s)
-    pub claimed : (r : ℕ) (s : Slot) → slice_get row r ≡ Some (Claimed s) → (s.number ≡ r) × (is_claimed registry s ≡ true) × (bit_in words r ≡ true)
-    pub free : (r : ℕ) (p : Parked P K B g) → slice_get row r ≡ Some (Free p) → (p.slot ≡ r) × (bit_in words r ≡ false)
+-- the bit of each slot was found set
+abbrev pub AllWereClaimed : Sizes → List (ℕ × ℕ) → Type 0
+AllWereClaimed key found = (r : ℕ) → r < key.slots → WasClaimed r found
 
-  -- there are so many places, and no slot is claimed
-  pub record AreFree (row : List (Place P K B g)) (slots : ℕ) : Type 0 where
-    pub sized : length row ≡ slots
-    pub each : (r : ℕ) (x : Place P K B g) → slice_get row r ≡ Some x → (p : Parked P K B g) × (x ≡ Free p) × (p.slot ≡ r)
+-- and these are the words that were found since
+pub record FindsAllClaimed (key : Sizes) (old new : List (ℕ × ℕ)) : Type 0 where
+  pub found : List (ℕ × ℕ)
+  pub looks : new ≡ found ++ old
+  pub claimed : AllWereClaimed key found
 
-  -- the place of a slot had the seat that a reader has now, with as many sections so far, and keeps its claim; no other
-  -- place has changed
-  abbrev pub TakesSeat : List (Place P K B g) → List (Place P K B g) → ℕ → ℕ → Type 0
-  TakesSeat old new r count = (p : Parked P K B g) × (s : Slot) × (slice_get old r ≡ Some (Free p)) × (count_in p.seat.me.0.slot ≡ count) × (new ≡ slice_set old r (Claimed s))
+-- the last word that was stored is the group word of slot r, and leaves the slot's bit clear
+pub record LeavesFree (r : ℕ) (old new : List (ℕ × ℕ)) : Type 0 where
+  pub left : ℕ
+  pub is_clear : bit_of left (r % 64) ≡ false
+  pub looks : new ≡ (group_at (r / 64), left) ∷ old
 
-  -- the place of a slot has the seat that a reader had, with as many sections so far; no other place has changed
-  abbrev pub GivesSeat : List (Place P K B g) → List (Place P K B g) → ℕ → ℕ → Type 0
-  GivesSeat old new r count = (p : Parked P K B g) × (count_in p.seat.me.0.slot ≡ count) × (new ≡ slice_set old r (Free p))
+module _ {S : Type 0} (qsbr : Bool) (allows : Log → LiveEvent → Type 0) where
+  -- the seat found these words, the last one first, and has this right to a slot now
+  abbrev pub Sought : List (ℕ × ℕ) → SlotRight → Me S View → Me S View → Type 0
+  Sought found x m m' = Went qsbr allows (record m.0 { looks = found ++ m.0.looks; slot = x }) m m'
 
--- the slot was free, and is claimed
-pub record Registers (old new : Registry) (r : ℕ) : Type 0 where
-  pub slot : Slot
-  pub is : slot.number ≡ r
-  pub claims : Claims old new slot
+  -- the seat found slot r free, and has it now: its word is closed, and no section is open in it
+  pub record Finds (r : ℕ) (m m' : Me S View) : Type 0 where
+    pub found : List (ℕ × ℕ)
+    pub sought : Sought found m'.0.slot m m'
+    pub was_free : WasFree r found
+    pub claimed : IsClaimed qsbr r m'.0
 
--- the slot was claimed, and is free
-pub record Unregisters (old new : Registry) (r : ℕ) : Type 0 where
-  pub slot : Slot
-  pub is : slot.number ≡ r
-  pub gives_back : GivesBack old new slot
+  -- what the seat found is so, and it has the right to a slot that it had
+  pub record Misses (so : List (ℕ × ℕ) → Type 0) (m m' : Me S View) : Type 0 where
+    pub found : List (ℕ × ℕ)
+    pub sought : Sought found m.0.slot m m'
+    pub is_so : so found
+
+-- The reader's slot was given back by the seat, which has no right now: it has seen and heard all that the reader had,
+-- and the Close of the section that was open, if one was. No section was opened in the slot meanwhile.
+pub record IsGivenBack {P K : Type 0} {g : plan.Ghosts P} (qsbr : Bool) (allows : Log → LiveEvent → Type 0) (r : ReaderCore P K g) (s : Seat (Unit {0}) View) : Type 0 where
+  pub table : s.table_id ≡ r.seat.table_id
+  pub none_held : s.me.1 ≡ []
+  pub later : Begins r.seat.me.0.seen s.me.0.seen × Begins r.seat.me.0.heard s.me.0.seen
+  pub run : IsLiveRun qsbr allows s.me.0.seen
+  pub closed : ¬ IsClosed qsbr r.word → Has (Close r.slot (count_in r.seat.me.0.slot)) s.me.0.seen
+  pub counted : sections_of r.slot s.me.0.seen ≡ count_in r.seat.me.0.slot
+  pub free : LeavesFree r.slot r.seat.me.0.looks s.me.0.looks

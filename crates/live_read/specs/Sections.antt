@@ -1,4 +1,5 @@
 -- What a call of a reader or of a section tells.
+use Rattle.gp_memb.specs.declared.plan.GracePlan as plan
 use Rattle.std.specs.Prelude.{◌≡◌, ◌≢◌, ◌⊎◌, ℕ, ◌+◌, ◌-◌, ◌<◌, Bool, true, false}
 use mathlib.Core.Option.{some}
 use Rattle.rcu_model.specs.declared.refusal.Refusal.{Refusal}
@@ -6,32 +7,32 @@ use Rattle.rcu_model.specs.declared.refusal.Refusal.TheVariants.{Busy, NestFull,
 use Rattle.live_log.specs.declared.event.LiveEvent.{LiveEvent}
 use Rattle.rcu_model.specs.Machine.{IsOpen}
 use Rattle.live_log.specs.Log.{Log, IsOpenSection, open_of, state_of}
+use Rattle.live_rule.specs.Readers.{IsClosed}
 use Rattle.live_readers.specs.Sections.{Announced, Closed, CopiedBefore, Nested, Opened, announces, opens}
-use Rattle.live_read.specs.declared.reader.Reader.{Reader}
-use Rattle.live_read.specs.declared.site.Site.{Ghosts}
+use Rattle.live_read.specs.declared.reader_core.ReaderCore.{ReaderCore}
 use Rattle.live_read.specs.Holding.{KeepsHeld, log_of, ordinal, section_of}
 
 -- the greatest depth of nesting, in both flavours
 abbrev pub greatest_depth : ℕ
 greatest_depth = 2147483647
 
-module _ {P K B : Type 0} {g : Ghosts B} where
+module _ {P K : Type 0} {g : plan.Ghosts P} where
   -- its section of the log is open in what it has seen: its Open is there, and its Close is not, and it is open for
   -- the abstract machine
-  pub record IsIn (r : Reader P K B g) : Type 0 where
+  pub record IsIn (r : ReaderCore P K g) : Type 0 where
     pub note : ℕ
     pub stands : open_of r.slot (log_of r) ≡ some (ordinal r, note)
     pub inside : IsOpenSection r.slot (ordinal r) (log_of r)
     pub is_open : IsOpen (state_of (log_of r)) (section_of r)
 
   -- a section or a lock of the quiescent-state flavour was begun or ended: a count, and no step of the table
-  pub record Local (r s : Reader P K B g) (n : ℕ) : Type 0 where
+  pub record Local (r s : ReaderCore P K g) (n : ℕ) : Type 0 where
     pub seat : s.seat ≡ r.seat
     pub slot : s.slot ≡ r.slot
     pub word : s.word ≡ r.word
     pub depth : s.depth ≡ n
 
-  module _ (qsbr : Bool) (allows : Log → LiveEvent → Type 0) (r s : Reader P K B g) where
+  module _ (qsbr : Bool) (allows : Log → LiveEvent → Type 0) (r s : ReaderCore P K g) where
     -- the outermost lock opens a section, which copied what was loaded before
     abbrev pub OpensOutermost : Type 0
     OpensOutermost = Opened qsbr allows r.slot s.word r.seat.me s.seat.me × CopiedBefore qsbr allows r.slot s.word r.seat.me s.seat.me (opens qsbr r.slot (ordinal r) s.word)
@@ -96,14 +97,23 @@ module _ {P K B : Type 0} {g : Ghosts B} where
       pub offline : s.word ≡ 0
       pub closed : Closed qsbr allows r.slot 0 r.seat.me s.seat.me
 
+    -- all that was open has ended, by one step: an open section of the log closes, and an online reader of the
+    -- quiescent-state flavour goes offline
+    pub record EndsAll : Type 0 where
+      pub slot : s.slot ≡ r.slot
+      pub none_open : (s.depth ≡ 0) × (s.locks ≡ 0)
+      pub offline : qsbr ≡ true → s.word ≡ 0
+      pub closed : ¬ IsClosed qsbr r.word → Closed qsbr allows r.slot s.word r.seat.me s.seat.me
+      pub same : IsClosed qsbr r.word → s ≡ r
+
   -- why a section or a lock is refused
-  abbrev pub MayNotBegin : Bool → Refusal → Reader P K B g → Type 0
+  abbrev pub MayNotBegin : Bool → Refusal → ReaderCore P K g → Type 0
   MayNotBegin qsbr e r = ((e ≡ NotOpen) × (qsbr ≡ true) × (r.word ≡ 0)) ⊎ ((e ≡ NestFull) × (r.depth ≡ greatest_depth))
 
   -- why going online is refused
-  abbrev pub MayNotGoOnline : Bool → Refusal → Reader P K B g → Type 0
+  abbrev pub MayNotGoOnline : Bool → Refusal → ReaderCore P K g → Type 0
   MayNotGoOnline qsbr e r = ((e ≡ WrongFlavour) × (qsbr ≡ false)) ⊎ ((e ≡ Busy) × (qsbr ≡ true) × (r.word ≢ 0))
 
   -- why an announcement is refused
-  abbrev pub MayNotAnnounce : Bool → Refusal → Reader P K B g → Type 0
+  abbrev pub MayNotAnnounce : Bool → Refusal → ReaderCore P K g → Type 0
   MayNotAnnounce qsbr e r = ((e ≡ WrongFlavour) × (qsbr ≡ false)) ⊎ (((e ≡ NotOpen) × (qsbr ≡ true) × (r.word ≡ 0)) ⊎ ((e ≡ Busy) × (qsbr ≡ true) × (r.word ≢ 0) × (0 < r.depth)))

@@ -1,12 +1,14 @@
 #![tactic(auto)]
 //! Readers of the library over live threads, and their sections.
 
+mod claiming;
+mod flavour;
 mod held;
 mod laws;
-mod parked;
 mod reader;
+mod reader_core;
 mod reading;
-mod registrar;
+mod registering;
 mod section;
 mod site;
 mod telling;
@@ -15,7 +17,7 @@ mod witness;
 pub use held::Held;
 pub use laws::readings_fit;
 pub use reader::Reader;
-pub use registrar::Registrar;
+pub use reader_core::ReaderCore;
 pub use section::Section;
 pub use site::Site;
 pub use telling::{inform, learn_more, tell_all};

@@ -1,150 +1,60 @@
-//! Readers.
+//! Readers that bear the name of their table.
 
-ghost use Rattle.std.specs.Prelude.{◌≡◌, ◌⊎◌, ◌≤◌, ◌+◌, ◌-◌, ◌<◌, [], true, false, IfOk, IfErr, MatchBool};
+ghost use Rattle.std.specs.Prelude.{◌≡◌, ◌⊎◌, ◌≤◌, ◌+◌, ◌-◌, ◌<◌, [], true, false, None, IfOk, IfErr, IfSome, IfNone, MatchBool};
 ghost use Rattle.std.specs.Arc.{arc_value};
-ghost use Rattle.rcu_model.specs.declared.refusal.Refusal.TheVariants.{NotOpen};
+ghost use Rattle.rcu_model.specs.declared.refusal.Refusal.TheVariants.{NoPlace, NotOpen};
 ghost use Rattle.reader_word.specs.declared.layout.Layout.TheVariants.{Wide};
 ghost use Rattle.reader_word.specs.Word.{count_of};
 ghost use Rattle.live_table.specs.Rights.{IsOwner, count_in, word_in};
 
+use crate::held::Held;
+use crate::reader_core::ReaderCore;
 use crate::section::Section;
 use crate::site::Site;
 use crate::telling::tell_all;
 use crate::witness::Witness;
 use gp_memb::GracePlan;
-use live_words::{ChainRule, LiveSeat, LiveTable, lock, unlock};
+use live_words::{ChainRule, LiveSeat, LiveTable};
 use rcu_model::Refusal;
 use std::marker::PhantomData;
 use std::sync::Arc;
 
-/// The greatest depth of nesting.
-const GREATEST: u64 = 2_147_483_647;
-
-/// A registered reader. Its seat is the record of the thread that has it.
+/// A registered reader of the table `B`.
 #[derive(Drop)]
 pub struct Reader<P: GracePlan, K: ChainRule, B: Site> {
-    pub(crate) table: Arc<LiveTable<P, K>>,
-    /// What it has seen, and its right to its word.
-    pub seat: LiveSeat,
-    /// Its slot.
-    pub slot: usize,
-    /// The word that it stored last.
-    pub word: u64,
-    // Whether it is of the quiescent-state flavour.
-    pub(crate) qsbr: bool,
-    /// How many locks and sections are open.
-    pub depth: u64,
-    /// How many of them are locks of the standard's face.
-    pub locks: u64,
+    /// What it is and does, by its own table.
+    pub core: ReaderCore<P, K>,
     pub(crate) site: PhantomData<B>,
-    pub ghost seated: { (seat.table_id ≡ B.table) × ((arc_value table).words.shared.table_id ≡ B.table) × (seat.me.0.sizes ≡ B.sizes) × (seat.me.1 ≡ []) },
-    pub(crate) ghost flavour: { qsbr ≡ B.qsbr },
-    pub(crate) ghost owns: { IsOwner seat.me.0 slot × (word_in seat.me.0.slot ≡ word) × (slot < (arc_value table).slots) × ((arc_value table).words.shared.key ≡ B.sizes) },
-    pub ghost counted: { (B.qsbr ≡ false → count_of Wide word ≡ depth) × (B.qsbr ≡ true → word ≡ 0 → depth ≡ 0) × (locks ≤ depth) × (depth ≤ 2147483647) },
+    pub ghost named: { (core.seat.table_id ≡ B.table) × (core.seat.me.0.sizes ≡ B.sizes) },
 }
 
 impl<P: GracePlan, K: ChainRule, B: Site> Reader<P, K, B> {
     ghost use Rattle.std.specs.Borrow.{sem, RestsIfErr};
     ghost use Rattle.live_read.specs.Hearing.{IsAfter, IsAsBefore};
     ghost use Rattle.live_read.specs.contracts.reader.Reader.{the_row};
-    ghost use Rattle.live_read.specs.Sections.{Announces, BeginsSection, EndsSection, Enters, GoesOffline, GoesOnline, Leaves, MayNotAnnounce, MayNotBegin, MayNotGoOnline, greatest_depth};
+    ghost use Rattle.live_read.specs.Holding.{MayHoldIn};
+    ghost use Rattle.live_read.specs.Reads.{FindsFirst, HasWord, HasWords, HoldsFirst, HoldsLast, HoldsNext, Looks};
+    ghost use Rattle.live_read.specs.Sections.{Announces, BeginsSection, EndsSection, GoesOffline, GoesOnline, MayNotAnnounce, MayNotBegin, MayNotGoOnline, greatest_depth};
 
-    /// A reader by a seat that owns a slot whose word is closed.
-    pub(crate) fn new(
-        table: Arc<LiveTable<P, K>>,
-        seat: LiveSeat,
-        slot: usize,
-        word: u64,
-    ) -> Reader<P, K, B>
-        requires site { (P.QSBR ≡ B.qsbr) × (seat.table_id ≡ B.table) × ((arc_value table).words.shared.table_id ≡ B.table) × (seat.me.0.sizes ≡ B.sizes) × (seat.me.1 ≡ []) }
-        requires owns { IsOwner seat.me.0 slot × (word_in seat.me.0.slot ≡ word) × (slot < (arc_value table).slots) × ((arc_value table).words.shared.key ≡ B.sizes) }
-        requires closed { (B.qsbr ≡ false → count_of Wide word ≡ 0) × (B.qsbr ≡ true → word ≡ 0) }
-        ensures { (result.seat ≡ seat) × (result.slot ≡ slot) × (result.word ≡ word) × (result.depth ≡ 0) × (result.locks ≡ 0) }
+    /// This reader, with the name of its table.
+    pub(crate) fn of(core: ReaderCore<P, K>) -> Reader<P, K, B>
+        requires { (core.seat.table_id ≡ B.table) × (core.seat.me.0.sizes ≡ B.sizes) }
+        ensures { result.core ≡ core }
     {
         Reader {
-            table,
-            seat,
-            slot,
-            word,
-            qsbr: P::QSBR,
-            depth: 0,
-            locks: 0,
+            core,
             site: PhantomData,
         }
     }
 
-    // Hears what the witness has seen and heard of. It never waits.
-    pub(crate) fn hear<W: Witness>(&mut self, witness: &mut W)
-        requires { W.home witness.old ≡ (B.table, B.sizes) }
-        ensures reader { (self.new.slot ≡ self.old.slot) × (self.new.word ≡ self.old.word) × (self.new.depth ≡ self.old.depth) × (self.new.locks ≡ self.old.locks) }
-        ensures heard { IsAfter P.QSBR K.allows (W.seen witness.old) (W.heard witness.old) self.new.seat.me.0.heard × (self.new.seat.me.0.seen ≡ self.old.seat.me.0.seen) }
-        ensures count { count_in self.new.seat.me.0.slot ≡ count_in self.old.seat.me.0.slot }
-        ensures witness { IsAsBefore W.Witness witness.old witness.new }
-    {
-        let told = tell_all(&self.table, witness);
-        let reader = &mut *self;
-        reader.table.learn(&mut reader.seat, told);
-    }
-
     // One more section or lock, with so many locks of the standard's face. It never waits.
-    pub(crate) fn enter(&mut self, locks: u64) -> Result<(), Refusal>
-        requires { (P.QSBR ≡ B.qsbr) × (locks ≤ self.old.depth + 1) }
-        ensures ok { IfOk result (λ _. BeginsSection P.QSBR K.allows self.old self.new locks) }
+    fn enter(&mut self, locks: u64) -> Result<(), Refusal>
+        requires { locks ≤ self.old.core.depth + 1 }
+        ensures ok { IfOk result (λ _. BeginsSection P.QSBR K.allows self.old.core self.new.core locks) }
         ensures same { IfErr result (λ _. self.new ≡ self.old) }
-        ensures err { IfErr result (λ e. MayNotBegin P.QSBR e self.old) }
+        ensures err { IfErr result (λ e. MayNotBegin P.QSBR e self.old.core) }
     {
-        if P::QSBR && self.word == 0 {
-            return Err(Refusal::NotOpen);
-        }
-        if self.depth == GREATEST {
-            return Err(Refusal::NestFull);
-        }
-        if P::QSBR {
-            self.depth = one_more(self.depth);
-            self.locks = locks;
-        } else {
-            self.lock_word(locks);
-        }
-        Ok(())
-    }
-
-    // One more lock of the general-purpose flavour.
-    fn lock_word(&mut self, locks: u64)
-        requires flavour { (P.QSBR ≡ false) × (B.qsbr ≡ false) }
-        requires room { (self.old.depth < 2147483647) × (locks ≤ self.old.depth + 1) }
-        ensures { Enters P.QSBR K.allows self.old self.new × (self.new.locks ≡ locks) }
-    {
-        if let Ok(word) = lock(&self.table, &mut self.seat, self.slot, self.word) {
-            self.word = word;
-            self.depth += 1;
-            self.locks = locks;
-        }
-    }
-
-    // One section or lock less, with so many locks of the standard's face. It never waits.
-    pub(crate) fn leave(&mut self, locks: u64)
-        requires { (P.QSBR ≡ B.qsbr) × (locks < self.old.depth) }
-        ensures { EndsSection P.QSBR K.allows self.old self.new locks }
-    {
-        if P::QSBR {
-            self.depth = one_less(self.depth);
-            self.locks = locks;
-        } else {
-            self.unlock_word(locks);
-        }
-    }
-
-    // One lock of the general-purpose flavour less.
-    fn unlock_word(&mut self, locks: u64)
-        requires flavour { (P.QSBR ≡ false) × (B.qsbr ≡ false) }
-        requires above { locks < self.old.depth }
-        ensures { Leaves P.QSBR K.allows self.old self.new × (self.new.locks ≡ locks) }
-    {
-        if let Ok(word) = unlock(&self.table, &mut self.seat, self.slot, self.word) {
-            self.word = word;
-            self.depth -= 1;
-            self.locks = locks;
-        }
+        self.core.enter(locks)
     }
 
     /// A read-side section, which is an inner one where the reader is in one, as by liburcu's `rcu_read_lock`. In the
@@ -154,13 +64,12 @@ impl<P: GracePlan, K: ChainRule, B: Site> Reader<P, K, B> {
     /// Refused with `NestFull` exactly at the greatest depth, 2,147,483,647, and with `NotOpen` where the reader is of
     /// the quiescent-state flavour and offline; then the reader is as it was. It never waits.
     pub fn section(&mut self) -> Result<Section<'_, P, K, B>, Refusal>
-        requires { P.QSBR ≡ B.qsbr }
-        ensures* refused { sem 𝓛 (RestsIfErr (the_row P.row K.row B.row B.Site P.GracePlan K.ChainRule) self.entry (λ s. s.reader.ghost_name) result (λ last. last ≡ self.old)) }
+        ensures* refused { sem 𝓛 (RestsIfErr (the_row P.row K.row B.row P.GracePlan B.Site K.ChainRule) self.entry (λ s. s.reader.ghost_name) result (λ last. last ≡ self.old)) }
         ensures same { IfOk result (λ s. s.reader.ghost_name ≡ self.entry.ghost_name) }
-        ensures inside { IfOk result (λ s. BeginsSection P.QSBR K.allows self.old s.reader.now self.old.locks) }
-        ensures err { IfErr result (λ e. MayNotBegin P.QSBR e self.old) }
+        ensures inside { IfOk result (λ s. BeginsSection P.QSBR K.allows self.old.core s.reader.now.core self.old.core.locks) }
+        ensures err { IfErr result (λ e. MayNotBegin P.QSBR e self.old.core) }
     {
-        self.enter(self.locks)?;
+        self.enter(self.core.locks)?;
         Ok(Section::of(self))
     }
 
@@ -168,18 +77,16 @@ impl<P: GracePlan, K: ChainRule, B: Site> Reader<P, K, B> {
     ///
     /// Refused as `section`, and then the reader is as it was. It never waits.
     pub fn lock(&mut self) -> Result<(), Refusal>
-        requires { P.QSBR ≡ B.qsbr }
-        ensures ok { IfOk result (λ _. BeginsSection P.QSBR K.allows self.old self.new (self.old.locks + 1)) }
+        ensures ok { IfOk result (λ _. BeginsSection P.QSBR K.allows self.old.core self.new.core (self.old.core.locks + 1)) }
         ensures same { IfErr result (λ _. self.new ≡ self.old) }
-        ensures err { IfErr result (λ e. MayNotBegin P.QSBR e self.old) }
+        ensures err { IfErr result (λ e. MayNotBegin P.QSBR e self.old.core) }
     {
-        self.enter(self.locks + 1)
+        self.core.lock()
     }
 
     /// Whether `lock` succeeds; if so it is locked, and else the reader is as it was. It never waits.
     pub fn try_lock(&mut self) -> bool
-        requires { P.QSBR ≡ B.qsbr }
-        ensures { MatchBool result (BeginsSection P.QSBR K.allows self.old self.new (self.old.locks + 1)) ((self.new ≡ self.old) × (((P.QSBR ≡ true) × (self.old.word ≡ 0)) ⊎ (self.old.depth ≡ greatest_depth))) }
+        ensures { MatchBool result (BeginsSection P.QSBR K.allows self.old.core self.new.core (self.old.core.locks + 1)) ((self.new ≡ self.old) × (((P.QSBR ≡ true) × (self.old.core.word ≡ 0)) ⊎ (self.old.core.depth ≡ greatest_depth))) }
     {
         self.lock().is_ok()
     }
@@ -188,16 +95,11 @@ impl<P: GracePlan, K: ChainRule, B: Site> Reader<P, K, B> {
     ///
     /// Refused with `NotOpen` exactly where no lock is open, and then the reader is as it was. It never waits.
     pub fn unlock(&mut self) -> Result<(), Refusal>
-        requires { P.QSBR ≡ B.qsbr }
-        ensures ok { IfOk result (λ _. (0 < self.old.locks) × EndsSection P.QSBR K.allows self.old self.new (self.old.locks - 1)) }
+        ensures ok { IfOk result (λ _. (0 < self.old.core.locks) × EndsSection P.QSBR K.allows self.old.core self.new.core (self.old.core.locks - 1)) }
         ensures same { IfErr result (λ _. self.new ≡ self.old) }
-        ensures err { IfErr result (λ e. (e ≡ NotOpen) × (self.old.locks ≡ 0)) }
+        ensures err { IfErr result (λ e. (e ≡ NotOpen) × (self.old.core.locks ≡ 0)) }
     {
-        if self.locks == 0 {
-            return Err(Refusal::NotOpen);
-        }
-        self.leave(self.locks - 1);
-        Ok(())
+        self.core.unlock()
     }
 
     /// An offline reader goes online, liburcu's `rcu_thread_online`, which opens a section of the log.
@@ -205,20 +107,11 @@ impl<P: GracePlan, K: ChainRule, B: Site> Reader<P, K, B> {
     /// Refused with `WrongFlavour` in the general-purpose flavour, else with `Busy` exactly where the reader is online;
     /// then it is as it was. It never waits.
     pub fn online(&mut self) -> Result<(), Refusal>
-        requires { P.QSBR ≡ B.qsbr }
-        ensures ok { IfOk result (λ _. GoesOnline P.QSBR K.allows self.old self.new) }
+        ensures ok { IfOk result (λ _. GoesOnline P.QSBR K.allows self.old.core self.new.core) }
         ensures same { IfErr result (λ _. self.new ≡ self.old) }
-        ensures err { IfErr result (λ e. MayNotGoOnline P.QSBR e self.old) }
+        ensures err { IfErr result (λ e. MayNotGoOnline P.QSBR e self.old.core) }
     {
-        if !P::QSBR {
-            return Err(Refusal::WrongFlavour);
-        }
-        if self.word != 0 {
-            return Err(Refusal::Busy);
-        }
-        let word = live_words::online(&self.table, &mut self.seat, self.slot);
-        self.word = word;
-        Ok(())
+        self.core.online()
     }
 
     /// An online reader announces a quiescent state, liburcu's `rcu_quiescent_state`: its section of the log closes,
@@ -227,78 +120,70 @@ impl<P: GracePlan, K: ChainRule, B: Site> Reader<P, K, B> {
     /// Refused with `WrongFlavour` in the general-purpose flavour, else with `NotOpen` exactly where the reader is
     /// offline, else with `Busy` exactly while a lock or a section is open; then it is as it was. It never waits.
     pub fn quiescent(&mut self) -> Result<(), Refusal>
-        requires { P.QSBR ≡ B.qsbr }
-        ensures ok { IfOk result (λ _. Announces P.QSBR K.allows self.old self.new) }
+        ensures ok { IfOk result (λ _. Announces P.QSBR K.allows self.old.core self.new.core) }
         ensures same { IfErr result (λ _. self.new ≡ self.old) }
-        ensures err { IfErr result (λ e. MayNotAnnounce P.QSBR e self.old) }
+        ensures err { IfErr result (λ e. MayNotAnnounce P.QSBR e self.old.core) }
     {
-        if !P::QSBR {
-            return Err(Refusal::WrongFlavour);
-        }
-        if self.word == 0 {
-            return Err(Refusal::NotOpen);
-        }
-        if self.depth != 0 {
-            return Err(Refusal::Busy);
-        }
-        let word = live_words::quiescent(&self.table, &mut self.seat, self.slot);
-        self.word = word;
-        Ok(())
+        self.core.quiescent()
     }
 
     /// An online reader goes offline, liburcu's `rcu_thread_offline`, which closes its section of the log.
     ///
     /// Refused as `quiescent`, and then the reader is as it was. It never waits.
     pub fn offline(&mut self) -> Result<(), Refusal>
-        requires { P.QSBR ≡ B.qsbr }
-        ensures ok { IfOk result (λ _. GoesOffline P.QSBR K.allows self.old self.new) }
+        ensures ok { IfOk result (λ _. GoesOffline P.QSBR K.allows self.old.core self.new.core) }
         ensures same { IfErr result (λ _. self.new ≡ self.old) }
-        ensures err { IfErr result (λ e. MayNotAnnounce P.QSBR e self.old) }
+        ensures err { IfErr result (λ e. MayNotAnnounce P.QSBR e self.old.core) }
     {
-        if !P::QSBR {
-            return Err(Refusal::WrongFlavour);
-        }
-        if self.word == 0 {
-            return Err(Refusal::NotOpen);
-        }
-        if self.depth != 0 {
-            return Err(Refusal::Busy);
-        }
-        live_words::offline(&self.table, &mut self.seat, self.slot);
-        self.word = 0;
-        Ok(())
+        self.core.offline()
     }
-}
 
-// One more section than so many. An outermost one gets a number that stands here, so that a processor need not wait for
-// the count that the section before it stored.
-fn one_more(depth: u64) -> u64
-    requires { depth < 2147483647 }
-    ensures { result ≡ depth + 1 }
-{
-    if depth == 0 { 1 } else { inner_one_more(depth) }
-}
+    /// The first object of a chain, which the reader holds from then on, in the lock or section that is open.
+    ///
+    /// Refused with `NoPlace` exactly where there is no such chain, and then the reader is as it was. It never waits
+    /// and takes no memory.
+    pub fn first(&mut self, chain: usize) -> Result<Option<Held>, Refusal>
+        requires { 0 < self.old.core.depth }
+        ensures refused { IfErr result (λ e. (e ≡ NoPlace) × (B.sizes.chains ≤ chain) × (self.new ≡ self.old)) }
+        ensures looked { IfOk result (λ _. (chain < B.sizes.chains) × Looks P.QSBR K.allows self.old.core self.new.core) }
+        ensures none { IfOk result (λ found. IfNone found (FindsFirst self.new.core chain None)) }
+        ensures some { IfOk result (λ found. IfSome found (λ h. HoldsFirst self.new.core chain h.cell)) }
+    {
+        self.core.first(chain)
+    }
 
-#[inline(never)]
-fn inner_one_more(depth: u64) -> u64
-    requires { depth < 2147483647 }
-    ensures { result ≡ depth + 1 }
-{
-    depth + 1
-}
+    /// What follows an object that the reader holds, and is held from then on too. It never waits and takes no memory.
+    pub fn next(&mut self, held: Held) -> Option<Held>
+        requires open_section { 0 < self.old.core.depth }
+        requires held { MayHoldIn self.old.core held.cell }
+        ensures looked { Looks P.QSBR K.allows self.old.core self.new.core }
+        ensures still { MayHoldIn self.new.core held.cell }
+        ensures none { IfNone result (HoldsLast self.old.core self.new.core held.cell) }
+        ensures held { IfSome result (λ h. MayHoldIn self.new.core h.cell) }
+        ensures some { IfSome result (λ h. HoldsNext self.old.core self.new.core held.cell h.cell) }
+    {
+        self.core.next(held)
+    }
 
-// One section less than so many. What is left of an outermost one is a number that stands here.
-fn one_less(depth: u64) -> u64
-    requires { 0 < depth }
-    ensures { result ≡ depth - 1 }
-{
-    if depth == 1 { 0 } else { inner_one_less(depth) }
-}
+    /// One of the four words of an object that the reader holds. It never waits and takes no memory.
+    pub fn read_word(&mut self, held: Held, index: usize) -> u64
+        requires open_section { (0 < self.old.core.depth) × (index < 4) }
+        requires held { MayHoldIn self.old.core held.cell }
+        ensures looked { Looks P.QSBR K.allows self.old.core self.new.core }
+        ensures still { MayHoldIn self.new.core held.cell }
+        ensures word { HasWord self.old.core held.cell index result }
+    {
+        self.core.read_word(held, index)
+    }
 
-#[inline(never)]
-fn inner_one_less(depth: u64) -> u64
-    requires { 0 < depth }
-    ensures { result ≡ depth - 1 }
-{
-    depth - 1
+    /// The four words of an object that the reader holds. It never waits and takes no memory.
+    pub fn read(&mut self, held: Held) -> [u64; 4]
+        requires open_section { 0 < self.old.core.depth }
+        requires held { MayHoldIn self.old.core held.cell }
+        ensures looked { Looks P.QSBR K.allows self.old.core self.new.core }
+        ensures still { MayHoldIn self.new.core held.cell }
+        ensures payload { HasWords self.old.core held.cell result }
+    {
+        self.core.read(held)
+    }
 }

@@ -1,25 +1,21 @@
 //! The loads of a reader in a section.
 
-ghost use Rattle.std.specs.Prelude.{◌≡◌, ◌<◌, ◌≤◌, ◌↔◌, Some, None, IfOk, IfErr, IfSome, IfNone, IsTrue};
-ghost use Rattle.rcu_model.specs.declared.event.ObjectId.{ObjectId};
+ghost use Rattle.std.specs.Prelude.{◌≡◌, ◌<◌, ◌≤◌, ◌↔◌, None, IfOk, IfErr, IfSome, IfNone, IsTrue};
 ghost use Rattle.rcu_model.specs.declared.refusal.Refusal.TheVariants.{NoPlace};
 
 use crate::held::Held;
-use crate::reader::Reader;
-use crate::site::Site;
+use crate::reader_core::ReaderCore;
 use gp_memb::GracePlan;
 use live_words::{ChainRule, load_head, load_link, load_word};
 use rcu_model::Refusal;
 
-impl<P: GracePlan, K: ChainRule, B: Site> Reader<P, K, B> {
-    ghost use Rattle.std.specs.Prelude.{slice_index_or};
-    ghost use Rattle.live_log.specs.Log.{note_of, payload_of};
-    ghost use Rattle.live_read.specs.Holding.{MayHold, MayHoldIn, log_of};
-    ghost use Rattle.live_read.specs.Reads.{FindsFirst, FindsNext, Looks};
+impl<P: GracePlan, K: ChainRule> ReaderCore<P, K> {
+    ghost use Rattle.live_read.specs.Holding.{KeepsTable, MayHoldIn};
+    ghost use Rattle.live_read.specs.Reads.{FindsFirst, HasWord, HasWords, HoldsFirst, HoldsLast, HoldsNext, Looks};
 
     // Whether there is such a chain.
     fn has_chain(&self, chain: usize) -> bool
-        ensures { IsTrue result ↔ (chain < B.sizes.chains) }
+        ensures { IsTrue result ↔ (chain < self.now.seat.me.0.sizes.chains) }
     {
         chain < self.table.chains
     }
@@ -29,11 +25,13 @@ impl<P: GracePlan, K: ChainRule, B: Site> Reader<P, K, B> {
     /// Refused with `NoPlace` exactly where there is no such chain, and then the reader is as it was. It never waits
     /// and takes no memory.
     pub fn first(&mut self, chain: usize) -> Result<Option<Held>, Refusal>
-        requires { (P.QSBR ≡ B.qsbr) × (0 < self.old.depth) }
-        ensures refused { IfErr result (λ e. (e ≡ NoPlace) × (B.sizes.chains ≤ chain) × (self.new ≡ self.old)) }
-        ensures looked { IfOk result (λ _. (chain < B.sizes.chains) × Looks P.QSBR K.allows self.old self.new) }
+        requires { 0 < self.old.depth }
+        ensures refused { IfErr result (λ e. (e ≡ NoPlace) × (self.old.seat.me.0.sizes.chains ≤ chain) × (self.new ≡ self.old)) }
+        ensures looked { IfOk result (λ _. (chain < self.old.seat.me.0.sizes.chains) × Looks P.QSBR K.allows self.old self.new) }
         ensures none { IfOk result (λ found. IfNone found (FindsFirst self.new chain None)) }
-        ensures some { IfOk result (λ found. IfSome found (λ h. (o : ObjectId) × FindsFirst self.new chain (Some o) × MayHold self.new o h.cell)) }
+        ensures some { IfOk result (λ found. IfSome found (λ h. HoldsFirst self.new chain h.cell)) }
+        ensures held { IfOk result (λ found. IfSome found (λ h. MayHoldIn self.new h.cell)) }
+        ensures table { KeepsTable self.old self.new }
     {
         if !self.has_chain(chain) {
             return Err(Refusal::NoPlace);
@@ -49,13 +47,14 @@ impl<P: GracePlan, K: ChainRule, B: Site> Reader<P, K, B> {
 
     /// What follows an object that the reader holds, and is held from then on too. It never waits and takes no memory.
     pub fn next(&mut self, held: Held) -> Option<Held>
-        requires open_section { (P.QSBR ≡ B.qsbr) × (0 < self.old.depth) }
+        requires open_section { 0 < self.old.depth }
         requires held { MayHoldIn self.old held.cell }
         ensures looked { Looks P.QSBR K.allows self.old self.new }
         ensures still { MayHoldIn self.new held.cell }
-        ensures none { IfNone result ((o : ObjectId) → MayHold self.old o held.cell → FindsNext self.new o None) }
+        ensures none { IfNone result (HoldsLast self.old self.new held.cell) }
         ensures held { IfSome result (λ h. MayHoldIn self.new h.cell) }
-        ensures some { IfSome result (λ h. (o : ObjectId) → MayHold self.old o held.cell → (next : ObjectId) × FindsNext self.new o (Some next) × MayHold self.new next h.cell) }
+        ensures some { IfSome result (λ h. HoldsNext self.old self.new held.cell h.cell) }
+        ensures table { KeepsTable self.old self.new }
     {
         let word = load_link(&self.table, &mut self.seat, held.cell);
         if word == 0 {
@@ -68,22 +67,24 @@ impl<P: GracePlan, K: ChainRule, B: Site> Reader<P, K, B> {
 
     /// One of the four words of an object that the reader holds. It never waits and takes no memory.
     pub fn read_word(&mut self, held: Held, index: usize) -> u64
-        requires open_section { (P.QSBR ≡ B.qsbr) × (0 < self.old.depth) × (index < 4) }
+        requires open_section { (0 < self.old.depth) × (index < 4) }
         requires held { MayHoldIn self.old held.cell }
         ensures looked { Looks P.QSBR K.allows self.old self.new }
         ensures still { MayHoldIn self.new held.cell }
-        ensures word { (o : ObjectId) → MayHold self.old o held.cell → result ≡ slice_index_or (note_of (log_of self.old) o).1 index 0 }
+        ensures word { HasWord self.old held.cell index result }
+        ensures table { KeepsTable self.old self.new }
     {
         load_word(&self.table, &mut self.seat, held.cell, index)
     }
 
     /// The four words of an object that the reader holds. It never waits and takes no memory.
     pub fn read(&mut self, held: Held) -> [u64; 4]
-        requires open_section { (P.QSBR ≡ B.qsbr) × (0 < self.old.depth) }
+        requires open_section { 0 < self.old.depth }
         requires held { MayHoldIn self.old held.cell }
         ensures looked { Looks P.QSBR K.allows self.old self.new }
         ensures still { MayHoldIn self.new held.cell }
-        ensures payload { (o : ObjectId) → MayHold self.old o held.cell → result ≡ payload_of (log_of self.old) o }
+        ensures payload { HasWords self.old held.cell result }
+        ensures table { KeepsTable self.old self.new }
     {
         let one = self.read_word(held, 0);
         let two = self.read_word(held, 1);

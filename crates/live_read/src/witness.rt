@@ -146,30 +146,30 @@ impl<B: Site> Witness for Record<B> {
 impl<P: GracePlan, K: ChainRule, B: Site> Witness for Reader<P, K, B> {
     ghost use Rattle.live_read.specs.Sections.{IsIn};
 
-    ghost seen = { λ r. r.seat.me.0.seen };
+    ghost seen = { λ r. r.core.seat.me.0.seen };
 
-    ghost heard = { λ r. r.seat.me.0.heard };
+    ghost heard = { λ r. r.core.seat.me.0.heard };
 
-    ghost loads = { λ r. r.seat.me.0.loads };
+    ghost loads = { λ r. r.core.seat.me.0.loads };
 
-    ghost looks = { λ r. r.seat.me.0.looks };
+    ghost looks = { λ r. r.core.seat.me.0.looks };
 
-    ghost changes = { λ r. r.seat.me.0.changes };
+    ghost changes = { λ r. r.core.seat.me.0.changes };
 
-    ghost home = { λ r. (r.seat.table_id, r.seat.me.0.sizes) };
+    ghost home = { λ r. (r.core.seat.table_id, r.core.seat.me.0.sizes) };
 
     ghost use Rattle.live_table.specs.Rights.{count_in};
 
-    ghost is_in = { λ r. IsIn r };
+    ghost is_in = { λ r. IsIn r.core };
 
-    ghost standing = { λ r. record { slot = r.slot; word = r.word; ordinal = count_in r.seat.me.0.slot; depth = r.depth; locks = r.locks } };
+    ghost standing = { λ r. record { slot = r.core.slot; word = r.core.word; ordinal = count_in r.core.seat.me.0.slot; depth = r.core.depth; locks = r.core.locks } };
 
     fn tell<Q: GracePlan, L: ChainRule>(&mut self, table: &LiveTable<Q, L>) -> LiveSeat {
-        table.tell(&mut self.seat)
+        table.tell(&mut self.core.seat)
     }
 
     fn learn<Q: GracePlan, L: ChainRule>(&mut self, table: &LiveTable<Q, L>, other: LiveSeat) {
-        table.learn(&mut self.seat, other);
+        table.learn(&mut self.core.seat, other);
     }
 
     fn learn_changes<Q: GracePlan, L: ChainRule>(
@@ -177,6 +177,6 @@ impl<P: GracePlan, K: ChainRule, B: Site> Witness for Reader<P, K, B> {
         table: &LiveTable<Q, L>,
         other: LiveSeat,
     ) {
-        table.learn_changes(&mut self.seat, other);
+        table.learn_changes(&mut self.core.seat, other);
     }
 }

@@ -1,4 +1,4 @@
 pub mod Stores
 pub mod Sections
-mod Words
+pub mod Words
 mod Slots

@@ -1,12 +1,14 @@
 -- A load of a slot's word keeps the rule.
-use Rattle.std.proofs.Common.{◌≡◌, ℕ, ◌<◌, Bool, get_or, sym, refl, subst}
+use Rattle.std.proofs.Common.{◌≡◌, ℕ, ◌<◌, Bool, get_or, sym, refl, ap, ◌∙◌, subst}
 use mathlib.Core.Option as lists
 use Rattle.atomic_table.specs.Table.{State, Me, step, keeps, Allows}
 use Rattle.live_log.specs.declared.event.LiveEvent.{LiveEvent}
 use Rattle.live_log.specs.Log.{Log, open_of}
 use Rattle.live_rule.specs.declared.view.Sizes.{Sizes}
 use Rattle.live_rule.specs.declared.view.View.{View}
+use Rattle.live_rule.specs.declared.rights.SlotRight.{SlotRight}
 use Rattle.live_rule.specs.Readers.{Fits}
+use Rattle.live_rule.specs.Rights.{slot, ClaimsSlot, KnowsSlot}
 use Rattle.live_rule.specs.Rule.{KeepsRule}
 use Rattle.live_rule.proofs.Lemmas.{looks, look_all}
 use Rattle.live_table.specs.Steps.{looked_view}
@@ -21,9 +23,10 @@ module _ {S : Type 0} (qsbr : Bool) (allows : Log → LiveEvent → Type 0) (key
     w,
     keeps,
     tt,
-    looks qsbr allows key s r id a v w at refl refl (look_all qsbr allows key s r id v w at (refl, refl, refl, refl, refl, refl, refl)),
+    looks qsbr allows key s r id a v w at refl refl (look_all qsbr allows key s r id v w at (refl, refl, refl, refl, refl, refl)),
     (
       (refl, refl, (b.0, b.1, r.run)),
       λ q low e. subst (λ (i : ℕ). Fits qsbr (get_or s.words i 0) (open_of q r.log)) (sym e) (r.agree.readers.each_slot q (subst (λ (k : Sizes). q < k.slots) sizes low)),
+      λ q e own. let mine = subst (λ (y : SlotRight). KnowsSlot qsbr key r.log s.words y q) own (r.knows (slot q) id v at (subst (λ (y : SlotRight). ClaimsSlot y q) (sym own) refl)) in (ap (λ (i : ℕ). get_or s.words i 0) e ∙ mine.1, mine.2),
     ),
   )

@@ -17,7 +17,7 @@ use Rattle.live_rule.specs.Readers.{Fits, ReaderWords}
 use Rattle.live_rule.specs.Rights.{slot, ClaimsSlot, KnowsSlot}
 use Rattle.live_rule.specs.Rule.{KeepsRule}
 use Rattle.live_rule.specs.Steps.{Precedes, at_log}
-use Rattle.live_rule.proofs.Lemmas.{own_slot, groups_kept, grace_kept, low_stores}
+use Rattle.live_rule.proofs.Lemmas.{own_slot, grace_kept, low_stores}
 use Rattle.live_readers.specs.Sections.{IsAt, Stored}
 
 -- each of these events is of this slot
@@ -115,7 +115,7 @@ module _ {S : Type 0} (qsbr : Bool) (allows : Log → LiveEvent → Type 0) (key
       (λ _ m'. Stored qsbr allows r x count events me m')
   stores slots id me r w k x count events is of fits s rule deep at fine =
       let v : View = me.0 in
-      let claim : ClaimsSlot key v.slot r = subst (λ (y : SlotRight). ClaimsSlot key y r) (sym is) refl in
+      let claim : ClaimsSlot v.slot r = subst (λ (y : SlotRight). ClaimsSlot y r) (sym is) refl in
       let mine = subst (λ (y : SlotRight). KnowsSlot qsbr key rule.log s.words y r) is (rule.knows (slot r) id v at claim) in
       let low = mine.0 in
       let g = rule.agree.readers in
@@ -129,11 +129,10 @@ module _ {S : Type 0} (qsbr : Bool) (allows : Log → LiveEvent → Type 0) (key
         record (at_log v log') { slot = Owns r x count },
         keeps,
         tt,
-        low_stores qsbr allows key s rule id (slot_at r) x v log' at (Owns r x count) v.groups v.grace (record { objects = a.objects; notes = a.notes; closed = a.closed; more = (events, refl) }) f.0 (omega arith)
+        low_stores qsbr allows key s rule id (slot_at r) x v log' at (Owns r x count) v.grace v.looks (record { objects = a.objects; notes = a.notes; closed = a.closed; more = (events, refl) }) f.0 (omega arith)
             (reading qsbr key rule.log s.words r x low small events a inside mine.3 f.1.0 g)
             (own_slot qsbr allows key s rule id (slot_at r) x v log' at r (Owns r x count) claim (λ p c. c) (low, get_or-set_same s.words (slot_at r) x 0 inside, f.1.1, bit r low ∙ mine.3)
             (λ p lp far. (slot_else qsbr key rule.log s.words r x low small events a p far, (a.others p far).1, bit p lp)))
-            (groups_kept qsbr allows key s rule id (slot_at r) x v log' at (groups qsbr key rule.log s.words r x low small events a))
             (grace_kept qsbr allows key s rule id (slot_at r) x v log' at (events, refl) (a.seq, a.present, a.mark)),
         (refl, (rule.log, refl, (rule.seen id v at).0, (rule.seen id v at).1, f.0), f.1),
       )

@@ -11,7 +11,7 @@ use Rattle.live_rule.specs.declared.rights.SlotRight.TheVariants.{Owns}
 use Rattle.live_rule.specs.Places.{slot_at}
 use Rattle.live_rule.specs.Readers.{Fits}
 use Rattle.live_rule.specs.Steps.{Wrote, at_log, Looked}
-use Rattle.live_table.specs.Rights.{count_in}
+use Rattle.live_table.specs.Rights.{IsOwner, count_in, word_in}
 use Rattle.live_table.specs.Steps.{Went, looked_view}
 
 -- the phase or number that an open word copied
@@ -49,9 +49,9 @@ module _ {S : Type 0} (qsbr : Bool) (allows : Log → LiveEvent → Type 0) wher
   abbrev pub looked_present : Step S → Me S View → ℕ → Me S View → Type 0
   looked_present st m n m' = Looked qsbr allows m m' × (present_of m'.0.seen ≡ n)
 
-  -- the word of a slot was loaded, which is that of the slot's open section, if it has one
+  -- the word of a slot was loaded, which is that of the slot's open section, if it has one; the slot's owner knew it
   abbrev pub looked_slot : Step S → Me S View → ℕ → Me S View → Type 0
-  looked_slot st m n m' = Went qsbr allows (looked_view st.word n m.0) m m' × ((r : ℕ) → r < m.0.sizes.slots → st.word ≡ slot_at r → Fits qsbr n (open_of r m'.0.seen))
+  looked_slot st m n m' = Went qsbr allows (looked_view st.word n m.0) m m' × ((r : ℕ) → r < m.0.sizes.slots → st.word ≡ slot_at r → Fits qsbr n (open_of r m'.0.seen)) × ((r : ℕ) → st.word ≡ slot_at r → IsOwner m.0 r → (n ≡ word_in m.0.slot) × (sections_of r m'.0.seen ≡ count_in m.0.slot))
 
   -- the word of slot r was stored, these events were written, and the slot has had so many sections
   abbrev pub Stored : ℕ → ℕ → ℕ → Log → Me S View → Me S View → Type 0

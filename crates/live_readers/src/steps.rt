@@ -2,12 +2,12 @@
 ghost use Rattle.std.specs.Prelude.{◌≡◌, ℕ, ◌<◌};
 ghost use Rattle.reader_word.specs.declared.layout.Layout.TheVariants.{Wide};
 ghost use Rattle.gp_memb.specs.Plan.{Shows};
-ghost use Rattle.live_log.specs.Log.{MayCopy, open_of, present_of};
+ghost use Rattle.live_log.specs.Log.{MayCopy, open_of, present_of, sections_of};
 ghost use Rattle.live_rule.specs.Places.{slot_at};
 ghost use Rattle.live_rule.specs.Readers.{Fits, IsClosed};
 ghost use Rattle.live_rule.specs.Steps.{Looked};
 ghost use Rattle.live_table.specs.Steps.{Keeps, Went, looked_view};
-ghost use Rattle.live_table.specs.Rights.{IsOwner, word_in};
+ghost use Rattle.live_table.specs.Rights.{IsOwner, count_in, word_in};
 ghost use Rattle.live_readers.specs.Sections.{Announced, Closed, Nested, Opened, copied};
 
 use crate::plays::{Announces, Closes, LooksPresent, LooksSlot, Nests, Opens};
@@ -27,7 +27,7 @@ pub fn load_present<P: GracePlan, K: ChainRule>(table: &LiveTable<P, K>, seat: &
     table.words.shared.load::<LooksPresent<P, K>>(seat, place)
 }
 
-/// Loads the word of a slot's reader, by any seat. What it found is kept among the looks.
+/// Loads the word of a slot's reader, by any seat. What it found is kept among the looks. The slot's owner knew it.
 pub fn look_slot<P: GracePlan, K: ChainRule>(
     table: &LiveTable<P, K>,
     seat: &mut LiveSeat,
@@ -37,6 +37,7 @@ pub fn look_slot<P: GracePlan, K: ChainRule>(
     ensures seat { Keeps seat.old seat.new }
     ensures looked { Went P.QSBR K.allows (looked_view (slot_at slot) result seat.old.me.0) seat.old.me seat.new.me }
     ensures word { Fits P.QSBR result (open_of slot seat.new.me.0.seen) }
+    ensures own { IsOwner seat.old.me.0 slot → (result ≡ word_in seat.old.me.0.slot) × (sections_of slot seat.new.me.0.seen ≡ count_in seat.old.me.0.slot) }
 {
     let place = table.slot_place(slot);
     table.words.shared.load::<LooksSlot<P, K>>(seat, place)

@@ -64,7 +64,7 @@ module _ {S : Type 0} (qsbr : Bool) (allows : Log → LiveEvent → Type 0) (key
         keeps,
         tt,
         subst (λ (n : ℕ). Rule record { words = set s.words n x; homes = s.homes; views = set s.views id w }) (sym a_is)
-            (own_record qsbr allows key s r id (cell_at key i 0) x v w log at (calm_object (Retire o) r.log) run (omega arith) (refl, refl, refl, refl, refl) (refl, refl, refl) (λ _. (refl, refl)) (λ _. (refl, refl)) (λ _ h. h)
+            (own_record qsbr allows key s r id (cell_at key i 0) x v w log at (calm_object (Retire o) r.log) run (omega arith) (refl, refl, refl, refl) (refl, refl, refl) (λ _. (refl, refl)) (λ _. (refl, refl)) (λ _ h. h)
             (heap_beside key was now s.words W (record {
               leads = leads_retired r.log o;
               note = λ _. refl;
@@ -112,7 +112,7 @@ module _ {S : Type 0} (qsbr : Bool) (allows : Log → LiveEvent → Type 0) (key
         keeps,
         tt,
         subst (λ (n : ℕ). Rule record { words = set s.words n 0; homes = s.homes; views = set s.views id w }) (sym a_is)
-            (own_record qsbr allows key s r id (cell_at key i 0) 0 v w log at (calm_object (Run o) r.log) run (omega arith) (refl, refl, refl, refl, refl) (refl, refl, refl) (λ _. (refl, refl)) (λ _. (refl, refl)) (λ _ h. inr h)
+            (own_record qsbr allows key s r id (cell_at key i 0) 0 v w log at (calm_object (Run o) r.log) run (omega arith) (refl, refl, refl, refl) (refl, refl, refl) (λ _. (refl, refl)) (λ _. (refl, refl)) (λ _ h. inr h)
             (heap_beside key was now s.words W (record {
               leads = leads_run r.log o;
               note = λ _. refl;
@@ -161,7 +161,7 @@ module _ {S : Type 0} (qsbr : Bool) (allows : Log → LiveEvent → Type 0) (key
         w,
         keeps,
         tt,
-        looks qsbr allows key s r id a v w at refl refl (look_all qsbr allows key s r id v w at (refl, refl, refl, refl, refl, refl, refl)),
+        looks qsbr allows key s r id a v w at refl refl (look_all qsbr allows key s r id v w at (refl, refl, refl, refl, refl, refl)),
         (
           (refl, refl, (b.0, b.1, r.run)),
           alive.0.0,

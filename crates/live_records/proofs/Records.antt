@@ -51,7 +51,7 @@ module _ {S : Type 0} (qsbr : Bool) (allows : Log → LiveEvent → Type 0) (key
   Rule = KeepsRule qsbr allows key
 
   -- a store of the last number, or of a word of a record, with no event but of retiring or running
-  pub own_record : (s : State S View) (r : Rule s) (id a x : ℕ) (v w : View) (log : Log) (at : get_elem? s.views id ≡ lists.some v) → Calm r.log log → IsLiveRun qsbr allows log → last_at key ≤ a → (w.seen ≡ log) × (w.heard ≡ v.heard) × (w.slot ≡ v.slot) × (w.groups ≡ v.groups) × (w.grace ≡ v.grace) → (w.chains ≡ v.chains) × (w.queue ≡ v.queue) × (w.work ≡ v.work)
+  pub own_record : (s : State S View) (r : Rule s) (id a x : ℕ) (v w : View) (log : Log) (at : get_elem? s.views id ≡ lists.some v) → Calm r.log log → IsLiveRun qsbr allows log → last_at key ≤ a → (w.seen ≡ log) × (w.heard ≡ v.heard) × (w.slot ≡ v.slot) × (w.grace ≡ v.grace) → (w.chains ≡ v.chains) × (w.queue ≡ v.queue) × (w.work ≡ v.work)
       → ((c : ℕ) → ((objects_of log).chain c ≡ (objects_of r.log).chain c) × (chain_note c log ≡ chain_note c r.log)) → ((q : ℕ) → (line_of log q ≡ line_of r.log q) × (closed_of q log ≡ closed_of q r.log)) → ((o : ObjectId) → In (state_of r.log).reclaimed o → In (state_of log).reclaimed o)
       → ObjectWords key (objects_of log) (set s.words a x) → ObjectStep qsbr allows key s r id a x v w log at → Rule record { words = set s.words a x; homes = s.homes; views = set s.views id w }
   own_record s r id a x v w log at calm run above same other chains lines back heap objects =
@@ -99,7 +99,7 @@ module _ {S : Type 0} (qsbr : Bool) (allows : Log → LiveEvent → Type 0) (key
         w,
         keeps,
         tt,
-        own_record s r id a (n + 1) v w r.log at (calm_same r.log) r.run (omega arith) (refl, refl, refl, refl, refl) (refl, refl, refl) (λ _. (refl, refl)) (λ _. (refl, refl)) (λ _ h. h)
+        own_record s r id a (n + 1) v w r.log at (calm_same r.log) r.run (omega arith) (refl, refl, refl, refl) (refl, refl, refl) (λ _. (refl, refl)) (λ _. (refl, refl)) (λ _ h. h)
             (heap_far key (objects_of r.log) s.words (set s.words a (n + 1)) less (λ c l. get_or-set_other s.words a (head_at key c) (n + 1) 0 (λ z. omega arith)) (λ q _ k _. cell ((objects_of r.log).note q).0 k) r.agree.heap)
             (record {
               others = λ q y claim _ k. object_stays qsbr allows key s r id a (n + 1) v w r.log at less y q claim (same_object_all (objects_of r.log) q) (λ i _ _ _ j _. cell i j) k;
@@ -108,7 +108,7 @@ module _ {S : Type 0} (qsbr : Bool) (allows : Log → LiveEvent → Type 0) (key
         ((λ _. (refl, refl, (b.0, b.1, r.run))), λ ne. absurd (ne found)),
       ))
       (λ ne. let w : View = record (looked_view a m v) { seen = r.log } in
-      (w, keeps, tt, looks qsbr allows key s r id a v w at refl refl (look_all qsbr allows key s r id v w at (refl, refl, refl, refl, refl, refl, refl)), ((λ found. absurd (ne found)), λ _. (refl, refl, (b.0, b.1, r.run)))))
+      (w, keeps, tt, looks qsbr allows key s r id a v w at refl refl (look_all qsbr allows key s r id v w at (refl, refl, refl, refl, refl, refl)), ((λ found. absurd (ne found)), λ _. (refl, refl, (b.0, b.1, r.run)))))
 
   -- the record i, in which an object with the number m stands, or none and m is 0
   module _ (s : State S View) (r : Rule s) (i k x m : ℕ) (small : k < 6) (half : get_or s.words (cell_at key i 0) 0 / 2 ≡ m) where
@@ -132,7 +132,7 @@ module _ {S : Type 0} (qsbr : Bool) (allows : Log → LiveEvent → Type 0) (key
     head_same c l = get_or-set_other s.words (cell_at key i k) (head_at key c) x 0 (λ z. omega arith)
 
     -- a store that writes no event, in a record of which no object is alive
-    own_cell : (id : ℕ) (v w : View) (at : get_elem? s.views id ≡ lists.some v) → (w.seen ≡ r.log) × (w.heard ≡ v.heard) × (w.slot ≡ v.slot) × (w.groups ≡ v.groups) × (w.grace ≡ v.grace) → (w.chains ≡ v.chains) × (w.queue ≡ v.queue) × (w.work ≡ v.work)
+    own_cell : (id : ℕ) (v w : View) (at : get_elem? s.views id ≡ lists.some v) → (w.seen ≡ r.log) × (w.heard ≡ v.heard) × (w.slot ≡ v.slot) × (w.grace ≡ v.grace) → (w.chains ≡ v.chains) × (w.queue ≡ v.queue) × (w.work ≡ v.work)
         → ((q : ObjectId) → IsAlive (objects_of r.log) q → q.0 ≢ m) → ((q : ObjectId) → 1 ≤ q.0 → ¬ ClaimsObject v.object q → q.0 ≢ m)
         → ((o : ObjectId) → ClaimsObject w.object o → KnowsObject qsbr key r.log (set s.words (cell_at key i k) x) (objects_of r.log) w.object × (ClaimsObject v.object o ⊎ Unclaimed key s.views id (object o)))
         → Rule record { words = set s.words (cell_at key i k) x; homes = s.homes; views = set s.views id w }
@@ -177,7 +177,7 @@ module _ {S : Type 0} (qsbr : Bool) (allows : Log → LiveEvent → Type 0) (key
         keeps,
         tt,
         subst (λ (n : ℕ). Rule record { words = set s.words n x; homes = s.homes; views = set s.views id w }) (sym a_is)
-            (own_cell s r i 0 x 0 (omega arith) (omega arith) id v w at (refl, refl, refl, refl, refl) (refl, refl, refl)
+            (own_cell s r i 0 x 0 (omega arith) (omega arith) id v w at (refl, refl, refl, refl) (refl, refl, refl)
             (λ q alive. let up = (r.agree.heap.numbers q alive.0).0 in λ e. omega arith) (λ q up _ e. omega arith)
             (λ q claim. (
               (k.0, k.1, omega arith, low, get_or-set_same s.words (cell_at key i 0) x 0 (omega arith), far 1 (omega arith) (omega arith), refl, λ j c. far (j + 2) (omega arith) (omega arith) ∙ of_four key s.words i j c),
@@ -186,7 +186,7 @@ module _ {S : Type 0} (qsbr : Bool) (allows : Log → LiveEvent → Type 0) (key
         ((λ _ j same. let e : i ≡ j = same_cell j same in ((refl, (λ n. record (looked_view a m v) { seen = r.log; object = Fresh (e n) o l p }), (b.0, b.1, r.run)), refl)), λ ne. absurd (ne found)),
       ))
       (λ ne. let w : View = record (looked_view a m v) { seen = r.log } in
-      (w, keeps, tt, looks qsbr allows key s r id a v w at refl refl (look_all qsbr allows key s r id v w at (refl, refl, refl, refl, refl, refl, refl)), ((λ found. absurd (ne found)), λ _. (refl, refl, (b.0, b.1, r.run)))))
+      (w, keeps, tt, looks qsbr allows key s r id a v w at refl refl (look_all qsbr allows key s r id v w at (refl, refl, refl, refl, refl, refl)), ((λ found. absurd (ne found)), λ _. (refl, refl, (b.0, b.1, r.run)))))
     where
       same_cell : (j : ℕ) → a ≡ cell_at me.0.sizes j 0 → i ≡ j
       same_cell j is = let z : a ≡ cell_at key j 0 = is ∙ ap (λ (k : Sizes). cell_at k j 0) sizes in omega arith
@@ -199,7 +199,7 @@ module _ {S : Type 0} (qsbr : Bool) (allows : Log → LiveEvent → Type 0) (key
     fresh_mine : (o : ObjectId) → object_in v.object ≡ o → ClaimsObject v.object o
     fresh_mine o e = subst (λ (y : RecordRight). ClaimsObject y o) (sym is) e
 
-    fresh_store : (k x : ℕ) (w : View) → k < 6 → (w.seen ≡ r.log) × (w.heard ≡ v.heard) × (w.slot ≡ v.slot) × (w.groups ≡ v.groups) × (w.grace ≡ v.grace) → (w.chains ≡ v.chains) × (w.queue ≡ v.queue) × (w.work ≡ v.work)
+    fresh_store : (k x : ℕ) (w : View) → k < 6 → (w.seen ≡ r.log) × (w.heard ≡ v.heard) × (w.slot ≡ v.slot) × (w.grace ≡ v.grace) → (w.chains ≡ v.chains) × (w.queue ≡ v.queue) × (w.work ≡ v.work)
         → ((o : ObjectId) → ClaimsObject w.object o → KnowsObject qsbr key r.log (set s.words (cell_at key (cell_in v.object) k) x) (objects_of r.log) w.object × (object_in v.object ≡ o))
         → Rule record { words = set s.words (cell_at key (cell_in v.object) k) x; homes = s.homes; views = set s.views id w }
     fresh_store k x w small same other mine =
@@ -230,7 +230,7 @@ module _ {S : Type 0} (qsbr : Bool) (allows : Log → LiveEvent → Type 0) (key
         keeps,
         tt,
         subst (λ (n : ℕ). Rule record { words = set s.words n x; homes = s.homes; views = set s.views id w }) (sym a_is)
-            (fresh_store s r id v at is 1 x w (omega arith) (refl, refl, refl, refl, refl) (refl, refl, refl)
+            (fresh_store s r id v at is 1 x w (omega arith) (refl, refl, refl, refl) (refl, refl, refl)
             (λ o claim. ((f.0, f.1, fresh_last s r id v at is 1 x, f.3, far 0 (λ e. omega arith) ∙ f.4, get_or-set_same s.words (cell_at key i 1) x 0 (omega arith), f.6, λ k l. far (k + 2) (λ e. omega arith) ∙ f.7 k l), claim))),
         ((refl, refl, (b.0, b.1, r.run)), goes_on qsbr allows key s r id v at sizes),
       )
@@ -251,7 +251,7 @@ module _ {S : Type 0} (qsbr : Bool) (allows : Log → LiveEvent → Type 0) (key
         keeps,
         tt,
         subst (λ (n : ℕ). Rule record { words = set s.words n x; homes = s.homes; views = set s.views id w }) (sym a_is)
-            (fresh_store s r id v at is (j + 2) x w (omega arith) (refl, refl, refl, refl, refl) (refl, refl, refl)
+            (fresh_store s r id v at is (j + 2) x w (omega arith) (refl, refl, refl, refl) (refl, refl, refl)
             (λ o claim. (
               (
                 f.0,
@@ -282,7 +282,7 @@ module _ {S : Type 0} (qsbr : Bool) (allows : Log → LiveEvent → Type 0) (key
         keeps,
         tt,
         subst (λ (n : ℕ). Rule record { words = set s.words n 0; homes = s.homes; views = set s.views id w }) (sym a_is)
-            (fresh_store s r id v at is 0 0 w (omega arith) (refl, refl, refl, refl, refl) (refl, refl, refl) (λ o claim. absurd claim)),
+            (fresh_store s r id v at is 0 0 w (omega arith) (refl, refl, refl, refl) (refl, refl, refl) (λ o claim. absurd claim)),
         (refl, refl, (b.0, b.1, r.run)),
       )
 
@@ -301,10 +301,10 @@ module _ {S : Type 0} (qsbr : Bool) (allows : Log → LiveEvent → Type 0) (key
     w,
     keeps,
     tt,
-    looks qsbr allows key s r id a v w at refl refl (look_all qsbr allows key s r id v w at (refl, refl, refl, refl, refl, refl, refl)),
+    looks qsbr allows key s r id a v w at refl refl (look_all qsbr allows key s r id v w at (refl, refl, refl, refl, refl, refl)),
     ((refl, refl, (b.0, b.1, r.run)), at_place s.words a (cell_at key (cell_in v.object) 0) a_is ∙ header_is s r id v at is),
   )
 
   pub looks_word : (slots id : ℕ) (me : Me S View) (a : ℕ) → Allows Rule slots id me a (λ n. n) (looked qsbr allows (step slots a 0 0 lists.none) me)
   looks_word slots id me a s r deep at fits = let v : View = me.0 in let b = r.seen id v at in let n : ℕ = get_or s.words a 0 in let w : View = record (looked_view a n v) { seen = r.log } in
-      (w, keeps, tt, looks qsbr allows key s r id a v w at refl refl (look_all qsbr allows key s r id v w at (refl, refl, refl, refl, refl, refl, refl)), (refl, refl, (b.0, b.1, r.run)))
+      (w, keeps, tt, looks qsbr allows key s r id a v w at refl refl (look_all qsbr allows key s r id v w at (refl, refl, refl, refl, refl, refl)), (refl, refl, (b.0, b.1, r.run)))

@@ -4,25 +4,12 @@ use live_log::LiveEvent;
 use rcu_model::ObjectId;
 use std::collections::LinkedList;
 
-/// The right to store the words of readers.
+/// The right to store the word of a slot's reader.
 pub enum SlotRight {
     /// None.
     Nothing,
-    /// All slots from this one on, none of which was ever in use.
-    Spare(u64),
-    /// The slot, its word, which is closed, and how many sections it has had. Its bit may be 0, so no section may be
-    /// opened.
-    Idle(u64, u64, u64),
-    /// The slot, its word, and how many sections it has had. Its bit is set.
+    /// The slot, its word, and how many sections it has had. Its bit is set: while it is 0, nobody has the right.
     Owns(u64, u64, u64),
-}
-
-/// The right to store the group words, each of which has a bit for each of 64 slots.
-pub enum GroupsRight {
-    /// None.
-    Nothing,
-    /// The four group words.
-    Owns(LinkedList<u64>),
 }
 
 /// The right to store the sequence number, and the phase or number.

@@ -1,8 +1,6 @@
 //! What a seat knows.
 
-use crate::rights::{
-    ChainRight, GraceRight, GroupsRight, QueueRight, RecordRight, SlotRight, WorkRight,
-};
+use crate::rights::{ChainRight, GraceRight, QueueRight, RecordRight, SlotRight, WorkRight};
 use live_log::LiveEvent;
 use std::collections::LinkedList;
 
@@ -27,10 +25,8 @@ pub struct View {
     pub seen: LinkedList<LiveEvent>,
     /// What another seat told it, which its next step makes a part of what it has seen.
     pub heard: LinkedList<LiveEvent>,
-    /// Its right to the words of readers.
+    /// Its right to a reader's word.
     pub slot: SlotRight,
-    /// Its right to the group words.
-    pub groups: GroupsRight,
     /// Its right to the words of grace periods.
     pub grace: GraceRight,
     /// Its rights to chains: its own one, and those that it was lent.

@@ -3,8 +3,8 @@ ghost use Rattle.std.specs.Prelude.{◌≡◌, ◌<◌, ◌≤◌};
 ghost use Rattle.live_rule.specs.Places.{cell_at, head_at, words_of};
 
 use crate::plays::{
-    CutChains, CutGrace, CutGroups, CutLentChains, CutObject, CutSlot, CutSpareQueue, CutSpareSlot,
-    CutWork, JoinAll, Learn, LearnChanges, TakeObject, Tell, TellChanges,
+    CutChains, CutGrace, CutLentChains, CutObject, CutSpareQueue, CutWork, JoinAll, Learn,
+    LearnChanges, NewSeat, TakeObject, Tell, TellChanges,
 };
 use atomic_table::Table;
 use gp_memb::GracePlan;
@@ -36,8 +36,9 @@ pub struct LiveTable<P: GracePlan, K: ChainRule> {
 /// How seats are made, cut and joined. A cut and a join are one load of word 0 each.
 impl<P: GracePlan, K: ChainRule> LiveTable<P, K> {
     ghost use Rattle.std.specs.Prelude.{ℕ, ◌+◌, ◌*◌, [], IfOk};
-    ghost use Rattle.live_rule.specs.Views.{first_view};
-    ghost use Rattle.live_rule.specs.Seats.{IsSpareQueue, IsSpareSlot, but_chains, but_first_queue, but_first_slot, but_grace, but_groups, but_lent, but_object, but_slot, but_work, chains_alone, changed_view, first_queue, first_slot, grace_alone, groups_alone, heard_changes_view, heard_view, lent_alone, merged, object_alone, slot_alone, taken_view, told_view, work_alone};
+    ghost use Rattle.live_log.specs.Log.{IsLiveRun};
+    ghost use Rattle.live_rule.specs.Views.{bare, first_view};
+    ghost use Rattle.live_rule.specs.Seats.{IsSpareQueue, but_chains, but_first_queue, but_grace, but_lent, but_object, but_work, chains_alone, changed_view, first_queue, grace_alone, heard_changes_view, heard_view, lent_alone, merged, object_alone, taken_view, told_view, work_alone};
     ghost use Rattle.live_table.specs.Steps.{Cut, Joined};
 
     /// A table of these sizes whose words are all 0, and its first seat, which has every right that no hold word
@@ -72,6 +73,14 @@ impl<P: GracePlan, K: ChainRule> LiveTable<P, K> {
             },
             seat,
         ))
+    }
+
+    /// A seat that has seen the log of now, and has no right. It never waits.
+    pub fn new_seat(&self) -> LiveSeat
+        ensures seat { (result.table_id ≡ self.now.words.shared.table_id) × (result.me ≡ (bare self.now.words.shared.key result.me.0.seen [], [])) }
+        ensures run { IsLiveRun P.QSBR K.allows result.me.0.seen }
+    {
+        self.words.shared.load_new_seat::<NewSeat<P, K>>(0).1
     }
 
     /// Cuts off a seat that has seen as much and has no right: what the first seat has seen can be told to another by
@@ -122,30 +131,6 @@ impl<P: GracePlan, K: ChainRule> LiveTable<P, K> {
         ensures { Joined taken_view seat.old seat.new other.me.0 }
     {
         self.words.shared.join_seat::<TakeObject>(seat, other)
-    }
-
-    /// Cuts off a seat for the first spare slot, which is idle.
-    pub fn cut_spare_slot(&self, seat: &mut LiveSeat) -> LiveSeat
-        requires { (seat.old.table_id ≡ self.now.words.shared.table_id) × IsSpareSlot seat.old.me.0 self.now.slots }
-        ensures { Cut but_first_slot first_slot seat.old seat.new result }
-    {
-        self.words.shared.split_seat::<CutSpareSlot>(seat)
-    }
-
-    /// Cuts off a seat with the right to slots, as it is.
-    pub fn cut_slot(&self, seat: &mut LiveSeat) -> LiveSeat
-        requires { seat.old.table_id ≡ self.now.words.shared.table_id }
-        ensures { Cut but_slot slot_alone seat.old seat.new result }
-    {
-        self.words.shared.split_seat::<CutSlot>(seat)
-    }
-
-    /// Cuts off a seat with the right to the group words.
-    pub fn cut_groups(&self, seat: &mut LiveSeat) -> LiveSeat
-        requires { seat.old.table_id ≡ self.now.words.shared.table_id }
-        ensures { Cut but_groups groups_alone seat.old seat.new result }
-    {
-        self.words.shared.split_seat::<CutGroups>(seat)
     }
 
     /// Cuts off a seat with the right to the words of grace periods.

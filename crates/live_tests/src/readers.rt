@@ -5,44 +5,43 @@ ghost use Rattle.std.specs.Prelude.{◌≡◌, ◌<◌, [], true, false, IfOk};
 ghost use Rattle.std.specs.Arc.{arc_value};
 ghost use Rattle.live_rule.specs.Views.{first_view};
 
-use crate::registering::opened;
+use crate::registering::first_record;
 use gp_memb::{GracePlan, MembPlan};
 use gp_qsbr::QsbrPlan;
 use live_read::{Reader, Record, Site, Witness, inform};
 use live_words::{AnyChain, ChainRule, LiveSeat, LiveTable};
 use rcu_model::Refusal;
-use std::alloc::Global;
 use std::marker::Brand;
-use std::sync::Arc;
+use std::sync::{Arc, Wait};
 
 /// The first reader of a new table.
-fn first_reader<P: GracePlan, K: ChainRule, B: Site>(
-    alloc: Global,
+fn first_reader<P: GracePlan, K: ChainRule, B: Site, R: Wait>(
+    rt: &R,
     words: &Arc<LiveTable<P, K>>,
     root: LiveSeat,
 ) -> Result<Reader<P, K, B>, Refusal>
-    requires site { (P.QSBR ≡ B.qsbr) × ((arc_value words.now).words.shared.table_id ≡ B.table) × (root.table_id ≡ B.table) × (0 < (arc_value words.now).slots) × ((arc_value words.now).words.shared.key ≡ B.sizes) }
+    requires site { ((arc_value words.now).words.shared.table_id ≡ B.table) × (root.table_id ≡ B.table) × ((arc_value words.now).words.shared.key ≡ B.sizes) }
     requires new { root.me ≡ (first_view (arc_value words.now).words.shared.key, []) }
-    ensures { IfOk result (λ r. (r.depth ≡ 0) × (r.locks ≡ 0)) }
+    ensures { IfOk result (λ r. (r.core.depth ≡ 0) × (r.core.locks ≡ 0)) }
 {
-    let (mut registrar, mut record) = opened::<P, K, B>(alloc, words, root)?;
-    registrar.register(&mut record)
+    let mut record = first_record::<P, K, B>(words, root);
+    Reader::register(rt, words, &mut record)
 }
 
 fn nests<B: Site>(reader: &mut Reader<MembPlan, AnyChain, B>) -> Result<([u64; 5], bool), Refusal>
-    requires { (B.qsbr ≡ false) × (reader.old.depth ≡ 0) × (reader.old.locks ≡ 0) }
+    requires { (B.qsbr ≡ false) × (reader.old.core.depth ≡ 0) × (reader.old.core.locks ≡ 0) }
 {
     let mut outer = reader.section()?;
-    let one = outer.reader.word;
+    let one = outer.reader.core.word;
     let inner = outer.reader.section()?;
-    let two = inner.reader.word;
+    let two = inner.reader.core.word;
     inner.close();
-    let left = outer.reader.word;
+    let left = outer.reader.core.word;
     outer.reader.lock()?;
-    let locked = outer.reader.word;
+    let locked = outer.reader.core.word;
     outer.reader.unlock()?;
     let refused = matches!(outer.reader.unlock(), Err(Refusal::NotOpen));
-    let alive = outer.reader.word;
+    let alive = outer.reader.core.word;
     outer.close();
     Ok(([one, two, left, locked, alive], refused))
 }
@@ -51,9 +50,9 @@ fn locks<B: Site>(reader: &mut Reader<MembPlan, AnyChain, B>) -> Result<[bool; 6
     requires { B.qsbr ≡ false }
 {
     let none = matches!(reader.unlock(), Err(Refusal::NotOpen));
-    let locked = reader.try_lock() && reader.word == 1;
+    let locked = reader.try_lock() && reader.core.word == 1;
     reader.unlock()?;
-    let left = reader.word == 0;
+    let left = reader.core.word == 0;
     let online = matches!(reader.online(), Err(Refusal::WrongFlavour));
     let quiescent = matches!(reader.quiescent(), Err(Refusal::WrongFlavour));
     let offline = matches!(reader.offline(), Err(Refusal::WrongFlavour));
@@ -71,7 +70,7 @@ fn announces<B: Site>(
     let silent = matches!(reader.quiescent(), Err(Refusal::NotOpen));
     let gone = matches!(reader.offline(), Err(Refusal::NotOpen));
     reader.online()?;
-    let online = reader.word;
+    let online = reader.core.word;
     let again = matches!(reader.online(), Err(Refusal::Busy));
     reader.lock()?;
     let locked = matches!(reader.quiescent(), Err(Refusal::Busy));
@@ -83,18 +82,18 @@ fn announces<B: Site>(
     drop(nested);
     drop(section);
     reader.quiescent()?;
-    let announced = reader.word;
+    let announced = reader.core.word;
     reader.offline()?;
     Ok((
         [outside, unlocked, tried, silent, gone],
         [again, locked, inside, within],
-        [online, announced, reader.word],
+        [online, announced, reader.core.word],
     ))
 }
 
 fn tells<P: GracePlan, K: ChainRule, B: Site>(table: &LiveTable<P, K>, reader: &mut Reader<P, K, B>)
     requires { table.now.words.shared.table_id ≡ B.table }
-    ensures { (reader.new.depth ≡ reader.old.depth) × (reader.new.locks ≡ reader.old.locks) }
+    ensures { (reader.new.core.depth ≡ reader.old.core.depth) × (reader.new.core.locks ≡ reader.old.core.locks) }
 {
     let mut record = Record::<B>::split(table, reader);
     inform(table, &mut record, reader);
@@ -102,28 +101,28 @@ fn tells<P: GracePlan, K: ChainRule, B: Site>(table: &LiveTable<P, K>, reader: &
     record.learn(table, told);
 }
 
-fn general<B: Site>(
-    alloc: Global,
+fn general<B: Site, R: Wait>(
+    rt: &R,
     words: &Arc<LiveTable<MembPlan, AnyChain>>,
     root: LiveSeat,
 ) -> Result<(([u64; 5], bool), [bool; 6]), Refusal>
-    requires site { (B.qsbr ≡ false) × ((arc_value words.now).words.shared.table_id ≡ B.table) × (root.table_id ≡ B.table) × (0 < (arc_value words.now).slots) × ((arc_value words.now).words.shared.key ≡ B.sizes) }
+    requires site { (B.qsbr ≡ false) × ((arc_value words.now).words.shared.table_id ≡ B.table) × (root.table_id ≡ B.table) × ((arc_value words.now).words.shared.key ≡ B.sizes) }
     requires new { root.me ≡ (first_view (arc_value words.now).words.shared.key, []) }
 {
-    let mut reader = first_reader::<MembPlan, AnyChain, B>(alloc, words, root)?;
+    let mut reader = first_reader::<MembPlan, AnyChain, B, R>(rt, words, root)?;
     let words = nests(&mut reader)?;
     Ok((words, locks(&mut reader)?))
 }
 
-fn quiescent<B: Site>(
-    alloc: Global,
+fn quiescent<B: Site, R: Wait>(
+    rt: &R,
     words: &Arc<LiveTable<QsbrPlan, AnyChain>>,
     root: LiveSeat,
 ) -> Result<([bool; 5], [bool; 4], [u64; 3]), Refusal>
-    requires site { (B.qsbr ≡ true) × ((arc_value words.now).words.shared.table_id ≡ B.table) × (root.table_id ≡ B.table) × (0 < (arc_value words.now).slots) × ((arc_value words.now).words.shared.key ≡ B.sizes) }
+    requires site { (B.qsbr ≡ true) × ((arc_value words.now).words.shared.table_id ≡ B.table) × (root.table_id ≡ B.table) × ((arc_value words.now).words.shared.key ≡ B.sizes) }
     requires new { root.me ≡ (first_view (arc_value words.now).words.shared.key, []) }
 {
-    let mut reader = first_reader::<QsbrPlan, AnyChain, B>(alloc, words, root)?;
+    let mut reader = first_reader::<QsbrPlan, AnyChain, B, R>(rt, words, root)?;
     tells(words, &mut reader);
     announces(&mut reader)
 }
@@ -134,7 +133,7 @@ fn sections_and_locks_nest(rt: HostRuntime) {
         &rt, "memory",
     );
     let words = Arc::new(rt.alloc(), table).expect(&rt, "memory");
-    let (sections, locks) = general::<Brand>(rt.alloc(), &words, root).expect(&rt, "not refused");
+    let (sections, locks) = general::<Brand, _>(&rt, &words, root).expect(&rt, "not refused");
     assert_eq!(rt; sections, ([1, 2, 1, 2, 1], true));
     assert_eq!(rt; locks, [true, true, true, true, true, true]);
 }
@@ -145,10 +144,7 @@ fn announcements(rt: HostRuntime) {
         &rt, "memory",
     );
     let words = Arc::new(rt.alloc(), table).expect(&rt, "memory");
-    let (away, busy, stored) = quiescent::<Brand>(rt.alloc(), &words, root).expect(
-        &rt,
-        "not refused",
-    );
+    let (away, busy, stored) = quiescent::<Brand, _>(&rt, &words, root).expect(&rt, "not refused");
     assert_eq!(rt; away, [true, true, true, true, true]);
     assert_eq!(rt; busy, [true, true, true, true]);
     assert_eq!(rt; stored, [1, 1, 0]);

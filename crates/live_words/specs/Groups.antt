@@ -1,2 +1,2 @@
--- What the stores of group words tell.
-pub use Rattle.live_groups.specs.Groups.{DiffersAt, group_word, regrouped, Regrouped}
+-- What the steps on group words tell.
+pub use Rattle.live_groups.specs.Groups.{IsClaimed, claimed_view, released_view, TakesSlot, GivesSlot, DiffersAt}

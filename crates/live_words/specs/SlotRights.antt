@@ -1,2 +1,2 @@
 -- The variants of `SlotRight`.
-pub use Rattle.live_rule.specs.declared.rights.SlotRight.TheVariants.{Nothing, Spare, Idle, Owns}
+pub use Rattle.live_rule.specs.declared.rights.SlotRight.TheVariants.{Nothing, Owns}

@@ -6,7 +6,7 @@ pub use live_chains::{
     cut, free_chain, hold_chain, load_head, load_link, load_note, load_word, push, replace,
     store_cut, store_note, store_push, store_replace,
 };
-pub use live_groups::{claim, release, store_clear, store_set};
+pub use live_groups::{claim, look_group, release};
 pub use live_log::{AnyChain, ChainRule, Keyed, LiveEvent, ObjectEvent, Tabled};
 pub use live_periods::{load_group, load_seq, load_slot, store_even, store_odd, store_present};
 pub use live_queues::{
@@ -22,7 +22,7 @@ pub use live_records::{
     store_retire, store_run, store_word, take_cell,
 };
 pub use live_rule::{
-    ChainRight, GraceRight, GroupsRight, LiveRule, LiveSeat, QueueRight, RecordRight, Sizes,
-    SlotRight, View, WorkRight,
+    ChainRight, GraceRight, LiveRule, LiveSeat, QueueRight, RecordRight, Sizes, SlotRight, View,
+    WorkRight,
 };
 pub use live_table::LiveTable;

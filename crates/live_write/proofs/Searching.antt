@@ -3,7 +3,6 @@ use Rattle.std.proofs.Common.{Bool, Option, None, Some, IfNone, MatchBool, ◌==
 use mathlib.Core.Logic.{dite}
 use native.Mathlib.Decide.{ℕ_discrete, dec_le}
 use Rattle.atomic_table.specs.Table.{Me}
-use Rattle.rcu_model.proofs.Lemmas.{in_left}
 use Rattle.live_log.specs.declared.event.LiveEvent.{LiveEvent}
 use Rattle.live_log.specs.Log.{Begins, Log}
 use Rattle.live_rule.specs.declared.view.Sizes.{Sizes}
@@ -13,16 +12,9 @@ use Rattle.live_rule.specs.declared.rights.RecordRight.TheVariants.{Fresh}
 use Rattle.live_rule.specs.Places.{cell_at}
 use Rattle.live_table.specs.Rights.{link_in, object_in, payload_in}
 use Rattle.live_table.specs.Steps.{IsLater}
+use Rattle.live_table.proofs.Lemmas.{found_left, found_right}
 use Rattle.live_words.proofs.Lemmas.{begins_trans}
-use Rattle.live_write.specs.Searching.{AreTaken, FoundIn, IsTaken, Searched, Takes}
-
--- what was found earlier, or later, was found
-pub found_left : (found more : List (ℕ × ℕ)) (place : ℕ) (so : ℕ → Type 0) → FoundIn found place so → FoundIn (found ++ more) place so
-found_left found more place so f = (f.0, in_left found more (place, f.0) f.1, f.2)
-
-pub found_right : (more found : List (ℕ × ℕ)) (place : ℕ) (so : ℕ → Type 0) → FoundIn found place so → FoundIn (more ++ found) place so
-found_right [] found place so f = f
-found_right (x ∷ more) found place so f = let g = found_right more found place so f in (g.0, inr g.1, g.2)
+use Rattle.live_write.specs.Searching.{AreTaken, IsTaken, Searched, Takes}
 
 module _ {S : Type 0} (qsbr : Bool) (allows : Log → LiveEvent → Type 0) where
   -- what the right to an object is after a search

@@ -2,7 +2,6 @@
 use Rattle.std.specs.Prelude.{Bool, ◌≡◌, ◌≢◌, ℕ, ◌<◌, ◌≤◌, ◌^◌, List, ◌++◌, length}
 use Rattle.atomic_table.specs.Table.{Me}
 use Rattle.rcu_model.specs.declared.event.ObjectId.{ObjectId}
-use Rattle.rcu_model.specs.Sets.{In}
 use Rattle.live_log.specs.declared.event.LiveEvent.{LiveEvent}
 use Rattle.live_log.specs.Log.{Log}
 use Rattle.live_rule.specs.declared.view.Sizes.{Sizes}
@@ -11,11 +10,7 @@ use Rattle.live_rule.specs.declared.rights.RecordRight.{RecordRight}
 use Rattle.live_rule.specs.declared.rights.RecordRight.TheVariants.{Fresh}
 use Rattle.live_rule.specs.Places.{cell_at, last_at}
 use Rattle.live_table.specs.Rights.{link_in, object_in, payload_in}
-use Rattle.live_table.specs.Steps.{Went}
-
--- a word that was found at this place is so
-abbrev pub FoundIn : List (ℕ × ℕ) → ℕ → (ℕ → Type 0) → Type 0
-FoundIn found place so = (n : ℕ) × In found (place, n) × so n
+use Rattle.live_table.specs.Steps.{FoundIn, Went}
 
 -- the record was found in use
 abbrev pub IsTaken : Sizes → List (ℕ × ℕ) → ℕ → Type 0

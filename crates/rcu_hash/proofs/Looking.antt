@@ -1,4 +1,5 @@
 -- What a lookup that read a directory answers.
+use Rattle.gp_memb.specs.declared.plan.GracePlan as plan
 use Rattle.std.proofs.Common.{◌≡◌, ℕ, ◌<◌, ◌≤◌, ◌+◌, ◌%◌, ◌==◌, ◌&&◌, Bool, true, false, List, [], Option, Some, None, cond, nat_lt, refl, sym, ap, ◌∙◌, subst, arith, eq-eqb, lt_of_not-le}
 use Rattle.std.proofs.lemmas.Bool.{eqb-true, lt-ltb, ltb-true}
 use Rattle.std.proofs.lemmas.Nat.{mod_below}
@@ -10,8 +11,7 @@ use Rattle.live_log.specs.declared.event.LiveEvent.TheVariants.{Close}
 use Rattle.live_log.specs.Log.{Log, Begins, Has, note_of}
 use Rattle.live_log.specs.Tables.{kind_of, tabled}
 use Rattle.live_log.proofs.Lemmas.{begins_trans}
-use Rattle.live_read.specs.declared.reader.Reader.{Reader}
-use Rattle.live_read.specs.declared.site.Site.{Ghosts}
+use Rattle.live_read.specs.declared.reader_core.ReaderCore.{ReaderCore}
 use Rattle.live_read.specs.Holding.{log_of, ordinal}
 use Rattle.live_read.specs.Reads.{FindsFirst, Looks}
 use Rattle.live_read.specs.Sections.{IsIn}
@@ -59,7 +59,7 @@ module _ (seen heard start new : Log) (chains d : ℕ) where
   walks_from met a b w = record { had = λ key value h. through_from key (Some value) a b (w.had key value h); lacked = λ key n. through_from key None a b (w.lacked key n) }
 
 -- a lookup by a reader in a section
-module _ {P K B : Type 0} {g : Ghosts B} (qsbr : Bool) (chains d : ℕ) (r s t : Reader P K B g) (o : ObjectId) (first : FindsFirst r d (Some o)) where
+module _ {P K : Type 0} {g : plan.Ghosts P} (qsbr : Bool) (chains d : ℕ) (r s t : ReaderCore P K g) (o : ObjectId) (first : FindsFirst r d (Some o)) where
   -- the object is no directory that leads the key
   pub answers_nowhere : (key : ℕ) → leads chains (note_of (log_of r) o) key ≡ false → Begins (log_of r) (log_of s) → AnswersThrough (log_of r) (log_of r) (log_of s) chains d key None
   answers_nowhere key nowhere b = record {
@@ -80,7 +80,7 @@ module _ {P K B : Type 0} {g : Ghosts B} (qsbr : Bool) (chains d : ℕ) (r s t :
       subst (AnswersThrough (log_of r) (log_of r) (log_of t) chains d key) (ap (λ (n : ℕ). map_of between.at n key) (sym is) ∙ between.is) found
 
 -- what the words of an object tell is so of its payload
-module _ {P K B : Type 0} {g : Ghosts B} (qsbr : Bool) (chains d : ℕ) (r : Reader P K B g) (o : ObjectId) (first : FindsFirst r d (Some o)) (kind low many : ℕ) (words : (kind ≡ kind_of (note_of (log_of r) o)) × (low ≡ first_in (note_of (log_of r) o)) × (many ≡ buckets_in (note_of (log_of r) o))) where
+module _ {P K : Type 0} {g : plan.Ghosts P} (qsbr : Bool) (chains d : ℕ) (r : ReaderCore P K g) (o : ObjectId) (first : FindsFirst r d (Some o)) (kind low many : ℕ) (words : (kind ≡ kind_of (note_of (log_of r) o)) × (low ≡ first_in (note_of (log_of r) o)) × (many ≡ buckets_in (note_of (log_of r) o))) where
   abbrev x : ℕ × List ℕ
   x = note_of (log_of r) o
 
@@ -97,7 +97,7 @@ module _ {P K B : Type 0} {g : Ghosts B} (qsbr : Bool) (chains d : ℕ) (r : Rea
   pub through_later : (mid new : Log) (key : ℕ) (answer : Option ℕ) → Begins mid new → HadThrough mid key answer → HadThrough new key answer
   through_later mid new key answer b a = record { at = a.at; after_seen = a.after_seen; after_heard = a.after_heard; before = begins_trans a.at mid new a.before b; is = a.is }
 
-  module _ (s t : Reader P K B g) (inside : IsIn r) (a : Looks qsbr tabled r s) (b : Looks qsbr tabled s t) where
+  module _ (s t : ReaderCore P K g) (inside : IsIn r) (a : Looks qsbr tabled r s) (b : Looks qsbr tabled s t) where
     pub value_answers : (key c : ℕ) (answer : Option ℕ) → leads_to chains kind low many key ≡ true → c ≡ bucket_of low many key → AnswersBetween (log_of s) s.seat.me.0.heard (log_of t) c key answer → HadThrough (log_of t) key answer
     value_answers key c answer led is between = answers_there qsbr chains d r s t o first key c answer (leads_words key true led) (is ∙ bucket_words key) inside a b between
 

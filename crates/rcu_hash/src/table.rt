@@ -151,10 +151,10 @@ impl<'d, P: GracePlan + Drop, B: Site, D: Deleter> RcuHash<'d, P, B, D> {
     /// The value of a key, or none; liburcu's `cds_lfht_lookup`: as `TableView::get`. It never waits and takes no
     /// memory.
     pub fn get(&self, section: &mut Section<'_, P, Tabled, B>, key: u64) -> Option<u64>
-        requires { (P.QSBR ≡ B.qsbr) × (0 < section.old.reader.now.depth) }
+        requires { (P.QSBR ≡ B.qsbr) × (0 < section.old.reader.now.core.depth) }
         ensures reader { section.new.reader.ghost_name ≡ section.old.reader.ghost_name }
-        ensures looked { Looks P.QSBR tabled section.old.reader.now section.new.reader.now }
-        ensures window { AnswersThrough (log_of section.old.reader.now) section.old.reader.now.seat.me.0.heard (log_of section.new.reader.now) B.sizes.chains self.now.directory key result }
+        ensures looked { Looks P.QSBR tabled section.old.reader.now.core section.new.reader.now.core }
+        ensures window { AnswersThrough (log_of section.old.reader.now.core) section.old.reader.now.core.seat.me.0.heard (log_of section.new.reader.now.core) B.sizes.chains self.now.directory key result }
     {
         self.view.get(section, key)
     }
@@ -244,12 +244,12 @@ impl<'d, P: GracePlan + Drop, B: Site, D: Deleter> RcuHash<'d, P, B, D> {
         section: &mut Section<'_, P, Tabled, B>,
         visit: &mut F,
     )
-        requires open_section { (P.QSBR ≡ B.qsbr) × (0 < section.old.reader.now.depth) }
+        requires open_section { (P.QSBR ≡ B.qsbr) × (0 < section.old.reader.now.core.depth) }
         requires callable { F.IsAlwaysCallable visit.old }
         ensures reader { section.new.reader.ghost_name ≡ section.old.reader.ghost_name }
-        ensures looked { Looks P.QSBR tabled section.old.reader.now section.new.reader.now }
+        ensures looked { Looks P.QSBR tabled section.old.reader.now.core section.new.reader.now.core }
         ensures callable { F.IsAlwaysCallable visit.new }
-        ensures met { (met : List (ℕ × ℕ)) × WalksThrough (log_of section.old.reader.now) section.old.reader.now.seat.me.0.heard (log_of section.new.reader.now) B.sizes.chains self.now.directory met × FoldsTo (λ f e g. F.step f e.0 e.1 tt g) visit.old met visit.new }
+        ensures met { (met : List (ℕ × ℕ)) × WalksThrough (log_of section.old.reader.now.core) section.old.reader.now.core.seat.me.0.heard (log_of section.new.reader.now.core) B.sizes.chains self.now.directory met × FoldsTo (λ f e g. F.step f e.0 e.1 tt g) visit.old met visit.new }
     {
         self.view.for_each(section, visit);
     }

@@ -94,11 +94,11 @@ impl<B: Site> TableView<B> {
 
     // Three words of an object: a directory's kind, the first chain that it names, and how many.
     fn words<P: GracePlan>(section: &mut Section<'_, P, Tabled, B>, held: Held) -> (u64, u64, u64)
-        requires open_section { (P.QSBR ≡ B.qsbr) × (0 < section.old.reader.now.depth) }
-        requires held { MayHoldIn section.old.reader.now held.cell }
+        requires open_section { (P.QSBR ≡ B.qsbr) × (0 < section.old.reader.now.core.depth) }
+        requires held { MayHoldIn section.old.reader.now.core held.cell }
         ensures reader { section.new.reader.ghost_name ≡ section.old.reader.ghost_name }
-        ensures looked { Looks P.QSBR tabled section.old.reader.now section.new.reader.now }
-        ensures words { (o : ObjectId) → MayHold section.old.reader.now o held.cell → (result.0 ≡ kind_of (note_of (log_of section.old.reader.now) o)) × (result.1 ≡ first_in (note_of (log_of section.old.reader.now) o)) × (result.2 ≡ buckets_in (note_of (log_of section.old.reader.now) o)) }
+        ensures looked { Looks P.QSBR tabled section.old.reader.now.core section.new.reader.now.core }
+        ensures words { (o : ObjectId) → MayHold section.old.reader.now.core o held.cell → (result.0 ≡ kind_of (note_of (log_of section.old.reader.now.core) o)) × (result.1 ≡ first_in (note_of (log_of section.old.reader.now.core) o)) × (result.2 ≡ buckets_in (note_of (log_of section.old.reader.now.core) o)) }
     {
         let kind = section.read_word(held, 3);
         let first = section.read_word(held, 0);
@@ -113,12 +113,12 @@ impl<B: Site> TableView<B> {
         held: Held,
         key: u64,
     ) -> Option<u64>
-        requires open_section { (P.QSBR ≡ B.qsbr) × (0 < section.old.reader.now.depth) }
-        requires inside { IsIn section.old.reader.now }
-        requires first { (o : ObjectId) × FindsFirst section.old.reader.now self.directory (Some o) × MayHold section.old.reader.now o held.cell }
+        requires open_section { (P.QSBR ≡ B.qsbr) × (0 < section.old.reader.now.core.depth) }
+        requires inside { IsIn section.old.reader.now.core }
+        requires first { (o : ObjectId) × FindsFirst section.old.reader.now.core self.directory (Some o) × MayHold section.old.reader.now.core o held.cell }
         ensures reader { section.new.reader.ghost_name ≡ section.old.reader.ghost_name }
-        ensures looked { Looks P.QSBR tabled section.old.reader.now section.new.reader.now }
-        ensures window { AnswersThrough (log_of section.old.reader.now) (log_of section.old.reader.now) (log_of section.new.reader.now) self.chains self.directory key result }
+        ensures looked { Looks P.QSBR tabled section.old.reader.now.core section.new.reader.now.core }
+        ensures window { AnswersThrough (log_of section.old.reader.now.core) (log_of section.old.reader.now.core) (log_of section.new.reader.now.core) self.chains self.directory key result }
     {
         let (kind, first, buckets) = Self::words(section, held);
         let Some(chain) = bucket_by(kind, first, buckets, key, self.chains) else {
@@ -136,10 +136,10 @@ impl<B: Site> TableView<B> {
     /// It reads the directory and the key's bucket alone, and returns, since ranks fall along the bucket's chain. It
     /// never waits and takes no memory.
     pub fn get<P: GracePlan>(self, section: &mut Section<'_, P, Tabled, B>, key: u64) -> Option<u64>
-        requires { (P.QSBR ≡ B.qsbr) × (0 < section.old.reader.now.depth) }
+        requires { (P.QSBR ≡ B.qsbr) × (0 < section.old.reader.now.core.depth) }
         ensures reader { section.new.reader.ghost_name ≡ section.old.reader.ghost_name }
-        ensures looked { Looks P.QSBR tabled section.old.reader.now section.new.reader.now }
-        ensures window { AnswersThrough (log_of section.old.reader.now) section.old.reader.now.seat.me.0.heard (log_of section.new.reader.now) B.sizes.chains self.directory key result }
+        ensures looked { Looks P.QSBR tabled section.old.reader.now.core section.new.reader.now.core }
+        ensures window { AnswersThrough (log_of section.old.reader.now.core) section.old.reader.now.core.seat.me.0.heard (log_of section.new.reader.now.core) B.sizes.chains self.directory key result }
     {
         match section.first(self.directory) {
             Ok(Some(held)) => self.look(section, held, key),
@@ -155,14 +155,14 @@ impl<B: Site> TableView<B> {
         held: Held,
         visit: &mut F,
     )
-        requires open_section { (P.QSBR ≡ B.qsbr) × (0 < section.old.reader.now.depth) }
-        requires inside { IsIn section.old.reader.now }
-        requires first { (o : ObjectId) × FindsFirst section.old.reader.now self.directory (Some o) × MayHold section.old.reader.now o held.cell }
+        requires open_section { (P.QSBR ≡ B.qsbr) × (0 < section.old.reader.now.core.depth) }
+        requires inside { IsIn section.old.reader.now.core }
+        requires first { (o : ObjectId) × FindsFirst section.old.reader.now.core self.directory (Some o) × MayHold section.old.reader.now.core o held.cell }
         requires callable { F.IsAlwaysCallable visit.old }
         ensures reader { section.new.reader.ghost_name ≡ section.old.reader.ghost_name }
-        ensures looked { Looks P.QSBR tabled section.old.reader.now section.new.reader.now }
+        ensures looked { Looks P.QSBR tabled section.old.reader.now.core section.new.reader.now.core }
         ensures callable { F.IsAlwaysCallable visit.new }
-        ensures met { (met : List (ℕ × ℕ)) × WalksThrough (log_of section.old.reader.now) (log_of section.old.reader.now) (log_of section.new.reader.now) self.chains self.directory met × FoldsTo (λ f e g. F.step f e.0 e.1 tt g) visit.old met visit.new }
+        ensures met { (met : List (ℕ × ℕ)) × WalksThrough (log_of section.old.reader.now.core) (log_of section.old.reader.now.core) (log_of section.new.reader.now.core) self.chains self.directory met × FoldsTo (λ f e g. F.step f e.0 e.1 tt g) visit.old met visit.new }
     {
         let (kind, first, buckets) = Self::words(section, held);
         for number in 0..buckets {
@@ -184,12 +184,12 @@ impl<B: Site> TableView<B> {
         section: &mut Section<'_, P, Tabled, B>,
         visit: &mut F,
     )
-        requires open_section { (P.QSBR ≡ B.qsbr) × (0 < section.old.reader.now.depth) }
+        requires open_section { (P.QSBR ≡ B.qsbr) × (0 < section.old.reader.now.core.depth) }
         requires callable { F.IsAlwaysCallable visit.old }
         ensures reader { section.new.reader.ghost_name ≡ section.old.reader.ghost_name }
-        ensures looked { Looks P.QSBR tabled section.old.reader.now section.new.reader.now }
+        ensures looked { Looks P.QSBR tabled section.old.reader.now.core section.new.reader.now.core }
         ensures callable { F.IsAlwaysCallable visit.new }
-        ensures met { (met : List (ℕ × ℕ)) × WalksThrough (log_of section.old.reader.now) section.old.reader.now.seat.me.0.heard (log_of section.new.reader.now) B.sizes.chains self.directory met × FoldsTo (λ f e g. F.step f e.0 e.1 tt g) visit.old met visit.new }
+        ensures met { (met : List (ℕ × ℕ)) × WalksThrough (log_of section.old.reader.now.core) section.old.reader.now.core.seat.me.0.heard (log_of section.new.reader.now.core) B.sizes.chains self.directory met × FoldsTo (λ f e g. F.step f e.0 e.1 tt g) visit.old met visit.new }
     {
         match section.first(self.directory) {
             Ok(Some(held)) => self.walk(section, held, visit),

@@ -1,4 +1,5 @@
 -- Where a reader stands in a walk through a whole list.
+use Rattle.gp_memb.specs.declared.plan.GracePlan as plan
 use Rattle.std.proofs.Common.{◌≡◌, ◌<◌, ℕ, Bool, List, [], ◌∷◌, ◌++◌, Some, None, refl, sym, ap, subst, arith}
 use Rattle.rcu_model.specs.declared.event.ObjectId.{ObjectId}
 use Rattle.rcu_model.specs.Sets.{first_of}
@@ -8,8 +9,7 @@ use Rattle.live_log.specs.Keys.{key_of, rank_of}
 use Rattle.live_log.specs.Log.{Log, Begins, IsLiveRun, note_of, state_of}
 use Rattle.live_log.specs.Maps.{HasMaps}
 use Rattle.live_log.proofs.Lemmas.{begins_trans, run_of}
-use Rattle.live_read.specs.declared.reader.Reader.{Reader}
-use Rattle.live_read.specs.declared.site.Site.{Ghosts}
+use Rattle.live_read.specs.declared.reader_core.ReaderCore.{ReaderCore}
 use Rattle.live_read.specs.Holding.{MayHold, log_of}
 use Rattle.live_read.specs.Reads.{FindsFirst, FindsNext, Looks}
 use Rattle.live_read.proofs.Lemmas.{looks_twice}
@@ -20,19 +20,19 @@ use Rattle.rcu_list.proofs.Walking.{Passes, first_by, first_met, passes_by, pass
 use Rattle.rcu_list.proofs.Windows.{Met, advances, met_later}
 
 -- a walk through the keys that are wanted, which began at what this reader had seen
-module _ {P K B : Type 0} {g : Ghosts B} (qsbr : Bool) (allows : Log → LiveEvent → Type 0) (maps : HasMaps qsbr allows) (wanted : ℕ → Type 0) (c : ℕ) (start : Reader P K B g) where
-  abbrev Passed : Reader P K B g → ℕ → List (ℕ × ℕ) → Type 0
+module _ {P K : Type 0} {g : plan.Ghosts P} (qsbr : Bool) (allows : Log → LiveEvent → Type 0) (maps : HasMaps qsbr allows) (wanted : ℕ → Type 0) (c : ℕ) (start : ReaderCore P K g) where
+  abbrev Passed : ReaderCore P K g → ℕ → List (ℕ × ℕ) → Type 0
   Passed r rank met = Passes qsbr allows maps wanted c (log_of start) (log_of r) rank met
 
   -- the reader is at an object that the walk came to, and has met these keys
-  pub record GoesAt (r : Reader P K B g) (o : ObjectId) (cell : ℕ) (met : List (ℕ × ℕ)) : Type 0 where
+  pub record GoesAt (r : ReaderCore P K g) (o : ObjectId) (cell : ℕ) (met : List (ℕ × ℕ)) : Type 0 where
     pub looked : Looks qsbr allows start r
     pub holds : MayHold r o cell
     pub was : Met c (log_of start) (log_of r) o
     pub passed : Passed r (rank_of (note_of (log_of r) o)) met
 
   -- after a load
-  pub goes_on : (r s : Reader P K B g) (o : ObjectId) (cell : ℕ) (met : List (ℕ × ℕ)) → GoesAt r o cell met → Looks qsbr allows r s → GoesAt s o cell met
+  pub goes_on : (r s : ReaderCore P K g) (o : ObjectId) (cell : ℕ) (met : List (ℕ × ℕ)) → GoesAt r o cell met → Looks qsbr allows r s → GoesAt s o cell met
   goes_on r s o cell met at l = record {
     looked = looks_twice qsbr allows start r s at.looked l;
     holds = l.keeps.held o cell at.holds;
@@ -42,7 +42,7 @@ module _ {P K B : Type 0} {g : Ghosts B} (qsbr : Bool) (allows : Log → LiveEve
   }
 
   -- at the first object, with this key and value
-  module _ (s : Reader P K B g) (o : ObjectId) (cell : ℕ) (l : Looks qsbr allows start s) (first : FindsFirst start c (Some o)) (held : MayHold start o cell) (key value : ℕ) (key_is : key_of (note_of (log_of start) o) ≡ key) (value_is : value_of (note_of (log_of start) o) ≡ value) where
+  module _ (s : ReaderCore P K g) (o : ObjectId) (cell : ℕ) (l : Looks qsbr allows start s) (first : FindsFirst start c (Some o)) (held : MayHold start o cell) (key value : ℕ) (key_is : key_of (note_of (log_of start) o) ≡ key) (value_is : value_of (note_of (log_of start) o) ≡ value) where
     run : IsLiveRun qsbr allows (log_of start)
     run = run_of qsbr allows (log_of start) (log_of s) l.later.after_seen l.later.run
 
@@ -61,7 +61,7 @@ module _ {P K B : Type 0} {g : Ghosts B} (qsbr : Bool) (allows : Log → LiveEve
     pub goes_first_by : ¬ wanted key → GoesAt s o cell []
     goes_first_by unwanted = begun [] (first_by qsbr allows maps wanted c (log_of start) run o first (λ w. unwanted (subst wanted key_is w)))
 
-  module _ (r s : Reader P K B g) (o : ObjectId) (cell : ℕ) (met : List (ℕ × ℕ)) (at : GoesAt r o cell met) (l : Looks qsbr allows r s) where
+  module _ (r s : ReaderCore P K g) (o : ObjectId) (cell : ℕ) (met : List (ℕ × ℕ)) (at : GoesAt r o cell met) (l : Looks qsbr allows r s) where
     here : GoesAt s o cell met
     here = goes_on r s o cell met at l
 
@@ -70,7 +70,7 @@ module _ {P K B : Type 0} {g : Ghosts B} (qsbr : Bool) (allows : Log → LiveEve
     goes_none next = passes_end qsbr allows maps wanted c (log_of start) (log_of s) here.looked.later.run o met here.was here.passed next
 
     -- what follows has this key and value
-    module _ (p : ObjectId) (next : FindsNext s o (Some p)) (t : Reader P K B g) (cell' : ℕ) (held : MayHold s p cell') (m : Looks qsbr allows s t) (key value : ℕ) (key_is : key_of (note_of (log_of s) p) ≡ key) (value_is : value_of (note_of (log_of s) p) ≡ value) where
+    module _ (p : ObjectId) (next : FindsNext s o (Some p)) (t : ReaderCore P K g) (cell' : ℕ) (held : MayHold s p cell') (m : Looks qsbr allows s t) (key value : ℕ) (key_is : key_of (note_of (log_of s) p) ≡ key) (value_is : value_of (note_of (log_of s) p) ≡ value) where
       came : (met' : List (ℕ × ℕ)) → Passed s (rank_of (note_of (log_of s) p)) met' → GoesAt t p cell' met'
       came met' q = goes_on s t p cell' met' (record { looked = here.looked; holds = held; was = (advances qsbr allows maps c (log_of start) (log_of s) o p here.looked.later.run here.was next).0; passed = q }) m
 
@@ -87,7 +87,7 @@ module _ {P K B : Type 0} {g : Ghosts B} (qsbr : Bool) (allows : Log → LiveEve
           let b : rank_of (note_of (log_of s) o) ≡ rank_of (note_of (log_of r) o) = ap rank_of (l.keeps.notes o cell at.holds) in omega arith
 
   -- nothing has a rank below 0
-  pub goes_last : (r : Reader P K B g) (o : ObjectId) (cell : ℕ) (met : List (ℕ × ℕ)) → GoesAt r o cell met → rank_of (note_of (log_of r) o) ≡ 0 → GoesThrough wanted (log_of start) (log_of start) (log_of r) c met
+  pub goes_last : (r : ReaderCore P K g) (o : ObjectId) (cell : ℕ) (met : List (ℕ × ℕ)) → GoesAt r o cell met → rank_of (note_of (log_of r) o) ≡ 0 → GoesThrough wanted (log_of start) (log_of start) (log_of r) c met
   goes_last r o cell met at low = passes_last qsbr allows maps wanted c (log_of start) (log_of r) at.looked.later.run met (subst (λ (n : ℕ). Passed r n met) low at.passed)
 
 -- a walk that began at a later log

@@ -1,12 +1,12 @@
 -- Where a reader stands in a lookup along a keyed chain.
+use Rattle.gp_memb.specs.declared.plan.GracePlan as plan
 use Rattle.std.proofs.Common.{◌≡◌, ◌≢◌, ℕ, ◌<◌, Bool, List, [], Option, Some, None, refl, sym, ap, subst, arith}
 use Rattle.rcu_model.specs.declared.event.ObjectId.{ObjectId}
 use Rattle.rcu_model.proofs.Lemmas.{first_has}
 use Rattle.live_log.specs.Keys.{key_of, rank_of}
 use Rattle.live_log.specs.Log.{Log, Begins, note_of, objects_of}
 use Rattle.live_log.proofs.Lemmas.{begins_trans, run_of}
-use Rattle.live_read.specs.declared.reader.Reader.{Reader}
-use Rattle.live_read.specs.declared.site.Site.{Ghosts}
+use Rattle.live_read.specs.declared.reader_core.ReaderCore.{ReaderCore}
 use Rattle.live_read.specs.Holding.{MayHold, log_of}
 use Rattle.live_read.specs.Reads.{FindsFirst, FindsNext, Looks}
 use Rattle.live_read.proofs.Lemmas.{looks_twice}
@@ -20,19 +20,19 @@ pub answers_later : (start now later : Log) (c key : ℕ) (answer : Option ℕ) 
 answers_later start now later c key answer b a = record { at = a.at; after_seen = a.after_seen; after_heard = a.after_heard; before = begins_trans a.at now later a.before b; is = a.is }
 
 -- a lookup of a key, which began at what this reader had seen
-module _ {P K B : Type 0} {g : Ghosts B} (qsbr : Bool) (allows : Log → LiveEvent → Type 0) (c key : ℕ) (start : Reader P K B g) where
+module _ {P K : Type 0} {g : plan.Ghosts P} (qsbr : Bool) (allows : Log → LiveEvent → Type 0) (c key : ℕ) (start : ReaderCore P K g) where
   -- the reader is at an object that the lookup met, and the key is not before it
-  pub record StandsAt (r : Reader P K B g) (o : ObjectId) (cell : ℕ) : Type 0 where
+  pub record StandsAt (r : ReaderCore P K g) (o : ObjectId) (cell : ℕ) : Type 0 where
     pub looked : Looks qsbr allows start r
     pub holds : MayHold r o cell
     pub met : Met c (log_of start) (log_of r) o
     pub past : Past c (log_of start) (log_of r) key (rank_of (note_of (log_of r) o))
 
-  abbrev Answers : Reader P K B g → Option ℕ → Type 0
+  abbrev Answers : ReaderCore P K g → Option ℕ → Type 0
   Answers r answer = AnswersBetween (log_of start) (log_of start) (log_of r) c key answer
 
   -- after a load
-  pub stands_on : (r s : Reader P K B g) (o : ObjectId) (cell : ℕ) → StandsAt r o cell → Looks qsbr allows r s → StandsAt s o cell
+  pub stands_on : (r s : ReaderCore P K g) (o : ObjectId) (cell : ℕ) → StandsAt r o cell → Looks qsbr allows r s → StandsAt s o cell
   stands_on r s o cell at l = record {
     looked = looks_twice qsbr allows start r s at.looked l;
     holds = l.keeps.held o cell at.holds;
@@ -42,7 +42,7 @@ module _ {P K B : Type 0} {g : Ghosts B} (qsbr : Bool) (allows : Log → LiveEve
 
   module _ (maps : HasMaps qsbr allows) where
     -- at the first object, which has another key
-    pub stands_first : (s : Reader P K B g) (o : ObjectId) (cell : ℕ) → Looks qsbr allows start s → FindsFirst start c (Some o) → MayHold start o cell → key_of (note_of (log_of start) o) ≢ key → StandsAt s o cell
+    pub stands_first : (s : ReaderCore P K g) (o : ObjectId) (cell : ℕ) → Looks qsbr allows start s → FindsFirst start c (Some o) → MayHold start o cell → key_of (note_of (log_of start) o) ≢ key → StandsAt s o cell
     stands_first s o cell l first held other = record {
       looked = l;
       holds = l.keeps.held o cell held;
@@ -53,12 +53,12 @@ module _ {P K B : Type 0} {g : Ghosts B} (qsbr : Bool) (allows : Log → LiveEve
     }
 
     -- the first object has the key
-    pub answers_first : (s : Reader P K B g) (o : ObjectId) (value : ℕ) → Looks qsbr allows start s → FindsFirst start c (Some o) → key_of (note_of (log_of start) o) ≡ key → value_of (note_of (log_of start) o) ≡ value → Answers s (Some value)
+    pub answers_first : (s : ReaderCore P K g) (o : ObjectId) (value : ℕ) → Looks qsbr allows start s → FindsFirst start c (Some o) → key_of (note_of (log_of start) o) ≡ key → value_of (note_of (log_of start) o) ≡ value → Answers s (Some value)
     answers_first s o value l first is has = answers_later (log_of start) (log_of start) (log_of s) c key (Some value) l.later.after_seen
         (meets qsbr allows maps c (log_of start) (log_of start) key value o (run_of qsbr allows (log_of start) (log_of s) l.later.after_seen l.later.run)
         (record { at = log_of start; after = ([], refl); before = ([], refl); has = first_has ((objects_of (log_of start)).chain c) o first }) is has)
 
-    module _ (r s : Reader P K B g) (o : ObjectId) (cell : ℕ) (at : StandsAt r o cell) (l : Looks qsbr allows r s) where
+    module _ (r s : ReaderCore P K g) (o : ObjectId) (cell : ℕ) (at : StandsAt r o cell) (l : Looks qsbr allows r s) where
       here : StandsAt s o cell
       here = stands_on r s o cell at l
 
@@ -71,12 +71,12 @@ module _ {P K B : Type 0} {g : Ghosts B} (qsbr : Bool) (allows : Log → LiveEve
         reached = reaches qsbr allows maps c (log_of start) (log_of s) key o here.looked.later.run here.met here.past p next
 
         -- what follows has the key
-        pub answers_next : (t : Reader P K B g) (value : ℕ) → Looks qsbr allows s t → key_of (note_of (log_of s) p) ≡ key → value_of (note_of (log_of s) p) ≡ value → Answers t (Some value)
+        pub answers_next : (t : ReaderCore P K g) (value : ℕ) → Looks qsbr allows s t → key_of (note_of (log_of s) p) ≡ key → value_of (note_of (log_of s) p) ≡ value → Answers t (Some value)
         answers_next t value m is has = answers_later (log_of start) (log_of s) (log_of t) c key (Some value) m.later.after_seen
             (meets qsbr allows maps c (log_of start) (log_of s) key value p here.looked.later.run reached.met is has)
 
         -- it has another key, and a lower rank
-        pub stands_next : (t : Reader P K B g) (cell' : ℕ) → MayHold s p cell' → Looks qsbr allows s t → key_of (note_of (log_of s) p) ≢ key → StandsAt t p cell' × (rank_of (note_of (log_of t) p) < rank_of (note_of (log_of r) o))
+        pub stands_next : (t : ReaderCore P K g) (cell' : ℕ) → MayHold s p cell' → Looks qsbr allows s t → key_of (note_of (log_of s) p) ≢ key → StandsAt t p cell' × (rank_of (note_of (log_of t) p) < rank_of (note_of (log_of r) o))
         stands_next t cell' held m other = (
           stands_on s t p cell' (record { looked = here.looked; holds = held; met = reached.met; past = reached.past other }) m,
           let lower = reached.lower in

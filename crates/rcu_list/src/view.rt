@@ -92,12 +92,12 @@ impl<B: Site> ListView<B> {
         held: Held,
         key: u64,
     ) -> Option<u64>
-        requires open_section { (P.QSBR ≡ B.qsbr) × (0 < section.old.reader.now.depth) }
-        requires held { MayHoldIn section.old.reader.now held.cell }
+        requires open_section { (P.QSBR ≡ B.qsbr) × (0 < section.old.reader.now.core.depth) }
+        requires held { MayHoldIn section.old.reader.now.core held.cell }
         ensures reader { section.new.reader.ghost_name ≡ section.old.reader.ghost_name }
-        ensures looked { Looks P.QSBR K.allows section.old.reader.now section.new.reader.now }
-        ensures some { IfSome result (λ value. (o : ObjectId) → MayHold section.old.reader.now o held.cell → (key_of (note_of (log_of section.old.reader.now) o) ≡ key) × (value_of (note_of (log_of section.old.reader.now) o) ≡ value)) }
-        ensures none { IfNone result ((o : ObjectId) → MayHold section.old.reader.now o held.cell → key_of (note_of (log_of section.old.reader.now) o) ≢ key) }
+        ensures looked { Looks P.QSBR K.allows section.old.reader.now.core section.new.reader.now.core }
+        ensures some { IfSome result (λ value. (o : ObjectId) → MayHold section.old.reader.now.core o held.cell → (key_of (note_of (log_of section.old.reader.now.core) o) ≡ key) × (value_of (note_of (log_of section.old.reader.now.core) o) ≡ value)) }
+        ensures none { IfNone result ((o : ObjectId) → MayHold section.old.reader.now.core o held.cell → key_of (note_of (log_of section.old.reader.now.core) o) ≢ key) }
     {
         if section.read_word(held, 0) != key {
             return None;
@@ -113,11 +113,11 @@ impl<B: Site> ListView<B> {
         first: Held,
         key: u64,
     ) -> Option<u64>
-        requires open_section { (P.QSBR ≡ B.qsbr) × (0 < section.old.reader.now.depth) }
-        requires first { (o : ObjectId) × FindsFirst section.old.reader.now self.chain (Some o) × MayHold section.old.reader.now o first.cell }
+        requires open_section { (P.QSBR ≡ B.qsbr) × (0 < section.old.reader.now.core.depth) }
+        requires first { (o : ObjectId) × FindsFirst section.old.reader.now.core self.chain (Some o) × MayHold section.old.reader.now.core o first.cell }
         ensures reader { section.new.reader.ghost_name ≡ section.old.reader.ghost_name }
-        ensures looked { Looks P.QSBR K.allows section.old.reader.now section.new.reader.now }
-        ensures window { AnswersBetween (log_of section.old.reader.now) (log_of section.old.reader.now) (log_of section.new.reader.now) self.chain key result }
+        ensures looked { Looks P.QSBR K.allows section.old.reader.now.core section.new.reader.now.core }
+        ensures window { AnswersBetween (log_of section.old.reader.now.core) (log_of section.old.reader.now.core) (log_of section.new.reader.now.core) self.chain key result }
     {
         if let Some(value) = Self::value_at(section, first, key) {
             return Some(value);
@@ -144,10 +144,10 @@ impl<B: Site> ListView<B> {
         section: &mut Section<'_, P, K, B>,
         key: u64,
     ) -> Option<u64>
-        requires { (P.QSBR ≡ B.qsbr) × (0 < section.old.reader.now.depth) }
+        requires { (P.QSBR ≡ B.qsbr) × (0 < section.old.reader.now.core.depth) }
         ensures reader { section.new.reader.ghost_name ≡ section.old.reader.ghost_name }
-        ensures looked { Looks P.QSBR K.allows section.old.reader.now section.new.reader.now }
-        ensures window { AnswersBetween (log_of section.old.reader.now) section.old.reader.now.seat.me.0.heard (log_of section.new.reader.now) self.chain key result }
+        ensures looked { Looks P.QSBR K.allows section.old.reader.now.core section.new.reader.now.core }
+        ensures window { AnswersBetween (log_of section.old.reader.now.core) section.old.reader.now.core.seat.me.0.heard (log_of section.new.reader.now.core) self.chain key result }
     {
         match section.first(self.chain) {
             Ok(Some(first)) => self.search(section, first, key),
@@ -161,11 +161,11 @@ impl<B: Site> ListView<B> {
         section: &mut Section<'_, P, K, B>,
         held: Held,
     ) -> (u64, u64)
-        requires open_section { (P.QSBR ≡ B.qsbr) × (0 < section.old.reader.now.depth) }
-        requires held { MayHoldIn section.old.reader.now held.cell }
+        requires open_section { (P.QSBR ≡ B.qsbr) × (0 < section.old.reader.now.core.depth) }
+        requires held { MayHoldIn section.old.reader.now.core held.cell }
         ensures reader { section.new.reader.ghost_name ≡ section.old.reader.ghost_name }
-        ensures looked { Looks P.QSBR K.allows section.old.reader.now section.new.reader.now }
-        ensures entry { (o : ObjectId) → MayHold section.old.reader.now o held.cell → (key_of (note_of (log_of section.old.reader.now) o) ≡ result.0) × (value_of (note_of (log_of section.old.reader.now) o) ≡ result.1) }
+        ensures looked { Looks P.QSBR K.allows section.old.reader.now.core section.new.reader.now.core }
+        ensures entry { (o : ObjectId) → MayHold section.old.reader.now.core o held.cell → (key_of (note_of (log_of section.old.reader.now.core) o) ≡ result.0) × (value_of (note_of (log_of section.old.reader.now.core) o) ≡ result.1) }
     {
         let key = section.read_word(held, 0);
         let value = section.read_word(held, 1);
@@ -194,14 +194,14 @@ impl<B: Site> ListView<B> {
         bucket: u64,
         visit: &mut F,
     )
-        requires open_section { (P.QSBR ≡ B.qsbr) × (0 < section.old.reader.now.depth) }
-        requires first { (o : ObjectId) × FindsFirst section.old.reader.now self.chain (Some o) × MayHold section.old.reader.now o first.cell }
+        requires open_section { (P.QSBR ≡ B.qsbr) × (0 < section.old.reader.now.core.depth) }
+        requires first { (o : ObjectId) × FindsFirst section.old.reader.now.core self.chain (Some o) × MayHold section.old.reader.now.core o first.cell }
         requires some { 0 < buckets }
         requires callable { F.IsAlwaysCallable visit.old }
         ensures reader { section.new.reader.ghost_name ≡ section.old.reader.ghost_name }
-        ensures looked { Looks P.QSBR K.allows section.old.reader.now section.new.reader.now }
+        ensures looked { Looks P.QSBR K.allows section.old.reader.now.core section.new.reader.now.core }
         ensures callable { F.IsAlwaysCallable visit.new }
-        ensures met { (met : List (ℕ × ℕ)) × GoesThrough (λ key. key % buckets ≡ bucket) (log_of section.old.reader.now) (log_of section.old.reader.now) (log_of section.new.reader.now) self.chain met × FoldsTo (λ f e g. F.step f e.0 e.1 tt g) visit.old met visit.new }
+        ensures met { (met : List (ℕ × ℕ)) × GoesThrough (λ key. key % buckets ≡ bucket) (log_of section.old.reader.now.core) (log_of section.old.reader.now.core) (log_of section.new.reader.now.core) self.chain met × FoldsTo (λ f e g. F.step f e.0 e.1 tt g) visit.old met visit.new }
     {
         let entry = Self::entry_at(section, first);
         let rank = section.read_word(first, 2);
@@ -226,13 +226,13 @@ impl<B: Site> ListView<B> {
         bucket: u64,
         visit: &mut F,
     )
-        requires open_section { (P.QSBR ≡ B.qsbr) × (0 < section.old.reader.now.depth) }
+        requires open_section { (P.QSBR ≡ B.qsbr) × (0 < section.old.reader.now.core.depth) }
         requires some { 0 < buckets }
         requires callable { F.IsAlwaysCallable visit.old }
         ensures reader { section.new.reader.ghost_name ≡ section.old.reader.ghost_name }
-        ensures looked { Looks P.QSBR K.allows section.old.reader.now section.new.reader.now }
+        ensures looked { Looks P.QSBR K.allows section.old.reader.now.core section.new.reader.now.core }
         ensures callable { F.IsAlwaysCallable visit.new }
-        ensures met { (met : List (ℕ × ℕ)) × GoesThrough (λ key. key % buckets ≡ bucket) (log_of section.old.reader.now) section.old.reader.now.seat.me.0.heard (log_of section.new.reader.now) self.chain met × FoldsTo (λ f e g. F.step f e.0 e.1 tt g) visit.old met visit.new }
+        ensures met { (met : List (ℕ × ℕ)) × GoesThrough (λ key. key % buckets ≡ bucket) (log_of section.old.reader.now.core) section.old.reader.now.core.seat.me.0.heard (log_of section.new.reader.now.core) self.chain met × FoldsTo (λ f e g. F.step f e.0 e.1 tt g) visit.old met visit.new }
     {
         match section.first(self.chain) {
             Ok(Some(first)) => self.walk(section, first, buckets, bucket, visit),
@@ -252,12 +252,12 @@ impl<B: Site> ListView<B> {
         section: &mut Section<'_, P, K, B>,
         visit: &mut F,
     )
-        requires open_section { (P.QSBR ≡ B.qsbr) × (0 < section.old.reader.now.depth) }
+        requires open_section { (P.QSBR ≡ B.qsbr) × (0 < section.old.reader.now.core.depth) }
         requires callable { F.IsAlwaysCallable visit.old }
         ensures reader { section.new.reader.ghost_name ≡ section.old.reader.ghost_name }
-        ensures looked { Looks P.QSBR K.allows section.old.reader.now section.new.reader.now }
+        ensures looked { Looks P.QSBR K.allows section.old.reader.now.core section.new.reader.now.core }
         ensures callable { F.IsAlwaysCallable visit.new }
-        ensures met { (met : List (ℕ × ℕ)) × GoesThrough (λ key. ⊤) (log_of section.old.reader.now) section.old.reader.now.seat.me.0.heard (log_of section.new.reader.now) self.chain met × FoldsTo (λ f e g. F.step f e.0 e.1 tt g) visit.old met visit.new }
+        ensures met { (met : List (ℕ × ℕ)) × GoesThrough (λ key. ⊤) (log_of section.old.reader.now.core) section.old.reader.now.core.seat.me.0.heard (log_of section.new.reader.now.core) self.chain met × FoldsTo (λ f e g. F.step f e.0 e.1 tt g) visit.old met visit.new }
     {
         self.for_each_of(section, 1, 0, visit);
     }

@@ -1,2 +1,5 @@
+pub mod Calls
+pub mod Lent
 pub mod Owned
+pub mod Refusals
 pub mod Verdicts

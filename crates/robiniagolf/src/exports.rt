@@ -1,4 +1,4 @@
-//! The calls of C. `include/robiniagolf.h` tells what each asks of its caller. None has a `requires`.
+//! The calls of C. `c/include/robiniagolf/judge.h` tells what each asks of its caller. None has a `requires`.
 
 ghost use Rattle.std.specs.Prelude.{◌≡◌, ◌≢◌, ◌↔◌, ◌++◌, ◌⊎◌, ℕ, List, [], None, IsSome, IsNone};
 ghost use Rattle.robiniagolf.specs.Verdicts.{Answers, IsDone, IsVerdict, IsVerdictAtEnd, Keeps, answer_by, verdict_by};

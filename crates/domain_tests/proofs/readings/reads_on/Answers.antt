@@ -11,7 +11,7 @@ use Rattle.domain_tests.proofs.readings.reads_on.Goals as goal
 pub returns-clause-run : goal.returns-clause-run
 returns-clause-run g c s m has =
     let fit = c.readings_fit.ensures in let cell = c.in-Some.held.cell in
-    let before = c.args.section.now.reader.now in let one = c.first.new.self.reader.now in let two = c.read-words.new.self.reader.now in let three = c.next-next.new.self.reader.now in
+    let before = c.args.section.now.reader.now.core in let one = c.first.new.self.reader.now.core in let two = c.read-words.new.self.reader.now.core in let three = c.next-next.new.self.reader.now.core in
     let found = some_so c.in_ok-held.field-0 c.in-Some.held (λ h. (o : ObjectId) × FindsFirst one c.args.chain (Some o) × MayHold one o h.cell) c.in-Some.is c.in_ok-held.ensures.some in
     let o : ObjectId = found.0 in
     let first = fit.first before one s m c.args.chain (Some o) has c.in_ok-held.ensures.looked.1 found.1 in

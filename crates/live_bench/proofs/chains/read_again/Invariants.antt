@@ -3,4 +3,4 @@ use Rattle.live_read.specs.Holding.{MayHoldIn}
 use Rattle.live_bench.proofs.chains.read_again.Given as goal
 
 abbrev pub invariant-loop : goal.invariant-loop
-invariant-loop g l = (0 < l.section.reader.now.depth) × MayHoldIn l.section.reader.now l.fn.held.cell
+invariant-loop g l = (0 < l.section.reader.now.core.depth) × MayHoldIn l.section.reader.now.core l.fn.held.cell

@@ -3,4 +3,4 @@ use Rattle.live_read.specs.Holding.{MayHoldIn}
 use Rattle.live_bench.proofs.chains.walk_on.Given as goal
 
 abbrev pub invariant-loop : goal.invariant-loop
-invariant-loop g l = (0 < l.section.reader.now.depth) × IfSome l.at (λ h. MayHoldIn l.section.reader.now h.cell) × (l.walks ≤ l.counter)
+invariant-loop g l = (0 < l.section.reader.now.core.depth) × IfSome l.at (λ h. MayHoldIn l.section.reader.now.core h.cell) × (l.walks ≤ l.counter)

@@ -15,3 +15,6 @@ returns-clause-word g c =
     let low = c.requires.2 in
     let sizes = ap (λ (k : Sizes). k.slots) c.requires.1 in
     c.load.ensures.2.1 c.args.slot (omega arith) c.slot_place-place.ensures.0
+
+pub returns-clause-own : goal.returns-clause-own
+returns-clause-own g c = c.load.ensures.2.2 c.args.slot c.slot_place-place.ensures.0

@@ -4,7 +4,8 @@ use Rattle.live_rule.specs.declared.rights.RecordRight.{RecordRight}
 use Rattle.live_rule.specs.declared.rights.RecordRight.TheVariants.{Drawn, Fresh}
 use Rattle.live_rule.specs.Places.{cell_at}
 use Rattle.live_table.specs.Rights.{link_in, object_in, payload_in}
-use Rattle.live_write.proofs.Searching.{found_left, searched_then, takes_then}
+use Rattle.live_table.proofs.Lemmas.{found_left}
+use Rattle.live_write.proofs.Searching.{searched_then, takes_then}
 use Rattle.live_write.proofs.allocation.take_filled.Goals as goal
 
 pub returns-in_default-take_any-clause-refused : goal.returns-in_default-take_any-clause-refused

@@ -1,22 +1,9 @@
-use Rattle.std.proofs.Common.{rules, ◌≡◌, ℕ, sym, refl, ap, subst}
-use Rattle.rcu_model.specs.Machine.{IsOpen}
-use Rattle.live_log.specs.Log.{state_of, section}
-use Rattle.live_table.specs.Rights.{count_in}
-use Rattle.live_rule.specs.declared.view.View.{View}
-use Rattle.live_read.proofs.Finding.{stands, looks, first_some}
+use Rattle.std.proofs.Common.{◌≤◌, refl, subst}
+use Rattle.std.proofs.lemmas.Result.{IfErr-weaker}
+use Rattle.live_rule.specs.declared.view.Sizes.{Sizes}
+use Rattle.live_read.proofs.Naming.{same_reader}
 use Rattle.live_read.proofs.reader.Reader.first.Goals as goal
 
-pub returns-then-word-eq0-clause-looked : goal.returns-then-word-eq0-clause-looked
-returns-then-word-eq0-clause-looked g c = let q = g.P.GracePlan.QSBR in let a = g.K.ChainRule.allows in let r = c.args.self.now in
-    (search rules, looks q a r _ refl refl refl refl c.load_head-word.ensures.looked.1 c.load_head-word.ensures.looked.2 (c.load_head-word.ensures.known.1 _ _ (stands q a r c.requires.0 c.requires.1)))
-
-pub returns-clause-looked : goal.returns-clause-looked
-returns-clause-looked g c = let q = g.P.GracePlan.QSBR in let a = g.K.ChainRule.allows in let r = c.args.self.now in
-    (search rules, looks q a r _ refl refl refl refl c.load_head-word.ensures.looked.1 c.load_head-word.ensures.looked.2 (c.load_head-word.ensures.known.1 _ _ (stands q a r c.requires.0 c.requires.1)))
-
-pub returns-clause-some : goal.returns-clause-some
-returns-clause-some g c = let q = g.P.GracePlan.QSBR in let a = g.K.ChainRule.allows in let r = c.args.self.now in let word = c.load_head-word in
-    let same : count_in word.new.seat.me.0.slot ≡ count_in r.seat.me.0.slot = ap (λ (v : View). count_in v.slot) word.ensures.looked.1 in
-    first_some q a _ c.args.chain word.result r.seat.me.0.sizes.pool (λ i. (r.seated.2 i).pool)
-    (subst (λ (n : ℕ). IsOpen (state_of word.new.seat.me.0.seen) (section r.slot n)) (sym same) (word.ensures.known.1 _ _ (stands q a r c.requires.0 c.requires.1)))
-    word.ensures.first.0 c.if-word-eq0.false (λ o f. (word.ensures.first.1 o f).0)
+pub returns-clause-refused : goal.returns-clause-refused
+returns-clause-refused g c = let r = c.args.self.now in
+    IfErr-weaker c.first.result _ _ (λ e h. (h.0, subst (λ (z : Sizes). z.chains ≤ c.args.chain) r.named.1 h.1, same_reader _ r h.2 refl)) c.first.ensures.refused

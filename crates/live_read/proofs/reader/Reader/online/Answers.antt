@@ -1,6 +1,7 @@
-use Rattle.std.proofs.Common.{rules, refl}
-use Rattle.live_read.proofs.Entering.{goes_online}
+use Rattle.std.proofs.Common.{refl}
+use Rattle.std.proofs.lemmas.Result.{IfErr-weaker}
+use Rattle.live_read.proofs.Naming.{same_reader}
 use Rattle.live_read.proofs.reader.Reader.online.Goals as goal
 
-pub returns-clause-ok : goal.returns-clause-ok
-returns-clause-ok g c = let w = c.online-word.ensures in goes_online g.P.GracePlan.QSBR g.K.ChainRule.allows c.args.self.now _ (search rules) (search rules) refl refl refl w.opened.1 w.opened.0 w.copied
+pub returns-clause-same : goal.returns-clause-same
+returns-clause-same g c = IfErr-weaker c.online.result _ _ (λ e same. same_reader _ c.args.self.now same refl) c.online.ensures.same

@@ -1,6 +1,7 @@
-use Rattle.std.proofs.Common.{rules, refl}
-use Rattle.live_read.proofs.Entering.{announces_now}
+use Rattle.std.proofs.Common.{refl}
+use Rattle.std.proofs.lemmas.Result.{IfErr-weaker}
+use Rattle.live_read.proofs.Naming.{same_reader}
 use Rattle.live_read.proofs.reader.Reader.quiescent.Goals as goal
 
-pub returns-clause-ok : goal.returns-clause-ok
-returns-clause-ok g c = let w = c.quiescent-word.ensures in announces_now g.P.GracePlan.QSBR g.K.ChainRule.allows c.args.self.now _ (search rules) (search rules) (search rules) refl refl refl w.announced.1 w.announced.0 w.copied
+pub returns-clause-same : goal.returns-clause-same
+returns-clause-same g c = IfErr-weaker c.quiescent.result _ _ (λ e same. same_reader _ c.args.self.now same refl) c.quiescent.ensures.same

@@ -8,20 +8,20 @@ use Rattle.rcu_hash.proofs.view.TableView.walk.Goals as goal
 
 pub loop-number-init : goal.loop-number-init
 loop-number-init g c =
-    let f = c.requires.first in let r = c.args.section.now.reader.now in let w = c.words-kind.ensures in record {
+    let f = c.requires.first in let r = c.args.section.now.reader.now.core in let w = c.words-kind.ensures in record {
       reader = w.reader;
       looked = w.looked;
       callable = c.requires.callable;
       met = [];
-      went = went_nowhere c.words-kind.result.2 (HadThrough g.P.GracePlan.QSBR c.args.self.chains c.args.self.directory r f.0 f.1 c.words-kind.result.0 c.words-kind.result.1 c.words-kind.result.2 (w.words f.0 f.2)) (log_of c.words-kind.new.section.reader.now);
+      went = went_nowhere c.words-kind.result.2 (HadThrough g.P.GracePlan.QSBR c.args.self.chains c.args.self.directory r f.0 f.1 c.words-kind.result.0 c.words-kind.result.1 c.words-kind.result.2 (w.words f.0 f.2)) (log_of c.words-kind.new.section.reader.now.core);
       ran = refl;
     }
 
 pub loop-number-preserved : goal.loop-number-preserved
 loop-number-preserved g c =
-    let q = g.P.GracePlan.QSBR in let chains = c.args.self.chains in let d = c.args.self.directory in let f = c.requires.first in let r = c.args.section.now.reader.now in let w = c.words-kind.ensures in
+    let q = g.P.GracePlan.QSBR in let chains = c.args.self.chains in let d = c.args.self.directory in let f = c.requires.first in let r = c.args.section.now.reader.now.core in let w = c.words-kind.ensures in
     let kind = c.words-kind.result.0 in let first = c.words-kind.result.1 in let many = c.words-kind.result.2 in let words = w.words f.0 f.2 in let number = c.loop-number.number in
-    let i = c.loop-number.invariant in let e = c.for_each_of.ensures in let m = e.met in let s = c.loop-number.section.reader.now in let t = c.for_each_of.new.section.reader.now in let some = c.in-Some.ensures.some in
+    let i = c.loop-number.invariant in let e = c.for_each_of.ensures in let m = e.met in let s = c.loop-number.section.reader.now.core in let t = c.for_each_of.new.section.reader.now.core in let some = c.in-Some.ensures.some in
     let below : number < many = c.loop-number-test.true in record {
       reader = e.reader ∙ i.reader;
       looked = looks_twice q tabled r s t i.looked e.looked;
@@ -34,16 +34,16 @@ loop-number-preserved g c =
 
 pub returns-in_default-clause-met : goal.returns-in_default-clause-met
 returns-in_default-clause-met g c =
-    let f = c.requires.first in let r = c.args.section.now.reader.now in let i = c.loop-number.invariant in (
+    let f = c.requires.first in let r = c.args.section.now.reader.now.core in let i = c.loop-number.invariant in (
       i.met,
-      walk_stops g.P.GracePlan.QSBR c.args.self.chains c.args.self.directory r f.0 f.1 c.words-kind.result.0 c.words-kind.result.1 c.words-kind.result.2 (c.words-kind.ensures.words f.0 f.2) (log_of c.loop-number.section.reader.now) i.looked.later.after_seen c.loop-number.number i.met i.went c.loop-number-test.true c.in_default.ensures.none,
+      walk_stops g.P.GracePlan.QSBR c.args.self.chains c.args.self.directory r f.0 f.1 c.words-kind.result.0 c.words-kind.result.1 c.words-kind.result.2 (c.words-kind.ensures.words f.0 f.2) (log_of c.loop-number.section.reader.now.core) i.looked.later.after_seen c.loop-number.number i.met i.went c.loop-number-test.true c.in_default.ensures.none,
       i.ran,
     )
 
 pub returns-clause-met : goal.returns-clause-met
 returns-clause-met g c =
-    let f = c.requires.first in let r = c.args.section.now.reader.now in let i = c.loop-number.invariant in let all = c.loop-number-test.false in let end = c.loop-number.auto.number-end in (
+    let f = c.requires.first in let r = c.args.section.now.reader.now.core in let i = c.loop-number.invariant in let all = c.loop-number-test.false in let end = c.loop-number.auto.number-end in (
       i.met,
-      walk_ends g.P.GracePlan.QSBR c.args.self.chains c.args.self.directory r f.0 f.1 c.words-kind.result.0 c.words-kind.result.1 c.words-kind.result.2 (c.words-kind.ensures.words f.0 f.2) (log_of c.loop-number.section.reader.now) i.looked.later.after_seen c.loop-number.number i.met i.went (omega arith),
+      walk_ends g.P.GracePlan.QSBR c.args.self.chains c.args.self.directory r f.0 f.1 c.words-kind.result.0 c.words-kind.result.1 c.words-kind.result.2 (c.words-kind.ensures.words f.0 f.2) (log_of c.loop-number.section.reader.now.core) i.looked.later.after_seen c.loop-number.number i.met i.went (omega arith),
       i.ran,
     )

@@ -5,7 +5,7 @@ use Rattle.rcu_hash.proofs.view.TableView.words.Goals as goal
 
 pub returns-clause-looked : goal.returns-clause-looked
 returns-clause-looked g c =
-    let q = g.P.GracePlan.QSBR in let r = c.args.section.now.reader.now in let s = c.read_word-kind.new.self.reader.now in let t = c.read_word-first.new.self.reader.now in let u = c.read_word-buckets.new.self.reader.now in
+    let q = g.P.GracePlan.QSBR in let r = c.args.section.now.reader.now.core in let s = c.read_word-kind.new.self.reader.now.core in let t = c.read_word-first.new.self.reader.now.core in let u = c.read_word-buckets.new.self.reader.now.core in
     looks_twice q tabled r t u (looks_twice q tabled r s t c.read_word-kind.ensures.looked c.read_word-first.ensures.looked) c.read_word-buckets.ensures.looked
 
 pub returns-clause-words : goal.returns-clause-words

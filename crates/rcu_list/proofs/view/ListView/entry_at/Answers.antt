@@ -3,7 +3,7 @@ use Rattle.live_read.proofs.Lemmas.{looks_twice}
 use Rattle.rcu_list.proofs.view.ListView.entry_at.Goals as goal
 
 pub returns-clause-looked : goal.returns-clause-looked
-returns-clause-looked g c = looks_twice g.P.GracePlan.QSBR g.K.ChainRule.allows c.args.section.now.reader.now c.read_word-key.new.self.reader.now c.read_word-value.new.self.reader.now c.read_word-key.ensures.looked c.read_word-value.ensures.looked
+returns-clause-looked g c = looks_twice g.P.GracePlan.QSBR g.K.ChainRule.allows c.args.section.now.reader.now.core c.read_word-key.new.self.reader.now.core c.read_word-value.new.self.reader.now.core c.read_word-key.ensures.looked c.read_word-value.ensures.looked
 
 pub returns-clause-entry : goal.returns-clause-entry
 returns-clause-entry g c o held = let keeps = c.read_word-key.ensures.looked.keeps in

@@ -12,7 +12,7 @@ read_word-most-requires-clause-held g c = let f = c.requires.first in record { o
 
 pub loop-passed-init : goal.loop-passed-init
 loop-passed-init g c =
-    let f = c.requires.first in let start = c.args.section.now.reader.now in let mid = c.value_at.new.section.reader.now in let now = c.read_word-most.new.self.reader.now in let e = c.in_default.ensures in let m = c.read_word-most.ensures in
+    let f = c.requires.first in let start = c.args.section.now.reader.now.core in let mid = c.value_at.new.section.reader.now.core in let now = c.read_word-most.new.self.reader.now.core in let e = c.in_default.ensures in let m = c.read_word-most.ensures in
     let looked = looks_twice g.P.GracePlan.QSBR g.K.ChainRule.allows start mid now e.looked m.looked in
     let held = e.looked.keeps.held f.0 c.args.first.cell f.2 in
     record {
@@ -24,31 +24,31 @@ loop-passed-init g c =
     }
 
 pub returns-in_err-held-clause-looked : goal.returns-in_err-held-clause-looked
-returns-in_err-held-clause-looked g c = looks_twice g.P.GracePlan.QSBR g.K.ChainRule.allows c.args.section.now.reader.now c.loop-passed.section.reader.now c.next.new.self.reader.now c.loop-passed.invariant.stands.looked c.next.ensures.looked
+returns-in_err-held-clause-looked g c = looks_twice g.P.GracePlan.QSBR g.K.ChainRule.allows c.args.section.now.reader.now.core c.loop-passed.section.reader.now.core c.next.new.self.reader.now.core c.loop-passed.invariant.stands.looked c.next.ensures.looked
 
 pub returns-in_err-held-clause-window : goal.returns-in_err-held-clause-window
 returns-in_err-held-clause-window g c =
-    let i = c.loop-passed.invariant in let start = c.args.section.now.reader.now in let now = c.next.new.self.reader.now in
+    let i = c.loop-passed.invariant in let start = c.args.section.now.reader.now.core in let now = c.next.new.self.reader.now.core in
     subst (AnswersBetween (log_of start) (log_of start) (log_of now) c.args.self.chain c.args.key) (sym c.from_residual.ensures)
-    (answers_none g.P.GracePlan.QSBR g.K.ChainRule.allows c.args.self.chain c.args.key start (g.met.K.MapRule.maps g.P.GracePlan.QSBR) c.loop-passed.section.reader.now now i.object c.loop-passed.held.cell i.stands c.next.ensures.looked (c.in_err-held.ensures.none i.object i.stands.holds))
+    (answers_none g.P.GracePlan.QSBR g.K.ChainRule.allows c.args.self.chain c.args.key start (g.met.K.MapRule.maps g.P.GracePlan.QSBR) c.loop-passed.section.reader.now.core now i.object c.loop-passed.held.cell i.stands c.next.ensures.looked (c.in_err-held.ensures.none i.object i.stands.holds))
 
 pub returns-in-Some-value_at-clause-looked : goal.returns-in-Some-value_at-clause-looked
 returns-in-Some-value_at-clause-looked g c =
-    let start = c.args.section.now.reader.now in let mid = c.next.new.self.reader.now in
-    looks_twice g.P.GracePlan.QSBR g.K.ChainRule.allows start mid c.value_at-in-loop-passed.new.section.reader.now
-    (looks_twice g.P.GracePlan.QSBR g.K.ChainRule.allows start c.loop-passed.section.reader.now mid c.loop-passed.invariant.stands.looked c.next.ensures.looked) c.value_at-in-loop-passed.ensures.looked
+    let start = c.args.section.now.reader.now.core in let mid = c.next.new.self.reader.now.core in
+    looks_twice g.P.GracePlan.QSBR g.K.ChainRule.allows start mid c.value_at-in-loop-passed.new.section.reader.now.core
+    (looks_twice g.P.GracePlan.QSBR g.K.ChainRule.allows start c.loop-passed.section.reader.now.core mid c.loop-passed.invariant.stands.looked c.next.ensures.looked) c.value_at-in-loop-passed.ensures.looked
 
 pub returns-in-Some-value_at-clause-window : goal.returns-in-Some-value_at-clause-window
 returns-in-Some-value_at-clause-window g c =
     let i = c.loop-passed.invariant in let e = c.in-Some-value_at.ensures in let n = c.in_ok-held.ensures.some i.object i.stands.holds in let is = e.some n.0 n.2 in
-    answers_next g.P.GracePlan.QSBR g.K.ChainRule.allows c.args.self.chain c.args.key c.args.section.now.reader.now (g.met.K.MapRule.maps g.P.GracePlan.QSBR) c.loop-passed.section.reader.now c.next.new.self.reader.now i.object c.loop-passed.held.cell i.stands c.next.ensures.looked n.0 n.1
-    c.value_at-in-loop-passed.new.section.reader.now c.in-Some-value_at.value e.looked is.0 is.1
+    answers_next g.P.GracePlan.QSBR g.K.ChainRule.allows c.args.self.chain c.args.key c.args.section.now.reader.now.core (g.met.K.MapRule.maps g.P.GracePlan.QSBR) c.loop-passed.section.reader.now.core c.next.new.self.reader.now.core i.object c.loop-passed.held.cell i.stands c.next.ensures.looked n.0 n.1
+    c.value_at-in-loop-passed.new.section.reader.now.core c.in-Some-value_at.value e.looked is.0 is.1
 
 pub loop-passed-preserved : goal.loop-passed-preserved
 loop-passed-preserved g c =
     let i = c.loop-passed.invariant in let e = c.in_default-value_at.ensures in let n = c.in_ok-held.ensures.some i.object i.stands.holds in
-    let next = stands_next g.P.GracePlan.QSBR g.K.ChainRule.allows c.args.self.chain c.args.key c.args.section.now.reader.now (g.met.K.MapRule.maps g.P.GracePlan.QSBR) c.loop-passed.section.reader.now c.next.new.self.reader.now i.object c.loop-passed.held.cell i.stands c.next.ensures.looked n.0 n.1
-    c.value_at-in-loop-passed.new.section.reader.now c.in_ok-held.held.cell n.2 e.looked (e.none n.0 n.2) in
+    let next = stands_next g.P.GracePlan.QSBR g.K.ChainRule.allows c.args.self.chain c.args.key c.args.section.now.reader.now.core (g.met.K.MapRule.maps g.P.GracePlan.QSBR) c.loop-passed.section.reader.now.core c.next.new.self.reader.now.core i.object c.loop-passed.held.cell i.stands c.next.ensures.looked n.0 n.1
+    c.value_at-in-loop-passed.new.section.reader.now.core c.in_ok-held.held.cell n.2 e.looked (e.none n.0 n.2) in
     record {
       reader = e.reader ∙ (c.next.ensures.reader ∙ i.reader);
       object = n.0;

@@ -10,6 +10,6 @@ abbrev pub invariant-loop-passed : goal.invariant-loop-passed
 invariant-loop-passed g l = record {
   reader : l.section.reader.ghost_name ≡ l.fn.section.reader.ghost_name;
   object : ObjectId;
-  stands : StandsAt g.P.GracePlan.QSBR g.K.ChainRule.allows l.fn.self.chain l.fn.key l.fn.section.reader.now l.section.reader.now object l.held.cell;
-  low : rank_of (note_of (log_of l.section.reader.now) object) + l._passed ≤ l.most;
+  stands : StandsAt g.P.GracePlan.QSBR g.K.ChainRule.allows l.fn.self.chain l.fn.key l.fn.section.reader.now.core l.section.reader.now.core object l.held.cell;
+  low : rank_of (note_of (log_of l.section.reader.now.core) object) + l._passed ≤ l.most;
 }

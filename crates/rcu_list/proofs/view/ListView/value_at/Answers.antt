@@ -3,7 +3,7 @@ use Rattle.live_read.proofs.Lemmas.{looks_twice}
 use Rattle.rcu_list.proofs.view.ListView.value_at.Goals as goal
 
 pub returns-clause-looked : goal.returns-clause-looked
-returns-clause-looked g c = looks_twice g.P.GracePlan.QSBR g.K.ChainRule.allows c.args.section.now.reader.now c.read_word.new.self.reader.now c.read_word-2.new.self.reader.now c.read_word.ensures.looked c.read_word-2.ensures.looked
+returns-clause-looked g c = looks_twice g.P.GracePlan.QSBR g.K.ChainRule.allows c.args.section.now.reader.now.core c.read_word.new.self.reader.now.core c.read_word-2.new.self.reader.now.core c.read_word.ensures.looked c.read_word-2.ensures.looked
 
 pub returns-clause-some : goal.returns-clause-some
 returns-clause-some g c o held = let keeps = c.read_word.ensures.looked.keeps in

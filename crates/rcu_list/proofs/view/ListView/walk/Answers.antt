@@ -14,7 +14,7 @@ read_word-rank-requires-clause-held g c = let f = c.requires.first in record { o
 pub loop-passed-init : goal.loop-passed-init
 loop-passed-init g c =
     let qsbr = g.P.GracePlan.QSBR in let allows = g.K.ChainRule.allows in let maps = g.met.K.MapRule.maps qsbr in
-    let f = c.requires.first in let start = c.args.section.now.reader.now in let mid = c.entry_at-entry.new.section.reader.now in let now = c.read_word-rank.new.self.reader.now in
+    let f = c.requires.first in let start = c.args.section.now.reader.now.core in let mid = c.entry_at-entry.new.section.reader.now.core in let now = c.read_word-rank.new.self.reader.now.core in
     let e = c.entry_at-entry.ensures in let m = c.read_word-rank.ensures in let entry = c.entry_at-entry.result in
     let wanted : ℕ → Type 0 = λ key. key % c.args.buckets ≡ c.args.bucket in
     let looked = looks_twice qsbr allows start mid now e.looked m.looked in
@@ -43,20 +43,20 @@ loop-passed-init g c =
     c.meet.ensures.met
 
 pub returns-in_default-clause-looked : goal.returns-in_default-clause-looked
-returns-in_default-clause-looked g c = looks_twice g.P.GracePlan.QSBR g.K.ChainRule.allows c.args.section.now.reader.now c.loop-passed.section.reader.now c.next.new.self.reader.now c.loop-passed.invariant.goes.looked c.next.ensures.looked
+returns-in_default-clause-looked g c = looks_twice g.P.GracePlan.QSBR g.K.ChainRule.allows c.args.section.now.reader.now.core c.loop-passed.section.reader.now.core c.next.new.self.reader.now.core c.loop-passed.invariant.goes.looked c.next.ensures.looked
 
 pub returns-in_default-clause-met : goal.returns-in_default-clause-met
 returns-in_default-clause-met g c =
     let qsbr = g.P.GracePlan.QSBR in let i = c.loop-passed.invariant in (
       i.met,
-      goes_none qsbr g.K.ChainRule.allows (g.met.K.MapRule.maps qsbr) (λ key. key % c.args.buckets ≡ c.args.bucket) c.args.self.chain c.args.section.now.reader.now c.loop-passed.section.reader.now c.next.new.self.reader.now i.object c.loop-passed.held.cell i.met i.goes c.next.ensures.looked (c.in_default.ensures.none i.object i.goes.holds),
+      goes_none qsbr g.K.ChainRule.allows (g.met.K.MapRule.maps qsbr) (λ key. key % c.args.buckets ≡ c.args.bucket) c.args.self.chain c.args.section.now.reader.now.core c.loop-passed.section.reader.now.core c.next.new.self.reader.now.core i.object c.loop-passed.held.cell i.met i.goes c.next.ensures.looked (c.in_default.ensures.none i.object i.goes.holds),
       i.ran,
     )
 
 pub loop-passed-preserved : goal.loop-passed-preserved
 loop-passed-preserved g c =
     let qsbr = g.P.GracePlan.QSBR in let allows = g.K.ChainRule.allows in let maps = g.met.K.MapRule.maps qsbr in
-    let i = c.loop-passed.invariant in let start = c.args.section.now.reader.now in let r = c.loop-passed.section.reader.now in let s = c.next.new.self.reader.now in let t = c.entry_at-entry-in-loop-passed.new.section.reader.now in
+    let i = c.loop-passed.invariant in let start = c.args.section.now.reader.now.core in let r = c.loop-passed.section.reader.now.core in let s = c.next.new.self.reader.now.core in let t = c.entry_at-entry-in-loop-passed.new.section.reader.now.core in
     let e = c.entry_at-entry-in-loop-passed.ensures in let entry = c.entry_at-entry-in-loop-passed.result in let n = c.in-Some.ensures.some i.object i.goes.holds in let is = e.entry n.0 n.2 in
     let wanted : ℕ → Type 0 = λ key. key % c.args.buckets ≡ c.args.bucket in
     let lower = goes_lower qsbr allows maps wanted c.args.self.chain start r s i.object c.loop-passed.held.cell i.met i.goes c.next.ensures.looked n.0 n.1 t c.in-Some.next.cell n.2 e.looked entry.0 entry.1 is.0 is.1 in
@@ -86,6 +86,6 @@ pub returns-clause-met : goal.returns-clause-met
 returns-clause-met g c =
     let qsbr = g.P.GracePlan.QSBR in let i = c.loop-passed.invariant in let low = i.low in let all = c.loop-passed-test.false in (
       i.met,
-      goes_last qsbr g.K.ChainRule.allows (g.met.K.MapRule.maps qsbr) (λ key. key % c.args.buckets ≡ c.args.bucket) c.args.self.chain c.args.section.now.reader.now c.loop-passed.section.reader.now i.object c.loop-passed.held.cell i.met i.goes (omega arith),
+      goes_last qsbr g.K.ChainRule.allows (g.met.K.MapRule.maps qsbr) (λ key. key % c.args.buckets ≡ c.args.bucket) c.args.self.chain c.args.section.now.reader.now.core c.loop-passed.section.reader.now.core i.object c.loop-passed.held.cell i.met i.goes (omega arith),
       i.ran,
     )

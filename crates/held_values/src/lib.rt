@@ -1,0 +1,53 @@
+#![tactic(auto)]
+//! What the handles of C keep in a box of the heap: readers, grace periods and domains of both flavours, with no rule on
+//! chains.
+
+mod making;
+
+use gp_memb::MembPlan;
+use gp_qsbr::QsbrPlan;
+use live_grace::GracePeriods;
+use live_read::ReaderCore;
+use live_words::{AnyChain, LiveTable};
+pub use making::{NotRegistered, new_domain, register_in};
+use std::sync::Arc;
+
+/// A reader of the general-purpose flavour. What follows it keeps another's off its lines.
+#[derive(Drop)]
+pub struct MembReader {
+    pub core: ReaderCore<MembPlan, AnyChain>,
+    pub apart: [u64; 16],
+}
+
+/// A reader of the quiescent-state flavour.
+#[derive(Drop)]
+pub struct QsbrReader {
+    pub core: ReaderCore<QsbrPlan, AnyChain>,
+    pub apart: [u64; 16],
+}
+
+/// The grace periods of a domain of the general-purpose flavour.
+#[derive(Drop)]
+pub struct MembGrace {
+    pub periods: GracePeriods<MembPlan, AnyChain>,
+    pub apart: [u64; 16],
+}
+
+/// The grace periods of a domain of the quiescent-state flavour.
+#[derive(Drop)]
+pub struct QsbrGrace {
+    pub periods: GracePeriods<QsbrPlan, AnyChain>,
+    pub apart: [u64; 16],
+}
+
+/// A domain of the general-purpose flavour: an owner of its table.
+#[derive(Drop)]
+pub struct MembDomain {
+    pub table: Arc<LiveTable<MembPlan, AnyChain>>,
+}
+
+/// A domain of the quiescent-state flavour.
+#[derive(Drop)]
+pub struct QsbrDomain {
+    pub table: Arc<LiveTable<QsbrPlan, AnyChain>>,
+}

@@ -1,0 +1,7 @@
+use Rattle.std.proofs.Common.{ℕ, ◌<◌}
+use Rattle.live_table.specs.Steps.{Keeps}
+use Rattle.live_read.specs.Registering.{Misses, WasClaimed}
+use Rattle.live_read.proofs.claiming.claim_any.Given as goal
+
+abbrev pub invariant-loop-slot : goal.invariant-loop-slot
+invariant-loop-slot g l = Keeps l.fn.seat l.seat × Misses g.P.GracePlan.QSBR g.K.ChainRule.allows (λ found. (r : ℕ) → r < l.slot → WasClaimed r found) l.fn.seat.me l.seat.me

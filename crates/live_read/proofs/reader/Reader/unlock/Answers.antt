@@ -1,0 +1,7 @@
+use Rattle.std.proofs.Common.{refl}
+use Rattle.std.proofs.lemmas.Result.{IfErr-weaker}
+use Rattle.live_read.proofs.Naming.{same_reader}
+use Rattle.live_read.proofs.reader.Reader.unlock.Goals as goal
+
+pub returns-clause-same : goal.returns-clause-same
+returns-clause-same g c = IfErr-weaker c.unlock.result _ _ (λ e same. same_reader _ c.args.self.now same refl) c.unlock.ensures.same

@@ -1,0 +1,14 @@
+use Rattle.std.proofs.Common.{rules, ◌≡◌, Ok, refl, arith}
+use Rattle.reader_word.specs.declared.layout.Layout.TheVariants.{Wide}
+use Rattle.reader_word.specs.Word.{count_of, left_of}
+use Rattle.reader_word.proofs.Lemmas.{left_of-nests}
+use Rattle.live_read.proofs.Entering.{leaves}
+use Rattle.live_read.proofs.reader_core.ReaderCore.close_word.Goals as goal
+
+pub returns-clause-leaves : goal.returns-clause-leaves
+returns-clause-leaves g c =
+    let r = c.args.self.now in let word = c.in-Ok.word in let one = c.requires.outermost.0 in
+    let made : left_of Wide r.word ≡ Ok word = search rules in
+    let counted : count_of Wide r.word ≡ r.depth = r.counted.0 c.requires.flavour in
+    let more = (left_of-nests Wide r.word word made).count in
+    (leaves g.P.GracePlan.QSBR g.K.ChainRule.allows r _ c.requires.flavour refl (omega arith) counted made (λ e. c.store_close.ensures.closed) (λ n. absurd (n (omega arith))), refl)

@@ -1,0 +1,24 @@
+use Rattle.std.specs.Prelude.{Option, Some, None}
+use mir.Raw.{raw}
+use base.Shift.{Keyless}
+use denote.Memory.{lone}
+use denote.RawPtr.{Ptr}
+use denote.Struct.Struct.{exits_of}
+use denote.Struct.Owning.{shape, fields, to}
+use denote.Param.Send.{IsSend, AllSend, owning_send, struct_send, sendable}
+use Rattle.std.proofs.Crossing.{frees}
+use Rattle.std_alloc.proofs.SendSync.{quiet, lies}
+use Rattle.held_values.specs.contracts.MembDomain.{the_row as R}
+use Rattle.held_values.proofs.Lemmas.{memb_domain_crosses as sent}
+use Rattle.robiniagolf.specs.Owned.{heap, heap_token, owned_at}
+use Rattle.robiniagolf.specs.contracts.memb_domain.Kept.{the_row, the_type}
+
+owned : (p : Ptr) (v : Option R.Denot) → Keyless (owned_at heap_token R p v)
+owned p None = tt
+owned p (Some x) = (lies R sent p x, frees.frees heap (raw (lone R.mir)) p)
+
+pub send : IsSend the_row
+send =
+    let all : AllSend (fields the_type) = (search sendable, tt) in
+    owning_send the_type all (λ d. owned d.at d.value)
+    (λ k. quiet (to the_type) (exits_of k (fields the_type)) ((struct_send (shape the_type) all).leaving k))

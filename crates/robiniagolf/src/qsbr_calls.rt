@@ -1,0 +1,414 @@
+//! The calls of C of the quiescent-state flavour. `c/include/robiniagolf/rcu.h` tells what each asks of its caller. None has a
+//! `requires`, takes a lock or waits, and each answers a handle that keeps nothing by 4.
+
+ghost use Rattle.std.specs.Prelude.{◌≡◌, ◌≢◌, ◌⊎◌, ◌↔◌, ◌<◌, None, IsNone, IsSome};
+ghost use Rattle.robiniagolf.specs.Calls.{Announces, Beside, Between, GoesOffline, GoesOnline, IsOffline, IsOnline, Keeps, QsbrAnswers, QsbrAsks, QsbrAwaits, QsbrEnds, QsbrFindsAllClaimed, QsbrHasLocks, QsbrHasSlots, QsbrIsBusy, QsbrIsFull, QsbrIsNewGrace, QsbrIsSpent, QsbrIsUsedUp, QsbrLocks, QsbrRegisters, QsbrUnlocks, QsbrWasGivenBack};
+
+use crate::qsbr_domain_handle::{self, QsbrDomainHandle};
+use crate::qsbr_grace_handle::{self, QsbrGraceHandle};
+use crate::qsbr_reader_handle::{self, QsbrReaderHandle};
+use crate::refused::status_of;
+use gp_qsbr::QsbrPlan;
+use held_values::{QsbrDomain, QsbrGrace, QsbrReader, new_domain, register_in};
+use live_grace::Step;
+use live_read::ReaderCore;
+use live_words::AnyChain;
+use poll_cookie::Cookie;
+use rcu_model::Refusal;
+use std::alloc::{AllocFailed, Global};
+
+/// How many steps a call takes at most: more than a grace period has where none stands in its way.
+const MOST: u32 = 1024;
+
+/// Makes a domain with so many slots for readers, from 1 to 256, and its grace periods; the first step of what liburcu
+/// does once for all threads. 0 made, 3 memory, 5 a handle keeps something already, 11 a wrong number of slots. Where it
+/// is not 0, the handles are as they were.
+#[unsafe(no_mangle)]
+pub extern "C" fn robiniagolf_qsbr_domain_new(
+    alloc: Global,
+    domain: &mut QsbrDomainHandle,
+    grace: &mut QsbrGraceHandle,
+    slots: usize,
+) -> u32
+    ensures made { result ≡ 0 → Keeps (QsbrHasSlots slots) domain.new.kept.value × Beside QsbrIsNewGrace domain.new.kept.value grace.new.kept.value }
+    ensures refused { result ≢ 0 → (domain.new.kept.value ≡ domain.old.kept.value) × (grace.new.kept.value ≡ grace.old.kept.value) }
+    ensures in_use { (result ≡ 5) ↔ (IsSome domain.old.kept.value ⊎ IsSome grace.old.kept.value) }
+    ensures answers { (result ≡ 0) ⊎ (result ≡ 3) ⊎ (result ≡ 5) ⊎ (result ≡ 11) }
+    ensures config { result ≡ 11 → (slots ≡ 0) ⊎ (256 < slots) }
+{
+    if domain.full || grace.full {
+        return 5;
+    }
+    if slots == 0 || slots > 256 {
+        return 11;
+    }
+    let Ok((table, periods)) = new_domain(alloc, slots) else {
+        return 3;
+    };
+    let Ok(made) = Box::new(alloc, QsbrDomain { table }) else {
+        return 3;
+    };
+    let periods = QsbrGrace {
+        periods,
+        apart: [0; 16],
+    };
+    let Ok(periods) = Box::new(alloc, periods) else {
+        return 3;
+    };
+    qsbr_domain_handle::put(domain, made);
+    qsbr_grace_handle::put(grace, periods);
+    0
+}
+
+/// Frees the domain, and leaves the handle empty. Its readers and its grace periods go on, since they own the words too.
+/// 0 freed, 4 it keeps nothing.
+#[unsafe(no_mangle)]
+pub extern "C" fn robiniagolf_qsbr_domain_free(alloc: Global, domain: &mut QsbrDomainHandle) -> u32
+    ensures freed { domain.new.kept.value ≡ None }
+    ensures answers { (result ≡ 0) ⊎ (result ≡ 4) }
+    ensures empty { (result ≡ 4) ↔ IsNone domain.old.kept.value }
+{
+    match qsbr_domain_handle::take(alloc, domain) {
+        Some(kept) => {
+            drop(kept);
+            0
+        }
+        None => 4,
+    }
+}
+
+/// Frees the grace periods of a domain, and leaves the handle empty. 0 freed, 4 it keeps nothing.
+#[unsafe(no_mangle)]
+pub extern "C" fn robiniagolf_qsbr_grace_free(alloc: Global, grace: &mut QsbrGraceHandle) -> u32
+    ensures freed { grace.new.kept.value ≡ None }
+    ensures answers { (result ≡ 0) ⊎ (result ≡ 4) }
+    ensures empty { (result ≡ 4) ↔ IsNone grace.old.kept.value }
+{
+    match qsbr_grace_handle::take(alloc, grace) {
+        Some(kept) => {
+            drop(kept);
+            0
+        }
+        None => 4,
+    }
+}
+
+/// Registers a reader in the domain, liburcu's `rcu_register_thread`: one atomic step claims the first slot that is found
+/// free. It is offline. 0 registered, 3 memory, 4 the domain's handle keeps nothing, 5 the reader's handle keeps one already, 6 every
+/// slot was found claimed. Where it is not 0, the reader's handle is as it was, and no slot stays claimed.
+#[tactic(auto, using(crate::proofs::Refusals::qsbr_finds_all))]
+#[unsafe(no_mangle)]
+pub extern "C" fn robiniagolf_qsbr_reader_register(
+    alloc: Global,
+    domain: &mut QsbrDomainHandle,
+    reader: &mut QsbrReaderHandle,
+) -> u32
+    ensures registered { result ≡ 0 → Beside QsbrRegisters domain.old.kept.value reader.new.kept.value }
+    ensures refused { result ≢ 0 → reader.new.kept.value ≡ reader.old.kept.value }
+    ensures same { domain.new.kept.value ≡ domain.old.kept.value }
+    ensures in_use { (result ≡ 5) ↔ IsSome reader.old.kept.value }
+    ensures empty { result ≡ 4 → IsNone domain.old.kept.value }
+    ensures no_slot { result ≡ 6 → Keeps QsbrFindsAllClaimed domain.old.kept.value }
+    ensures answers { (result ≡ 0) ⊎ (result ≡ 3) ⊎ (result ≡ 4) ⊎ (result ≡ 5) ⊎ (result ≡ 6) }
+{
+    if reader.full {
+        return 5;
+    }
+    if !domain.full {
+        return 4;
+    }
+    let kept = domain.kept.lend();
+    let registered = register_in(&kept.table);
+    match registered {
+        Ok(core) => keep_reader(alloc, reader, core),
+        Err(refused) => status_of(refused),
+    }
+}
+
+// Puts a new reader into an empty handle. Where its box is refused memory, it gives its slot back.
+fn keep_reader(
+    alloc: Global,
+    reader: &mut QsbrReaderHandle,
+    core: ReaderCore<QsbrPlan, AnyChain>,
+) -> u32
+    requires { reader.old.kept.value ≡ None }
+    ensures kept { result ≡ 0 → Keeps (λ r. r.core ≡ core) reader.new.kept.value }
+    ensures refused { result ≢ 0 → reader.new.kept.value ≡ reader.old.kept.value }
+    ensures answers { (result ≡ 0) ⊎ (result ≡ 3) }
+{
+    let held = QsbrReader {
+        core,
+        apart: [0; 16],
+    };
+    match Box::new(alloc, held) {
+        Ok(held) => {
+            qsbr_reader_handle::put(reader, held);
+            0
+        }
+        Err(AllocFailed { value }) => {
+            let QsbrReader { core, .. } = value;
+            drop(core.unregister());
+            3
+        }
+    }
+}
+
+/// Gives the reader's slot back, frees it and leaves the handle empty, liburcu's `rcu_unregister_thread`. An online reader
+/// goes offline first. It needs no domain. 0 given back, 4 the handle keeps nothing, 7 a lock is open, and then the handle is as it was.
+#[unsafe(no_mangle)]
+pub extern "C" fn robiniagolf_qsbr_reader_unregister(
+    alloc: Global,
+    reader: &mut QsbrReaderHandle,
+) -> u32
+    ensures given { result ≡ 0 → Keeps QsbrWasGivenBack reader.old.kept.value × (reader.new.kept.value ≡ None) }
+    ensures refused { result ≢ 0 → reader.new.kept.value ≡ reader.old.kept.value }
+    ensures empty { (result ≡ 4) ↔ IsNone reader.old.kept.value }
+    ensures busy { (result ≡ 7) ↔ Keeps QsbrIsBusy reader.old.kept.value }
+    ensures answers { (result ≡ 0) ⊎ (result ≡ 4) ⊎ (result ≡ 7) }
+{
+    if !reader.full {
+        return 4;
+    }
+    if reader.kept.lend().core.depth != 0 {
+        return 7;
+    }
+    give_back(alloc, reader)
+}
+
+// Takes out a reader with nothing open, and gives its slot back.
+fn give_back(alloc: Global, reader: &mut QsbrReaderHandle) -> u32
+    requires { Keeps (λ r. r.core.depth ≡ 0) reader.old.kept.value }
+    ensures given { Keeps QsbrWasGivenBack reader.old.kept.value × (reader.new.kept.value ≡ None) × (result ≡ 0) }
+{
+    let Some(held) = qsbr_reader_handle::take(alloc, reader) else {
+        unreachable!()
+    };
+    let QsbrReader { core, .. } = Box::into_inner(held);
+    let Ok(_seat) = core.unregister() else {
+        unreachable!()
+    };
+    0
+}
+
+/// One more lock, liburcu's `rcu_read_lock`: a count, since an online reader is in a section. 0 locked, 4 the handle keeps
+/// nothing, 8 the reader is offline, 9 as many are open as can be.
+#[unsafe(no_mangle)]
+pub extern "C" fn robiniagolf_qsbr_reader_lock(reader: &mut QsbrReaderHandle) -> u32
+    ensures locked { result ≡ 0 → Between QsbrLocks reader.old.kept.value reader.new.kept.value }
+    ensures refused { result ≢ 0 → reader.new.kept.value ≡ reader.old.kept.value }
+    ensures empty { (result ≡ 4) ↔ IsNone reader.old.kept.value }
+    ensures not_open { result ≡ 8 → Keeps IsOffline reader.old.kept.value }
+    ensures nest_full { result ≡ 9 → Keeps QsbrIsFull reader.old.kept.value }
+    ensures answers { (result ≡ 0) ⊎ (result ≡ 4) ⊎ (result ≡ 8) ⊎ (result ≡ 9) }
+{
+    if !reader.full {
+        return 4;
+    }
+    let held = reader.kept.lend();
+    let answer = match held.core.lock() {
+        Ok(()) => 0,
+        Err(Refusal::NotOpen) => 8,
+        Err(_) => 9,
+    };
+    answer
+}
+
+/// One lock less, liburcu's `rcu_read_unlock`: a count. 0 unlocked, 4 the handle keeps nothing, 8 no lock is open.
+#[unsafe(no_mangle)]
+pub extern "C" fn robiniagolf_qsbr_reader_unlock(reader: &mut QsbrReaderHandle) -> u32
+    ensures unlocked { result ≡ 0 → Between QsbrUnlocks reader.old.kept.value reader.new.kept.value }
+    ensures refused { result ≢ 0 → reader.new.kept.value ≡ reader.old.kept.value }
+    ensures empty { (result ≡ 4) ↔ IsNone reader.old.kept.value }
+    ensures not_open { result ≡ 8 → Keeps (QsbrHasLocks 0) reader.old.kept.value }
+    ensures answers { (result ≡ 0) ⊎ (result ≡ 4) ⊎ (result ≡ 8) }
+{
+    if !reader.full {
+        return 4;
+    }
+    let held = reader.kept.lend();
+    let answer = match held.core.unlock() {
+        Ok(()) => 0,
+        Err(_) => 8,
+    };
+    answer
+}
+
+/// Ends all that is open, and goes offline by one store, for a thread that is gone. 0 ended, 4 the handle keeps nothing.
+#[unsafe(no_mangle)]
+pub extern "C" fn robiniagolf_qsbr_reader_end(reader: &mut QsbrReaderHandle) -> u32
+    ensures ended { result ≡ 0 → Between QsbrEnds reader.old.kept.value reader.new.kept.value }
+    ensures refused { result ≢ 0 → reader.new.kept.value ≡ reader.old.kept.value }
+    ensures empty { (result ≡ 4) ↔ IsNone reader.old.kept.value }
+    ensures answers { (result ≡ 0) ⊎ (result ≡ 4) }
+{
+    if !reader.full {
+        return 4;
+    }
+    let held = reader.kept.lend();
+    held.core.end();
+    0
+}
+
+/// How many locks are open, of which liburcu's `rcu_read_ongoing` tells whether any is. 0 of a handle that keeps nothing.
+#[unsafe(no_mangle)]
+pub extern "C" fn robiniagolf_qsbr_reader_depth(reader: &mut QsbrReaderHandle) -> u64
+    ensures same { reader.new.kept.value ≡ reader.old.kept.value }
+    ensures empty { IsNone reader.old.kept.value → result ≡ 0 }
+    ensures counted { IsSome reader.old.kept.value → Keeps (QsbrHasLocks result) reader.old.kept.value }
+{
+    if !reader.full {
+        return 0;
+    }
+    let held = reader.kept.lend();
+    let locks = held.core.locks;
+    locks
+}
+
+/// An offline reader goes online, liburcu's `rcu_thread_online`, which opens a section. 0 online, 4 the handle keeps
+/// nothing, 7 it is online already.
+#[unsafe(no_mangle)]
+pub extern "C" fn robiniagolf_qsbr_reader_online(reader: &mut QsbrReaderHandle) -> u32
+    ensures online { result ≡ 0 → Between GoesOnline reader.old.kept.value reader.new.kept.value }
+    ensures refused { result ≢ 0 → reader.new.kept.value ≡ reader.old.kept.value }
+    ensures empty { (result ≡ 4) ↔ IsNone reader.old.kept.value }
+    ensures busy { result ≡ 7 → Keeps IsOnline reader.old.kept.value }
+    ensures answers { (result ≡ 0) ⊎ (result ≡ 4) ⊎ (result ≡ 7) }
+{
+    if !reader.full {
+        return 4;
+    }
+    let held = reader.kept.lend();
+    let answer = match held.core.online() {
+        Ok(()) => 0,
+        Err(_) => 7,
+    };
+    answer
+}
+
+/// An online reader goes offline, liburcu's `rcu_thread_offline`, which closes its section. 0 offline, 4 the handle keeps
+/// nothing, 7 a lock is open, 8 it is offline already.
+#[unsafe(no_mangle)]
+pub extern "C" fn robiniagolf_qsbr_reader_offline(reader: &mut QsbrReaderHandle) -> u32
+    ensures offline { result ≡ 0 → Between GoesOffline reader.old.kept.value reader.new.kept.value }
+    ensures refused { result ≢ 0 → reader.new.kept.value ≡ reader.old.kept.value }
+    ensures empty { (result ≡ 4) ↔ IsNone reader.old.kept.value }
+    ensures not_open { result ≡ 8 → Keeps IsOffline reader.old.kept.value }
+    ensures busy { result ≡ 7 → Keeps QsbrIsBusy reader.old.kept.value }
+    ensures answers { (result ≡ 0) ⊎ (result ≡ 4) ⊎ (result ≡ 7) ⊎ (result ≡ 8) }
+{
+    if !reader.full {
+        return 4;
+    }
+    let held = reader.kept.lend();
+    let answer = match held.core.offline() {
+        Ok(()) => 0,
+        Err(Refusal::Busy) => 7,
+        Err(_) => 8,
+    };
+    answer
+}
+
+/// An online reader announces a quiescent state, liburcu's `rcu_quiescent_state`: its section closes, and the next one
+/// opens. 0 announced, 4 the handle keeps nothing, 7 a lock is open, 8 it is offline.
+#[unsafe(no_mangle)]
+pub extern "C" fn robiniagolf_qsbr_reader_quiescent(reader: &mut QsbrReaderHandle) -> u32
+    ensures announced { result ≡ 0 → Between Announces reader.old.kept.value reader.new.kept.value }
+    ensures refused { result ≢ 0 → reader.new.kept.value ≡ reader.old.kept.value }
+    ensures empty { (result ≡ 4) ↔ IsNone reader.old.kept.value }
+    ensures not_open { result ≡ 8 → Keeps IsOffline reader.old.kept.value }
+    ensures busy { result ≡ 7 → Keeps QsbrIsBusy reader.old.kept.value }
+    ensures answers { (result ≡ 0) ⊎ (result ≡ 4) ⊎ (result ≡ 7) ⊎ (result ≡ 8) }
+{
+    if !reader.full {
+        return 4;
+    }
+    let held = reader.kept.lend();
+    let answer = match held.core.quiescent() {
+        Ok(()) => 0,
+        Err(Refusal::Busy) => 7,
+        Err(_) => 8,
+    };
+    answer
+}
+
+/// Whether the reader is online. 0 online, 4 the handle keeps nothing, 8 offline.
+#[unsafe(no_mangle)]
+pub extern "C" fn robiniagolf_qsbr_reader_is_online(reader: &mut QsbrReaderHandle) -> u32
+    ensures same { reader.new.kept.value ≡ reader.old.kept.value }
+    ensures empty { (result ≡ 4) ↔ IsNone reader.old.kept.value }
+    ensures online { result ≡ 0 → Keeps IsOnline reader.old.kept.value }
+    ensures offline { result ≡ 8 → Keeps IsOffline reader.old.kept.value }
+    ensures answers { (result ≡ 0) ⊎ (result ≡ 4) ⊎ (result ≡ 8) }
+{
+    if !reader.full {
+        return 4;
+    }
+    let held = reader.kept.lend();
+    let word = held.core.word;
+    if word != 0 { 0 } else { 8 }
+}
+
+/// Asks for a grace period, liburcu's `start_poll_synchronize_rcu`, and writes its cookie. 0 asked, 4 the handle keeps
+/// nothing, 10 no sequence numbers are left. Where it is not 0, the cookie is as it was.
+#[unsafe(no_mangle)]
+pub extern "C" fn robiniagolf_qsbr_grace_ask(grace: &mut QsbrGraceHandle, cookie: &mut u64) -> u32
+    ensures asked { result ≡ 0 → Between (QsbrAsks cookie.new) grace.old.kept.value grace.new.kept.value }
+    ensures refused { result ≢ 0 → cookie.new ≡ cookie.old }
+    ensures empty { (result ≡ 4) ↔ IsNone grace.old.kept.value }
+    ensures exhausted { result ≡ 10 → Between QsbrIsSpent grace.old.kept.value grace.new.kept.value }
+    ensures answers { (result ≡ 0) ⊎ (result ≡ 4) ⊎ (result ≡ 10) }
+{
+    if !grace.full {
+        return 4;
+    }
+    let held = grace.kept.lend();
+    let asked = held.periods.ask();
+    match asked {
+        Ok(made) => {
+            *cookie = made.number();
+            0
+        }
+        Err(_) => 10,
+    }
+}
+
+/// Whether the ask of a cookie is answered, liburcu's `poll_state_synchronize_rcu`. 0 answered, 1 not yet, 4 the handle
+/// keeps nothing.
+#[unsafe(no_mangle)]
+pub extern "C" fn robiniagolf_qsbr_grace_poll(grace: &mut QsbrGraceHandle, cookie: u64) -> u32
+    ensures over { result ≡ 0 → Between (QsbrAnswers cookie) grace.old.kept.value grace.new.kept.value }
+    ensures not_yet { result ≡ 1 → Between (QsbrAwaits cookie) grace.old.kept.value grace.new.kept.value }
+    ensures empty { (result ≡ 4) ↔ IsNone grace.old.kept.value }
+    ensures answers { (result ≡ 0) ⊎ (result ≡ 1) ⊎ (result ≡ 4) }
+{
+    if !grace.full {
+        return 4;
+    }
+    let held = grace.kept.lend();
+    let over = held.periods.poll(Cookie::of(cookie));
+    if over { 0 } else { 1 }
+}
+
+/// Polls, and where the ask is not answered takes steps of the grace period that is going, or of a new one: liburcu's
+/// `synchronize_rcu` is this in a loop. 0 answered, 1 call again, 2 a section stands in the way, 4 the handle keeps
+/// nothing, 10 no sequence numbers are left.
+#[unsafe(no_mangle)]
+pub extern "C" fn robiniagolf_qsbr_grace_step(grace: &mut QsbrGraceHandle, cookie: u64) -> u32
+    ensures over { result ≡ 0 → Between (QsbrAnswers cookie) grace.old.kept.value grace.new.kept.value }
+    ensures not_yet { result ≢ 0 → result ≢ 4 → Between (QsbrAwaits cookie) grace.old.kept.value grace.new.kept.value }
+    ensures empty { (result ≡ 4) ↔ IsNone grace.old.kept.value }
+    ensures exhausted { result ≡ 10 → Keeps QsbrIsUsedUp grace.old.kept.value }
+    ensures answers { (result ≡ 0) ⊎ (result ≡ 1) ⊎ (result ≡ 2) ⊎ (result ≡ 4) ⊎ (result ≡ 10) }
+{
+    if !grace.full {
+        return 4;
+    }
+    let held = grace.kept.lend();
+    let step = held.periods.step(Cookie::of(cookie), MOST);
+    match step {
+        Step::Done => 0,
+        Step::Going => 1,
+        Step::InTheWay(_) => 2,
+        Step::Exhausted => 10,
+    }
+}
