@@ -1,5 +1,5 @@
--- What may be handed to another thread, and what may be shared by threads.
-use denote.Param.Send.{IsSend, IsSync}
+-- What may be handed to another thread.
+use denote.Param.Send.{IsSend}
 use Rattle.held_values.specs.contracts.MembReader as memb_reader
 use Rattle.held_values.specs.contracts.QsbrReader as qsbr_reader
 use Rattle.held_values.specs.contracts.MembGrace as memb_grace
@@ -30,9 +30,3 @@ memb_domain_crosses = memb_domain_crossing.the_send
 
 pub qsbr_domain_crosses : IsSend qsbr_domain.the_row
 qsbr_domain_crosses = qsbr_domain_crossing.the_send
-
-pub memb_domain_is_shared : IsSync memb_domain.the_row
-memb_domain_is_shared = memb_domain_crossing.the_sync
-
-pub qsbr_domain_is_shared : IsSync qsbr_domain.the_row
-qsbr_domain_is_shared = qsbr_domain_crossing.the_sync

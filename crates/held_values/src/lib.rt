@@ -8,9 +8,8 @@ use gp_memb::MembPlan;
 use gp_qsbr::QsbrPlan;
 use live_grace::GracePeriods;
 use live_read::ReaderCore;
-use live_words::{AnyChain, LiveTable};
-pub use making::{NotRegistered, new_domain, register_in};
-use std::sync::Arc;
+use live_words::AnyChain;
+pub use making::{Domain, new_domain};
 
 /// A reader of the general-purpose flavour. What follows it keeps another's off its lines.
 #[derive(Drop)]
@@ -40,14 +39,14 @@ pub struct QsbrGrace {
     pub apart: [u64; 16],
 }
 
-/// A domain of the general-purpose flavour: an owner of its table.
+/// A domain of the general-purpose flavour.
 #[derive(Drop)]
 pub struct MembDomain {
-    pub table: Arc<LiveTable<MembPlan, AnyChain>>,
+    pub domain: Domain<MembPlan, AnyChain>,
 }
 
 /// A domain of the quiescent-state flavour.
 #[derive(Drop)]
 pub struct QsbrDomain {
-    pub table: Arc<LiveTable<QsbrPlan, AnyChain>>,
+    pub domain: Domain<QsbrPlan, AnyChain>,
 }

@@ -6,4 +6,3 @@ pub mod MembGraceValues
 pub mod QsbrGraceValues
 pub mod MembDomainValues
 pub mod QsbrDomainValues
-pub mod Refusals

@@ -1,16 +1,19 @@
 -- What the calls of C tell of what their handles keep.
-use Rattle.std.specs.Prelude.{◌≡◌, ◌≢◌, ℕ, ◌+◌, ◌-◌, ◌<◌, ◌≤◌, ◌^◌, Bool, true, false, List, Option, Some, None}
+use Rattle.std.specs.Prelude.{◌≡◌, ◌≢◌, ℕ, ◌+◌, ◌-◌, ◌<◌, ◌≤◌, ◌^◌, Bool, true, false, Option, Some, None}
 use Rattle.std.specs.Arc.{arc_value}
 use Rattle.atomic_table.specs.declared.shared.Seat.{Seat}
+use Rattle.gp_memb.specs.Memb.{memb_action, memb_turn}
+use Rattle.gp_qsbr.specs.Qsbr.{qsbr_action, qsbr_turn}
 use Rattle.live_log.specs.contracts.chain_rule.AnyChainChainRule.TheImpl.{ghosts}
 use Rattle.live_log.specs.Log.{IsLiveRun, seq_of}
 use Rattle.live_rule.specs.declared.view.View.{View}
 use Rattle.live_rule.specs.Steps.{Precedes}
 use Rattle.live_groups.specs.Groups.{IsClaimed}
-use Rattle.live_read.specs.Registering.{AllWereClaimed, IsGivenBack, WasFree}
+use Rattle.live_read.specs.Registering.{FindsAllClaimed, IsGivenBack, WasFree}
 use Rattle.live_read.specs.Sections as sections
 use Rattle.live_grace.specs.Answers.{IsCookieOf}
-use Rattle.live_grace.specs.Steps.{IsAnswered}
+use Rattle.live_table.specs.Rights.{looks_in}
+use Rattle.live_grace.specs.Steps.{IsAnswered, Stands}
 use Rattle.held_values.specs.declared.MembDomain.{MembDomain}
 use Rattle.held_values.specs.declared.QsbrDomain.{QsbrDomain}
 use Rattle.held_values.specs.declared.MembGrace.{MembGrace}
@@ -31,6 +34,13 @@ abbrev pub Between : {A : Type 0} → (A → A → Type 0) → Option A → Opti
 Between so (Some x) (Some y) = so x y
 Between so (Some x) None = ⊥
 Between so None y = ⊥
+
+-- a handle keeps nothing before and after, or something both times, of which this is so
+abbrev pub Stays : {A : Type 0} → (A → A → Type 0) → Option A → Option A → Type 0
+Stays so (Some x) (Some y) = so x y
+Stays so (Some x) None = ⊥
+Stays so None (Some y) = ⊥
+Stays so None None = Unit {0}
 
 -- the same of two handles
 abbrev pub Beside : {A B : Type 0} → (A → B → Type 0) → Option A → Option B → Type 0
@@ -65,11 +75,11 @@ SpentBy qsbr s t = SeesOn qsbr s t × (2 ^ 62 ≤ seq_of t.me.0.seen)
 
 -- a domain with so many slots
 abbrev pub MembHasSlots : ℕ → MembDomain → Type 0
-MembHasSlots slots d = (arc_value d.table).slots ≡ slots
+MembHasSlots slots d = (arc_value d.domain.table).slots ≡ slots
 
 -- grace periods of the domain's table, of which none has begun
 abbrev pub MembIsNewGrace : MembDomain → MembGrace → Type 0
-MembIsNewGrace d g = (arc_value g.periods.table ≡ arc_value d.table) × (g.periods.steps.going ≡ false) × (g.periods.steps.seq ≡ 0)
+MembIsNewGrace d g = (arc_value g.periods.table ≡ arc_value d.domain.table) × (g.periods.steps.going ≡ false) × (g.periods.steps.seq ≡ 0)
 
 -- nothing is open
 abbrev pub MembIsIdle : MembReader → Type 0
@@ -77,12 +87,16 @@ MembIsIdle r = (r.core.depth ≡ 0) × (r.core.locks ≡ 0)
 
 -- a reader of the domain's table, in a slot that was found free and that it has now, with nothing open
 abbrev pub MembRegisters : MembDomain → MembReader → Type 0
-MembRegisters d r = (r.core.seat.table_id ≡ (arc_value d.table).words.shared.table_id) × (r.core.slot < (arc_value d.table).slots)
+MembRegisters d r = (r.core.seat.table_id ≡ (arc_value d.domain.table).words.shared.table_id) × (r.core.slot < (arc_value d.domain.table).slots)
     × WasFree r.core.slot r.core.seat.me.0.looks × IsClaimed false r.core.slot r.core.seat.me.0 × MembIsIdle r
 
--- the bit of each slot was found set
-abbrev pub MembFindsAllClaimed : MembDomain → Type 0
-MembFindsAllClaimed d = (found : List (ℕ × ℕ)) × AllWereClaimed (arc_value d.table).words.shared.key found
+-- the bit of each slot was found set, as the domain's seat has heard since
+abbrev pub MembFindsAllClaimed : MembDomain → MembDomain → Type 0
+MembFindsAllClaimed d e = (e.domain.table ≡ d.domain.table) × FindsAllClaimed (arc_value d.domain.table).words.shared.key d.domain.seat.me.0.looks e.domain.seat.me.0.looks
+
+-- it has heard of nothing since
+abbrev pub MembFindsNothing : MembDomain → MembDomain → Type 0
+MembFindsNothing d e = (e.domain.table ≡ d.domain.table) × (e.domain.seat.me ≡ d.domain.seat.me)
 
 -- the slot was given back, as a seat tells that has seen and heard all that the reader had
 abbrev pub MembWasGivenBack : MembReader → Type 0
@@ -121,6 +135,10 @@ MembAnswers cookie g h = AnswersBy false cookie g.periods.asks h.periods.asks
 abbrev pub MembAwaits : ℕ → MembGrace → MembGrace → Type 0
 MembAwaits cookie g h = AwaitsBy false cookie g.periods.asks h.periods.asks
 
+-- the grace period loads the word of a slot of this table, and one that was loaded there stands in its way
+abbrev pub MembIsHeldUp : MembGrace → MembGrace → Type 0
+MembIsHeldUp g h = (slot : ℕ) × (slot < (arc_value g.periods.table).slots) × Stands memb_action memb_turn h.periods.steps.plan slot (looks_in h.periods.steps.seat.me.0.grace)
+
 abbrev pub MembIsSpent : MembGrace → MembGrace → Type 0
 MembIsSpent g h = SpentBy false g.periods.asks h.periods.asks
 
@@ -132,11 +150,11 @@ MembIsUsedUp g = (g.periods.steps.going ≡ false) × (2 ^ 62 < g.periods.steps.
 
 -- a domain with so many slots
 abbrev pub QsbrHasSlots : ℕ → QsbrDomain → Type 0
-QsbrHasSlots slots d = (arc_value d.table).slots ≡ slots
+QsbrHasSlots slots d = (arc_value d.domain.table).slots ≡ slots
 
 -- grace periods of the domain's table, of which none has begun
 abbrev pub QsbrIsNewGrace : QsbrDomain → QsbrGrace → Type 0
-QsbrIsNewGrace d g = (arc_value g.periods.table ≡ arc_value d.table) × (g.periods.steps.going ≡ false) × (g.periods.steps.seq ≡ 0)
+QsbrIsNewGrace d g = (arc_value g.periods.table ≡ arc_value d.domain.table) × (g.periods.steps.going ≡ false) × (g.periods.steps.seq ≡ 0)
 
 -- nothing is open, and it is offline
 abbrev pub QsbrIsIdle : QsbrReader → Type 0
@@ -144,12 +162,16 @@ QsbrIsIdle r = (r.core.depth ≡ 0) × (r.core.locks ≡ 0) × (r.core.word ≡ 
 
 -- a reader of the domain's table, in a slot that was found free and that it has now, with nothing open
 abbrev pub QsbrRegisters : QsbrDomain → QsbrReader → Type 0
-QsbrRegisters d r = (r.core.seat.table_id ≡ (arc_value d.table).words.shared.table_id) × (r.core.slot < (arc_value d.table).slots)
+QsbrRegisters d r = (r.core.seat.table_id ≡ (arc_value d.domain.table).words.shared.table_id) × (r.core.slot < (arc_value d.domain.table).slots)
     × WasFree r.core.slot r.core.seat.me.0.looks × IsClaimed true r.core.slot r.core.seat.me.0 × QsbrIsIdle r
 
--- the bit of each slot was found set
-abbrev pub QsbrFindsAllClaimed : QsbrDomain → Type 0
-QsbrFindsAllClaimed d = (found : List (ℕ × ℕ)) × AllWereClaimed (arc_value d.table).words.shared.key found
+-- the bit of each slot was found set, as the domain's seat has heard since
+abbrev pub QsbrFindsAllClaimed : QsbrDomain → QsbrDomain → Type 0
+QsbrFindsAllClaimed d e = (e.domain.table ≡ d.domain.table) × FindsAllClaimed (arc_value d.domain.table).words.shared.key d.domain.seat.me.0.looks e.domain.seat.me.0.looks
+
+-- it has heard of nothing since
+abbrev pub QsbrFindsNothing : QsbrDomain → QsbrDomain → Type 0
+QsbrFindsNothing d e = (e.domain.table ≡ d.domain.table) × (e.domain.seat.me ≡ d.domain.seat.me)
 
 -- the slot was given back, as a seat tells that has seen and heard all that the reader had
 abbrev pub QsbrWasGivenBack : QsbrReader → Type 0
@@ -187,6 +209,10 @@ QsbrAnswers cookie g h = AnswersBy true cookie g.periods.asks h.periods.asks
 
 abbrev pub QsbrAwaits : ℕ → QsbrGrace → QsbrGrace → Type 0
 QsbrAwaits cookie g h = AwaitsBy true cookie g.periods.asks h.periods.asks
+
+-- the grace period loads the word of a slot of this table, and one that was loaded there stands in its way
+abbrev pub QsbrIsHeldUp : QsbrGrace → QsbrGrace → Type 0
+QsbrIsHeldUp g h = (slot : ℕ) × (slot < (arc_value g.periods.table).slots) × Stands qsbr_action qsbr_turn h.periods.steps.plan slot (looks_in h.periods.steps.seat.me.0.grace)
 
 abbrev pub QsbrIsSpent : QsbrGrace → QsbrGrace → Type 0
 QsbrIsSpent g h = SpentBy true g.periods.asks h.periods.asks

@@ -1,5 +1,5 @@
 -- What a handle keeps, once something was written over what it lent.
-use Rattle.std.specs.Prelude.{Option, Some}
+use Rattle.std.specs.Prelude.{Some}
 use Rattle.robiniagolf.specs.declared.memb_reader.Kept as memb_reader
 use Rattle.held_values.specs.declared.MembReader.{MembReader}
 use Rattle.robiniagolf.specs.declared.qsbr_reader.Kept as qsbr_reader

@@ -1,5 +1,4 @@
 pub mod Calls
 pub mod Lent
 pub mod Owned
-pub mod Refusals
 pub mod Verdicts

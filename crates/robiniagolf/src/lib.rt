@@ -26,5 +26,4 @@ mod qsbr_grace_lend;
 mod qsbr_reader;
 mod qsbr_reader_handle;
 mod qsbr_reader_lend;
-mod refused;
 mod verdict;

@@ -2,18 +2,18 @@
 //! `requires`, takes a lock or waits, and each answers a handle that keeps nothing by 4.
 
 ghost use Rattle.std.specs.Prelude.{◌≡◌, ◌≢◌, ◌⊎◌, ◌↔◌, ◌<◌, None, IsNone, IsSome};
-ghost use Rattle.robiniagolf.specs.Calls.{Beside, Between, Keeps, MembAnswers, MembAsks, MembAwaits, MembEnds, MembFindsAllClaimed, MembHasLocks, MembHasSlots, MembIsBusy, MembIsFull, MembIsNewGrace, MembIsSpent, MembIsUsedUp, MembLocks, MembRegisters, MembUnlocks, MembWasGivenBack};
+ghost use Rattle.robiniagolf.specs.Calls.{Beside, Between, Keeps, MembAnswers, MembAsks, MembAwaits, MembEnds, MembFindsAllClaimed, MembFindsNothing, MembHasLocks, MembHasSlots, MembIsBusy, MembIsFull, MembIsHeldUp, MembIsNewGrace, MembIsSpent, MembIsUsedUp, MembLocks, MembRegisters, MembUnlocks, MembWasGivenBack, Stays};
 
 use crate::memb_domain_handle::{self, MembDomainHandle};
 use crate::memb_grace_handle::{self, MembGraceHandle};
 use crate::memb_reader_handle::{self, MembReaderHandle};
-use crate::refused::status_of;
 use gp_memb::MembPlan;
-use held_values::{MembDomain, MembGrace, MembReader, new_domain, register_in};
+use held_values::{MembDomain, MembGrace, MembReader, new_domain};
 use live_grace::Step;
 use live_read::ReaderCore;
 use live_words::AnyChain;
 use poll_cookie::Cookie;
+use rcu_model::Refusal;
 use std::alloc::{AllocFailed, Global};
 
 /// How many steps a call takes at most: more than a grace period has where none stands in its way.
@@ -41,10 +41,10 @@ pub extern "C" fn robiniagolf_memb_domain_new(
     if slots == 0 || slots > 256 {
         return 11;
     }
-    let Ok((table, periods)) = new_domain(alloc, slots) else {
+    let Ok((made, periods)) = new_domain(alloc, slots) else {
         return 3;
     };
-    let Ok(made) = Box::new(alloc, MembDomain { table }) else {
+    let Ok(made) = Box::new(alloc, MembDomain { domain: made }) else {
         return 3;
     };
     let periods = MembGrace {
@@ -95,7 +95,6 @@ pub extern "C" fn robiniagolf_memb_grace_free(alloc: Global, grace: &mut MembGra
 /// Registers a reader in the domain, liburcu's `rcu_register_thread`: one atomic step claims the first slot that is found
 /// free. 0 registered, 3 memory, 4 the domain's handle keeps nothing, 5 the reader's handle keeps one already, 6 every
 /// slot was found claimed. Where it is not 0, the reader's handle is as it was, and no slot stays claimed.
-#[tactic(auto, using(crate::proofs::Refusals::memb_finds_all))]
 #[unsafe(no_mangle)]
 pub extern "C" fn robiniagolf_memb_reader_register(
     alloc: Global,
@@ -104,10 +103,10 @@ pub extern "C" fn robiniagolf_memb_reader_register(
 ) -> u32
     ensures registered { result ≡ 0 → Beside MembRegisters domain.old.kept.value reader.new.kept.value }
     ensures refused { result ≢ 0 → reader.new.kept.value ≡ reader.old.kept.value }
-    ensures same { domain.new.kept.value ≡ domain.old.kept.value }
+    ensures same { result ≢ 6 → Stays MembFindsNothing domain.old.kept.value domain.new.kept.value }
     ensures in_use { (result ≡ 5) ↔ IsSome reader.old.kept.value }
     ensures empty { result ≡ 4 → IsNone domain.old.kept.value }
-    ensures no_slot { result ≡ 6 → Keeps MembFindsAllClaimed domain.old.kept.value }
+    ensures no_slot { result ≡ 6 → Between MembFindsAllClaimed domain.old.kept.value domain.new.kept.value }
     ensures answers { (result ≡ 0) ⊎ (result ≡ 3) ⊎ (result ≡ 4) ⊎ (result ≡ 5) ⊎ (result ≡ 6) }
 {
     if reader.full {
@@ -117,10 +116,11 @@ pub extern "C" fn robiniagolf_memb_reader_register(
         return 4;
     }
     let kept = domain.kept.lend();
-    let registered = register_in(&kept.table);
+    let registered = kept.domain.register();
     match registered {
         Ok(core) => keep_reader(alloc, reader, core),
-        Err(refused) => status_of(refused),
+        Err(Refusal::NoSlot) => 6,
+        Err(_) => 3,
     }
 }
 
@@ -311,6 +311,7 @@ pub extern "C" fn robiniagolf_memb_grace_step(grace: &mut MembGraceHandle, cooki
     ensures over { result ≡ 0 → Between (MembAnswers cookie) grace.old.kept.value grace.new.kept.value }
     ensures not_yet { result ≢ 0 → result ≢ 4 → Between (MembAwaits cookie) grace.old.kept.value grace.new.kept.value }
     ensures empty { (result ≡ 4) ↔ IsNone grace.old.kept.value }
+    ensures in_way { result ≡ 2 → Between MembIsHeldUp grace.old.kept.value grace.new.kept.value }
     ensures exhausted { result ≡ 10 → Keeps MembIsUsedUp grace.old.kept.value }
     ensures answers { (result ≡ 0) ⊎ (result ≡ 1) ⊎ (result ≡ 2) ⊎ (result ≡ 4) ⊎ (result ≡ 10) }
 {

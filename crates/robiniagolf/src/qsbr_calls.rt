@@ -2,14 +2,13 @@
 //! `requires`, takes a lock or waits, and each answers a handle that keeps nothing by 4.
 
 ghost use Rattle.std.specs.Prelude.{◌≡◌, ◌≢◌, ◌⊎◌, ◌↔◌, ◌<◌, None, IsNone, IsSome};
-ghost use Rattle.robiniagolf.specs.Calls.{Announces, Beside, Between, GoesOffline, GoesOnline, IsOffline, IsOnline, Keeps, QsbrAnswers, QsbrAsks, QsbrAwaits, QsbrEnds, QsbrFindsAllClaimed, QsbrHasLocks, QsbrHasSlots, QsbrIsBusy, QsbrIsFull, QsbrIsNewGrace, QsbrIsSpent, QsbrIsUsedUp, QsbrLocks, QsbrRegisters, QsbrUnlocks, QsbrWasGivenBack};
+ghost use Rattle.robiniagolf.specs.Calls.{Announces, Beside, Between, GoesOffline, GoesOnline, IsOffline, IsOnline, Keeps, QsbrAnswers, QsbrAsks, QsbrAwaits, QsbrEnds, QsbrFindsAllClaimed, QsbrFindsNothing, QsbrHasLocks, QsbrHasSlots, QsbrIsBusy, QsbrIsFull, QsbrIsHeldUp, QsbrIsNewGrace, QsbrIsSpent, QsbrIsUsedUp, QsbrLocks, QsbrRegisters, QsbrUnlocks, QsbrWasGivenBack, Stays};
 
 use crate::qsbr_domain_handle::{self, QsbrDomainHandle};
 use crate::qsbr_grace_handle::{self, QsbrGraceHandle};
 use crate::qsbr_reader_handle::{self, QsbrReaderHandle};
-use crate::refused::status_of;
 use gp_qsbr::QsbrPlan;
-use held_values::{QsbrDomain, QsbrGrace, QsbrReader, new_domain, register_in};
+use held_values::{QsbrDomain, QsbrGrace, QsbrReader, new_domain};
 use live_grace::Step;
 use live_read::ReaderCore;
 use live_words::AnyChain;
@@ -42,10 +41,10 @@ pub extern "C" fn robiniagolf_qsbr_domain_new(
     if slots == 0 || slots > 256 {
         return 11;
     }
-    let Ok((table, periods)) = new_domain(alloc, slots) else {
+    let Ok((made, periods)) = new_domain(alloc, slots) else {
         return 3;
     };
-    let Ok(made) = Box::new(alloc, QsbrDomain { table }) else {
+    let Ok(made) = Box::new(alloc, QsbrDomain { domain: made }) else {
         return 3;
     };
     let periods = QsbrGrace {
@@ -96,7 +95,6 @@ pub extern "C" fn robiniagolf_qsbr_grace_free(alloc: Global, grace: &mut QsbrGra
 /// Registers a reader in the domain, liburcu's `rcu_register_thread`: one atomic step claims the first slot that is found
 /// free. It is offline. 0 registered, 3 memory, 4 the domain's handle keeps nothing, 5 the reader's handle keeps one already, 6 every
 /// slot was found claimed. Where it is not 0, the reader's handle is as it was, and no slot stays claimed.
-#[tactic(auto, using(crate::proofs::Refusals::qsbr_finds_all))]
 #[unsafe(no_mangle)]
 pub extern "C" fn robiniagolf_qsbr_reader_register(
     alloc: Global,
@@ -105,10 +103,10 @@ pub extern "C" fn robiniagolf_qsbr_reader_register(
 ) -> u32
     ensures registered { result ≡ 0 → Beside QsbrRegisters domain.old.kept.value reader.new.kept.value }
     ensures refused { result ≢ 0 → reader.new.kept.value ≡ reader.old.kept.value }
-    ensures same { domain.new.kept.value ≡ domain.old.kept.value }
+    ensures same { result ≢ 6 → Stays QsbrFindsNothing domain.old.kept.value domain.new.kept.value }
     ensures in_use { (result ≡ 5) ↔ IsSome reader.old.kept.value }
     ensures empty { result ≡ 4 → IsNone domain.old.kept.value }
-    ensures no_slot { result ≡ 6 → Keeps QsbrFindsAllClaimed domain.old.kept.value }
+    ensures no_slot { result ≡ 6 → Between QsbrFindsAllClaimed domain.old.kept.value domain.new.kept.value }
     ensures answers { (result ≡ 0) ⊎ (result ≡ 3) ⊎ (result ≡ 4) ⊎ (result ≡ 5) ⊎ (result ≡ 6) }
 {
     if reader.full {
@@ -118,10 +116,11 @@ pub extern "C" fn robiniagolf_qsbr_reader_register(
         return 4;
     }
     let kept = domain.kept.lend();
-    let registered = register_in(&kept.table);
+    let registered = kept.domain.register();
     match registered {
         Ok(core) => keep_reader(alloc, reader, core),
-        Err(refused) => status_of(refused),
+        Err(Refusal::NoSlot) => 6,
+        Err(_) => 3,
     }
 }
 
@@ -397,6 +396,7 @@ pub extern "C" fn robiniagolf_qsbr_grace_step(grace: &mut QsbrGraceHandle, cooki
     ensures over { result ≡ 0 → Between (QsbrAnswers cookie) grace.old.kept.value grace.new.kept.value }
     ensures not_yet { result ≢ 0 → result ≢ 4 → Between (QsbrAwaits cookie) grace.old.kept.value grace.new.kept.value }
     ensures empty { (result ≡ 4) ↔ IsNone grace.old.kept.value }
+    ensures in_way { result ≡ 2 → Between QsbrIsHeldUp grace.old.kept.value grace.new.kept.value }
     ensures exhausted { result ≡ 10 → Keeps QsbrIsUsedUp grace.old.kept.value }
     ensures answers { (result ≡ 0) ⊎ (result ≡ 1) ⊎ (result ≡ 2) ⊎ (result ≡ 4) ⊎ (result ≡ 10) }
 {
