@@ -1,0 +1,3 @@
+pub mod Lemmas
+pub mod Sent
+pub mod Values

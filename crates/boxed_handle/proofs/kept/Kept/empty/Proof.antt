@@ -1,0 +1,42 @@
+-- `empty` keeps nothing, at null.
+use Rattle.std.proofs.Common.{◌≡◌, [], ◌∷◌, refl, lit<}
+use Rattle.std.specs.Prelude.{None}
+use mir.Syntax.{a_type}
+use mir.MapTy.{inst_fn}
+use mir.Val.{Val}
+use base.Logic.{SProp, emp}
+use types.Kit.{‵, raw, ◌⊛◌, ◌$◌, ◌∵◌, !, qed, by, keep, split, use0}
+use types.Run.{no_more, and_then, returns, enter, lit}
+use types.ByLocal.{alloc_all, pass_all, free_all, look_at, sets}
+use types.Part.{agg}
+use denote.Param.{param, layouts}
+use contract.Monad.{fact, fact_i}
+use contract.Running.{tables}
+use denote.RawPtr.{null_ptr, ptr_val}
+use denote.RattleType.{RattleType, owns}
+use denote.Signature.{types_at}
+use denote.Steps.{nothing}
+use denote.Triple.Entry.{alive}
+use denote.Triple.Walked.{Stays, walk_of}
+use Rattle.std.proofs.raw_atomic.Walks.{proved_at, leaves}
+use Rattle.boxed_handle.proofs.Values.{kept_in, lone_val}
+use Rattle.std.specs.Prelude.{Option}
+use Rattle.boxed_handle.specs.contracts.kept.Kept.empty.{ended, clauses}
+use Rattle.boxed_handle.specs.contracts.kept.Kept.empty.Key.{name as #self}
+use Rattle.boxed_handle.proofs.kept.Kept.empty.Statement.{statement}
+use Rattle.boxed_handle.proofs.kept.Kept.empty.Code as code
+
+pub empty_spec : {M : Type 1} → statement M
+empty_spec 𝓤 𝓛 𝓜 𝓡 wired T L =
+    let R : RattleType = param 0 T in let Ls = layouts (a_type ∷ []) (T, tt) in let fn = inst_fn Ls code.function in
+    let H = 𝓛.H in let 𝓣 = tables 𝓤 H 𝓜 𝓡 𝓡.env in let En = ended T in let c = clauses T 𝓛 𝓜.mem 𝓡.returns in
+    let hs : Stays En.signature.params En.kept = tt in
+    proved_at 𝓛 En hs c 𝓜 𝓡 tt (#self Ls) fn (code.unfolded 𝓤 H 𝓜 𝓡 wired (T, tt)) (λ z are.
+    let Post : Val → SProp 𝓤 = (walk_of 𝓛 En hs c).post z in let w : Val = lone_val (ptr_val null_ptr) in let Nothing : Option R.Denot = None in
+    qed 𝓛 ((raw (alive 𝓛 En.signature z.0.0 z.0.1) ⊛ ‵ (owns (types_at En.signature.params z.0.0) z.0.3 z.0.4)) ∷ raw ((c z.0.0 z.0.3).requires z.1) ∷ []) ∵ split ! $
+    enter ! 𝓣.C 𝓣.Λ fn [] Post $ alloc_all ! (λ l. pass_all ! refl tt $
+    sets ! (agg ! (and_then ! (lit ! tt) (no_more !))) refl (tt, (record { fits = lit< tt }, tt)) $
+    returns ! (look_at ! 0 refl) $ free_all ! refl $
+    nothing ! $ kept_in R ! null_ptr None $
+    use0 𝓛 (raw (fact 𝓤 (Nothing ≡ Nothing))) (fact_i 𝓤 (Nothing ≡ Nothing) (emp 𝓤) refl) $ nothing ! $
+    keep ! (3 ∷ 0 ∷ 2 ∷ 1 ∷ []) $ by ! (leaves 𝓛 En hs c z w (record { at = null_ptr; value = None }) tt tt)))
