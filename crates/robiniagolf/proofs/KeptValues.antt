@@ -16,7 +16,7 @@ use denote.Struct.Struct.{within}
 use denote.Struct.Owning.{shape}
 use Rattle.std_alloc.specs.Box.Ownership.{box_owns}
 use Rattle.judging.specs.contracts.text_judge.TextJudge.{the_row as R}
-use Rattle.robiniagolf.specs.Owned.{heap_token, owned_at}
+use Rattle.boxed_handle.specs.Owned.{heap_token, owned_at}
 use Rattle.robiniagolf.specs.contracts.kept.Kept as kept
 
 abbrev pub lone_val : Val → Val

@@ -1,4 +1,3 @@
 pub mod Calls
-pub mod Lent
-pub mod Owned
+pub mod HandleForms
 pub mod Verdicts

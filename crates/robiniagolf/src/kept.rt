@@ -3,7 +3,7 @@
 ghost use Rattle.std.specs.Prelude.{◌≡◌, Option, Some, None};
 ghost use Rattle.std.specs.Coded.{coded_option};
 ghost use denote.RawPtr.{Ptr};
-ghost use Rattle.robiniagolf.specs.Owned.{heap_token, owned_at};
+ghost use Rattle.boxed_handle.specs.Owned.{heap_token, owned_at};
 ghost use Rattle.judging.specs.declared.text_judge.TextJudge.{TextJudge};
 ghost use Rattle.judging.specs.contracts.text_judge.TextJudge.{the_row};
 

@@ -4,9 +4,8 @@
 ghost use Rattle.std.specs.Prelude.{◌≡◌, ◌≢◌, ◌⊎◌, ◌↔◌, ◌<◌, None, IsNone, IsSome};
 ghost use Rattle.robiniagolf.specs.Calls.{Beside, Between, Keeps, MembAnswers, MembAsks, MembAwaits, MembEnds, MembFindsAllClaimed, MembFindsNothing, MembHasLocks, MembHasSlots, MembIsBusy, MembIsFull, MembIsHeldUp, MembIsNewGrace, MembIsSpent, MembIsUsedUp, MembLocks, MembRegisters, MembUnlocks, MembWasGivenBack, Stays};
 
-use crate::memb_domain_handle::{self, MembDomainHandle};
-use crate::memb_grace_handle::{self, MembGraceHandle};
-use crate::memb_reader_handle::{self, MembReaderHandle};
+use crate::c_handles::{MembDomainHandle, MembGraceHandle, MembReaderHandle};
+use boxed_handle::{put, take};
 use gp_memb::MembPlan;
 use held_values::{MembDomain, MembGrace, MembReader, new_domain};
 use live_grace::Step;
@@ -54,8 +53,8 @@ pub extern "C" fn robiniagolf_memb_domain_new(
     let Ok(periods) = Box::new(alloc, periods) else {
         return 3;
     };
-    memb_domain_handle::put(domain, made);
-    memb_grace_handle::put(grace, periods);
+    put(domain.as_handle(), made);
+    put(grace.as_handle(), periods);
     0
 }
 
@@ -67,7 +66,7 @@ pub extern "C" fn robiniagolf_memb_domain_free(alloc: Global, domain: &mut MembD
     ensures answers { (result ≡ 0) ⊎ (result ≡ 4) }
     ensures empty { (result ≡ 4) ↔ IsNone domain.old.kept.value }
 {
-    match memb_domain_handle::take(alloc, domain) {
+    match take(alloc, domain.as_handle()) {
         Some(kept) => {
             drop(kept);
             0
@@ -83,7 +82,7 @@ pub extern "C" fn robiniagolf_memb_grace_free(alloc: Global, grace: &mut MembGra
     ensures answers { (result ≡ 0) ⊎ (result ≡ 4) }
     ensures empty { (result ≡ 4) ↔ IsNone grace.old.kept.value }
 {
-    match memb_grace_handle::take(alloc, grace) {
+    match take(alloc, grace.as_handle()) {
         Some(kept) => {
             drop(kept);
             0
@@ -115,7 +114,7 @@ pub extern "C" fn robiniagolf_memb_reader_register(
     if !domain.full {
         return 4;
     }
-    let kept = domain.kept.lend();
+    let kept = domain.as_handle().kept.lend();
     let registered = kept.domain.register();
     match registered {
         Ok(core) => keep_reader(alloc, reader, core),
@@ -141,7 +140,7 @@ fn keep_reader(
     };
     match Box::new(alloc, held) {
         Ok(held) => {
-            memb_reader_handle::put(reader, held);
+            put(reader.as_handle(), held);
             0
         }
         Err(AllocFailed { value }) => {
@@ -168,7 +167,7 @@ pub extern "C" fn robiniagolf_memb_reader_unregister(
     if !reader.full {
         return 4;
     }
-    if reader.kept.lend().core.depth != 0 {
+    if reader.as_handle().kept.lend().core.depth != 0 {
         return 7;
     }
     give_back(alloc, reader)
@@ -179,7 +178,7 @@ fn give_back(alloc: Global, reader: &mut MembReaderHandle) -> u32
     requires { Keeps (λ r. r.core.depth ≡ 0) reader.old.kept.value }
     ensures given { Keeps MembWasGivenBack reader.old.kept.value × (reader.new.kept.value ≡ None) × (result ≡ 0) }
 {
-    let Some(held) = memb_reader_handle::take(alloc, reader) else {
+    let Some(held) = take(alloc, reader.as_handle()) else {
         unreachable!()
     };
     let MembReader { core, .. } = Box::into_inner(held);
@@ -202,7 +201,7 @@ pub extern "C" fn robiniagolf_memb_reader_lock(reader: &mut MembReaderHandle) ->
     if !reader.full {
         return 4;
     }
-    let held = reader.kept.lend();
+    let held = reader.as_handle().kept.lend();
     let answer = match held.core.lock() {
         Ok(()) => 0,
         Err(_) => 9,
@@ -223,7 +222,7 @@ pub extern "C" fn robiniagolf_memb_reader_unlock(reader: &mut MembReaderHandle) 
     if !reader.full {
         return 4;
     }
-    let held = reader.kept.lend();
+    let held = reader.as_handle().kept.lend();
     let answer = match held.core.unlock() {
         Ok(()) => 0,
         Err(_) => 8,
@@ -242,7 +241,7 @@ pub extern "C" fn robiniagolf_memb_reader_end(reader: &mut MembReaderHandle) -> 
     if !reader.full {
         return 4;
     }
-    let held = reader.kept.lend();
+    let held = reader.as_handle().kept.lend();
     held.core.end();
     0
 }
@@ -257,7 +256,7 @@ pub extern "C" fn robiniagolf_memb_reader_depth(reader: &mut MembReaderHandle) -
     if !reader.full {
         return 0;
     }
-    let held = reader.kept.lend();
+    let held = reader.as_handle().kept.lend();
     let locks = held.core.locks;
     locks
 }
@@ -275,7 +274,7 @@ pub extern "C" fn robiniagolf_memb_grace_ask(grace: &mut MembGraceHandle, cookie
     if !grace.full {
         return 4;
     }
-    let held = grace.kept.lend();
+    let held = grace.as_handle().kept.lend();
     let asked = held.periods.ask();
     match asked {
         Ok(made) => {
@@ -298,7 +297,7 @@ pub extern "C" fn robiniagolf_memb_grace_poll(grace: &mut MembGraceHandle, cooki
     if !grace.full {
         return 4;
     }
-    let held = grace.kept.lend();
+    let held = grace.as_handle().kept.lend();
     let over = held.periods.poll(Cookie::of(cookie));
     if over { 0 } else { 1 }
 }
@@ -318,7 +317,7 @@ pub extern "C" fn robiniagolf_memb_grace_step(grace: &mut MembGraceHandle, cooki
     if !grace.full {
         return 4;
     }
-    let held = grace.kept.lend();
+    let held = grace.as_handle().kept.lend();
     let step = held.periods.step(Cookie::of(cookie), MOST);
     match step {
         Step::Done => 0,

@@ -4,9 +4,8 @@
 ghost use Rattle.std.specs.Prelude.{◌≡◌, ◌≢◌, ◌⊎◌, ◌↔◌, ◌<◌, None, IsNone, IsSome};
 ghost use Rattle.robiniagolf.specs.Calls.{Announces, Beside, Between, GoesOffline, GoesOnline, IsOffline, IsOnline, Keeps, QsbrAnswers, QsbrAsks, QsbrAwaits, QsbrEnds, QsbrFindsAllClaimed, QsbrFindsNothing, QsbrHasLocks, QsbrHasSlots, QsbrIsBusy, QsbrIsFull, QsbrIsHeldUp, QsbrIsNewGrace, QsbrIsSpent, QsbrIsUsedUp, QsbrLocks, QsbrRegisters, QsbrUnlocks, QsbrWasGivenBack, Stays};
 
-use crate::qsbr_domain_handle::{self, QsbrDomainHandle};
-use crate::qsbr_grace_handle::{self, QsbrGraceHandle};
-use crate::qsbr_reader_handle::{self, QsbrReaderHandle};
+use crate::c_handles::{QsbrDomainHandle, QsbrGraceHandle, QsbrReaderHandle};
+use boxed_handle::{put, take};
 use gp_qsbr::QsbrPlan;
 use held_values::{QsbrDomain, QsbrGrace, QsbrReader, new_domain};
 use live_grace::Step;
@@ -54,8 +53,8 @@ pub extern "C" fn robiniagolf_qsbr_domain_new(
     let Ok(periods) = Box::new(alloc, periods) else {
         return 3;
     };
-    qsbr_domain_handle::put(domain, made);
-    qsbr_grace_handle::put(grace, periods);
+    put(domain.as_handle(), made);
+    put(grace.as_handle(), periods);
     0
 }
 
@@ -67,7 +66,7 @@ pub extern "C" fn robiniagolf_qsbr_domain_free(alloc: Global, domain: &mut QsbrD
     ensures answers { (result ≡ 0) ⊎ (result ≡ 4) }
     ensures empty { (result ≡ 4) ↔ IsNone domain.old.kept.value }
 {
-    match qsbr_domain_handle::take(alloc, domain) {
+    match take(alloc, domain.as_handle()) {
         Some(kept) => {
             drop(kept);
             0
@@ -83,7 +82,7 @@ pub extern "C" fn robiniagolf_qsbr_grace_free(alloc: Global, grace: &mut QsbrGra
     ensures answers { (result ≡ 0) ⊎ (result ≡ 4) }
     ensures empty { (result ≡ 4) ↔ IsNone grace.old.kept.value }
 {
-    match qsbr_grace_handle::take(alloc, grace) {
+    match take(alloc, grace.as_handle()) {
         Some(kept) => {
             drop(kept);
             0
@@ -115,7 +114,7 @@ pub extern "C" fn robiniagolf_qsbr_reader_register(
     if !domain.full {
         return 4;
     }
-    let kept = domain.kept.lend();
+    let kept = domain.as_handle().kept.lend();
     let registered = kept.domain.register();
     match registered {
         Ok(core) => keep_reader(alloc, reader, core),
@@ -141,7 +140,7 @@ fn keep_reader(
     };
     match Box::new(alloc, held) {
         Ok(held) => {
-            qsbr_reader_handle::put(reader, held);
+            put(reader.as_handle(), held);
             0
         }
         Err(AllocFailed { value }) => {
@@ -168,7 +167,7 @@ pub extern "C" fn robiniagolf_qsbr_reader_unregister(
     if !reader.full {
         return 4;
     }
-    if reader.kept.lend().core.depth != 0 {
+    if reader.as_handle().kept.lend().core.depth != 0 {
         return 7;
     }
     give_back(alloc, reader)
@@ -179,7 +178,7 @@ fn give_back(alloc: Global, reader: &mut QsbrReaderHandle) -> u32
     requires { Keeps (λ r. r.core.depth ≡ 0) reader.old.kept.value }
     ensures given { Keeps QsbrWasGivenBack reader.old.kept.value × (reader.new.kept.value ≡ None) × (result ≡ 0) }
 {
-    let Some(held) = qsbr_reader_handle::take(alloc, reader) else {
+    let Some(held) = take(alloc, reader.as_handle()) else {
         unreachable!()
     };
     let QsbrReader { core, .. } = Box::into_inner(held);
@@ -203,7 +202,7 @@ pub extern "C" fn robiniagolf_qsbr_reader_lock(reader: &mut QsbrReaderHandle) ->
     if !reader.full {
         return 4;
     }
-    let held = reader.kept.lend();
+    let held = reader.as_handle().kept.lend();
     let answer = match held.core.lock() {
         Ok(()) => 0,
         Err(Refusal::NotOpen) => 8,
@@ -224,7 +223,7 @@ pub extern "C" fn robiniagolf_qsbr_reader_unlock(reader: &mut QsbrReaderHandle) 
     if !reader.full {
         return 4;
     }
-    let held = reader.kept.lend();
+    let held = reader.as_handle().kept.lend();
     let answer = match held.core.unlock() {
         Ok(()) => 0,
         Err(_) => 8,
@@ -243,7 +242,7 @@ pub extern "C" fn robiniagolf_qsbr_reader_end(reader: &mut QsbrReaderHandle) -> 
     if !reader.full {
         return 4;
     }
-    let held = reader.kept.lend();
+    let held = reader.as_handle().kept.lend();
     held.core.end();
     0
 }
@@ -258,7 +257,7 @@ pub extern "C" fn robiniagolf_qsbr_reader_depth(reader: &mut QsbrReaderHandle) -
     if !reader.full {
         return 0;
     }
-    let held = reader.kept.lend();
+    let held = reader.as_handle().kept.lend();
     let locks = held.core.locks;
     locks
 }
@@ -276,7 +275,7 @@ pub extern "C" fn robiniagolf_qsbr_reader_online(reader: &mut QsbrReaderHandle) 
     if !reader.full {
         return 4;
     }
-    let held = reader.kept.lend();
+    let held = reader.as_handle().kept.lend();
     let answer = match held.core.online() {
         Ok(()) => 0,
         Err(_) => 7,
@@ -298,7 +297,7 @@ pub extern "C" fn robiniagolf_qsbr_reader_offline(reader: &mut QsbrReaderHandle)
     if !reader.full {
         return 4;
     }
-    let held = reader.kept.lend();
+    let held = reader.as_handle().kept.lend();
     let answer = match held.core.offline() {
         Ok(()) => 0,
         Err(Refusal::Busy) => 7,
@@ -321,7 +320,7 @@ pub extern "C" fn robiniagolf_qsbr_reader_quiescent(reader: &mut QsbrReaderHandl
     if !reader.full {
         return 4;
     }
-    let held = reader.kept.lend();
+    let held = reader.as_handle().kept.lend();
     let answer = match held.core.quiescent() {
         Ok(()) => 0,
         Err(Refusal::Busy) => 7,
@@ -342,7 +341,7 @@ pub extern "C" fn robiniagolf_qsbr_reader_is_online(reader: &mut QsbrReaderHandl
     if !reader.full {
         return 4;
     }
-    let held = reader.kept.lend();
+    let held = reader.as_handle().kept.lend();
     let word = held.core.word;
     if word != 0 { 0 } else { 8 }
 }
@@ -360,7 +359,7 @@ pub extern "C" fn robiniagolf_qsbr_grace_ask(grace: &mut QsbrGraceHandle, cookie
     if !grace.full {
         return 4;
     }
-    let held = grace.kept.lend();
+    let held = grace.as_handle().kept.lend();
     let asked = held.periods.ask();
     match asked {
         Ok(made) => {
@@ -383,7 +382,7 @@ pub extern "C" fn robiniagolf_qsbr_grace_poll(grace: &mut QsbrGraceHandle, cooki
     if !grace.full {
         return 4;
     }
-    let held = grace.kept.lend();
+    let held = grace.as_handle().kept.lend();
     let over = held.periods.poll(Cookie::of(cookie));
     if over { 0 } else { 1 }
 }
@@ -403,7 +402,7 @@ pub extern "C" fn robiniagolf_qsbr_grace_step(grace: &mut QsbrGraceHandle, cooki
     if !grace.full {
         return 4;
     }
-    let held = grace.kept.lend();
+    let held = grace.as_handle().kept.lend();
     let step = held.periods.step(Cookie::of(cookie), MOST);
     match step {
         Step::Done => 0,

@@ -1,4 +1,4 @@
-use Rattle.std.proofs.Common.{◌<◌, Option, Some, ap, sym, subst}
+use Rattle.std.proofs.Common.{◌<◌, ◌∙◌, Option, Some, ap, sym, subst}
 use Rattle.std.specs.Arc.{arc_value}
 use Rattle.held_values.specs.declared.QsbrGrace.{QsbrGrace}
 use Rattle.robiniagolf.specs.Calls.{Between, QsbrIsHeldUp}
@@ -8,5 +8,5 @@ use Rattle.robiniagolf.proofs.qsbr_calls.robiniagolf_qsbr_grace_step.Goals as go
 pub returns-in-InTheWay-clause-in_way : goal.returns-in-InTheWay-clause-in_way
 returns-in-InTheWay-clause-in_way c = λ _.
     let slot = c.in-InTheWay.field-0 in let e = c.step-step.ensures in
-    subst (λ (v : Option QsbrGrace). Between QsbrIsHeldUp v (Some (record { periods = c.step-step.new.self; apart = c.lend-held.result.now.apart }))) (sym c.lend-held.ensures.value)
+    subst (λ (v : Option QsbrGrace). Between QsbrIsHeldUp v (Some (record { periods = c.step-step.new.self; apart = c.lend-held.result.now.apart }))) (sym (sym c.as_handle.ensures.same.1 ∙ c.lend-held.ensures.value))
     (slot, subst (λ t. slot < t.slots) (ap arc_value e.same.2) (e.in_way slot c.in-InTheWay.is).0, e.stands slot c.in-InTheWay.is)

@@ -1,12 +1,12 @@
 -- `lend` lends what it keeps, and the handle follows it.
 use Rattle.std.proofs.Common.{◌≡◌, ℕ, List, [], ◌∷◌, refl, sym}
-use Rattle.std.specs.Prelude.{Option, Some, None}
+use Rattle.std.specs.Prelude.{Some, None}
 use base.Fraction.{full_share}
 use mir.Syntax.{a_type, named}
 use mir.Raw.{raw as bare}
 use mir.MapTy.{inst_fn}
 use mir.Val.{Val, vptr}
-use base.Logic.{SProp, ent, sep, emp, id⊢}
+use base.Logic.{SProp, ent, sep, id⊢}
 use base.Fml.{Lft, GName, Share, Fml, ftrue, flft, fsep}
 use prog.Wp.{Env}
 use types.Logic.{Logic, sem}
@@ -22,7 +22,7 @@ use contract.Running.{tables}
 use denote.Exit.{no}
 use denote.RattleType.{RattleType, owns}
 use denote.Memory.{part_at, mem, cell_at, part_of, lone}
-use denote.RawPtr.{Ptr, block_ptr, ptr_val}
+use denote.RawPtr.{Ptr, block_ptr}
 use denote.Ref.{MutRef, mut_vals, mut_Tells}
 use denote.Signature.{plain, mut_ref_to, types_at}
 use denote.Steps.{nothing, opens, heard}
@@ -30,7 +30,6 @@ use denote.Triple.Walked.{says, Stays, stay_dropped, walk_of, ends_at, Goes-spen
 use denote.Follow.{follows, Part, lends_Part}
 use Rattle.std.proofs.raw_atomic.Walks.{proved}
 use Rattle.core.proofs.atomic.Steps.{tail}
-use Rattle.std_alloc.specs.Box.Ownership.{box_owns}
 use Rattle.boxed_handle.specs.contracts.kept.Kept as kept
 use Rattle.boxed_handle.specs.Owned.{heap_token, owned_at}
 use Rattle.boxed_handle.specs.Lent.{kept_with}

@@ -10,7 +10,7 @@ use Rattle.std.proofs.Crossing.{frees}
 use Rattle.std_alloc.proofs.SendSync.{quiet, lies}
 use Rattle.judging.specs.contracts.text_judge.TextJudge.{the_row as R}
 use Rattle.judging.proofs.Lemmas.{judge_crosses as sent}
-use Rattle.robiniagolf.specs.Owned.{heap, heap_token, owned_at}
+use Rattle.boxed_handle.specs.Owned.{heap, heap_token, owned_at}
 use Rattle.robiniagolf.specs.contracts.kept.Kept.{the_row, the_type}
 
 owned : (p : Ptr) (v : Option R.Denot) → Keyless (owned_at heap_token R p v)

@@ -23,7 +23,7 @@ use Rattle.std.proofs.alloc.Global.TheLaws as heap_laws
 use Rattle.std_heap.specs.contracts.GlobalAllocator.TheImpl.{ghosts}
 use Rattle.loose_box.proofs.Lemmas.{both, Loose, loose_good, loose_out}
 use Rattle.judging.specs.contracts.text_judge.TextJudge.{the_row as R}
-use Rattle.robiniagolf.specs.Owned.{heap_token, owned_at}
+use Rattle.boxed_handle.specs.Owned.{heap_token, owned_at}
 use Rattle.robiniagolf.proofs.KeptValues.{kept_in, lone_val}
 use Rattle.robiniagolf.specs.contracts.kept.Kept.of.{ended, clauses}
 use Rattle.robiniagolf.specs.contracts.kept.Kept.of.Key.{name as #self}

@@ -1,0 +1,14 @@
+use denote.Struct.Struct.{exits_of}
+use denote.Struct.Owning.{shape, fields, to}
+use denote.Param.Send.{IsSend, AllSend, owning_send, struct_send, sendable}
+use Rattle.std_alloc.proofs.SendSync.{quiet}
+use Rattle.boxed_handle.proofs.Lemmas.{owned_crosses}
+use Rattle.held_values.specs.contracts.QsbrGrace.{the_row as R}
+use Rattle.held_values.proofs.Lemmas.{qsbr_grace_crosses as sent}
+use Rattle.robiniagolf.specs.contracts.c_handles.QsbrGraceKept.{the_row, the_type}
+
+pub send : IsSend the_row
+send =
+    let all : AllSend (fields the_type) = (search sendable, tt) in
+    owning_send the_type all (λ d. owned_crosses R sent d.at d.value)
+    (λ k. quiet (to the_type) (exits_of k (fields the_type)) ((struct_send (shape the_type) all).leaving k))
