@@ -33,7 +33,8 @@
 #define UNLIKELY(x) __builtin_expect(!!(x), 0)
 
 enum {
-    SLOTS = 256,
+    FIRST_SLOTS = 64, /* of the first domain, whose scans load one group's word, and not four */
+    SLOTS = 256,      /* of each other */
     DOMAINS = 64,
     LOOKS = 100, /* at what stands in the way, before one sleeps */
 };
@@ -122,14 +123,19 @@ static inline void wake_sleepers(void)
         wake_all();
 }
 
+static size_t slots_of(const struct domain *domain)
+{
+    return domain == domains ? FIRST_SLOTS : SLOTS;
+}
+
 static struct domain *add_domain(void)
 {
     int count = atomic_load(&domain_count);
     struct domain *domain = &domains[count];
 
     if (count == DOMAINS)
-        die("more than 16,384 threads");
-    if (CORE(domain_new)(&domain->handle, &domain->grace, SLOTS) != ROBINIAGOLF_RCU_DONE)
+        die("more than 16,192 threads");
+    if (CORE(domain_new)(&domain->handle, &domain->grace, slots_of(domain)) != ROBINIAGOLF_RCU_DONE)
         die("no memory for a domain of readers");
     pthread_mutex_init(&domain->lock, NULL);
     atomic_store(&domain_count, count + 1);
@@ -183,7 +189,7 @@ static __attribute__((noinline)) struct CORE(reader) *enrol(void)
 
     init();
     lock(&threads_lock);
-    while (!(place = memchr(domain->taken, false, SLOTS)))
+    while (!(place = memchr(domain->taken, false, slots_of(domain))))
         if (++domain == domains + domain_count)
             domain = add_domain();
     size_t at = (size_t)(place - domain->taken);
@@ -270,8 +276,27 @@ API void RCU(read_unlock)(void)
 
 /* ---- Grace periods ---- */
 
-/* What is put back after a wait. An online thread must not hold up what it waits for. And nobody is cancelled with a
- * lock in hand: liburcu has no cancellation point there. */
+/* An online thread must not hold up what it waits for: whether it was online. */
+static bool step_aside(void)
+{
+#ifdef QSBR
+    bool online = RCU(read_ongoing)();
+
+    RCU(thread_offline)();
+    return online;
+#else
+    return false;
+#endif
+}
+
+static void step_back(bool online)
+{
+    if (online)
+        RCU(register_thread)();
+}
+
+/* What is put back after a wait with a cancellation point in it: nobody is cancelled with a lock in hand, and liburcu
+ * has no cancellation point there. */
 struct wait {
     bool online;
     int cancel;
@@ -282,17 +307,13 @@ static struct wait begin_wait(void)
     struct wait wait = { false, 0 };
 
     pthread_setcancelstate(PTHREAD_CANCEL_DISABLE, &wait.cancel);
-#ifdef QSBR
-    wait.online = RCU(read_ongoing)();
-    RCU(thread_offline)();
-#endif
+    wait.online = step_aside();
     return wait;
 }
 
 static void end_wait(struct wait wait)
 {
-    if (wait.online)
-        RCU(register_thread)();
+    step_back(wait.online);
     pthread_setcancelstate(wait.cancel, NULL);
 }
 
@@ -343,12 +364,12 @@ static void grace_period(void)
 
 API void RCU(synchronize_rcu)(void)
 {
-    struct wait wait = begin_wait();
+    bool online = step_aside();
 
     if (RCU(read_ongoing)())
         die("synchronize_rcu within a section would wait for ever");
-    grace_period();
-    end_wait(wait);
+    grace_period(); /* has no cancellation point */
+    step_back(online);
 }
 
 /* ---- Callbacks ---- */
