@@ -1,0 +1,61 @@
+//! Limits that one thread replaces while others read them: none finds mixed ones, or older ones after newer.
+
+use rcu::{AnyChain, Domain, Handle, Memb, NoCallback, Reader, Refusal, Site, Slot, Threaded};
+use std::alloc::Global;
+use std::sync::Wait;
+
+/// The last lower limit.
+const LAST: u64 = 200;
+
+/// A lower limit, and an upper one, which is one more.
+type Limits<'d, B> = Slot<'d, Memb, B, NoCallback, (u64, u64)>;
+
+/// Reads the limits until they are the last ones. Answers the lower one, or 0 where they were mixed or too old.
+fn newest<B: Site>(
+    limits: &Limits<'_, B>,
+    reader: &mut Reader<Memb, AnyChain, B>,
+) -> Result<u64, Refusal> {
+    let mut newest = 0;
+    for _ in 0..1_000_000_000u64 {
+        let mut section = reader.section()?;
+        let (lower, upper) = limits.read(&mut section);
+        if upper.wrapping_sub(lower) != 1 || lower < newest {
+            return Ok(0);
+        }
+        newest = lower;
+        if newest == LAST {
+            break;
+        }
+    }
+    Ok(newest)
+}
+
+/// Thread 0 replaces the limits, and the others read them.
+pub(crate) struct Server;
+
+impl<R: Wait> Threaded<Memb, AnyChain, NoCallback, R> for Server {
+    /// The lower limit that the thread found last.
+    type Out = Result<u64, Refusal>;
+
+    fn part<B: Site>(
+        &self,
+        rt: &R,
+        _alloc: Global,
+        domain: &Domain<Memb, AnyChain, B, NoCallback>,
+        mut own: Handle<B>,
+        number: usize,
+    ) -> Result<u64, Refusal> {
+        let limits = Slot::new(domain, 0, (0, 1))?;
+        if number != 0 {
+            let mut reader = domain.register(rt, &mut own)?;
+            return newest(&limits, &mut reader);
+        }
+        for lower in 1..LAST + 1 {
+            if let Err((refusal, _)) = limits.replace(rt, &mut own, (lower, lower + 1), NoCallback)
+            {
+                return Err(refusal);
+            }
+        }
+        Ok(LAST)
+    }
+}

@@ -1,0 +1,56 @@
+//! A routing table: a map for each length of prefix, of which a section looks the longer one up first.
+
+use rcu::{Domain, Handle, Map, Memb, NoCallback, Program, Reader, Reclaim, Refusal, Site, Tabled};
+use std::alloc::Global;
+use std::sync::Wait;
+
+/// The masks of the longer prefixes and of the shorter ones, and the address that is looked up.
+const LONGER: u64 = 0xffff_0000;
+
+const SHORTER: u64 = 0xff00_0000;
+
+const ADDRESS: u64 = 0x0a01_0203;
+
+/// The next hops of prefixes, by the prefix.
+type Hops<'d, B> = Map<'d, Memb, B, NoCallback, u64>;
+
+/// Where the address goes: the longest prefix leads. 0 where none does.
+fn next_hop<B: Site>(
+    longer: &Hops<'_, B>,
+    shorter: &Hops<'_, B>,
+    reader: &mut Reader<Memb, Tabled, B>,
+) -> Result<u64, Refusal> {
+    let mut section = reader.section()?;
+    match longer.get(&mut section, ADDRESS & LONGER) {
+        Some(hop) => Ok(hop),
+        None => Ok(shorter.get(&mut section, ADDRESS & SHORTER).unwrap_or(0)),
+    }
+}
+
+/// Two prefixes lead the address; the map of the longer ones grows, and then the longer one is withdrawn. It answers the
+/// next hops of the address before, after the growth, and in the end.
+#[derive(Drop)]
+pub(crate) struct Router;
+
+impl<R: Wait> Program<Memb, Tabled, Reclaim<NoCallback>, R> for Router {
+    type Out = Result<(u64, u64, u64), Refusal>;
+
+    fn run<B: Site>(
+        self,
+        rt: &R,
+        alloc: Global,
+        domain: &Domain<Memb, Tabled, B, Reclaim<NoCallback>>,
+        mut own: Handle<B>,
+    ) -> Result<(u64, u64, u64), Refusal> {
+        let longer = Map::new(rt, alloc, domain, &mut own, 0, 2, 4, NoCallback)?;
+        let shorter = Map::new(rt, alloc, domain, &mut own, 1, 6, 4, NoCallback)?;
+        let mut reader = domain.register(rt, &mut own)?;
+        shorter.set(rt, &mut own, ADDRESS & SHORTER, 1)?;
+        longer.set(rt, &mut own, ADDRESS & LONGER, 2)?;
+        let before = next_hop(&longer, &shorter, &mut reader)?;
+        longer.resize(rt, alloc, &mut own, 10, 8)?;
+        let grown = next_hop(&longer, &shorter, &mut reader)?;
+        longer.remove(rt, &mut own, ADDRESS & LONGER)?;
+        Ok((before, grown, next_hop(&longer, &shorter, &mut reader)?))
+    }
+}

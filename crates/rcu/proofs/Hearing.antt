@@ -1,0 +1,27 @@
+-- What a caller that calls again and again has heard of.
+use Rattle.std.proofs.Common.{◌≡◌, ◌∙◌, Bool, subst}
+use Rattle.live_log.specs.declared.event.LiveEvent.{LiveEvent}
+use Rattle.live_log.specs.Log.{Log, Begins}
+use Rattle.live_log.proofs.Lemmas.{begins_trans}
+use Rattle.live_read.specs.Hearing.{IsAfter, Stays}
+use Rattle.live_read.specs.declared.witness.Witness.{Ghosts}
+
+-- what comes after a log that the caller heard of comes after all that it knew before
+pub still_after : (qsbr : Bool) (allows : Log → LiveEvent → Type 0) (seen heard was mid new : Log) → was ≡ seen → Begins heard mid → IsAfter qsbr allows was mid new → IsAfter qsbr allows seen heard new
+still_after qsbr allows seen heard was mid new same later after = record {
+  after_seen = subst (λ s. Begins s new) same after.after_seen;
+  after_heard = begins_trans heard mid new later after.after_heard;
+  run = after.run;
+}
+
+-- a witness that stands as it stood after one call and after the next stands as it stood
+pub stays_on : {W : Type 0} (w : Ghosts W) (a b c : W) → Stays w a b → Stays w b c → Stays w a c
+stays_on w a b c s t = (t.0 ∙ s.0, t.1 ∙ s.1, t.2 ∙ s.2, λ x. t.3 (s.3 x), t.4 ∙ s.4)
+
+-- the witness has seen no more, and has heard of what comes after all that it knew
+abbrev pub Went : {W : Type 0} → Ghosts W → Bool → (Log → LiveEvent → Type 0) → W → W → Type 0
+Went w qsbr allows a b = (w.seen b ≡ w.seen a) × IsAfter qsbr allows (w.seen a) (w.heard a) (w.heard b)
+
+-- so after one call and another
+pub went_on : {W : Type 0} (w : Ghosts W) (qsbr : Bool) (allows : Log → LiveEvent → Type 0) (a b c : W) → Went w qsbr allows a b → Went w qsbr allows b c → Went w qsbr allows a c
+went_on w qsbr allows a b c p q = (q.0 ∙ p.0, still_after qsbr allows (w.seen a) (w.heard a) (w.seen b) (w.heard b) (w.heard c) p.0 p.1.after_heard q.1)

@@ -1,0 +1,19 @@
+use Rattle.std.proofs.Common.{◌∙◌}
+use Rattle.live_log.proofs.Lemmas.{begins_trans}
+use Rattle.rcu.specs.Slots.{any_change}
+use Rattle.rcu.proofs.Hearing.{stays_on}
+use Rattle.rcu.proofs.Putting.{puts_after}
+use Rattle.rcu.proofs.slot.Slot.replace.Goals as goal
+
+pub returns-in-Ok-clause-has : goal.returns-in-Ok-clause-has
+returns-in-Ok-clause-has g c =
+    let w = g.W.Witness in let i = c.loop.invariant in
+    puts_after g.P.GracePlan.QSBR any_change (w.seen c.args.witness.now) (w.heard c.args.witness.now) (w.seen c.loop.witness) (w.heard c.loop.witness) c.args.self.now.chain (g.T.Words.packed c.args.value) (w.heard c.try_replace.new.witness) i.1.0 i.2 c.in-Ok.ensures.has
+
+pub loop-preserved : goal.loop-preserved
+loop-preserved g c =
+    let w = g.W.Witness in let i = c.loop.invariant in let e = c.in-Err-Busy-default.ensures in (
+      e.back.0 ∙ i.0,
+      stays_on w c.args.witness.now c.loop.witness c.try_replace.new.witness i.1 e.back.1,
+      begins_trans (w.heard c.args.witness.now) (w.heard c.loop.witness) (w.heard c.try_replace.new.witness) i.2 e.heard.after_heard,
+    )

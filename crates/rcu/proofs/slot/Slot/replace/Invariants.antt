@@ -1,0 +1,7 @@
+use Rattle.std.proofs.Common.{◌≡◌}
+use Rattle.live_log.specs.Log.{Begins}
+use Rattle.live_read.specs.Hearing.{Stays}
+use Rattle.rcu.proofs.slot.Slot.replace.Given as goal
+
+abbrev pub invariant-loop : goal.invariant-loop
+invariant-loop g l = (l.callback ≡ l.fn.callback) × Stays g.W.Witness l.fn.witness l.witness × Begins (g.W.Witness.heard l.fn.witness) (g.W.Witness.heard l.witness)

@@ -1,0 +1,6 @@
+use Rattle.live_log.specs.Log.{Begins}
+use Rattle.live_read.specs.Hearing.{Stays}
+use Rattle.rcu.proofs.waiting.alloc_when_free.Given as goal
+
+abbrev pub invariant-loop : goal.invariant-loop
+invariant-loop g l = Stays g.W.Witness l.fn.witness l.witness × Begins (g.W.Witness.heard l.fn.witness) (g.W.Witness.heard l.witness)

@@ -1,0 +1,46 @@
+-- What the calls of a map tell, by the chain of its directory in a domain of so many chains.
+use Rattle.std.specs.Prelude.{◌≡◌, ℕ, Bool, List, Option, Some, None}
+use Rattle.live_log.specs.declared.event.LiveEvent.{LiveEvent}
+use Rattle.live_log.specs.Log.{Log, Begins}
+use Rattle.live_read.specs.declared.witness.Witness.{Ghosts}
+use Rattle.rcu_hash.specs.Directories.{directed_map}
+use Rattle.rcu_hash.specs.Growing.{Grows}
+use Rattle.rcu_hash.specs.Publishing.{ChangesThrough}
+
+-- By the word of a value: the key has this value in the log, or none.
+abbrev pub HasAt : {T : Type 0} → (T → ℕ) → ℕ → ℕ → Log → ℕ → Option T → Type 0
+HasAt packed chains d log key None = directed_map chains d log key ≡ None
+HasAt packed chains d log key (Some x) = (word : ℕ) × (directed_map chains d log key ≡ Some word) × ((y : _) → packed y ≡ word → x ≡ y)
+
+-- A reader that had seen and heard of these logs, and has seen the new one at the end, found this: the key had it at a
+-- moment of the call.
+pub record Gets {T : Type 0} (packed : T → ℕ) (chains d : ℕ) (seen heard new : Log) (key : ℕ) (found : Option T) : Type 0 where
+  pub at : Log
+  pub after_seen : Begins seen at
+  pub after_heard : Begins heard at
+  pub before : Begins at new
+  pub has : HasAt packed chains d at key found
+
+-- The key has this word from the last event of a log on, or none, and each other key what it had before the event. The
+-- event came after all that the caller had seen and heard of, and the caller has heard of it.
+pub record Gives (qsbr : Bool) (allows : Log → LiveEvent → Type 0) (chains d : ℕ) (seen heard : Log) (key : ℕ) (has : Option ℕ) (new : Log) : Type 0 where
+  pub published : Log
+  pub chain : ℕ
+  pub event : LiveEvent
+  pub had : Option ℕ
+  pub changes : ChangesThrough qsbr allows chains d seen heard chain event key had has published
+  pub before : Begins published new
+
+-- In the call, after all that the caller had heard of, the map grew: each key is led to its bucket among these chains,
+-- and no event of the growth changed what a key has. The caller has heard of it.
+pub record Grew (qsbr : Bool) (allows : Log → LiveEvent → Type 0) (chains d : ℕ) (seen heard : Log) (first buckets : ℕ) (new : Log) : Type 0 where
+  pub start : Log
+  pub entries : List (ℕ × ℕ)
+  pub grown : Log
+  pub after : Begins heard start
+  pub grows : Grows qsbr allows chains d seen start first buckets entries grown
+  pub before : Begins grown new
+
+-- the witness is of the same table, has seen no more, and has heard of no less
+abbrev pub HearsMore : {W : Type 0} → Ghosts W → W → W → Type 0
+HearsMore w old new = (w.seen new ≡ w.seen old) × (w.home new ≡ w.home old) × Begins (w.heard old) (w.heard new)

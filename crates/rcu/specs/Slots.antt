@@ -1,0 +1,39 @@
+-- The value of a slot.
+use Rattle.std.specs.Prelude.{◌≡◌, ◌⊎◌, ℕ, Bool, List, Some, None}
+use Rattle.rcu_model.specs.declared.event.ObjectId.{ObjectId}
+use Rattle.rcu_model.specs.Sets.{first_of}
+use Rattle.live_log.specs.declared.event.LiveEvent.{LiveEvent}
+use Rattle.live_log.specs.Log.{Log, Begins, objects_of, payload_of}
+use Rattle.live_read.specs.Hearing.{IsAfter}
+
+-- the rule of chains that any change fits
+abbrev pub any_change : Log → LiveEvent → Type 0
+any_change log event = Unit {0}
+
+-- the first record of the chain in the log
+abbrev pub first_in : ℕ → Log → ObjectId → Type 0
+first_in c log o = first_of ((objects_of log).chain c) ≡ Some o
+
+-- By the words of a value, the chain of a slot, and the value that it was made with: the slot has this value in the
+-- log. The first record of its chain has its words, or there is no record, and it is the value that the slot was made with.
+abbrev pub HasValue : {T : Type 0} → (T → List ℕ) → ℕ → T → Log → T → Type 0
+HasValue packed c first log x =
+    ((o : ObjectId) × first_in c log o × ((y : _) → packed y ≡ payload_of log o → x ≡ y))
+    ⊎ ((first_of ((objects_of log).chain c) ≡ None) × (x ≡ first))
+
+module _ (qsbr : Bool) (allows : Log → LiveEvent → Type 0) (seen heard : Log) where
+  -- the value was found: the slot had it at a moment of the call, after all that the reader had seen and heard of
+  pub record Finds {T : Type 0} (packed : T → List ℕ) (c : ℕ) (first : T) (now : Log) (x : T) : Type 0 where
+    pub at : Log
+    pub after : IsAfter qsbr allows seen heard at
+    pub before : Begins at now
+    pub has : HasValue packed c first at x
+
+  -- a record with these words became the first of the chain, after all that the caller had seen and heard of
+  pub record Puts (c : ℕ) (words : List ℕ) (now : Log) : Type 0 where
+    pub at : Log
+    pub after : IsAfter qsbr allows seen heard at
+    pub before : Begins at now
+    pub object : ObjectId
+    pub first : first_in c at object
+    pub has : payload_of at object ≡ words

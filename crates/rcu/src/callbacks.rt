@@ -1,0 +1,13 @@
+//! Callbacks for programs that need none.
+
+use domain::{Deleter, Ripe};
+
+/// What is done with a record that no section can hold any more: nothing but to use it again.
+#[derive(Clone, Copy, Drop)]
+pub struct NoCallback;
+
+impl Deleter for NoCallback {
+    fn call(self, _ripe: Ripe) -> u64 {
+        0
+    }
+}

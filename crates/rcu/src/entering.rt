@@ -1,0 +1,45 @@
+//! How a program gets a domain.
+
+ghost use Rattle.std.specs.Prelude.{◌≡◌, IfErr};
+ghost use Rattle.rcu_model.specs.declared.refusal.Refusal.TheVariants.{Memory};
+ghost use Rattle.domain.specs.Config.{new_refusal};
+
+use crate::program::Program;
+use domain::{Deleter, LiveConfig, Opened, Site};
+use gp_memb::GracePlan;
+use live_words::ChainRule;
+use rcu_model::Refusal;
+use std::alloc::Global;
+use std::marker::Brand;
+
+/// Makes a domain of this size, and runs the program over it. Answers what that answers.
+///
+/// Refused with `BadConfig` exactly where a number is out of its limits, else with `Memory` where memory is refused;
+/// then the program was not run. It waits where the program does.
+pub fn with_domain<P: GracePlan + Drop, K: ChainRule, D: Deleter, R, F: Program<P, K, D, R> + Drop>(
+    rt: &R,
+    alloc: Global,
+    config: LiveConfig,
+    program: F,
+) -> Result<F::Out, Refusal>
+    ensures { IfErr result (λ e. e ≡ new_refusal config) }
+{
+    let opened = Opened::<P, K>::new(alloc, config)?;
+    entered::<Brand, P, K, D, R, F>(rt, alloc, opened, program)
+}
+
+// Gives the domain its type.
+fn entered<
+    B: Site,
+    P: GracePlan + Drop,
+    K: ChainRule,
+    D: Deleter,
+    R,
+    F: Program<P, K, D, R> + Drop,
+>(rt: &R, alloc: Global, opened: Opened<P, K>, program: F) -> Result<F::Out, Refusal>
+    requires { (P.QSBR ≡ B.qsbr) × (opened.table.words.shared.table_id ≡ B.table) × (opened.table.words.shared.key ≡ B.sizes) }
+    ensures { IfErr result (λ e. e ≡ Memory) }
+{
+    let (domain, first) = opened.named::<B, D>(alloc)?;
+    Ok(program.run::<B>(rt, alloc, &domain, first))
+}

@@ -1,0 +1,225 @@
+//! A map from keys to values, which grows while it is read.
+
+ghost use Rattle.std.specs.Prelude.{◌≡◌, ◌⊎◌, ◌<◌, ℕ, None, Some, true, IfErr, IfOk};
+ghost use Rattle.rcu_model.specs.declared.refusal.Refusal.TheVariants.{BadConfig, Closed, Memory, Missing, PoolFull};
+ghost use Rattle.live_log.specs.Tables.{tabled};
+ghost use Rattle.live_read.specs.Holding.{log_of};
+ghost use Rattle.live_read.specs.Reads.{Looks};
+ghost use Rattle.rcu_hash.specs.Directories.{directed_map};
+ghost use Rattle.rcu.specs.Keys.{Gets, Gives, Grew, HearsMore};
+
+use crate::words::Word;
+use domain::{Deleter, Domain, Ripe, Section, Site, Witness};
+use gp_memb::GracePlan;
+use live_words::Tabled;
+use rcu_hash::RcuHash;
+use rcu_model::Refusal;
+use std::alloc::Global;
+use std::marker::PhantomData;
+use std::sync::Wait;
+
+/// What is done with a record of a map that no section can hold any more.
+#[derive(Clone, Copy, Drop)]
+pub enum Reclaim<F> {
+    /// Its entry has another record since the map grew: nothing is done.
+    Moved,
+    /// Its entry left the map, or got another value: this is called with the record. Its first word is the key, and its
+    /// second one the value.
+    Gone(F),
+}
+
+impl<F: Deleter> Deleter for Reclaim<F> {
+    fn call(self, ripe: Ripe) -> u64 {
+        match self {
+            Reclaim::Moved => 0,
+            Reclaim::Gone(deleter) => deleter.call(ripe),
+        }
+    }
+}
+
+// This number of callbacks for records whose entries moved.
+fn moved<F: Deleter>(alloc: Global, many: usize) -> Result<Vec<Reclaim<F>>, Refusal>
+    ensures { IfErr result (λ e. e ≡ Memory) }
+{
+    let mut callbacks = Vec::new(alloc);
+    for _ in 0..many {
+        if callbacks.push(Reclaim::Moved).is_err() {
+            return Err(Refusal::Memory);
+        }
+    }
+    Ok(callbacks)
+}
+
+/// A map from keys to values of one word, over a hash table in the domain's chains. Any number of threads read and write
+/// it. `F` is called with each entry that leaves it, once no section can hold that.
+#[derive(Drop)]
+pub struct Map<'d, P: GracePlan, B: Site, F: Deleter, T: Word> {
+    domain: &'d Domain<P, Tabled, B, Reclaim<F>>,
+    /// The table of the values' words.
+    pub table: RcuHash<'d, P, B, Reclaim<F>>,
+    deleter: F,
+    value: PhantomData<T>,
+}
+
+impl<'d, P: GracePlan + Drop, B: Site, F: Deleter + Copy, T: Word + Copy + Drop> Map<
+    'd,
+    P,
+    B,
+    F,
+    T,
+> {
+    /// A map with no keys: a chain for its directory, and this number of chains from the first one on. The caller hears
+    /// of the log in which it begins.
+    ///
+    /// Refused with `BadConfig` where the number of buckets is not 1 to 4,096, or one of the chains is not there or in
+    /// use, with `Memory` where memory is refused, or with `PoolFull` where no record is free.
+    pub fn new<W: Witness, R: Wait>(
+        rt: &R,
+        alloc: Global,
+        domain: &'d Domain<P, Tabled, B, Reclaim<F>>,
+        witness: &mut W,
+        directory: usize,
+        first: usize,
+        buckets: usize,
+        deleter: F,
+    ) -> Result<Map<'d, P, B, F, T>, Refusal>
+        requires { W.home witness.old ≡ (B.table, B.sizes) }
+        ensures made { IfOk result (λ m. m.table.directory ≡ directory) }
+        ensures empty { IfOk result (λ _. (key : ℕ) → directed_map B.sizes.chains directory (W.heard witness.new) key ≡ None) }
+        ensures refused { IfErr result (λ e. (e ≡ BadConfig) ⊎ (e ≡ Memory) ⊎ (e ≡ PoolFull)) }
+    {
+        let table = RcuHash::new(rt, alloc, domain, witness, directory, first, buckets)?;
+        Ok(Map {
+            domain,
+            table,
+            deleter,
+            value: PhantomData,
+        })
+    }
+
+    /// The value of a key, or none: what the key has at some moment of the call. So a key that is there all along is
+    /// found, also while its value is replaced, and while the map grows. It never waits and takes no memory.
+    pub fn get(&self, section: &mut Section<'_, P, Tabled, B>, key: u64) -> Option<T>
+        requires { 0 < section.old.reader.now.core.depth }
+        ensures reader { section.new.reader.ghost_name ≡ section.old.reader.ghost_name }
+        ensures looked { Looks P.QSBR tabled section.old.reader.now.core section.new.reader.now.core }
+        ensures found { Gets T.packed B.sizes.chains self.now.table.directory (log_of section.old.reader.now.core) section.old.reader.now.core.seat.me.0.heard (log_of section.new.reader.now.core) key result }
+    {
+        match self.table.get(section, key) {
+            Some(word) => Some(T::unpack(word)),
+            None => None,
+        }
+    }
+
+    /// Gives a key this value, whether it had one or not: one change, so that no reader misses a key that had one. An
+    /// older value's record is retired. The change comes after all that the caller had seen and heard of, and the caller
+    /// hears of it.
+    ///
+    /// Refused with `PoolFull` as `Domain::alloc`, or where the ranks of the key's bucket are used up, and with `Closed`
+    /// or `Memory` as `Domain::retire`. It tries again where another thread gives the key a value, or takes it away, at
+    /// the same time.
+    pub fn set<W: Witness, R: Wait>(
+        &self,
+        rt: &R,
+        witness: &mut W,
+        key: u64,
+        value: T,
+    ) -> Result<(), Refusal>
+        requires { W.home witness.old ≡ (B.table, B.sizes) }
+        ensures set { IfOk result (λ _. Gives P.QSBR tabled B.sizes.chains self.now.table.directory (W.seen witness.old) (W.heard witness.old) key (Some (T.packed value)) (W.heard witness.new)) }
+        ensures refused { IfErr result (λ e. (e ≡ PoolFull) ⊎ (e ≡ Closed) ⊎ (e ≡ Memory)) }
+    {
+        let word = value.pack();
+        for _ in rt.forever() {
+            let callback = Reclaim::Gone(self.deleter);
+            match self.table.replace(rt, witness, key, word, callback) {
+                Ok(_) => return Ok(()),
+                Err((Refusal::Missing, _)) => {}
+                Err((refusal, _)) => return Err(refusal),
+            }
+            match self.table.insert(rt, witness, key, word) {
+                Ok(()) => return Ok(()),
+                Err(Refusal::Exists) => {}
+                Err(refusal) => return Err(refusal),
+            }
+        }
+        unreachable!()
+    }
+
+    /// Takes a key away. Its record is retired. The change comes after all that the caller had seen and heard of, and
+    /// the caller hears of it.
+    ///
+    /// Refused with `Missing` where the key had no value at a moment of the call, and with `Closed` or `Memory` as
+    /// `Domain::retire`.
+    pub fn remove<W: Witness, R: Wait>(
+        &self,
+        rt: &R,
+        witness: &mut W,
+        key: u64,
+    ) -> Result<(), Refusal>
+        requires { W.home witness.old ≡ (B.table, B.sizes) }
+        ensures removed { IfOk result (λ _. Gives P.QSBR tabled B.sizes.chains self.now.table.directory (W.seen witness.old) (W.heard witness.old) key None (W.heard witness.new)) }
+        ensures refused { IfErr result (λ e. (e ≡ Missing) ⊎ (e ≡ Closed) ⊎ (e ≡ Memory)) }
+    {
+        match self
+            .table
+            .remove(rt, witness, key, Reclaim::Gone(self.deleter))
+        {
+            Ok(_) => Ok(()),
+            Err((refusal, _)) => Err(refusal),
+        }
+    }
+
+    /// Retires the records that earlier growths left, after a grace period, and gives the chains of earlier buckets back;
+    /// as `RcuHash::tidy`, with as many callbacks as it needs. So a caller has no section or lock open.
+    ///
+    /// Refused with `Memory` where memory is refused, with `Exhausted` where the sequence numbers are used up, and with
+    /// `Closed` as `Domain::retire`; then something is left.
+    pub fn tidy<W: Witness, R: Wait>(
+        &self,
+        rt: &R,
+        alloc: Global,
+        witness: &mut W,
+    ) -> Result<(), Refusal>
+        requires { W.home witness.old ≡ (B.table, B.sizes) }
+        ensures heard { HearsMore W.Witness witness.old witness.new }
+    {
+        let mut many = 0;
+        for _ in rt.forever() {
+            let end = self.table.tidy(rt, witness, moved(alloc, many)?);
+            match end.stop {
+                None => return Ok(()),
+                Some(Refusal::FewJobs) => many = end.left,
+                Some(refusal) => return Err(refusal),
+            }
+        }
+        unreachable!()
+    }
+
+    /// The map gets this number of chains from the first one on, in place of those that it has: it grows, waits for a
+    /// grace period and tidies. Readers and writers go on meanwhile, and each key keeps its value. So a caller has no
+    /// section or lock open.
+    ///
+    /// Refused as `RcuHash::grow`, but that it tidies first where an earlier growth left something; and as `tidy`, and
+    /// then the map has grown.
+    pub fn resize<W: Witness, R: Wait>(
+        &self,
+        rt: &R,
+        alloc: Global,
+        witness: &mut W,
+        first: usize,
+        buckets: usize,
+    ) -> Result<(), Refusal>
+        requires { W.home witness.old ≡ (B.table, B.sizes) }
+        ensures grown { IfOk result (λ _. Grew P.QSBR tabled B.sizes.chains self.now.table.directory (W.seen witness.old) (W.heard witness.old) first buckets (W.heard witness.new)) }
+    {
+        for _ in rt.forever() {
+            match self.table.grow(rt, alloc, witness, first, buckets) {
+                Ok(_) => return self.tidy(rt, alloc, witness),
+                Err(Refusal::Busy) => self.tidy(rt, alloc, witness)?,
+                Err(refusal) => return Err(refusal),
+            }
+        }
+        unreachable!()
+    }
+}

@@ -1,0 +1,82 @@
+//! What only a grace period opens.
+
+ghost use Rattle.std.specs.Prelude.{◌≡◌, ◌≤◌, ◌^◌, IfErr, IfOk};
+ghost use Rattle.rcu_model.specs.declared.refusal.Refusal.TheVariants.{Exhausted};
+ghost use Rattle.live_log.specs.Log.{HaveEnded, seq_of};
+ghost use Rattle.live_read.specs.Hearing.{FindsNothing, IsAfter};
+
+use domain::{Deleter, Domain, LiveCookie, Record, Site, Witness};
+use gp_memb::GracePlan;
+use live_words::ChainRule;
+use rcu_model::Refusal;
+
+/// A value that only a grace period opens: then no section that was open at its making has it any more. Whoever opens it
+/// hears of all that its maker had heard of.
+#[derive(Drop)]
+pub struct Pending<B: Site, T> {
+    pub(crate) cookie: LiveCookie,
+    pub(crate) handle: Record<B>,
+    pub(crate) value: T,
+    pub(crate) ghost knows: { cookie.asked.value.me.0.seen ≡ handle.seat.me.0.heard },
+}
+
+impl<B: Site, T: Drop> Pending<B, T> {
+    /// The value, after all that the caller had seen and heard of, liburcu's `start_poll_synchronize_rcu`. It never
+    /// waits and takes no memory.
+    ///
+    /// Refused with `Exhausted` exactly where the sequence number is at or above 2^62; then the value comes back.
+    pub fn new<P: GracePlan + Drop, K: ChainRule, D: Deleter, W: Witness>(
+        domain: &Domain<P, K, B, D>,
+        witness: &mut W,
+        value: T,
+    ) -> Result<Pending<B, T>, (Refusal, T)>
+        requires { W.home witness.old ≡ (B.table, B.sizes) }
+        ensures made { IfOk result (λ p. (p.value ≡ value) × (p.cookie.asked.value.me.0.seen ≡ W.heard witness.new)) }
+        ensures refused { IfErr result (λ e. (e.0 ≡ Exhausted) × (e.1 ≡ value) × (2 ^ 62 ≤ seq_of (W.heard witness.new))) }
+        ensures heard { IsAfter P.QSBR K.allows (W.seen witness.old) (W.heard witness.old) (W.heard witness.new) }
+        ensures same { FindsNothing W.Witness witness.old witness.new }
+    {
+        match domain.start_poll(witness) {
+            Ok(cookie) => {
+                let handle = domain.split(witness);
+                Ok(Pending {
+                    cookie,
+                    handle,
+                    value,
+                })
+            }
+            Err(refusal) => Err((refusal, value)),
+        }
+    }
+
+    /// The value, where a grace period has passed: each section that was open at its making has ended in what the caller
+    /// hears of; liburcu's `poll_state_synchronize_rcu`. Else it comes back as it was. It never waits and takes no
+    /// memory, and sets nobody to work: a worker, or `Domain::synchronize`, makes grace periods pass.
+    pub fn open<P: GracePlan + Drop, K: ChainRule, D: Deleter, W: Witness>(
+        self,
+        domain: &Domain<P, K, B, D>,
+        witness: &mut W,
+    ) -> Result<T, Pending<B, T>>
+        requires { W.home witness.old ≡ (B.table, B.sizes) }
+        ensures opened { IfOk result (λ value. (value ≡ self.value) × HaveEnded self.cookie.asked.value.me.0.seen (W.heard witness.new)) }
+        ensures shut { IfErr result (λ p. (p.value ≡ self.value) × (p.cookie ≡ self.cookie)) }
+        ensures heard { IsAfter P.QSBR K.allows (W.seen witness.old) (W.heard witness.old) (W.heard witness.new) }
+        ensures same { FindsNothing W.Witness witness.old witness.new }
+    {
+        let Pending {
+            cookie,
+            mut handle,
+            value,
+        } = self;
+        domain.inform(&mut handle, witness);
+        if domain.poll(witness, &cookie) {
+            Ok(value)
+        } else {
+            Err(Pending {
+                cookie,
+                handle,
+                value,
+            })
+        }
+    }
+}

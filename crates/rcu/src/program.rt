@@ -1,0 +1,51 @@
+//! What is run over a domain.
+
+use domain::{Deleter, Domain, Record, Site};
+use gp_memb::GracePlan;
+use live_words::ChainRule;
+use rcu_model::Refusal;
+use std::alloc::Global;
+
+/// What one thread runs over a domain of its own, under a runtime `R`. The type `B` stands for that domain: whatever is
+/// generic in it belongs to the domain, so that nothing of another one fits.
+pub trait Program<P: GracePlan, K: ChainRule, D: Deleter, R> {
+    /// What it answers.
+    type Out;
+
+    /// Runs it, over a domain with no reader, whose first handle has seen nothing yet.
+    fn run<B: Site>(
+        self,
+        rt: &R,
+        alloc: Global,
+        domain: &Domain<P, K, B, D>,
+        first: Record<B>,
+    ) -> Self::Out;
+}
+
+/// What several threads run over a domain of their own, under a runtime `R`. `with_threads` runs it, and the workers of
+/// the domain's queues beside it.
+pub trait Threaded<P: GracePlan, K: ChainRule, D: Deleter, R> {
+    /// What a thread answers.
+    type Out;
+
+    /// What is done before there are threads, over a domain with no reader, whose first handle has seen nothing yet.
+    /// Each thread has seen all that was done here. Where it is refused no thread starts.
+    fn begin<B: Site>(
+        &self,
+        _rt: &R,
+        _domain: &Domain<P, K, B, D>,
+        _first: &mut Record<B>,
+    ) -> Result<(), Refusal> {
+        Ok(())
+    }
+
+    /// What the thread of this number does, with a handle of its own.
+    fn part<B: Site>(
+        &self,
+        rt: &R,
+        alloc: Global,
+        domain: &Domain<P, K, B, D>,
+        own: Record<B>,
+        number: usize,
+    ) -> Self::Out;
+}

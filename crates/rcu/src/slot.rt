@@ -1,0 +1,138 @@
+//! One value that is replaced as a whole.
+
+ghost use Rattle.std.specs.Prelude.{◌≡◌, ◌⊎◌, ◌<◌, ◌≤◌, IfErr, IfOk};
+ghost use Rattle.rcu_model.specs.declared.refusal.Refusal.TheVariants.{Busy, Closed, Memory, NoPlace, PoolFull};
+ghost use Rattle.live_read.specs.Hearing.{IsAfter, Stays};
+ghost use Rattle.live_read.specs.Holding.{log_of};
+ghost use Rattle.live_read.specs.Reads.{Looks};
+ghost use Rattle.rcu.specs.Slots.{Finds, Puts, any_change};
+
+use crate::words::Words;
+use crossbeam_utils::Backoff;
+use domain::{Deleter, Domain, Section, Site, Ticket, Witness};
+use gp_memb::GracePlan;
+use live_words::AnyChain;
+use rcu_model::Refusal;
+use std::marker::PhantomData;
+use std::sync::Wait;
+
+/// One value that readers find at any moment, and that is replaced as a whole, as arc-swap's `ArcSwap`: over a chain of
+/// the domain, whose one record has it.
+#[derive(Drop)]
+pub struct Slot<'d, P: GracePlan, B: Site, D: Deleter, T: Words> {
+    domain: &'d Domain<P, AnyChain, B, D>,
+    /// The chain of its record.
+    pub chain: usize,
+    /// The value that it was made with.
+    pub first: T,
+    pub(crate) ghost low: { chain < B.sizes.chains },
+}
+
+impl<'d, P: GracePlan + Drop, B: Site, D: Deleter, T: Words + Copy + Drop> Slot<'d, P, B, D, T> {
+    /// A slot over a chain of the domain. Readers find this value until another is put in its place; so it has no record,
+    /// and none is retired for it. Threads may each make the slot anew, with the same value. It never waits.
+    ///
+    /// Refused with `NoPlace` exactly where there is no such chain.
+    pub fn new(
+        domain: &'d Domain<P, AnyChain, B, D>,
+        chain: usize,
+        value: T,
+    ) -> Result<Slot<'d, P, B, D, T>, Refusal>
+        ensures made { IfOk result (λ s. (s.chain ≡ chain) × (s.first ≡ value) × (chain < B.sizes.chains)) }
+        ensures refused { IfErr result (λ e. (e ≡ NoPlace) × (B.sizes.chains ≤ chain)) }
+    {
+        if chain >= domain.chains() {
+            return Err(Refusal::NoPlace);
+        }
+        Ok(Slot {
+            domain,
+            chain,
+            first: value,
+        })
+    }
+
+    /// The value. It is what the slot has at some moment of the call, after all that the reader had seen and heard of;
+    /// so no older one is found after a newer one. It never waits and takes no memory.
+    pub fn read(&self, section: &mut Section<'_, P, AnyChain, B>) -> T
+        requires { 0 < section.old.reader.now.core.depth }
+        ensures reader { section.new.reader.ghost_name ≡ section.old.reader.ghost_name }
+        ensures looked { Looks P.QSBR any_change section.old.reader.now.core section.new.reader.now.core }
+        ensures found { Finds P.QSBR any_change (log_of section.old.reader.now.core) section.old.reader.now.core.seat.me.0.heard T.packed self.now.chain self.now.first (log_of section.new.reader.now.core) result }
+    {
+        match section.first(self.chain) {
+            Ok(Some(held)) => T::unpack(section.read(held)),
+            Ok(None) => self.first,
+            Err(_) => unreachable!(),
+        }
+    }
+
+    /// Puts another value in the place of this one, and retires the record of this one with the callback; arc-swap's
+    /// `store`. Sections that found this one may go on with it. The caller hears of both. None where this one had no
+    /// record, as the first one has none; then the callback is dropped.
+    ///
+    /// Refused with `Busy` where another thread writes the slot, with `PoolFull` as `Domain::alloc`, with `Closed` or
+    /// `Memory` as `Domain::retire`; then the value is as it was, and the callback comes back. It waits for the queue's
+    /// lock alone.
+    pub fn try_replace<W: Witness, R: Wait>(
+        &self,
+        rt: &R,
+        witness: &mut W,
+        value: T,
+        callback: D,
+    ) -> Result<Option<Ticket>, (Refusal, D)>
+        requires { W.home witness.old ≡ (B.table, B.sizes) }
+        ensures has { IfOk result (λ _. Puts P.QSBR any_change (W.seen witness.old) (W.heard witness.old) self.now.chain (T.packed value) (W.heard witness.new)) }
+        ensures refused { IfErr result (λ e. (e.0 ≡ Busy) ⊎ (e.0 ≡ PoolFull) ⊎ (e.0 ≡ Closed) ⊎ (e.0 ≡ Memory)) }
+        ensures back { IfErr result (λ e. (e.1 ≡ callback) × Stays W.Witness witness.old witness.new) }
+        ensures heard { IfErr result (λ _. IsAfter P.QSBR any_change (W.seen witness.old) (W.heard witness.old) (W.heard witness.new)) }
+    {
+        let mut writer = match self.domain.chain(witness, self.chain) {
+            Ok(writer) => writer,
+            Err(refusal) => return Err((refusal, callback)),
+        };
+        let owned = match self.domain.alloc(rt, witness, value.pack()) {
+            Ok(owned) => owned,
+            Err(refusal) => return Err((refusal, callback)),
+        };
+        if writer.len() == 0 {
+            writer.push(witness, owned);
+            return Ok(None);
+        }
+        match self
+            .domain
+            .replace_retire(rt, witness, &mut writer, 0, owned, callback)
+        {
+            Ok(ticket) => Ok(Some(ticket)),
+            Err((refusal, owned, callback)) => {
+                self.domain.discard(witness, owned); // else its record stays out of use
+                Err((refusal, callback))
+            }
+        }
+    }
+
+    /// As `try_replace`, but it waits while another thread writes the slot, and while no record is free.
+    pub fn replace<W: Witness, R: Wait>(
+        &self,
+        rt: &R,
+        witness: &mut W,
+        value: T,
+        callback: D,
+    ) -> Result<Option<Ticket>, (Refusal, D)>
+        requires { W.home witness.old ≡ (B.table, B.sizes) }
+        ensures has { IfOk result (λ _. Puts P.QSBR any_change (W.seen witness.old) (W.heard witness.old) self.now.chain (T.packed value) (W.heard witness.new)) }
+        ensures refused { IfErr result (λ e. (e.0 ≡ Closed) ⊎ (e.0 ≡ Memory)) }
+        ensures back { IfErr result (λ e. (e.1 ≡ callback) × Stays W.Witness witness.old witness.new) }
+    {
+        let backoff = Backoff::new();
+        let mut callback = callback;
+        for _ in rt.forever() {
+            match self.try_replace(rt, witness, value, callback) {
+                Ok(ticket) => return Ok(ticket),
+                Err((Refusal::Busy | Refusal::PoolFull, back)) => callback = back,
+                Err(refused) => return Err(refused),
+            }
+            backoff.snooze();
+        }
+        unreachable!()
+    }
+}

@@ -1,0 +1,114 @@
+//! How the threads of a program get a domain.
+
+ghost use Rattle.std.specs.Prelude.{◌≡◌};
+ghost use Rattle.std.specs.Thread.{IsSync};
+
+use crate::program::Threaded;
+use crate::working::work;
+use domain::{Deleter, Domain, LiveConfig, Opened, Record, Site};
+use gp_memb::GracePlan;
+use live_words::ChainRule;
+use rcu_model::Refusal;
+use std::alloc::Global;
+use std::marker::Brand;
+use std::sync::{Mutex, Wait};
+use std::thread::{Threads, join, map_indices};
+
+/// What came of the threads of a program.
+#[derive(Drop)]
+pub struct Ended<T> {
+    /// What each part answered, in the order of their numbers.
+    pub answers: Vec<T>,
+    /// How many records the worker of each queue reclaimed, in the order of the queues, or why it stopped early.
+    pub reclaimed: Vec<Result<u64, Refusal>>,
+}
+
+/// Makes a domain of this size, and runs this number of the program's threads over it, beside a worker for each queue.
+/// When all threads have returned the domain is closed, and the workers run what is left.
+///
+/// Refused with `BadConfig` where a size is out of its limits, as `begin` is, and with `Memory` where memory is
+/// refused.
+pub fn with_threads<
+    P: GracePlan + Drop + Send + Sync,
+    K: ChainRule + Send + Sync,
+    D: Deleter + Send + Sync,
+    R: Threads + Wait + Sync,
+    F: Threaded<P, K, D, R> + Sync,
+>(
+    rt: &R,
+    alloc: Global,
+    config: LiveConfig,
+    number: usize,
+    program: &F,
+) -> Result<Ended<F::Out>, Refusal>
+where
+    F::Out: Send + Drop,
+{
+    let opened = Opened::<P, K>::new(alloc, config)?;
+    all::<Brand, P, K, D, R, F>(rt, alloc, opened, config.queues, number, program)
+}
+
+// Gives the domain its type, and runs the threads.
+fn all<
+    B: Site + Send + Sync,
+    P: GracePlan + Drop + Send + Sync,
+    K: ChainRule + Send + Sync,
+    D: Deleter + Send + Sync,
+    R: Threads + Wait + Sync,
+    F: Threaded<P, K, D, R> + Sync,
+>(
+    rt: &R,
+    alloc: Global,
+    opened: Opened<P, K>,
+    queues: usize,
+    number: usize,
+    program: &F,
+) -> Result<Ended<F::Out>, Refusal>
+where
+    F::Out: Send + Drop,
+    requires { (P.QSBR ≡ B.qsbr) × (opened.table.words.shared.table_id ≡ B.table) × (opened.table.words.shared.key ≡ B.sizes) }
+{
+    let (domain, mut first) = opened.named::<B, D>(alloc)?;
+    program.begin::<B>(rt, &domain, &mut first)?;
+    let root = Mutex::new(first);
+    let home = &domain;
+    let from = &root;
+    let (answers, reclaimed) = join(
+        rt,
+        ||
+            requires { IsSync R.row }
+        {
+            let answers = map_indices(
+                rt,
+                alloc,
+                number,
+                &|index| program.part::<B>(rt, alloc, home, own(rt, home, from), index),
+            );
+            home.close(rt, &mut *from.lock(rt));
+            answers
+        },
+        ||
+            requires { IsSync R.row }
+        {
+            map_indices(
+                rt,
+                alloc,
+                queues,
+                &|queue| work(rt, alloc, home, &mut own(rt, home, from), queue),
+            )
+        },
+    );
+    match (answers, reclaimed) {
+        (Ok(answers), Ok(reclaimed)) => Ok(Ended { answers, reclaimed }),
+        _ => Err(Refusal::Memory),
+    }
+}
+
+// A handle for one thread.
+fn own<P: GracePlan + Drop, K: ChainRule, B: Site, D: Deleter, R: Wait>(
+    rt: &R,
+    domain: &Domain<P, K, B, D>,
+    root: &Mutex<Record<B>>,
+) -> Record<B> {
+    domain.split(&mut *root.lock(rt))
+}

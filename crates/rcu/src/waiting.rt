@@ -1,0 +1,35 @@
+//! An allocation that waits while the pool is full.
+
+ghost use Rattle.std.specs.Prelude.{◌≡◌, IfOk};
+ghost use Rattle.live_read.specs.Hearing.{IsAfter, Stays};
+ghost use Rattle.live_table.specs.Rights.{payload_in};
+
+use crossbeam_utils::Backoff;
+use domain::{Deleter, Domain, Owned, Site, Witness};
+use gp_memb::GracePlan;
+use live_words::ChainRule;
+use rcu_model::Refusal;
+use std::sync::Wait;
+
+/// A record with these four words, as by `Domain::alloc`, which is tried again while the pool is full. So a worker, or
+/// another thread, has to free one meanwhile. It takes no memory.
+pub fn alloc_when_free<P: GracePlan + Drop, K: ChainRule, B: Site, D: Deleter, W: Witness, R: Wait>(
+    rt: &R,
+    domain: &Domain<P, K, B, D>,
+    witness: &mut W,
+    words: [u64; 4],
+) -> Owned<B>
+    requires { W.home witness.old ≡ (B.table, B.sizes) }
+    ensures owned { (payload_in result.seat.me.0.object ≡ words) × (result.seat.me.0.seen ≡ W.heard witness.new) }
+    ensures heard { IsAfter P.QSBR K.allows (W.seen witness.old) (W.heard witness.old) (W.heard witness.new) }
+    ensures same { Stays W.Witness witness.old witness.new }
+{
+    let backoff = Backoff::new();
+    for _ in rt.forever() {
+        if let Ok(owned) = domain.alloc(rt, witness, words) {
+            return owned;
+        }
+        backoff.snooze();
+    }
+    unreachable!()
+}

@@ -1,0 +1,42 @@
+//! A worker that goes on until its domain is closed.
+
+ghost use Rattle.std.specs.Prelude.{◌≡◌, ℕ, IfOk};
+ghost use Rattle.live_log.specs.Log.{HaveRun};
+ghost use Rattle.live_reclaim.specs.Working.{IsEmptied};
+
+use domain::{Deleter, Domain, Site, Stop, Witness};
+use gp_memb::GracePlan;
+use live_words::ChainRule;
+use rcu_model::Refusal;
+use std::alloc::Global;
+use std::sync::Wait;
+use std::thread;
+
+/// Works for a queue, liburcu's thread of `call_rcu`, until the domain is closed and nothing is left: then each object
+/// that was ever put into the queue was run. Where memory is refused meanwhile it tries again. Answers how many objects
+/// it ran itself.
+///
+/// Refused as `Domain::run_worker`, and with `Exhausted` where the sequence numbers are used up. The caller, who has no
+/// section or lock open, hears of all that.
+pub fn work<P: GracePlan + Drop, K: ChainRule, B: Site, D: Deleter, W: Witness, R: Wait>(
+    rt: &R,
+    alloc: Global,
+    domain: &Domain<P, K, B, D>,
+    witness: &mut W,
+    queue: usize,
+) -> Result<u64, Refusal>
+    requires { W.home witness.old ≡ (B.table, B.sizes) }
+    ensures run { IfOk result (λ _. (all : ℕ) × IsEmptied queue all (W.heard witness.new) × HaveRun queue all (W.heard witness.new)) }
+{
+    let mut reclaimed = 0u64;
+    for _ in rt.forever() {
+        let end = domain.run_worker(rt, alloc, witness, queue)?;
+        reclaimed = reclaimed.saturating_add(end.finished.len() as u64);
+        match end.stop {
+            Stop::Closed | Stop::Served => return Ok(reclaimed),
+            Stop::Memory => thread::yield_now(),
+            Stop::Exhausted => return Err(Refusal::Exhausted),
+        }
+    }
+    unreachable!()
+}
