@@ -22,10 +22,10 @@ fn newest<B: Site>(
         if upper.wrapping_sub(lower) != 1 || lower < newest {
             return Ok(0);
         }
-        newest = lower;
-        if newest == LAST {
-            break;
+        if lower == LAST {
+            return Ok(LAST);
         }
+        newest = lower;
     }
     Ok(newest)
 }
@@ -51,8 +51,8 @@ impl<R: Wait> Threaded<Memb, AnyChain, NoCallback, R> for Server {
             return newest(&limits, &mut reader);
         }
         for lower in 1..LAST + 1 {
-            if let Err((refusal, _)) = limits.replace(rt, &mut own, (lower, lower + 1), NoCallback)
-            {
+            let next = (lower, lower + 1);
+            if let Err((refusal, _)) = limits.replace(rt, &mut own, next, NoCallback) {
                 return Err(refusal);
             }
         }

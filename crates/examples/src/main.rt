@@ -3,14 +3,16 @@
 
 mod callbacks;
 mod event_loop;
+mod leases;
 mod limits;
 mod polling;
 mod routes;
 mod shutdown;
 
-use rcu::{Config, Ended, Refusal, with_domain, with_threads};
+use rcu::{Config, Ended, Opened, Refusal, with_domain, with_threads};
 use std::alloc::Global;
 use std::io;
+use std::marker::Brand;
 use std::process::ExitCode;
 use std::sync::Wait;
 use std::thread::Threads;
@@ -32,6 +34,7 @@ struct Found {
     codes: u64,
     room: (u64, u64),
     reclaimed: u64,
+    free: u64,
 }
 
 /// The least of the threads' answers.
@@ -55,6 +58,7 @@ fn reclaimed<T>(ended: &Ended<T>) -> u64 {
 /// All the examples.
 fn show<R: Threads + Wait + Sync>(rt: &R, alloc: Global) -> Result<Found, Refusal> {
     let served = with_threads(rt, alloc, SMALL, 3, &limits::Server)?;
+    let opened = Opened::new(alloc, SMALL)?;
     let stopped = with_threads(rt, alloc, SMALL, 2, &shutdown::Updaters)?;
     Ok(Found {
         limit: least(&served),
@@ -63,6 +67,7 @@ fn show<R: Threads + Wait + Sync>(rt: &R, alloc: Global) -> Result<Found, Refusa
         codes: with_domain(rt, alloc, SMALL, callbacks::Files)??,
         room: with_domain(rt, alloc, SMALL, polling::Hotel)??,
         reclaimed: reclaimed(&stopped),
+        free: leases::serve::<Brand, R>(rt, alloc, opened)?,
     })
 }
 
@@ -81,6 +86,7 @@ fn main(rt: HostRuntime) -> io::Result<ExitCode> {
                 found.room.0, found.room.1
             )?;
             println!(rt; "shutdown: {} records were reclaimed", found.reclaimed)?;
+            println!(rt; "leases: room {} is free", found.free)?;
             Ok(ExitCode::SUCCESS)
         }
         Err(refusal) => {

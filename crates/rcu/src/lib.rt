@@ -24,7 +24,7 @@ pub use gp_memb::{GracePlan, MembPlan as Memb};
 pub use gp_qsbr::QsbrPlan as Qsbr;
 pub use live_words::{AnyChain, ChainRule, Keyed, Tabled};
 pub use map::{Map, Reclaim};
-pub use pending::Pending;
+pub use pending::{Asked, Pending, PendingOf};
 pub use program::{Program, Threaded};
 pub use rcu_hash::{RcuHash, TableView, TidyEnd};
 pub use rcu_list::{ListView, RcuList};

@@ -10,17 +10,33 @@ use gp_memb::GracePlan;
 use live_words::ChainRule;
 use rcu_model::Refusal;
 
-/// A value that only a grace period opens: then no section that was open at its making has it any more. Whoever opens it
-/// hears of all that its maker had heard of.
-#[derive(Drop)]
-pub struct Pending<B: Site, T> {
-    pub(crate) cookie: LiveCookie,
-    pub(crate) handle: Record<B>,
-    pub(crate) value: T,
-    pub(crate) ghost knows: { cookie.asked.value.me.0.seen ≡ handle.seat.me.0.heard },
+/// What was asked for at a log: a cookie.
+pub trait Asked {
+    ghost use Rattle.live_log.specs.Log.{Log};
+
+    /// The log.
+    ghost asked: { Self → Log };
 }
 
-impl<B: Site, T: Drop> Pending<B, T> {
+impl Asked for LiveCookie {
+    ghost asked = { λ cookie. cookie.asked.value.me.0.seen };
+}
+
+/// A value beside a cookie, and a witness that knows the log at which that was asked for: `Pending`, by types that a
+/// program need not name. The prover finds that it may be sent since each of its fields is a parameter.
+#[derive(Drop)]
+pub struct PendingOf<C: Asked, W: Witness, T> {
+    pub(crate) cookie: C,
+    pub(crate) handle: W,
+    pub(crate) value: T,
+    pub(crate) ghost knows: { C.asked cookie ≡ W.heard handle },
+}
+
+/// A value that only a grace period opens: then no section that was open at its making has it any more. Whoever opens
+/// it, in whatever thread, hears of all that its maker had heard of.
+pub type Pending<B, T> = PendingOf<LiveCookie, Record<B>, T>;
+
+impl<B: Site, T: Drop> PendingOf<LiveCookie, Record<B>, T> {
     /// The value, after all that the caller had seen and heard of, liburcu's `start_poll_synchronize_rcu`. It never
     /// waits and takes no memory.
     ///
@@ -39,7 +55,7 @@ impl<B: Site, T: Drop> Pending<B, T> {
         match domain.start_poll(witness) {
             Ok(cookie) => {
                 let handle = domain.split(witness);
-                Ok(Pending {
+                Ok(PendingOf {
                     cookie,
                     handle,
                     value,
@@ -63,7 +79,7 @@ impl<B: Site, T: Drop> Pending<B, T> {
         ensures heard { IsAfter P.QSBR K.allows (W.seen witness.old) (W.heard witness.old) (W.heard witness.new) }
         ensures same { FindsNothing W.Witness witness.old witness.new }
     {
-        let Pending {
+        let PendingOf {
             cookie,
             mut handle,
             value,
@@ -72,7 +88,7 @@ impl<B: Site, T: Drop> Pending<B, T> {
         if domain.poll(witness, &cookie) {
             Ok(value)
         } else {
-            Err(Pending {
+            Err(PendingOf {
                 cookie,
                 handle,
                 value,

@@ -2,7 +2,7 @@ use Rattle.std.proofs.Common.{subst, sym, refl}
 use Rattle.live_log.specs.Log.{Log, Begins}
 use Rattle.live_log.proofs.Lemmas.{begins_trans}
 use Rattle.rcu.proofs.Hearing.{still_after}
-use Rattle.rcu.proofs.pending.Pending.open.Goals as goal
+use Rattle.rcu.proofs.pending.PendingOf+LiveCookie+Record+B+T.open.Goals as goal
 
 pub returns-then-poll-clause-opened : goal.returns-then-poll-clause-opened
 returns-then-poll-clause-opened g c =

@@ -1,0 +1,70 @@
+//! Threads by hand, which share a map, and a value that one of them hands on and the other opens after a grace period.
+
+ghost use Rattle.std.specs.Prelude.{◌≡◌, false};
+
+use rcu::{Domain, Handle, Map, Memb, NoCallback, Opened, Pending, Reclaim, Refusal, Site, Tabled};
+use std::alloc::Global;
+use std::sync::{Mutex, Wait};
+use std::thread::{self, Threads, join};
+
+/// The guests' rooms, and the room that a guest left.
+type Rooms<'d, B> = Map<'d, Memb, B, NoCallback, u64>;
+
+type Leaving<B> = Mutex<Option<Pending<B, u64>>>;
+
+/// Guest 7 moves from room 101 to 102. Readers may have found 101 before.
+fn moves<B: Site, R: Wait>(
+    rt: &R,
+    home: &Domain<Memb, Tabled, B, Reclaim<NoCallback>>,
+    rooms: &Rooms<'_, B>,
+    leaving: &Leaving<B>,
+    mut own: Handle<B>,
+) -> Result<(), Refusal> {
+    rooms.set(rt, &mut own, 7, 101)?;
+    rooms.set(rt, &mut own, 7, 102)?;
+    let left = Pending::new(home, &mut own, 101).map_err(|refused| refused.0)?;
+    *leaving.lock(rt) = Some(left);
+    Ok(())
+}
+
+/// The room that was left, once nobody can have found it.
+fn lets<B: Site, R: Wait>(
+    rt: &R,
+    home: &Domain<Memb, Tabled, B, Reclaim<NoCallback>>,
+    leaving: &Leaving<B>,
+    mut own: Handle<B>,
+) -> Result<u64, Refusal> {
+    for _ in rt.forever() {
+        let left = leaving.lock(rt).take();
+        if let Some(room) = left {
+            match room.open(home, &mut own) {
+                Ok(free) => return Ok(free),
+                Err(room) => *leaving.lock(rt) = Some(room),
+            }
+            home.synchronize(rt, &mut own)?;
+        }
+        thread::yield_now();
+    }
+    unreachable!()
+}
+
+/// Both threads. Answers the room that is free.
+pub(crate) fn serve<B: Site + Send + Sync, R: Threads + Wait + Sync>(
+    rt: &R,
+    alloc: Global,
+    opened: Opened<Memb, Tabled>,
+) -> Result<u64, Refusal>
+    requires { (B.qsbr ≡ false) × (opened.table.words.shared.table_id ≡ B.table) × (opened.table.words.shared.key ≡ B.sizes) }
+{
+    let (domain, mut own) = opened.named::<B, Reclaim<NoCallback>>(alloc)?;
+    let rooms = Map::new(rt, alloc, &domain, &mut own, 0, 1, 4, NoCallback)?;
+    let other = domain.split(&mut own);
+    let leaving = Mutex::new(None);
+    let (moved, free) = join(
+        rt,
+        || moves(rt, &domain, &rooms, &leaving, own),
+        || lets(rt, &domain, &leaving, other),
+    );
+    moved?;
+    free
+}
