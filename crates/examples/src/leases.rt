@@ -1,6 +1,7 @@
 //! Threads by hand, which share a map, and a value that one of them hands on and the other opens after a grace period.
 
-ghost use Rattle.std.specs.Prelude.{◌≡◌, false};
+ghost use Rattle.std.specs.Prelude.{false};
+ghost use Rattle.rcu.specs.Naming.{Names};
 
 use rcu::{Domain, Handle, Map, Memb, NoCallback, Opened, Pending, Reclaim, Refusal, Site, Tabled};
 use std::alloc::Global;
@@ -54,7 +55,7 @@ pub(crate) fn serve<B: Site + Send + Sync, R: Threads + Wait + Sync>(
     alloc: Global,
     opened: Opened<Memb, Tabled>,
 ) -> Result<u64, Refusal>
-    requires { (B.qsbr ≡ false) × (opened.table.words.shared.table_id ≡ B.table) × (opened.table.words.shared.key ≡ B.sizes) }
+    requires { Names false B.Site opened }
 {
     let (domain, mut own) = opened.named::<B, Reclaim<NoCallback>>(alloc)?;
     let rooms = Map::new(rt, alloc, &domain, &mut own, 0, 1, 4, NoCallback)?;

@@ -1,7 +1,9 @@
 //! A clean shutdown: threads retire records, each waits for its own by a barrier, and returns; then the library closes
 //! the domain, and its workers run what is left.
 
-use rcu::{AnyChain, Domain, Handle, Memb, NoCallback, Refusal, Site, Threaded, alloc_when_free};
+use rcu::{
+    AnyChain, Domain, Handle, Memb, NoCallback, Refusal, Site, Threaded, alloc_when_free, hear,
+};
 use std::alloc::Global;
 use std::sync::Wait;
 
@@ -32,6 +34,7 @@ impl<R: Wait> Threaded<Memb, AnyChain, NoCallback, R> for Updaters {
             }
         }
         domain.barrier(rt, &mut own);
+        hear(domain, &mut own); // of a log that keeps the headline's promise, with all that was retired here
         Ok(())
     }
 }

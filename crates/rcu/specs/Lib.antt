@@ -1,4 +1,6 @@
+pub mod Headline
 pub mod Keys
+pub mod Naming
 pub mod Slots
 pub use Rattle.rcu_model.specs.declared.refusal.Refusal.TheVariants as Refusals
 pub use Rattle.live_log.specs.Log

@@ -3,6 +3,7 @@
 ghost use Rattle.std.specs.Prelude.{◌≡◌, IfErr};
 ghost use Rattle.rcu_model.specs.declared.refusal.Refusal.TheVariants.{Memory};
 ghost use Rattle.domain.specs.Config.{new_refusal};
+ghost use Rattle.rcu.specs.Naming.{Names};
 
 use crate::program::Program;
 use domain::{Deleter, LiveConfig, Opened, Site};
@@ -37,7 +38,7 @@ fn entered<
     R,
     F: Program<P, K, D, R> + Drop,
 >(rt: &R, alloc: Global, opened: Opened<P, K>, program: F) -> Result<F::Out, Refusal>
-    requires { (P.QSBR ≡ B.qsbr) × (opened.table.words.shared.table_id ≡ B.table) × (opened.table.words.shared.key ≡ B.sizes) }
+    requires { Names P.QSBR B.Site opened }
     ensures { IfErr result (λ e. e ≡ Memory) }
 {
     let (domain, first) = opened.named::<B, D>(alloc)?;

@@ -4,6 +4,7 @@
 
 mod callbacks;
 mod entering;
+mod headline;
 mod map;
 mod pending;
 mod program;
@@ -22,6 +23,7 @@ pub use domain::{
 pub use entering::with_domain;
 pub use gp_memb::{GracePlan, MembPlan as Memb};
 pub use gp_qsbr::QsbrPlan as Qsbr;
+pub use headline::{every_moment_is_safe, hear};
 pub use live_words::{AnyChain, ChainRule, Keyed, Tabled};
 pub use map::{Map, Reclaim};
 pub use pending::{Asked, Pending, PendingOf};

@@ -1,6 +1,6 @@
 //! How the threads of a program get a domain.
 
-ghost use Rattle.std.specs.Prelude.{◌≡◌};
+ghost use Rattle.rcu.specs.Naming.{Names};
 ghost use Rattle.std.specs.Thread.{IsSync};
 
 use crate::program::Threaded;
@@ -66,7 +66,7 @@ fn all<
 ) -> Result<Ended<F::Out>, Refusal>
 where
     F::Out: Send + Drop,
-    requires { (P.QSBR ≡ B.qsbr) × (opened.table.words.shared.table_id ≡ B.table) × (opened.table.words.shared.key ≡ B.sizes) }
+    requires { Names P.QSBR B.Site opened }
 {
     let (domain, mut first) = opened.named::<B, D>(alloc)?;
     program.begin::<B>(rt, &domain, &mut first)?;

@@ -1,0 +1,18 @@
+-- The headline over live threads.
+use Rattle.std.specs.Prelude.{◌≡◌, ℕ, Bool}
+use mathlib.Core.Option.{some}
+use lib.ListN.{get_elem?}
+use Rattle.atomic_table.specs.Table.{State}
+use Rattle.rcu_model.specs.Promises.{IsSafeLog}
+use Rattle.live_log.specs.Log.{Log, Begins, events_of}
+use Rattle.live_rule.specs.Rule.{WordsAgree}
+use Rattle.live_rule.specs.declared.view.Sizes.{Sizes}
+use Rattle.live_rule.specs.declared.view.View.{View}
+
+-- At this moment of a table there is one log. It keeps the promises of the abstract machine, the table's words are what
+-- it says, and it begins with all that each seat has seen and heard of.
+pub record IsSafeNow {S : Type 0} (qsbr : Bool) (key : Sizes) (s : State S View) : Type 0 where
+  pub log : Log
+  pub safe : IsSafeLog (events_of log)
+  pub agree : WordsAgree qsbr key log s.words
+  pub seen : (j : ℕ) (v : View) → get_elem? s.views j ≡ some v → Begins v.seen log × Begins v.heard log

@@ -1,0 +1,40 @@
+//! The headline over live threads, as calls promise it.
+
+ghost use Rattle.std.specs.Prelude.{◌≡◌};
+ghost use Rattle.atomic_table.specs.Table.{State};
+ghost use Rattle.rcu_model.specs.Promises.{IsSafeLog};
+ghost use Rattle.live_log.specs.Log.{events_of};
+ghost use Rattle.live_rule.specs.Rule.{KeepsRule};
+ghost use Rattle.live_rule.specs.declared.view.Sizes.{Sizes};
+ghost use Rattle.live_rule.specs.declared.view.View.{View};
+ghost use Rattle.live_read.specs.Hearing.{FindsNothing, IsAfter};
+ghost use Rattle.rcu.specs.Headline.{IsSafeNow};
+
+use domain::{Deleter, Domain, Site, Witness};
+use gp_memb::GracePlan;
+use live_log::the_log_is_a_run;
+use live_words::ChainRule;
+
+/// At every moment at which a table keeps its rule, which each step of the library does, its threads have one log. In
+/// that an object's callback runs at most once, and only after every section that was open at its retirement has ended.
+pub fn every_moment_is_safe<P: GracePlan, K: ChainRule, S>()
+    ensures { (key : Sizes) (s : State S View) → KeepsRule P.QSBR K.allows key s → IsSafeNow P.QSBR key s }
+{
+    the_log_is_a_run::<K>();
+}
+
+/// The caller hears of the log of all that the domain's threads have done until now, by one load. It begins with all
+/// that the caller had seen and heard of, and keeps the headline's promise: in it an object's callback runs at most
+/// once, and only after every section that was open at its retirement has ended. It never waits and takes no memory.
+pub fn hear<P: GracePlan + Drop, K: ChainRule, B: Site, D: Deleter, W: Witness>(
+    domain: &Domain<P, K, B, D>,
+    witness: &mut W,
+)
+    requires { W.home witness.old ≡ (B.table, B.sizes) }
+    ensures safe { IsSafeLog (events_of (W.heard witness.new)) }
+    ensures heard { IsAfter P.QSBR K.allows (W.seen witness.old) (W.heard witness.old) (W.heard witness.new) }
+    ensures same { FindsNothing W.Witness witness.old witness.new }
+{
+    the_log_is_a_run::<K>();
+    let _asked = domain.start_poll(witness);
+}
