@@ -1,18 +1,19 @@
 -- The first record of a chain, once its writer has published one.
-use Rattle.std.proofs.Common.{◌≡◌, ℕ, Bool, List, [], ◌∷◌, length, Some, slice_get, refl, sym, ap, ◌∙◌, subst, inl, arith}
+use Rattle.std.proofs.Common.{◌≡◌, ℕ, Bool, List, [], ◌∷◌, length, Option, Some, None, IfSome, slice_get, refl, sym, ap, ◌∙◌, subst, inl, arith}
 use Rattle.rcu_model.specs.declared.event.ObjectId.{ObjectId}
 use Rattle.rcu_model.specs.Sets.{first_of, replaced}
 use Rattle.rcu_model.proofs.Lemmas.{at_object_same, some_is, none_some}
 use Rattle.live_log.specs.declared.event.LiveEvent.{LiveEvent}
 use Rattle.live_log.specs.declared.event.LiveEvent.TheVariants.{Object}
 use Rattle.live_log.specs.declared.event.ObjectEvent.TheVariants.{Push, Queue, Replace, Retire}
-use Rattle.live_log.specs.Log.{Log, Begins, Has, payload_of, words_in}
+use Rattle.live_log.specs.Log.{objects_of, Log, Begins, Has, payload_of, words_in}
 use Rattle.live_log.proofs.Lemmas.{begins_trans, pushed_note, replaced_note}
 use Rattle.live_rule.specs.declared.view.View.{View}
 use Rattle.live_read.specs.Hearing.{IsAfter}
+use Rattle.live_table.specs.Rights.{AreAsKnown, IsWriter, own_in}
 use Rattle.live_items.specs.Retiring.{Queues}
-use Rattle.live_write.specs.Chains.{Publishes}
-use Rattle.rcu.specs.Slots.{Puts}
+use Rattle.live_write.specs.Chains.{Publishes, list_in}
+use Rattle.rcu.specs.Slots.{Puts, Replaces, first_in}
 use Rattle.rcu.proofs.Hearing.{still_after}
 
 -- four words are the words of their payload
@@ -28,6 +29,20 @@ four_words (x ∷ y ∷ z ∷ u ∷ t ∷ ts) e = absurd (omega arith)
 pub first_replaced : (o n : ObjectId) (os : List ObjectId) → slice_get os 0 ≡ Some o → first_of (replaced o n os) ≡ Some n
 first_replaced o n [] e = absurd (none_some o e)
 first_replaced o n (x ∷ xs) e = subst (λ (y : ObjectId). first_of (replaced y n (x ∷ xs)) ≡ Some n) (some_is x o e) (ap Some (at_object_same x n (λ p. p)))
+
+-- the first object of a list is at its first index
+first_at : (o : ObjectId) (os : List ObjectId) → slice_get os 0 ≡ Some o → first_of os ≡ Some o
+first_at o [] e = e
+first_at o (x ∷ xs) e = e
+
+-- a writer knows the first object of its chain
+pub was_first : (log : Log) (v : View) (c : ℕ) (o : ObjectId) → IsWriter v → (own_in v.chains).chain ≡ c → AreAsKnown log v.chains → slice_get (list_in v) 0 ≡ Some o → first_in c log o
+was_first log v c o writer number known at = subst (λ (d : ℕ). first_of ((objects_of log).chain d) ≡ Some o) number (ap first_of (subst (AreAsKnown log) writer known).0.0 ∙ first_at o (list_in v) at)
+
+-- of what is there it is so, where what was so makes it so
+pub if_some : {X : Type 0} (found : Option X) (so su : X → Type 0) → ((x : X) → so x → su x) → IfSome found so → IfSome found su
+if_some None so su f h = tt
+if_some (Some x) so su f h = f x h
 
 -- what is queued was published before
 pub queued_later : (qsbr : Bool) (allows : Log → LiveEvent → Type 0) (at : Log) (o : ObjectId) (queue given : ℕ) (log : Log) → Queues qsbr allows (Begins at) o queue given log → Begins at log
@@ -64,4 +79,16 @@ puts_after qsbr allows seen heard was mid c words now same later p = record {
   object = p.object;
   first = p.first;
   has = p.has;
+}
+
+pub replaces_after : (qsbr : Bool) (allows : Log → LiveEvent → Type 0) (seen heard was mid : Log) (c : ℕ) (words : List ℕ) (queue ticket : ℕ) (now : Log) → was ≡ seen → Begins heard mid → Replaces qsbr allows was mid c words queue ticket now → Replaces qsbr allows seen heard c words queue ticket now
+unfolding puts_after
+replaces_after qsbr allows seen heard was mid c words queue ticket now same later r = record {
+  puts = puts_after qsbr allows seen heard was mid c words now same later r.puts;
+  event = r.event;
+  before = r.before;
+  wrote = r.wrote;
+  left = r.left;
+  was = r.was;
+  handed = r.handed;
 }

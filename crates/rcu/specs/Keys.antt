@@ -1,7 +1,11 @@
 -- What the calls of a map tell, by the chain of its directory in a domain of so many chains.
+use Rattle.gp_memb.specs.declared.plan.GracePlan as plan
 use Rattle.std.specs.Prelude.{◌≡◌, ℕ, Bool, List, Option, Some, None}
 use Rattle.live_log.specs.declared.event.LiveEvent.{LiveEvent}
 use Rattle.live_log.specs.Log.{Log, Begins}
+use Rattle.live_log.specs.Tables.{tabled}
+use Rattle.live_read.specs.Holding.{log_of}
+use Rattle.live_read.specs.declared.reader_core.ReaderCore.{ReaderCore}
 use Rattle.live_read.specs.declared.witness.Witness.{Ghosts}
 use Rattle.rcu_hash.specs.Directories.{directed_map}
 use Rattle.rcu_hash.specs.Growing.{Grows}
@@ -44,3 +48,14 @@ pub record Grew (qsbr : Bool) (allows : Log → LiveEvent → Type 0) (chains d 
 -- the witness is of the same table, has seen no more, and has heard of no less
 abbrev pub HearsMore : {W : Type 0} → Ghosts W → W → W → Type 0
 HearsMore w old new = (w.seen new ≡ w.seen old) × (w.home new ≡ w.home old) × Begins (w.heard old) (w.heard new)
+
+-- a reader found this for the key between these two moments of it
+abbrev pub GetsValue : {T P K : Type 0} {g : plan.Ghosts P} → (T → ℕ) → ℕ → ℕ → ReaderCore P K g → ReaderCore P K g → ℕ → Option T → Type 0
+GetsValue packed chains d r s key found = Gets packed chains d (log_of r) r.seat.me.0.heard (log_of s) key found
+
+-- the key was given this word, or none, between these two moments of a witness; and the map grew
+abbrev pub GivesWord : {W : Type 0} → Ghosts W → Bool → ℕ → ℕ → W → W → ℕ → Option ℕ → Type 0
+GivesWord w qsbr chains d old new key has = Gives qsbr tabled chains d (w.seen old) (w.heard old) key has (w.heard new)
+
+abbrev pub GrewTo : {W : Type 0} → Ghosts W → Bool → ℕ → ℕ → W → W → ℕ → ℕ → Type 0
+GrewTo w qsbr chains d old new first buckets = Grew qsbr tabled chains d (w.seen old) (w.heard old) first buckets (w.heard new)

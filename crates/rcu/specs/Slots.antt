@@ -1,10 +1,15 @@
 -- The value of a slot.
-use Rattle.std.specs.Prelude.{◌≡◌, ◌⊎◌, ℕ, Bool, List, Some, None}
+use Rattle.gp_memb.specs.declared.plan.GracePlan as plan
+use Rattle.std.specs.Prelude.{◌≡◌, ◌⊎◌, ◌∷◌, ℕ, Bool, List, Some, None}
 use Rattle.rcu_model.specs.declared.event.ObjectId.{ObjectId}
 use Rattle.rcu_model.specs.Sets.{first_of}
 use Rattle.live_log.specs.declared.event.LiveEvent.{LiveEvent}
 use Rattle.live_log.specs.Log.{Log, Begins, objects_of, payload_of}
 use Rattle.live_read.specs.Hearing.{IsAfter}
+use Rattle.live_read.specs.Holding.{log_of}
+use Rattle.live_read.specs.declared.reader_core.ReaderCore.{ReaderCore}
+use Rattle.live_read.specs.declared.witness.Witness.{Ghosts}
+use Rattle.rcu_list.specs.Calls.{HandsOver}
 
 -- the rule of chains that any change fits
 abbrev pub any_change : Log → LiveEvent → Type 0
@@ -37,3 +42,25 @@ module _ (qsbr : Bool) (allows : Log → LiveEvent → Type 0) (seen heard : Log
     pub object : ObjectId
     pub first : first_in c at object
     pub has : payload_of at object ≡ words
+
+  -- and the record that was the first before that left the chain then: it was retired, and queued with the ticket
+  pub record Replaces (c : ℕ) (words : List ℕ) (queue ticket : ℕ) (now : Log) : Type 0 where
+    pub puts : Puts c words now
+    pub event : LiveEvent
+    pub before : Log
+    pub wrote : puts.at ≡ event ∷ before
+    pub left : ObjectId
+    pub was : first_in c before left
+    pub handed : HandsOver qsbr allows left queue ticket puts.at now
+
+-- a reader found the value between these two moments of it
+abbrev pub FindsValue : {T P K : Type 0} {g : plan.Ghosts P} → Bool → (T → List ℕ) → ℕ → T → ReaderCore P K g → ReaderCore P K g → T → Type 0
+FindsValue qsbr packed c first r s x = Finds qsbr any_change (log_of r) r.seat.me.0.heard packed c first (log_of s) x
+
+-- a record with these words was put first between these two moments of a witness, and in the place of one that is
+-- retired
+abbrev pub PutsValue : {W : Type 0} → Ghosts W → Bool → W → W → ℕ → List ℕ → Type 0
+PutsValue w qsbr old new c words = Puts qsbr any_change (w.seen old) (w.heard old) c words (w.heard new)
+
+abbrev pub ReplacesValue : {W : Type 0} → Ghosts W → Bool → W → W → ℕ → List ℕ → ℕ → ℕ → Type 0
+ReplacesValue w qsbr old new c words queue ticket = Replaces qsbr any_change (w.seen old) (w.heard old) c words queue ticket (w.heard new)

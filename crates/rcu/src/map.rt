@@ -3,10 +3,9 @@
 ghost use Rattle.std.specs.Prelude.{◌≡◌, ◌⊎◌, ◌<◌, ℕ, None, Some, true, IfErr, IfOk};
 ghost use Rattle.rcu_model.specs.declared.refusal.Refusal.TheVariants.{BadConfig, Closed, Memory, Missing, PoolFull};
 ghost use Rattle.live_log.specs.Tables.{tabled};
-ghost use Rattle.live_read.specs.Holding.{log_of};
 ghost use Rattle.live_read.specs.Reads.{Looks};
 ghost use Rattle.rcu_hash.specs.Directories.{directed_map};
-ghost use Rattle.rcu.specs.Keys.{Gets, Gives, Grew, HearsMore};
+ghost use Rattle.rcu.specs.Keys.{GetsValue, GivesWord, GrewTo, HearsMore};
 
 use crate::words::Word;
 use domain::{Deleter, Domain, Ripe, Section, Site, Witness};
@@ -103,7 +102,7 @@ impl<'d, P: GracePlan + Drop, B: Site, F: Deleter + Copy, T: Word + Copy + Drop>
         requires { 0 < section.old.reader.now.core.depth }
         ensures reader { section.new.reader.ghost_name ≡ section.old.reader.ghost_name }
         ensures looked { Looks P.QSBR tabled section.old.reader.now.core section.new.reader.now.core }
-        ensures found { Gets T.packed B.sizes.chains self.now.table.directory (log_of section.old.reader.now.core) section.old.reader.now.core.seat.me.0.heard (log_of section.new.reader.now.core) key result }
+        ensures found { GetsValue T.packed B.sizes.chains self.now.table.directory section.old.reader.now.core section.new.reader.now.core key result }
     {
         match self.table.get(section, key) {
             Some(word) => Some(T::unpack(word)),
@@ -126,7 +125,7 @@ impl<'d, P: GracePlan + Drop, B: Site, F: Deleter + Copy, T: Word + Copy + Drop>
         value: T,
     ) -> Result<(), Refusal>
         requires { W.home witness.old ≡ (B.table, B.sizes) }
-        ensures set { IfOk result (λ _. Gives P.QSBR tabled B.sizes.chains self.now.table.directory (W.seen witness.old) (W.heard witness.old) key (Some (T.packed value)) (W.heard witness.new)) }
+        ensures set { IfOk result (λ _. GivesWord W.Witness P.QSBR B.sizes.chains self.now.table.directory witness.old witness.new key (Some (T.packed value))) }
         ensures refused { IfErr result (λ e. (e ≡ PoolFull) ⊎ (e ≡ Closed) ⊎ (e ≡ Memory)) }
     {
         let word = value.pack();
@@ -158,7 +157,7 @@ impl<'d, P: GracePlan + Drop, B: Site, F: Deleter + Copy, T: Word + Copy + Drop>
         key: u64,
     ) -> Result<(), Refusal>
         requires { W.home witness.old ≡ (B.table, B.sizes) }
-        ensures removed { IfOk result (λ _. Gives P.QSBR tabled B.sizes.chains self.now.table.directory (W.seen witness.old) (W.heard witness.old) key None (W.heard witness.new)) }
+        ensures removed { IfOk result (λ _. GivesWord W.Witness P.QSBR B.sizes.chains self.now.table.directory witness.old witness.new key None) }
         ensures refused { IfErr result (λ e. (e ≡ Missing) ⊎ (e ≡ Closed) ⊎ (e ≡ Memory)) }
     {
         match self
@@ -211,7 +210,7 @@ impl<'d, P: GracePlan + Drop, B: Site, F: Deleter + Copy, T: Word + Copy + Drop>
         buckets: usize,
     ) -> Result<(), Refusal>
         requires { W.home witness.old ≡ (B.table, B.sizes) }
-        ensures grown { IfOk result (λ _. Grew P.QSBR tabled B.sizes.chains self.now.table.directory (W.seen witness.old) (W.heard witness.old) first buckets (W.heard witness.new)) }
+        ensures grown { IfOk result (λ _. GrewTo W.Witness P.QSBR B.sizes.chains self.now.table.directory witness.old witness.new first buckets) }
     {
         for _ in rt.forever() {
             match self.table.grow(rt, alloc, witness, first, buckets) {

@@ -1,11 +1,10 @@
 //! One value that is replaced as a whole.
 
-ghost use Rattle.std.specs.Prelude.{◌≡◌, ◌⊎◌, ◌<◌, ◌≤◌, IfErr, IfOk};
+ghost use Rattle.std.specs.Prelude.{◌≡◌, ◌⊎◌, ◌%◌, ◌<◌, ◌≤◌, IfErr, IfOk, IfSome};
 ghost use Rattle.rcu_model.specs.declared.refusal.Refusal.TheVariants.{Busy, Closed, Memory, NoPlace, PoolFull};
 ghost use Rattle.live_read.specs.Hearing.{IsAfter, Stays};
-ghost use Rattle.live_read.specs.Holding.{log_of};
 ghost use Rattle.live_read.specs.Reads.{Looks};
-ghost use Rattle.rcu.specs.Slots.{Finds, Puts, any_change};
+ghost use Rattle.rcu.specs.Slots.{FindsValue, PutsValue, ReplacesValue, any_change};
 
 use crate::words::Words;
 use crossbeam_utils::Backoff;
@@ -57,7 +56,7 @@ impl<'d, P: GracePlan + Drop, B: Site, D: Deleter, T: Words + Copy + Drop> Slot<
         requires { 0 < section.old.reader.now.core.depth }
         ensures reader { section.new.reader.ghost_name ≡ section.old.reader.ghost_name }
         ensures looked { Looks P.QSBR any_change section.old.reader.now.core section.new.reader.now.core }
-        ensures found { Finds P.QSBR any_change (log_of section.old.reader.now.core) section.old.reader.now.core.seat.me.0.heard T.packed self.now.chain self.now.first (log_of section.new.reader.now.core) result }
+        ensures found { FindsValue P.QSBR T.packed self.now.chain self.now.first section.old.reader.now.core section.new.reader.now.core result }
     {
         match section.first(self.chain) {
             Ok(Some(held)) => T::unpack(section.read(held)),
@@ -81,7 +80,8 @@ impl<'d, P: GracePlan + Drop, B: Site, D: Deleter, T: Words + Copy + Drop> Slot<
         callback: D,
     ) -> Result<Option<Ticket>, (Refusal, D)>
         requires { W.home witness.old ≡ (B.table, B.sizes) }
-        ensures has { IfOk result (λ _. Puts P.QSBR any_change (W.seen witness.old) (W.heard witness.old) self.now.chain (T.packed value) (W.heard witness.new)) }
+        ensures has { IfOk result (λ _. PutsValue W.Witness P.QSBR witness.old witness.new self.now.chain (T.packed value)) }
+        ensures retired { IfOk result (λ found. IfSome found (λ t. ReplacesValue W.Witness P.QSBR witness.old witness.new self.now.chain (T.packed value) (self.now.chain % B.sizes.queues) t.0)) }
         ensures refused { IfErr result (λ e. (e.0 ≡ Busy) ⊎ (e.0 ≡ PoolFull) ⊎ (e.0 ≡ Closed) ⊎ (e.0 ≡ Memory)) }
         ensures back { IfErr result (λ e. (e.1 ≡ callback) × Stays W.Witness witness.old witness.new) }
         ensures heard { IfErr result (λ _. IsAfter P.QSBR any_change (W.seen witness.old) (W.heard witness.old) (W.heard witness.new)) }
@@ -119,7 +119,8 @@ impl<'d, P: GracePlan + Drop, B: Site, D: Deleter, T: Words + Copy + Drop> Slot<
         callback: D,
     ) -> Result<Option<Ticket>, (Refusal, D)>
         requires { W.home witness.old ≡ (B.table, B.sizes) }
-        ensures has { IfOk result (λ _. Puts P.QSBR any_change (W.seen witness.old) (W.heard witness.old) self.now.chain (T.packed value) (W.heard witness.new)) }
+        ensures has { IfOk result (λ _. PutsValue W.Witness P.QSBR witness.old witness.new self.now.chain (T.packed value)) }
+        ensures retired { IfOk result (λ found. IfSome found (λ t. ReplacesValue W.Witness P.QSBR witness.old witness.new self.now.chain (T.packed value) (self.now.chain % B.sizes.queues) t.0)) }
         ensures refused { IfErr result (λ e. (e.0 ≡ Closed) ⊎ (e.0 ≡ Memory)) }
         ensures back { IfErr result (λ e. (e.1 ≡ callback) × Stays W.Witness witness.old witness.new) }
     {

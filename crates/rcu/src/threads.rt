@@ -12,7 +12,10 @@ use rcu_model::Refusal;
 use std::alloc::Global;
 use std::marker::Brand;
 use std::sync::{Mutex, Wait};
-use std::thread::{Threads, join, map_indices};
+use std::thread::{Threads, for_each_mut, join, map_indices};
+
+// The greatest number of queues.
+const GREATEST: usize = 8;
 
 /// What came of the threads of a program.
 #[derive(Drop)]
@@ -73,7 +76,9 @@ where
     let root = Mutex::new(first);
     let home = &domain;
     let from = &root;
-    let (answers, reclaimed) = join(
+    let mut reclaimed = none_yet(alloc, queues)?;
+    let each = reclaimed.as_mut_slice();
+    let (answers, ()) = join(
         rt,
         ||
             requires { IsSync R.row }
@@ -90,18 +95,30 @@ where
         ||
             requires { IsSync R.row }
         {
-            map_indices(
+            for_each_mut(
                 rt,
-                alloc,
-                queues,
-                &|queue| work(rt, alloc, home, &mut own(rt, home, from), queue),
+                each,
+                GREATEST,
+                &|queue, one| *one = work(rt, alloc, home, &mut own(rt, home, from), queue),
             )
         },
     );
-    match (answers, reclaimed) {
-        (Ok(answers), Ok(reclaimed)) => Ok(Ended { answers, reclaimed }),
-        _ => Err(Refusal::Memory),
+    match answers {
+        Ok(answers) => Ok(Ended { answers, reclaimed }),
+        Err(_) => Err(Refusal::Memory),
     }
+}
+
+// What the workers of this number of queues will have reclaimed: memory for it is asked for before there are threads,
+// since the parts wait for their workers.
+fn none_yet(alloc: Global, queues: usize) -> Result<Vec<Result<u64, Refusal>>, Refusal> {
+    let mut reclaimed = Vec::new(alloc);
+    for _ in 0..queues {
+        if reclaimed.push(Ok(0)).is_err() {
+            return Err(Refusal::Memory);
+        }
+    }
+    Ok(reclaimed)
 }
 
 // A handle for one thread.

@@ -1,15 +1,16 @@
-use Rattle.std.proofs.Common.{rules, ◌≡◌, ◌∙◌, ℕ, [], Some, length, ap, sym, subst}
+use Rattle.std.proofs.Common.{◌%◌, rules, ◌≡◌, ◌∙◌, ℕ, [], Some, length, ap, sym, subst}
 use Rattle.rcu_model.specs.declared.event.ObjectId.{ObjectId}
 use Rattle.rcu_model.specs.Sets.{first_of}
 use Rattle.live_log.specs.Log.{objects_of, payload_of}
 use Rattle.live_log.proofs.Lemmas.{begins_trans}
 use Rattle.live_rule.specs.declared.view.View.{View}
 use Rattle.live_table.specs.Rights.{cell_in, object_in, own_in, payload_in}
-use Rattle.live_write.specs.Chains.{list_in}
+use Rattle.live_write.specs.Chains.{list_in, replace_by}
+use Rattle.rcu_list.specs.Calls.{HandsOver}
 use Rattle.rcu.specs.Slots.{any_change}
 use Rattle.rcu.proofs.Hearing.{still_after, went_on}
 use Rattle.rcu.proofs.Refused.{went_refused}
-use Rattle.rcu.proofs.Putting.{after_all, first_replaced, pushed_words, queued_later, replaced_words}
+use Rattle.rcu.proofs.Putting.{after_all, first_replaced, pushed_words, queued_later, replaced_words, was_first}
 use Rattle.rcu.proofs.slot.Slot.try_replace.Goals as goal
 
 pub returns-then-len-eq0-clause-has : goal.returns-then-len-eq0-clause-has
@@ -51,6 +52,19 @@ returns-in-Ok-replace_retire-clause-has g c =
       object = object_in u.object;
       first = subst (λ (d : ℕ). first_of ((objects_of new.seen).chain d) ≡ Some (object_in u.object)) number (ap first_of (c.replace_retire.new.chain.owns.1.0 ∙ r.left) ∙ first_replaced r.object (object_in u.object) (list_in v) r.was);
       has = replaced_words qsbr any_change v (w.seen ready) (w.heard ready) u.seen (own_in v.chains).chain r.object (object_in u.object) (cell_in u.object) (payload_in u.object) new.seen four p ∙ words ∙ c.pack.ensures;
+    }
+
+pub returns-in-Ok-replace_retire-clause-retired : goal.returns-in-Ok-replace_retire-clause-retired
+unfolding returns-in-Ok-replace_retire-clause-has
+returns-in-Ok-replace_retire-clause-retired g c =
+    let v : View = c.in-Ok.writer.seat.me.0 in let r = c.in-Ok-replace_retire.ensures.retired in record {
+      puts = returns-in-Ok-replace_retire-clause-has g c;
+      event = replace_by r.object v c.in-Ok-alloc.owned.seat.me.0;
+      before = r.published.before;
+      wrote = r.published.wrote;
+      left = r.object;
+      was = was_first r.published.before v c.args.self.now.chain r.object c.in-Ok.writer.owns.0 (c.in-Ok.writer.owns.2 ∙ c.in-Ok.ensures.held.0) r.published.known r.was;
+      handed = subst (λ (n : ℕ). HandsOver g.P.GracePlan.QSBR any_change r.object (n % g.B.Site.sizes.queues) c.in-Ok-replace_retire.ticket.0 c.replace_retire.new.chain.seat.me.0.seen (g.W.Witness.heard c.replace_retire.new.witness)) c.in-Ok.ensures.held.0 (record { given = r.given; turn = r.turn; queued = r.queued });
     }
 
 pub returns-in-Err-alloc-clause-heard : goal.returns-in-Err-alloc-clause-heard
