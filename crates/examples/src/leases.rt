@@ -1,4 +1,4 @@
-//! Threads by hand, which share a map, and a value that one of them hands on and the other opens after a grace period.
+//! Threads by hand: one writes a map, and hands a value on that the other opens after a grace period.
 
 ghost use Rattle.std.specs.Prelude.{false};
 ghost use Rattle.rcu.specs.Naming.{Names};
@@ -8,24 +8,21 @@ use std::alloc::Global;
 use std::sync::{Mutex, Wait};
 use std::thread::{self, Threads, join};
 
-/// The guests' rooms, and the room that a guest left.
+/// The guests' rooms, and what came of a guest's move: the room that was left.
 type Rooms<'d, B> = Map<'d, Memb, B, NoCallback, u64>;
 
-type Leaving<B> = Mutex<Option<Pending<B, u64>>>;
+type Leaving<B> = Mutex<Option<Result<Pending<B, u64>, Refusal>>>;
 
 /// Guest 7 moves from room 101 to 102. Readers may have found 101 before.
 fn moves<B: Site, R: Wait>(
     rt: &R,
     home: &Domain<Memb, Tabled, B, Reclaim<NoCallback>>,
     rooms: &Rooms<'_, B>,
-    leaving: &Leaving<B>,
     mut own: Handle<B>,
-) -> Result<(), Refusal> {
+) -> Result<Pending<B, u64>, Refusal> {
     rooms.set(rt, &mut own, 7, 101)?;
     rooms.set(rt, &mut own, 7, 102)?;
-    let left = Pending::new(home, &mut own, 101).map_err(|refused| refused.0)?;
-    *leaving.lock(rt) = Some(left);
-    Ok(())
+    Pending::new(home, &mut own, 101).map_err(|refused| refused.0)
 }
 
 /// The room that was left, once nobody can have found it.
@@ -37,10 +34,10 @@ fn lets<B: Site, R: Wait>(
 ) -> Result<u64, Refusal> {
     for _ in rt.forever() {
         let left = leaving.lock(rt).take();
-        if let Some(room) = left {
-            match room.open(home, &mut own) {
+        if let Some(moved) = left {
+            match moved?.open(home, &mut own) {
                 Ok(free) => return Ok(free),
-                Err(room) => *leaving.lock(rt) = Some(room),
+                Err(room) => *leaving.lock(rt) = Some(Ok(room)),
             }
             home.synchronize(rt, &mut own)?;
         }
@@ -61,11 +58,13 @@ pub(crate) fn serve<B: Site + Send + Sync, R: Threads + Wait + Sync>(
     let rooms = Map::new(rt, alloc, &domain, &mut own, 0, 1, 4, NoCallback)?;
     let other = domain.split(&mut own);
     let leaving = Mutex::new(None);
-    let (moved, free) = join(
+    let ((), free) = join(
         rt,
-        || moves(rt, &domain, &rooms, &leaving, own),
+        || {
+            let moved = moves(rt, &domain, &rooms, own);
+            *leaving.lock(rt) = Some(moved);
+        },
         || lets(rt, &domain, &leaving, other),
     );
-    moved?;
     free
 }

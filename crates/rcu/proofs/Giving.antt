@@ -1,27 +1,31 @@
 -- What a map's accepted change tells.
-use Rattle.std.proofs.Common.{◌≡◌, Bool, ℕ, Option, Some, None, [], refl, subst}
+use Rattle.std.proofs.Common.{◌%◌, ℕ, Bool, Option, Some, None, [], refl, subst}
 use Rattle.rcu_model.specs.declared.event.ObjectId.{ObjectId}
-use Rattle.live_log.specs.declared.event.LiveEvent.{LiveEvent}
+use Rattle.rcu_model.proofs.Lemmas.{none_some}
 use Rattle.live_log.specs.Log.{Log, Begins}
+use Rattle.live_log.specs.Tables.{tabled}
 use Rattle.live_log.proofs.Lemmas.{begins_trans}
+use Rattle.live_read.specs.Hearing.{MakesLast, Stays}
+use Rattle.live_read.specs.declared.witness.Witness.{Ghosts}
+use Rattle.live_read.proofs.Lemmas.{stays_makes}
 use Rattle.rcu_list.specs.Calls.{HandsOver}
 use Rattle.rcu_hash.specs.Publishing.{InsertsThrough, RemovesThrough, ReplacesThrough}
-use Rattle.rcu.specs.Keys.{Gives}
+use Rattle.rcu.specs.Keys.{GivesWord}
 use Rattle.rcu.proofs.Putting.{queued_later}
 
-module _ (qsbr : Bool) (allows : Log → LiveEvent → Type 0) (chains d : ℕ) (seen heard : Log) (key : ℕ) where
-  pub gives_insertion : (value chain : ℕ) (new : Log) → InsertsThrough qsbr allows chains d seen heard key value chain new → Gives qsbr allows chains d seen heard key (Some value) new
-  gives_insertion value chain new i = record { published = new; chain = chain; event = _; had = None; changes = i.changes; before = ([], refl) }
+module _ {W : Type 0} (w : Ghosts W) (qsbr : Bool) (chains queues d : ℕ) (old new : W) (key : ℕ) where
+  pub gives_insertion : (value chain : ℕ) → InsertsThrough qsbr tabled chains d (w.seen old) (w.heard old) key value chain (w.heard new) → MakesLast w old new (w.heard new) → GivesWord w qsbr chains queues d old new key (Some value)
+  gives_insertion value chain i made = record { published = w.heard new; chain = chain; event = _; had = None; changes = i.changes; told = ([], refl); made = made; retired = λ h e. absurd (none_some h e) }
 
-  pub gives_replacement : (value chain : ℕ) (left : ObjectId) (published : Log) (queue ticket : ℕ) (new : Log) → ReplacesThrough qsbr allows chains d seen heard key value chain left published → HandsOver qsbr allows left queue ticket published new → Gives qsbr allows chains d seen heard key (Some value) new
-  gives_replacement value chain left published queue ticket new r h = record { published = published; chain = chain; event = _; had = Some r.had; changes = r.changes; before = queued_later qsbr allows published left queue h.given new h.queued }
+  pub gives_replacement : (value chain : ℕ) (left : ObjectId) (published : Log) (ticket : ℕ) → ReplacesThrough qsbr tabled chains d (w.seen old) (w.heard old) key value chain left published → HandsOver qsbr tabled left (chain % queues) ticket published (w.heard new) → MakesLast w old new published → GivesWord w qsbr chains queues d old new key (Some value)
+  gives_replacement value chain left published ticket r h made = record { published = published; chain = chain; event = _; had = Some r.had; changes = r.changes; told = queued_later qsbr tabled published left (chain % queues) h.given (w.heard new) h.queued; made = made; retired = λ _ _. (left, ticket, h) }
 
-  pub gives_removal : (chain : ℕ) (left : ObjectId) (published : Log) (queue ticket : ℕ) (new : Log) → RemovesThrough qsbr allows chains d seen heard key chain left published → HandsOver qsbr allows left queue ticket published new → Gives qsbr allows chains d seen heard key None new
-  gives_removal chain left published queue ticket new r h = record { published = published; chain = chain; event = _; had = Some r.had; changes = r.changes; before = queued_later qsbr allows published left queue h.given new h.queued }
+  pub gives_removal : (chain : ℕ) (left : ObjectId) (published : Log) (ticket : ℕ) → RemovesThrough qsbr tabled chains d (w.seen old) (w.heard old) key chain left published → HandsOver qsbr tabled left (chain % queues) ticket published (w.heard new) → MakesLast w old new published → GivesWord w qsbr chains queues d old new key None
+  gives_removal chain left published ticket r h made = record { published = published; chain = chain; event = _; had = Some r.had; changes = r.changes; told = queued_later qsbr tabled published left (chain % queues) h.given (w.heard new) h.queued; made = made; retired = λ _ _. (left, ticket, h) }
 
--- a caller that knew less knew no more
-pub gives_after : (qsbr : Bool) (allows : Log → LiveEvent → Type 0) (chains d : ℕ) (seen heard was mid : Log) (key : ℕ) (has : Option ℕ) (new : Log) → was ≡ seen → Begins heard mid → Gives qsbr allows chains d was mid key has new → Gives qsbr allows chains d seen heard key has new
-gives_after qsbr allows chains d seen heard was mid key has new same later g =
+-- a witness that stood as it stood when the call was made gave all that was given in the call
+pub gives_after : {W : Type 0} (w : Ghosts W) (qsbr : Bool) (chains queues d : ℕ) (old was new : W) (key : ℕ) (has : Option ℕ) → Stays w old was → Begins (w.heard old) (w.heard was) → GivesWord w qsbr chains queues d was new key has → GivesWord w qsbr chains queues d old new key has
+gives_after w qsbr chains queues d old was new key has stays later g =
     let k = g.changes in record {
       published = g.published;
       chain = g.chain;
@@ -30,11 +34,13 @@ gives_after qsbr allows chains d seen heard was mid key has new same later g =
       changes = record {
         before = k.before;
         wrote = k.wrote;
-        after = (subst (λ s. Begins s k.before) same k.after.0, begins_trans heard mid k.before later k.after.1);
+        after = (subst (λ s. Begins s k.before) stays.0 k.after.0, begins_trans (w.heard old) (w.heard was) k.before later k.after.1);
         run = k.run;
         leads = k.leads;
         was = k.was;
         map = k.map;
       };
-      before = g.before;
+      told = g.told;
+      made = stays_makes w old was new g.published stays g.made;
+      retired = g.retired;
     }

@@ -1,5 +1,5 @@
 -- The first record of a chain, once its writer has published one.
-use Rattle.std.proofs.Common.{◌≡◌, ℕ, Bool, List, [], ◌∷◌, length, Option, Some, None, IfSome, slice_get, refl, sym, ap, ◌∙◌, subst, inl, arith}
+use Rattle.std.proofs.Common.{◌≡◌, ℕ, Bool, List, [], ◌∷◌, length, Option, Some, None, IfNone, IfSome, slice_get, refl, sym, ap, ◌∙◌, subst, inl, arith}
 use Rattle.rcu_model.specs.declared.event.ObjectId.{ObjectId}
 use Rattle.rcu_model.specs.Sets.{first_of, replaced}
 use Rattle.rcu_model.proofs.Lemmas.{at_object_same, some_is, none_some}
@@ -9,11 +9,13 @@ use Rattle.live_log.specs.declared.event.ObjectEvent.TheVariants.{Push, Queue, R
 use Rattle.live_log.specs.Log.{objects_of, Log, Begins, Has, payload_of, words_in}
 use Rattle.live_log.proofs.Lemmas.{begins_trans, pushed_note, replaced_note}
 use Rattle.live_rule.specs.declared.view.View.{View}
-use Rattle.live_read.specs.Hearing.{IsAfter}
+use Rattle.live_read.specs.Hearing.{IsAfter, Stays}
 use Rattle.live_table.specs.Rights.{AreAsKnown, IsWriter, own_in}
 use Rattle.live_items.specs.Retiring.{Queues}
 use Rattle.live_write.specs.Chains.{Publishes, list_in}
-use Rattle.rcu.specs.Slots.{Puts, Replaces, first_in}
+use Rattle.live_read.specs.declared.witness.Witness.{Ghosts}
+use Rattle.live_read.proofs.Lemmas.{stays_makes}
+use Rattle.rcu.specs.Slots.{PushesValue, PutsValue, ReplacesValue, any_change, first_in}
 use Rattle.rcu.proofs.Hearing.{still_after}
 
 -- four words are the words of their payload
@@ -35,11 +37,23 @@ first_at : (o : ObjectId) (os : List ObjectId) → slice_get os 0 ≡ Some o →
 first_at o [] e = e
 first_at o (x ∷ xs) e = e
 
--- a writer knows the first object of its chain
-pub was_first : (log : Log) (v : View) (c : ℕ) (o : ObjectId) → IsWriter v → (own_in v.chains).chain ≡ c → AreAsKnown log v.chains → slice_get (list_in v) 0 ≡ Some o → first_in c log o
-was_first log v c o writer number known at = subst (λ (d : ℕ). first_of ((objects_of log).chain d) ≡ Some o) number (ap first_of (subst (AreAsKnown log) writer known).0.0 ∙ first_at o (list_in v) at)
+-- a list of no objects has no first one
+pub none_first : (os : List ObjectId) → length os ≡ 0 → first_of os ≡ None
+none_first [] e = refl
+none_first (x ∷ xs) e = absurd (omega arith)
 
--- of what is there it is so, where what was so makes it so
+-- a writer knows the list of its chain, and so the first object
+pub was_listed : (log : Log) (v : View) (c : ℕ) → IsWriter v → (own_in v.chains).chain ≡ c → AreAsKnown log v.chains → (objects_of log).chain c ≡ list_in v
+was_listed log v c writer number known = subst (λ (d : ℕ). (objects_of log).chain d ≡ list_in v) number (subst (AreAsKnown log) writer known).0.0
+
+pub was_first : (log : Log) (v : View) (c : ℕ) (o : ObjectId) → IsWriter v → (own_in v.chains).chain ≡ c → AreAsKnown log v.chains → slice_get (list_in v) 0 ≡ Some o → first_in c log o
+was_first log v c o writer number known at = ap first_of (was_listed log v c writer number known) ∙ first_at o (list_in v) at
+
+-- where nothing is there it is so, where what was so makes it so; and of what is there
+pub if_none : {X : Type 0} (found : Option X) (so su : Type 0) → (so → su) → IfNone found so → IfNone found su
+if_none None so su f h = f h
+if_none (Some x) so su f h = tt
+
 pub if_some : {X : Type 0} (found : Option X) (so su : X → Type 0) → ((x : X) → so x → su x) → IfSome found so → IfSome found su
 if_some None so su f h = tt
 if_some (Some x) so su f h = f x h
@@ -70,25 +84,26 @@ module _ (qsbr : Bool) (allows : Log → LiveEvent → Type 0) (writer : View) (
   replaced_words c q o cell words log four p =
       ap (λ (x : ℕ × List ℕ). words_in x.1) (replaced_note qsbr allows log c q o cell words p.run (subst (Has (Object (Replace c q o cell words))) (sym p.wrote) (inl refl))) ∙ four_words words four
 
--- a caller that knew less knew no more
-pub puts_after : (qsbr : Bool) (allows : Log → LiveEvent → Type 0) (seen heard was mid : Log) (c : ℕ) (words : List ℕ) (now : Log) → was ≡ seen → Begins heard mid → Puts qsbr allows was mid c words now → Puts qsbr allows seen heard c words now
-puts_after qsbr allows seen heard was mid c words now same later p = record {
-  at = p.at;
-  after = still_after qsbr allows seen heard was mid p.at same later p.after;
-  before = p.before;
-  object = p.object;
-  first = p.first;
-  has = p.has;
-}
+-- a witness that stood as it stood when the call was made put all that was put in the call
+module _ {W : Type 0} (w : Ghosts W) (qsbr : Bool) (old was new : W) (c : ℕ) (words : List ℕ) (stays : Stays w old was) (later : Begins (w.heard old) (w.heard was)) where
+  pub puts_after : PutsValue w qsbr was new c words → PutsValue w qsbr old new c words
+  puts_after p = record {
+    at = p.at;
+    event = p.event;
+    before = p.before;
+    wrote = p.wrote;
+    after = still_after qsbr any_change (w.seen old) (w.heard old) (w.seen was) (w.heard was) p.at stays.0 later p.after;
+    told = p.told;
+    made = stays_makes w old was new p.at stays p.made;
+    object = p.object;
+    first = p.first;
+    has = p.has;
+  }
 
-pub replaces_after : (qsbr : Bool) (allows : Log → LiveEvent → Type 0) (seen heard was mid : Log) (c : ℕ) (words : List ℕ) (queue ticket : ℕ) (now : Log) → was ≡ seen → Begins heard mid → Replaces qsbr allows was mid c words queue ticket now → Replaces qsbr allows seen heard c words queue ticket now
-unfolding puts_after
-replaces_after qsbr allows seen heard was mid c words queue ticket now same later r = record {
-  puts = puts_after qsbr allows seen heard was mid c words now same later r.puts;
-  event = r.event;
-  before = r.before;
-  wrote = r.wrote;
-  left = r.left;
-  was = r.was;
-  handed = r.handed;
-}
+  pub pushes_after : PushesValue w qsbr was new c words → PushesValue w qsbr old new c words
+  unfolding puts_after
+  pushes_after p = record { puts = puts_after p.puts; cell = p.cell; is = p.is; none = p.none }
+
+  pub replaces_after : (queue ticket : ℕ) → ReplacesValue w qsbr was new c words queue ticket → ReplacesValue w qsbr old new c words queue ticket
+  unfolding puts_after
+  replaces_after queue ticket r = record { puts = puts_after r.puts; left = r.left; cell = r.cell; is = r.is; was = r.was; handed = r.handed }

@@ -1,12 +1,15 @@
 -- What the calls of a map tell, by the chain of its directory in a domain of so many chains.
 use Rattle.gp_memb.specs.declared.plan.GracePlan as plan
-use Rattle.std.specs.Prelude.{◌≡◌, ℕ, Bool, List, Option, Some, None}
+use Rattle.std.specs.Prelude.{◌≡◌, ◌%◌, ℕ, Bool, List, Option, Some, None}
+use Rattle.rcu_model.specs.declared.event.ObjectId.{ObjectId}
 use Rattle.live_log.specs.declared.event.LiveEvent.{LiveEvent}
 use Rattle.live_log.specs.Log.{Log, Begins}
 use Rattle.live_log.specs.Tables.{tabled}
+use Rattle.live_read.specs.Hearing.{MakesLast}
 use Rattle.live_read.specs.Holding.{log_of}
 use Rattle.live_read.specs.declared.reader_core.ReaderCore.{ReaderCore}
 use Rattle.live_read.specs.declared.witness.Witness.{Ghosts}
+use Rattle.rcu_list.specs.Calls.{HandsOver}
 use Rattle.rcu_hash.specs.Directories.{directed_map}
 use Rattle.rcu_hash.specs.Growing.{Grows}
 use Rattle.rcu_hash.specs.Publishing.{ChangesThrough}
@@ -24,16 +27,6 @@ pub record Gets {T : Type 0} (packed : T → ℕ) (chains d : ℕ) (seen heard n
   pub after_heard : Begins heard at
   pub before : Begins at new
   pub has : HasAt packed chains d at key found
-
--- The key has this word from the last event of a log on, or none, and each other key what it had before the event. The
--- event came after all that the caller had seen and heard of, and the caller has heard of it.
-pub record Gives (qsbr : Bool) (allows : Log → LiveEvent → Type 0) (chains d : ℕ) (seen heard : Log) (key : ℕ) (has : Option ℕ) (new : Log) : Type 0 where
-  pub published : Log
-  pub chain : ℕ
-  pub event : LiveEvent
-  pub had : Option ℕ
-  pub changes : ChangesThrough qsbr allows chains d seen heard chain event key had has published
-  pub before : Begins published new
 
 -- In the call, after all that the caller had heard of, the map grew: each key is led to its bucket among these chains,
 -- and no event of the growth changed what a key has. The caller has heard of it.
@@ -53,9 +46,20 @@ HearsMore w old new = (w.seen new ≡ w.seen old) × (w.home new ≡ w.home old)
 abbrev pub GetsValue : {T P K : Type 0} {g : plan.Ghosts P} → (T → ℕ) → ℕ → ℕ → ReaderCore P K g → ReaderCore P K g → ℕ → Option T → Type 0
 GetsValue packed chains d r s key found = Gets packed chains d (log_of r) r.seat.me.0.heard (log_of s) key found
 
--- the key was given this word, or none, between these two moments of a witness; and the map grew
-abbrev pub GivesWord : {W : Type 0} → Ghosts W → Bool → ℕ → ℕ → W → W → ℕ → Option ℕ → Type 0
-GivesWord w qsbr chains d old new key has = Gives qsbr tabled chains d (w.seen old) (w.heard old) key has (w.heard new)
+-- Between these two moments of a witness the key has this word from the last event of a log on, or none, and each other
+-- key what it had before the event. That came after all that the caller had seen and heard of, the caller has heard of
+-- it, and no other change of a chain was made for it. A record that had the key's value before was retired then, in one
+-- of so many queues.
+pub record GivesWord {W : Type 0} (w : Ghosts W) (qsbr : Bool) (chains queues d : ℕ) (old new : W) (key : ℕ) (has : Option ℕ) : Type 0 where
+  pub published : Log
+  pub chain : ℕ
+  pub event : LiveEvent
+  pub had : Option ℕ
+  pub changes : ChangesThrough qsbr tabled chains d (w.seen old) (w.heard old) chain event key had has published
+  pub told : Begins published (w.heard new)
+  pub made : MakesLast w old new published
+  pub retired : (h : ℕ) → had ≡ Some h → (left : ObjectId) × (ticket : ℕ) × HandsOver qsbr tabled left (chain % queues) ticket published (w.heard new)
 
+-- and the map grew
 abbrev pub GrewTo : {W : Type 0} → Ghosts W → Bool → ℕ → ℕ → W → W → ℕ → ℕ → Type 0
 GrewTo w qsbr chains d old new first buckets = Grew qsbr tabled chains d (w.seen old) (w.heard old) first buckets (w.heard new)

@@ -4,8 +4,10 @@ use Rattle.std.specs.Prelude.{◌≡◌, ◌⊎◌, ◌∷◌, ℕ, Bool, List, 
 use Rattle.rcu_model.specs.declared.event.ObjectId.{ObjectId}
 use Rattle.rcu_model.specs.Sets.{first_of}
 use Rattle.live_log.specs.declared.event.LiveEvent.{LiveEvent}
+use Rattle.live_log.specs.declared.event.LiveEvent.TheVariants.{Object}
+use Rattle.live_log.specs.declared.event.ObjectEvent.TheVariants.{Push, Replace}
 use Rattle.live_log.specs.Log.{Log, Begins, objects_of, payload_of}
-use Rattle.live_read.specs.Hearing.{IsAfter}
+use Rattle.live_read.specs.Hearing.{IsAfter, MakesLast}
 use Rattle.live_read.specs.Holding.{log_of}
 use Rattle.live_read.specs.declared.reader_core.ReaderCore.{ReaderCore}
 use Rattle.live_read.specs.declared.witness.Witness.{Ghosts}
@@ -34,33 +36,38 @@ module _ (qsbr : Bool) (allows : Log → LiveEvent → Type 0) (seen heard : Log
     pub before : Begins at now
     pub has : HasValue packed c first at x
 
-  -- a record with these words became the first of the chain, after all that the caller had seen and heard of
-  pub record Puts (c : ℕ) (words : List ℕ) (now : Log) : Type 0 where
-    pub at : Log
-    pub after : IsAfter qsbr allows seen heard at
-    pub before : Begins at now
-    pub object : ObjectId
-    pub first : first_in c at object
-    pub has : payload_of at object ≡ words
-
-  -- and the record that was the first before that left the chain then: it was retired, and queued with the ticket
-  pub record Replaces (c : ℕ) (words : List ℕ) (queue ticket : ℕ) (now : Log) : Type 0 where
-    pub puts : Puts c words now
-    pub event : LiveEvent
-    pub before : Log
-    pub wrote : puts.at ≡ event ∷ before
-    pub left : ObjectId
-    pub was : first_in c before left
-    pub handed : HandsOver qsbr allows left queue ticket puts.at now
-
 -- a reader found the value between these two moments of it
 abbrev pub FindsValue : {T P K : Type 0} {g : plan.Ghosts P} → Bool → (T → List ℕ) → ℕ → T → ReaderCore P K g → ReaderCore P K g → T → Type 0
 FindsValue qsbr packed c first r s x = Finds qsbr any_change (log_of r) r.seat.me.0.heard packed c first (log_of s) x
 
--- a record with these words was put first between these two moments of a witness, and in the place of one that is
--- retired
-abbrev pub PutsValue : {W : Type 0} → Ghosts W → Bool → W → W → ℕ → List ℕ → Type 0
-PutsValue w qsbr old new c words = Puts qsbr any_change (w.seen old) (w.heard old) c words (w.heard new)
+-- between these two moments of a witness
+module _ {W : Type 0} (w : Ghosts W) (qsbr : Bool) (old new : W) where
+  -- A record with these words became the first of the chain by the last event of a log, after all that the caller knew.
+  -- The caller has heard of it, and no other change of a chain was made for it.
+  pub record PutsValue (c : ℕ) (words : List ℕ) : Type 0 where
+    pub at : Log
+    pub event : LiveEvent
+    pub before : Log
+    pub wrote : at ≡ event ∷ before
+    pub after : IsAfter qsbr any_change (w.seen old) (w.heard old) at
+    pub told : Begins at (w.heard new)
+    pub made : MakesLast w old new at
+    pub object : ObjectId
+    pub first : first_in c at object
+    pub has : payload_of at object ≡ words
 
-abbrev pub ReplacesValue : {W : Type 0} → Ghosts W → Bool → W → W → ℕ → List ℕ → ℕ → ℕ → Type 0
-ReplacesValue w qsbr old new c words queue ticket = Replaces qsbr any_change (w.seen old) (w.heard old) c words queue ticket (w.heard new)
+  -- there was no record before, and it was pushed
+  pub record PushesValue (c : ℕ) (words : List ℕ) : Type 0 where
+    pub puts : PutsValue c words
+    pub cell : ℕ
+    pub is : puts.event ≡ Object (Push c puts.object cell words)
+    pub none : first_of ((objects_of puts.before).chain c) ≡ None
+
+  -- it was put in the place of the record that was the first before, which was retired then, and queued with the ticket
+  pub record ReplacesValue (c : ℕ) (words : List ℕ) (queue ticket : ℕ) : Type 0 where
+    pub puts : PutsValue c words
+    pub left : ObjectId
+    pub cell : ℕ
+    pub is : puts.event ≡ Object (Replace c left puts.object cell words)
+    pub was : first_in c puts.before left
+    pub handed : HandsOver qsbr any_change left queue ticket puts.at (w.heard new)

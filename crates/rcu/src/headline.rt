@@ -7,7 +7,8 @@ ghost use Rattle.live_log.specs.Log.{events_of};
 ghost use Rattle.live_rule.specs.Rule.{KeepsRule};
 ghost use Rattle.live_rule.specs.declared.view.Sizes.{Sizes};
 ghost use Rattle.live_rule.specs.declared.view.View.{View};
-ghost use Rattle.live_read.specs.Hearing.{FindsNothing, IsAfter};
+ghost use Rattle.live_read.specs.Hearing.{FindsNothing};
+ghost use Rattle.domain.specs.Waiting.{LoadedOnce};
 ghost use Rattle.rcu.specs.Headline.{IsSafeNow};
 
 use domain::{Deleter, Domain, Site, Witness};
@@ -32,7 +33,7 @@ pub fn hear<P: GracePlan + Drop, K: ChainRule, B: Site, D: Deleter, W: Witness>(
 )
     requires { W.home witness.old ≡ (B.table, B.sizes) }
     ensures safe { IsSafeLog (events_of (W.heard witness.new)) }
-    ensures heard { IsAfter P.QSBR K.allows (W.seen witness.old) (W.heard witness.old) (W.heard witness.new) }
+    ensures loaded { LoadedOnce P.QSBR K.allows (W.seen witness.old) (W.heard witness.old) (W.loads witness.old) (W.loads witness.new) (W.heard witness.new) }
     ensures same { FindsNothing W.Witness witness.old witness.new }
 {
     the_log_is_a_run::<K>();

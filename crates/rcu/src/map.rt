@@ -1,10 +1,14 @@
 //! A map from keys to values, which grows while it is read.
 
 ghost use Rattle.std.specs.Prelude.{◌≡◌, ◌⊎◌, ◌<◌, ℕ, None, Some, true, IfErr, IfOk};
-ghost use Rattle.rcu_model.specs.declared.refusal.Refusal.TheVariants.{BadConfig, Closed, Memory, Missing, PoolFull};
+ghost use Rattle.rcu_model.specs.declared.refusal.Refusal.TheVariants.{BadConfig, Closed, Memory, PoolFull};
 ghost use Rattle.live_log.specs.Tables.{tabled};
 ghost use Rattle.live_read.specs.Reads.{Looks};
-ghost use Rattle.rcu_hash.specs.Directories.{directed_map};
+ghost use Rattle.live_log.specs.Log.{Begins};
+ghost use Rattle.rcu_hash.specs.Directories.{LeadsTo, directed_map};
+ghost use Rattle.rcu_hash.specs.Growing.{Founds};
+ghost use Rattle.rcu_hash.specs.Refusing.{RefusesRemovalThrough};
+ghost use Rattle.rcu_hash.specs.Tables.{bucket_of};
 ghost use Rattle.rcu.specs.Keys.{GetsValue, GivesWord, GrewTo, HearsMore};
 
 use crate::words::Word;
@@ -70,8 +74,8 @@ impl<'d, P: GracePlan + Drop, B: Site, F: Deleter + Copy, T: Word + Copy + Drop>
     /// A map with no keys: a chain for its directory, and this number of chains from the first one on. The caller hears
     /// of the log in which it begins.
     ///
-    /// Refused with `BadConfig` where the number of buckets is not 1 to 4,096, or one of the chains is not there or in
-    /// use, with `Memory` where memory is refused, or with `PoolFull` where no record is free.
+    /// Refused as `RcuHash::new`: with `BadConfig` where the number of buckets is not 1 to 4,096, or one of the chains is
+    /// not there, in use, or named twice, with `Memory` where memory is refused, or with `PoolFull` where no record is free.
     pub fn new<W: Witness, R: Wait>(
         rt: &R,
         alloc: Global,
@@ -84,7 +88,9 @@ impl<'d, P: GracePlan + Drop, B: Site, F: Deleter + Copy, T: Word + Copy + Drop>
     ) -> Result<Map<'d, P, B, F, T>, Refusal>
         requires { W.home witness.old ≡ (B.table, B.sizes) }
         ensures made { IfOk result (λ m. m.table.directory ≡ directory) }
-        ensures empty { IfOk result (λ _. (key : ℕ) → directed_map B.sizes.chains directory (W.heard witness.new) key ≡ None) }
+        ensures founded { IfOk result (λ _. Founds P.QSBR tabled directory (W.seen witness.old) (W.heard witness.old) first buckets (W.heard witness.new)) }
+        ensures map { IfOk result (λ _. (key : ℕ) → (directed_map B.sizes.chains directory (W.heard witness.new) key ≡ None) × LeadsTo directory (W.heard witness.new) key (bucket_of first buckets key)) }
+        ensures later { Begins (W.heard witness.old) (W.heard witness.new) }
         ensures refused { IfErr result (λ e. (e ≡ BadConfig) ⊎ (e ≡ Memory) ⊎ (e ≡ PoolFull)) }
     {
         let table = RcuHash::new(rt, alloc, domain, witness, directory, first, buckets)?;
@@ -116,7 +122,8 @@ impl<'d, P: GracePlan + Drop, B: Site, F: Deleter + Copy, T: Word + Copy + Drop>
     ///
     /// Refused with `PoolFull` as `Domain::alloc`, or where the ranks of the key's bucket are used up, and with `Closed`
     /// or `Memory` as `Domain::retire`. It tries again where another thread gives the key a value, or takes it away, at
-    /// the same time.
+    /// the same time, and
+    /// waits for the locks of the table and of the queue.
     pub fn set<W: Witness, R: Wait>(
         &self,
         rt: &R,
@@ -125,7 +132,7 @@ impl<'d, P: GracePlan + Drop, B: Site, F: Deleter + Copy, T: Word + Copy + Drop>
         value: T,
     ) -> Result<(), Refusal>
         requires { W.home witness.old ≡ (B.table, B.sizes) }
-        ensures set { IfOk result (λ _. GivesWord W.Witness P.QSBR B.sizes.chains self.now.table.directory witness.old witness.new key (Some (T.packed value))) }
+        ensures set { IfOk result (λ _. GivesWord W.Witness P.QSBR B.sizes.chains B.sizes.queues self.now.table.directory witness.old witness.new key (Some (T.packed value))) }
         ensures refused { IfErr result (λ e. (e ≡ PoolFull) ⊎ (e ≡ Closed) ⊎ (e ≡ Memory)) }
     {
         let word = value.pack();
@@ -157,8 +164,8 @@ impl<'d, P: GracePlan + Drop, B: Site, F: Deleter + Copy, T: Word + Copy + Drop>
         key: u64,
     ) -> Result<(), Refusal>
         requires { W.home witness.old ≡ (B.table, B.sizes) }
-        ensures removed { IfOk result (λ _. GivesWord W.Witness P.QSBR B.sizes.chains self.now.table.directory witness.old witness.new key None) }
-        ensures refused { IfErr result (λ e. (e ≡ Missing) ⊎ (e ≡ Closed) ⊎ (e ≡ Memory)) }
+        ensures removed { IfOk result (λ _. GivesWord W.Witness P.QSBR B.sizes.chains B.sizes.queues self.now.table.directory witness.old witness.new key None) }
+        ensures refused { IfErr result (λ e. RefusesRemovalThrough W.Witness P.QSBR tabled B.sizes witness.old witness.new e self.now.table.directory key) }
     {
         match self
             .table
@@ -170,7 +177,8 @@ impl<'d, P: GracePlan + Drop, B: Site, F: Deleter + Copy, T: Word + Copy + Drop>
     }
 
     /// Retires the records that earlier growths left, after a grace period, and gives the chains of earlier buckets back;
-    /// as `RcuHash::tidy`, with as many callbacks as it needs. So a caller has no section or lock open.
+    /// as `RcuHash::tidy`, with as many callbacks as it needs. So a caller has no section or lock open,
+    /// and is offline where its reader is of the quiescent-state flavour.
     ///
     /// Refused with `Memory` where memory is refused, with `Exhausted` where the sequence numbers are used up, and with
     /// `Closed` as `Domain::retire`; then something is left.
@@ -199,8 +207,8 @@ impl<'d, P: GracePlan + Drop, B: Site, F: Deleter + Copy, T: Word + Copy + Drop>
     /// grace period and tidies. Readers and writers go on meanwhile, and each key keeps its value. So a caller has no
     /// section or lock open.
     ///
-    /// Refused as `RcuHash::grow`, but that it tidies first where an earlier growth left something; and as `tidy`, and
-    /// then the map has grown.
+    /// Refused as `RcuHash::grow`, but that it tidies first where an earlier growth left something; and as `tidy`, when
+    /// the map may have grown.
     pub fn resize<W: Witness, R: Wait>(
         &self,
         rt: &R,

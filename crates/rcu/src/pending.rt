@@ -1,8 +1,8 @@
 //! What only a grace period opens.
 
-ghost use Rattle.std.specs.Prelude.{◌≡◌, ◌≤◌, ◌^◌, IfErr, IfOk};
+ghost use Rattle.std.specs.Prelude.{◌≡◌, ◌≤◌, ◌^◌, ◌↔◌, IfErr, IfOk, IsOk};
 ghost use Rattle.rcu_model.specs.declared.refusal.Refusal.TheVariants.{Exhausted};
-ghost use Rattle.live_log.specs.Log.{HaveEnded, seq_of};
+ghost use Rattle.live_log.specs.Log.{Begins, HaveEnded, seq_of};
 ghost use Rattle.live_read.specs.Hearing.{FindsNothing, IsAfter};
 
 use domain::{Deleter, Domain, LiveCookie, Record, Site, Witness};
@@ -75,6 +75,8 @@ impl<B: Site, T: Drop> PendingOf<LiveCookie, Record<B>, T> {
     ) -> Result<T, Pending<B, T>>
         requires { W.home witness.old ≡ (B.table, B.sizes) }
         ensures opened { IfOk result (λ value. (value ≡ self.value) × HaveEnded self.cookie.asked.value.me.0.seen (W.heard witness.new)) }
+        ensures told { Begins self.cookie.asked.value.me.0.seen (W.heard witness.new) }
+        ensures exact { IsOk result ↔ (self.cookie.cookie ≤ seq_of (W.heard witness.new)) }
         ensures shut { IfErr result (λ p. (p.value ≡ self.value) × (p.cookie ≡ self.cookie)) }
         ensures heard { IsAfter P.QSBR K.allows (W.seen witness.old) (W.heard witness.old) (W.heard witness.new) }
         ensures same { FindsNothing W.Witness witness.old witness.new }

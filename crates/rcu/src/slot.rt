@@ -1,10 +1,10 @@
 //! One value that is replaced as a whole.
 
-ghost use Rattle.std.specs.Prelude.{◌≡◌, ◌⊎◌, ◌%◌, ◌<◌, ◌≤◌, IfErr, IfOk, IfSome};
+ghost use Rattle.std.specs.Prelude.{◌≡◌, ◌⊎◌, ◌%◌, ◌<◌, ◌≤◌, IfErr, IfNone, IfOk, IfSome};
 ghost use Rattle.rcu_model.specs.declared.refusal.Refusal.TheVariants.{Busy, Closed, Memory, NoPlace, PoolFull};
 ghost use Rattle.live_read.specs.Hearing.{IsAfter, Stays};
 ghost use Rattle.live_read.specs.Reads.{Looks};
-ghost use Rattle.rcu.specs.Slots.{FindsValue, PutsValue, ReplacesValue, any_change};
+ghost use Rattle.rcu.specs.Slots.{FindsValue, PushesValue, ReplacesValue, any_change};
 
 use crate::words::Words;
 use crossbeam_utils::Backoff;
@@ -80,8 +80,8 @@ impl<'d, P: GracePlan + Drop, B: Site, D: Deleter, T: Words + Copy + Drop> Slot<
         callback: D,
     ) -> Result<Option<Ticket>, (Refusal, D)>
         requires { W.home witness.old ≡ (B.table, B.sizes) }
-        ensures has { IfOk result (λ _. PutsValue W.Witness P.QSBR witness.old witness.new self.now.chain (T.packed value)) }
-        ensures retired { IfOk result (λ found. IfSome found (λ t. ReplacesValue W.Witness P.QSBR witness.old witness.new self.now.chain (T.packed value) (self.now.chain % B.sizes.queues) t.0)) }
+        ensures pushed { IfOk result (λ found. IfNone found (PushesValue W.Witness P.QSBR witness.old witness.new self.now.chain (T.packed value))) }
+        ensures replaced { IfOk result (λ found. IfSome found (λ t. ReplacesValue W.Witness P.QSBR witness.old witness.new self.now.chain (T.packed value) (self.now.chain % B.sizes.queues) t.0)) }
         ensures refused { IfErr result (λ e. (e.0 ≡ Busy) ⊎ (e.0 ≡ PoolFull) ⊎ (e.0 ≡ Closed) ⊎ (e.0 ≡ Memory)) }
         ensures back { IfErr result (λ e. (e.1 ≡ callback) × Stays W.Witness witness.old witness.new) }
         ensures heard { IfErr result (λ _. IsAfter P.QSBR any_change (W.seen witness.old) (W.heard witness.old) (W.heard witness.new)) }
@@ -110,7 +110,8 @@ impl<'d, P: GracePlan + Drop, B: Site, D: Deleter, T: Words + Copy + Drop> Slot<
         }
     }
 
-    /// As `try_replace`, but it waits while another thread writes the slot, and while no record is free.
+    /// As `try_replace`, but it waits while another thread writes the slot, and while no record is free: for ever where no
+    /// worker frees one, so a caller has no section or lock open, and is offline in the quiescent-state flavour.
     pub fn replace<W: Witness, R: Wait>(
         &self,
         rt: &R,
@@ -119,8 +120,8 @@ impl<'d, P: GracePlan + Drop, B: Site, D: Deleter, T: Words + Copy + Drop> Slot<
         callback: D,
     ) -> Result<Option<Ticket>, (Refusal, D)>
         requires { W.home witness.old ≡ (B.table, B.sizes) }
-        ensures has { IfOk result (λ _. PutsValue W.Witness P.QSBR witness.old witness.new self.now.chain (T.packed value)) }
-        ensures retired { IfOk result (λ found. IfSome found (λ t. ReplacesValue W.Witness P.QSBR witness.old witness.new self.now.chain (T.packed value) (self.now.chain % B.sizes.queues) t.0)) }
+        ensures pushed { IfOk result (λ found. IfNone found (PushesValue W.Witness P.QSBR witness.old witness.new self.now.chain (T.packed value))) }
+        ensures replaced { IfOk result (λ found. IfSome found (λ t. ReplacesValue W.Witness P.QSBR witness.old witness.new self.now.chain (T.packed value) (self.now.chain % B.sizes.queues) t.0)) }
         ensures refused { IfErr result (λ e. (e.0 ≡ Closed) ⊎ (e.0 ≡ Memory)) }
         ensures back { IfErr result (λ e. (e.1 ≡ callback) × Stays W.Witness witness.old witness.new) }
     {

@@ -27,7 +27,8 @@ pub struct Ended<T> {
 }
 
 /// Makes a domain of this size, and runs this number of the program's threads over it, beside a worker for each queue.
-/// When all threads have returned the domain is closed, and the workers run what is left.
+/// When all threads have returned the domain is closed, and the workers run what is left. Where the system makes too few
+/// threads, what waits for another one waits for ever.
 ///
 /// Refused with `BadConfig` where a size is out of its limits, as `begin` is, and with `Memory` where memory is
 /// refused.

@@ -14,10 +14,11 @@ use std::thread;
 
 /// Works for a queue, liburcu's thread of `call_rcu`, until the domain is closed and nothing is left: then each object
 /// that was ever put into the queue was run. Where memory is refused meanwhile it tries again. Answers how many objects
-/// it ran itself.
+/// it ran itself, which no clause tells.
 ///
-/// Refused as `Domain::run_worker`, and with `Exhausted` where the sequence numbers are used up. The caller, who has no
-/// section or lock open, hears of all that.
+/// Refused as `Domain::run_worker`, and with `Exhausted` where the sequence numbers are used up; then the callbacks of
+/// what is left are dropped. The caller, who has no section or lock open, and is offline where its reader is of the
+/// quiescent-state flavour, hears of all that.
 pub fn work<P: GracePlan + Drop, K: ChainRule, B: Site, D: Deleter, W: Witness, R: Wait>(
     rt: &R,
     alloc: Global,

@@ -1,24 +1,24 @@
 use Rattle.std.proofs.Common.{ℕ, Some, subst}
 use Rattle.live_log.specs.Tables.{tabled}
-use Rattle.rcu.specs.Keys.{Gives}
+use Rattle.rcu.specs.Keys.{GivesWord}
 use Rattle.rcu.proofs.Giving.{gives_after, gives_insertion, gives_replacement}
 use Rattle.rcu.proofs.Refused.{goes_on, refused_insertion, refused_replacement}
 use Rattle.rcu.proofs.map.Map.set.Goals as goal
 
 pub returns-in-Ok-clause-set : goal.returns-in-Ok-clause-set
 returns-in-Ok-clause-set g c =
-    let w = g.W.Witness in let qsbr = g.P.GracePlan.QSBR in let chains : ℕ = g.B.Site.sizes.chains in let d : ℕ = c.args.self.now.table.directory in
+    let w = g.W.Witness in let qsbr = g.P.GracePlan.QSBR in let chains : ℕ = g.B.Site.sizes.chains in let queues : ℕ = g.B.Site.sizes.queues in let d : ℕ = c.args.self.now.table.directory in
     let i = c.loop.invariant in let r = c.in-Ok.ensures.replaced in
-    let was = c.loop.witness in let new = c.replace.new.witness in
-    subst (λ (v : ℕ). Gives qsbr tabled chains d (w.seen c.args.witness.now) (w.heard c.args.witness.now) c.args.key (Some v) (w.heard new)) c.pack-word.ensures (gives_after qsbr tabled chains d (w.seen c.args.witness.now) (w.heard c.args.witness.now) (w.seen was) (w.heard was) c.args.key (Some c.pack-word.result) (w.heard new) i.0.0 i.1 (gives_replacement qsbr tabled chains d (w.seen was) (w.heard was) c.args.key c.pack-word.result r.0 r.1 r.2 _ _ (w.heard new) r.3 r.4))
+    let old = c.args.witness.now in let was = c.loop.witness in let new = c.replace.new.witness in
+    subst (λ (v : ℕ). GivesWord w qsbr chains queues d old new c.args.key (Some v)) c.pack-word.ensures (gives_after w qsbr chains queues d old was new c.args.key (Some c.pack-word.result) i.0 i.1 (gives_replacement w qsbr chains queues d was new c.args.key c.pack-word.result r.0 r.1 r.2 _ r.3 r.4 r.5))
 
 pub returns-in-Ok-insert-clause-set : goal.returns-in-Ok-insert-clause-set
 returns-in-Ok-insert-clause-set g c =
-    let w = g.W.Witness in let qsbr = g.P.GracePlan.QSBR in let chains : ℕ = g.B.Site.sizes.chains in let d : ℕ = c.args.self.now.table.directory in
+    let w = g.W.Witness in let qsbr = g.P.GracePlan.QSBR in let chains : ℕ = g.B.Site.sizes.chains in let queues : ℕ = g.B.Site.sizes.queues in let d : ℕ = c.args.self.now.table.directory in
     let r = c.in-Ok-insert.ensures.inserted in
-    let was = c.replace.new.witness in let new = c.insert.new.witness in
-    let i = goes_on w c.args.witness.now c.loop.witness was c.loop.invariant (refused_replacement w qsbr tabled g.B.Site.sizes c.loop.witness was _ d c.args.key c.in-Err-Missing-default.ensures.refused.1) in
-    subst (λ (v : ℕ). Gives qsbr tabled chains d (w.seen c.args.witness.now) (w.heard c.args.witness.now) c.args.key (Some v) (w.heard new)) c.pack-word.ensures (gives_after qsbr tabled chains d (w.seen c.args.witness.now) (w.heard c.args.witness.now) (w.seen was) (w.heard was) c.args.key (Some c.pack-word.result) (w.heard new) i.0.0 i.1 (gives_insertion qsbr tabled chains d (w.seen was) (w.heard was) c.args.key c.pack-word.result r.0 (w.heard new) r.1))
+    let old = c.args.witness.now in let was = c.replace.new.witness in let new = c.insert.new.witness in
+    let i = goes_on w old c.loop.witness was c.loop.invariant (refused_replacement w qsbr tabled g.B.Site.sizes c.loop.witness was _ d c.args.key c.in-Err-Missing-default.ensures.refused.1) in
+    subst (λ (v : ℕ). GivesWord w qsbr chains queues d old new c.args.key (Some v)) c.pack-word.ensures (gives_after w qsbr chains queues d old was new c.args.key (Some c.pack-word.result) i.0 i.1 (gives_insertion w qsbr chains queues d was new c.args.key c.pack-word.result r.0 r.1 c.in-Ok-insert.ensures.changes))
 
 pub loop-preserved : goal.loop-preserved
 loop-preserved g c =

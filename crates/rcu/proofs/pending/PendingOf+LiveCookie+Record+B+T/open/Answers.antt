@@ -15,3 +15,13 @@ returns-then-poll-clause-heard g c = still_after g.P.GracePlan.QSBR g.K.ChainRul
 
 pub returns-else-poll-clause-heard : goal.returns-else-poll-clause-heard
 returns-else-poll-clause-heard g c = still_after g.P.GracePlan.QSBR g.K.ChainRule.allows (g.W.Witness.seen c.args.witness.now) (g.W.Witness.heard c.args.witness.now) (g.W.Witness.seen c.inform.new.to) (g.W.Witness.heard c.inform.new.to) (g.W.Witness.heard c.poll.new.witness) c.inform.ensures.to.0.0 c.inform.ensures.kept.after_heard c.poll.ensures.loaded.after
+
+pub returns-then-poll-clause-told : goal.returns-then-poll-clause-told
+returns-then-poll-clause-told g c =
+    let heard : Log = g.W.Witness.heard c.poll.new.witness in
+    subst (λ l. Begins l heard) (sym c.args.self.knows) (begins_trans c.args.self.handle.seat.me.0.heard (g.W.Witness.heard c.inform.new.to) heard c.inform.ensures.told.1 c.poll.ensures.loaded.after.after_heard)
+
+pub returns-else-poll-clause-told : goal.returns-else-poll-clause-told
+returns-else-poll-clause-told g c =
+    let heard : Log = g.W.Witness.heard c.poll.new.witness in
+    subst (λ l. Begins l heard) (sym c.args.self.knows) (begins_trans c.args.self.handle.seat.me.0.heard (g.W.Witness.heard c.inform.new.to) heard c.inform.ensures.told.1 c.poll.ensures.loaded.after.after_heard)

@@ -1,22 +1,21 @@
-use Rattle.std.proofs.Common.{ℕ, ◌∙◌, ◌%◌}
-use Rattle.live_log.specs.Log.{Log}
+use Rattle.std.proofs.Common.{ℕ, List, ◌∙◌, ◌%◌}
 use Rattle.live_log.proofs.Lemmas.{begins_trans}
-use Rattle.rcu.specs.Slots.{Replaces, any_change}
+use Rattle.rcu.specs.Slots.{PushesValue, ReplacesValue}
 use Rattle.rcu.proofs.Hearing.{stays_on}
-use Rattle.rcu.proofs.Putting.{if_some, puts_after, replaces_after}
+use Rattle.rcu.proofs.Putting.{if_none, if_some, pushes_after, replaces_after}
 use Rattle.rcu.proofs.slot.Slot.replace.Goals as goal
 
-pub returns-in-Ok-clause-has : goal.returns-in-Ok-clause-has
-returns-in-Ok-clause-has g c =
-    let w = g.W.Witness in let i = c.loop.invariant in
-    puts_after g.P.GracePlan.QSBR any_change (w.seen c.args.witness.now) (w.heard c.args.witness.now) (w.seen c.loop.witness) (w.heard c.loop.witness) c.args.self.now.chain (g.T.Words.packed c.args.value) (w.heard c.try_replace.new.witness) i.1.0 i.2 c.in-Ok.ensures.has
+pub returns-in-Ok-clause-pushed : goal.returns-in-Ok-clause-pushed
+returns-in-Ok-clause-pushed g c =
+    let w = g.W.Witness in let i = c.loop.invariant in let old = c.args.witness.now in let was = c.loop.witness in let new = c.try_replace.new.witness in
+    let chain : ℕ = c.args.self.now.chain in let words : List ℕ = g.T.Words.packed c.args.value in
+    if_none c.in-Ok.ticket (PushesValue w g.P.GracePlan.QSBR was new chain words) (PushesValue w g.P.GracePlan.QSBR old new chain words) (pushes_after w g.P.GracePlan.QSBR old was new chain words i.1 i.2) c.in-Ok.ensures.pushed
 
-pub returns-in-Ok-clause-retired : goal.returns-in-Ok-clause-retired
-returns-in-Ok-clause-retired g c =
-    let w = g.W.Witness in let i = c.loop.invariant in let queue : ℕ = c.args.self.now.chain % g.B.Site.sizes.queues in
-    let seen : Log = w.seen c.args.witness.now in let heard : Log = w.heard c.args.witness.now in
-    let was : Log = w.seen c.loop.witness in let mid : Log = w.heard c.loop.witness in let end : Log = w.heard c.try_replace.new.witness in
-    if_some c.in-Ok.ticket (λ t. Replaces g.P.GracePlan.QSBR any_change was mid c.args.self.now.chain (g.T.Words.packed c.args.value) queue t.0 end) (λ t. Replaces g.P.GracePlan.QSBR any_change seen heard c.args.self.now.chain (g.T.Words.packed c.args.value) queue t.0 end) (λ t r. replaces_after g.P.GracePlan.QSBR any_change seen heard was mid c.args.self.now.chain (g.T.Words.packed c.args.value) queue t.0 end i.1.0 i.2 r) c.in-Ok.ensures.retired
+pub returns-in-Ok-clause-replaced : goal.returns-in-Ok-clause-replaced
+returns-in-Ok-clause-replaced g c =
+    let w = g.W.Witness in let i = c.loop.invariant in let old = c.args.witness.now in let was = c.loop.witness in let new = c.try_replace.new.witness in
+    let chain : ℕ = c.args.self.now.chain in let words : List ℕ = g.T.Words.packed c.args.value in let queue : ℕ = chain % g.B.Site.sizes.queues in
+    if_some c.in-Ok.ticket (λ t. ReplacesValue w g.P.GracePlan.QSBR was new chain words queue t.0) (λ t. ReplacesValue w g.P.GracePlan.QSBR old new chain words queue t.0) (λ t r. replaces_after w g.P.GracePlan.QSBR old was new chain words i.1 i.2 queue t.0 r) c.in-Ok.ensures.replaced
 
 pub loop-preserved : goal.loop-preserved
 loop-preserved g c =

@@ -1,70 +1,81 @@
-use Rattle.std.proofs.Common.{◌%◌, rules, ◌≡◌, ◌∙◌, ℕ, [], Some, length, ap, sym, subst}
-use Rattle.rcu_model.specs.declared.event.ObjectId.{ObjectId}
+use Rattle.std.proofs.Common.{◌%◌, rules, ◌≡◌, ◌∙◌, ℕ, List, [], Some, length, ap, subst}
 use Rattle.rcu_model.specs.Sets.{first_of}
-use Rattle.live_log.specs.Log.{objects_of, payload_of}
-use Rattle.live_log.proofs.Lemmas.{begins_trans}
+use Rattle.live_log.specs.declared.event.LiveEvent.TheVariants.{Object}
+use Rattle.live_log.specs.declared.event.ObjectEvent.TheVariants.{Push, Replace}
+use Rattle.live_log.specs.Log.{objects_of}
 use Rattle.live_rule.specs.declared.view.View.{View}
 use Rattle.live_table.specs.Rights.{cell_in, object_in, own_in, payload_in}
-use Rattle.live_write.specs.Chains.{list_in, replace_by}
+use Rattle.live_read.proofs.Lemmas.{stays_makes}
+use Rattle.live_write.specs.Chains.{list_in, push_by, replace_by}
 use Rattle.rcu_list.specs.Calls.{HandsOver}
-use Rattle.rcu.specs.Slots.{any_change}
-use Rattle.rcu.proofs.Hearing.{still_after, went_on}
+use Rattle.rcu.specs.Slots.{PutsValue, any_change}
+use Rattle.rcu.proofs.Hearing.{stays_on, still_after, went_on}
+use Rattle.rcu.proofs.Putting.{after_all, first_replaced, none_first, pushed_words, queued_later, replaced_words, was_first, was_listed}
 use Rattle.rcu.proofs.Refused.{went_refused}
-use Rattle.rcu.proofs.Putting.{after_all, first_replaced, pushed_words, queued_later, replaced_words, was_first}
 use Rattle.rcu.proofs.slot.Slot.try_replace.Goals as goal
 
-pub returns-then-len-eq0-clause-has : goal.returns-then-len-eq0-clause-has
-returns-then-len-eq0-clause-has g c =
-    let qsbr = g.P.GracePlan.QSBR in
-    let w = g.W.Witness in
-    let before = c.args.witness.now in let told = c.chain.new.witness in let ready = c.alloc.new.witness in
-    let v : View = c.in-Ok.writer.seat.me.0 in let new : View = c.push.new.self.seat.me.0 in
-    let u : View = c.in-Ok-alloc.owned.seat.me.0 in
-    let p = c.push.ensures.pushed in
-    let later = begins_trans (w.heard before) (w.heard told) (w.heard ready) (c.in-Ok.ensures.heard c.args.self.now.low).after_heard c.alloc.ensures.heard.after_heard in
+pub returns-then-len-eq0-clause-pushed : goal.returns-then-len-eq0-clause-pushed
+returns-then-len-eq0-clause-pushed g c =
+    let qsbr = g.P.GracePlan.QSBR in let w = g.W.Witness in
+    let old = c.args.witness.now in let told = c.chain.new.witness in let ready = c.alloc.new.witness in let put = c.push.new.witness in
+    let v : View = c.in-Ok.writer.seat.me.0 in let new : View = c.push.new.self.seat.me.0 in let u : View = c.in-Ok-alloc.owned.seat.me.0 in
+    let p = c.push.ensures.pushed in let chain : ℕ = c.args.self.now.chain in
+    let had = went_on w qsbr any_change old told ready (c.in-Ok.ensures.same.0.0, c.in-Ok.ensures.heard c.args.self.now.low) (c.alloc.ensures.same.0.0, c.alloc.ensures.heard) in
+    let stays = stays_on w old told ready c.in-Ok.ensures.same.0 c.alloc.ensures.same.0 in
     let words : payload_in u.object ≡ c.pack.result = c.in-Ok-alloc.ensures.owned.0 in
+    let packed : payload_in u.object ≡ g.T.Words.packed c.args.value = words ∙ c.pack.ensures in
     let four : length (payload_in u.object) ≡ 4 = ap length words ∙ search rules in
-    let number = c.push.new.self.owns.2 ∙ c.push.ensures.list.3 ∙ c.in-Ok.ensures.held.0 in record {
+    let number : (own_in v.chains).chain ≡ chain = c.in-Ok.writer.owns.2 ∙ c.in-Ok.ensures.held.0 in
+    let now = c.push.new.self.owns.2 ∙ c.push.ensures.list.3 ∙ c.in-Ok.ensures.held.0 in
+    let puts : PutsValue w qsbr old put chain (g.T.Words.packed c.args.value) = record {
       at = new.seen;
-      after = still_after qsbr any_change (w.seen before) (w.heard before) (w.seen ready) (w.heard ready) new.seen (c.alloc.ensures.same.0.0 ∙ c.in-Ok.ensures.same.0.0) later (after_all qsbr any_change v (w.seen ready) (w.heard ready) u.seen _ new.seen p);
-      before = ([], c.push.ensures.heard);
-      object = c.push.result;
-      first = subst (λ (d : ℕ). first_of ((objects_of new.seen).chain d) ≡ Some c.push.result) number (ap first_of (c.push.new.self.owns.1.0 ∙ c.push.ensures.list.0));
-      has = subst (λ (o : ObjectId). payload_of new.seen o ≡ g.T.Words.packed c.args.value) (sym c.push.ensures.object) (pushed_words qsbr any_change v (w.seen ready) (w.heard ready) u.seen (own_in v.chains).chain (object_in u.object) (cell_in u.object) (payload_in u.object) new.seen four p ∙ words ∙ c.pack.ensures);
-    }
-
-pub returns-in-Ok-replace_retire-clause-has : goal.returns-in-Ok-replace_retire-clause-has
-returns-in-Ok-replace_retire-clause-has g c =
-    let qsbr = g.P.GracePlan.QSBR in
-    let w = g.W.Witness in
-    let before = c.args.witness.now in let told = c.chain.new.witness in let ready = c.alloc.new.witness in
-    let v : View = c.in-Ok.writer.seat.me.0 in let new : View = c.replace_retire.new.chain.seat.me.0 in
-    let u : View = c.in-Ok-alloc.owned.seat.me.0 in
-    let r = c.in-Ok-replace_retire.ensures.retired in
-    let p = r.published in
-    let later = begins_trans (w.heard before) (w.heard told) (w.heard ready) (c.in-Ok.ensures.heard c.args.self.now.low).after_heard c.alloc.ensures.heard.after_heard in
-    let words : payload_in u.object ≡ c.pack.result = c.in-Ok-alloc.ensures.owned.0 in
-    let four : length (payload_in u.object) ≡ 4 = ap length words ∙ search rules in
-    let number = c.replace_retire.new.chain.owns.2 ∙ c.in-Ok-replace_retire.ensures.same.1 ∙ c.in-Ok.ensures.held.0 in record {
-      at = new.seen;
-      after = still_after qsbr any_change (w.seen before) (w.heard before) (w.seen ready) (w.heard ready) new.seen (c.alloc.ensures.same.0.0 ∙ c.in-Ok.ensures.same.0.0) later (after_all qsbr any_change v (w.seen ready) (w.heard ready) u.seen _ new.seen p);
-      before = queued_later qsbr any_change new.seen r.object _ r.given (w.heard c.replace_retire.new.witness) r.queued;
+      event = push_by v u;
+      before = p.before;
+      wrote = p.wrote;
+      after = still_after qsbr any_change (w.seen old) (w.heard old) (w.seen ready) (w.heard ready) new.seen had.0 had.1.after_heard (after_all qsbr any_change v (w.seen ready) (w.heard ready) u.seen (push_by v u) new.seen p);
+      told = ([], c.push.ensures.heard);
+      made = stays_makes w old ready put new.seen stays c.push.ensures.same.0;
       object = object_in u.object;
-      first = subst (λ (d : ℕ). first_of ((objects_of new.seen).chain d) ≡ Some (object_in u.object)) number (ap first_of (c.replace_retire.new.chain.owns.1.0 ∙ r.left) ∙ first_replaced r.object (object_in u.object) (list_in v) r.was);
-      has = replaced_words qsbr any_change v (w.seen ready) (w.heard ready) u.seen (own_in v.chains).chain r.object (object_in u.object) (cell_in u.object) (payload_in u.object) new.seen four p ∙ words ∙ c.pack.ensures;
+      first = subst (λ (d : ℕ). first_of ((objects_of new.seen).chain d) ≡ Some (object_in u.object)) now (ap first_of (c.push.new.self.owns.1.0 ∙ c.push.ensures.list.0) ∙ ap Some c.push.ensures.object);
+      has = pushed_words qsbr any_change v (w.seen ready) (w.heard ready) u.seen (own_in v.chains).chain (object_in u.object) (cell_in u.object) (payload_in u.object) new.seen four p ∙ packed;
+    } in record {
+      puts = puts;
+      cell = cell_in u.object;
+      is = ap (λ (d : ℕ). Object (Push d (object_in u.object) (cell_in u.object) (payload_in u.object))) number ∙ ap (λ (l : List ℕ). Object (Push chain (object_in u.object) (cell_in u.object) l)) packed;
+      none = ap first_of (was_listed p.before v chain c.in-Ok.writer.owns.0 number p.known) ∙ none_first (list_in v) (search rules);
     }
 
-pub returns-in-Ok-replace_retire-clause-retired : goal.returns-in-Ok-replace_retire-clause-retired
-unfolding returns-in-Ok-replace_retire-clause-has
-returns-in-Ok-replace_retire-clause-retired g c =
-    let v : View = c.in-Ok.writer.seat.me.0 in let r = c.in-Ok-replace_retire.ensures.retired in record {
-      puts = returns-in-Ok-replace_retire-clause-has g c;
-      event = replace_by r.object v c.in-Ok-alloc.owned.seat.me.0;
-      before = r.published.before;
-      wrote = r.published.wrote;
+pub returns-in-Ok-replace_retire-clause-replaced : goal.returns-in-Ok-replace_retire-clause-replaced
+returns-in-Ok-replace_retire-clause-replaced g c =
+    let qsbr = g.P.GracePlan.QSBR in let w = g.W.Witness in
+    let old = c.args.witness.now in let told = c.chain.new.witness in let ready = c.alloc.new.witness in let put = c.replace_retire.new.witness in
+    let v : View = c.in-Ok.writer.seat.me.0 in let new : View = c.replace_retire.new.chain.seat.me.0 in let u : View = c.in-Ok-alloc.owned.seat.me.0 in
+    let r = c.in-Ok-replace_retire.ensures.retired in let p = r.published in let chain : ℕ = c.args.self.now.chain in
+    let had = went_on w qsbr any_change old told ready (c.in-Ok.ensures.same.0.0, c.in-Ok.ensures.heard c.args.self.now.low) (c.alloc.ensures.same.0.0, c.alloc.ensures.heard) in
+    let stays = stays_on w old told ready c.in-Ok.ensures.same.0 c.alloc.ensures.same.0 in
+    let words : payload_in u.object ≡ c.pack.result = c.in-Ok-alloc.ensures.owned.0 in
+    let packed : payload_in u.object ≡ g.T.Words.packed c.args.value = words ∙ c.pack.ensures in
+    let four : length (payload_in u.object) ≡ 4 = ap length words ∙ search rules in
+    let number : (own_in v.chains).chain ≡ chain = c.in-Ok.writer.owns.2 ∙ c.in-Ok.ensures.held.0 in
+    let now = c.replace_retire.new.chain.owns.2 ∙ c.in-Ok-replace_retire.ensures.same.1 ∙ c.in-Ok.ensures.held.0 in
+    let puts : PutsValue w qsbr old put chain (g.T.Words.packed c.args.value) = record {
+      at = new.seen;
+      event = replace_by r.object v u;
+      before = p.before;
+      wrote = p.wrote;
+      after = still_after qsbr any_change (w.seen old) (w.heard old) (w.seen ready) (w.heard ready) new.seen had.0 had.1.after_heard (after_all qsbr any_change v (w.seen ready) (w.heard ready) u.seen (replace_by r.object v u) new.seen p);
+      told = queued_later qsbr any_change new.seen r.object _ r.given (w.heard put) r.queued;
+      made = stays_makes w old ready put new.seen stays c.in-Ok-replace_retire.ensures.same.0.0;
+      object = object_in u.object;
+      first = subst (λ (d : ℕ). first_of ((objects_of new.seen).chain d) ≡ Some (object_in u.object)) now (ap first_of (c.replace_retire.new.chain.owns.1.0 ∙ r.left) ∙ first_replaced r.object (object_in u.object) (list_in v) r.was);
+      has = replaced_words qsbr any_change v (w.seen ready) (w.heard ready) u.seen (own_in v.chains).chain r.object (object_in u.object) (cell_in u.object) (payload_in u.object) new.seen four p ∙ packed;
+    } in record {
+      puts = puts;
       left = r.object;
-      was = was_first r.published.before v c.args.self.now.chain r.object c.in-Ok.writer.owns.0 (c.in-Ok.writer.owns.2 ∙ c.in-Ok.ensures.held.0) r.published.known r.was;
-      handed = subst (λ (n : ℕ). HandsOver g.P.GracePlan.QSBR any_change r.object (n % g.B.Site.sizes.queues) c.in-Ok-replace_retire.ticket.0 c.replace_retire.new.chain.seat.me.0.seen (g.W.Witness.heard c.replace_retire.new.witness)) c.in-Ok.ensures.held.0 (record { given = r.given; turn = r.turn; queued = r.queued });
+      cell = cell_in u.object;
+      is = ap (λ (d : ℕ). Object (Replace d r.object (object_in u.object) (cell_in u.object) (payload_in u.object))) number ∙ ap (λ (l : List ℕ). Object (Replace chain r.object (object_in u.object) (cell_in u.object) l)) packed;
+      was = was_first p.before v chain r.object c.in-Ok.writer.owns.0 number p.known r.was;
+      handed = subst (λ (n : ℕ). HandsOver qsbr any_change r.object (n % g.B.Site.sizes.queues) c.in-Ok-replace_retire.ticket.0 new.seen (w.heard put)) c.in-Ok.ensures.held.0 (record { given = r.given; turn = r.turn; queued = r.queued });
     }
 
 pub returns-in-Err-alloc-clause-heard : goal.returns-in-Err-alloc-clause-heard
