@@ -2,10 +2,10 @@
 use Rattle.gp_memb.specs.declared.plan.GracePlan as plan
 use Rattle.std.proofs.Common.{◌≡◌, ◌<◌, refl, subst, Option, Some, None, Result, Ok, Err, IfSome, IfOk, IfErr}
 use Rattle.std.specs.Prelude.{Bool, true, false, MatchBool}
-use Rattle.live_read.specs.declared.held.Held.{Held}
-use Rattle.live_read.specs.declared.reader_core.ReaderCore.{ReaderCore}
-use Rattle.live_read.specs.Holding.{KeepsHeld}
-use Rattle.live_read.proofs.Lemmas.{held_in}
+use Rattle.rcu_hash.specs.live_read.declared.held.Held.{Held}
+use Rattle.rcu_hash.specs.live_read.declared.reader_core.ReaderCore.{ReaderCore}
+use Rattle.rcu_hash.specs.live_read.Holding.{KeepsHeld}
+use Rattle.rcu_hash.proofs.live_read.Lemmas.{held_in}
 use Rattle.calls.specs.Standing.{Stands}
 
 -- what follows from either outcome

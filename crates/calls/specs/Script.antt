@@ -12,8 +12,8 @@ use Rattle.call_text.specs.declared.call.Header.{Header}
 use Rattle.call_text.specs.Answers.{answer_line}
 use Rattle.call_text.specs.Header.{IsHeader, IsHeaderText, header}
 use Rattle.call_text.specs.Spelling.{IsCall, IsCallText, calls_text}
-use Rattle.domain.specs.declared.config.LiveConfig.{LiveConfig}
-use Rattle.domain.specs.Config.{is_supported}
+use Rattle.rcu_hash.specs.domain.declared.config.LiveConfig.{LiveConfig}
+use Rattle.rcu_hash.specs.domain.Config.{is_supported}
 
 -- ---- the lines
 

@@ -1,9 +1,9 @@
 -- What a reader keeps between two lines.
 use Rattle.gp_memb.specs.declared.plan.GracePlan as plan
 use Rattle.std.specs.Prelude.{◌<◌, Option, IfSome}
-use Rattle.live_read.specs.declared.held.Held.{Held}
-use Rattle.live_read.specs.declared.reader_core.ReaderCore.{ReaderCore}
-use Rattle.live_read.specs.Holding.{MayHoldIn}
+use Rattle.rcu_hash.specs.live_read.declared.held.Held.{Held}
+use Rattle.rcu_hash.specs.live_read.declared.reader_core.ReaderCore.{ReaderCore}
+use Rattle.rcu_hash.specs.live_read.Holding.{MayHoldIn}
 
 module _ {P K : Type 0} {g : plan.Ghosts P} where
   -- what was found last, if anything was, is something that the reader may still hold, in a lock that is open

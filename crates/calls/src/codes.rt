@@ -1,6 +1,6 @@
 //! What is called with what is reclaimed.
 
-use domain::{Deleter, Ripe};
+use rcu_hash::{Deleter, Ripe};
 
 /// Answers the code of its line and the first word of the record, added.
 #[derive(Drop)]

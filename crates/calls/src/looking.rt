@@ -8,11 +8,8 @@ use crate::codes::Code;
 use crate::maps::{Maps, Table};
 use crate::walker::Walker;
 use call_text::{Answer, Verb};
-use domain::{Reader, Site};
 use gp_memb::GracePlan;
-use live_words::Tabled;
-use rcu_hash::RcuHash;
-use rcu_list::ListView;
+use rcu_hash::{ListView, RcuHash, Reader, Site, Tabled};
 use rcu_model::Refusal;
 use std::alloc::Global;
 

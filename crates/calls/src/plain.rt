@@ -2,14 +2,11 @@
 //! and each clause that it hears costs time.
 
 use crate::codes::Code;
-use domain::{
-    BarrierMark, Chain, Counts, Domain, LiveCookie, Owned, Record, Site, Ticket, Unlinked,
-    WorkerEnd,
-};
 use gp_memb::GracePlan;
-use live_words::{AnyChain, ChainRule, Tabled};
-use rcu_hash::{RcuHash, TidyEnd};
-use rcu_list::RcuList;
+use rcu_hash::{
+    AnyChain, BarrierMark, Chain, ChainRule, Counts, Domain, LiveCookie, Owned, RcuHash, RcuList,
+    Record, Site, Tabled, Ticket, TidyEnd, Unlinked, WorkerEnd,
+};
 use rcu_model::Refusal;
 use std::alloc::Global;
 use std::sync::Wait;

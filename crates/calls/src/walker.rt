@@ -4,9 +4,8 @@ ghost use Rattle.std.specs.Prelude.{◌≡◌, ◌<◌, Some, IfSome};
 ghost use Rattle.calls.specs.Standing.{Stands};
 
 use call_text::{Answer, Verb};
-use domain::{Held, Reader, Site};
 use gp_memb::GracePlan;
-use live_words::ChainRule;
+use rcu_hash::{ChainRule, Held, Reader, Site};
 use rcu_model::Refusal;
 
 /// A registered reader, and what it found last, which it may still hold.

@@ -3,9 +3,8 @@
 use crate::codes::Code;
 use crate::plain;
 use call_text::{Answer, Called, Verb};
-use domain::{Domain, Finished, Record, Site, Stop, WorkerEnd};
 use gp_memb::GracePlan;
-use live_words::ChainRule;
+use rcu_hash::{ChainRule, Domain, Finished, Record, Site, Stop, WorkerEnd};
 use rcu_model::Refusal;
 use std::alloc::{AllocError, Global};
 use std::sync::Wait;

@@ -15,13 +15,13 @@ use Rattle.live_log.specs.declared.event.LiveEvent.{LiveEvent}
 use Rattle.live_log.specs.declared.event.LiveEvent.TheVariants.{Close}
 use Rattle.live_log.specs.Log.{Log, Begins, Has, HaveEnded, HaveRun, IsLiveRun, line_of, state_of}
 use Rattle.live_log.proofs.Lemmas.{begins_trans, grows_log, has_later, line_grows}
-use Rattle.live_rule.specs.declared.view.View.{View}
-use Rattle.live_rule.specs.Places.{finished_at, work_at}
-use Rattle.live_rule.specs.Steps.{Wrote}
-use Rattle.live_rule.specs.Views.{bare}
-use Rattle.live_rule.specs.declared.view.Sizes.{Sizes}
-use Rattle.live_table.specs.Steps.{IsKnown, Keeps, Went, looked_view}
-use Rattle.live_words.specs.Queues.{IsAt}
+use Rattle.live_words.specs.live_rule.declared.view.View.{View}
+use Rattle.live_words.specs.live_rule.Places.{finished_at, work_at}
+use Rattle.live_words.specs.live_rule.Steps.{Wrote}
+use Rattle.live_words.specs.live_rule.Views.{bare}
+use Rattle.live_words.specs.live_rule.declared.view.Sizes.{Sizes}
+use Rattle.live_words.specs.live_table.Steps.{IsKnown, Keeps, Went, looked_view}
+use Rattle.live_words.specs.live_queues.Queues.{IsAt}
 use Rattle.live_items.specs.Items.{InOrder, IsPlaced, JobValue}
 use Rattle.live_items.specs.Running.{KeepsFinds}
 use Rattle.live_reclaim.specs.Batches.{AreRunAs, IsDue, IsRunAs, Lists}

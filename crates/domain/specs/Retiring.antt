@@ -3,9 +3,9 @@ use Rattle.std.specs.Prelude.{◌≡◌, ◌+◌, Bool, ℕ, List, Some, slice_g
 use Rattle.rcu_model.specs.declared.event.ObjectId.{ObjectId}
 use Rattle.live_log.specs.declared.event.LiveEvent.{LiveEvent}
 use Rattle.live_log.specs.Log.{Log, Begins}
-use Rattle.live_rule.specs.declared.view.View.{View}
-use Rattle.live_rule.specs.Seats.{lent_chains}
-use Rattle.live_table.specs.Rights.{own_in}
+use Rattle.live_words.specs.live_rule.declared.view.View.{View}
+use Rattle.live_words.specs.live_rule.Seats.{lent_chains}
+use Rattle.live_words.specs.live_table.Rights.{own_in}
 use Rattle.live_items.specs.Retiring.{Queues}
 use Rattle.live_write.specs.Chains.{Publishes, list_in}
 

@@ -5,7 +5,7 @@ ghost use Rattle.std.specs.Arc.{arc_value};
 ghost use Rattle.rcu_model.specs.declared.refusal.Refusal.TheVariants.{Exhausted, NoSlot};
 ghost use Rattle.poll_cookie.specs.Cookie.{cookie_for};
 ghost use Rattle.live_log.specs.Log.{Begins, HaveEnded, seq_of};
-ghost use Rattle.live_table.specs.Steps.{Keeps};
+ghost use Rattle.live_words.specs.live_table.Steps.{Keeps};
 ghost use Rattle.live_read.specs.Hearing.{FindsNothing, IsAfter, IsAsBefore, Stays};
 ghost use Rattle.live_read.specs.Holding.{log_of};
 ghost use Rattle.live_read.specs.Registering.{FindsAllClaimed, WasFree};

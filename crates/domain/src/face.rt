@@ -4,7 +4,7 @@
 ghost use Rattle.std.specs.Prelude.{◌≡◌, ◌+◌, ◌%◌, ◌^◌, ◌≤◌, IfErr, IfOk, ℕ};
 ghost use Rattle.rcu_model.specs.declared.refusal.Refusal.TheVariants.{Exhausted};
 ghost use Rattle.live_log.specs.Log.{seq_of};
-ghost use Rattle.live_table.specs.Rights.{object_in};
+ghost use Rattle.live_words.specs.live_table.Rights.{object_in};
 ghost use Rattle.live_items.specs.Retiring.{IsAfterAll, Queues};
 ghost use Rattle.live_read.specs.Hearing.{FindsNothing, OnlyHears, Stays};
 ghost use Rattle.live_reclaim.specs.Refusing.{RefusesRetirement};

@@ -2,8 +2,8 @@
 
 ghost use Rattle.std.specs.Prelude.{◌≡◌, [], ◌∷◌};
 ghost use Rattle.live_log.specs.Log.{Begins, HaveEnded, IsLiveRun};
-ghost use Rattle.live_rule.specs.declared.rights.GraceRight.TheVariants.{Rests};
-ghost use Rattle.live_table.specs.Steps.{Keeps};
+ghost use Rattle.live_words.specs.live_rule.declared.rights.GraceRight.TheVariants.{Rests};
+ghost use Rattle.live_words.specs.live_table.Steps.{Keeps};
 
 use gp_memb::GracePlan;
 use live_grace::{GraceWriter, LiveAsk};

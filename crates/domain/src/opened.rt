@@ -2,7 +2,7 @@
 
 ghost use Rattle.std.specs.Prelude.{◌≡◌, ◌<◌, ◌≤◌, [], true, IfErr, IfOk};
 ghost use Rattle.rcu_model.specs.declared.refusal.Refusal.TheVariants.{Memory};
-ghost use Rattle.live_rule.specs.Views.{first_view};
+ghost use Rattle.live_words.specs.live_rule.Views.{first_view};
 ghost use Rattle.domain.specs.Config.{is_supported, new_refusal};
 
 use crate::config::LiveConfig;

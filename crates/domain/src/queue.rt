@@ -2,8 +2,8 @@
 
 ghost use Rattle.std.specs.Prelude.{◌≡◌, ◌<◌, [], IfOk, vec_len};
 ghost use Rattle.std.specs.Sync.Mutex.{mutex_guard_value};
-ghost use Rattle.live_rule.specs.declared.rights.QueueRight.TheVariants.{Owns, Spare};
-ghost use Rattle.live_rule.specs.declared.rights.RecordRight.TheVariants as record_right;
+ghost use Rattle.live_words.specs.live_rule.declared.rights.QueueRight.TheVariants.{Owns, Spare};
+ghost use Rattle.live_words.specs.live_rule.declared.rights.RecordRight.TheVariants as record_right;
 
 use crossbeam_utils::sync::{Parker, Unparker};
 use gp_memb::GracePlan;

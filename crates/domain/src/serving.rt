@@ -2,10 +2,10 @@
 
 ghost use Rattle.std.specs.Prelude.{◌≡◌, ◌≢◌, ◌<◌, ◌≤◌, [], IfErr, IfOk, length};
 ghost use Rattle.live_log.specs.Log.{IsLiveRun, line_of};
-ghost use Rattle.live_rule.specs.Places.{work_at};
-ghost use Rattle.live_rule.specs.Seats.{but_work};
-ghost use Rattle.live_table.specs.Rights.{IsWorker, work_in};
-ghost use Rattle.live_table.specs.Steps.{IsKnown, IsLater, Keeps, Went, looked_view};
+ghost use Rattle.live_words.specs.live_rule.Places.{work_at};
+ghost use Rattle.live_words.specs.live_rule.Seats.{but_work};
+ghost use Rattle.live_words.specs.live_table.Rights.{IsWorker, work_in};
+ghost use Rattle.live_words.specs.live_table.Steps.{IsKnown, IsLater, Keeps, Went, looked_view};
 ghost use Rattle.live_read.specs.Hearing.{IsAfter, Stays};
 ghost use Rattle.live_items.specs.Items.{InOrder};
 ghost use Rattle.live_reclaim.specs.Batches.{Lists, WorksFor};

@@ -2,7 +2,7 @@
 
 ghost use Rattle.std.specs.Prelude.{◌≡◌, ◌≢◌, ◌+◌, ◌-◌, ◌<◌, ◌≤◌, [], IfErr, IfOk, length, reverse, vec_capacity, vec_len};
 ghost use Rattle.live_log.specs.Log.{IsLiveRun, line_of};
-ghost use Rattle.live_table.specs.Steps.{IsKnown};
+ghost use Rattle.live_words.specs.live_table.Steps.{IsKnown};
 ghost use Rattle.live_items.specs.Items.{InOrder};
 ghost use Rattle.live_reclaim.specs.Batches.{IsDue, Lists, WorksFor};
 ghost use Rattle.live_reclaim.specs.Working.{IsEmptied};

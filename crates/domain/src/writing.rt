@@ -3,10 +3,10 @@
 ghost use Rattle.std.specs.Prelude.{◌≡◌, ◌⊎◌, ℕ, ◌≤◌, ◌<◌, ◌∷◌, ◌++◌, ◌*◌, [], List, IfErr, IfOk};
 ghost use Rattle.rcu_model.specs.declared.refusal.Refusal.TheVariants.{Busy, NoPlace, PoolFull};
 ghost use Rattle.live_log.specs.Log.{Begins, IsLiveRun, Log};
-ghost use Rattle.live_rule.specs.Places.{cell_at, hold_at};
-ghost use Rattle.live_rule.specs.Seats.{lent_chains};
-ghost use Rattle.live_table.specs.Rights.{cell_in, object_in, payload_in};
-ghost use Rattle.live_table.specs.Steps.{Keeps, Went, looked_view};
+ghost use Rattle.live_words.specs.live_rule.Places.{cell_at, hold_at};
+ghost use Rattle.live_words.specs.live_rule.Seats.{lent_chains};
+ghost use Rattle.live_words.specs.live_table.Rights.{cell_in, object_in, payload_in};
+ghost use Rattle.live_words.specs.live_table.Steps.{Keeps, Went, looked_view};
 ghost use Rattle.live_read.specs.Hearing.{IsAfter, Stays};
 ghost use Rattle.live_write.specs.Searching.{AreTaken, IsUsedUp};
 

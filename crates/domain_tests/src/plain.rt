@@ -2,10 +2,10 @@
 //! and each clause that it hears costs time.
 
 use domain::{
-    Chain, Counts, Deleter, Domain, LiveCookie, Owned, Record, Site, Ticket, Unlinked, WorkerEnd,
+    AnyChain, Chain, Counts, Deleter, Domain, LiveCookie, Owned, Record, Site, Ticket, Unlinked,
+    WorkerEnd,
 };
 use gp_memb::GracePlan;
-use live_words::AnyChain;
 use rcu_model::Refusal;
 use std::alloc::Global;
 use std::sync::Wait;

@@ -11,16 +11,14 @@ ghost use Rattle.live_log.specs.Log.{Begins, Has, IsLiveRun, Log, objects_of, pa
 ghost use Rattle.live_fit.specs.declared.Reading.TheVariants.{First, Next, Touch};
 ghost use Rattle.live_fit.specs.declared.Mark.TheVariants.{Read};
 ghost use Rattle.live_fit.specs.Fit.{Readings, later};
-ghost use Rattle.live_read.specs.Holding.{log_of};
-ghost use Rattle.live_read.specs.Readings.{HasRead};
+ghost use Rattle.domain.specs.live_read.Holding.{log_of};
+ghost use Rattle.domain.specs.live_read.Readings.{HasRead};
 
 use crate::deleter::Adds;
-use domain::{Domain, LiveConfig, Opened, Reader, Section, Site};
+use domain::{AnyChain, Domain, LiveConfig, Opened, Reader, Section, Site, readings_fit};
 use gp_memb::{GracePlan, MembPlan};
 use gp_qsbr::QsbrPlan;
 use live_log::published_words_stay;
-use live_read::readings_fit;
-use live_words::AnyChain;
 use rcu_model::Refusal;
 use std::alloc::Global;
 use std::marker::Brand;

@@ -5,11 +5,10 @@ ghost use Rattle.std.specs.Prelude.{◌≡◌, false, true};
 use crate::deleter::Adds;
 use crate::plain;
 use domain::{
-    Callback, Deleter, Domain, Finished, LiveConfig, Opened, Record, Ripe, Site, Stop, Ticket,
-    Unlinked, WorkerEnd,
+    AnyChain, Callback, Deleter, Domain, Finished, LiveConfig, Opened, Record, Ripe, Site, Stop,
+    Ticket, Unlinked, WorkerEnd,
 };
 use gp_memb::{GracePlan, MembPlan};
-use live_words::AnyChain;
 use rcu_model::{ObjectId, Refusal};
 use std::alloc::Global;
 use std::marker::Brand;

@@ -4,10 +4,9 @@ ghost use Rattle.std.specs.Prelude.{◌≡◌, false, true};
 
 use crate::deleter::Adds;
 use crate::plain;
-use domain::{Counts, Deleter, Domain, LiveConfig, Opened, Reader, Record, Ripe, Site};
+use domain::{AnyChain, Counts, Deleter, Domain, LiveConfig, Opened, Reader, Record, Ripe, Site};
 use gp_memb::{GracePlan, MembPlan};
 use gp_qsbr::QsbrPlan;
-use live_words::AnyChain;
 use rcu_model::Refusal;
 use std::alloc::Global;
 use std::marker::Brand;

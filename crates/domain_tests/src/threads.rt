@@ -7,10 +7,9 @@ ghost use Rattle.std.specs.Thread.{IsSync};
 
 use crate::deleter::Adds;
 use crate::plain;
-use domain::{Chain, Domain, LiveConfig, Opened, Owned, Reader, Record, Site};
+use domain::{AnyChain, Chain, Domain, LiveConfig, Opened, Owned, Reader, Record, Site};
 use gp_memb::{GracePlan, MembPlan};
 use gp_qsbr::QsbrPlan;
-use live_words::AnyChain;
 use rcu_model::Refusal;
 use std::alloc::Global;
 use std::marker::Brand;

@@ -4,8 +4,8 @@ use Rattle.std.specs.Prelude.{Bool}
 use Rattle.atomic_table.specs.Table.{Me}
 use Rattle.live_log.specs.declared.event.LiveEvent.{LiveEvent}
 use Rattle.live_log.specs.Log.{Log}
-use Rattle.live_rule.specs.declared.view.Sizes.{Sizes}
-use Rattle.live_rule.specs.declared.view.View.{View}
+use Rattle.live_words.specs.live_rule.declared.view.Sizes.{Sizes}
+use Rattle.live_words.specs.live_rule.declared.view.View.{View}
 use Rattle.live_read.specs.Registering.{AllWereClaimed, FindsAllClaimed, Misses}
 
 -- it heard of a seat that had looked at nothing before

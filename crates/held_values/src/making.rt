@@ -3,7 +3,7 @@
 ghost use Rattle.std.specs.Prelude.{◌≡◌, ◌≢◌, ◌⊎◌, ◌<◌, ◌≤◌, [], true, false, IfErr, IfOk};
 ghost use Rattle.std.specs.Arc.{arc_value};
 ghost use Rattle.rcu_model.specs.declared.refusal.Refusal.TheVariants.{Memory, NoSlot};
-ghost use Rattle.live_groups.specs.Groups.{IsClaimed};
+ghost use Rattle.live_words.specs.live_groups.Groups.{IsClaimed};
 ghost use Rattle.live_read.specs.Registering.{FindsAllClaimed, WasFree};
 
 use gp_memb::GracePlan;

@@ -1,6 +1,6 @@
 //! A deleter of the tests' own, which boxes nothing.
 
-use domain::{Deleter, Ripe};
+use rcu_hash::{Deleter, Ripe};
 
 /// Answers the first word of the object and this number, added.
 #[derive(Drop)]

@@ -4,11 +4,9 @@ ghost use Rattle.std.specs.Prelude.{◌≡◌, IfOk};
 
 use crate::deleter::Adds;
 use crate::plain::list_put;
-use domain::{Chain, Domain, LiveConfig, Opened, Record, Site};
 use gp_memb::{GracePlan, MembPlan};
 use gp_qsbr::QsbrPlan;
-use live_words::Keyed;
-use rcu_list::{ListView, RcuList};
+use rcu_hash::{Chain, Domain, Keyed, ListView, LiveConfig, Opened, RcuList, Record, Site};
 use rcu_model::Refusal;
 use std::alloc::Global;
 use std::marker::Brand;

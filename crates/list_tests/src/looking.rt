@@ -3,9 +3,8 @@
 ghost use Rattle.std.specs.Prelude.{◌≡◌};
 
 use crate::deleter::Adds;
-use domain::{Domain, LiveConfig, Reader, Record, Site};
 use gp_memb::GracePlan;
-use live_words::ChainRule;
+use rcu_hash::{ChainRule, Domain, LiveConfig, Reader, Record, Site};
 use rcu_model::Refusal;
 use std::sync::Wait;
 use std::sync::atomic::{AtomicBool, Ordering};

@@ -2,10 +2,8 @@
 //! safe, and each clause that it hears costs time.
 
 use crate::deleter::Adds;
-use domain::{Record, Site};
 use gp_memb::GracePlan;
-use rcu_hash::{RcuHash, TidyEnd};
-use rcu_list::{MapRule, RcuList};
+use rcu_hash::{MapRule, RcuHash, RcuList, Record, Site, TidyEnd};
 use rcu_model::Refusal;
 use std::alloc::Global;
 use std::sync::Wait;

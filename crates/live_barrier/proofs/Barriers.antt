@@ -10,10 +10,10 @@ use Rattle.rcu_model.specs.Sets.{In}
 use Rattle.live_log.specs.declared.event.LiveEvent.{LiveEvent}
 use Rattle.live_log.specs.Log.{Log, Begins, state_of, line_of, HaveRun}
 use Rattle.live_log.proofs.Lemmas.{begins_trans, grows_log, line_grows, line_has, barrier_of}
-use Rattle.live_rule.specs.declared.view.Sizes.{Sizes}
-use Rattle.live_rule.specs.declared.view.View.{View}
-use Rattle.live_rule.specs.Places.{finished_at, queued_at}
-use Rattle.live_table.specs.Steps.{IsKnown, Went, looked_view}
+use Rattle.live_words.specs.live_rule.declared.view.Sizes.{Sizes}
+use Rattle.live_words.specs.live_rule.declared.view.View.{View}
+use Rattle.live_words.specs.live_rule.Places.{finished_at, queued_at}
+use Rattle.live_words.specs.live_table.Steps.{IsKnown, Went, looked_view}
 use Rattle.live_barrier.specs.Barrier.{AreNoted, AreReached, Found, HaveAllRun}
 
 -- a queue is never shorter than it was

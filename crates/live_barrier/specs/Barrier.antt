@@ -5,10 +5,10 @@ use Rattle.rcu_model.specs.declared.event.ObjectId.{ObjectId}
 use Rattle.rcu_model.specs.Sets.{In}
 use Rattle.live_log.specs.declared.event.LiveEvent.{LiveEvent}
 use Rattle.live_log.specs.Log.{Log, line_of, state_of}
-use Rattle.live_rule.specs.declared.view.Sizes.{Sizes}
-use Rattle.live_rule.specs.declared.view.View.{View}
-use Rattle.live_rule.specs.Places.{finished_at, queued_at}
-use Rattle.live_table.specs.Steps.{Went}
+use Rattle.live_words.specs.live_rule.declared.view.Sizes.{Sizes}
+use Rattle.live_words.specs.live_rule.declared.view.View.{View}
+use Rattle.live_words.specs.live_rule.Places.{finished_at, queued_at}
+use Rattle.live_words.specs.live_table.Steps.{Went}
 
 -- each queue of the table had been given no more than its count
 abbrev pub CoverAll : Sizes → List ℕ → Log → Type 0

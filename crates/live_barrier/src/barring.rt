@@ -1,8 +1,8 @@
 //! A barrier: the counts of what was queued, and later those of what has finished.
 ghost use Rattle.std.specs.Prelude.{◌≡◌, ◌≤◌, ◌++◌, List, ℕ, IsTrue, MatchBool};
-ghost use Rattle.live_rule.specs.Steps.{Precedes};
+ghost use Rattle.live_words.specs.live_rule.Steps.{Precedes};
 ghost use Rattle.live_log.specs.Log.{Begins};
-ghost use Rattle.live_table.specs.Steps.{IsKnown, Keeps};
+ghost use Rattle.live_words.specs.live_table.Steps.{IsKnown, Keeps};
 ghost use Rattle.live_barrier.specs.Barrier.{AreNoted, AreReached, CoverAll, Found, HaveAllRun, WasLess, WereGiven};
 
 use gp_memb::GracePlan;

@@ -1,15 +1,15 @@
 //! What is repeated on chains.
 
 ghost use Rattle.std.specs.Prelude.{◌≡◌, ◌<◌};
-ghost use Rattle.live_read.specs.Holding.{MayHoldIn};
+ghost use Rattle.rcu_hash.specs.live_read.Holding.{MayHoldIn};
 
 use crate::kind::{OnChains, RECORDS, last_of};
-use domain::{
-    Callback, Chain, Deleter, Domain, Held, Opened, Owned, Reader, Record, Ripe, Section, Site,
-};
 use gp_memb::GracePlan;
 use live_load::{RoundDone, begin, together, when_free, works};
-use live_words::AnyChain;
+use rcu_hash::{
+    AnyChain, Callback, Chain, Deleter, Domain, Held, Opened, Owned, Reader, Record, Ripe, Section,
+    Site,
+};
 use rcu_model::Refusal;
 use std::alloc::Global;
 use std::sync::atomic::{AtomicU64, Ordering};

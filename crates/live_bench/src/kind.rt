@@ -1,7 +1,7 @@
 //! What the benchmark repeats, and how large a domain that takes.
 
-use domain::LiveConfig;
 use live_load::Buckets;
+use rcu_hash::LiveConfig;
 use rcu_model::Refusal;
 
 /// How many records a domain has.

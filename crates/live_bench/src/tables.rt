@@ -3,13 +3,12 @@
 ghost use Rattle.std.specs.Prelude.{◌≡◌};
 
 use crate::kind::{OnTable, last_of};
-use domain::{Domain, Opened, Reader, Record, Site};
 use gp_memb::GracePlan;
 use live_load::{
     Buckets, Map, RoundDone, Target, View, begin, grows_to, look, put, table, take_out, together,
     view_of, walk, works,
 };
-use live_words::Tabled;
+use rcu_hash::{Domain, Opened, Reader, Record, Site, Tabled};
 use rcu_model::Refusal;
 use std::alloc::Global;
 use std::sync::atomic::{AtomicBool, AtomicU64, Ordering};

@@ -8,17 +8,17 @@ use Rattle.std.proofs.lemmas.List.{length-map}
 use Rattle.std.specs.List.{AllByRecursion, IsDistinct, list_any}
 use Rattle.std.proofs.lemmas.Map.Steps.{length-le_from_distinct_below}
 use Rattle.atomic_table.specs.Table.{State}
-use Rattle.rcu_model.specs.declared.event.ObjectId.{ObjectId}
-use Rattle.rcu_model.specs.Sets.{In}
-use Rattle.rcu_model.proofs.Lemmas.{Once}
-use Rattle.live_log.specs.declared.event.LiveEvent.{LiveEvent}
-use Rattle.live_log.specs.Log.{Log, note_of, objects_of}
-use Rattle.live_log.proofs.Lemmas.{kept_log}
-use Rattle.live_rule.specs.declared.view.Sizes.{Sizes}
-use Rattle.live_rule.specs.declared.view.View.{View}
-use Rattle.live_rule.specs.Places.{cell_at}
-use Rattle.live_rule.specs.Objects.{IsAlive}
-use Rattle.live_rule.specs.Rule.{KeepsRule}
+use Rattle.live_table.specs.rcu_model.declared.event.ObjectId.{ObjectId}
+use Rattle.live_table.specs.rcu_model.Sets.{In}
+use Rattle.live_table.proofs.rcu_model.Lemmas.{Once}
+use Rattle.live_table.specs.live_log.declared.event.LiveEvent.{LiveEvent}
+use Rattle.live_table.specs.live_log.Log.{Log, note_of, objects_of}
+use Rattle.live_table.proofs.live_log.Lemmas.{kept_log}
+use Rattle.live_table.specs.live_rule.declared.view.Sizes.{Sizes}
+use Rattle.live_table.specs.live_rule.declared.view.View.{View}
+use Rattle.live_table.specs.live_rule.Places.{cell_at}
+use Rattle.live_table.specs.live_rule.Objects.{IsAlive}
+use Rattle.live_table.specs.live_rule.Rule.{KeepsRule}
 use Rattle.live_table.specs.Rights.{own_in}
 use Rattle.live_table.proofs.Lemmas.{knows_own, here, alive_linked, lows}
 use Rattle.live_chains.specs.Chains.{FitsPool}

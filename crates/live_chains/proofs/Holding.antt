@@ -7,22 +7,22 @@ use lib.ListN.{get_elem?}
 use prog.Atomic.{either}
 use Rattle.atomic_table.specs.Table.{State, Me, Act, step, keeps, stepped, Valid, carried_after, Allows}
 use Rattle.atomic_table.proofs.Lists.{exchanged}
-use Rattle.rcu_model.specs.declared.event.ObjectId.{ObjectId}
-use Rattle.rcu_model.specs.Sets.{first_of}
-use Rattle.live_log.specs.declared.event.LiveEvent.{LiveEvent}
-use Rattle.live_log.specs.declared.event.LiveEvent.TheVariants.{ChainNote}
-use Rattle.live_log.specs.Log.{Log, line_of, chain_note, IsLiveRun, Objects, objects_of, head}
-use Rattle.live_rule.specs.declared.view.Sizes.{Sizes}
-use Rattle.live_rule.specs.declared.view.View.{View}
-use Rattle.live_rule.specs.declared.rights.ChainRight.{ChainRight}
-use Rattle.live_rule.specs.Places.{head_at, hold_at, note_at, queued_at, closed_at, finished_at, work_at}
-use Rattle.live_rule.specs.Objects.{ref, QueueWords, HoldWords}
-use Rattle.live_rule.specs.Rights.{chain, ClaimsChain, KnowsOwned, KnowsChain}
-use Rattle.live_rule.specs.Seats.{lent_chains}
-use Rattle.live_rule.specs.Rule.{KeepsRule}
-use Rattle.live_rule.proofs.Lemmas.{Unclaimed, looks}
-use Rattle.live_rule.proofs.Lemmas.{Calm, calm_same, calm_note, chain_part, lines_far, guards_far}
-use Rattle.live_rule.proofs.Lemmas.{queues_kept, works_kept, stores_beside, look_all}
+use Rattle.live_table.specs.rcu_model.declared.event.ObjectId.{ObjectId}
+use Rattle.live_table.specs.rcu_model.Sets.{first_of}
+use Rattle.live_table.specs.live_log.declared.event.LiveEvent.{LiveEvent}
+use Rattle.live_table.specs.live_log.declared.event.LiveEvent.TheVariants.{ChainNote}
+use Rattle.live_table.specs.live_log.Log.{Log, line_of, chain_note, IsLiveRun, Objects, objects_of, head}
+use Rattle.live_table.specs.live_rule.declared.view.Sizes.{Sizes}
+use Rattle.live_table.specs.live_rule.declared.view.View.{View}
+use Rattle.live_table.specs.live_rule.declared.rights.ChainRight.{ChainRight}
+use Rattle.live_table.specs.live_rule.Places.{head_at, hold_at, note_at, queued_at, closed_at, finished_at, work_at}
+use Rattle.live_table.specs.live_rule.Objects.{ref, QueueWords, HoldWords}
+use Rattle.live_table.specs.live_rule.Rights.{chain, ClaimsChain, KnowsOwned, KnowsChain}
+use Rattle.live_table.specs.live_rule.Seats.{lent_chains}
+use Rattle.live_table.specs.live_rule.Rule.{KeepsRule}
+use Rattle.live_table.proofs.live_rule.Lemmas.{Unclaimed, looks}
+use Rattle.live_table.proofs.live_rule.Lemmas.{Calm, calm_same, calm_note, chain_part, lines_far, guards_far}
+use Rattle.live_table.proofs.live_rule.Lemmas.{queues_kept, works_kept, stores_beside, look_all}
 use Rattle.live_table.specs.Steps.{looked_view}
 use Rattle.live_table.specs.Rights.{AreAsKnown, own_in, IsWriter}
 use Rattle.live_chains.specs.Chains.{MayWrite, held_view, noted_view, freed_view, noted, held, freed}

@@ -1,15 +1,15 @@
 -- A writer of a keyed chain shows what the rule asks by the list that it knows.
 use Rattle.std.proofs.Common.{Bool, ◌≡◌, ◌≢◌, ℕ, ◌<◌, List, ◌∷◌, sym, ap, ◌∙◌, subst}
-use Rattle.rcu_model.specs.declared.event.ObjectId.{ObjectId}
-use Rattle.rcu_model.specs.Sets.{In, at_object, without_object, replaced}
-use Rattle.rcu_model.proofs.Lemmas.{at_object_same, at_object_other, at_number_same}
-use Rattle.live_log.specs.Log.{Log, IsLiveRun, Begins, state_of, note_of}
-use Rattle.live_log.specs.Keys.{key_of, rank_of, Falls, keyed}
-use Rattle.live_log.proofs.Lemmas.{not_has}
-use Rattle.live_log.proofs.Lemmas.{note_stays, run_of}
-use Rattle.live_log.proofs.Lemmas.{chain_used}
-use Rattle.live_log.proofs.Lemmas.{falls_same, falls_push, falls_cut, falls_replaced}
-use Rattle.live_rule.specs.declared.view.View.{View}
+use Rattle.live_table.specs.rcu_model.declared.event.ObjectId.{ObjectId}
+use Rattle.live_table.specs.rcu_model.Sets.{In, at_object, without_object, replaced}
+use Rattle.live_table.proofs.rcu_model.Lemmas.{at_object_same, at_object_other, at_number_same}
+use Rattle.live_table.specs.live_log.Log.{Log, IsLiveRun, Begins, state_of, note_of}
+use Rattle.live_table.specs.live_log.Keys.{key_of, rank_of, Falls, keyed}
+use Rattle.live_table.proofs.live_log.Lemmas.{not_has}
+use Rattle.live_table.proofs.live_log.Lemmas.{note_stays, run_of}
+use Rattle.live_table.proofs.live_log.Lemmas.{chain_used}
+use Rattle.live_table.proofs.live_log.Lemmas.{falls_same, falls_push, falls_cut, falls_replaced}
+use Rattle.live_table.specs.live_rule.declared.view.View.{View}
 use Rattle.live_table.specs.Rights.{own_in, IsWriter, AreAsKnown, cell_in, object_in, payload_in, IsListed}
 use Rattle.live_chains.specs.Chains.{MayWrite, push_of, replace_of, cut_of}
 

@@ -3,26 +3,26 @@ use Rattle.std.proofs.Common.{◌≡◌, ℕ, ◌+◌, ◌<◌, List, Bool, get_
 use mathlib.Core.Option as lists
 use lib.ListN.{get_elem?}
 use Rattle.atomic_table.specs.Table.{State, Me, step, keeps, Allows}
-use Rattle.rcu_model.specs.declared.event.ObjectId.{ObjectId}
-use Rattle.rcu_model.specs.Machine.{IsOpen}
-use Rattle.rcu_model.specs.Sets.{In, first_of, next_of}
-use Rattle.rcu_model.proofs.Lemmas.{has_section_in, has_object_in, follows_has}
-use Rattle.live_log.specs.declared.event.LiveEvent.{LiveEvent}
-use Rattle.live_log.specs.Log.{Log, state_of, note_of, open_of, section, WasLinked, objects_of, head, link, Follows}
-use Rattle.live_log.proofs.Lemmas.{kept_log, protected, open_inside}
-use Rattle.live_log.proofs.Lemmas.{last_opened}
-use Rattle.live_log.proofs.Lemmas.{note_stays, run_of, was_later, was_used, next_linked, linked_here, first_linked}
-use Rattle.live_log.proofs.Lemmas.{first_used, some_next}
-use Rattle.live_rule.specs.declared.view.Sizes.{Sizes}
-use Rattle.live_rule.specs.declared.view.View.{View}
-use Rattle.live_rule.specs.declared.rights.SlotRight.{SlotRight}
-use Rattle.live_rule.specs.declared.rights.SlotRight.TheVariants as slot_right
-use Rattle.live_rule.specs.Places.{head_at, note_at, cell_at}
-use Rattle.live_rule.specs.Readers.{Fits}
-use Rattle.live_rule.specs.Objects.{ref, IsAlive}
-use Rattle.live_rule.specs.Rights.{slot, KnowsSlot, ClaimsSlot}
-use Rattle.live_rule.specs.Rule.{KeepsRule}
-use Rattle.live_rule.proofs.Lemmas.{looks, look_all}
+use Rattle.live_table.specs.rcu_model.declared.event.ObjectId.{ObjectId}
+use Rattle.live_table.specs.rcu_model.Machine.{IsOpen}
+use Rattle.live_table.specs.rcu_model.Sets.{In, first_of, next_of}
+use Rattle.live_table.proofs.rcu_model.Lemmas.{has_section_in, has_object_in, follows_has}
+use Rattle.live_table.specs.live_log.declared.event.LiveEvent.{LiveEvent}
+use Rattle.live_table.specs.live_log.Log.{Log, state_of, note_of, open_of, section, WasLinked, objects_of, head, link, Follows}
+use Rattle.live_table.proofs.live_log.Lemmas.{kept_log, protected, open_inside}
+use Rattle.live_table.proofs.live_log.Lemmas.{last_opened}
+use Rattle.live_table.proofs.live_log.Lemmas.{note_stays, run_of, was_later, was_used, next_linked, linked_here, first_linked}
+use Rattle.live_table.proofs.live_log.Lemmas.{first_used, some_next}
+use Rattle.live_table.specs.live_rule.declared.view.Sizes.{Sizes}
+use Rattle.live_table.specs.live_rule.declared.view.View.{View}
+use Rattle.live_table.specs.live_rule.declared.rights.SlotRight.{SlotRight}
+use Rattle.live_table.specs.live_rule.declared.rights.SlotRight.TheVariants as slot_right
+use Rattle.live_table.specs.live_rule.Places.{head_at, note_at, cell_at}
+use Rattle.live_table.specs.live_rule.Readers.{Fits}
+use Rattle.live_table.specs.live_rule.Objects.{ref, IsAlive}
+use Rattle.live_table.specs.live_rule.Rights.{slot, KnowsSlot, ClaimsSlot}
+use Rattle.live_table.specs.live_rule.Rule.{KeepsRule}
+use Rattle.live_table.proofs.live_rule.Lemmas.{looks, look_all}
 use Rattle.live_table.specs.Rights.{word_in, count_in, own_in, IsWriter, IsListed}
 use Rattle.live_table.specs.Steps.{Went}
 use Rattle.live_chains.specs.Chains.{IsInSection, MayRead, looked_head, looked_link, looked_word, looked_note}

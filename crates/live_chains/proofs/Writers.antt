@@ -7,30 +7,30 @@ use mathlib.Core.Option as lists
 use native.Mathlib.Decide.{ℕ_discrete}
 use lib.ListN.{get_elem?}
 use Rattle.atomic_table.specs.Table.{State}
-use Rattle.rcu_model.specs.declared.event.ObjectId.{ObjectId}
-use Rattle.rcu_model.specs.Sets.{In, IsPlace, first_of}
-use Rattle.live_log.specs.declared.event.LiveEvent.{LiveEvent}
-use Rattle.live_log.specs.declared.event.LiveEvent.TheVariants.{Object}
-use Rattle.live_log.specs.declared.event.ObjectEvent.{ObjectEvent}
-use Rattle.live_log.specs.Log.{Log, state_of, note_of, IsLiveRun, Objects, objects_of, Spot, head, link, spot_of, Leads}
-use Rattle.live_log.proofs.Lemmas.{kept_log}
-use Rattle.live_log.proofs.Lemmas.{note_stays, run_of}
-use Rattle.live_log.proofs.Lemmas.{chain_used, first_used, next_used}
-use Rattle.live_log.proofs.Lemmas.{Moved, leads_still, link_is, head_no_link}
-use Rattle.live_rule.specs.declared.view.Sizes.{Sizes}
-use Rattle.live_rule.specs.declared.view.View.{View}
-use Rattle.live_rule.specs.declared.rights.ChainRight.{ChainRight}
-use Rattle.live_rule.specs.declared.rights.RecordRight.{RecordRight}
-use Rattle.live_rule.specs.declared.rights.RecordRight.TheVariants as record_right
-use Rattle.live_rule.specs.Places.{chains_from, head_at, hold_at, note_at, queued_at, closed_at, finished_at, work_at, last_at, cell_at, words_of}
-use Rattle.live_rule.specs.Objects.{ref, IsLive, spot_at, IsPayload, Header}
-use Rattle.live_rule.specs.Rights.{object, ClaimsChain, ClaimsObject, KnowsOwned, KnowsChain, KnowsObject}
-use Rattle.live_rule.specs.Seats.{lent_chains}
-use Rattle.live_rule.specs.Rule.{KeepsRule}
-use Rattle.live_rule.proofs.Lemmas.{Unclaimed}
-use Rattle.live_rule.proofs.Lemmas.{calm_object, SameChain, chain_part, lines_far, guards_far}
-use Rattle.live_rule.proofs.Lemmas.{Enters, heap_spliced, same_object_moved, free_cell, same_spot}
-use Rattle.live_rule.proofs.Lemmas.{object_stays, queues_kept, works_kept, stores}
+use Rattle.live_table.specs.rcu_model.declared.event.ObjectId.{ObjectId}
+use Rattle.live_table.specs.rcu_model.Sets.{In, IsPlace, first_of}
+use Rattle.live_table.specs.live_log.declared.event.LiveEvent.{LiveEvent}
+use Rattle.live_table.specs.live_log.declared.event.LiveEvent.TheVariants.{Object}
+use Rattle.live_table.specs.live_log.declared.event.ObjectEvent.{ObjectEvent}
+use Rattle.live_table.specs.live_log.Log.{Log, state_of, note_of, IsLiveRun, Objects, objects_of, Spot, head, link, spot_of, Leads}
+use Rattle.live_table.proofs.live_log.Lemmas.{kept_log}
+use Rattle.live_table.proofs.live_log.Lemmas.{note_stays, run_of}
+use Rattle.live_table.proofs.live_log.Lemmas.{chain_used, first_used, next_used}
+use Rattle.live_table.proofs.live_log.Lemmas.{Moved, leads_still, link_is, head_no_link}
+use Rattle.live_table.specs.live_rule.declared.view.Sizes.{Sizes}
+use Rattle.live_table.specs.live_rule.declared.view.View.{View}
+use Rattle.live_table.specs.live_rule.declared.rights.ChainRight.{ChainRight}
+use Rattle.live_table.specs.live_rule.declared.rights.RecordRight.{RecordRight}
+use Rattle.live_table.specs.live_rule.declared.rights.RecordRight.TheVariants as record_right
+use Rattle.live_table.specs.live_rule.Places.{chains_from, head_at, hold_at, note_at, queued_at, closed_at, finished_at, work_at, last_at, cell_at, words_of}
+use Rattle.live_table.specs.live_rule.Objects.{ref, IsLive, spot_at, IsPayload, Header}
+use Rattle.live_table.specs.live_rule.Rights.{object, ClaimsChain, ClaimsObject, KnowsOwned, KnowsChain, KnowsObject}
+use Rattle.live_table.specs.live_rule.Seats.{lent_chains}
+use Rattle.live_table.specs.live_rule.Rule.{KeepsRule}
+use Rattle.live_table.proofs.live_rule.Lemmas.{Unclaimed}
+use Rattle.live_table.proofs.live_rule.Lemmas.{calm_object, SameChain, chain_part, lines_far, guards_far}
+use Rattle.live_table.proofs.live_rule.Lemmas.{Enters, heap_spliced, same_object_moved, free_cell, same_spot}
+use Rattle.live_table.proofs.live_rule.Lemmas.{object_stays, queues_kept, works_kept, stores}
 use Rattle.live_table.specs.Rights.{own_in, IsWriter, IsListed}
 use Rattle.live_table.proofs.Lemmas as writer
 use Rattle.live_table.proofs.Lemmas.{alive_linked, unclaimed}

@@ -1,22 +1,22 @@
 -- What each step on a chain asks and tells.
 use Rattle.std.specs.Prelude.{◌≡◌, ◌≢◌, ◌⊎◌, ℕ, ◌+◌, ◌<◌, ◌≤◌, [], ◌∷◌, length, slice_index_or, List, Option, Some, None, Bool}
 use Rattle.atomic_table.specs.Table.{Me, Step}
-use Rattle.rcu_model.specs.declared.event.ObjectId.{ObjectId}
-use Rattle.rcu_model.specs.Machine.{IsAllowed, IsOpen}
-use Rattle.rcu_model.specs.Sets.{In, IsPlace, follows, without_object, next_of, first_of, replaced}
-use Rattle.live_log.specs.declared.event.LiveEvent.{LiveEvent}
-use Rattle.live_log.specs.declared.event.LiveEvent.TheVariants.{ChainNote, Object}
-use Rattle.live_log.specs.declared.event.ObjectEvent.TheVariants.{Push, Replace, Cut}
-use Rattle.live_log.specs.Log.{Log, IsLiveRun, Begins, WasLinked, section, event_of, state_of, objects_of, spot_of, Follows, note_of, chain_note}
-use Rattle.live_rule.specs.declared.view.Sizes.{Sizes}
-use Rattle.live_rule.specs.declared.view.View.{View}
-use Rattle.live_rule.specs.declared.rights.ChainRight.{ChainRight}
-use Rattle.live_rule.specs.declared.rights.RecordRight.{RecordRight}
-use Rattle.live_rule.specs.declared.rights.RecordRight.TheVariants.{Nothing, Unlinked}
-use Rattle.live_rule.specs.Places.{head_at, hold_at, note_at, cell_at}
-use Rattle.live_rule.specs.Objects.{ref, spot_at}
-use Rattle.live_rule.specs.Readers.{IsClosed}
-use Rattle.live_rule.specs.Seats.{lent_chains}
+use Rattle.live_table.specs.rcu_model.declared.event.ObjectId.{ObjectId}
+use Rattle.live_table.specs.rcu_model.Machine.{IsAllowed, IsOpen}
+use Rattle.live_table.specs.rcu_model.Sets.{In, IsPlace, follows, without_object, next_of, first_of, replaced}
+use Rattle.live_table.specs.live_log.declared.event.LiveEvent.{LiveEvent}
+use Rattle.live_table.specs.live_log.declared.event.LiveEvent.TheVariants.{ChainNote, Object}
+use Rattle.live_table.specs.live_log.declared.event.ObjectEvent.TheVariants.{Push, Replace, Cut}
+use Rattle.live_table.specs.live_log.Log.{Log, IsLiveRun, Begins, WasLinked, section, event_of, state_of, objects_of, spot_of, Follows, note_of, chain_note}
+use Rattle.live_table.specs.live_rule.declared.view.Sizes.{Sizes}
+use Rattle.live_table.specs.live_rule.declared.view.View.{View}
+use Rattle.live_table.specs.live_rule.declared.rights.ChainRight.{ChainRight}
+use Rattle.live_table.specs.live_rule.declared.rights.RecordRight.{RecordRight}
+use Rattle.live_table.specs.live_rule.declared.rights.RecordRight.TheVariants.{Nothing, Unlinked}
+use Rattle.live_table.specs.live_rule.Places.{head_at, hold_at, note_at, cell_at}
+use Rattle.live_table.specs.live_rule.Objects.{ref, spot_at}
+use Rattle.live_table.specs.live_rule.Readers.{IsClosed}
+use Rattle.live_table.specs.live_rule.Seats.{lent_chains}
 use Rattle.live_table.specs.Rights.{IsOwner, word_in, count_in, own_in, IsWriter, IsListed, AreAsKnown, KnowsChains, cell_in, object_in, payload_in}
 use Rattle.live_table.specs.Steps.{Adds, IsNow, Went, looked_view}
 

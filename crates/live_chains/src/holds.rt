@@ -1,16 +1,13 @@
 //! Who writes a chain, and the chain's note. None of these steps waits.
 ghost use Rattle.std.specs.Prelude.{◌≡◌, ◌≢◌, ◌<◌, ◌≤◌};
-ghost use Rattle.live_log.specs.declared.event.LiveEvent.TheVariants.{ChainNote};
-ghost use Rattle.live_rule.specs.Places.{hold_at};
+ghost use Rattle.live_table.specs.live_log.declared.event.LiveEvent.TheVariants.{ChainNote};
+ghost use Rattle.live_table.specs.live_rule.Places.{hold_at};
 ghost use Rattle.live_table.specs.Rights.{IsListed, IsWriter, own_in};
 ghost use Rattle.live_table.specs.Steps.{Keeps, Went, looked_view};
 ghost use Rattle.live_chains.specs.Chains.{IsHeld, MayWrite, Writes, freed_view, held_view, noted_view};
 
 use crate::plays::{Frees, Holds, StoresNote};
-use gp_memb::GracePlan;
-use live_log::ChainRule;
-use live_rule::LiveSeat;
-use live_table::LiveTable;
+use live_table::{ChainRule, GracePlan, LiveSeat, LiveTable};
 
 /// Takes the right to write a chain, if nobody has it: its hold word goes from 0 to 1. Answers the hold word that it
 /// found, 0 or 1, which is kept among the looks: the chain is the seat's own exactly where that is 0, before the chains

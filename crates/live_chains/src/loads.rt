@@ -1,16 +1,13 @@
 //! The loads of a reader in a section, or of a chain's writer. None of them waits, and none writes an event.
 ghost use Rattle.std.specs.Prelude.{◌≡◌, ◌<◌, ◌≤◌, Option, length, slice_index_or};
-ghost use Rattle.rcu_model.specs.declared.event.ObjectId.{ObjectId};
-ghost use Rattle.live_log.specs.Log.{chain_note, note_of};
+ghost use Rattle.live_table.specs.rcu_model.declared.event.ObjectId.{ObjectId};
+ghost use Rattle.live_table.specs.live_log.Log.{chain_note, note_of};
 ghost use Rattle.live_table.specs.Steps.{Keeps, Went};
 ghost use Rattle.live_table.specs.Rights.{IsWriter, KnowsChains, own_in};
 ghost use Rattle.live_chains.specs.Chains.{IsFirst, IsNext, MayRead, StaysOpen};
 
 use crate::plays::{LooksHead, LooksLink, LooksNote, LooksWord};
-use gp_memb::GracePlan;
-use live_log::ChainRule;
-use live_rule::LiveSeat;
-use live_table::LiveTable;
+use live_table::{ChainRule, GracePlan, LiveSeat, LiveTable};
 
 /// Loads the head of a chain, liburcu's `rcu_dereference` of its first pointer: 0 where the chain is empty, else 1 more
 /// than the first object's record. A reader's open section stays open, and may hold the first object; a writer goes on

@@ -2,9 +2,7 @@
 ghost use Rattle.live_chains.specs.Chains.{cuts, freed, held, looked_head, looked_link, looked_note, looked_word, noted, pushed, replaces};
 
 use atomic_table::Play;
-use gp_memb::GracePlan;
-use live_log::ChainRule;
-use live_rule::View;
+use live_table::{ChainRule, GracePlan, View};
 use std::marker::PhantomData;
 
 pub(crate) struct LooksHead<P, K>(PhantomData<(P, K)>);

@@ -1,21 +1,18 @@
 //! A push, a replacement and a cut whole: the link of a record that comes is stored before the word that leads to it,
 //! and the link of what is cut is loaded.
 ghost use Rattle.std.specs.Prelude.{◌≡◌, ◌+◌, ◌<◌, Option, IfSome};
-ghost use Rattle.rcu_model.specs.Sets.{next_of};
-ghost use Rattle.rcu_model.specs.declared.event.ObjectId.{ObjectId};
-ghost use Rattle.live_log.specs.Log.{note_of, objects_of};
-ghost use Rattle.live_rule.specs.Objects.{ref};
+ghost use Rattle.live_table.specs.rcu_model.Sets.{next_of};
+ghost use Rattle.live_table.specs.rcu_model.declared.event.ObjectId.{ObjectId};
+ghost use Rattle.live_table.specs.live_log.Log.{note_of, objects_of};
+ghost use Rattle.live_table.specs.live_rule.Objects.{ref};
 ghost use Rattle.live_table.specs.Rights.{IsFresh, IsListed, IsWriter, cell_in, own_in};
 ghost use Rattle.live_table.specs.Steps.{Keeps};
 ghost use Rattle.live_chains.specs.Chains.{IsBefore, IsThere, MayWrite, Writes, cut_of, cut_view, push_of, pushed_view, replace_of, replaced_view};
 
 use crate::loads::load_link;
 use crate::steps::{store_cut, store_push, store_replace};
-use gp_memb::GracePlan;
-use live_log::ChainRule;
 use live_records::store_link;
-use live_rule::LiveSeat;
-use live_table::LiveTable;
+use live_table::{ChainRule, GracePlan, LiveSeat, LiveTable};
 
 /// Makes the seat's fresh record the first of its chain, whose head is `head`, in two stores: the record's link, and
 /// then the head, liburcu's `rcu_assign_pointer`. It never waits.

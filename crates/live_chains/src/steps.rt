@@ -1,18 +1,15 @@
 //! The one store by which a push, a replacement or a cut is published. None of these steps waits.
 ghost use Rattle.std.specs.Prelude.{◌≡◌, ◌+◌, ◌<◌, Option, IfSome};
-ghost use Rattle.rcu_model.specs.Sets.{next_of};
-ghost use Rattle.rcu_model.specs.declared.event.ObjectId.{ObjectId};
-ghost use Rattle.live_log.specs.Log.{objects_of};
-ghost use Rattle.live_rule.specs.Objects.{ref};
+ghost use Rattle.live_table.specs.rcu_model.Sets.{next_of};
+ghost use Rattle.live_table.specs.rcu_model.declared.event.ObjectId.{ObjectId};
+ghost use Rattle.live_table.specs.live_log.Log.{objects_of};
+ghost use Rattle.live_table.specs.live_rule.Objects.{ref};
 ghost use Rattle.live_table.specs.Rights.{IsFresh, IsListed, IsWriter, cell_in, link_in, own_in};
 ghost use Rattle.live_table.specs.Steps.{Keeps};
 ghost use Rattle.live_chains.specs.Chains.{IsBefore, IsThere, MayWrite, Writes, cut_of, cut_view, place_index, push_of, pushed_view, replace_of, replaced_view};
 
 use crate::plays::{Cuts, Pushes, Replaces};
-use gp_memb::GracePlan;
-use live_log::ChainRule;
-use live_rule::LiveSeat;
-use live_table::LiveTable;
+use live_table::{ChainRule, GracePlan, LiveSeat, LiveTable};
 
 /// The word that leads to the first object of a chain, or to the object after a record.
 pub(crate) fn spot_place<P: GracePlan, K: ChainRule>(

@@ -7,10 +7,10 @@ use Rattle.gp_memb.specs.declared.plan.Action.TheVariants.{Load, LoadGroup, Stor
 use Rattle.gp_memb.specs.Plan.{StoresInOrder, IsPresent, present_after}
 use Rattle.live_log.specs.declared.event.LiveEvent.{LiveEvent}
 use Rattle.live_log.specs.Log.{Log, MayBePresent}
-use Rattle.live_rule.specs.declared.view.View.{View}
-use Rattle.live_rule.specs.declared.rights.GraceRight.TheVariants.{Works}
-use Rattle.live_rule.specs.Places.{group_at, slot_at}
-use Rattle.live_table.specs.Rights.{looks_in, before_in, seq_in, present_in}
+use Rattle.live_words.specs.live_rule.declared.view.View.{View}
+use Rattle.live_words.specs.live_rule.declared.rights.GraceRight.TheVariants.{Works}
+use Rattle.live_words.specs.live_rule.Places.{group_at, slot_at}
+use Rattle.live_words.specs.live_table.Rights.{looks_in, before_in, seq_in, present_in}
 use Rattle.live_log.specs.declared.event.LiveEvent.TheVariants.{Present, SeqOdd}
 use Rattle.live_grace.specs.Answers.{Gained, stored_by, stores_of}
 use Rattle.live_grace.specs.Going.{Going, InLoop, IsLogged, Begun, WasTold}

@@ -7,11 +7,11 @@ use Rattle.gp_memb.specs.Plan.{after_loads}
 use Rattle.live_log.specs.declared.event.LiveEvent.{LiveEvent}
 use Rattle.live_log.specs.declared.event.LiveEvent.TheVariants.{SeqOdd}
 use Rattle.live_log.specs.Log.{Log, present_of, seq_of, IsBound, IsLiveRun, Begins}
-use Rattle.live_rule.specs.declared.view.View.{View}
-use Rattle.live_rule.specs.declared.rights.GraceRight.TheVariants.{Works}
-use Rattle.live_rule.specs.Places.{group_at, slot_at}
-use Rattle.live_rule.specs.Steps.{Precedes, at_log}
-use Rattle.live_table.specs.Rights.{IsWorking, before_in, looks_in, present_in, seq_in}
+use Rattle.live_words.specs.live_rule.declared.view.View.{View}
+use Rattle.live_words.specs.live_rule.declared.rights.GraceRight.TheVariants.{Works}
+use Rattle.live_words.specs.live_rule.Places.{group_at, slot_at}
+use Rattle.live_words.specs.live_rule.Steps.{Precedes, at_log}
+use Rattle.live_words.specs.live_table.Rights.{IsWorking, before_in, looks_in, present_in, seq_in}
 use Rattle.live_grace.specs.Answers.{Gained, stored_by}
 
 -- the period, with SEQ at q, began after `old`, when PHASE or NUM was `first`

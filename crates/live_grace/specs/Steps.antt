@@ -7,9 +7,9 @@ use Rattle.gp_memb.specs.declared.plan.Turn.TheVariants as turned
 use Rattle.gp_memb.specs.Plan.{after_loads}
 use Rattle.live_log.specs.declared.event.LiveEvent.{LiveEvent}
 use Rattle.live_log.specs.Log.{Log, IsLiveRun, Begins, HaveEnded}
-use Rattle.live_rule.specs.declared.view.View.{View}
-use Rattle.live_rule.specs.Places.{slot_at}
-use Rattle.live_table.specs.Rights.{before_in}
+use Rattle.live_words.specs.live_rule.declared.view.View.{View}
+use Rattle.live_words.specs.live_rule.Places.{slot_at}
+use Rattle.live_words.specs.live_table.Rights.{before_in}
 use Rattle.live_grace.specs.declared.period.Progress.{Progress}
 use Rattle.live_grace.specs.declared.period.Progress.TheVariants.{Done, Going, InTheWay}
 use Rattle.live_grace.specs.Answers.{IsCookieOf}

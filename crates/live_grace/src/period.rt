@@ -2,12 +2,12 @@
 ghost use Rattle.std.specs.Prelude.{◌≡◌, ◌+◌, ◌<◌, ◌≤◌, ◌^◌, ◌%◌, ℕ, false, true};
 ghost use Rattle.reader_word.specs.declared.layout.Layout.TheVariants.{Wide};
 ghost use Rattle.atomic_table.specs.Table.{Me};
-ghost use Rattle.live_rule.specs.declared.view.View.{View};
+ghost use Rattle.live_words.specs.live_rule.declared.view.View.{View};
 ghost use Rattle.live_log.specs.Log.{HaveEnded, IsBound, IsLiveRun};
-ghost use Rattle.live_rule.specs.declared.rights.GraceRight.TheVariants.{Rests};
-ghost use Rattle.live_rule.specs.Steps.{Precedes, at_log};
-ghost use Rattle.live_table.specs.Rights.{before_in, looks_in};
-ghost use Rattle.live_table.specs.Steps.{Keeps};
+ghost use Rattle.live_words.specs.live_rule.declared.rights.GraceRight.TheVariants.{Rests};
+ghost use Rattle.live_words.specs.live_rule.Steps.{Precedes, at_log};
+ghost use Rattle.live_words.specs.live_table.Rights.{before_in, looks_in};
+ghost use Rattle.live_words.specs.live_table.Steps.{Keeps};
 ghost use Rattle.gp_memb.specs.declared.plan.Action.TheVariants.{Load};
 ghost use Rattle.live_grace.specs.declared.period.Progress.TheVariants.{Done, InTheWay};
 ghost use Rattle.live_grace.specs.Answers.{HasWords, RanPlan, WholeGracePeriod};
@@ -17,9 +17,9 @@ ghost use Rattle.live_grace.specs.Steps.{BeganAfter, Turned, progress_at};
 use crossbeam_utils::Backoff;
 use gp_memb::{Action, GracePlan, Turn};
 use live_log::ChainRule;
-use live_rule::LiveSeat;
-use live_table::LiveTable;
-use live_words::{load_group, load_slot, store_even, store_odd, store_present};
+use live_words::{
+    LiveSeat, LiveTable, load_group, load_slot, store_even, store_odd, store_present,
+};
 use std::sync::Wait;
 
 /// What a step of a grace period came to.

@@ -2,10 +2,10 @@
 ghost use Rattle.std.specs.Prelude.{◌≡◌, ◌+◌, ◌<◌, ◌≤◌, ◌%◌, ◌^◌, ◌↔◌, ℕ, true, false, []};
 ghost use Rattle.reader_word.specs.declared.layout.Layout.TheVariants.{Wide};
 ghost use Rattle.live_log.specs.Log.{IsLiveRun};
-ghost use Rattle.live_rule.specs.declared.rights.GraceRight.TheVariants.{Rests};
-ghost use Rattle.live_rule.specs.Steps.{Precedes};
-ghost use Rattle.live_table.specs.Rights.{looks_in};
-ghost use Rattle.live_table.specs.Steps.{Keeps};
+ghost use Rattle.live_words.specs.live_rule.declared.rights.GraceRight.TheVariants.{Rests};
+ghost use Rattle.live_words.specs.live_rule.Steps.{Precedes};
+ghost use Rattle.live_words.specs.live_table.Rights.{looks_in};
+ghost use Rattle.live_words.specs.live_table.Steps.{Keeps};
 ghost use Rattle.live_grace.specs.declared.period.Progress.TheVariants.{Done, InTheWay};
 ghost use Rattle.live_grace.specs.Answers.{HasWords};
 ghost use Rattle.live_grace.specs.Going.{IsWithin, WorksAt};
@@ -14,9 +14,7 @@ ghost use Rattle.live_grace.specs.Steps.{BeganAfter, HasEnded, IsAnswered, Stays
 use crate::period::{Progress, begin, turn};
 use gp_memb::GracePlan;
 use live_log::ChainRule;
-use live_rule::LiveSeat;
-use live_table::LiveTable;
-use live_words::load_seq;
+use live_words::{LiveSeat, LiveTable, load_seq};
 use poll_cookie::{Cookie, is_past};
 use std::marker::PhantomData;
 

@@ -6,19 +6,19 @@ use mathlib.Core.Option.{Option, none, some}
 use native.Mathlib.Decide.{ℕ_discrete}
 use lib.ListN.{get_elem?}
 use Rattle.atomic_table.specs.Table.{State, Me, Act, step, keeps, stepped, Valid, carried_after, Allows}
-use Rattle.gp_memb.specs.Plan.{bit_of}
-use Rattle.live_log.specs.declared.event.LiveEvent.{LiveEvent}
-use Rattle.live_log.specs.Log.{Log, open_of, sections_of}
-use Rattle.live_rule.specs.declared.view.Sizes.{Sizes}
-use Rattle.live_rule.specs.declared.view.View.{View}
-use Rattle.live_rule.specs.declared.rights.SlotRight.{SlotRight}
-use Rattle.live_rule.specs.declared.rights.SlotRight.TheVariants as slot_right
-use Rattle.live_rule.specs.Places.{seq_at, present_at, group_at, slot_at, bit_at}
-use Rattle.live_rule.specs.Readers.{IsClosed, Fits, ReaderWords}
-use Rattle.live_rule.specs.Rights.{slot, ClaimsSlot, KnowsSlot}
-use Rattle.live_rule.specs.Rule.{KeepsRule}
-use Rattle.live_rule.specs.Steps.{at_log}
-use Rattle.live_rule.proofs.Lemmas.{SameSlot, SlotStep, quiet_same, slots_kept, gained_slot, given_slot, grace_kept, low_stores, looks, look_all}
+use Rattle.live_table.specs.gp_memb.Plan.{bit_of}
+use Rattle.live_table.specs.live_log.declared.event.LiveEvent.{LiveEvent}
+use Rattle.live_table.specs.live_log.Log.{Log, open_of, sections_of}
+use Rattle.live_table.specs.live_rule.declared.view.Sizes.{Sizes}
+use Rattle.live_table.specs.live_rule.declared.view.View.{View}
+use Rattle.live_table.specs.live_rule.declared.rights.SlotRight.{SlotRight}
+use Rattle.live_table.specs.live_rule.declared.rights.SlotRight.TheVariants as slot_right
+use Rattle.live_table.specs.live_rule.Places.{seq_at, present_at, group_at, slot_at, bit_at}
+use Rattle.live_table.specs.live_rule.Readers.{IsClosed, Fits, ReaderWords}
+use Rattle.live_table.specs.live_rule.Rights.{slot, ClaimsSlot, KnowsSlot}
+use Rattle.live_table.specs.live_rule.Rule.{KeepsRule}
+use Rattle.live_table.specs.live_rule.Steps.{at_log}
+use Rattle.live_table.proofs.live_rule.Lemmas.{SameSlot, SlotStep, quiet_same, slots_kept, gained_slot, given_slot, grace_kept, low_stores, looks, look_all}
 use Rattle.live_table.specs.Rights.{count_in}
 use Rattle.live_groups.specs.Groups.{SetsBit, ClearsBit, DiffersAt, claimed, released, looked_group}
 

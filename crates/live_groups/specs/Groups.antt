@@ -2,14 +2,14 @@
 use Rattle.std.specs.Prelude.{◌≡◌, ◌≢◌, ℕ, ◌/◌, ◌%◌, ◌<◌, Bool, true, false, bit_and, bit_or}
 use mathlib.Core.Option.{none}
 use Rattle.atomic_table.specs.Table.{Me, Step}
-use Rattle.gp_memb.specs.Plan.{bit_of}
-use Rattle.live_log.specs.declared.event.LiveEvent.{LiveEvent}
-use Rattle.live_log.specs.Log.{Log, open_of, sections_of}
-use Rattle.live_rule.specs.declared.view.View.{View}
-use Rattle.live_rule.specs.declared.rights.SlotRight.{SlotRight}
-use Rattle.live_rule.specs.declared.rights.SlotRight.TheVariants as slot_right
-use Rattle.live_rule.specs.Places.{group_at}
-use Rattle.live_rule.specs.Readers.{IsClosed}
+use Rattle.live_table.specs.gp_memb.Plan.{bit_of}
+use Rattle.live_table.specs.live_log.declared.event.LiveEvent.{LiveEvent}
+use Rattle.live_table.specs.live_log.Log.{Log, open_of, sections_of}
+use Rattle.live_table.specs.live_rule.declared.view.View.{View}
+use Rattle.live_table.specs.live_rule.declared.rights.SlotRight.{SlotRight}
+use Rattle.live_table.specs.live_rule.declared.rights.SlotRight.TheVariants as slot_right
+use Rattle.live_table.specs.live_rule.Places.{group_at}
+use Rattle.live_table.specs.live_rule.Readers.{IsClosed}
 use Rattle.live_table.specs.Rights.{IsOwner, count_in, word_in}
 use Rattle.live_table.specs.Steps.{Went, looked_view}
 

@@ -2,9 +2,7 @@
 ghost use Rattle.live_groups.specs.Groups.{claimed, looked_group, released};
 
 use atomic_table::Play;
-use gp_memb::GracePlan;
-use live_log::ChainRule;
-use live_rule::View;
+use live_table::{ChainRule, GracePlan, View};
 use std::marker::PhantomData;
 
 pub(crate) struct LooksGroup<P, K>(PhantomData<(P, K)>);

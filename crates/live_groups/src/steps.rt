@@ -1,18 +1,15 @@
 //! One function for each kind of step on a group word. None waits, and none tries again.
 ghost use Rattle.std.specs.Prelude.{◌≡◌, ◌/◌, ◌%◌, ◌<◌, true, false};
-ghost use Rattle.gp_memb.specs.Plan.{bit_of};
-ghost use Rattle.live_rule.specs.Places.{group_at};
-ghost use Rattle.live_rule.specs.Readers.{IsClosed};
+ghost use Rattle.live_table.specs.gp_memb.Plan.{bit_of};
+ghost use Rattle.live_table.specs.live_rule.Places.{group_at};
+ghost use Rattle.live_table.specs.live_rule.Readers.{IsClosed};
 ghost use Rattle.live_table.specs.Rights.{IsOwner, word_in};
 ghost use Rattle.live_table.specs.Steps.{Keeps, Went, looked_view};
 ghost use Rattle.live_groups.specs.Groups.{GivesSlot, TakesSlot};
 
 use crate::masks::{all_bits_but, bit_alone};
 use crate::plays::{Claims, LooksGroup, Releases};
-use gp_memb::GracePlan;
-use live_log::ChainRule;
-use live_rule::LiveSeat;
-use live_table::LiveTable;
+use live_table::{ChainRule, GracePlan, LiveSeat, LiveTable};
 
 /// Loads the word of a group of 64 slots. What it found is kept among the looks.
 pub fn look_group<P: GracePlan, K: ChainRule>(

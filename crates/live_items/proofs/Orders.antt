@@ -6,12 +6,12 @@ use Rattle.callback_queue.specs.declared.item.Item.{Item}
 use Rattle.callback_queue.specs.Queue.{items_of, given_of, handed_out, pushed, closed_queue, with_place, segments_of, taken_out}
 use Rattle.live_log.specs.Log.{Log, Begins, line_of}
 use Rattle.live_log.proofs.Lemmas.{begins_trans, line_grows}
-use Rattle.live_rule.specs.declared.view.Sizes.{Sizes}
-use Rattle.live_rule.specs.declared.view.View.{View}
-use Rattle.live_rule.specs.declared.rights.QueueRight.TheVariants.{Owns}
-use Rattle.live_rule.specs.declared.rights.RecordRight.TheVariants.{Nothing}
-use Rattle.live_table.specs.Rights.{object_in}
-use Rattle.live_words.specs.Queues.{IsAt, IsLast}
+use Rattle.live_words.specs.live_rule.declared.view.Sizes.{Sizes}
+use Rattle.live_words.specs.live_rule.declared.view.View.{View}
+use Rattle.live_words.specs.live_rule.declared.rights.QueueRight.TheVariants.{Owns}
+use Rattle.live_words.specs.live_rule.declared.rights.RecordRight.TheVariants.{Nothing}
+use Rattle.live_words.specs.live_table.Rights.{object_in}
+use Rattle.live_words.specs.live_queues.Queues.{IsAt, IsLast}
 use Rattle.live_items.specs.Items.{JobValue, Jobs, IsPlaced, InOrder, IsUnderLock, word_of}
 
 in_order_later : (q : ℕ) (old new : Log) (n : ℕ) (items : List (Item JobValue)) → Begins old new → InOrder q old n items → InOrder q new n items

@@ -5,12 +5,12 @@ use Rattle.callback_queue.specs.Queue.{Queue, items_of, given_of, noted, after_a
 use Rattle.live_log.specs.declared.event.LiveEvent.{LiveEvent}
 use Rattle.live_log.specs.declared.event.LiveEvent.TheVariants.{CloseQueue}
 use Rattle.live_log.specs.Log.{Log, Begins, IsLiveRun, line_of}
-use Rattle.live_rule.specs.declared.view.Sizes.{Sizes}
-use Rattle.live_rule.specs.declared.view.View.{View}
-use Rattle.live_rule.specs.declared.rights.QueueRight.TheVariants.{Owns}
-use Rattle.live_rule.specs.declared.rights.RecordRight.TheVariants.{Nothing}
-use Rattle.live_table.specs.Rights.{object_in}
-use Rattle.live_words.specs.Queues.{IsAt}
+use Rattle.live_words.specs.live_rule.declared.view.Sizes.{Sizes}
+use Rattle.live_words.specs.live_rule.declared.view.View.{View}
+use Rattle.live_words.specs.live_rule.declared.rights.QueueRight.TheVariants.{Owns}
+use Rattle.live_words.specs.live_rule.declared.rights.RecordRight.TheVariants.{Nothing}
+use Rattle.live_words.specs.live_table.Rights.{object_in}
+use Rattle.live_words.specs.live_queues.Queues.{IsAt}
 
 -- what a job's seat knows, and its record
 abbrev pub JobValue : Type 0

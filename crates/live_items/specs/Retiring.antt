@@ -5,7 +5,7 @@ use Rattle.live_log.specs.declared.event.LiveEvent.{LiveEvent}
 use Rattle.live_log.specs.declared.event.LiveEvent.TheVariants.{Object}
 use Rattle.live_log.specs.declared.event.ObjectEvent.TheVariants.{Queue, Retire}
 use Rattle.live_log.specs.Log.{Log, Begins, IsLiveRun}
-use Rattle.live_words.specs.Queues.{IsLast}
+use Rattle.live_words.specs.live_queues.Queues.{IsLast}
 
 -- the object was retired at a log of which the first holds, and then it was queued, after so many
 pub record Queues (qsbr : Bool) (allows : Log → LiveEvent → Type 0) (at_retire : Log → Type 0) (o : ObjectId) (queue given : ℕ) (log : Log) : Type 0 where

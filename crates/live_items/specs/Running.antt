@@ -5,7 +5,7 @@ use Rattle.live_log.specs.declared.event.LiveEvent.{LiveEvent}
 use Rattle.live_log.specs.declared.event.LiveEvent.TheVariants.{Object}
 use Rattle.live_log.specs.declared.event.ObjectEvent.TheVariants.{Run}
 use Rattle.live_log.specs.Log.{Log, Begins, IsLiveRun}
-use Rattle.live_rule.specs.declared.view.View.{View}
+use Rattle.live_words.specs.live_rule.declared.view.View.{View}
 
 -- the object was run, after all that its job and its worker had seen
 pub record Runs (qsbr : Bool) (allows : Log → LiveEvent → Type 0) (queued worker : Log) (o : ObjectId) (log : Log) : Type 0 where

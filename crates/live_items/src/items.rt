@@ -5,10 +5,10 @@ ghost use Rattle.rcu_model.specs.declared.event.ObjectId.{ObjectId};
 ghost use Rattle.callback_queue.specs.Queue.{closed_queue, empty_queue, given_of, handed_out, pushed, sealed, taken_out, with_place};
 ghost use Rattle.live_log.specs.declared.event.LiveEvent.TheVariants.{CloseQueue};
 ghost use Rattle.live_log.specs.Log.{Begins, line_of};
-ghost use Rattle.live_rule.specs.declared.rights.QueueRight.TheVariants.{Owns};
-ghost use Rattle.live_rule.specs.declared.rights.RecordRight.TheVariants.{Nothing};
-ghost use Rattle.live_table.specs.Rights.{object_in};
-ghost use Rattle.live_table.specs.Steps.{Keeps};
+ghost use Rattle.live_words.specs.live_rule.declared.rights.QueueRight.TheVariants.{Owns};
+ghost use Rattle.live_words.specs.live_rule.declared.rights.RecordRight.TheVariants.{Nothing};
+ghost use Rattle.live_words.specs.live_table.Rights.{object_in};
+ghost use Rattle.live_words.specs.live_table.Steps.{Keeps};
 ghost use Rattle.live_read.specs.Hearing.{OnlyHears};
 ghost use Rattle.live_items.specs.Items.{Closes, InOrder, JobValue, ripened};
 ghost use Rattle.live_items.specs.Retiring.{IsAfterAll, Queues};
@@ -36,7 +36,7 @@ pub struct Items<B: Site, C: Drop> {
 
 impl<B: Site, C: Drop> Model for Items<B, C> {
     ghost use Rattle.std.specs.Prelude.{◌≡◌, ℕ, []};
-    ghost use Rattle.live_rule.specs.declared.view.View.{View};
+    ghost use Rattle.live_words.specs.live_rule.declared.view.View.{View};
     ghost use Rattle.live_items.specs.Items.{IsUnderLock, Jobs};
 
     // The items, what the queue's seat knows, and which queue it is.

@@ -15,7 +15,7 @@ pub struct Job<B: Site, C: Drop> {
 
 impl<B: Site, C: Drop> Model for Job<B, C> {
     ghost use Rattle.std.specs.Prelude.{◌≡◌, ◌<◌, []};
-    ghost use Rattle.live_table.specs.Rights.{IsQueued, cell_in};
+    ghost use Rattle.live_words.specs.live_table.Rights.{IsQueued, cell_in};
     ghost use Rattle.live_items.specs.Items.{JobValue};
 
     // What its seat knows, and its record.
@@ -28,7 +28,7 @@ impl<B: Site, C: Drop> Model for Job<B, C> {
 
 impl<B: Site, C: Drop> Job<B, C> {
     ghost use Rattle.std.specs.Prelude.{◌≡◌, ◌<◌, []};
-    ghost use Rattle.live_table.specs.Rights.{IsQueued, cell_in};
+    ghost use Rattle.live_words.specs.live_table.Rights.{IsQueued, cell_in};
 
     /// Of a seat with the right to run its object.
     pub(crate) fn of(seat: LiveSeat, cell: usize, callback: C) -> Job<B, C>

@@ -1,11 +1,11 @@
 //! How an object is retired and its callback queued, made of its steps.
 ghost use Rattle.std.specs.Prelude.{◌≡◌, ◌+◌, ◌<◌, ◌^◌, []};
-ghost use Rattle.live_rule.specs.declared.rights.QueueRight.TheVariants.{Owns};
-ghost use Rattle.live_rule.specs.declared.rights.RecordRight.TheVariants.{Nothing, Queued};
+ghost use Rattle.live_words.specs.live_rule.declared.rights.QueueRight.TheVariants.{Owns};
+ghost use Rattle.live_words.specs.live_rule.declared.rights.RecordRight.TheVariants.{Nothing, Queued};
 ghost use Rattle.live_log.specs.Log.{Begins};
-ghost use Rattle.live_rule.specs.Steps.{Precedes};
-ghost use Rattle.live_table.specs.Rights.{IsInQueue, IsUnlinked, cell_in, closed_in, object_in, queue_in, queued_in};
-ghost use Rattle.live_table.specs.Steps.{Keeps};
+ghost use Rattle.live_words.specs.live_rule.Steps.{Precedes};
+ghost use Rattle.live_words.specs.live_table.Rights.{IsInQueue, IsUnlinked, cell_in, closed_in, object_in, queue_in, queued_in};
+ghost use Rattle.live_words.specs.live_table.Steps.{Keeps};
 ghost use Rattle.live_items.specs.Retiring.{Queues};
 
 use gp_memb::GracePlan;

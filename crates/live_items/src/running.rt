@@ -2,9 +2,9 @@
 ghost use Rattle.std.specs.Prelude.{◌≡◌, ◌<◌};
 ghost use Rattle.rcu_model.specs.Sets.{In};
 ghost use Rattle.live_log.specs.Log.{payload_of, state_of};
-ghost use Rattle.live_table.specs.Rights.{cell_in, object_in};
-ghost use Rattle.live_table.specs.Steps.{Keeps, Went};
-ghost use Rattle.live_words.specs.Records.{HasCut, IsRipe};
+ghost use Rattle.live_words.specs.live_table.Rights.{cell_in, object_in};
+ghost use Rattle.live_words.specs.live_table.Steps.{Keeps, Went};
+ghost use Rattle.live_words.specs.live_records.Records.{HasCut, IsRipe};
 ghost use Rattle.live_items.specs.Running.{KeepsFinds, Runs};
 
 use crate::job::Job;

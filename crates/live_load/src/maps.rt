@@ -5,11 +5,8 @@ ghost use Rattle.std.specs.Prelude.{◌≡◌, ◌<◌};
 
 use crate::round::RoundDone;
 use crate::target::Target;
-use domain::{Domain, Record, Section, Site};
 use gp_memb::GracePlan;
-use live_words::Tabled;
-use rcu_hash::{RcuHash, TableView};
-use rcu_list::{ListView, RcuList};
+use rcu_hash::{Domain, ListView, RcuHash, RcuList, Record, Section, Site, TableView, Tabled};
 use rcu_model::Refusal;
 use std::alloc::Global;
 use std::sync::{Mutex, Wait};

@@ -5,9 +5,8 @@ ghost use Rattle.std.specs.Prelude.{◌≡◌, ◌≢◌, ◌≤◌, ◌<◌, �
 use crate::deadline::Deadline;
 use crate::load::Load;
 use crate::round::RoundDone;
-use domain::{Domain, Reader, Record, Site};
 use gp_memb::GracePlan;
-use live_words::{AnyChain, ChainRule};
+use rcu_hash::{AnyChain, ChainRule, Domain, Reader, Record, Site};
 use rcu_model::Refusal;
 use std::sync::Wait;
 use std::time::Clock;

@@ -1,6 +1,6 @@
 //! What is called with a record that an updater retired.
 
-use domain::{Deleter, Ripe};
+use rcu_hash::{Deleter, Ripe};
 
 /// The callback of an updater's round, which boxes nothing: it answers the round's number.
 #[derive(Drop)]

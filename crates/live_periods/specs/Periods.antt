@@ -1,15 +1,15 @@
 -- What a step of a grace period tells.
 use Rattle.std.specs.Prelude.{◌≡◌, ℕ, ◌<◌, Bool, List, [], ◌∷◌}
 use Rattle.atomic_table.specs.Table.{Me, Step}
-use Rattle.live_log.specs.declared.event.LiveEvent.{LiveEvent}
-use Rattle.live_log.specs.declared.event.LiveEvent.TheVariants.{SeqOdd, SeqEven, Present}
-use Rattle.live_log.specs.Log.{Log, seq_of, present_of, before_odd, HaveEnded, MayCopy}
-use Rattle.live_rule.specs.declared.view.View.{View}
-use Rattle.live_rule.specs.declared.rights.GraceRight.{GraceRight}
-use Rattle.live_rule.specs.declared.rights.GraceRight.TheVariants.{Rests, Works}
-use Rattle.live_rule.specs.Readers.{Shown}
-use Rattle.live_rule.specs.Rights.{ClaimsGrace}
-use Rattle.live_rule.specs.Steps.{Wrote, at_log}
+use Rattle.live_table.specs.live_log.declared.event.LiveEvent.{LiveEvent}
+use Rattle.live_table.specs.live_log.declared.event.LiveEvent.TheVariants.{SeqOdd, SeqEven, Present}
+use Rattle.live_table.specs.live_log.Log.{Log, seq_of, present_of, before_odd, HaveEnded, MayCopy}
+use Rattle.live_table.specs.live_rule.declared.view.View.{View}
+use Rattle.live_table.specs.live_rule.declared.rights.GraceRight.{GraceRight}
+use Rattle.live_table.specs.live_rule.declared.rights.GraceRight.TheVariants.{Rests, Works}
+use Rattle.live_table.specs.live_rule.Readers.{Shown}
+use Rattle.live_table.specs.live_rule.Rights.{ClaimsGrace}
+use Rattle.live_table.specs.live_rule.Steps.{Wrote, at_log}
 use Rattle.live_table.specs.Rights.{present_in, seq_in}
 
 -- each word that was loaded tells that a section that copied this is open in the slot

@@ -2,9 +2,7 @@
 ghost use Rattle.live_periods.specs.Periods.{began, ended, looked_seq, looked_word, presented};
 
 use atomic_table::Play;
-use gp_memb::GracePlan;
-use live_log::ChainRule;
-use live_rule::View;
+use live_table::{ChainRule, GracePlan, View};
 use std::marker::PhantomData;
 
 pub(crate) struct LooksSeq<P, K>(PhantomData<(P, K)>);

@@ -1,19 +1,16 @@
 //! One function for each kind of step of a grace period.
 ghost use Rattle.std.specs.Prelude.{◌≡◌, ◌+◌, ◌<◌, ◌≤◌, ◌^◌, [], ◌∷◌};
-ghost use Rattle.live_log.specs.declared.event.LiveEvent.TheVariants.{Present, SeqEven, SeqOdd};
-ghost use Rattle.live_log.specs.Log.{HaveEnded, MayBePresent, before_odd, present_of, seq_of};
-ghost use Rattle.live_rule.specs.declared.rights.GraceRight.TheVariants.{Rests, Works};
-ghost use Rattle.live_rule.specs.Places.{group_at, slot_at};
-ghost use Rattle.live_rule.specs.Rights.{ClaimsGrace};
+ghost use Rattle.live_table.specs.live_log.declared.event.LiveEvent.TheVariants.{Present, SeqEven, SeqOdd};
+ghost use Rattle.live_table.specs.live_log.Log.{HaveEnded, MayBePresent, before_odd, present_of, seq_of};
+ghost use Rattle.live_table.specs.live_rule.declared.rights.GraceRight.TheVariants.{Rests, Works};
+ghost use Rattle.live_table.specs.live_rule.Places.{group_at, slot_at};
+ghost use Rattle.live_table.specs.live_rule.Rights.{ClaimsGrace};
 ghost use Rattle.live_table.specs.Steps.{Keeps};
 ghost use Rattle.live_table.specs.Rights.{IsResting, IsWorking, before_in, looks_in, present_in, seq_in};
 ghost use Rattle.live_periods.specs.Periods.{GraceBecomes, LoadedSeq, TellsAllEnded};
 
 use crate::plays::{Begins, Ends, LooksSeq, LooksWord, StoresPresent};
-use gp_memb::GracePlan;
-use live_log::ChainRule;
-use live_rule::LiveSeat;
-use live_table::LiveTable;
+use live_table::{ChainRule, GracePlan, LiveSeat, LiveTable};
 
 /// Loads the sequence number, by any seat, which notes the log at the load. A seat with the right to the words of grace
 /// periods knew the number, and the phase or number: nobody else stores them. It never waits.

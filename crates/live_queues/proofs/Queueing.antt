@@ -6,23 +6,23 @@ use native.Mathlib.Decide.{ℕ_discrete}
 use lib.ListN.{get_elem?, length-append}
 use Rattle.atomic_table.specs.Table.{State, Me, step, keeps, Allows}
 use Rattle.atomic_table.proofs.Lists.{at_last}
-use Rattle.rcu_model.specs.declared.event.ObjectId.{ObjectId}
-use Rattle.rcu_model.specs.Sets.{In}
-use Rattle.rcu_model.proofs.Lemmas.{in_objects, has_object_in, at_number_same, at_number_other}
-use Rattle.live_log.specs.declared.event.LiveEvent.{LiveEvent}
-use Rattle.live_log.specs.declared.event.LiveEvent.TheVariants.{CloseQueue, Object}
-use Rattle.live_log.specs.declared.event.ObjectEvent.TheVariants.{Queue}
-use Rattle.live_log.specs.Log.{Log, state_of, closed_of, line_of, IsLiveRun, Objects, objects_of, Spot, head, link, Leads}
-use Rattle.live_rule.specs.declared.view.Sizes.{Sizes}
-use Rattle.live_rule.specs.declared.view.View.{View}
-use Rattle.live_rule.specs.declared.rights.RecordRight.{RecordRight}
-use Rattle.live_rule.specs.declared.rights.RecordRight.TheVariants as record_right
-use Rattle.live_rule.specs.declared.rights.QueueRight.{QueueRight}
-use Rattle.live_rule.specs.declared.rights.QueueRight.TheVariants as queue_right
-use Rattle.live_rule.specs.Places.{head_at, hold_at, note_at, queued_at, closed_at, finished_at, work_at, last_at, cell_at}
-use Rattle.live_rule.specs.Rights.{object, queue, ClaimsObject, ClaimsQueue, KnowsObject, KnowsQueue}
-use Rattle.live_rule.specs.Rule.{KeepsRule}
-use Rattle.live_rule.proofs.Lemmas.{at_end, calm_object, calm_close, queue_part, header_same, heap_beside, guards_far, object_stays, chains_kept, works_kept, stores}
+use Rattle.live_table.specs.rcu_model.declared.event.ObjectId.{ObjectId}
+use Rattle.live_table.specs.rcu_model.Sets.{In}
+use Rattle.live_table.proofs.rcu_model.Lemmas.{in_objects, has_object_in, at_number_same, at_number_other}
+use Rattle.live_table.specs.live_log.declared.event.LiveEvent.{LiveEvent}
+use Rattle.live_table.specs.live_log.declared.event.LiveEvent.TheVariants.{CloseQueue, Object}
+use Rattle.live_table.specs.live_log.declared.event.ObjectEvent.TheVariants.{Queue}
+use Rattle.live_table.specs.live_log.Log.{Log, state_of, closed_of, line_of, IsLiveRun, Objects, objects_of, Spot, head, link, Leads}
+use Rattle.live_table.specs.live_rule.declared.view.Sizes.{Sizes}
+use Rattle.live_table.specs.live_rule.declared.view.View.{View}
+use Rattle.live_table.specs.live_rule.declared.rights.RecordRight.{RecordRight}
+use Rattle.live_table.specs.live_rule.declared.rights.RecordRight.TheVariants as record_right
+use Rattle.live_table.specs.live_rule.declared.rights.QueueRight.{QueueRight}
+use Rattle.live_table.specs.live_rule.declared.rights.QueueRight.TheVariants as queue_right
+use Rattle.live_table.specs.live_rule.Places.{head_at, hold_at, note_at, queued_at, closed_at, finished_at, work_at, last_at, cell_at}
+use Rattle.live_table.specs.live_rule.Rights.{object, queue, ClaimsObject, ClaimsQueue, KnowsObject, KnowsQueue}
+use Rattle.live_table.specs.live_rule.Rule.{KeepsRule}
+use Rattle.live_table.proofs.live_rule.Lemmas.{at_end, calm_object, calm_close, queue_part, header_same, heap_beside, guards_far, object_stays, chains_kept, works_kept, stores}
 use Rattle.live_table.specs.Rights.{cell_in, object_in, IsRetired, queue_in, queued_in, closed_in, IsInQueue}
 use Rattle.live_queues.specs.Queues.{queued_view, closed_view, queued, closed}
 use Rattle.live_queues.proofs.Lines.{far, guards_stay, own_word}

@@ -7,20 +7,20 @@ use lib.ListN.{get_elem?}
 use prog.Atomic.{either}
 use Rattle.atomic_table.specs.Table.{State, Me, Act, step, keeps, stepped, Valid, carried_after, Allows}
 use Rattle.atomic_table.proofs.Lists.{exchanged, at_longer}
-use Rattle.rcu_model.specs.declared.event.ObjectId.{ObjectId}
-use Rattle.rcu_model.specs.Sets.{In}
-use Rattle.live_log.specs.declared.event.LiveEvent.{LiveEvent}
-use Rattle.live_log.specs.Log.{Log, state_of, line_of, HaveRun, Begins}
-use Rattle.live_log.proofs.Lemmas.{line_grows, below, grows_log}
-use Rattle.live_rule.specs.declared.view.Sizes.{Sizes}
-use Rattle.live_rule.specs.declared.view.View.{View}
-use Rattle.live_rule.specs.declared.rights.WorkRight.{WorkRight}
-use Rattle.live_rule.specs.declared.rights.WorkRight.TheVariants as work_right
-use Rattle.live_rule.specs.Places.{note_at, queued_at, closed_at, finished_at, work_at}
-use Rattle.live_rule.specs.Rights.{work, ClaimsWork, KnowsWork}
-use Rattle.live_rule.specs.Rule.{KeepsRule}
-use Rattle.live_rule.specs.Seats.{but_work}
-use Rattle.live_rule.proofs.Lemmas.{looks, calm_same, work_part, queues_kept, look_all}
+use Rattle.live_table.specs.rcu_model.declared.event.ObjectId.{ObjectId}
+use Rattle.live_table.specs.rcu_model.Sets.{In}
+use Rattle.live_table.specs.live_log.declared.event.LiveEvent.{LiveEvent}
+use Rattle.live_table.specs.live_log.Log.{Log, state_of, line_of, HaveRun, Begins}
+use Rattle.live_table.proofs.live_log.Lemmas.{line_grows, below, grows_log}
+use Rattle.live_table.specs.live_rule.declared.view.Sizes.{Sizes}
+use Rattle.live_table.specs.live_rule.declared.view.View.{View}
+use Rattle.live_table.specs.live_rule.declared.rights.WorkRight.{WorkRight}
+use Rattle.live_table.specs.live_rule.declared.rights.WorkRight.TheVariants as work_right
+use Rattle.live_table.specs.live_rule.Places.{note_at, queued_at, closed_at, finished_at, work_at}
+use Rattle.live_table.specs.live_rule.Rights.{work, ClaimsWork, KnowsWork}
+use Rattle.live_table.specs.live_rule.Rule.{KeepsRule}
+use Rattle.live_table.specs.live_rule.Seats.{but_work}
+use Rattle.live_table.proofs.live_rule.Lemmas.{looks, calm_same, work_part, queues_kept, look_all}
 use Rattle.live_table.specs.Rights.{work_in, finished_in, IsWorker}
 use Rattle.live_table.specs.Steps.{IsKnown, looked_view}
 use Rattle.live_queues.specs.Queues.{finished_view, HasRunAt, held, finished, freed}

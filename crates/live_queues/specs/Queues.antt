@@ -3,19 +3,19 @@ use Rattle.std.specs.Prelude.{Bool, ◌≡◌, ◌≢◌, ℕ, ◌+◌, ◌<◌,
 use mathlib.Core.Option.{some}
 use lib.ListN.{get_elem?}
 use Rattle.atomic_table.specs.Table.{Me, Step}
-use Rattle.rcu_model.specs.declared.event.ObjectId.{ObjectId}
-use Rattle.rcu_model.specs.Sets.{In}
-use Rattle.live_log.specs.declared.event.LiveEvent.{LiveEvent}
-use Rattle.live_log.specs.declared.event.LiveEvent.TheVariants.{CloseQueue, Object}
-use Rattle.live_log.specs.declared.event.ObjectEvent.TheVariants.{Queue}
-use Rattle.live_log.specs.Log.{Log, state_of, line_of, closed_of, HaveRun}
-use Rattle.live_rule.specs.declared.view.Sizes.{Sizes}
-use Rattle.live_rule.specs.declared.view.View.{View}
-use Rattle.live_rule.specs.declared.rights.QueueRight.TheVariants as queue_right
-use Rattle.live_rule.specs.declared.rights.WorkRight.TheVariants as work_right
-use Rattle.live_rule.specs.declared.rights.RecordRight.TheVariants as record_right
-use Rattle.live_rule.specs.Places.{queued_at, closed_at, finished_at, work_at}
-use Rattle.live_rule.specs.Seats.{but_work}
+use Rattle.live_table.specs.rcu_model.declared.event.ObjectId.{ObjectId}
+use Rattle.live_table.specs.rcu_model.Sets.{In}
+use Rattle.live_table.specs.live_log.declared.event.LiveEvent.{LiveEvent}
+use Rattle.live_table.specs.live_log.declared.event.LiveEvent.TheVariants.{CloseQueue, Object}
+use Rattle.live_table.specs.live_log.declared.event.ObjectEvent.TheVariants.{Queue}
+use Rattle.live_table.specs.live_log.Log.{Log, state_of, line_of, closed_of, HaveRun}
+use Rattle.live_table.specs.live_rule.declared.view.Sizes.{Sizes}
+use Rattle.live_table.specs.live_rule.declared.view.View.{View}
+use Rattle.live_table.specs.live_rule.declared.rights.QueueRight.TheVariants as queue_right
+use Rattle.live_table.specs.live_rule.declared.rights.WorkRight.TheVariants as work_right
+use Rattle.live_table.specs.live_rule.declared.rights.RecordRight.TheVariants as record_right
+use Rattle.live_table.specs.live_rule.Places.{queued_at, closed_at, finished_at, work_at}
+use Rattle.live_table.specs.live_rule.Seats.{but_work}
 use Rattle.live_table.specs.Rights.{cell_in, object_in, queue_in, queued_in, closed_in, work_in, finished_in}
 use Rattle.live_table.specs.Steps.{Did, Went, looked_view}
 

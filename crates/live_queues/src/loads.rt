@@ -1,16 +1,13 @@
 //! The loads of a queue's words, by any seat. What they find is kept among its looks. None of these steps waits.
 ghost use Rattle.std.specs.Prelude.{◌≡◌, ℕ, ◌<◌, ◌≤◌, length};
-ghost use Rattle.live_log.specs.Log.{HaveRun, closed_of, line_of};
-ghost use Rattle.live_rule.specs.declared.rights.WorkRight.TheVariants.{Works};
-ghost use Rattle.live_rule.specs.Places.{closed_at, finished_at, queued_at};
+ghost use Rattle.live_table.specs.live_log.Log.{HaveRun, closed_of, line_of};
+ghost use Rattle.live_table.specs.live_rule.declared.rights.WorkRight.TheVariants.{Works};
+ghost use Rattle.live_table.specs.live_rule.Places.{closed_at, finished_at, queued_at};
 ghost use Rattle.live_table.specs.Steps.{Keeps, Went, looked_view};
 ghost use Rattle.live_queues.specs.Queues.{HasNoOther};
 
 use crate::plays::Looks;
-use gp_memb::GracePlan;
-use live_log::ChainRule;
-use live_rule::LiveSeat;
-use live_table::LiveTable;
+use live_table::{ChainRule, GracePlan, LiveSeat, LiveTable};
 
 /// How many callbacks were queued. It never waits.
 pub fn load_queued<P: GracePlan, K: ChainRule>(

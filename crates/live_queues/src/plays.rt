@@ -2,9 +2,7 @@
 ghost use Rattle.live_queues.specs.Queues.{closed, finished, freed, held, looked, queued};
 
 use atomic_table::Play;
-use gp_memb::GracePlan;
-use live_log::ChainRule;
-use live_rule::View;
+use live_table::{ChainRule, GracePlan, View};
 use std::marker::PhantomData;
 
 pub(crate) struct Looks<P, K>(PhantomData<(P, K)>);

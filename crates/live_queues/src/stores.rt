@@ -1,16 +1,13 @@
 //! The stores of a queue's words: its counts, and that it is closed. None of these steps waits.
 ghost use Rattle.std.specs.Prelude.{◌≡◌, ◌+◌, ◌<◌};
-ghost use Rattle.live_log.specs.declared.event.LiveEvent.TheVariants.{CloseQueue, Object};
-ghost use Rattle.live_log.specs.declared.event.ObjectEvent.TheVariants.{Queue};
+ghost use Rattle.live_table.specs.live_log.declared.event.LiveEvent.TheVariants.{CloseQueue, Object};
+ghost use Rattle.live_table.specs.live_log.declared.event.ObjectEvent.TheVariants.{Queue};
 ghost use Rattle.live_table.specs.Rights.{IsInQueue, IsRetired, IsWorker, closed_in, finished_in, object_in, queue_in, queued_in, work_in};
 ghost use Rattle.live_table.specs.Steps.{Did, IsKnown, Keeps, Went};
 ghost use Rattle.live_queues.specs.Queues.{HasRunAt, IsLast, closed_view, finished_view, queued_view};
 
 use crate::plays::{Closes, Finishes, Queues};
-use gp_memb::GracePlan;
-use live_log::ChainRule;
-use live_rule::LiveSeat;
-use live_table::LiveTable;
+use live_table::{ChainRule, GracePlan, LiveSeat, LiveTable};
 
 /// Queues the callback of the seat's retired object, where the queue is not closed: stores the count of those queued.
 /// Its ticket is that count, the first one being 1. It never waits.

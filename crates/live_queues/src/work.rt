@@ -1,17 +1,14 @@
 //! Who works for a queue. None of these steps waits.
 ghost use Rattle.std.specs.Prelude.{◌≡◌, ◌≢◌, ◌<◌, ◌≤◌};
-ghost use Rattle.live_log.specs.Log.{HaveRun};
-ghost use Rattle.live_rule.specs.Places.{work_at};
-ghost use Rattle.live_rule.specs.Seats.{but_work};
+ghost use Rattle.live_table.specs.live_log.Log.{HaveRun};
+ghost use Rattle.live_table.specs.live_rule.Places.{work_at};
+ghost use Rattle.live_table.specs.live_rule.Seats.{but_work};
 ghost use Rattle.live_table.specs.Rights.{IsWorker, finished_in, work_in};
 ghost use Rattle.live_table.specs.Steps.{Keeps, Went, looked_view};
 ghost use Rattle.live_queues.specs.Queues.{working_view};
 
 use crate::plays::{FreesWork, HoldsWork};
-use gp_memb::GracePlan;
-use live_log::ChainRule;
-use live_rule::LiveSeat;
-use live_table::LiveTable;
+use live_table::{ChainRule, GracePlan, LiveSeat, LiveTable};
 
 /// Takes the right to work for a queue, if nobody has it: its hold word goes from 0 to 1. Answers the hold word that it
 /// found, which is kept among the looks: 0, and the right is the seat's; 1, and another has it; or 2, and nobody can

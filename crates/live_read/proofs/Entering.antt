@@ -11,10 +11,10 @@ use Rattle.live_log.specs.declared.event.LiveEvent.{LiveEvent}
 use Rattle.rcu_model.proofs.Lemmas.{has_section_in}
 use Rattle.live_log.specs.Log.{Log, IsOpenSection, open_of, sections_of, state_of}
 use Rattle.live_log.proofs.Lemmas.{is_open, open_inside}
-use Rattle.live_rule.specs.declared.view.View.{View}
-use Rattle.live_rule.specs.Readers.{Fits, IsClosed}
-use Rattle.live_table.specs.Rights.{count_in}
-use Rattle.live_readers.specs.Sections.{Announced, Closed, CopiedBefore, Nested, Opened, Stored, announces, opens}
+use Rattle.live_words.specs.live_rule.declared.view.View.{View}
+use Rattle.live_words.specs.live_rule.Readers.{Fits, IsClosed}
+use Rattle.live_words.specs.live_table.Rights.{count_in}
+use Rattle.live_words.specs.live_readers.Sections.{Announced, Closed, CopiedBefore, Nested, Opened, Stored, announces, opens}
 use Rattle.live_read.specs.declared.reader_core.ReaderCore.{ReaderCore}
 use Rattle.live_read.specs.Holding.{KeepsHeld, log_of, ordinal, section_of}
 use Rattle.live_read.specs.Sections.{IsIn, Enters, Leaves, GoesOnline, Announces}

@@ -12,13 +12,13 @@ use Rattle.reader_word.specs.Word.{count_of}
 use Rattle.live_log.specs.declared.event.LiveEvent.{LiveEvent}
 use Rattle.live_log.specs.Log.{Log, Begins, WasLinked, Objects, Follows, open_of, section, state_of, note_of, objects_of}
 use Rattle.live_log.proofs.Lemmas.{begins_trans, first_linked, inside_open, is_open}
-use Rattle.live_rule.specs.declared.view.Sizes.{Sizes}
-use Rattle.live_rule.specs.declared.view.View.{View}
-use Rattle.live_rule.specs.Objects.{ref}
-use Rattle.live_rule.specs.Readers.{IsClosed}
-use Rattle.live_table.specs.Rights.{count_in}
-use Rattle.live_table.specs.Steps.{IsNow, IsLater}
-use Rattle.live_words.specs.Chains.{IsInSection, IsNext, MayRead}
+use Rattle.live_words.specs.live_rule.declared.view.Sizes.{Sizes}
+use Rattle.live_words.specs.live_rule.declared.view.View.{View}
+use Rattle.live_words.specs.live_rule.Objects.{ref}
+use Rattle.live_words.specs.live_rule.Readers.{IsClosed}
+use Rattle.live_words.specs.live_table.Rights.{count_in}
+use Rattle.live_words.specs.live_table.Steps.{IsNow, IsLater}
+use Rattle.live_words.specs.live_chains.Chains.{IsInSection, IsNext, MayRead}
 use Rattle.live_read.specs.declared.reader_core.ReaderCore.{ReaderCore}
 use Rattle.live_read.specs.Holding.{MayHold, MayHoldIn, log_of, ordinal, section_of}
 use Rattle.live_read.specs.Reads.{FindsFirst, FindsNext, Looks}

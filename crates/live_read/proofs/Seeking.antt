@@ -8,14 +8,14 @@ use Rattle.gp_memb.specs.Plan.{bit_of}
 use Rattle.live_log.specs.declared.event.LiveEvent.{LiveEvent}
 use Rattle.live_log.specs.Log.{Log, open_of, sections_of}
 use Rattle.live_log.proofs.Lemmas.{begins_trans}
-use Rattle.live_rule.specs.declared.view.View.{View}
-use Rattle.live_rule.specs.declared.rights.SlotRight.{SlotRight}
-use Rattle.live_rule.specs.declared.rights.SlotRight.TheVariants.{Owns}
-use Rattle.live_rule.specs.Places.{group_at}
-use Rattle.live_rule.specs.Readers.{IsClosed, Fits}
-use Rattle.live_table.specs.Rights.{count_in, word_in}
-use Rattle.live_table.specs.Steps.{Went, looked_view}
-use Rattle.live_table.proofs.Lemmas.{found_left, found_right}
+use Rattle.live_words.specs.live_rule.declared.view.View.{View}
+use Rattle.live_words.specs.live_rule.declared.rights.SlotRight.{SlotRight}
+use Rattle.live_words.specs.live_rule.declared.rights.SlotRight.TheVariants.{Owns}
+use Rattle.live_words.specs.live_rule.Places.{group_at}
+use Rattle.live_words.specs.live_rule.Readers.{IsClosed, Fits}
+use Rattle.live_words.specs.live_table.Rights.{count_in, word_in}
+use Rattle.live_words.specs.live_table.Steps.{Went, looked_view}
+use Rattle.live_words.proofs.live_table.Lemmas.{found_left, found_right}
 use Rattle.live_read.specs.Registering.{Finds, Misses, Sought, WasClaimed}
 
 -- a closed word fits no open section

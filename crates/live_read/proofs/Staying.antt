@@ -8,7 +8,7 @@ use Rattle.rcu_model.specs.Machine.{IsOpen}
 use Rattle.live_log.specs.declared.event.LiveEvent.{LiveEvent}
 use Rattle.live_log.specs.Log.{Log, Begins, IsLiveRun, IsOpenSection, WasLinked, note_of, open_of, section, state_of}
 use Rattle.live_log.proofs.Lemmas.{note_stays, run_of, was_later, was_used}
-use Rattle.live_rule.specs.declared.view.Sizes.{Sizes}
+use Rattle.live_words.specs.live_rule.declared.view.Sizes.{Sizes}
 use Rattle.live_read.specs.declared.reader.Reader.{Reader}
 use Rattle.live_read.specs.declared.site.Site.{Ghosts}
 use Rattle.live_read.specs.declared.reader_core.ReaderCore.{ReaderCore}

@@ -7,14 +7,14 @@ use Rattle.gp_memb.specs.Plan.{bit_of}
 use Rattle.live_log.specs.declared.event.LiveEvent.{LiveEvent}
 use Rattle.live_log.specs.declared.event.LiveEvent.TheVariants.{Close}
 use Rattle.live_log.specs.Log.{Log, Begins, Has, IsLiveRun, sections_of}
-use Rattle.live_rule.specs.declared.view.Sizes.{Sizes}
-use Rattle.live_rule.specs.declared.view.View.{View}
-use Rattle.live_rule.specs.declared.rights.SlotRight.{SlotRight}
-use Rattle.live_rule.specs.Places.{group_at}
-use Rattle.live_rule.specs.Readers.{IsClosed}
-use Rattle.live_table.specs.Rights.{count_in}
-use Rattle.live_table.specs.Steps.{FoundIn, Went}
-use Rattle.live_groups.specs.Groups.{IsClaimed}
+use Rattle.live_words.specs.live_rule.declared.view.Sizes.{Sizes}
+use Rattle.live_words.specs.live_rule.declared.view.View.{View}
+use Rattle.live_words.specs.live_rule.declared.rights.SlotRight.{SlotRight}
+use Rattle.live_words.specs.live_rule.Places.{group_at}
+use Rattle.live_words.specs.live_rule.Readers.{IsClosed}
+use Rattle.live_words.specs.live_table.Rights.{count_in}
+use Rattle.live_words.specs.live_table.Steps.{FoundIn, Went}
+use Rattle.live_words.specs.live_groups.Groups.{IsClaimed}
 use Rattle.live_read.specs.declared.reader_core.ReaderCore.{ReaderCore}
 
 -- the bit of slot r was found set, or clear, in its group word

@@ -7,7 +7,7 @@ use std::marker::Brand;
 pub trait Site {
     ghost use Rattle.atomic_table.specs.Seated.{TableId};
     ghost use Rattle.std.specs.Prelude.{Bool};
-    ghost use Rattle.live_rule.specs.declared.view.Sizes.{Sizes};
+    ghost use Rattle.live_words.specs.live_rule.declared.view.Sizes.{Sizes};
 
     /// The table.
     ghost table: { TableId };

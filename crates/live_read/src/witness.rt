@@ -13,8 +13,8 @@ pub trait Witness {
     ghost use Rattle.std.specs.Prelude.{◌≡◌, ℕ, List, [], ◌++◌};
     ghost use Rattle.atomic_table.specs.Seated.{TableId};
     ghost use Rattle.live_log.specs.Log.{Log};
-    ghost use Rattle.live_rule.specs.Views.{bare};
-    ghost use Rattle.live_rule.specs.declared.view.Sizes.{Sizes};
+    ghost use Rattle.live_words.specs.live_rule.Views.{bare};
+    ghost use Rattle.live_words.specs.live_rule.declared.view.Sizes.{Sizes};
     ghost use Rattle.live_read.specs.Standings.{Standing};
 
     /// The log that it has seen.
@@ -158,7 +158,7 @@ impl<P: GracePlan, K: ChainRule, B: Site> Witness for Reader<P, K, B> {
 
     ghost home = { λ r. (r.core.seat.table_id, r.core.seat.me.0.sizes) };
 
-    ghost use Rattle.live_table.specs.Rights.{count_in};
+    ghost use Rattle.live_words.specs.live_table.Rights.{count_in};
 
     ghost is_in = { λ r. IsIn r.core };
 

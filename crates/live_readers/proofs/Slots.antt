@@ -2,15 +2,15 @@
 use Rattle.std.proofs.Common.{◌≡◌, ℕ, ◌<◌, Bool, get_or, sym, refl, ap, ◌∙◌, subst}
 use mathlib.Core.Option as lists
 use Rattle.atomic_table.specs.Table.{State, Me, step, keeps, Allows}
-use Rattle.live_log.specs.declared.event.LiveEvent.{LiveEvent}
-use Rattle.live_log.specs.Log.{Log, open_of}
-use Rattle.live_rule.specs.declared.view.Sizes.{Sizes}
-use Rattle.live_rule.specs.declared.view.View.{View}
-use Rattle.live_rule.specs.declared.rights.SlotRight.{SlotRight}
-use Rattle.live_rule.specs.Readers.{Fits}
-use Rattle.live_rule.specs.Rights.{slot, ClaimsSlot, KnowsSlot}
-use Rattle.live_rule.specs.Rule.{KeepsRule}
-use Rattle.live_rule.proofs.Lemmas.{looks, look_all}
+use Rattle.live_table.specs.live_log.declared.event.LiveEvent.{LiveEvent}
+use Rattle.live_table.specs.live_log.Log.{Log, open_of}
+use Rattle.live_table.specs.live_rule.declared.view.Sizes.{Sizes}
+use Rattle.live_table.specs.live_rule.declared.view.View.{View}
+use Rattle.live_table.specs.live_rule.declared.rights.SlotRight.{SlotRight}
+use Rattle.live_table.specs.live_rule.Readers.{Fits}
+use Rattle.live_table.specs.live_rule.Rights.{slot, ClaimsSlot, KnowsSlot}
+use Rattle.live_table.specs.live_rule.Rule.{KeepsRule}
+use Rattle.live_table.proofs.live_rule.Lemmas.{looks, look_all}
 use Rattle.live_table.specs.Steps.{looked_view}
 use Rattle.live_readers.specs.Sections.{looked_slot}
 

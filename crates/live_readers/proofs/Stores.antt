@@ -4,20 +4,20 @@ use mathlib.Core.Logic.{dite}
 use mathlib.Core.Option.{Option, none, some}
 use native.Mathlib.Decide.{ℕ_discrete}
 use Rattle.atomic_table.specs.Table.{State, Me, keeps, Allows}
-use Rattle.live_log.specs.declared.event.LiveEvent.{LiveEvent}
-use Rattle.live_log.specs.declared.event.LiveEvent.TheVariants.{Open, Close, SeqOdd, SeqEven, Present, ChainNote, CloseQueue, Object}
-use Rattle.live_log.specs.Log.{Log, open_of, sections_of, seq_of, present_of, before_odd, chain_note, closed_of, objects_of, IsLiveRun}
-use Rattle.live_rule.specs.declared.view.Sizes.{Sizes}
-use Rattle.live_rule.specs.declared.view.View.{View}
-use Rattle.live_rule.specs.declared.rights.SlotRight.{SlotRight}
-use Rattle.live_rule.specs.declared.rights.SlotRight.TheVariants.{Owns}
-use Rattle.live_rule.specs.Places.{seq_at, present_at, group_at, slot_at, bit_at}
-use Rattle.gp_memb.specs.Plan.{bit_of}
-use Rattle.live_rule.specs.Readers.{Fits, ReaderWords}
-use Rattle.live_rule.specs.Rights.{slot, ClaimsSlot, KnowsSlot}
-use Rattle.live_rule.specs.Rule.{KeepsRule}
-use Rattle.live_rule.specs.Steps.{Precedes, at_log}
-use Rattle.live_rule.proofs.Lemmas.{own_slot, grace_kept, low_stores}
+use Rattle.live_table.specs.live_log.declared.event.LiveEvent.{LiveEvent}
+use Rattle.live_table.specs.live_log.declared.event.LiveEvent.TheVariants.{Open, Close, SeqOdd, SeqEven, Present, ChainNote, CloseQueue, Object}
+use Rattle.live_table.specs.live_log.Log.{Log, open_of, sections_of, seq_of, present_of, before_odd, chain_note, closed_of, objects_of, IsLiveRun}
+use Rattle.live_table.specs.live_rule.declared.view.Sizes.{Sizes}
+use Rattle.live_table.specs.live_rule.declared.view.View.{View}
+use Rattle.live_table.specs.live_rule.declared.rights.SlotRight.{SlotRight}
+use Rattle.live_table.specs.live_rule.declared.rights.SlotRight.TheVariants.{Owns}
+use Rattle.live_table.specs.live_rule.Places.{seq_at, present_at, group_at, slot_at, bit_at}
+use Rattle.live_table.specs.gp_memb.Plan.{bit_of}
+use Rattle.live_table.specs.live_rule.Readers.{Fits, ReaderWords}
+use Rattle.live_table.specs.live_rule.Rights.{slot, ClaimsSlot, KnowsSlot}
+use Rattle.live_table.specs.live_rule.Rule.{KeepsRule}
+use Rattle.live_table.specs.live_rule.Steps.{Precedes, at_log}
+use Rattle.live_table.proofs.live_rule.Lemmas.{own_slot, grace_kept, low_stores}
 use Rattle.live_readers.specs.Sections.{IsAt, Stored}
 
 -- each of these events is of this slot

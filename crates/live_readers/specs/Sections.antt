@@ -3,14 +3,14 @@ use Rattle.std.specs.Prelude.{◌≡◌, ℕ, ◌+◌, ◌-◌, ◌<◌, Bool, t
 use Rattle.atomic_table.specs.Table.{Me, Step}
 use Rattle.reader_word.specs.declared.layout.Layout.TheVariants.{Wide}
 use Rattle.reader_word.specs.Word.{number, phase_in}
-use Rattle.live_log.specs.declared.event.LiveEvent.{LiveEvent}
-use Rattle.live_log.specs.declared.event.LiveEvent.TheVariants.{Open, Close}
-use Rattle.live_log.specs.Log.{Log, Begins, open_of, sections_of, present_of}
-use Rattle.live_rule.specs.declared.view.View.{View}
-use Rattle.live_rule.specs.declared.rights.SlotRight.TheVariants.{Owns}
-use Rattle.live_rule.specs.Places.{slot_at}
-use Rattle.live_rule.specs.Readers.{Fits}
-use Rattle.live_rule.specs.Steps.{Wrote, at_log, Looked}
+use Rattle.live_table.specs.live_log.declared.event.LiveEvent.{LiveEvent}
+use Rattle.live_table.specs.live_log.declared.event.LiveEvent.TheVariants.{Open, Close}
+use Rattle.live_table.specs.live_log.Log.{Log, Begins, open_of, sections_of, present_of}
+use Rattle.live_table.specs.live_rule.declared.view.View.{View}
+use Rattle.live_table.specs.live_rule.declared.rights.SlotRight.TheVariants.{Owns}
+use Rattle.live_table.specs.live_rule.Places.{slot_at}
+use Rattle.live_table.specs.live_rule.Readers.{Fits}
+use Rattle.live_table.specs.live_rule.Steps.{Wrote, at_log, Looked}
 use Rattle.live_table.specs.Rights.{IsOwner, count_in, word_in}
 use Rattle.live_table.specs.Steps.{Went, looked_view}
 

@@ -5,10 +5,7 @@ ghost use Rattle.live_table.specs.Rights.{IsOwner, count_in, word_in};
 ghost use Rattle.live_readers.specs.Sections.{Announced, Closed, CopiedBefore, Opened, announces, opens};
 
 use crate::steps::{load_present, store_close, store_open, store_quiescent};
-use gp_memb::GracePlan;
-use live_log::ChainRule;
-use live_rule::LiveSeat;
-use live_table::LiveTable;
+use live_table::{ChainRule, GracePlan, LiveSeat, LiveTable};
 use reader_word::qs_announced;
 
 /// A reader goes online, liburcu's `rcu_thread_online`: it loads the number and then opens a section, which copied that

@@ -8,10 +8,7 @@ ghost use Rattle.live_table.specs.Rights.{IsOwner, count_in, word_in};
 ghost use Rattle.live_readers.specs.Sections.{Closed, CopiedBefore, Nested, Opened, opens};
 
 use crate::steps::{load_present, store_close, store_inner, store_open};
-use gp_memb::GracePlan;
-use live_log::ChainRule;
-use live_rule::LiveSeat;
-use live_table::LiveTable;
+use live_table::{ChainRule, GracePlan, LiveSeat, LiveTable};
 use rcu_model::Refusal;
 use reader_word::{Layout, entered, is_open, left};
 

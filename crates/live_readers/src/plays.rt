@@ -2,9 +2,7 @@
 ghost use Rattle.live_readers.specs.Sections.{announces, closes, looked_present, looked_slot, nests, opens, stored};
 
 use atomic_table::Play;
-use gp_memb::GracePlan;
-use live_log::ChainRule;
-use live_rule::View;
+use live_table::{ChainRule, GracePlan, View};
 use std::marker::PhantomData;
 
 pub(crate) struct LooksPresent<P, K>(PhantomData<(P, K)>);

@@ -1,20 +1,17 @@
 //! One function for each kind of step of a reader.
 ghost use Rattle.std.specs.Prelude.{◌≡◌, ℕ, ◌<◌};
 ghost use Rattle.reader_word.specs.declared.layout.Layout.TheVariants.{Wide};
-ghost use Rattle.gp_memb.specs.Plan.{Shows};
-ghost use Rattle.live_log.specs.Log.{MayCopy, open_of, present_of, sections_of};
-ghost use Rattle.live_rule.specs.Places.{slot_at};
-ghost use Rattle.live_rule.specs.Readers.{Fits, IsClosed};
-ghost use Rattle.live_rule.specs.Steps.{Looked};
+ghost use Rattle.live_table.specs.gp_memb.Plan.{Shows};
+ghost use Rattle.live_table.specs.live_log.Log.{MayCopy, open_of, present_of, sections_of};
+ghost use Rattle.live_table.specs.live_rule.Places.{slot_at};
+ghost use Rattle.live_table.specs.live_rule.Readers.{Fits, IsClosed};
+ghost use Rattle.live_table.specs.live_rule.Steps.{Looked};
 ghost use Rattle.live_table.specs.Steps.{Keeps, Went, looked_view};
 ghost use Rattle.live_table.specs.Rights.{IsOwner, count_in, word_in};
 ghost use Rattle.live_readers.specs.Sections.{Announced, Closed, Nested, Opened, copied};
 
 use crate::plays::{Announces, Closes, LooksPresent, LooksSlot, Nests, Opens};
-use gp_memb::GracePlan;
-use live_log::ChainRule;
-use live_rule::LiveSeat;
-use live_table::LiveTable;
+use live_table::{ChainRule, GracePlan, LiveSeat, LiveTable};
 
 /// Loads the present phase (0 or 1), or in the quiescent-state flavour the present number.
 pub fn load_present<P: GracePlan, K: ChainRule>(table: &LiveTable<P, K>, seat: &mut LiveSeat) -> u64

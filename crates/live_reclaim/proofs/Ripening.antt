@@ -12,8 +12,8 @@ use Rattle.live_log.specs.declared.event.LiveEvent.TheVariants.{Open, Close, Seq
 use Rattle.live_log.specs.declared.event.ObjectEvent.TheVariants.{Push, Replace, Cut, Retire, Queue, Run}
 use Rattle.live_log.specs.Log.{Log, Begins, Has, HaveEnded, IsLiveRun, line_of, state_of}
 use Rattle.live_log.proofs.Lemmas.{begins_trans, grows_log, has_later, line_grows, ripe, run_of}
-use Rattle.live_words.specs.Records.{IsRipe}
-use Rattle.live_words.specs.Queues.{IsAt}
+use Rattle.live_words.specs.live_records.Records.{IsRipe}
+use Rattle.live_words.specs.live_queues.Queues.{IsAt}
 
 pub stands_later : (old new : Log) (q n : ℕ) (o : ObjectId) → Begins old new → IsAt q n o old → IsAt q n o new
 stands_later old new q n o b at = let g = line_grows old new q b in ap (λ (l : List ObjectId). get_elem? l n) g.1 ∙ at_longer (line_of old q) g.0 n o at

@@ -3,9 +3,9 @@ use Rattle.std.specs.Prelude.{◌≡◌, ℕ, ◌+◌, ◌≤◌, List, [], ◌�
 use Rattle.rcu_model.specs.Sets.{In}
 use Rattle.call_rcu_worker.specs.declared.finished.Finished.{Finished}
 use Rattle.live_log.specs.Log.{Log, Begins, HaveEnded, line_of, state_of}
-use Rattle.live_rule.specs.declared.view.View.{View}
-use Rattle.live_rule.specs.declared.rights.WorkRight.TheVariants.{Works}
-use Rattle.live_words.specs.Queues.{IsAt}
+use Rattle.live_words.specs.live_rule.declared.view.View.{View}
+use Rattle.live_words.specs.live_rule.declared.rights.WorkRight.TheVariants.{Works}
+use Rattle.live_words.specs.live_queues.Queues.{IsAt}
 
 -- the seat works for the queue, of which so many are finished
 abbrev pub WorksFor : ℕ → ℕ → View → Type 0

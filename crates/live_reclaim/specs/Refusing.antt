@@ -4,8 +4,8 @@ use Rattle.rcu_model.specs.declared.refusal.Refusal.{Refusal}
 use Rattle.rcu_model.specs.declared.refusal.Refusal.TheVariants.{Closed, Memory}
 use Rattle.live_log.specs.declared.event.LiveEvent.{LiveEvent}
 use Rattle.live_log.specs.Log.{Log, closed_of}
-use Rattle.live_rule.specs.declared.view.Sizes.{Sizes}
-use Rattle.live_rule.specs.Places.{closed_at}
+use Rattle.live_words.specs.live_rule.declared.view.Sizes.{Sizes}
+use Rattle.live_words.specs.live_rule.Places.{closed_at}
 use Rattle.live_read.specs.Hearing.{IsAfter, Stays}
 use Rattle.live_read.specs.declared.witness.Witness.{Ghosts}
 

@@ -1,7 +1,7 @@
 //! The run of one item.
 ghost use Rattle.std.specs.Prelude.{◌≡◌, ◌+◌, ◌<◌, ◌≤◌, ◌^◌, []};
 ghost use Rattle.live_log.specs.Log.{Begins, IsLiveRun};
-ghost use Rattle.live_table.specs.Steps.{Keeps};
+ghost use Rattle.live_words.specs.live_table.Steps.{Keeps};
 ghost use Rattle.live_items.specs.Items.{IsPlaced};
 ghost use Rattle.live_items.specs.Running.{KeepsFinds};
 ghost use Rattle.live_reclaim.specs.Batches.{IsDue, IsRunAs, WorksFor};

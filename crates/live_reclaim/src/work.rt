@@ -1,9 +1,9 @@
 //! How a queue's worker begins, and when it has no more to do.
 ghost use Rattle.std.specs.Prelude.{◌≡◌, ◌↔◌, ℕ, ◌<◌, ◌≤◌, ◌∷◌, IfErr, IfOk, IsTrue, length};
 ghost use Rattle.live_log.specs.Log.{Begins, HaveRun, IsLiveRun, line_of};
-ghost use Rattle.live_rule.specs.Places.{closed_at, finished_at, queued_at, work_at};
-ghost use Rattle.live_rule.specs.Steps.{Precedes};
-ghost use Rattle.live_table.specs.Steps.{IsLater, Keeps};
+ghost use Rattle.live_words.specs.live_rule.Places.{closed_at, finished_at, queued_at, work_at};
+ghost use Rattle.live_words.specs.live_rule.Steps.{Precedes};
+ghost use Rattle.live_words.specs.live_table.Steps.{IsLater, Keeps};
 ghost use Rattle.live_reclaim.specs.Batches.{WorksFor};
 ghost use Rattle.live_reclaim.specs.Working.{HasLooked, IsEmptied, RefusesWork};
 

@@ -3,24 +3,24 @@ use Rattle.std.proofs.Common.{◌≡◌, ◌≢◌, ℕ, ◌+◌, ◌*◌, ◌/�
 use mathlib.Core.Option as lists
 use lib.ListN.{get_elem?}
 use Rattle.atomic_table.specs.Table.{State, Me, step, keeps, Allows}
-use Rattle.rcu_model.specs.declared.event.ObjectId.{ObjectId}
-use Rattle.rcu_model.specs.Sets.{In}
-use Rattle.rcu_model.proofs.Lemmas.{in_objects, has_object_in}
-use Rattle.live_log.specs.declared.event.LiveEvent.{LiveEvent}
-use Rattle.live_log.specs.declared.event.LiveEvent.TheVariants.{Object}
-use Rattle.live_log.specs.declared.event.ObjectEvent.TheVariants.{Retire, Run}
-use Rattle.live_log.specs.Log.{Log, note_of, IsLiveRun, Objects, objects_of, Spot, head, link, Leads}
-use Rattle.live_log.proofs.Lemmas.{by_object, kept_log, ready_stays}
-use Rattle.live_rule.specs.declared.view.Sizes.{Sizes}
-use Rattle.live_rule.specs.declared.view.View.{View}
-use Rattle.live_rule.specs.declared.rights.RecordRight.{RecordRight}
-use Rattle.live_rule.specs.declared.rights.RecordRight.TheVariants.{Unlinked, Retired, Queued}
-use Rattle.live_rule.specs.Places.{cell_at}
-use Rattle.live_rule.specs.Objects.{IsAlive, Header}
-use Rattle.live_rule.specs.Rights.{ClaimsObject}
-use Rattle.live_rule.specs.Rule.{KeepsRule}
-use Rattle.live_rule.specs.Seats.{but_object}
-use Rattle.live_rule.proofs.Lemmas.{calm_object, heap_beside, header_same, object_stays, looks, look_all}
+use Rattle.live_table.specs.rcu_model.declared.event.ObjectId.{ObjectId}
+use Rattle.live_table.specs.rcu_model.Sets.{In}
+use Rattle.live_table.proofs.rcu_model.Lemmas.{in_objects, has_object_in}
+use Rattle.live_table.specs.live_log.declared.event.LiveEvent.{LiveEvent}
+use Rattle.live_table.specs.live_log.declared.event.LiveEvent.TheVariants.{Object}
+use Rattle.live_table.specs.live_log.declared.event.ObjectEvent.TheVariants.{Retire, Run}
+use Rattle.live_table.specs.live_log.Log.{Log, note_of, IsLiveRun, Objects, objects_of, Spot, head, link, Leads}
+use Rattle.live_table.proofs.live_log.Lemmas.{by_object, kept_log, ready_stays}
+use Rattle.live_table.specs.live_rule.declared.view.Sizes.{Sizes}
+use Rattle.live_table.specs.live_rule.declared.view.View.{View}
+use Rattle.live_table.specs.live_rule.declared.rights.RecordRight.{RecordRight}
+use Rattle.live_table.specs.live_rule.declared.rights.RecordRight.TheVariants.{Unlinked, Retired, Queued}
+use Rattle.live_table.specs.live_rule.Places.{cell_at}
+use Rattle.live_table.specs.live_rule.Objects.{IsAlive, Header}
+use Rattle.live_table.specs.live_rule.Rights.{ClaimsObject}
+use Rattle.live_table.specs.live_rule.Rule.{KeepsRule}
+use Rattle.live_table.specs.live_rule.Seats.{but_object}
+use Rattle.live_table.proofs.live_rule.Lemmas.{calm_object, heap_beside, header_same, object_stays, looks, look_all}
 use Rattle.live_table.specs.Rights.{IsQueued, IsRetired, IsUnlinked, cell_in, object_in}
 use Rattle.live_table.specs.Steps.{IsKnown, looked_view}
 use Rattle.live_records.specs.Records.{HasCut, IsRipe, retired_view, retired, ran, looked_payload}

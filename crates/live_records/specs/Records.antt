@@ -1,16 +1,16 @@
 -- What each step on a record tells.
 use Rattle.std.specs.Prelude.{Bool, ◌≡◌, ◌≢◌, ◌⊎◌, ℕ, ◌+◌, ◌*◌, ◌<◌, List, [], length, slice_index_or, slice_set}
 use Rattle.atomic_table.specs.Table.{Me, Step}
-use Rattle.rcu_model.specs.declared.event.ObjectId.{ObjectId}
-use Rattle.rcu_model.specs.Sets.{In}
-use Rattle.live_log.specs.declared.event.LiveEvent.{LiveEvent}
-use Rattle.live_log.specs.declared.event.LiveEvent.TheVariants.{Object}
-use Rattle.live_log.specs.declared.event.ObjectEvent.TheVariants.{Retire, Run}
-use Rattle.live_log.specs.Log.{Log, note_of, state_of}
-use Rattle.live_rule.specs.declared.view.View.{View}
-use Rattle.live_rule.specs.declared.rights.RecordRight.TheVariants.{Drawn, Fresh, Retired}
-use Rattle.live_rule.specs.Places.{cell_at}
-use Rattle.live_rule.specs.Seats.{but_object}
+use Rattle.live_table.specs.rcu_model.declared.event.ObjectId.{ObjectId}
+use Rattle.live_table.specs.rcu_model.Sets.{In}
+use Rattle.live_table.specs.live_log.declared.event.LiveEvent.{LiveEvent}
+use Rattle.live_table.specs.live_log.declared.event.LiveEvent.TheVariants.{Object}
+use Rattle.live_table.specs.live_log.declared.event.ObjectEvent.TheVariants.{Retire, Run}
+use Rattle.live_table.specs.live_log.Log.{Log, note_of, state_of}
+use Rattle.live_table.specs.live_rule.declared.view.View.{View}
+use Rattle.live_table.specs.live_rule.declared.rights.RecordRight.TheVariants.{Drawn, Fresh, Retired}
+use Rattle.live_table.specs.live_rule.Places.{cell_at}
+use Rattle.live_table.specs.live_rule.Seats.{but_object}
 use Rattle.live_table.specs.Rights.{KnowsChains, IsFresh, IsUnlinked, IsRetired, IsQueued, cell_in, object_in, link_in, payload_in}
 use Rattle.live_table.specs.Steps.{Did, Went, looked_view}
 

@@ -1,20 +1,17 @@
 //! The two stores of a header that end an object's life: it is retired, and once it was queued its callback may run.
 ghost use Rattle.std.specs.Prelude.{◌≡◌, ◌<◌, ◌^◌, slice_index_or};
-ghost use Rattle.live_log.specs.declared.event.LiveEvent.TheVariants.{Object};
-ghost use Rattle.live_log.specs.declared.event.ObjectEvent.TheVariants.{Retire, Run};
-ghost use Rattle.rcu_model.specs.Sets.{In};
-ghost use Rattle.live_log.specs.Log.{note_of, state_of};
-ghost use Rattle.live_rule.specs.Places.{cell_at};
-ghost use Rattle.live_rule.specs.Seats.{but_object};
+ghost use Rattle.live_table.specs.live_log.declared.event.LiveEvent.TheVariants.{Object};
+ghost use Rattle.live_table.specs.live_log.declared.event.ObjectEvent.TheVariants.{Retire, Run};
+ghost use Rattle.live_table.specs.rcu_model.Sets.{In};
+ghost use Rattle.live_table.specs.live_log.Log.{note_of, state_of};
+ghost use Rattle.live_table.specs.live_rule.Places.{cell_at};
+ghost use Rattle.live_table.specs.live_rule.Seats.{but_object};
 ghost use Rattle.live_table.specs.Rights.{IsQueued, IsUnlinked, cell_in, object_in};
 ghost use Rattle.live_table.specs.Steps.{Did, IsKnown, Keeps, Went, looked_view};
 ghost use Rattle.live_records.specs.Records.{HasCut, IsRipe, retired_view};
 
 use crate::plays::{LooksPayload, Retires, Runs};
-use gp_memb::GracePlan;
-use live_log::ChainRule;
-use live_rule::LiveSeat;
-use live_table::LiveTable;
+use live_table::{ChainRule, GracePlan, LiveSeat, LiveTable};
 
 /// Loads a payload word of the seat's object, which was cut and has not been run, the first one at `index` 0: the word
 /// that was noted with the object when it was published. It never waits.

@@ -2,9 +2,7 @@
 ghost use Rattle.live_records.specs.Records.{discarded, drew, linked, looked, looked_payload, numbered, ran, retired, took, worded};
 
 use atomic_table::Play;
-use gp_memb::GracePlan;
-use live_log::ChainRule;
-use live_rule::View;
+use live_table::{ChainRule, GracePlan, View};
 use std::marker::PhantomData;
 
 pub(crate) struct LooksLast<P, K>(PhantomData<(P, K)>);

@@ -1,8 +1,8 @@
 //! One function for each kind of step on a record. None of them waits, and none writes an event: what is not linked is
 //! no part of the log.
 ghost use Rattle.std.specs.Prelude.{◌≡◌, ◌≢◌, ◌+◌, ◌*◌, ◌<◌, ◌≤◌, ◌^◌, length};
-ghost use Rattle.live_rule.specs.Places.{cell_at, last_at};
-ghost use Rattle.live_rule.specs.Seats.{but_object};
+ghost use Rattle.live_table.specs.live_rule.Places.{cell_at, last_at};
+ghost use Rattle.live_table.specs.live_rule.Seats.{but_object};
 ghost use Rattle.live_table.specs.Rights.{IsDrawn, IsFresh, KnowsChains, cell_in, link_in, object_in, payload_in};
 ghost use Rattle.live_table.specs.Steps.{Keeps, Went, looked_view};
 ghost use Rattle.live_records.specs.Records.{HasRecord, drawn_view, linked_view, taken_record, worded_view};
@@ -10,10 +10,7 @@ ghost use Rattle.live_records.specs.Records.{HasRecord, drawn_view, linked_view,
 use crate::plays::{
     Discards, Draws, LooksHeader, LooksLast, LooksNumber, StoresLink, StoresWord, Takes,
 };
-use gp_memb::GracePlan;
-use live_log::ChainRule;
-use live_rule::LiveSeat;
-use live_table::LiveTable;
+use live_table::{ChainRule, GracePlan, LiveSeat, LiveTable};
 
 /// Loads the last object number that was given. What it found is kept among the looks. It never waits.
 pub fn load_last<P: GracePlan, K: ChainRule>(table: &LiveTable<P, K>, seat: &mut LiveSeat) -> u64

@@ -6,10 +6,10 @@ use Rattle.atomic_table.specs.Table.{Me}
 use Rattle.live_log.specs.declared.event.LiveEvent.{LiveEvent}
 use Rattle.live_log.specs.Log.{Log, Begins, line_of}
 use Rattle.live_log.proofs.Lemmas.{begins_trans, line_grows}
-use Rattle.live_rule.specs.declared.view.Sizes.{Sizes}
-use Rattle.live_rule.specs.declared.view.View.{View}
-use Rattle.live_rule.specs.Places.{cell_at, finished_at, queued_at}
-use Rattle.live_table.specs.Steps.{Went, looked_view}
+use Rattle.live_words.specs.live_rule.declared.view.Sizes.{Sizes}
+use Rattle.live_words.specs.live_rule.declared.view.View.{View}
+use Rattle.live_words.specs.live_rule.Places.{cell_at, finished_at, queued_at}
+use Rattle.live_words.specs.live_table.Steps.{Went, looked_view}
 use Rattle.live_status.specs.Status.{AreInUse, AreWaiting, HasFound, HasNone, Looks}
 
 -- one more load

@@ -10,9 +10,9 @@ use Rattle.gp_memb.specs.Plan.{stands_before}
 use Rattle.live_log.specs.declared.event.LiveEvent.{LiveEvent}
 use Rattle.live_log.specs.Log.{Log, Begins, IsLiveRun, open_of, present_of, seq_of}
 use Rattle.live_log.proofs.Lemmas.{begins_trans}
-use Rattle.live_rule.specs.declared.view.Sizes.{Sizes}
-use Rattle.live_rule.specs.Places.{slot_at}
-use Rattle.live_rule.specs.Readers.{Fits}
+use Rattle.live_words.specs.live_rule.declared.view.Sizes.{Sizes}
+use Rattle.live_words.specs.live_rule.Places.{slot_at}
+use Rattle.live_words.specs.live_rule.Readers.{Fits}
 use Rattle.live_status.specs.Status.{AreInWay, HadOpen, Looks, Stalls}
 
 -- with the slot of one more word

@@ -7,9 +7,9 @@ use Rattle.reader_word.specs.declared.layout.Layout.TheVariants.{Wide}
 use Rattle.gp_memb.specs.Plan.{stands_before}
 use Rattle.live_log.specs.declared.event.LiveEvent.{LiveEvent}
 use Rattle.live_log.specs.Log.{Log, Begins, IsLiveRun, open_of, present_of, seq_of}
-use Rattle.live_rule.specs.declared.view.Sizes.{Sizes}
-use Rattle.live_rule.specs.declared.view.View.{View}
-use Rattle.live_rule.specs.Places.{cell_at, finished_at, queued_at, slot_at}
+use Rattle.live_words.specs.live_rule.declared.view.Sizes.{Sizes}
+use Rattle.live_words.specs.live_rule.declared.view.View.{View}
+use Rattle.live_words.specs.live_rule.Places.{cell_at, finished_at, queued_at, slot_at}
 use Rattle.live_status.specs.declared.counting.Counts.{Counts}
 
 -- what was loaded, by its place, the last one first

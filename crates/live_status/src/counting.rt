@@ -1,7 +1,7 @@
 //! How full a domain is.
 ghost use Rattle.std.specs.Prelude.{◌≡◌, ◌∷◌, ◌++◌, ◌<◌, ◌≤◌, ℕ, List};
 ghost use Rattle.live_log.specs.Log.{seq_of};
-ghost use Rattle.live_table.specs.Steps.{IsLater, Keeps};
+ghost use Rattle.live_words.specs.live_table.Steps.{IsLater, Keeps};
 ghost use Rattle.live_status.specs.Status.{AreInUse, AreWaiting, Counted, HasFound, HasNone, Looks};
 
 use gp_memb::GracePlan;

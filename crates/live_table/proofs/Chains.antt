@@ -3,11 +3,11 @@ use Rattle.std.proofs.Common.{◌≡◌, ℕ, ◌<◌, List, [], ◌∷◌, Bool
 use mathlib.Core.Option as lists
 use lib.ListN.{get_elem?}
 use Rattle.atomic_table.specs.Table.{State}
-use Rattle.rcu_model.specs.declared.event.ObjectId.{ObjectId}
-use Rattle.rcu_model.specs.Sets.{In, first_of}
-use Rattle.live_log.specs.declared.event.LiveEvent.{LiveEvent}
-use Rattle.live_log.specs.Log.{Log, state_of, note_of, IsLiveRun, objects_of, head}
-use Rattle.live_log.proofs.Lemmas.{kept_log}
+use Rattle.live_rule.specs.rcu_model.declared.event.ObjectId.{ObjectId}
+use Rattle.live_rule.specs.rcu_model.Sets.{In, first_of}
+use Rattle.live_rule.specs.live_log.declared.event.LiveEvent.{LiveEvent}
+use Rattle.live_rule.specs.live_log.Log.{Log, state_of, note_of, IsLiveRun, objects_of, head}
+use Rattle.live_rule.proofs.live_log.Lemmas.{kept_log}
 use Rattle.live_rule.specs.declared.view.Sizes.{Sizes}
 use Rattle.live_rule.specs.declared.view.View.{View}
 use Rattle.live_rule.specs.declared.rights.ChainRight.{ChainRight}

@@ -1,6 +1,6 @@
 -- What was found earlier, or later, was found.
 use Rattle.std.proofs.Common.{ℕ, List, [], ◌∷◌, ◌++◌, inr}
-use Rattle.rcu_model.proofs.Lemmas.{in_left}
+use Rattle.live_rule.proofs.rcu_model.Lemmas.{in_left}
 use Rattle.live_table.specs.Steps.{FoundIn}
 
 pub found_left : (found more : List (ℕ × ℕ)) (place : ℕ) (so : ℕ → Type 0) → FoundIn found place so → FoundIn (found ++ more) place so

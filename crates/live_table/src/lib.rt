@@ -5,4 +5,8 @@ mod places;
 mod plays;
 mod table;
 
+pub use live_rule::{
+    AnyChain, ChainRight, ChainRule, GracePlan, GraceRight, Keyed, LiveEvent, LiveRule, LiveSeat,
+    ObjectEvent, QueueRight, RecordRight, Sizes, SlotRight, Tabled, View, WorkRight,
+};
 pub use table::LiveTable;

@@ -2,8 +2,7 @@
 ghost use Rattle.std.specs.Prelude.{◌≡◌, ◌<◌, ◌≤◌};
 
 use crate::table::LiveTable;
-use gp_memb::GracePlan;
-use live_log::ChainRule;
+use live_rule::{ChainRule, GracePlan};
 
 /// The sequence number's place.
 const SEQ: usize = 16;

@@ -7,9 +7,7 @@ use crate::plays::{
     LearnChanges, NewSeat, TakeObject, Tell, TellChanges,
 };
 use atomic_table::Table;
-use gp_memb::GracePlan;
-use live_log::ChainRule;
-use live_rule::{LiveRule, LiveSeat, Sizes, View};
+use live_rule::{ChainRule, GracePlan, LiveRule, LiveSeat, Sizes, View};
 use std::alloc::{AllocError, Global};
 
 /// The words of one domain, under the rule for grace periods by the plans `P` and chains by the rule `K`.
@@ -36,7 +34,7 @@ pub struct LiveTable<P: GracePlan, K: ChainRule> {
 /// How seats are made, cut and joined. A cut and a join are one load of word 0 each.
 impl<P: GracePlan, K: ChainRule> LiveTable<P, K> {
     ghost use Rattle.std.specs.Prelude.{ℕ, ◌+◌, ◌*◌, [], IfOk};
-    ghost use Rattle.live_log.specs.Log.{IsLiveRun};
+    ghost use Rattle.live_rule.specs.live_log.Log.{IsLiveRun};
     ghost use Rattle.live_rule.specs.Views.{bare, first_view};
     ghost use Rattle.live_rule.specs.Seats.{IsSpareQueue, but_chains, but_first_queue, but_grace, but_lent, but_object, but_work, chains_alone, changed_view, first_queue, grace_alone, heard_changes_view, heard_view, lent_alone, merged, object_alone, taken_view, told_view, work_alone};
     ghost use Rattle.live_table.specs.Steps.{Cut, Joined};

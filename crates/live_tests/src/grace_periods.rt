@@ -4,7 +4,7 @@
 use gp_memb::MembPlan;
 use live_grace::{Answer, GraceWriter, ask, poll, start_poll};
 use live_log::AnyChain;
-use live_table::LiveTable;
+use live_words::LiveTable;
 
 #[test]
 fn phases_answer_asks(rt: HostRuntime) {

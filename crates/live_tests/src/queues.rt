@@ -3,7 +3,7 @@
 //! hold word of the queue's worker word 121. The first object lies in the last record, whose header is word 178.
 
 ghost use Rattle.std.specs.Prelude.{◌≡◌, []};
-ghost use Rattle.live_rule.specs.Views.{first_view};
+ghost use Rattle.live_words.specs.live_rule.Views.{first_view};
 
 use crate::plain;
 use callback_queue::Item;

@@ -3,7 +3,7 @@
 
 ghost use Rattle.std.specs.Prelude.{◌≡◌, ◌<◌, [], true, false, IfOk};
 ghost use Rattle.std.specs.Arc.{arc_value};
-ghost use Rattle.live_rule.specs.Views.{first_view};
+ghost use Rattle.live_words.specs.live_rule.Views.{first_view};
 
 use crate::registering::first_record;
 use gp_memb::{GracePlan, MembPlan};

@@ -3,7 +3,7 @@
 
 ghost use Rattle.std.specs.Prelude.{◌≡◌, []};
 ghost use Rattle.std.specs.Arc.{arc_value};
-ghost use Rattle.live_rule.specs.Views.{first_view};
+ghost use Rattle.live_words.specs.live_rule.Views.{first_view};
 
 use gp_memb::{GracePlan, MembPlan};
 use live_read::{Reader, Record, Site};

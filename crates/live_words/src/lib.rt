@@ -7,7 +7,6 @@ pub use live_chains::{
     store_cut, store_note, store_push, store_replace,
 };
 pub use live_groups::{claim, look_group, release};
-pub use live_log::{AnyChain, ChainRule, Keyed, LiveEvent, ObjectEvent, Tabled};
 pub use live_periods::{load_group, load_seq, load_slot, store_even, store_odd, store_present};
 pub use live_queues::{
     end_work, free_work, hold_work, load_closed, load_finished, load_queued, store_closed,
@@ -21,8 +20,7 @@ pub use live_records::{
     draw_number, load_header, load_last, load_number, load_payload, store_discard, store_link,
     store_retire, store_run, store_word, take_cell,
 };
-pub use live_rule::{
-    ChainRight, GraceRight, LiveRule, LiveSeat, QueueRight, RecordRight, Sizes, SlotRight, View,
-    WorkRight,
+pub use live_table::{
+    AnyChain, ChainRight, ChainRule, GraceRight, Keyed, LiveEvent, LiveRule, LiveSeat, LiveTable,
+    ObjectEvent, QueueRight, RecordRight, Sizes, SlotRight, Tabled, View, WorkRight,
 };
-pub use live_table::LiveTable;

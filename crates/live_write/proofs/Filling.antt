@@ -3,12 +3,12 @@ use Rattle.std.proofs.Common.{Bool, ◌≡◌, ℕ, List, [], ◌∷◌, length,
 use Rattle.atomic_table.specs.Table.{Me}
 use Rattle.live_log.specs.declared.event.LiveEvent.{LiveEvent}
 use Rattle.live_log.specs.Log.{Log}
-use Rattle.live_rule.specs.declared.view.View.{View}
-use Rattle.live_rule.specs.declared.rights.RecordRight.{RecordRight}
-use Rattle.live_rule.specs.declared.rights.RecordRight.TheVariants.{Fresh}
-use Rattle.live_table.specs.Rights.{cell_in, link_in, object_in, payload_in}
-use Rattle.live_table.specs.Steps.{Went}
-use Rattle.live_records.specs.Records.{worded_view}
+use Rattle.live_words.specs.live_rule.declared.view.View.{View}
+use Rattle.live_words.specs.live_rule.declared.rights.RecordRight.{RecordRight}
+use Rattle.live_words.specs.live_rule.declared.rights.RecordRight.TheVariants.{Fresh}
+use Rattle.live_words.specs.live_table.Rights.{cell_in, link_in, object_in, payload_in}
+use Rattle.live_words.specs.live_table.Steps.{Went}
+use Rattle.live_words.specs.live_records.Records.{worded_view}
 use Rattle.live_write.specs.Searching.{Allocates}
 use Rattle.live_write.proofs.Searching.{right_is, searched_then}
 

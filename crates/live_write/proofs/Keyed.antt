@@ -6,10 +6,10 @@ use Rattle.live_log.specs.declared.event.LiveEvent.{LiveEvent}
 use Rattle.live_log.specs.Keys.{key_of, rank_of, Falls, keyed}
 use Rattle.live_log.specs.Log.{Log, IsLiveRun, note_of}
 use Rattle.live_log.proofs.Lemmas.{each_falls}
-use Rattle.live_rule.specs.declared.view.View.{View}
-use Rattle.live_table.specs.Rights.{IsListed, IsWriter, own_in, payload_in}
-use Rattle.live_chains.specs.Chains.{MayWrite, cut_of}
-use Rattle.live_chains.proofs.Lemmas as chains
+use Rattle.live_words.specs.live_rule.declared.view.View.{View}
+use Rattle.live_words.specs.live_table.Rights.{IsListed, IsWriter, own_in, payload_in}
+use Rattle.live_words.specs.live_chains.Chains.{MayWrite, cut_of}
+use Rattle.live_words.proofs.live_chains.Lemmas as chains
 use Rattle.live_write.specs.Chains.{MayPublish, list_in, push_by, replace_by}
 
 -- what a writer may write by what it knows alone it may publish, whoever calls

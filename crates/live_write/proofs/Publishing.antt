@@ -9,19 +9,19 @@ use Rattle.live_log.specs.declared.event.LiveEvent.TheVariants.{Object}
 use Rattle.live_log.specs.declared.event.ObjectEvent.TheVariants.{Push, Replace, Cut}
 use Rattle.live_log.specs.Log.{Log, Begins, note_of, objects_of}
 use Rattle.live_log.proofs.Lemmas.{begins_trans}
-use Rattle.live_rule.specs.declared.view.View.{View}
-use Rattle.live_rule.specs.declared.rights.ChainRight.{ChainRight}
-use Rattle.live_rule.specs.declared.rights.RecordRight.{RecordRight}
-use Rattle.live_rule.specs.declared.rights.RecordRight.TheVariants.{Unlinked}
-use Rattle.live_rule.specs.Seats.{but_object, object_alone, lent_chains, heard_view, taken_view}
-use Rattle.live_rule.specs.Objects.{ref}
-use Rattle.live_rule.specs.Steps.{Wrote}
-use Rattle.live_rule.proofs.Lemmas.{begins_nothing}
-use Rattle.live_table.specs.Rights.{AreAsKnown, IsListed, IsUnlinked, IsWriter, own_in, object_in, cell_in, payload_in}
-use Rattle.live_table.specs.Steps.{IsNow, Went}
-use Rattle.live_words.specs.Periods.{LoadedSeq}
-use Rattle.live_chains.specs.Chains.{MayWrite, Writes, IsBefore, IsThere, push_of, cut_of, cut_view, replace_of, replaced_view, head_after}
-use Rattle.live_chains.proofs.Lemmas.{note_same, there_after}
+use Rattle.live_words.specs.live_rule.declared.view.View.{View}
+use Rattle.live_words.specs.live_rule.declared.rights.ChainRight.{ChainRight}
+use Rattle.live_words.specs.live_rule.declared.rights.RecordRight.{RecordRight}
+use Rattle.live_words.specs.live_rule.declared.rights.RecordRight.TheVariants.{Unlinked}
+use Rattle.live_words.specs.live_rule.Seats.{but_object, object_alone, lent_chains, heard_view, taken_view}
+use Rattle.live_words.specs.live_rule.Objects.{ref}
+use Rattle.live_words.specs.live_rule.Steps.{Wrote}
+use Rattle.live_words.proofs.live_rule.Lemmas.{begins_nothing}
+use Rattle.live_words.specs.live_table.Rights.{AreAsKnown, IsListed, IsUnlinked, IsWriter, own_in, object_in, cell_in, payload_in}
+use Rattle.live_words.specs.live_table.Steps.{IsNow, Went}
+use Rattle.live_words.specs.live_periods.Periods.{LoadedSeq}
+use Rattle.live_words.specs.live_chains.Chains.{MayWrite, Writes, IsBefore, IsThere, push_of, cut_of, cut_view, replace_of, replaced_view, head_after}
+use Rattle.live_words.proofs.live_chains.Lemmas.{note_same, there_after}
 use Rattle.live_read.specs.Hearing.{IsAfter, IsAsBefore, OnlyMakesLast}
 use Rattle.live_read.specs.declared.witness.Witness.{Ghosts}
 use Rattle.live_write.specs.Chains.{GoesOn, MayPublish, Publishes, list_in, push_by, replace_by}

@@ -5,15 +5,15 @@ use native.Mathlib.Decide.{ℕ_discrete, dec_le}
 use Rattle.atomic_table.specs.Table.{Me}
 use Rattle.live_log.specs.declared.event.LiveEvent.{LiveEvent}
 use Rattle.live_log.specs.Log.{Begins, Log}
-use Rattle.live_rule.specs.declared.view.Sizes.{Sizes}
-use Rattle.live_rule.specs.declared.view.View.{View}
-use Rattle.live_rule.specs.declared.rights.RecordRight.{RecordRight}
-use Rattle.live_rule.specs.declared.rights.RecordRight.TheVariants.{Fresh}
-use Rattle.live_rule.specs.Places.{cell_at}
-use Rattle.live_table.specs.Rights.{link_in, object_in, payload_in}
-use Rattle.live_table.specs.Steps.{IsLater}
-use Rattle.live_table.proofs.Lemmas.{found_left, found_right}
-use Rattle.live_words.proofs.Lemmas.{begins_trans}
+use Rattle.live_words.specs.live_rule.declared.view.Sizes.{Sizes}
+use Rattle.live_words.specs.live_rule.declared.view.View.{View}
+use Rattle.live_words.specs.live_rule.declared.rights.RecordRight.{RecordRight}
+use Rattle.live_words.specs.live_rule.declared.rights.RecordRight.TheVariants.{Fresh}
+use Rattle.live_words.specs.live_rule.Places.{cell_at}
+use Rattle.live_words.specs.live_table.Rights.{link_in, object_in, payload_in}
+use Rattle.live_words.specs.live_table.Steps.{IsLater}
+use Rattle.live_words.proofs.live_table.Lemmas.{found_left, found_right}
+use Rattle.live_log.proofs.Lemmas.{begins_trans}
 use Rattle.live_write.specs.Searching.{AreTaken, IsTaken, Searched, Takes}
 
 module _ {S : Type 0} (qsbr : Bool) (allows : Log → LiveEvent → Type 0) where

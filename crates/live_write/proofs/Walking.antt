@@ -7,14 +7,14 @@ use Rattle.rcu_model.proofs.Lemmas.{Once, Tells, object_tells, follows_has, some
 use Rattle.live_log.specs.declared.event.LiveEvent.{LiveEvent}
 use Rattle.live_log.specs.Log.{Log, note_of, objects_of}
 use Rattle.live_log.proofs.Lemmas.{begins_trans, kept_log}
-use Rattle.live_rule.specs.declared.view.View.{View}
-use Rattle.live_rule.specs.declared.rights.ChainRight.{ChainRight}
-use Rattle.live_rule.specs.Objects.{ref}
-use Rattle.live_rule.specs.Seats.{lent_chains}
-use Rattle.live_table.specs.Rights.{own_in, IsWriter, IsListed, KnowsChains}
-use Rattle.live_table.specs.Steps.{Went}
-use Rattle.live_chains.specs.Chains.{IsBefore, IsThere, IsNext, MayRead}
-use Rattle.live_chains.proofs.Lemmas.{note_same}
+use Rattle.live_words.specs.live_rule.declared.view.View.{View}
+use Rattle.live_words.specs.live_rule.declared.rights.ChainRight.{ChainRight}
+use Rattle.live_words.specs.live_rule.Objects.{ref}
+use Rattle.live_words.specs.live_rule.Seats.{lent_chains}
+use Rattle.live_words.specs.live_table.Rights.{own_in, IsWriter, IsListed, KnowsChains}
+use Rattle.live_words.specs.live_table.Steps.{Went}
+use Rattle.live_words.specs.live_chains.Chains.{IsBefore, IsThere, IsNext, MayRead}
+use Rattle.live_words.proofs.live_chains.Lemmas.{note_same}
 
 in_middle : (front : List ObjectId) (o : ObjectId) (rest : List ObjectId) → In (front ++ o ∷ rest) o
 in_middle [] o rest = inl refl

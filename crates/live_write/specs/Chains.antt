@@ -5,9 +5,9 @@ use Rattle.live_log.specs.declared.event.LiveEvent.{LiveEvent}
 use Rattle.live_log.specs.declared.event.LiveEvent.TheVariants.{Object}
 use Rattle.live_log.specs.declared.event.ObjectEvent.TheVariants.{Push, Replace}
 use Rattle.live_log.specs.Log.{Log, Begins, IsLiveRun, note_of}
-use Rattle.live_rule.specs.declared.view.View.{View}
-use Rattle.live_table.specs.Rights.{AreAsKnown, own_in, object_in, cell_in, payload_in}
-use Rattle.live_chains.specs.Chains.{IsAllowedBy}
+use Rattle.live_words.specs.live_rule.declared.view.View.{View}
+use Rattle.live_words.specs.live_table.Rights.{AreAsKnown, own_in, object_in, cell_in, payload_in}
+use Rattle.live_words.specs.live_chains.Chains.{IsAllowedBy}
 
 -- the objects that a writer's chain links, the first one first
 abbrev pub list_in : View → List ObjectId

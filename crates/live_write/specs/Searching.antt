@@ -4,13 +4,13 @@ use Rattle.atomic_table.specs.Table.{Me}
 use Rattle.rcu_model.specs.declared.event.ObjectId.{ObjectId}
 use Rattle.live_log.specs.declared.event.LiveEvent.{LiveEvent}
 use Rattle.live_log.specs.Log.{Log}
-use Rattle.live_rule.specs.declared.view.Sizes.{Sizes}
-use Rattle.live_rule.specs.declared.view.View.{View}
-use Rattle.live_rule.specs.declared.rights.RecordRight.{RecordRight}
-use Rattle.live_rule.specs.declared.rights.RecordRight.TheVariants.{Fresh}
-use Rattle.live_rule.specs.Places.{cell_at, last_at}
-use Rattle.live_table.specs.Rights.{link_in, object_in, payload_in}
-use Rattle.live_table.specs.Steps.{FoundIn, Went}
+use Rattle.live_words.specs.live_rule.declared.view.Sizes.{Sizes}
+use Rattle.live_words.specs.live_rule.declared.view.View.{View}
+use Rattle.live_words.specs.live_rule.declared.rights.RecordRight.{RecordRight}
+use Rattle.live_words.specs.live_rule.declared.rights.RecordRight.TheVariants.{Fresh}
+use Rattle.live_words.specs.live_rule.Places.{cell_at, last_at}
+use Rattle.live_words.specs.live_table.Rights.{link_in, object_in, payload_in}
+use Rattle.live_words.specs.live_table.Steps.{FoundIn, Went}
 
 -- the record was found in use
 abbrev pub IsTaken : Sizes → List (ℕ × ℕ) → ℕ → Type 0

@@ -3,10 +3,10 @@
 ghost use Rattle.std.specs.Prelude.{◌≡◌, ◌⊎◌, ℕ, ◌<◌, ◌≤◌, ◌^◌, List, ◌++◌, ◌∷◌, IfErr, IfOk, length};
 ghost use Rattle.rcu_model.specs.declared.refusal.Refusal.TheVariants.{PoolFull};
 ghost use Rattle.live_log.specs.Log.{Begins, Log};
-ghost use Rattle.live_rule.specs.declared.rights.RecordRight.{RecordRight};
-ghost use Rattle.live_rule.specs.Places.{cell_at};
-ghost use Rattle.live_table.specs.Rights.{IsFresh, cell_in, object_in, payload_in};
-ghost use Rattle.live_table.specs.Steps.{Keeps};
+ghost use Rattle.live_words.specs.live_rule.declared.rights.RecordRight.{RecordRight};
+ghost use Rattle.live_words.specs.live_rule.Places.{cell_at};
+ghost use Rattle.live_words.specs.live_table.Rights.{IsFresh, cell_in, object_in, payload_in};
+ghost use Rattle.live_words.specs.live_table.Steps.{Keeps};
 ghost use Rattle.live_read.specs.Hearing.{IsAfter, Stays};
 ghost use Rattle.live_write.specs.Searching.{Allocates, AreTaken, IsUsedUp, Searched};
 

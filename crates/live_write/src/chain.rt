@@ -6,11 +6,11 @@ ghost use Rattle.rcu_model.specs.Sets.{In, replaced, without_object};
 ghost use Rattle.rcu_model.specs.declared.event.ObjectId.{ObjectId};
 ghost use Rattle.live_log.specs.declared.event.LiveEvent.TheVariants.{ChainNote};
 ghost use Rattle.live_log.specs.Log.{Begins, IsLiveRun, chain_note, payload_of};
-ghost use Rattle.live_rule.specs.Places.{hold_at};
-ghost use Rattle.live_rule.specs.Seats.{lent_chains};
-ghost use Rattle.live_table.specs.Rights.{AreAsKnown, IsListed, IsWriter, object_in, own_in};
-ghost use Rattle.live_table.specs.Steps.{Keeps, Went};
-ghost use Rattle.live_chains.specs.Chains.{cut_of};
+ghost use Rattle.live_words.specs.live_rule.Places.{hold_at};
+ghost use Rattle.live_words.specs.live_rule.Seats.{lent_chains};
+ghost use Rattle.live_words.specs.live_table.Rights.{AreAsKnown, IsListed, IsWriter, object_in, own_in};
+ghost use Rattle.live_words.specs.live_table.Steps.{Keeps, Went};
+ghost use Rattle.live_words.specs.live_chains.Chains.{cut_of};
 ghost use Rattle.live_read.specs.Hearing.{IsAfter, OnlyHears, OnlyMakesLast, Stays};
 ghost use Rattle.live_write.specs.Chains.{IsFirstWith, MayPublish, Publishes, first_word, list_in, push_by, replace_by};
 

@@ -3,9 +3,9 @@
 
 ghost use Rattle.std.specs.Prelude.{◌≡◌, ◌<◌, ◌∷◌, ◌++◌, [], length};
 ghost use Rattle.live_log.specs.Log.{Begins, IsLiveRun};
-ghost use Rattle.live_rule.specs.Seats.{lent_chains};
-ghost use Rattle.live_table.specs.Rights.{AreAsKnown, IsListed, IsWriter, own_in};
-ghost use Rattle.live_table.specs.Steps.{Keeps};
+ghost use Rattle.live_words.specs.live_rule.Seats.{lent_chains};
+ghost use Rattle.live_words.specs.live_table.Rights.{AreAsKnown, IsListed, IsWriter, own_in};
+ghost use Rattle.live_words.specs.live_table.Steps.{Keeps};
 ghost use Rattle.live_write.specs.Chains.{list_in};
 
 use crate::chain::Chain;

@@ -5,10 +5,10 @@ ghost use Rattle.rcu_model.specs.Sets.{replaced, without_object};
 ghost use Rattle.rcu_model.specs.declared.event.ObjectId.{ObjectId};
 ghost use Rattle.live_log.specs.declared.event.LiveEvent.TheVariants.{ChainNote};
 ghost use Rattle.live_log.specs.Log.{Begins};
-ghost use Rattle.live_rule.specs.Seats.{lent_chains};
-ghost use Rattle.live_table.specs.Rights.{AreAsKnown, IsFresh, IsListed, IsUnlinked, IsWriter, cell_in, object_in, own_in};
-ghost use Rattle.live_table.specs.Steps.{Keeps};
-ghost use Rattle.live_chains.specs.Chains.{cut_of};
+ghost use Rattle.live_words.specs.live_rule.Seats.{lent_chains};
+ghost use Rattle.live_words.specs.live_table.Rights.{AreAsKnown, IsFresh, IsListed, IsUnlinked, IsWriter, cell_in, object_in, own_in};
+ghost use Rattle.live_words.specs.live_table.Steps.{Keeps};
+ghost use Rattle.live_words.specs.live_chains.Chains.{cut_of};
 ghost use Rattle.live_read.specs.Hearing.{IsAfter, OnlyHears, OnlyMakesLast};
 ghost use Rattle.live_write.specs.Chains.{MayPublish, Publishes, list_in, push_by, replace_by};
 

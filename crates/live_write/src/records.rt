@@ -1,7 +1,7 @@
 //! Records that no chain links.
 
 ghost use Rattle.std.specs.Prelude.{◌≡◌, ◌<◌, ◌≤◌, ◌^◌, []};
-ghost use Rattle.live_table.specs.Rights.{IsFresh, IsUnlinked, cell_in, object_in};
+ghost use Rattle.live_words.specs.live_table.Rights.{IsFresh, IsUnlinked, cell_in, object_in};
 
 use gp_memb::GracePlan;
 use live_read::Site;
@@ -47,8 +47,8 @@ pub struct Unlinked<B: Site> {
 
 impl<B: Site> Unlinked<B> {
     ghost use Rattle.std.specs.Prelude.{◌*◌};
-    ghost use Rattle.live_rule.specs.Places.{cell_at};
-    ghost use Rattle.live_table.specs.Steps.{Keeps, Went, looked_view};
+    ghost use Rattle.live_words.specs.live_rule.Places.{cell_at};
+    ghost use Rattle.live_words.specs.live_table.Steps.{Keeps, Went, looked_view};
 
     /// Of a seat with the right to it.
     pub(crate) fn of(seat: LiveSeat, cell: usize, chain: usize) -> Unlinked<B>

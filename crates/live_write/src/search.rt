@@ -1,9 +1,9 @@
 //! The search for an object number, and for a free record.
 
 ghost use Rattle.std.specs.Prelude.{◌≡◌, ℕ, ◌<◌, ◌≤◌, ◌^◌, List, IfNone, IfSome, MatchBool};
-ghost use Rattle.live_rule.specs.declared.rights.RecordRight.TheVariants.{Drawn};
-ghost use Rattle.live_table.specs.Rights.{IsDrawn, object_in};
-ghost use Rattle.live_table.specs.Steps.{IsLater, Keeps};
+ghost use Rattle.live_words.specs.live_rule.declared.rights.RecordRight.TheVariants.{Drawn};
+ghost use Rattle.live_words.specs.live_table.Rights.{IsDrawn, object_in};
+ghost use Rattle.live_words.specs.live_table.Steps.{IsLater, Keeps};
 ghost use Rattle.live_write.specs.Searching.{AreTaken, IsTaken, IsUsedUp, Searched, Takes};
 
 use gp_memb::GracePlan;

@@ -5,10 +5,10 @@ use Rattle.rcu_model.proofs.Lemmas.{none_some}
 use Rattle.live_log.specs.Log.{Log, Begins}
 use Rattle.live_log.specs.Tables.{tabled}
 use Rattle.live_log.proofs.Lemmas.{begins_trans}
-use Rattle.live_read.specs.Hearing.{MakesLast, Stays}
-use Rattle.live_read.specs.declared.witness.Witness.{Ghosts}
-use Rattle.live_read.proofs.Lemmas.{stays_makes}
-use Rattle.rcu_list.specs.Calls.{HandsOver}
+use Rattle.rcu_hash.specs.live_read.Hearing.{MakesLast, Stays}
+use Rattle.rcu_hash.specs.live_read.declared.witness.Witness.{Ghosts}
+use Rattle.rcu_hash.proofs.live_read.Lemmas.{stays_makes}
+use Rattle.rcu_hash.specs.rcu_list.Calls.{HandsOver}
 use Rattle.rcu_hash.specs.Publishing.{InsertsThrough, RemovesThrough, ReplacesThrough}
 use Rattle.rcu.specs.Keys.{GivesWord}
 use Rattle.rcu.proofs.Putting.{queued_later}

@@ -3,8 +3,8 @@ use Rattle.std.proofs.Common.{◌≡◌, ◌∙◌, Bool, subst}
 use Rattle.live_log.specs.declared.event.LiveEvent.{LiveEvent}
 use Rattle.live_log.specs.Log.{Log, Begins}
 use Rattle.live_log.proofs.Lemmas.{begins_trans}
-use Rattle.live_read.specs.Hearing.{IsAfter, Stays}
-use Rattle.live_read.specs.declared.witness.Witness.{Ghosts}
+use Rattle.rcu_hash.specs.live_read.Hearing.{IsAfter, Stays}
+use Rattle.rcu_hash.specs.live_read.declared.witness.Witness.{Ghosts}
 
 -- what comes after a log that the caller heard of comes after all that it knew before
 pub still_after : (qsbr : Bool) (allows : Log → LiveEvent → Type 0) (seen heard was mid new : Log) → was ≡ seen → Begins heard mid → IsAfter qsbr allows was mid new → IsAfter qsbr allows seen heard new

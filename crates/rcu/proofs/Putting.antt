@@ -8,13 +8,13 @@ use Rattle.live_log.specs.declared.event.LiveEvent.TheVariants.{Object}
 use Rattle.live_log.specs.declared.event.ObjectEvent.TheVariants.{Push, Queue, Replace, Retire}
 use Rattle.live_log.specs.Log.{objects_of, Log, Begins, Has, payload_of, words_in}
 use Rattle.live_log.proofs.Lemmas.{begins_trans, pushed_note, replaced_note}
-use Rattle.live_rule.specs.declared.view.View.{View}
-use Rattle.live_read.specs.Hearing.{IsAfter, Stays}
-use Rattle.live_table.specs.Rights.{AreAsKnown, IsWriter, own_in}
-use Rattle.live_items.specs.Retiring.{Queues}
-use Rattle.live_write.specs.Chains.{Publishes, list_in}
-use Rattle.live_read.specs.declared.witness.Witness.{Ghosts}
-use Rattle.live_read.proofs.Lemmas.{stays_makes}
+use Rattle.rcu_hash.specs.live_rule.declared.view.View.{View}
+use Rattle.rcu_hash.specs.live_read.Hearing.{IsAfter, Stays}
+use Rattle.rcu_hash.specs.live_table.Rights.{AreAsKnown, IsWriter, own_in}
+use Rattle.rcu_hash.specs.live_items.Retiring.{Queues}
+use Rattle.rcu_hash.specs.live_write.Chains.{Publishes, list_in}
+use Rattle.rcu_hash.specs.live_read.declared.witness.Witness.{Ghosts}
+use Rattle.rcu_hash.proofs.live_read.Lemmas.{stays_makes}
 use Rattle.rcu.specs.Slots.{PushesValue, PutsValue, ReplacesValue, any_change, first_in}
 use Rattle.rcu.proofs.Hearing.{still_after}
 

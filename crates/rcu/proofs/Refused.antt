@@ -4,11 +4,11 @@ use Rattle.rcu_model.specs.declared.refusal.Refusal.{Refusal}
 use Rattle.live_log.specs.declared.event.LiveEvent.{LiveEvent}
 use Rattle.live_log.specs.Log.{Log, Begins}
 use Rattle.live_log.proofs.Lemmas.{begins_trans}
-use Rattle.live_rule.specs.declared.view.Sizes.{Sizes}
-use Rattle.live_read.specs.Hearing.{Stays}
-use Rattle.live_read.specs.declared.witness.Witness.{Ghosts}
-use Rattle.live_reclaim.specs.Refusing.{RefusesRetirement}
-use Rattle.rcu_list.specs.Refusing.{FindsNoRecord, GivesBack}
+use Rattle.rcu_hash.specs.live_rule.declared.view.Sizes.{Sizes}
+use Rattle.rcu_hash.specs.live_read.Hearing.{Stays}
+use Rattle.rcu_hash.specs.live_read.declared.witness.Witness.{Ghosts}
+use Rattle.rcu_hash.specs.live_reclaim.Refusing.{RefusesRetirement}
+use Rattle.rcu_hash.specs.rcu_list.Refusing.{FindsNoRecord, GivesBack}
 use Rattle.rcu_hash.specs.Refusing.{During, RefusesInsertionThrough, RefusesReplacementThrough}
 use Rattle.rcu_hash.specs.Tidying.{Tidies}
 use Rattle.rcu.specs.Keys.{HearsMore}

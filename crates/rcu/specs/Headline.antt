@@ -5,9 +5,9 @@ use lib.ListN.{get_elem?}
 use Rattle.atomic_table.specs.Table.{State}
 use Rattle.rcu_model.specs.Promises.{IsSafeLog}
 use Rattle.live_log.specs.Log.{Log, Begins, events_of}
-use Rattle.live_rule.specs.Rule.{WordsAgree}
-use Rattle.live_rule.specs.declared.view.Sizes.{Sizes}
-use Rattle.live_rule.specs.declared.view.View.{View}
+use Rattle.rcu_hash.specs.live_rule.Rule.{WordsAgree}
+use Rattle.rcu_hash.specs.live_rule.declared.view.Sizes.{Sizes}
+use Rattle.rcu_hash.specs.live_rule.declared.view.View.{View}
 
 -- At this moment of a table there is one log. It keeps the promises of the abstract machine, the table's words are what
 -- it says, and it begins with all that each seat has seen and heard of.

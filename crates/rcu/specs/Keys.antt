@@ -5,11 +5,11 @@ use Rattle.rcu_model.specs.declared.event.ObjectId.{ObjectId}
 use Rattle.live_log.specs.declared.event.LiveEvent.{LiveEvent}
 use Rattle.live_log.specs.Log.{Log, Begins}
 use Rattle.live_log.specs.Tables.{tabled}
-use Rattle.live_read.specs.Hearing.{MakesLast}
-use Rattle.live_read.specs.Holding.{log_of}
-use Rattle.live_read.specs.declared.reader_core.ReaderCore.{ReaderCore}
-use Rattle.live_read.specs.declared.witness.Witness.{Ghosts}
-use Rattle.rcu_list.specs.Calls.{HandsOver}
+use Rattle.rcu_hash.specs.live_read.Hearing.{MakesLast}
+use Rattle.rcu_hash.specs.live_read.Holding.{log_of}
+use Rattle.rcu_hash.specs.live_read.declared.reader_core.ReaderCore.{ReaderCore}
+use Rattle.rcu_hash.specs.live_read.declared.witness.Witness.{Ghosts}
+use Rattle.rcu_hash.specs.rcu_list.Calls.{HandsOver}
 use Rattle.rcu_hash.specs.Directories.{directed_map}
 use Rattle.rcu_hash.specs.Growing.{Grows}
 use Rattle.rcu_hash.specs.Publishing.{ChangesThrough}

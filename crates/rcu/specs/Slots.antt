@@ -7,11 +7,11 @@ use Rattle.live_log.specs.declared.event.LiveEvent.{LiveEvent}
 use Rattle.live_log.specs.declared.event.LiveEvent.TheVariants.{Object}
 use Rattle.live_log.specs.declared.event.ObjectEvent.TheVariants.{Push, Replace}
 use Rattle.live_log.specs.Log.{Log, Begins, objects_of, payload_of}
-use Rattle.live_read.specs.Hearing.{IsAfter, MakesLast}
-use Rattle.live_read.specs.Holding.{log_of}
-use Rattle.live_read.specs.declared.reader_core.ReaderCore.{ReaderCore}
-use Rattle.live_read.specs.declared.witness.Witness.{Ghosts}
-use Rattle.rcu_list.specs.Calls.{HandsOver}
+use Rattle.rcu_hash.specs.live_read.Hearing.{IsAfter, MakesLast}
+use Rattle.rcu_hash.specs.live_read.Holding.{log_of}
+use Rattle.rcu_hash.specs.live_read.declared.reader_core.ReaderCore.{ReaderCore}
+use Rattle.rcu_hash.specs.live_read.declared.witness.Witness.{Ghosts}
+use Rattle.rcu_hash.specs.rcu_list.Calls.{HandsOver}
 
 -- the rule of chains that any change fits
 abbrev pub any_change : Log → LiveEvent → Type 0

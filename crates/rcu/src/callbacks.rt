@@ -1,6 +1,6 @@
 //! Callbacks for programs that need none.
 
-use domain::{Deleter, Ripe};
+use rcu_hash::{Deleter, Ripe};
 
 /// What is done with a record that no section can hold any more: nothing but to use it again.
 #[derive(Clone, Copy, Drop)]

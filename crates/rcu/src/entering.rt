@@ -2,13 +2,12 @@
 
 ghost use Rattle.std.specs.Prelude.{◌≡◌, IfErr};
 ghost use Rattle.rcu_model.specs.declared.refusal.Refusal.TheVariants.{Memory};
-ghost use Rattle.domain.specs.Config.{new_refusal};
+ghost use Rattle.rcu_hash.specs.domain.Config.{new_refusal};
 ghost use Rattle.rcu.specs.Naming.{Names};
 
 use crate::program::Program;
-use domain::{Deleter, LiveConfig, Opened, Site};
 use gp_memb::GracePlan;
-use live_words::ChainRule;
+use rcu_hash::{ChainRule, Deleter, LiveConfig, Opened, Site};
 use rcu_model::Refusal;
 use std::alloc::Global;
 use std::marker::Brand;

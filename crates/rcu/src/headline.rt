@@ -4,17 +4,16 @@ ghost use Rattle.std.specs.Prelude.{◌≡◌};
 ghost use Rattle.atomic_table.specs.Table.{State};
 ghost use Rattle.rcu_model.specs.Promises.{IsSafeLog};
 ghost use Rattle.live_log.specs.Log.{events_of};
-ghost use Rattle.live_rule.specs.Rule.{KeepsRule};
-ghost use Rattle.live_rule.specs.declared.view.Sizes.{Sizes};
-ghost use Rattle.live_rule.specs.declared.view.View.{View};
-ghost use Rattle.live_read.specs.Hearing.{FindsNothing};
-ghost use Rattle.domain.specs.Waiting.{LoadedOnce};
+ghost use Rattle.rcu_hash.specs.live_rule.Rule.{KeepsRule};
+ghost use Rattle.rcu_hash.specs.live_rule.declared.view.Sizes.{Sizes};
+ghost use Rattle.rcu_hash.specs.live_rule.declared.view.View.{View};
+ghost use Rattle.rcu_hash.specs.live_read.Hearing.{FindsNothing};
+ghost use Rattle.rcu_hash.specs.domain.Waiting.{LoadedOnce};
 ghost use Rattle.rcu.specs.Headline.{IsSafeNow};
 
-use domain::{Deleter, Domain, Site, Witness};
 use gp_memb::GracePlan;
 use live_log::the_log_is_a_run;
-use live_words::ChainRule;
+use rcu_hash::{ChainRule, Deleter, Domain, Site, Witness};
 
 /// At every moment at which a table keeps its rule, which each step of the library does, its threads have one log. In
 /// that an object's callback runs at most once, and only after every section that was open at its retirement has ended.

@@ -15,21 +15,19 @@ mod words;
 mod working;
 
 pub use callbacks::NoCallback;
-pub use domain::{
-    BarrierMark, Callback, Chain, Counts, Deleter, Domain, Finished, Held, LiveConfig as Config,
-    LiveCookie as Cookie, Opened, Owned, Reader, Record as Handle, Ripe, Section, Site, Stop,
-    Ticket, Unlinked, Witness, WorkerEnd,
-};
 pub use entering::with_domain;
 pub use gp_memb::{GracePlan, MembPlan as Memb};
 pub use gp_qsbr::QsbrPlan as Qsbr;
 pub use headline::{every_moment_is_safe, hear};
-pub use live_words::{AnyChain, ChainRule, Keyed, Tabled};
 pub use map::{Map, Reclaim};
 pub use pending::{Asked, Pending, PendingOf};
 pub use program::{Program, Threaded};
-pub use rcu_hash::{RcuHash, TableView, TidyEnd};
-pub use rcu_list::{ListView, RcuList};
+pub use rcu_hash::{
+    AnyChain, BarrierMark, Callback, Chain, ChainRule, Counts, Deleter, Domain, Finished, Held,
+    Keyed, ListView, LiveConfig as Config, LiveCookie as Cookie, Opened, Owned, RcuHash, RcuList,
+    Reader, Record as Handle, Ripe, Section, Site, Stop, TableView, Tabled, Ticket, TidyEnd,
+    Unlinked, Witness, WorkerEnd,
+};
 pub use rcu_model::{ObjectId, Refusal};
 pub use slot::Slot;
 pub use threads::{Ended, with_threads};

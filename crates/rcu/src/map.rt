@@ -3,7 +3,7 @@
 ghost use Rattle.std.specs.Prelude.{◌≡◌, ◌⊎◌, ◌<◌, ℕ, None, Some, true, IfErr, IfOk};
 ghost use Rattle.rcu_model.specs.declared.refusal.Refusal.TheVariants.{BadConfig, Closed, Memory, PoolFull};
 ghost use Rattle.live_log.specs.Tables.{tabled};
-ghost use Rattle.live_read.specs.Reads.{Looks};
+ghost use Rattle.rcu_hash.specs.live_read.Reads.{Looks};
 ghost use Rattle.live_log.specs.Log.{Begins};
 ghost use Rattle.rcu_hash.specs.Directories.{LeadsTo, directed_map};
 ghost use Rattle.rcu_hash.specs.Growing.{Founds};
@@ -12,10 +12,8 @@ ghost use Rattle.rcu_hash.specs.Tables.{bucket_of};
 ghost use Rattle.rcu.specs.Keys.{GetsValue, GivesWord, GrewTo, HearsMore};
 
 use crate::words::Word;
-use domain::{Deleter, Domain, Ripe, Section, Site, Witness};
 use gp_memb::GracePlan;
-use live_words::Tabled;
-use rcu_hash::RcuHash;
+use rcu_hash::{Deleter, Domain, RcuHash, Ripe, Section, Site, Tabled, Witness};
 use rcu_model::Refusal;
 use std::alloc::Global;
 use std::marker::PhantomData;

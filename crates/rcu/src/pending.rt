@@ -3,11 +3,10 @@
 ghost use Rattle.std.specs.Prelude.{◌≡◌, ◌≤◌, ◌^◌, ◌↔◌, IfErr, IfOk, IsOk};
 ghost use Rattle.rcu_model.specs.declared.refusal.Refusal.TheVariants.{Exhausted};
 ghost use Rattle.live_log.specs.Log.{Begins, HaveEnded, seq_of};
-ghost use Rattle.live_read.specs.Hearing.{FindsNothing, IsAfter};
+ghost use Rattle.rcu_hash.specs.live_read.Hearing.{FindsNothing, IsAfter};
 
-use domain::{Deleter, Domain, LiveCookie, Record, Site, Witness};
 use gp_memb::GracePlan;
-use live_words::ChainRule;
+use rcu_hash::{ChainRule, Deleter, Domain, LiveCookie, Record, Site, Witness};
 use rcu_model::Refusal;
 
 /// What was asked for at a log: a cookie.

@@ -1,8 +1,7 @@
 //! What is run over a domain.
 
-use domain::{Deleter, Domain, Record, Site};
 use gp_memb::GracePlan;
-use live_words::ChainRule;
+use rcu_hash::{ChainRule, Deleter, Domain, Record, Site};
 use rcu_model::Refusal;
 use std::alloc::Global;
 

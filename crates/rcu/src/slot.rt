@@ -2,15 +2,14 @@
 
 ghost use Rattle.std.specs.Prelude.{◌≡◌, ◌⊎◌, ◌%◌, ◌<◌, ◌≤◌, IfErr, IfNone, IfOk, IfSome};
 ghost use Rattle.rcu_model.specs.declared.refusal.Refusal.TheVariants.{Busy, Closed, Memory, NoPlace, PoolFull};
-ghost use Rattle.live_read.specs.Hearing.{IsAfter, Stays};
-ghost use Rattle.live_read.specs.Reads.{Looks};
+ghost use Rattle.rcu_hash.specs.live_read.Hearing.{IsAfter, Stays};
+ghost use Rattle.rcu_hash.specs.live_read.Reads.{Looks};
 ghost use Rattle.rcu.specs.Slots.{FindsValue, PushesValue, ReplacesValue, any_change};
 
 use crate::words::Words;
 use crossbeam_utils::Backoff;
-use domain::{Deleter, Domain, Section, Site, Ticket, Witness};
 use gp_memb::GracePlan;
-use live_words::AnyChain;
+use rcu_hash::{AnyChain, Deleter, Domain, Section, Site, Ticket, Witness};
 use rcu_model::Refusal;
 use std::marker::PhantomData;
 use std::sync::Wait;

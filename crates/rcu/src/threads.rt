@@ -5,9 +5,8 @@ ghost use Rattle.std.specs.Thread.{IsSync};
 
 use crate::program::Threaded;
 use crate::working::work;
-use domain::{Deleter, Domain, LiveConfig, Opened, Record, Site};
 use gp_memb::GracePlan;
-use live_words::ChainRule;
+use rcu_hash::{ChainRule, Deleter, Domain, LiveConfig, Opened, Record, Site};
 use rcu_model::Refusal;
 use std::alloc::Global;
 use std::marker::Brand;

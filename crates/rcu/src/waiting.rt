@@ -1,13 +1,12 @@
 //! An allocation that waits while the pool is full.
 
 ghost use Rattle.std.specs.Prelude.{◌≡◌, IfOk};
-ghost use Rattle.live_read.specs.Hearing.{IsAfter, Stays};
-ghost use Rattle.live_table.specs.Rights.{payload_in};
+ghost use Rattle.rcu_hash.specs.live_read.Hearing.{IsAfter, Stays};
+ghost use Rattle.rcu_hash.specs.live_table.Rights.{payload_in};
 
 use crossbeam_utils::Backoff;
-use domain::{Deleter, Domain, Owned, Site, Witness};
 use gp_memb::GracePlan;
-use live_words::ChainRule;
+use rcu_hash::{ChainRule, Deleter, Domain, Owned, Site, Witness};
 use rcu_model::Refusal;
 use std::sync::Wait;
 

@@ -2,11 +2,10 @@
 
 ghost use Rattle.std.specs.Prelude.{◌≡◌, ℕ, IfOk};
 ghost use Rattle.live_log.specs.Log.{HaveRun};
-ghost use Rattle.live_reclaim.specs.Working.{IsEmptied};
+ghost use Rattle.rcu_hash.specs.live_reclaim.Working.{IsEmptied};
 
-use domain::{Deleter, Domain, Site, Stop, Witness};
 use gp_memb::GracePlan;
-use live_words::ChainRule;
+use rcu_hash::{ChainRule, Deleter, Domain, Site, Stop, Witness};
 use rcu_model::Refusal;
 use std::alloc::Global;
 use std::sync::Wait;

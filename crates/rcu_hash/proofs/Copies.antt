@@ -11,15 +11,15 @@ use Rattle.live_log.specs.Log.{Log, Begins, IsLiveRun, note_of, payload_of, word
 use Rattle.live_log.specs.Maps.{IsUnnoted}
 use Rattle.live_log.specs.Tables.{tabled}
 use Rattle.live_log.proofs.Lemmas.{begins_trans, chain_used, note_stays, run_of, tabled_maps}
-use Rattle.live_rule.specs.Seats.{lent_chains}
-use Rattle.live_rule.specs.declared.rights.ChainRight.{ChainRight}
-use Rattle.live_rule.specs.declared.view.Sizes.{Sizes}
-use Rattle.live_rule.specs.declared.view.View.{View}
-use Rattle.live_table.specs.Rights.{IsListed, IsWriter, cell_in, object_in, own_in, payload_in}
-use Rattle.live_table.specs.Steps.{Went}
-use Rattle.live_write.specs.Chains.{MayPublish, Publishes, list_in, push_by}
-use Rattle.live_write.specs.Searching.{AreTaken, IsUsedUp}
-use Rattle.live_write.proofs.Lemmas.{index_has, went_both}
+use Rattle.rcu_list.specs.live_rule.Seats.{lent_chains}
+use Rattle.rcu_list.specs.live_rule.declared.rights.ChainRight.{ChainRight}
+use Rattle.rcu_list.specs.live_rule.declared.view.Sizes.{Sizes}
+use Rattle.rcu_list.specs.live_rule.declared.view.View.{View}
+use Rattle.rcu_list.specs.live_table.Rights.{IsListed, IsWriter, cell_in, object_in, own_in, payload_in}
+use Rattle.rcu_list.specs.live_table.Steps.{Went}
+use Rattle.rcu_list.specs.live_write.Chains.{MayPublish, Publishes, list_in, push_by}
+use Rattle.rcu_list.specs.live_write.Searching.{AreTaken, IsUsedUp}
+use Rattle.rcu_list.proofs.live_write.Lemmas.{index_has, went_both}
 use Rattle.rcu_list.specs.Maps.{value_in, value_of, words_of}
 use Rattle.rcu_list.proofs.Lemmas.{comes_above, keys_pushed, note_walked, same_own, value_same}
 use Rattle.rcu_hash.specs.Copies.{AreApart, AreRanked, value_among}

@@ -15,16 +15,16 @@ use Rattle.live_log.specs.Keys.{Falls}
 use Rattle.live_log.specs.Log.{Log, Begins, Has, HaveEnded, IsLiveRun, chain_note, note_of, state_of}
 use Rattle.live_log.specs.Tables.{HasKey, IsDirectory, IsFree, IsNamed, tabled}
 use Rattle.live_log.proofs.Lemmas.{begins_trans, chain_used, falls_cut, has_later, is_noted, kept_log, left_is_freed, linked_between, note_stays, run_of, tabled_maps}
-use Rattle.live_rule.specs.declared.rights.ChainRight.{ChainRight}
-use Rattle.live_rule.specs.declared.view.Sizes.{Sizes}
-use Rattle.live_rule.specs.declared.view.View.{View}
-use Rattle.live_table.specs.Rights.{AreAsKnown, IsListed, IsWriter, own_in}
-use Rattle.live_items.specs.Retiring.{Queues}
-use Rattle.live_read.specs.Hearing.{MakesMany, OnlyHears, OnlyMakesLast, Stays}
-use Rattle.live_read.proofs.Lemmas.{more_made, none_made}
-use Rattle.live_read.specs.declared.witness.Witness.{Ghosts}
-use Rattle.live_reclaim.specs.Refusing.{RefusesRetirement}
-use Rattle.live_write.specs.Chains.{MayPublish, list_in}
+use Rattle.rcu_list.specs.live_rule.declared.rights.ChainRight.{ChainRight}
+use Rattle.rcu_list.specs.live_rule.declared.view.Sizes.{Sizes}
+use Rattle.rcu_list.specs.live_rule.declared.view.View.{View}
+use Rattle.rcu_list.specs.live_table.Rights.{AreAsKnown, IsListed, IsWriter, own_in}
+use Rattle.rcu_list.specs.live_items.Retiring.{Queues}
+use Rattle.rcu_list.specs.live_read.Hearing.{MakesMany, OnlyHears, OnlyMakesLast, Stays}
+use Rattle.rcu_list.proofs.live_read.Lemmas.{more_made, none_made}
+use Rattle.rcu_list.specs.live_read.declared.witness.Witness.{Ghosts}
+use Rattle.rcu_list.specs.live_reclaim.Refusing.{RefusesRetirement}
+use Rattle.rcu_list.specs.live_write.Chains.{MayPublish, list_in}
 use Rattle.rcu_list.proofs.Lemmas.{KnowsKeys}
 use Rattle.rcu_hash.specs.Directories.{directed_map}
 use Rattle.rcu_hash.specs.Leaving.{LeavesMap, Writes}
@@ -33,7 +33,7 @@ use Rattle.rcu_hash.specs.Tables.{bucket_of}
 use Rattle.rcu_hash.specs.Tidying.{ClearsNote, Cuts, Clears, Does, FindsMore, Follow, HasWaited, IsLeft, IsRefused, Kind, Retires, Uses, WasReplaced, cut_by, cuts_in, objects_in, retired_by, retired_in}
 use Rattle.rcu_hash.specs.Writers.{Each, HasKeysIn, HasNote, IsAlone, IsOutside}
 use Rattle.rcu_hash.proofs.Changing.{other_map}
-use Rattle.rcu_hash.proofs.Held.{each_last}
+use Rattle.rcu_hash.proofs.Holds.{each_last}
 use Rattle.rcu_hash.proofs.Named.{directed_between, lent_is, words_later}
 
 ended_later : (before known log : Log) → Begins known log → HaveEnded before known → HaveEnded before log

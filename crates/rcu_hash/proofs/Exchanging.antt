@@ -6,10 +6,10 @@ use Rattle.rcu_model.specs.Sets.{In}
 use Rattle.live_log.specs.Log.{Log, Begins, IsLiveRun, chain_note, note_of, state_of}
 use Rattle.live_log.specs.Tables.{tabled}
 use Rattle.live_log.proofs.Lemmas.{chain_used, note_stays, run_of}
-use Rattle.live_rule.specs.declared.rights.ChainRight.{ChainRight}
-use Rattle.live_rule.specs.declared.view.View.{View}
-use Rattle.live_table.specs.Rights.{AreAsKnown, IsListed, own_in}
-use Rattle.live_write.specs.Chains.{list_in}
+use Rattle.rcu_list.specs.live_rule.declared.rights.ChainRight.{ChainRight}
+use Rattle.rcu_list.specs.live_rule.declared.view.View.{View}
+use Rattle.rcu_list.specs.live_table.Rights.{AreAsKnown, IsListed, own_in}
+use Rattle.rcu_list.specs.live_write.Chains.{list_in}
 use Rattle.rcu_list.specs.Maps.{map_of, value_in}
 use Rattle.rcu_list.proofs.Lemmas.{value_same}
 use Rattle.rcu_hash.specs.Copies.{value_in_bucket}

@@ -10,8 +10,8 @@ use Rattle.live_log.specs.declared.event.ObjectEvent.TheVariants.{Push}
 use Rattle.live_log.specs.Log.{Log, Begins, IsLiveRun, note_of, state_of}
 use Rattle.live_log.specs.Tables.{tabled}
 use Rattle.live_log.proofs.Lemmas.{begins_trans}
-use Rattle.live_rule.specs.declared.view.View.{View}
-use Rattle.live_table.specs.Rights.{own_in}
+use Rattle.rcu_list.specs.live_rule.declared.view.View.{View}
+use Rattle.rcu_list.specs.live_table.Rights.{own_in}
 use Rattle.rcu_list.specs.Maps.{map_of, words_of}
 use Rattle.rcu_hash.specs.Growing.{CopiesAll, CopiesKey, NotesAll}
 use Rattle.rcu_hash.specs.Leaving.{LeavesMap, Writes}

@@ -5,11 +5,11 @@ use Rattle.rcu_model.specs.declared.refusal.Refusal.TheVariants.{Missing}
 use Rattle.live_log.specs.declared.event.LiveEvent.{LiveEvent}
 use Rattle.live_log.specs.Log.{Log, Begins}
 use Rattle.live_log.proofs.Lemmas.{begins_trans}
-use Rattle.live_rule.specs.declared.view.Sizes.{Sizes}
-use Rattle.live_rule.specs.Places.{cell_at, closed_at}
-use Rattle.live_read.specs.Hearing.{IsAfter, OnlyHears}
-use Rattle.live_read.specs.declared.witness.Witness.{Ghosts}
-use Rattle.live_reclaim.specs.Refusing.{RefusesRetirement}
+use Rattle.rcu_list.specs.live_rule.declared.view.Sizes.{Sizes}
+use Rattle.rcu_list.specs.live_rule.Places.{cell_at, closed_at}
+use Rattle.rcu_list.specs.live_read.Hearing.{IsAfter, OnlyHears}
+use Rattle.rcu_list.specs.live_read.declared.witness.Witness.{Ghosts}
+use Rattle.rcu_list.specs.live_reclaim.Refusing.{RefusesRetirement}
 use Rattle.rcu_list.specs.Maps.{HasLastRank, map_of}
 use Rattle.rcu_list.specs.Refusing as list
 use Rattle.rcu_list.specs.Refusing.{FindsNoRecord, GivesBack}

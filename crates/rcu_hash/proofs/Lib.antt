@@ -5,7 +5,7 @@ pub mod Emptying
 pub mod Exchanging
 pub mod Filling
 pub mod Going
-pub mod Held
+pub mod Holds
 pub mod Hearing
 pub mod Lending
 pub mod Looking
@@ -14,3 +14,4 @@ pub mod Ranges
 pub mod Regrown
 pub mod Relinking
 pub mod Taking
+pub use Rattle.rcu_list.proofs.live_read as live_read

@@ -11,11 +11,11 @@ use Rattle.live_log.specs.declared.event.LiveEvent.TheVariants.{Close}
 use Rattle.live_log.specs.Log.{Log, Begins, Has, note_of}
 use Rattle.live_log.specs.Tables.{kind_of, tabled}
 use Rattle.live_log.proofs.Lemmas.{begins_trans}
-use Rattle.live_read.specs.declared.reader_core.ReaderCore.{ReaderCore}
-use Rattle.live_read.specs.Holding.{log_of, ordinal}
-use Rattle.live_read.specs.Reads.{FindsFirst, Looks}
-use Rattle.live_read.specs.Sections.{IsIn}
-use Rattle.live_read.proofs.Lemmas.{looks_twice}
+use Rattle.rcu_list.specs.live_read.declared.reader_core.ReaderCore.{ReaderCore}
+use Rattle.rcu_list.specs.live_read.Holding.{log_of, ordinal}
+use Rattle.rcu_list.specs.live_read.Reads.{FindsFirst, Looks}
+use Rattle.rcu_list.specs.live_read.Sections.{IsIn}
+use Rattle.rcu_list.proofs.live_read.Lemmas.{looks_twice}
 use Rattle.rcu_list.specs.Maps.{AnswersBetween, map_of}
 use Rattle.rcu_hash.specs.Directories.{AnswersThrough, WalksThrough, buckets_in, first_in, bucket_in, leads, leads_to, value_through}
 use Rattle.rcu_hash.specs.Tables.{bucket_of}

@@ -10,12 +10,12 @@ use Rattle.live_log.specs.declared.event.LiveEvent.{LiveEvent}
 use Rattle.live_log.specs.Keys.{key_of, rank_of}
 use Rattle.live_log.specs.Tables.{IsDirectory, IsFree, tabled}
 use Rattle.live_log.proofs.Lemmas.{begins_trans, chain_used, directory_alone, free_told, grows_log, linked_between, named_stays_free, note_stays, run_of}
-use Rattle.live_rule.specs.Seats.{lent_chains}
-use Rattle.live_rule.specs.declared.rights.ChainRight.{ChainRight}
-use Rattle.live_rule.specs.declared.view.View.{View}
-use Rattle.live_table.specs.Rights.{AreAsKnown, IsListed, own_in}
-use Rattle.live_write.specs.Chains.{list_in}
-use Rattle.live_write.proofs.Lemmas.{index_has}
+use Rattle.rcu_list.specs.live_rule.Seats.{lent_chains}
+use Rattle.rcu_list.specs.live_rule.declared.rights.ChainRight.{ChainRight}
+use Rattle.rcu_list.specs.live_rule.declared.view.View.{View}
+use Rattle.rcu_list.specs.live_table.Rights.{AreAsKnown, IsListed, own_in}
+use Rattle.rcu_list.specs.live_write.Chains.{list_in}
+use Rattle.rcu_list.proofs.live_write.Lemmas.{index_has}
 use Rattle.rcu_list.specs.Maps.{map_of, next_rank}
 use Rattle.rcu_list.specs.Preparing.{MayComeIn, MayTakeOver}
 use Rattle.rcu_list.proofs.Lemmas.{MayWriteIn, rank_same}

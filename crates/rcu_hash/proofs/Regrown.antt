@@ -6,9 +6,9 @@ use Rattle.live_log.specs.declared.event.LiveEvent.{LiveEvent}
 use Rattle.live_log.specs.Log.{Log, Begins, IsLiveRun, note_of}
 use Rattle.live_log.specs.Tables.{HasKey, tabled}
 use Rattle.live_log.proofs.Lemmas.{begins_trans, chain_used, note_stays, run_of}
-use Rattle.live_rule.specs.declared.view.View.{View}
-use Rattle.live_table.specs.Rights.{IsListed, own_in}
-use Rattle.live_write.specs.Chains.{list_in}
+use Rattle.rcu_list.specs.live_rule.declared.view.View.{View}
+use Rattle.rcu_list.specs.live_table.Rights.{IsListed, own_in}
+use Rattle.rcu_list.specs.live_write.Chains.{list_in}
 use Rattle.rcu_list.specs.Maps.{value_in}
 use Rattle.rcu_list.proofs.Lemmas.{value_same}
 use Rattle.rcu_hash.specs.Growing.{Grows}

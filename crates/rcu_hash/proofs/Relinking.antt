@@ -12,17 +12,17 @@ use Rattle.live_log.specs.declared.event.ObjectEvent.TheVariants.{Replace}
 use Rattle.live_log.specs.Log.{Log, Begins, Has, IsLiveRun, chain_note, note_of, state_of}
 use Rattle.live_log.specs.Tables.{HasKey, IsDirectory, IsFree, MayDirect, Names, tabled}
 use Rattle.live_log.proofs.Lemmas.{begins_trans, chain_used, has_later, is_noted, linked_between, note_stays, replaced_note, run_of, stays_free, unnoted_free}
-use Rattle.live_rule.specs.Seats.{lent_chains}
-use Rattle.live_rule.specs.declared.rights.ChainRight.{ChainRight}
-use Rattle.live_rule.specs.declared.view.View.{View}
-use Rattle.live_table.specs.Rights.{AreAsKnown, IsAsKnown, IsListed, cell_in, nobody, own_in, payload_in}
-use Rattle.live_write.specs.Chains.{MayPublish, list_in, replace_by}
+use Rattle.rcu_list.specs.live_rule.Seats.{lent_chains}
+use Rattle.rcu_list.specs.live_rule.declared.rights.ChainRight.{ChainRight}
+use Rattle.rcu_list.specs.live_rule.declared.view.View.{View}
+use Rattle.rcu_list.specs.live_table.Rights.{AreAsKnown, IsAsKnown, IsListed, cell_in, nobody, own_in, payload_in}
+use Rattle.rcu_list.specs.live_write.Chains.{MayPublish, list_in, replace_by}
 use Rattle.rcu_hash.specs.Copies.{value_in_bucket}
 use Rattle.rcu_hash.specs.Directories.{directed_map}
 use Rattle.rcu_hash.specs.Naming.{words_by}
 use Rattle.rcu_hash.specs.Writers.{AreFrom, Each, HasKeysIn, HasNote, HasSeen, IsRunIn, Noted, SawBefore, rights_of}
 use Rattle.rcu_hash.proofs.Exchanging.{known_both, map_told, noted_each}
-use Rattle.rcu_hash.proofs.Held.{each_map, free_after, known_note}
+use Rattle.rcu_hash.proofs.Holds.{each_map, free_after, known_note}
 use Rattle.rcu_hash.proofs.Named.{own_used, words_later}
 
 -- what replaces the one object of a list is the one object of it

@@ -8,16 +8,16 @@ use Rattle.rcu_model.proofs.Lemmas.{in_append, in_left}
 use Rattle.live_log.specs.declared.event.LiveEvent.{LiveEvent}
 use Rattle.live_log.specs.Log.{Log, Begins}
 use Rattle.live_log.proofs.Lemmas.{begins_trans}
-use Rattle.live_rule.specs.Places.{hold_at}
-use Rattle.live_rule.specs.declared.view.Sizes.{Sizes}
-use Rattle.live_rule.specs.declared.view.View.{View}
-use Rattle.live_read.specs.Hearing.{IsAfter}
-use Rattle.live_read.specs.declared.witness.Witness.{Ghosts}
+use Rattle.rcu_list.specs.live_rule.Places.{hold_at}
+use Rattle.rcu_list.specs.live_rule.declared.view.Sizes.{Sizes}
+use Rattle.rcu_list.specs.live_rule.declared.view.View.{View}
+use Rattle.rcu_list.specs.live_read.Hearing.{IsAfter}
+use Rattle.rcu_list.specs.live_read.declared.witness.Witness.{Ghosts}
 use Rattle.rcu_hash.specs.Copies.{value_among, value_in_bucket}
 use Rattle.rcu_hash.specs.Refusing.{During, FindsFree, FindsTaken, IsInUse, IsUnused}
 use Rattle.rcu_hash.specs.Tables.{IsAmong, are_apart}
 use Rattle.rcu_hash.specs.Writers.{value_at}
-use Rattle.rcu_hash.proofs.Held.{looks_both}
+use Rattle.rcu_hash.proofs.Holds.{looks_both}
 
 get_last : {X : Type 0} (xs : List X) (x : X) → slice_get (xs ++ x ∷ []) (length xs) ≡ Some x
 get_last [] x = refl

@@ -1,6 +1,6 @@
 -- Keys and values on their way from the chains of one table to those of another.
 use Rattle.std.specs.Prelude.{◌≡◌, ℕ, ◌+◌, ◌%◌, ◌==◌, List, [], ◌∷◌, Option, Some, None, if◌then◌else◌, slice_get}
-use Rattle.live_rule.specs.declared.view.View.{View}
+use Rattle.rcu_list.specs.live_rule.declared.view.View.{View}
 use Rattle.rcu_hash.specs.Writers.{value_at}
 
 -- the value of a key among entries: that of the first one with this key

@@ -4,8 +4,8 @@ use Rattle.rcu_model.specs.declared.event.ObjectId.{ObjectId}
 use Rattle.rcu_model.specs.Sets.{In}
 use Rattle.live_log.specs.Log.{Log, Begins, note_of, state_of}
 use Rattle.live_log.specs.Tables.{IsDirectory, IsFree, Names}
-use Rattle.live_rule.specs.declared.view.View.{View}
-use Rattle.live_table.specs.Rights.{own_in}
+use Rattle.rcu_list.specs.live_rule.declared.view.View.{View}
+use Rattle.rcu_list.specs.live_table.Rights.{own_in}
 
 -- the payload of a directory
 abbrev pub words_by : ℕ → ℕ → List ℕ

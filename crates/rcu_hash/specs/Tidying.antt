@@ -10,14 +10,14 @@ use Rattle.live_log.specs.declared.event.LiveEvent.TheVariants.{ChainNote, Objec
 use Rattle.live_log.specs.declared.event.ObjectEvent.TheVariants.{Cut, Replace}
 use Rattle.live_log.specs.Log.{Log, Begins, Has, HaveEnded, chain_note, closed_of, note_of, seq_of, state_of}
 use Rattle.live_log.specs.Tables.{IsDirectory}
-use Rattle.live_rule.specs.declared.view.Sizes.{Sizes}
-use Rattle.live_rule.specs.declared.view.View.{View}
-use Rattle.live_items.specs.Retiring.{Queues}
-use Rattle.live_table.specs.Rights.{object_in}
-use Rattle.live_read.specs.Hearing.{MakesMany}
-use Rattle.live_read.specs.declared.witness.Witness.{Ghosts}
-use Rattle.live_write.specs.Chains.{list_in}
-use Rattle.domain.specs.Waiting.{LoadedOnce, Synchronized}
+use Rattle.rcu_list.specs.live_rule.declared.view.Sizes.{Sizes}
+use Rattle.rcu_list.specs.live_rule.declared.view.View.{View}
+use Rattle.rcu_list.specs.live_items.Retiring.{Queues}
+use Rattle.rcu_list.specs.live_table.Rights.{object_in}
+use Rattle.rcu_list.specs.live_read.Hearing.{MakesMany}
+use Rattle.rcu_list.specs.live_read.declared.witness.Witness.{Ghosts}
+use Rattle.rcu_list.specs.live_write.Chains.{list_in}
+use Rattle.rcu_list.specs.domain.Waiting.{LoadedOnce, Synchronized}
 use Rattle.rcu_list.specs.Calls.{HandsOver}
 use Rattle.rcu_hash.specs.Leaving.{LeavesMap}
 use Rattle.rcu_hash.specs.Writers.{HasKeysIn, HasNote, IsAlone, IsOutside}

@@ -6,11 +6,11 @@ use Rattle.rcu_model.specs.declared.event.ObjectId.{ObjectId}
 use Rattle.rcu_model.specs.Sets.{In}
 use Rattle.live_log.specs.Log.{Log, Begins, IsLiveRun, chain_note, note_of}
 use Rattle.live_log.specs.Tables.{HasKey, tabled}
-use Rattle.live_rule.specs.Seats.{lent_chains}
-use Rattle.live_rule.specs.declared.rights.ChainRight.{ChainRight}
-use Rattle.live_rule.specs.declared.view.View.{View}
-use Rattle.live_table.specs.Rights.{own_in}
-use Rattle.live_write.specs.Chains.{list_in}
+use Rattle.rcu_list.specs.live_rule.Seats.{lent_chains}
+use Rattle.rcu_list.specs.live_rule.declared.rights.ChainRight.{ChainRight}
+use Rattle.rcu_list.specs.live_rule.declared.view.View.{View}
+use Rattle.rcu_list.specs.live_table.Rights.{own_in}
+use Rattle.rcu_list.specs.live_write.Chains.{list_in}
 use Rattle.rcu_list.specs.Maps.{value_in}
 
 -- it is so of each one

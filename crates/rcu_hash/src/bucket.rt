@@ -5,9 +5,9 @@ ghost use Rattle.rcu_model.specs.Sets.{In};
 ghost use Rattle.rcu_model.specs.declared.event.ObjectId.{ObjectId};
 ghost use Rattle.live_log.specs.Log.{Begins, Log, note_of};
 ghost use Rattle.live_log.specs.Tables.{HasKey, tabled};
-ghost use Rattle.live_rule.specs.Seats.{lent_chains};
-ghost use Rattle.live_read.specs.Hearing.{IsAfter, MakesLast, OnlyHears};
-ghost use Rattle.live_write.specs.Chains.{list_in};
+ghost use Rattle.rcu_list.specs.live_rule.Seats.{lent_chains};
+ghost use Rattle.rcu_list.specs.live_read.Hearing.{IsAfter, MakesLast, OnlyHears};
+ghost use Rattle.rcu_list.specs.live_write.Chains.{list_in};
 ghost use Rattle.rcu_list.specs.Maps.{map_of};
 ghost use Rattle.rcu_list.specs.Calls.{HandsOver};
 ghost use Rattle.rcu_hash.specs.Directories.{LeadsTo, directed_map};
@@ -17,10 +17,9 @@ ghost use Rattle.rcu_hash.specs.Refusing.{RefusesInsertionThrough, RefusesRemova
 ghost use Rattle.rcu_hash.specs.Tables.{bucket_of};
 
 use crate::directory::{Desk, Naming};
-use domain::{Chain, Deleter, Site, Ticket, Witness};
 use gp_memb::GracePlan;
 use live_log::Tabled;
-use rcu_list::{prepare_insertion, prepare_replacement};
+use rcu_list::{Chain, Deleter, Site, Ticket, Witness, prepare_insertion, prepare_replacement};
 use rcu_model::Refusal;
 use std::sync::Wait;
 

@@ -3,10 +3,10 @@
 ghost use Rattle.std.specs.Prelude.{◌≡◌, ◌⊎◌, ◌%◌, ◌==◌, ◌<◌, ◌∷◌, ◌++◌, [], ℕ, List, None, Some, IfErr, IfOk, if◌then◌else◌, map, vec_len};
 ghost use Rattle.live_log.specs.Log.{Begins, Log};
 ghost use Rattle.live_log.specs.Tables.{tabled};
-ghost use Rattle.live_table.specs.Rights.{payload_in};
-ghost use Rattle.live_table.specs.Steps.{Keeps, Went};
-ghost use Rattle.live_read.specs.Hearing.{OnlyMakesMany, Stays};
-ghost use Rattle.live_write.specs.Searching.{AreTaken, IsUsedUp};
+ghost use Rattle.rcu_list.specs.live_table.Rights.{payload_in};
+ghost use Rattle.rcu_list.specs.live_table.Steps.{Keeps, Went};
+ghost use Rattle.rcu_list.specs.live_read.Hearing.{OnlyMakesMany, Stays};
+ghost use Rattle.rcu_list.specs.live_write.Searching.{AreTaken, IsUsedUp};
 ghost use Rattle.rcu_list.specs.Maps.{words_of};
 ghost use Rattle.rcu_model.specs.declared.refusal.Refusal.TheVariants.{Memory, PoolFull};
 ghost use Rattle.rcu_hash.specs.Copies.{AreApart, AreRanked, value_among, value_in_bucket};
@@ -15,9 +15,9 @@ ghost use Rattle.rcu_hash.specs.Leaving.{Writes};
 ghost use Rattle.rcu_hash.specs.Writers.{AreFrom, Each, HasKeysIn, HasNoNote, IsAlone, IsEmpty, value_at};
 
 use crate::bucket::Bucket;
-use domain::{Chain, Deleter, Domain, Owned, Site, Witness};
 use gp_memb::GracePlan;
 use live_log::Tabled;
+use rcu_list::{Chain, Deleter, Domain, Owned, Site, Witness};
 use rcu_model::Refusal;
 use std::sync::Wait;
 

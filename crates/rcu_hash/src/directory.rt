@@ -4,17 +4,17 @@ ghost use Rattle.std.specs.Prelude.{ℕ, ◌≡◌, ◌+◌, ◌<◌, ◌≤◌,
 ghost use Rattle.rcu_model.specs.Sets.{In};
 ghost use Rattle.live_log.specs.Log.{Begins, IsLiveRun, chain_note, note_of, state_of};
 ghost use Rattle.live_log.specs.Tables.{tabled};
-ghost use Rattle.live_rule.specs.Seats.{lent_chains};
-ghost use Rattle.live_table.specs.Rights.{AreAsKnown, own_in};
-ghost use Rattle.live_read.specs.Hearing.{IsAfter, OnlyHears};
-ghost use Rattle.live_write.specs.Chains.{list_in};
+ghost use Rattle.rcu_list.specs.live_rule.Seats.{lent_chains};
+ghost use Rattle.rcu_list.specs.live_table.Rights.{AreAsKnown, own_in};
+ghost use Rattle.rcu_list.specs.live_read.Hearing.{IsAfter, OnlyHears};
+ghost use Rattle.rcu_list.specs.live_write.Chains.{list_in};
 ghost use Rattle.rcu_hash.specs.Naming.{words_by};
 ghost use Rattle.rcu_hash.specs.Tables.{IsAmong};
 ghost use Rattle.rcu_hash.specs.Tidying.{IsLinked};
 
-use domain::{Chain, Deleter, Lent, Site, Witness};
 use gp_memb::GracePlan;
 use live_log::Tabled;
+use rcu_list::{Chain, Deleter, Lent, Site, Witness};
 use rcu_model::ObjectId;
 use std::sync::{Mutex, MutexGuard, Wait};
 

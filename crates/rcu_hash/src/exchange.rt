@@ -3,8 +3,8 @@
 ghost use Rattle.std.specs.Prelude.{◌≡◌, ◌⊎◌, ◌+◌, ◌<◌, ◌≤◌, ◌∷◌, [], ℕ, List, map, vec_capacity, vec_len};
 ghost use Rattle.live_log.specs.Log.{Log, state_of};
 ghost use Rattle.live_log.specs.Tables.{tabled};
-ghost use Rattle.live_table.specs.Rights.{object_in, payload_in};
-ghost use Rattle.live_read.specs.Hearing.{OnlyMakesLast};
+ghost use Rattle.rcu_list.specs.live_table.Rights.{object_in, payload_in};
+ghost use Rattle.rcu_list.specs.live_read.Hearing.{OnlyMakesLast};
 ghost use Rattle.rcu_hash.specs.Copies.{AreApart, value_among, value_in_bucket};
 ghost use Rattle.rcu_hash.specs.Growing.{Exchanges};
 ghost use Rattle.rcu_hash.specs.Naming.{IsNamedBy, words_by};
@@ -13,9 +13,9 @@ ghost use Rattle.rcu_hash.specs.Writers.{AreFrom, Each, HasKeysIn, HasNote, IsAl
 
 use crate::directory::{Directory, Naming};
 use crate::rights::{lend_all, take_all_back};
-use domain::{Chain, Deleter, Lent, Owned, Site, Unlinked, Witness};
 use gp_memb::GracePlan;
 use live_log::Tabled;
+use rcu_list::{Chain, Deleter, Lent, Owned, Site, Unlinked, Witness};
 
 /// The writers of chains that lend their rights to the directory's, with room for them when they have their rights
 /// again.

@@ -2,15 +2,15 @@
 
 ghost use Rattle.std.specs.Prelude.{◌≡◌, ◌+◌, ◌<◌, IfSome, map, vec_len};
 ghost use Rattle.live_log.specs.Tables.{tabled};
-ghost use Rattle.live_read.specs.Hearing.{IsAfter, OnlyHears};
+ghost use Rattle.rcu_list.specs.live_read.Hearing.{IsAfter, OnlyHears};
 ghost use Rattle.rcu_hash.specs.Growing.{HasLeft};
 ghost use Rattle.rcu_hash.specs.Tidying.{IsLeft, IsRecord, record_prop};
 ghost use Rattle.rcu_hash.specs.Writers.{Each, HasKeysIn, HasNote, IsAlone, IsOutside, alone_prop, each_prop, keys_prop, note_prop, some_prop};
 
 use crate::directory::{Desk, Naming};
-use domain::{Chain, Deleter, Site, Unlinked, Witness};
 use gp_memb::GracePlan;
 use live_log::Tabled;
+use rcu_list::{Chain, Deleter, Site, Unlinked, Witness};
 use std::sync::Wait;
 
 /// What a directory left when another one took its place: its record, unless that is retired, and chains that it named,

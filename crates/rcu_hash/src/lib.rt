@@ -18,6 +18,11 @@ mod tidying;
 mod view;
 
 pub use laws::buckets_answer_for_their_table;
+pub use rcu_list::{
+    AnyChain, BarrierMark, Callback, Chain, ChainRule, Counts, Deleter, Domain, Finished, Held,
+    Keyed, Lent, ListView, LiveConfig, LiveCookie, MapRule, Opened, Owned, RcuList, Reader, Record,
+    Ripe, Section, Site, Stop, Tabled, Ticket, Unlinked, Witness, WorkerEnd,
+};
 pub use table::RcuHash;
 pub use tidying::TidyEnd;
 pub use view::TableView;

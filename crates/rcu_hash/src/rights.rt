@@ -3,13 +3,13 @@
 ghost use Rattle.std.specs.Prelude.{◌≡◌, ◌≤◌, ◌∷◌, ◌++◌, [], drop, length, map, take, vec_capacity, vec_len};
 ghost use Rattle.live_log.specs.Log.{Begins, IsLiveRun};
 ghost use Rattle.live_log.specs.Tables.{tabled};
-ghost use Rattle.live_rule.specs.Seats.{lent_chains};
-ghost use Rattle.live_table.specs.Rights.{AreAsKnown, own_in};
+ghost use Rattle.rcu_list.specs.live_rule.Seats.{lent_chains};
+ghost use Rattle.rcu_list.specs.live_table.Rights.{AreAsKnown, own_in};
 ghost use Rattle.rcu_hash.specs.Writers.{Each, HasSeen, IsAlone, IsRunIn, SawBefore, lengths_of, rights_of};
 
-use domain::{Chain, Deleter, Lent, Site};
 use gp_memb::GracePlan;
 use live_log::Tabled;
+use rcu_list::{Chain, Deleter, Lent, Site};
 
 /// Each lends its right to another chain's writer, in order. There is room for what is left of them. It never waits.
 pub(crate) fn lend_all<'d, P: GracePlan + Drop, B: Site, D: Deleter>(

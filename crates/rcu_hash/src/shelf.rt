@@ -4,8 +4,8 @@ ghost use Rattle.std.specs.Prelude.{◌≡◌, ◌+◌, ◌%◌, ◌<◌, ◌≤
 
 use crate::bucket::Bucket;
 use crate::directory::Naming;
-use domain::{Deleter, Site};
 use gp_memb::GracePlan;
+use rcu_list::{Deleter, Site};
 use std::sync::{Mutex, MutexGuard, Wait};
 
 /// A bucket under the lock of its writers; none while one of them has it, which holds the lock then.

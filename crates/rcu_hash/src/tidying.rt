@@ -5,18 +5,18 @@ ghost use Rattle.std.specs.Sync.Mutex.{mutex_guard_value};
 ghost use Rattle.rcu_model.specs.declared.refusal.Refusal.TheVariants.{Exhausted};
 ghost use Rattle.live_log.specs.Log.{Begins, seq_of};
 ghost use Rattle.live_log.specs.Tables.{tabled};
-ghost use Rattle.live_read.specs.Hearing.{FindsNothing, IsAfter, MakesMany, OnlyHears, Stays};
-ghost use Rattle.live_write.specs.Chains.{list_in};
-ghost use Rattle.domain.specs.Waiting.{Synchronized};
+ghost use Rattle.rcu_list.specs.live_read.Hearing.{FindsNothing, IsAfter, MakesMany, OnlyHears, Stays};
+ghost use Rattle.rcu_list.specs.live_write.Chains.{list_in};
+ghost use Rattle.rcu_list.specs.domain.Waiting.{Synchronized};
 ghost use Rattle.rcu_hash.specs.Tidying.{ClearsNote, FindsMore, HasWaited, IsExhausted, IsLeft, IsLinked, IsRecord, IsRefused, IsStopped, RetiresObject, Tidies, Uses, objects_in};
 ghost use Rattle.rcu_hash.specs.Writers.{Each, HasNothing};
 
 use crate::directory::{Desk, Naming};
 use crate::left::Left;
 use crate::table::RcuHash;
-use domain::{Callback, Chain, Deleter, Domain, Site, Ticket, Unlinked, Witness};
 use gp_memb::GracePlan;
 use live_log::Tabled;
+use rcu_list::{Callback, Chain, Deleter, Domain, Site, Ticket, Unlinked, Witness};
 use rcu_model::Refusal;
 use std::sync::{MutexGuard, Wait};
 

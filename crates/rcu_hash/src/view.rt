@@ -4,15 +4,14 @@ ghost use Rattle.std.specs.Prelude.{◌≡◌, ◌<◌, ◌≤◌, ℕ, List, If
 ghost use Rattle.std.specs.List.{FoldsTo};
 ghost use Rattle.rcu_model.specs.declared.refusal.Refusal.TheVariants.{NoPlace};
 ghost use Rattle.live_log.specs.Tables.{tabled};
-ghost use Rattle.live_read.specs.Holding.{log_of};
-ghost use Rattle.live_read.specs.Reads.{Looks};
+ghost use Rattle.rcu_list.specs.live_read.Holding.{log_of};
+ghost use Rattle.rcu_list.specs.live_read.Reads.{Looks};
 ghost use Rattle.rcu_hash.specs.Directories.{AnswersThrough, WalksThrough, leads_to};
 ghost use Rattle.rcu_hash.specs.Tables.{bucket_of};
 
-use domain::{Deleter, Domain, Held, Section, Site};
 use gp_memb::GracePlan;
 use live_log::Tabled;
-use rcu_list::ListView;
+use rcu_list::{Deleter, Domain, Held, ListView, Section, Site};
 use rcu_model::Refusal;
 use std::alloc::AllocError;
 use std::marker::PhantomData;
@@ -65,9 +64,9 @@ impl<B: Site> TableView<B> {
     ghost use Rattle.std.specs.Prelude.{Some};
     ghost use Rattle.rcu_model.specs.declared.event.ObjectId.{ObjectId};
     ghost use Rattle.live_log.specs.Log.{note_of};
-    ghost use Rattle.live_read.specs.Holding.{MayHold, MayHoldIn};
-    ghost use Rattle.live_read.specs.Reads.{FindsFirst};
-    ghost use Rattle.live_read.specs.Sections.{IsIn};
+    ghost use Rattle.rcu_list.specs.live_read.Holding.{MayHold, MayHoldIn};
+    ghost use Rattle.rcu_list.specs.live_read.Reads.{FindsFirst};
+    ghost use Rattle.rcu_list.specs.live_read.Sections.{IsIn};
     ghost use Rattle.live_log.specs.Tables.{kind_of};
     ghost use Rattle.rcu_hash.specs.Directories.{buckets_in, first_in};
 

@@ -9,10 +9,10 @@ use Rattle.live_log.specs.Keys.{key_of, rank_of}
 use Rattle.live_log.specs.Log.{Log, Begins, IsLiveRun, note_of, state_of}
 use Rattle.live_log.specs.Maps.{HasMaps}
 use Rattle.live_log.proofs.Lemmas.{begins_trans, run_of}
-use Rattle.live_read.specs.declared.reader_core.ReaderCore.{ReaderCore}
-use Rattle.live_read.specs.Holding.{MayHold, log_of}
-use Rattle.live_read.specs.Reads.{FindsFirst, FindsNext, Looks}
-use Rattle.live_read.proofs.Lemmas.{looks_twice}
+use Rattle.domain.specs.live_read.declared.reader_core.ReaderCore.{ReaderCore}
+use Rattle.domain.specs.live_read.Holding.{MayHold, log_of}
+use Rattle.domain.specs.live_read.Reads.{FindsFirst, FindsNext, Looks}
+use Rattle.domain.proofs.live_read.Lemmas.{looks_twice}
 use Rattle.rcu_list.specs.Maps.{value_of}
 use Rattle.rcu_list.specs.Walks.{GoesThrough}
 use Rattle.rcu_list.proofs.Values.{empty_map}

@@ -7,3 +7,5 @@ pub mod Values
 pub mod Walking
 pub mod Windows
 pub mod Writing
+pub use Rattle.domain.proofs.live_read as live_read
+pub use Rattle.domain.proofs.live_write as live_write

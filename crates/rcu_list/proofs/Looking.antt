@@ -6,10 +6,10 @@ use Rattle.rcu_model.proofs.Lemmas.{first_has}
 use Rattle.live_log.specs.Keys.{key_of, rank_of}
 use Rattle.live_log.specs.Log.{Log, Begins, note_of, objects_of}
 use Rattle.live_log.proofs.Lemmas.{begins_trans, run_of}
-use Rattle.live_read.specs.declared.reader_core.ReaderCore.{ReaderCore}
-use Rattle.live_read.specs.Holding.{MayHold, log_of}
-use Rattle.live_read.specs.Reads.{FindsFirst, FindsNext, Looks}
-use Rattle.live_read.proofs.Lemmas.{looks_twice}
+use Rattle.domain.specs.live_read.declared.reader_core.ReaderCore.{ReaderCore}
+use Rattle.domain.specs.live_read.Holding.{MayHold, log_of}
+use Rattle.domain.specs.live_read.Reads.{FindsFirst, FindsNext, Looks}
+use Rattle.domain.proofs.live_read.Lemmas.{looks_twice}
 use Rattle.live_log.specs.declared.event.LiveEvent.{LiveEvent}
 use Rattle.live_log.specs.Maps.{HasMaps}
 use Rattle.rcu_list.specs.Maps.{AnswersBetween, value_of}

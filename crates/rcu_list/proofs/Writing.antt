@@ -10,16 +10,16 @@ use Rattle.live_log.specs.declared.event.LiveEvent.TheVariants.{Object}
 use Rattle.live_log.specs.declared.event.ObjectEvent.TheVariants.{Push, Replace, Cut}
 use Rattle.live_log.specs.Keys.{key_of, rank_of}
 use Rattle.live_log.specs.Log.{Log, Begins, IsLiveRun, chain_note, note_of, state_of}
-use Rattle.live_rule.specs.declared.view.View.{View}
-use Rattle.live_rule.specs.Seats.{lent_chains}
-use Rattle.live_rule.specs.declared.rights.ChainRight.{ChainRight}
-use Rattle.live_table.specs.Rights.{AreAsKnown, IsListed, IsWriter, cell_in, object_in, own_in, payload_in}
-use Rattle.live_table.specs.Steps.{Went}
-use Rattle.live_chains.specs.Chains.{cut_of}
-use Rattle.live_read.specs.Hearing.{Stays}
-use Rattle.live_read.specs.declared.witness.Witness.{Ghosts}
-use Rattle.live_write.specs.Chains.{GoesOn, IsFirstWith, MayPublish, Publishes, list_in, push_by, replace_by}
-use Rattle.live_write.proofs.Lemmas.{index_has}
+use Rattle.domain.specs.live_rule.declared.view.View.{View}
+use Rattle.domain.specs.live_rule.Seats.{lent_chains}
+use Rattle.domain.specs.live_rule.declared.rights.ChainRight.{ChainRight}
+use Rattle.domain.specs.live_table.Rights.{AreAsKnown, IsListed, IsWriter, cell_in, object_in, own_in, payload_in}
+use Rattle.domain.specs.live_table.Steps.{Went}
+use Rattle.domain.specs.live_chains.Chains.{cut_of}
+use Rattle.domain.specs.live_read.Hearing.{Stays}
+use Rattle.domain.specs.live_read.declared.witness.Witness.{Ghosts}
+use Rattle.domain.specs.live_write.Chains.{GoesOn, IsFirstWith, MayPublish, Publishes, list_in, push_by, replace_by}
+use Rattle.domain.proofs.live_write.Lemmas.{index_has}
 use Rattle.live_log.specs.Maps.{HasMaps, IsUnnoted, TakesKeys}
 use Rattle.live_log.specs.Tables.{HasKey}
 use Rattle.live_log.proofs.Lemmas.{begins_trans, not_has}

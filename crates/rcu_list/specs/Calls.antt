@@ -6,7 +6,7 @@ use Rattle.live_log.specs.declared.event.LiveEvent.{LiveEvent}
 use Rattle.live_log.specs.declared.event.LiveEvent.TheVariants.{Object}
 use Rattle.live_log.specs.declared.event.ObjectEvent.TheVariants.{Push, Replace, Cut}
 use Rattle.live_log.specs.Log.{Log, Begins, IsLiveRun, note_of, state_of}
-use Rattle.live_items.specs.Retiring.{Queues}
+use Rattle.domain.specs.live_items.Retiring.{Queues}
 use Rattle.rcu_list.specs.Maps.{map_of, next_rank, words_of}
 
 -- by the rule of chains, the list's chain, what its writer knew, and what the caller had seen and heard of

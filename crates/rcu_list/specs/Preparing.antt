@@ -4,9 +4,9 @@ use Rattle.rcu_model.specs.declared.event.ObjectId.{ObjectId}
 use Rattle.rcu_model.specs.Sets.{In}
 use Rattle.live_log.specs.Keys.{key_of, rank_of}
 use Rattle.live_log.specs.Log.{note_of}
-use Rattle.live_rule.specs.declared.view.View.{View}
-use Rattle.live_table.specs.Rights.{payload_in}
-use Rattle.live_write.specs.Chains.{IsFirstWith, list_in}
+use Rattle.domain.specs.live_rule.declared.view.View.{View}
+use Rattle.domain.specs.live_table.Rights.{payload_in}
+use Rattle.domain.specs.live_write.Chains.{IsFirstWith, list_in}
 use Rattle.rcu_list.specs.Maps.{next_rank, words_of}
 
 -- by what the writer of a chain knows, and the record

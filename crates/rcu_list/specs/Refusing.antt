@@ -4,12 +4,12 @@ use Rattle.rcu_model.specs.declared.refusal.Refusal.{Refusal}
 use Rattle.rcu_model.specs.declared.refusal.Refusal.TheVariants.{Closed, Exists, Memory, Missing, PoolFull}
 use Rattle.live_log.specs.declared.event.LiveEvent.{LiveEvent}
 use Rattle.live_log.specs.Log.{Log, Begins, IsLiveRun, closed_of}
-use Rattle.live_rule.specs.Places.{cell_at, closed_at}
-use Rattle.live_rule.specs.declared.view.Sizes.{Sizes}
-use Rattle.live_read.specs.Hearing.{IsAfter, Stays}
-use Rattle.live_read.specs.declared.witness.Witness.{Ghosts}
-use Rattle.live_reclaim.specs.Refusing.{RefusesRetirement}
-use Rattle.live_write.specs.Searching.{AreTaken, IsUsedUp}
+use Rattle.domain.specs.live_rule.Places.{cell_at, closed_at}
+use Rattle.domain.specs.live_rule.declared.view.Sizes.{Sizes}
+use Rattle.domain.specs.live_read.Hearing.{IsAfter, Stays}
+use Rattle.domain.specs.live_read.declared.witness.Witness.{Ghosts}
+use Rattle.domain.specs.live_reclaim.Refusing.{RefusesRetirement}
+use Rattle.domain.specs.live_write.Searching.{AreTaken, IsUsedUp}
 use Rattle.rcu_list.specs.Maps.{HasLastRank, map_of}
 
 module _ {W : Type 0} (w : Ghosts W) (qsbr : Bool) (allows : Log → LiveEvent → Type 0) (sizes : Sizes) (old new : W) (e : Refusal) where

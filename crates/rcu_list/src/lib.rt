@@ -7,6 +7,11 @@ mod preparing;
 mod rule;
 mod view;
 
+pub use domain::{
+    AnyChain, BarrierMark, Callback, Chain, ChainRule, Counts, Deleter, Domain, Finished, Held,
+    Keyed, Lent, LiveConfig, LiveCookie, Opened, Owned, Reader, Record, Ripe, Section, Site, Stop,
+    Tabled, Ticket, Unlinked, Witness, WorkerEnd,
+};
 pub use list::RcuList;
 pub use preparing::{prepare_insertion, prepare_replacement};
 pub use rule::MapRule;

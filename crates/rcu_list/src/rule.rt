@@ -4,7 +4,7 @@ ghost use Rattle.std.specs.Prelude.{Bool};
 ghost use Rattle.live_log.specs.Maps.{HasMaps};
 ghost use Rattle.live_log.proofs.Lemmas.{keyed_maps, tabled_maps};
 
-use live_words::{ChainRule, Keyed, Tabled};
+use domain::{ChainRule, Keyed, Tabled};
 
 /// A rule under which chains are maps: a payload is a key, its value, a rank, and 0.
 pub trait MapRule: ChainRule {

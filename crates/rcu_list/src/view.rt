@@ -3,8 +3,8 @@
 ghost use Rattle.std.specs.Prelude.{◌≡◌, ◌≤◌, ◌<◌, ◌%◌, ℕ, List, ⊤, IfErr, IfOk, IfSome};
 ghost use Rattle.std.specs.List.{FoldsTo};
 ghost use Rattle.rcu_model.specs.declared.refusal.Refusal.TheVariants.{NoPlace};
-ghost use Rattle.live_read.specs.Holding.{log_of};
-ghost use Rattle.live_read.specs.Reads.{Looks};
+ghost use Rattle.domain.specs.live_read.Holding.{log_of};
+ghost use Rattle.domain.specs.live_read.Reads.{Looks};
 ghost use Rattle.rcu_list.specs.Maps.{AnswersBetween};
 ghost use Rattle.rcu_list.specs.Walks.{GoesThrough, Meets};
 
@@ -42,8 +42,8 @@ impl<B: Site> ListView<B> {
     ghost use Rattle.rcu_model.specs.declared.event.ObjectId.{ObjectId};
     ghost use Rattle.live_log.specs.Keys.{key_of};
     ghost use Rattle.live_log.specs.Log.{note_of};
-    ghost use Rattle.live_read.specs.Holding.{MayHold, MayHoldIn};
-    ghost use Rattle.live_read.specs.Reads.{FindsFirst};
+    ghost use Rattle.domain.specs.live_read.Holding.{MayHold, MayHoldIn};
+    ghost use Rattle.domain.specs.live_read.Reads.{FindsFirst};
     ghost use Rattle.rcu_list.specs.Maps.{value_of};
 
     /// Of the list over a chain.

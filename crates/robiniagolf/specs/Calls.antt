@@ -6,13 +6,13 @@ use Rattle.gp_memb.specs.Memb.{memb_action, memb_turn}
 use Rattle.gp_qsbr.specs.Qsbr.{qsbr_action, qsbr_turn}
 use Rattle.live_log.specs.contracts.chain_rule.AnyChainChainRule.TheImpl.{ghosts}
 use Rattle.live_log.specs.Log.{IsLiveRun, seq_of}
-use Rattle.live_rule.specs.declared.view.View.{View}
-use Rattle.live_rule.specs.Steps.{Precedes}
-use Rattle.live_groups.specs.Groups.{IsClaimed}
+use Rattle.live_words.specs.live_rule.declared.view.View.{View}
+use Rattle.live_words.specs.live_rule.Steps.{Precedes}
+use Rattle.live_words.specs.live_groups.Groups.{IsClaimed}
 use Rattle.live_read.specs.Registering.{FindsAllClaimed, IsGivenBack, WasFree}
 use Rattle.live_read.specs.Sections as sections
 use Rattle.live_grace.specs.Answers.{IsCookieOf}
-use Rattle.live_table.specs.Rights.{looks_in}
+use Rattle.live_words.specs.live_table.Rights.{looks_in}
 use Rattle.live_grace.specs.Steps.{IsAnswered, Stands}
 use Rattle.held_values.specs.declared.MembDomain.{MembDomain}
 use Rattle.held_values.specs.declared.QsbrDomain.{QsbrDomain}

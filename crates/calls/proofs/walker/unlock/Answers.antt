@@ -1,5 +1,5 @@
 use Rattle.std.proofs.Common.{arith, sym, subst}
-use Rattle.live_read.specs.Holding.{KeepsHeld}
+use Rattle.rcu_hash.specs.live_read.Holding.{KeepsHeld}
 use Rattle.calls.proofs.Holding.{either_on, keeps_same, stand_kept}
 use Rattle.calls.proofs.walker.unlock.Goals as goal
 

@@ -1,6 +1,6 @@
 use Rattle.std.proofs.Common.{rules, arith}
-use Rattle.live_read.proofs.Lemmas.{held_across, held_in}
-use Rattle.live_read.specs.Holding.{MayHoldIn}
+use Rattle.domain.proofs.live_read.Lemmas.{held_across, held_in}
+use Rattle.domain.specs.live_read.Holding.{MayHoldIn}
 use Rattle.domain_tests.proofs.Published.{some_so}
 use Rattle.domain_tests.proofs.readings.reads_across.Goals as goal
 

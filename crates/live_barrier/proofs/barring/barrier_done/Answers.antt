@@ -1,7 +1,7 @@
 use Rattle.std.proofs.Common.{◌<◌, ◌∷◌, sym, refl, ap, ◌∙◌, subst, arith}
-use Rattle.live_rule.specs.declared.view.Sizes.{Sizes}
-use Rattle.live_rule.specs.declared.view.View.{View}
-use Rattle.live_rule.specs.Places.{finished_at}
+use Rattle.live_words.specs.live_rule.declared.view.Sizes.{Sizes}
+use Rattle.live_words.specs.live_rule.declared.view.View.{View}
+use Rattle.live_words.specs.live_rule.Places.{finished_at}
 use Rattle.live_barrier.proofs.Barriers.{next_found, reached_more, passes_more, all_passed, known_before}
 use Rattle.live_barrier.proofs.barring.barrier_done.Goals as goal
 

@@ -1,7 +1,7 @@
 use Rattle.std.proofs.Common.{◌≡◌, ◌<◌, ℕ, List}
 use Rattle.live_log.specs.Log.{Begins}
-use Rattle.live_table.specs.Steps.{IsKnown, Keeps}
-use Rattle.live_words.specs.Queues.{HasNoOther}
+use Rattle.live_words.specs.live_table.Steps.{IsKnown, Keeps}
+use Rattle.live_words.specs.live_queues.Queues.{HasNoOther}
 use Rattle.live_barrier.specs.Barrier.{AreReached, Found}
 use Rattle.live_barrier.proofs.Barriers.{IsPassed}
 use Rattle.live_barrier.proofs.barring.barrier_done.Given as goal

@@ -1,7 +1,7 @@
 use Rattle.std.proofs.Common.{◌≡◌, ◌<◌, ◌≤◌, length, ℕ, List, get_or}
 use Rattle.live_log.specs.Log.{Begins, line_of}
-use Rattle.live_rule.specs.Steps.{Precedes}
-use Rattle.live_table.specs.Steps.{Keeps}
+use Rattle.live_words.specs.live_rule.Steps.{Precedes}
+use Rattle.live_words.specs.live_table.Steps.{Keeps}
 use Rattle.live_barrier.specs.Barrier.{AreNoted, Found}
 use Rattle.live_barrier.proofs.barring.barrier_start.Given as goal
 

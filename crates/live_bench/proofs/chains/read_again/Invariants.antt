@@ -1,5 +1,5 @@
 use Rattle.std.proofs.Common.{◌<◌}
-use Rattle.live_read.specs.Holding.{MayHoldIn}
+use Rattle.rcu_hash.specs.live_read.Holding.{MayHoldIn}
 use Rattle.live_bench.proofs.chains.read_again.Given as goal
 
 abbrev pub invariant-loop : goal.invariant-loop

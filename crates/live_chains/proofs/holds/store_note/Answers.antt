@@ -1,5 +1,5 @@
 use Rattle.std.proofs.Common.{ap, sym, ◌∙◌}
-use Rattle.live_rule.specs.Places.{note_at}
+use Rattle.live_table.specs.live_rule.Places.{note_at}
 use Rattle.live_chains.proofs.Holding.{notes}
 use Rattle.live_chains.proofs.holds.store_note.Goals as goal
 

@@ -10,15 +10,15 @@ use Rattle.gp_memb.specs.declared.plan.Turn.{Turn}
 use Rattle.gp_memb.specs.declared.plan.Turn.TheVariants.{Step, Wait}
 use Rattle.gp_memb.specs.Plan.{present_after}
 use Rattle.atomic_table.specs.Table.{Me}
-use Rattle.live_rule.specs.declared.view.View.{View}
+use Rattle.live_words.specs.live_rule.declared.view.View.{View}
 use Rattle.live_log.specs.Log.{Log, IsBound, MayBePresent}
 use Rattle.live_log.specs.declared.event.LiveEvent.TheVariants.{SeqOdd, SeqEven, Present}
-use Rattle.live_rule.specs.declared.rights.GraceRight.TheVariants.{Rests, Works}
-use Rattle.live_rule.specs.Places.{slot_at, group_at}
-use Rattle.live_rule.specs.declared.rights.GraceRight.{GraceRight}
-use Rattle.live_rule.specs.Steps.{at_log}
-use Rattle.live_table.specs.Rights.{looks_in, before_in, seq_in, present_in}
-use Rattle.live_periods.specs.Periods.{GraceBecomes}
+use Rattle.live_words.specs.live_rule.declared.rights.GraceRight.TheVariants.{Rests, Works}
+use Rattle.live_words.specs.live_rule.Places.{slot_at, group_at}
+use Rattle.live_words.specs.live_rule.declared.rights.GraceRight.{GraceRight}
+use Rattle.live_words.specs.live_rule.Steps.{at_log}
+use Rattle.live_words.specs.live_table.Rights.{looks_in, before_in, seq_in, present_in}
+use Rattle.live_words.specs.live_periods.Periods.{GraceBecomes}
 use Rattle.live_grace.specs.Answers.{Gained, stored_by}
 use Rattle.live_grace.specs.declared.period.Progress.TheVariants.{InTheWay}
 use Rattle.live_grace.specs.Going.{Begun, InLoop, IsLogged}

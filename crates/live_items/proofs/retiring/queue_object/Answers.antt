@@ -4,10 +4,10 @@ use Rattle.live_log.specs.declared.event.LiveEvent.TheVariants.{Object}
 use Rattle.live_log.specs.declared.event.ObjectEvent.TheVariants.{Queue, Retire}
 use Rattle.live_log.specs.Log.{Log, Begins}
 use Rattle.live_log.proofs.Lemmas.{begins_trans}
-use Rattle.live_rule.specs.declared.view.View.{View}
-use Rattle.live_rule.specs.Steps.{Precedes}
-use Rattle.live_table.specs.Rights.{object_in, queue_in, queued_in}
-use Rattle.live_words.specs.Queues.{IsLast}
+use Rattle.live_words.specs.live_rule.declared.view.View.{View}
+use Rattle.live_words.specs.live_rule.Steps.{Precedes}
+use Rattle.live_words.specs.live_table.Rights.{object_in, queue_in, queued_in}
+use Rattle.live_words.specs.live_queues.Queues.{IsLast}
 use Rattle.live_items.specs.Retiring.{Queues}
 use Rattle.live_items.proofs.retiring.queue_object.Goals as goal
 

@@ -3,8 +3,8 @@ use Rattle.rcu_model.specs.declared.event.ObjectId.{ObjectId}
 use Rattle.rcu_model.specs.Sets.{In}
 use Rattle.live_log.specs.Log.{note_of, state_of}
 use Rattle.live_log.proofs.Lemmas.{begins_trans}
-use Rattle.live_rule.specs.declared.view.View.{View}
-use Rattle.live_table.specs.Rights.{object_in}
+use Rattle.live_words.specs.live_rule.declared.view.View.{View}
+use Rattle.live_words.specs.live_table.Rights.{object_in}
 use Rattle.live_items.proofs.Runnings.{went_on, word_stays}
 use Rattle.live_items.proofs.running.load_words.Goals as goal
 

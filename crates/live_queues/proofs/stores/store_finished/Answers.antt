@@ -1,5 +1,5 @@
 use Rattle.std.proofs.Common.{ap, sym, ◌∙◌}
-use Rattle.live_rule.specs.Places.{finished_at}
+use Rattle.live_table.specs.live_rule.Places.{finished_at}
 use Rattle.live_queues.proofs.Working.{finishes}
 use Rattle.live_queues.proofs.stores.store_finished.Goals as goal
 

@@ -1,5 +1,5 @@
 use Rattle.std.proofs.Common.{ap, sym, ◌∙◌}
-use Rattle.live_rule.specs.Places.{queued_at}
+use Rattle.live_table.specs.live_rule.Places.{queued_at}
 use Rattle.live_queues.proofs.Queueing.{queues_one}
 use Rattle.live_queues.proofs.stores.store_queued.Goals as goal
 

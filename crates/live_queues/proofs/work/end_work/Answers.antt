@@ -1,5 +1,5 @@
 use Rattle.std.proofs.Common.{ap, sym, ◌∙◌, arith}
-use Rattle.live_rule.specs.Places.{work_at}
+use Rattle.live_table.specs.live_rule.Places.{work_at}
 use Rattle.live_queues.proofs.Working.{leaves}
 use Rattle.live_queues.proofs.work.end_work.Goals as goal
 

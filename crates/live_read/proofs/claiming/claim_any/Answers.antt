@@ -1,5 +1,5 @@
 use Rattle.std.proofs.Common.{ℕ, ◌+◌, ◌<◌, [], ◌∷◌, ◌∙◌, arith}
-use Rattle.live_rule.specs.Places.{group_at}
+use Rattle.live_words.specs.live_rule.Places.{group_at}
 use Rattle.live_read.specs.Registering.{WasClaimed}
 use Rattle.live_read.proofs.Seeking.{claimed_more, finds_then, misses_then}
 use Rattle.live_read.proofs.claiming.claim_any.Goals as goal

@@ -1,5 +1,5 @@
 use Rattle.std.proofs.Common.{ℕ, ◌<◌}
-use Rattle.live_table.specs.Steps.{Keeps}
+use Rattle.live_words.specs.live_table.Steps.{Keeps}
 use Rattle.live_read.specs.Registering.{Misses, WasClaimed}
 use Rattle.live_read.proofs.claiming.claim_any.Given as goal
 

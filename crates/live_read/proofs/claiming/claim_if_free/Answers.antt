@@ -1,6 +1,6 @@
 use Rattle.std.proofs.Common.{ℕ, ◌/◌, [], ◌∷◌, ◌∙◌, sym, refl, inl}
 use Rattle.rcu_model.proofs.Lemmas.{in_left}
-use Rattle.live_rule.specs.Places.{group_at}
+use Rattle.live_words.specs.live_rule.Places.{group_at}
 use Rattle.live_read.specs.Registering.{WasClaimed}
 use Rattle.live_read.proofs.Seeking.{match_not, misses_then, sought_then}
 use Rattle.live_read.proofs.claiming.claim_if_free.Goals as goal

@@ -1,10 +1,10 @@
 use Rattle.std.proofs.Common.{ℕ, [], ◌∷◌, refl, sym, ap, ◌∙◌, subst, inr, arith}
 use Rattle.live_log.specs.Log.{Log, Begins}
 use Rattle.live_log.proofs.Lemmas.{begins_trans}
-use Rattle.live_rule.specs.declared.view.View.{View}
-use Rattle.live_rule.specs.declared.rights.WorkRight.{WorkRight}
-use Rattle.live_table.specs.Rights.{finished_in, work_in}
-use Rattle.live_words.specs.Queues.{HasRunAt}
+use Rattle.live_words.specs.live_rule.declared.view.View.{View}
+use Rattle.live_words.specs.live_rule.declared.rights.WorkRight.{WorkRight}
+use Rattle.live_words.specs.live_table.Rights.{finished_in, work_in}
+use Rattle.live_words.specs.live_queues.Queues.{HasRunAt}
 use Rattle.live_reclaim.proofs.Ripening.{has_run, ripe_next, stands_later}
 use Rattle.live_reclaim.proofs.run.run_next.Goals as goal
 

@@ -1,9 +1,9 @@
 use Rattle.std.proofs.Common.{◌≡◌, ℕ, ◌∷◌, sym, ap, ◌∙◌, arith}
 use Rattle.live_log.proofs.Lemmas.{begins_trans}
-use Rattle.live_rule.specs.declared.view.View.{View}
-use Rattle.live_rule.specs.declared.rights.WorkRight.TheVariants.{Works}
-use Rattle.live_rule.specs.Places.{finished_at, work_at}
-use Rattle.live_table.specs.Rights.{finished_in}
+use Rattle.live_words.specs.live_rule.declared.view.View.{View}
+use Rattle.live_words.specs.live_rule.declared.rights.WorkRight.TheVariants.{Works}
+use Rattle.live_words.specs.live_rule.Places.{finished_at, work_at}
+use Rattle.live_words.specs.live_table.Rights.{finished_in}
 use Rattle.live_reclaim.specs.Working.{Looks}
 use Rattle.live_reclaim.proofs.work.begin_work.Goals as goal
 

@@ -1,6 +1,6 @@
 use Rattle.std.proofs.Common.{ℕ, ◌+◌, ◌∙◌, ap, sym}
-use Rattle.live_rule.specs.declared.view.Sizes.{Sizes}
-use Rattle.live_rule.specs.Places.{cell_at}
+use Rattle.live_table.specs.live_rule.declared.view.Sizes.{Sizes}
+use Rattle.live_table.specs.live_rule.Places.{cell_at}
 use Rattle.live_table.specs.Rights.{cell_in}
 use Rattle.live_records.proofs.Ends.{looks_payload}
 use Rattle.live_records.proofs.fates.load_payload.Goals as goal

@@ -1,6 +1,6 @@
 use Rattle.std.proofs.Common.{◌∙◌, ap, sym, arith}
-use Rattle.live_rule.specs.declared.view.Sizes.{Sizes}
-use Rattle.live_rule.specs.Places.{cell_at}
+use Rattle.live_table.specs.live_rule.declared.view.Sizes.{Sizes}
+use Rattle.live_table.specs.live_rule.Places.{cell_at}
 use Rattle.live_records.proofs.Records.{takes}
 use Rattle.live_records.proofs.steps.take_cell.Goals as goal
 

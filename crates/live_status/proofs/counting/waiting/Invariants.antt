@@ -1,5 +1,5 @@
 use Rattle.std.proofs.Common.{◌≡◌, length}
-use Rattle.live_table.specs.Steps.{Keeps}
+use Rattle.live_words.specs.live_table.Steps.{Keeps}
 use Rattle.live_status.specs.Status.{AreWaiting, HasFound, HasNone, Looks}
 use Rattle.live_status.proofs.counting.waiting.Given as goal
 

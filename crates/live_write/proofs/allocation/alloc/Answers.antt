@@ -1,8 +1,8 @@
 use Rattle.std.proofs.Common.{ℕ, ◌++◌, ◌⊎◌, ◌∙◌, List, ap, subst, append-nil}
 use Rattle.std.proofs.lemmas.Result.{err_from_is_err_and}
 use Rattle.atomic_table.specs.Table.{Me}
-use Rattle.live_rule.specs.declared.view.Sizes.{Sizes}
-use Rattle.live_rule.specs.declared.view.View.{View}
+use Rattle.live_words.specs.live_rule.declared.view.Sizes.{Sizes}
+use Rattle.live_words.specs.live_rule.declared.view.View.{View}
 use Rattle.live_write.specs.Searching.{AreTaken, IsUsedUp}
 use Rattle.live_write.proofs.allocation.alloc.Goals as goal
 

@@ -1,8 +1,8 @@
 use Rattle.std.proofs.Common.{ap, sym, ◌∙◌, subst}
 use Rattle.live_log.specs.Log.{Log, Begins}
 use Rattle.live_log.proofs.Lemmas.{begins_trans}
-use Rattle.live_rule.specs.declared.view.View.{View}
-use Rattle.live_table.specs.Rights.{AreAsKnown}
+use Rattle.live_words.specs.live_rule.declared.view.View.{View}
+use Rattle.live_words.specs.live_table.Rights.{AreAsKnown}
 use Rattle.live_read.specs.Hearing.{IsAfter}
 use Rattle.live_write.proofs.Publishing.{hears_caller}
 use Rattle.live_write.proofs.publish.hear_caller.Goals as goal

@@ -2,12 +2,12 @@ use Rattle.std.proofs.Common.{◌≡◌, ◌+◌, ◌∷◌, List, length, ◌�
 use Rattle.rcu_model.specs.Sets.{next_of}
 use Rattle.rcu_model.proofs.Lemmas.{follows_has}
 use Rattle.live_log.specs.Log.{Log, objects_of}
-use Rattle.live_rule.specs.declared.view.View.{View}
-use Rattle.live_rule.specs.declared.rights.ChainRight.{ChainRight}
-use Rattle.live_rule.specs.Objects.{ref}
-use Rattle.live_rule.specs.Seats.{lent_chains}
-use Rattle.live_table.specs.Rights.{IsListed, object_in, own_in}
-use Rattle.live_chains.specs.Chains.{replace_of}
+use Rattle.live_words.specs.live_rule.declared.view.View.{View}
+use Rattle.live_words.specs.live_rule.declared.rights.ChainRight.{ChainRight}
+use Rattle.live_words.specs.live_rule.Objects.{ref}
+use Rattle.live_words.specs.live_rule.Seats.{lent_chains}
+use Rattle.live_words.specs.live_table.Rights.{IsListed, object_in, own_in}
+use Rattle.live_words.specs.live_chains.Chains.{replace_of}
 use Rattle.live_write.specs.Chains.{Publishes, list_in, replace_by}
 use Rattle.live_write.proofs.Walking.{as_many, went_both}
 use Rattle.live_write.proofs.Publishing.{hears_owner, has_record, makes_last, may_write, published, replace_same, replace_stands, replace_leaves}

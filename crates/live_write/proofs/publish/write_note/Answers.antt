@@ -1,7 +1,7 @@
 use Rattle.std.proofs.Common.{ℕ, [], ap, sym, ◌∙◌, subst}
 use Rattle.live_log.specs.declared.event.LiveEvent.TheVariants.{ChainNote}
 use Rattle.live_log.specs.Log.{Log}
-use Rattle.live_table.specs.Rights.{own_in}
+use Rattle.live_words.specs.live_table.Rights.{own_in}
 use Rattle.live_write.specs.Chains.{Publishes}
 use Rattle.live_write.proofs.Publishing.{hears_caller, may_write, published}
 use Rattle.live_write.proofs.publish.write_note.Goals as goal

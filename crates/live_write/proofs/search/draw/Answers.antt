@@ -1,7 +1,7 @@
 use Rattle.std.proofs.Common.{ℕ, ◌+◌, [], ◌∷◌, ◌∙◌, refl, inl, arith}
 use Rattle.rcu_model.specs.declared.event.ObjectId.{ObjectId}
-use Rattle.live_rule.specs.declared.rights.RecordRight.TheVariants.{Drawn}
-use Rattle.live_rule.specs.Places.{last_at}
+use Rattle.live_words.specs.live_rule.declared.rights.RecordRight.TheVariants.{Drawn}
+use Rattle.live_words.specs.live_rule.Places.{last_at}
 use Rattle.live_write.proofs.Searching.{searched_then}
 use Rattle.live_write.proofs.search.draw.Goals as goal
 

@@ -1,7 +1,7 @@
 use Rattle.std.proofs.Common.{ℕ, List}
 use Rattle.rcu_model.specs.Sets.{In}
-use Rattle.live_rule.specs.Places.{last_at}
-use Rattle.live_table.specs.Steps.{Keeps}
+use Rattle.live_words.specs.live_rule.Places.{last_at}
+use Rattle.live_words.specs.live_table.Steps.{Keeps}
 use Rattle.live_write.specs.Searching.{Searched}
 use Rattle.live_write.proofs.search.draw.Given as goal
 

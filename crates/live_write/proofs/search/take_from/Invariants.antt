@@ -1,5 +1,5 @@
 use Rattle.std.proofs.Common.{ℕ, ◌<◌, ◌≤◌, List}
-use Rattle.live_table.specs.Steps.{Keeps}
+use Rattle.live_words.specs.live_table.Steps.{Keeps}
 use Rattle.live_write.specs.Searching.{IsTaken, Searched}
 use Rattle.live_write.proofs.search.take_from.Given as goal
 

@@ -1,7 +1,7 @@
 use Rattle.std.proofs.Common.{ℕ, [], ◌∷◌, refl, inl}
-use Rattle.live_rule.specs.declared.rights.RecordRight.TheVariants.{Fresh}
-use Rattle.live_rule.specs.Places.{cell_at}
-use Rattle.live_table.specs.Rights.{link_in, object_in, payload_in}
+use Rattle.live_words.specs.live_rule.declared.rights.RecordRight.TheVariants.{Fresh}
+use Rattle.live_words.specs.live_rule.Places.{cell_at}
+use Rattle.live_words.specs.live_table.Rights.{link_in, object_in, payload_in}
 use Rattle.live_write.proofs.Searching.{match_eq, searched_then}
 use Rattle.live_write.proofs.search.take_if_free.Goals as goal
 

@@ -1,5 +1,5 @@
 use Rattle.std.proofs.Common.{ℕ, Option}
-use Rattle.live_table.specs.Steps.{Keeps}
+use Rattle.live_words.specs.live_table.Steps.{Keeps}
 use Rattle.live_write.proofs.Walking.{Stands}
 use Rattle.live_write.proofs.walk.count.Given as goal
 

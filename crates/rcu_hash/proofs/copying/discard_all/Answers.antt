@@ -1,8 +1,8 @@
 use Rattle.std.proofs.Common.{ℕ, List, [], ◌∷◌, refl, ap, ◌∙◌, arith}
 use Rattle.live_log.specs.Log.{Log}
 use Rattle.live_log.proofs.Lemmas.{begins_trans}
-use Rattle.live_rule.specs.Places.{cell_at}
-use Rattle.live_table.specs.Rights.{cell_in}
+use Rattle.rcu_list.specs.live_rule.Places.{cell_at}
+use Rattle.rcu_list.specs.live_table.Rights.{cell_in}
 use Rattle.rcu_list.proofs.Lemmas.{stays_both}
 use Rattle.rcu_hash.proofs.copying.discard_all.Goals as goal
 

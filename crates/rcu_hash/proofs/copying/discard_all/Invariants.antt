@@ -1,7 +1,7 @@
 use Rattle.std.proofs.Common.{◌≡◌, ◌+◌, ◌++◌, ℕ, List}
 use Rattle.std.specs.Vec.Iter.{into_iter_len}
 use Rattle.live_log.specs.Log.{Begins, Log}
-use Rattle.live_read.specs.Hearing.{Stays}
+use Rattle.rcu_list.specs.live_read.Hearing.{Stays}
 use Rattle.rcu_hash.proofs.copying.discard_all.Given as goal
 
 abbrev pub invariant-loop : goal.invariant-loop

@@ -9,10 +9,10 @@ use Rattle.live_log.specs.declared.event.ObjectEvent.TheVariants.{Push}
 use Rattle.live_log.specs.Log.{Log, Begins}
 use Rattle.live_log.specs.Tables.{tabled}
 use Rattle.live_log.proofs.Lemmas.{begins_trans}
-use Rattle.live_table.specs.Rights.{cell_in, object_in, own_in}
-use Rattle.live_read.specs.Hearing.{OnlyMakesMany}
-use Rattle.live_read.proofs.Lemmas.{more_only, one_only}
-use Rattle.live_write.specs.Chains.{list_in, push_by}
+use Rattle.rcu_list.specs.live_table.Rights.{cell_in, object_in, own_in}
+use Rattle.rcu_list.specs.live_read.Hearing.{OnlyMakesMany}
+use Rattle.rcu_list.proofs.live_read.Lemmas.{more_only, one_only}
+use Rattle.rcu_list.specs.live_write.Chains.{list_in, push_by}
 use Rattle.rcu_list.specs.Maps.{words_of}
 use Rattle.rcu_hash.specs.Copies.{AreRanked, value_among}
 use Rattle.rcu_hash.specs.Growing.{CopiesAll}

@@ -2,7 +2,7 @@ use Rattle.std.proofs.Common.{◌≡◌, ◌+◌, ◌%◌, ◌++◌, ℕ, List, 
 use Rattle.std.specs.Vec.Iter.{into_iter_items, into_iter_len}
 use Rattle.live_log.specs.Log.{Begins}
 use Rattle.live_log.specs.Tables.{tabled}
-use Rattle.live_read.specs.Hearing.{OnlyMakesMany}
+use Rattle.rcu_list.specs.live_read.Hearing.{OnlyMakesMany}
 use Rattle.rcu_hash.specs.Copies.{AreRanked, value_among}
 use Rattle.rcu_hash.specs.Growing.{CopiesAll}
 use Rattle.rcu_hash.specs.Leaving.{Writes}

@@ -7,11 +7,11 @@ use Rattle.live_log.specs.declared.event.ObjectEvent.TheVariants.{Replace}
 use Rattle.live_log.specs.Log.{Log, Begins, Has, IsLiveRun, note_of, state_of}
 use Rattle.live_log.specs.Tables.{IsDirectory, IsFree, tabled}
 use Rattle.live_log.proofs.Lemmas.{begins_trans, run_of}
-use Rattle.live_rule.specs.Seats.{lent_chains}
-use Rattle.live_rule.specs.declared.rights.ChainRight.{ChainRight}
-use Rattle.live_rule.specs.declared.view.View.{View}
-use Rattle.live_table.specs.Rights.{AreAsKnown, IsListed, cell_in, object_in, own_in, payload_in}
-use Rattle.live_write.specs.Chains.{list_in}
+use Rattle.rcu_list.specs.live_rule.Seats.{lent_chains}
+use Rattle.rcu_list.specs.live_rule.declared.rights.ChainRight.{ChainRight}
+use Rattle.rcu_list.specs.live_rule.declared.view.View.{View}
+use Rattle.rcu_list.specs.live_table.Rights.{AreAsKnown, IsListed, cell_in, object_in, own_in, payload_in}
+use Rattle.rcu_list.specs.live_write.Chains.{list_in}
 use Rattle.rcu_hash.specs.Copies.{value_in_bucket}
 use Rattle.rcu_hash.specs.Directories.{directed_map}
 use Rattle.rcu_hash.specs.Growing.{Exchanges}
@@ -20,10 +20,10 @@ use Rattle.rcu_hash.specs.Tidying.{WasReplaced}
 use Rattle.rcu_hash.specs.Writers.{Each, HasNote, HasSeen, Noted, SawBefore, lengths_of, rights_of}
 use Rattle.rcu_hash.proofs.Emptying.{by_words}
 use Rattle.rcu_hash.proofs.Exchanging.{drop_first, each_all, take_first}
-use Rattle.rcu_hash.proofs.Held.{all_named, drop_all, each_map, each_rights, from_rights, lengths_many, named_by, rights_many, take_all}
+use Rattle.rcu_hash.proofs.Holds.{all_named, drop_all, each_map, each_rights, from_rights, lengths_many, named_by, rights_many, take_all}
 use Rattle.rcu_hash.proofs.Named.{leads_there}
 use Rattle.rcu_hash.proofs.Relinking.{alone_after, directory_by, first_only, free_named, keys_back, map_after, map_before, may_relink, noted_old, replaced_only, saw_on, words_after, words_since}
-use Rattle.live_read.specs.Hearing.{OnlyMakesLast}
+use Rattle.rcu_list.specs.live_read.Hearing.{OnlyMakesLast}
 use Rattle.rcu_hash.proofs.exchange.exchange.Goals as goal
 
 pub lend_all-old_lents-requires-clause-known : goal.lend_all-old_lents-requires-clause-known

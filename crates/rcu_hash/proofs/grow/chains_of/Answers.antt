@@ -1,7 +1,7 @@
 use Rattle.std.proofs.Common.{◌≡◌, ◌++◌, List, [], ◌∷◌, map, refl, sym, ap, ◌∙◌, length, append_assoc, arith}
 use Rattle.std.proofs.lemmas.List.{append-nil, map-append, nil_from_length}
 use Rattle.std.specs.Vec.Iter.{into_iter_items}
-use Rattle.live_rule.specs.declared.view.View.{View}
+use Rattle.rcu_list.specs.live_rule.declared.view.View.{View}
 use Rattle.rcu_hash.specs.Writers.{HasKeysIn, IsAlone}
 use Rattle.rcu_hash.proofs.Lending.{each_pushed}
 use Rattle.rcu_hash.proofs.grow.chains_of.Goals as goal

@@ -3,10 +3,10 @@ use Rattle.std.proofs.lemmas.List.{length-map}
 use Rattle.live_log.specs.Log.{Log, Begins, note_of, state_of}
 use Rattle.live_log.specs.Tables.{tabled}
 use Rattle.live_log.proofs.Lemmas.{begins_trans, run_of}
-use Rattle.live_rule.specs.Seats.{lent_chains}
-use Rattle.live_rule.specs.declared.rights.ChainRight.{ChainRight}
-use Rattle.live_rule.specs.declared.view.View.{View}
-use Rattle.live_table.specs.Rights.{IsListed, own_in}
+use Rattle.rcu_list.specs.live_rule.Seats.{lent_chains}
+use Rattle.rcu_list.specs.live_rule.declared.rights.ChainRight.{ChainRight}
+use Rattle.rcu_list.specs.live_rule.declared.view.View.{View}
+use Rattle.rcu_list.specs.live_table.Rights.{IsListed, own_in}
 use Rattle.rcu_list.proofs.Lemmas.{chain_known}
 use Rattle.rcu_hash.specs.Copies.{value_among, value_in_bucket}
 use Rattle.rcu_hash.specs.Growing.{CopiesAll, Exchanges, Grows, NotesAll}
@@ -18,11 +18,11 @@ use Rattle.rcu_hash.specs.declared.directory.Naming.{Naming}
 use Rattle.rcu_hash.proofs.Emptying.{leaves_weaker}
 use Rattle.rcu_hash.proofs.Exchanging.{each_all}
 use Rattle.rcu_hash.proofs.Filling.{copies_leave, copies_weaker, notes_leave}
-use Rattle.rcu_hash.proofs.Held.{each_map, pair_from}
+use Rattle.rcu_hash.proofs.Holds.{each_map, pair_from}
 use Rattle.rcu_hash.proofs.Named.{own_used, words_later}
 use Rattle.rcu_hash.proofs.Regrown.{all_outside, noted_since, numbers_from, pair_keys, pair_values}
-use Rattle.live_read.specs.Hearing.{OnlyMakesMany}
-use Rattle.live_read.proofs.Lemmas.{hears_makes, more_only, none_only, one_only}
+use Rattle.rcu_list.specs.live_read.Hearing.{OnlyMakesMany}
+use Rattle.rcu_list.proofs.live_read.Lemmas.{hears_makes, more_only, none_only, one_only}
 use Rattle.rcu_hash.proofs.grow.commit.Goals as goal
 
 pub invariant_of-directory : goal.invariant_of-directory

@@ -2,13 +2,13 @@ use Rattle.std.proofs.Common.{◌≡◌, ◌++◌, ◌+◌, ℕ, List, [], ◌�
 use Rattle.std.proofs.lemmas.List.{length-map, map-append}
 use Rattle.std.proofs.lemmas.Result.{err_from_is_err_and}
 use Rattle.live_log.proofs.Lemmas.{begins_trans}
-use Rattle.live_rule.specs.declared.view.View.{View}
+use Rattle.rcu_list.specs.live_rule.declared.view.View.{View}
 use Rattle.rcu_list.proofs.Lemmas.{stays_both}
 use Rattle.rcu_hash.specs.declared.directory.Naming.{Naming}
 use Rattle.rcu_hash.specs.Copies.{value_among, value_in_bucket}
 use Rattle.rcu_hash.specs.Writers.{AreFrom}
 use Rattle.rcu_hash.proofs.Copies.{found_more}
-use Rattle.rcu_hash.proofs.Held.{from_last, looks_both}
+use Rattle.rcu_hash.proofs.Holds.{from_last, looks_both}
 use Rattle.rcu_hash.proofs.Taking.{bucket_copied}
 use Rattle.rcu_hash.proofs.growth.copy_all.Goals as goal
 

@@ -1,6 +1,6 @@
 use Rattle.std.proofs.Common.{◌≡◌, ◌≤◌, ◌++◌, ℕ, List, map, vec_capacity, vec_len}
 use Rattle.live_log.specs.Log.{Begins}
-use Rattle.live_read.specs.Hearing.{Stays}
+use Rattle.rcu_list.specs.live_read.Hearing.{Stays}
 use Rattle.rcu_hash.specs.Copies.{AreApart, AreRanked, value_among, value_in_bucket}
 use Rattle.rcu_hash.specs.Writers.{AreFrom}
 use Rattle.rcu_hash.proofs.growth.copy_all.Given as goal

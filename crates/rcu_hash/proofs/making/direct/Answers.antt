@@ -9,11 +9,11 @@ use Rattle.live_log.specs.declared.event.ObjectEvent.TheVariants.{Push}
 use Rattle.live_log.specs.Log.{Log, Begins, Has, note_of, state_of}
 use Rattle.live_log.specs.Tables.{IsFree, tabled}
 use Rattle.live_log.proofs.Lemmas.{begins_trans, pushed_note, run_of}
-use Rattle.live_read.specs.Hearing.{IsAfter}
-use Rattle.live_rule.specs.Seats.{lent_chains}
-use Rattle.live_rule.specs.declared.rights.ChainRight.{ChainRight}
-use Rattle.live_table.specs.Rights.{AreAsKnown, cell_in, object_in, own_in, payload_in}
-use Rattle.live_write.specs.Chains.{push_by}
+use Rattle.rcu_list.specs.live_read.Hearing.{IsAfter}
+use Rattle.rcu_list.specs.live_rule.Seats.{lent_chains}
+use Rattle.rcu_list.specs.live_rule.declared.rights.ChainRight.{ChainRight}
+use Rattle.rcu_list.specs.live_table.Rights.{AreAsKnown, cell_in, object_in, own_in, payload_in}
+use Rattle.rcu_list.specs.live_write.Chains.{push_by}
 use Rattle.rcu_list.specs.Maps.{map_of, value_in}
 use Rattle.rcu_list.proofs.Lemmas.{chain_known}
 use Rattle.rcu_hash.specs.Directories.{LeadsTo, directed_map}
@@ -22,9 +22,9 @@ use Rattle.rcu_hash.specs.Naming.{IsNamedBy, words_by}
 use Rattle.rcu_hash.specs.Tables.{bucket_of}
 use Rattle.rcu_hash.specs.Writers.{Each, HasKeysIn, HasNothing, lengths_of, rights_of}
 use Rattle.rcu_hash.proofs.Directing.{directed_is}
-use Rattle.rcu_hash.proofs.Held.{all_named, drop_all, each_map, each_rights, free_after, from_rights, known_empty, known_note, lengths_many, may_direct, named_by, nothing_has_keys, rights_many, take_all, undirected_free}
+use Rattle.rcu_hash.proofs.Holds.{all_named, drop_all, each_map, each_rights, free_after, from_rights, known_empty, known_note, lengths_many, may_direct, named_by, nothing_has_keys, rights_many, take_all, undirected_free}
 use Rattle.rcu_hash.proofs.Named.{leads_all, leads_there}
-use Rattle.live_read.specs.Hearing.{OnlyMakesLast}
+use Rattle.rcu_list.specs.live_read.Hearing.{OnlyMakesLast}
 use Rattle.rcu_hash.proofs.making.direct.Goals as goal
 
 pub lend_all-lents-requires-clause-known : goal.lend_all-lents-requires-clause-known

@@ -5,11 +5,11 @@ use Rattle.rcu_model.specs.Sets.{In}
 use Rattle.live_log.specs.Log.{Log, Begins}
 use Rattle.live_log.specs.Tables.{tabled}
 use Rattle.live_log.proofs.Lemmas.{begins_trans}
-use Rattle.live_rule.specs.Places.{hold_at}
+use Rattle.rcu_list.specs.live_rule.Places.{hold_at}
 use Rattle.rcu_list.proofs.Lemmas.{stays_both}
 use Rattle.rcu_hash.specs.Tables.{IsAmong}
 use Rattle.rcu_hash.specs.Writers.{AreFrom, Each, IsAlone, IsEmpty}
-use Rattle.rcu_hash.proofs.Held.{each_last, from_last}
+use Rattle.rcu_hash.proofs.Holds.{each_last, from_last}
 use Rattle.rcu_hash.proofs.Taking.{free_more, other_hold, taken_since}
 use Rattle.rcu_hash.proofs.making.hold_all.Goals as goal
 

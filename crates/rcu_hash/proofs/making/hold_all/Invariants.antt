@@ -1,6 +1,6 @@
 use Rattle.std.proofs.Common.{◌≡◌, ◌≤◌, ◌<◌, ◌+◌, ◌++◌, ℕ, List, length, map, vec_len, vec_capacity}
 use Rattle.live_log.specs.Log.{Begins}
-use Rattle.live_read.specs.Hearing.{Stays}
+use Rattle.rcu_list.specs.live_read.Hearing.{Stays}
 use Rattle.live_log.specs.Tables.{tabled}
 use Rattle.rcu_hash.specs.Refusing.{FindsFree}
 use Rattle.rcu_hash.specs.Tables.{IsAmong}

@@ -3,13 +3,13 @@ use Rattle.std.proofs.Common.{◌≡◌, ℕ, [], ◌∷◌, length, ap, sym, �
 use Rattle.live_log.specs.Log.{Log, Begins, chain_note, state_of}
 use Rattle.live_log.specs.Tables.{tabled}
 use Rattle.live_log.proofs.Lemmas.{begins_trans}
-use Rattle.live_read.specs.Hearing.{IsAfter}
-use Rattle.live_rule.specs.Places.{hold_at}
-use Rattle.live_rule.specs.Seats.{lent_chains}
-use Rattle.live_rule.specs.declared.rights.ChainRight.{ChainRight}
-use Rattle.live_rule.specs.declared.view.View.{View}
-use Rattle.live_table.specs.Rights.{IsListed, own_in}
-use Rattle.live_write.specs.Chains.{list_in}
+use Rattle.rcu_list.specs.live_read.Hearing.{IsAfter}
+use Rattle.rcu_list.specs.live_rule.Places.{hold_at}
+use Rattle.rcu_list.specs.live_rule.Seats.{lent_chains}
+use Rattle.rcu_list.specs.live_rule.declared.rights.ChainRight.{ChainRight}
+use Rattle.rcu_list.specs.live_rule.declared.view.View.{View}
+use Rattle.rcu_list.specs.live_table.Rights.{IsListed, own_in}
+use Rattle.rcu_list.specs.live_write.Chains.{list_in}
 use Rattle.rcu_list.proofs.Lemmas.{stays_both}
 use Rattle.rcu_hash.specs.Refusing.{IsInUse}
 use Rattle.rcu_hash.proofs.making.hold_empty.Goals.{then-note-ne0-via-then-note-ne0, then-note-ne0-via-else-note-ne0+then-len-ne0}

@@ -5,15 +5,15 @@ use Rattle.live_log.specs.declared.event.LiveEvent.TheVariants.{ChainNote}
 use Rattle.live_log.specs.Log.{Log, Begins, chain_note}
 use Rattle.live_log.specs.Tables.{tabled}
 use Rattle.live_log.proofs.Lemmas.{begins_trans}
-use Rattle.live_rule.specs.declared.view.View.{View}
-use Rattle.live_table.specs.Rights.{AreAsKnown}
+use Rattle.rcu_list.specs.live_rule.declared.view.View.{View}
+use Rattle.rcu_list.specs.live_table.Rights.{AreAsKnown}
 use Rattle.rcu_list.proofs.Lemmas.{stays_both}
 use Rattle.rcu_hash.specs.Growing.{NotesAll}
 use Rattle.rcu_hash.specs.Leaving.{Writes}
 use Rattle.rcu_hash.specs.Writers.{Each, HasNoNote, IsAlone, IsRunIn, IsSame, Noted, Pairwise}
 use Rattle.rcu_hash.proofs.Emptying.{writes_weaker}
 use Rattle.rcu_hash.proofs.Filling.{from_behind, notes_more}
-use Rattle.rcu_hash.proofs.Held.{each_head, each_last, pair_from, pair_same, pair_step}
+use Rattle.rcu_hash.proofs.Holds.{each_head, each_last, pair_from, pair_same, pair_step}
 use Rattle.rcu_hash.proofs.making.note_all.Goals as goal
 
 pub loop-init : goal.loop-init

@@ -2,7 +2,7 @@ use Rattle.std.proofs.Common.{◌≡◌, ◌≤◌, ◌+◌, ◌++◌, ℕ, map,
 use Rattle.std.specs.Vec.Iter.{into_iter_items, into_iter_len}
 use Rattle.live_log.specs.Log.{Begins}
 use Rattle.live_log.specs.Tables.{tabled}
-use Rattle.live_read.specs.Hearing.{OnlyHears}
+use Rattle.rcu_list.specs.live_read.Hearing.{OnlyHears}
 use Rattle.rcu_hash.specs.Growing.{NotesAll}
 use Rattle.rcu_hash.specs.Leaving.{Writes}
 use Rattle.rcu_hash.specs.Writers.{AreFrom, Each, HasNoNote, IsAlone, IsRunIn, IsSame, Noted, Pairwise}

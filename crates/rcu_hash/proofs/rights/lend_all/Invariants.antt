@@ -2,7 +2,7 @@ use Rattle.std.proofs.Common.{◌≡◌, ◌≤◌, ◌++◌, map, vec_capacity,
 use Rattle.std.specs.Vec.Iter.{into_iter_items, into_iter_len}
 use Rattle.live_log.specs.Log.{Begins, IsLiveRun}
 use Rattle.live_log.specs.Tables.{tabled}
-use Rattle.live_table.specs.Rights.{AreAsKnown}
+use Rattle.rcu_list.specs.live_table.Rights.{AreAsKnown}
 use Rattle.rcu_hash.specs.Writers.{Each, IsAlone, lengths_of, rights_of}
 use Rattle.rcu_hash.proofs.Lending.{Reaches}
 use Rattle.rcu_hash.proofs.rights.lend_all.Given as goal

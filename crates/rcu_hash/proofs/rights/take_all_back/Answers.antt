@@ -2,9 +2,9 @@ use Rattle.std.proofs.Common.{◌≡◌, ◌∷◌, List, [], drop, length, take
 use Rattle.std.proofs.lemmas.List.{nil_from_length}
 use Rattle.std.specs.Vec.Iter.{into_iter_items}
 use Rattle.live_log.specs.Log.{Log, Begins}
-use Rattle.live_rule.specs.Seats.{lent_chains}
-use Rattle.live_rule.specs.declared.rights.ChainRight.{ChainRight}
-use Rattle.live_table.specs.Rights.{own_in}
+use Rattle.rcu_list.specs.live_rule.Seats.{lent_chains}
+use Rattle.rcu_list.specs.live_rule.declared.rights.ChainRight.{ChainRight}
+use Rattle.rcu_list.specs.live_table.Rights.{own_in}
 use Rattle.rcu_hash.specs.Writers.{HasSeen, IsAlone, IsRunIn}
 use Rattle.rcu_hash.proofs.Lending.{all_done, dropped_one, each_pushed, first_lent, right_back}
 use Rattle.rcu_hash.proofs.rights.take_all_back.Goals as goal

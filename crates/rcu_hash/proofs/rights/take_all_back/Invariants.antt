@@ -1,7 +1,7 @@
 use Rattle.std.proofs.Common.{◌≡◌, ◌≤◌, ◌+◌, ◌++◌, drop, length, map, take, vec_capacity, vec_len}
 use Rattle.std.specs.Vec.Iter.{into_iter_items, into_iter_len}
-use Rattle.live_rule.specs.Seats.{lent_chains}
-use Rattle.live_table.specs.Rights.{own_in}
+use Rattle.rcu_list.specs.live_rule.Seats.{lent_chains}
+use Rattle.rcu_list.specs.live_table.Rights.{own_in}
 use Rattle.rcu_hash.specs.Writers.{Each, HasSeen, IsAlone, IsRunIn, lengths_of, rights_of}
 use Rattle.rcu_hash.proofs.rights.take_all_back.Given as goal
 

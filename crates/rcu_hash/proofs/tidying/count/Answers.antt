@@ -1,6 +1,6 @@
 use Rattle.std.proofs.Common.{◌≡◌, ◌+◌, ◌-◌, ◌^◌, length, map, min, take, arith, refl}
 use Rattle.std.proofs.lemmas.Option.{slice_get_read}
-use Rattle.live_write.specs.Chains.{list_in}
+use Rattle.rcu_list.specs.live_write.Chains.{list_in}
 use Rattle.rcu_hash.specs.Tidying.{objects_in}
 use Rattle.rcu_hash.proofs.Emptying.{objects_next}
 use Rattle.rcu_hash.proofs.tidying.count.Goals as goal

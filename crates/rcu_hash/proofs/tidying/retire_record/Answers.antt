@@ -1,12 +1,12 @@
 use Rattle.std.proofs.Common.{rules, ◌≡◌, ℕ, Option, Some, IfSome, ◌++◌, ◌%◌, ◌∷◌, [], ap, sym, ◌∙◌, subst, refl}
 use Rattle.live_log.specs.Log.{Log, Begins}
 use Rattle.live_log.specs.Tables.{tabled}
-use Rattle.live_table.specs.Rights.{object_in}
-use Rattle.live_write.specs.declared.records.Unlinked.{Unlinked}
-use Rattle.live_items.specs.Retiring.{IsAfterAll, Queues}
+use Rattle.rcu_list.specs.live_table.Rights.{object_in}
+use Rattle.rcu_list.specs.live_write.declared.records.Unlinked.{Unlinked}
+use Rattle.rcu_list.specs.live_items.Retiring.{IsAfterAll, Queues}
 use Rattle.rcu_hash.specs.Tidying.{IsRecord, Retires, Uses, WasReplaced}
 use Rattle.rcu_hash.proofs.Emptying.{queued_later, refused_finds, replaced_later, stays_none, uses_none, uses_one}
-use Rattle.live_read.proofs.Lemmas.{none_made}
+use Rattle.rcu_list.proofs.live_read.Lemmas.{none_made}
 use Rattle.rcu_hash.proofs.tidying.retire_record.Goals as goal
 
 pub returns-in_default-clause-uses : goal.returns-in_default-clause-uses

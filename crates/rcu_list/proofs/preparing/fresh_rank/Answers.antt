@@ -3,7 +3,7 @@ use Rattle.rcu_model.specs.declared.event.ObjectId.{ObjectId}
 use Rattle.rcu_model.specs.Sets.{In}
 use Rattle.live_log.specs.Keys.{Falls, rank_of}
 use Rattle.live_log.specs.Log.{Log, note_of}
-use Rattle.live_write.specs.Chains.{list_in}
+use Rattle.domain.specs.live_write.Chains.{list_in}
 use Rattle.rcu_list.specs.Maps.{next_rank}
 use Rattle.rcu_list.proofs.Values.{first_above, first_at, rank_first, rank_none}
 use Rattle.rcu_list.proofs.Writing.{chain_known, same_own}

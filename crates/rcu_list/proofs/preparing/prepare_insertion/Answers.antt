@@ -2,9 +2,9 @@ use Rattle.std.proofs.Common.{◌≡◌, ℕ, Option, Some, None, true, false, I
 use Rattle.rcu_model.specs.Sets.{In}
 use Rattle.live_log.specs.Keys.{key_of}
 use Rattle.live_log.specs.Log.{Log, note_of}
-use Rattle.live_rule.specs.declared.rights.ChainRight.{ChainRight}
-use Rattle.live_write.specs.Chains.{list_in}
-use Rattle.live_write.proofs.Lemmas.{went_both}
+use Rattle.domain.specs.live_rule.declared.rights.ChainRight.{ChainRight}
+use Rattle.domain.specs.live_write.Chains.{list_in}
+use Rattle.domain.proofs.live_write.Lemmas.{went_both}
 use Rattle.rcu_list.specs.Maps.{HasLastRank}
 use Rattle.rcu_list.proofs.Writing.{found_there, if_err, if_ok, last_rank, note_walked, same_own, walked_missing}
 use Rattle.rcu_list.proofs.preparing.prepare_insertion.Goals as goal

@@ -4,9 +4,9 @@ use Rattle.rcu_model.specs.declared.event.ObjectId.{ObjectId}
 use Rattle.rcu_model.proofs.Lemmas.{some_is}
 use Rattle.live_log.specs.Keys.{rank_of}
 use Rattle.live_log.specs.Log.{Log, note_of}
-use Rattle.live_rule.specs.declared.rights.ChainRight.{ChainRight}
-use Rattle.live_write.specs.Chains.{list_in}
-use Rattle.live_write.proofs.Lemmas.{index_has, went_both}
+use Rattle.domain.specs.live_rule.declared.rights.ChainRight.{ChainRight}
+use Rattle.domain.specs.live_write.Chains.{list_in}
+use Rattle.domain.proofs.live_write.Lemmas.{index_has, went_both}
 use Rattle.rcu_list.proofs.Writing.{found_there, note_walked, same_own, walked_missing}
 use Rattle.rcu_list.proofs.preparing.prepare_replacement.Goals as goal
 

@@ -2,9 +2,9 @@ use Rattle.std.proofs.Common.{rules, ◌≡◌, ℕ, List, ◌∷◌, ◌++◌, 
 use Rattle.rcu_model.specs.declared.event.ObjectId.{ObjectId}
 use Rattle.live_log.specs.Log.{Log, Begins}
 use Rattle.live_log.proofs.Lemmas.{begins_trans, closed_stays}
-use Rattle.live_rule.specs.declared.view.Sizes.{Sizes}
-use Rattle.live_rule.specs.declared.view.View.{View}
-use Rattle.live_rule.specs.Places.{finished_at, work_at}
+use Rattle.live_words.specs.live_rule.declared.view.Sizes.{Sizes}
+use Rattle.live_words.specs.live_rule.declared.view.View.{View}
+use Rattle.live_words.specs.live_rule.Places.{finished_at, work_at}
 use Rattle.domain.specs.Working.{Looks, left_by}
 use Rattle.domain.proofs.Running.{list_later, more_known, order_later, ran_through}
 use Rattle.domain.proofs.domain.Domain.employ.Goals as goal

@@ -2,7 +2,7 @@ use Rattle.std.proofs.Common.{rules, ◌≡◌, [], ◌∷◌, IfErr, reverse, s
 use Rattle.std.specs.Prelude.{Result, Ok, Err}
 use Rattle.live_log.specs.Log.{Log, Begins, HaveEnded}
 use Rattle.live_log.proofs.Lemmas.{begins_trans}
-use Rattle.live_rule.specs.declared.view.View.{View}
+use Rattle.live_words.specs.live_rule.declared.view.View.{View}
 use Rattle.domain.specs.Working.{GoesOn}
 use Rattle.domain.proofs.Running.{ended_later, goes_heard, goes_loaded, goes_looked_once, goes_trans, line_longer, order_later}
 use Rattle.domain.proofs.domain.Domain.ripen.Goals as goal

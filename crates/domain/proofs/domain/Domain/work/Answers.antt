@@ -1,5 +1,5 @@
 use Rattle.std.proofs.Common.{rules, ◌≡◌, ℕ, [], refl, sym, ap, ◌∙◌, subst, arith}
-use Rattle.live_rule.specs.declared.view.View.{View}
+use Rattle.live_words.specs.live_rule.declared.view.View.{View}
 use Rattle.live_reclaim.specs.Batches.{Lists}
 use Rattle.domain.specs.declared.working.Outcome.TheVariants as outcome
 use Rattle.domain.proofs.Running.{goes_looked, goes_same, goes_trans, list_later, used_up_since}

@@ -1,7 +1,7 @@
 use Rattle.std.proofs.Common.{◌++◌, ap, subst, ◌∙◌}
 use Rattle.std.specs.Arc.{arc_value}
 use Rattle.atomic_table.specs.Table.{Me}
-use Rattle.live_rule.specs.declared.view.View.{View}
+use Rattle.live_words.specs.live_rule.declared.view.View.{View}
 use Rattle.live_read.specs.Registering.{FindsAllClaimed}
 use Rattle.held_values.proofs.Registering.{missed}
 use Rattle.held_values.proofs.making.Domain.register.Goals as goal

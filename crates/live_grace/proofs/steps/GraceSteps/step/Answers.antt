@@ -4,7 +4,7 @@ use Rattle.std.proofs.Math.Logic.{∥∥₁_elim, ∥∥₁_map}
 use Rattle.std.specs.Coded.{le_prop}
 use Rattle.reader_word.specs.declared.layout.Layout.TheVariants.{Wide}
 use Rattle.atomic_table.specs.Table.{Me}
-use Rattle.live_rule.specs.declared.view.View.{View}
+use Rattle.live_words.specs.live_rule.declared.view.View.{View}
 use Rattle.live_grace.specs.declared.period.Progress.TheVariants.{Done}
 use Rattle.live_grace.specs.Going.{InLoop}
 use Rattle.live_grace.proofs.Answering.{bound_number, bound_phase, under_way_ended, under_way_on}

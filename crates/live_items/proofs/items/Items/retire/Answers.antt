@@ -4,11 +4,11 @@ use Rattle.callback_queue.specs.declared.item.Item.{Item}
 use Rattle.callback_queue.specs.Queue.{given_of, pushed, with_place}
 use Rattle.live_log.specs.Log.{Log, Begins}
 use Rattle.live_log.proofs.Lemmas.{begins_trans}
-use Rattle.live_rule.specs.declared.view.View.{View}
-use Rattle.live_rule.specs.declared.rights.QueueRight.TheVariants.{Owns}
-use Rattle.live_rule.specs.Steps.{Precedes}
-use Rattle.live_table.specs.Rights.{object_in}
-use Rattle.live_words.specs.Queues.{IsLast}
+use Rattle.live_words.specs.live_rule.declared.view.View.{View}
+use Rattle.live_words.specs.live_rule.declared.rights.QueueRight.TheVariants.{Owns}
+use Rattle.live_words.specs.live_rule.Steps.{Precedes}
+use Rattle.live_words.specs.live_table.Rights.{object_in}
+use Rattle.live_words.specs.live_queues.Queues.{IsLast}
 use Rattle.live_items.specs.Items.{JobValue, Jobs, IsUnderLock}
 use Rattle.live_items.specs.Retiring.{IsAfterAll, Queues}
 use Rattle.live_items.proofs.Orders.{under_place, under_pushed}

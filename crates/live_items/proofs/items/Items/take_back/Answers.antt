@@ -1,7 +1,7 @@
 use Rattle.std.proofs.Common.{◌≡◌, List, ◌++◌, ℕ, sym, ap, ◌∙◌, subst}
 use Rattle.callback_queue.specs.declared.item.Item.{Item}
 use Rattle.live_log.specs.Log.{Log}
-use Rattle.live_rule.specs.declared.view.View.{View}
+use Rattle.live_words.specs.live_rule.declared.view.View.{View}
 use Rattle.live_items.specs.Items.{InOrder, JobValue, Jobs, IsUnderLock}
 use Rattle.live_items.proofs.Orders.{gone_of, none_of, under_taken, waiting_placed}
 use Rattle.live_items.proofs.items.Items.take_back.Goals as goal

@@ -2,7 +2,7 @@ use Rattle.std.proofs.Common.{◌≡◌, ℕ, List, [], ◌++◌, length, revers
 use Rattle.std.proofs.lemmas.List.{reverse-reverse}
 use Rattle.callback_queue.specs.declared.item.Item.{Item}
 use Rattle.live_log.specs.Log.{Log}
-use Rattle.live_rule.specs.declared.view.View.{View}
+use Rattle.live_words.specs.live_rule.declared.view.View.{View}
 use Rattle.live_items.specs.Items.{InOrder, JobValue, Jobs, IsUnderLock}
 use Rattle.live_items.proofs.Orders.{gone_of, ready_placed, under_handed}
 use Rattle.live_items.proofs.items.Items.take_ready.Goals as goal

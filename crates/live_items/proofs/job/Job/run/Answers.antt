@@ -4,8 +4,8 @@ use Rattle.live_log.specs.declared.event.LiveEvent.TheVariants.{Object}
 use Rattle.live_log.specs.declared.event.ObjectEvent.TheVariants.{Run}
 use Rattle.live_log.specs.Log.{Log, Begins, payload_of, words_in}
 use Rattle.live_log.proofs.Lemmas.{begins_trans, note_stays}
-use Rattle.live_rule.specs.declared.view.View.{View}
-use Rattle.live_table.specs.Rights.{object_in}
+use Rattle.live_words.specs.live_rule.declared.view.View.{View}
+use Rattle.live_words.specs.live_table.Rights.{object_in}
 use Rattle.live_items.specs.Items.{JobValue}
 use Rattle.live_items.specs.Running.{Runs}
 use Rattle.live_items.proofs.job.Job.run.Goals as goal

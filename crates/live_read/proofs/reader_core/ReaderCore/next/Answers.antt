@@ -1,5 +1,5 @@
 use Rattle.std.proofs.Common.{refl, ap}
-use Rattle.live_rule.specs.declared.view.View.{View}
+use Rattle.live_words.specs.live_rule.declared.view.View.{View}
 use Rattle.live_read.proofs.Finding.{stands, held_on, looks, next_none, next_some}
 use Rattle.live_read.proofs.reader_core.ReaderCore.next.Goals as goal
 

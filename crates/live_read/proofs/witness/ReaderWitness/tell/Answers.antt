@@ -1,5 +1,5 @@
 use Rattle.std.proofs.Common.{refl, ap}
-use Rattle.live_table.specs.Rights.{count_in}
+use Rattle.live_words.specs.live_table.Rights.{count_in}
 use Rattle.live_read.proofs.Staying.{stays_in}
 use Rattle.live_read.proofs.witness.ReaderWitness.tell.Goals as goal
 

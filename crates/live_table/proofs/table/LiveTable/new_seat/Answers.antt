@@ -1,6 +1,6 @@
 use Rattle.std.proofs.Common.{◌≡◌, ℕ, [], refl, arith}
 use Rattle.atomic_table.specs.Table.{Me}
-use Rattle.live_log.specs.Log.{IsLiveRun}
+use Rattle.live_rule.specs.live_log.Log.{IsLiveRun}
 use Rattle.live_rule.specs.declared.view.View.{View}
 use Rattle.live_rule.specs.Views.{bare}
 use Rattle.live_rule.proofs.Lemmas.{enters}

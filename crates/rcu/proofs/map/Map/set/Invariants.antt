@@ -1,5 +1,5 @@
 use Rattle.live_log.specs.Log.{Begins}
-use Rattle.live_read.specs.Hearing.{Stays}
+use Rattle.rcu_hash.specs.live_read.Hearing.{Stays}
 use Rattle.rcu.proofs.map.Map.set.Given as goal
 
 abbrev pub invariant-loop : goal.invariant-loop

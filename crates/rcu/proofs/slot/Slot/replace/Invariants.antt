@@ -1,6 +1,6 @@
 use Rattle.std.proofs.Common.{◌≡◌}
 use Rattle.live_log.specs.Log.{Begins}
-use Rattle.live_read.specs.Hearing.{Stays}
+use Rattle.rcu_hash.specs.live_read.Hearing.{Stays}
 use Rattle.rcu.proofs.slot.Slot.replace.Given as goal
 
 abbrev pub invariant-loop : goal.invariant-loop

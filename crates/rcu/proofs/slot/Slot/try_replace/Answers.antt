@@ -3,11 +3,11 @@ use Rattle.rcu_model.specs.Sets.{first_of}
 use Rattle.live_log.specs.declared.event.LiveEvent.TheVariants.{Object}
 use Rattle.live_log.specs.declared.event.ObjectEvent.TheVariants.{Push, Replace}
 use Rattle.live_log.specs.Log.{objects_of}
-use Rattle.live_rule.specs.declared.view.View.{View}
-use Rattle.live_table.specs.Rights.{cell_in, object_in, own_in, payload_in}
-use Rattle.live_read.proofs.Lemmas.{stays_makes}
-use Rattle.live_write.specs.Chains.{list_in, push_by, replace_by}
-use Rattle.rcu_list.specs.Calls.{HandsOver}
+use Rattle.rcu_hash.specs.live_rule.declared.view.View.{View}
+use Rattle.rcu_hash.specs.live_table.Rights.{cell_in, object_in, own_in, payload_in}
+use Rattle.rcu_hash.proofs.live_read.Lemmas.{stays_makes}
+use Rattle.rcu_hash.specs.live_write.Chains.{list_in, push_by, replace_by}
+use Rattle.rcu_hash.specs.rcu_list.Calls.{HandsOver}
 use Rattle.rcu.specs.Slots.{PutsValue, any_change}
 use Rattle.rcu.proofs.Hearing.{stays_on, still_after, went_on}
 use Rattle.rcu.proofs.Putting.{after_all, first_replaced, none_first, pushed_words, queued_later, replaced_words, was_first, was_listed}

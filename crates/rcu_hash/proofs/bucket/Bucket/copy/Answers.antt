@@ -5,11 +5,11 @@ use Rattle.std.proofs.lemmas.Result.{err_from_is_err_and}
 use Rattle.live_log.specs.Log.{note_of}
 use Rattle.live_log.specs.Tables.{tabled}
 use Rattle.live_log.proofs.Lemmas.{begins_trans, run_of, tabled_maps}
-use Rattle.live_rule.specs.Seats.{lent_chains}
-use Rattle.live_rule.specs.declared.rights.ChainRight.{ChainRight}
-use Rattle.live_rule.specs.declared.view.View.{View}
-use Rattle.live_write.specs.Chains.{list_in}
-use Rattle.live_write.proofs.Lemmas.{went_both}
+use Rattle.rcu_list.specs.live_rule.Seats.{lent_chains}
+use Rattle.rcu_list.specs.live_rule.declared.rights.ChainRight.{ChainRight}
+use Rattle.rcu_list.specs.live_rule.declared.view.View.{View}
+use Rattle.rcu_list.specs.live_write.Chains.{list_in}
+use Rattle.rcu_list.proofs.live_write.Lemmas.{went_both}
 use Rattle.rcu_list.specs.Maps.{value_in}
 use Rattle.rcu_list.proofs.Lemmas.{KnowsKeys, keys_walked, same_own, stays_both}
 use Rattle.rcu_hash.specs.Copies.{AreRanked, value_among}

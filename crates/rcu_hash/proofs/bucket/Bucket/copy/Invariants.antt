@@ -1,9 +1,9 @@
 use Rattle.std.proofs.Common.{◌≡◌, ◌++◌, ℕ, List, map}
 use Rattle.live_log.specs.Log.{Begins, note_of}
 use Rattle.live_log.specs.Tables.{tabled}
-use Rattle.live_read.specs.Hearing.{Stays}
-use Rattle.live_table.specs.Steps.{Keeps, Went}
-use Rattle.live_write.specs.Chains.{list_in}
+use Rattle.rcu_list.specs.live_read.Hearing.{Stays}
+use Rattle.rcu_list.specs.live_table.Steps.{Keeps, Went}
+use Rattle.rcu_list.specs.live_write.Chains.{list_in}
 use Rattle.rcu_hash.specs.Copies.{AreRanked}
 use Rattle.rcu_hash.proofs.Copies.{IsCopied}
 use Rattle.rcu_hash.proofs.bucket.Bucket.copy.Given as goal

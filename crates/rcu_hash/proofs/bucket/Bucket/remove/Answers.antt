@@ -7,17 +7,17 @@ use Rattle.live_log.specs.Keys.{key_of}
 use Rattle.live_log.specs.Log.{Log, Begins, IsLiveRun, note_of, state_of}
 use Rattle.live_log.specs.Tables.{IsFree, tabled}
 use Rattle.live_log.proofs.Lemmas.{begins_trans, free_takes, tabled_maps}
-use Rattle.live_rule.specs.Seats.{lent_chains}
-use Rattle.live_rule.specs.declared.rights.ChainRight.{ChainRight}
-use Rattle.live_rule.specs.declared.view.View.{View}
-use Rattle.live_table.specs.Rights.{own_in}
-use Rattle.live_items.specs.Retiring.{Queues}
-use Rattle.live_read.proofs.Lemmas.{stays_makes}
-use Rattle.live_write.specs.Chains.{list_in}
-use Rattle.live_write.proofs.Lemmas.{index_has}
+use Rattle.rcu_list.specs.live_rule.Seats.{lent_chains}
+use Rattle.rcu_list.specs.live_rule.declared.rights.ChainRight.{ChainRight}
+use Rattle.rcu_list.specs.live_rule.declared.view.View.{View}
+use Rattle.rcu_list.specs.live_table.Rights.{own_in}
+use Rattle.rcu_list.specs.live_items.Retiring.{Queues}
+use Rattle.rcu_list.proofs.live_read.Lemmas.{stays_makes}
+use Rattle.rcu_list.specs.live_write.Chains.{list_in}
+use Rattle.rcu_list.proofs.live_write.Lemmas.{index_has}
 use Rattle.std.proofs.lemmas.Option.{slice_get_within}
 use Rattle.rcu_model.specs.declared.refusal.Refusal.TheVariants.{Missing}
-use Rattle.live_reclaim.specs.Refusing.{RefusesRetirement}
+use Rattle.rcu_list.specs.live_reclaim.Refusing.{RefusesRetirement}
 use Rattle.rcu_list.specs.Calls as list
 use Rattle.rcu_list.specs.Maps.{map_of}
 use Rattle.rcu_hash.specs.Directories.{LeadsTo, directed_map}

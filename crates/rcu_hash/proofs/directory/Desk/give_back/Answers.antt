@@ -4,8 +4,8 @@ use Rattle.live_log.specs.declared.event.LiveEvent.TheVariants.{ChainNote}
 use Rattle.live_log.specs.Log.{Log, IsLiveRun, note_of, state_of, chain_note}
 use Rattle.live_log.specs.Tables.{tabled}
 use Rattle.live_log.proofs.Lemmas.{begins_trans, run_of}
-use Rattle.live_rule.specs.declared.rights.ChainRight.{ChainRight}
-use Rattle.live_table.specs.Rights.{own_in}
+use Rattle.rcu_list.specs.live_rule.declared.rights.ChainRight.{ChainRight}
+use Rattle.rcu_list.specs.live_table.Rights.{own_in}
 use Rattle.rcu_hash.specs.declared.directory.Naming.{Naming}
 use Rattle.rcu_hash.specs.Naming.{words_by}
 use Rattle.rcu_hash.specs.Tidying.{ClearsNote, HasWaited, IsLeft}

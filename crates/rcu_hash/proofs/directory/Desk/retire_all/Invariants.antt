@@ -1,6 +1,6 @@
 use Rattle.std.proofs.Common.{◌≡◌, ◌+◌, length}
 use Rattle.live_log.specs.Tables.{tabled}
-use Rattle.live_write.specs.Chains.{list_in}
+use Rattle.rcu_list.specs.live_write.Chains.{list_in}
 use Rattle.rcu_hash.specs.Tidying.{FindsMore, HasWaited, IsLeft, Uses}
 use Rattle.rcu_hash.proofs.directory.Desk.retire_all.Given as goal
 

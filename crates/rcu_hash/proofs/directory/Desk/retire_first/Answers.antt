@@ -7,19 +7,19 @@ use Rattle.live_log.specs.declared.event.ObjectEvent.TheVariants.{Cut}
 use Rattle.live_log.specs.Log.{Log, Begins, IsLiveRun, note_of, state_of, chain_note}
 use Rattle.live_log.specs.Tables.{tabled}
 use Rattle.live_log.proofs.Lemmas.{begins_trans, run_of, tabled_maps}
-use Rattle.live_rule.specs.Seats.{lent_chains}
-use Rattle.live_rule.specs.declared.rights.ChainRight.{ChainRight}
-use Rattle.live_table.specs.Rights.{own_in}
-use Rattle.live_items.specs.Retiring.{Queues}
-use Rattle.live_write.specs.Chains.{list_in}
-use Rattle.live_write.proofs.Lemmas.{index_has}
+use Rattle.rcu_list.specs.live_rule.Seats.{lent_chains}
+use Rattle.rcu_list.specs.live_rule.declared.rights.ChainRight.{ChainRight}
+use Rattle.rcu_list.specs.live_table.Rights.{own_in}
+use Rattle.rcu_list.specs.live_items.Retiring.{Queues}
+use Rattle.rcu_list.specs.live_write.Chains.{list_in}
+use Rattle.rcu_list.proofs.live_write.Lemmas.{index_has}
 use Rattle.rcu_list.proofs.Lemmas.{KnowsKeys, by_result, by_second, if_err, if_ok, keys_cut, keys_on}
 use Rattle.rcu_hash.specs.declared.directory.Naming.{Naming}
 use Rattle.rcu_hash.specs.Naming.{words_by}
 use Rattle.rcu_hash.specs.Tidying.{HasWaited, IsLeft, RetiresObject}
 use Rattle.rcu_hash.proofs.Emptying.{apart_there, directed_there, err_both, listed_once, makes_finds, map_left, may_cut_left, noted_there, one_fewer, queued_later, refused_finds, refused_why}
 use Rattle.rcu_hash.proofs.Named.{lent_is, lent_used, used_later, words_later}
-use Rattle.live_read.proofs.Lemmas.{one_made}
+use Rattle.rcu_list.proofs.live_read.Lemmas.{one_made}
 use Rattle.rcu_hash.proofs.directory.Desk.retire_first.Goals as goal
 
 pub cut_retire-answer-requires-clause-rule : goal.cut_retire-answer-requires-clause-rule

@@ -4,10 +4,10 @@ use Rattle.rcu_model.specs.Sets.{In}
 use Rattle.live_log.specs.Log.{Log, chain_note, note_of}
 use Rattle.live_log.specs.Tables.{Names, tabled}
 use Rattle.live_log.proofs.Lemmas.{is_noted, run_of}
-use Rattle.live_rule.specs.Seats.{lent_chains}
-use Rattle.live_rule.specs.declared.rights.ChainRight.{ChainRight}
-use Rattle.live_table.specs.Rights.{own_in}
-use Rattle.live_read.specs.Hearing.{IsAfter}
+use Rattle.rcu_list.specs.live_rule.Seats.{lent_chains}
+use Rattle.rcu_list.specs.live_rule.declared.rights.ChainRight.{ChainRight}
+use Rattle.rcu_list.specs.live_table.Rights.{own_in}
+use Rattle.rcu_list.specs.live_read.Hearing.{IsAfter}
 use Rattle.rcu_list.proofs.Lemmas.{chain_known}
 use Rattle.rcu_hash.specs.Tidying.{IsLinked}
 use Rattle.rcu_hash.proofs.Emptying.{by_words}

@@ -1,7 +1,7 @@
 use Rattle.std.proofs.Common.{List, ap, ◌∙◌}
-use Rattle.live_rule.specs.Seats.{lent_chains}
-use Rattle.live_rule.specs.declared.rights.ChainRight.{ChainRight}
-use Rattle.live_table.specs.Rights.{own_in}
+use Rattle.rcu_list.specs.live_rule.Seats.{lent_chains}
+use Rattle.rcu_list.specs.live_rule.declared.rights.ChainRight.{ChainRight}
+use Rattle.rcu_list.specs.live_table.Rights.{own_in}
 use Rattle.rcu_hash.proofs.Named.{words_later}
 use Rattle.rcu_hash.proofs.directory.LentDirectory.take_back.Goals as goal
 

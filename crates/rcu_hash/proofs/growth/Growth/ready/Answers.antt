@@ -5,7 +5,7 @@ use Rattle.live_log.specs.Tables.{tabled}
 use Rattle.live_log.proofs.Lemmas.{begins_trans}
 use Rattle.rcu_hash.specs.Refusing.{IsUnused}
 use Rattle.rcu_hash.proofs.Copies.{found_before, found_more}
-use Rattle.rcu_hash.proofs.Held.{looks_both, not_full}
+use Rattle.rcu_hash.proofs.Holds.{looks_both, not_full}
 use Rattle.rcu_hash.proofs.Taking.{during_earlier, told_both, told_looks}
 use Rattle.rcu_hash.proofs.growth.Growth.ready.Goals as goal
 

@@ -2,7 +2,7 @@ use Rattle.std.proofs.Common.{◌+◌, map, arith}
 use Rattle.rcu_hash.specs.Tidying.{IsLeft}
 use Rattle.rcu_hash.specs.Writers.{Each, HasKeysIn, HasNote, IsAlone}
 use Rattle.rcu_hash.proofs.Emptying.{all_outside, each_left, each_popped, each_pushed}
-use Rattle.rcu_hash.proofs.Held.{each_map}
+use Rattle.rcu_hash.proofs.Holds.{each_map}
 use Rattle.rcu_hash.proofs.left.Left.hear.Goals as goal
 
 pub hear_left-requires-clause-chain : goal.hear_left-requires-clause-chain

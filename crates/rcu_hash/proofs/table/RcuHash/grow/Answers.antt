@@ -10,8 +10,8 @@ use Rattle.rcu_hash.specs.Refusing.{IsUnused}
 use Rattle.rcu_hash.specs.Tables.{are_apart}
 use Rattle.rcu_hash.proofs.Regrown.{grows_go, grows_since}
 use Rattle.rcu_hash.proofs.Taking.{during_earlier, in_both}
-use Rattle.live_read.specs.Hearing.{MakesMany}
-use Rattle.live_read.proofs.Lemmas.{more_made, none_made}
+use Rattle.rcu_list.specs.live_read.Hearing.{MakesMany}
+use Rattle.rcu_list.proofs.live_read.Lemmas.{more_made, none_made}
 use Rattle.rcu_hash.proofs.table.RcuHash.grow.Goals as goal
 
 pub commit-rest-requires-clause-copied : goal.commit-rest-requires-clause-copied

@@ -6,8 +6,8 @@ use Rattle.live_log.specs.declared.event.ObjectEvent.TheVariants.{Push}
 use Rattle.live_log.specs.Log.{Log, Begins}
 use Rattle.live_log.specs.Tables.{tabled}
 use Rattle.live_log.proofs.Lemmas.{begins_trans}
-use Rattle.live_rule.specs.Places.{hold_at}
-use Rattle.live_table.specs.Rights.{object_in}
+use Rattle.rcu_list.specs.live_rule.Places.{hold_at}
+use Rattle.rcu_list.specs.live_table.Rights.{object_in}
 use Rattle.rcu_hash.specs.Directories.{LeadsTo, directed_map}
 use Rattle.rcu_hash.specs.Growing.{NotesAll}
 use Rattle.rcu_hash.specs.Leaving.{Writes}
@@ -18,7 +18,7 @@ use Rattle.rcu_hash.specs.Writers.{Each, HasNoNote, HasNote, HasNothing, IsEmpty
 use Rattle.rcu_hash.proofs.Copies.{found_more}
 use Rattle.rcu_hash.proofs.Emptying.{writes_weaker}
 use Rattle.rcu_hash.proofs.Filling.{notes_weaker}
-use Rattle.rcu_hash.proofs.Held.{each_map, looks_both, not_full, pair_from, pair_nothing}
+use Rattle.rcu_hash.proofs.Holds.{each_map, looks_both, not_full, pair_from, pair_nothing}
 use Rattle.rcu_hash.proofs.Taking.{during_earlier, during_since, taken_since}
 use Rattle.rcu_hash.proofs.table.RcuHash.new.Goals as goal
 

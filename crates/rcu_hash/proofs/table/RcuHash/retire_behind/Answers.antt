@@ -1,12 +1,12 @@
 use Rattle.std.proofs.Common.{rules, ℕ, ◌<◌, Option, IfSome, ⊎_elim, ◌≡◌, ◌+◌, ◌++◌, [], length, map, arith, ap, sym, ◌∙◌, refl, subst}
 use Rattle.std.proofs.lemmas.List.{append-nil, length-append}
 use Rattle.live_log.specs.Tables.{tabled}
-use Rattle.live_write.specs.declared.records.Unlinked.{Unlinked}
+use Rattle.rcu_list.specs.live_write.declared.records.Unlinked.{Unlinked}
 use Rattle.rcu_hash.specs.declared.directory.Naming.{Naming}
 use Rattle.rcu_hash.specs.Tidying.{IsLeft, IsRecord, IsStopped, Uses}
 use Rattle.rcu_hash.specs.Writers.{Each, HasKeysIn, HasNote, IsAlone}
 use Rattle.rcu_hash.proofs.Emptying.{all_outside, each_left, some_on, stays_none, uses_none}
-use Rattle.rcu_hash.proofs.Held.{each_map}
+use Rattle.rcu_hash.proofs.Holds.{each_map}
 use Rattle.rcu_hash.proofs.table.RcuHash.retire_behind.Goals as goal
 
 pub returns-in_default-clause-jobs : goal.returns-in_default-clause-jobs

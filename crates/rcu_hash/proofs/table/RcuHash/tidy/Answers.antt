@@ -2,7 +2,7 @@ use Rattle.std.proofs.Common.{ℕ, List, [], inl, refl, sym, subst}
 use Rattle.live_log.specs.Log.{Log}
 use Rattle.live_log.specs.Tables.{tabled}
 use Rattle.rcu_hash.proofs.Emptying.{heard_on, uses_both, uses_none}
-use Rattle.domain.specs.Waiting.{Synchronized}
+use Rattle.rcu_list.specs.domain.Waiting.{Synchronized}
 use Rattle.rcu_hash.specs.Tidying.{Uses}
 use Rattle.rcu_hash.proofs.table.RcuHash.tidy.Goals as goal
 

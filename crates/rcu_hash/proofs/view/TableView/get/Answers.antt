@@ -2,8 +2,8 @@ use Rattle.std.proofs.Common.{ℕ, [], Option, refl, ap, subst}
 use Rattle.rcu_model.specs.declared.event.ObjectId.{ObjectId}
 use Rattle.live_log.specs.Log.{Log}
 use Rattle.live_log.specs.Tables.{tabled}
-use Rattle.live_read.specs.Holding.{log_of}
-use Rattle.live_read.proofs.Lemmas.{looks_twice}
+use Rattle.rcu_list.specs.live_read.Holding.{log_of}
+use Rattle.rcu_list.proofs.live_read.Lemmas.{looks_twice}
 use Rattle.rcu_hash.specs.Directories.{AnswersThrough, value_through}
 use Rattle.rcu_hash.proofs.Looking.{through_from}
 use Rattle.rcu_hash.proofs.view.TableView.get.Goals as goal

@@ -1,6 +1,6 @@
 use Rattle.std.proofs.Common.{◌∙◌, false}
 use Rattle.live_log.specs.Tables.{tabled}
-use Rattle.live_read.proofs.Lemmas.{looks_twice}
+use Rattle.rcu_list.proofs.live_read.Lemmas.{looks_twice}
 use Rattle.rcu_hash.proofs.Looking.{answers_nowhere, leads_words, value_answers}
 use Rattle.rcu_hash.proofs.view.TableView.look.Goals as goal
 

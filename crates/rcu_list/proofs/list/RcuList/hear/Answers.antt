@@ -1,6 +1,6 @@
 use Rattle.std.proofs.Common.{List, ap, ◌∙◌}
-use Rattle.live_rule.specs.declared.rights.ChainRight.{ChainRight}
-use Rattle.live_table.specs.Rights.{own_in}
+use Rattle.domain.specs.live_rule.declared.rights.ChainRight.{ChainRight}
+use Rattle.domain.specs.live_table.Rights.{own_in}
 use Rattle.rcu_list.proofs.Writing.{keys_on}
 use Rattle.rcu_list.proofs.list.RcuList.hear.Goals as goal
 

@@ -4,9 +4,9 @@ use Rattle.rcu_model.specs.declared.event.ObjectId.{ObjectId}
 use Rattle.live_log.specs.Log.{Log, Begins}
 use Rattle.live_log.specs.Maps.{IsUnnoted}
 use Rattle.live_log.proofs.Lemmas.{begins_trans}
-use Rattle.live_rule.specs.declared.rights.ChainRight.{ChainRight}
-use Rattle.live_read.proofs.Lemmas.{stays_makes}
-use Rattle.live_write.specs.Chains.{list_in}
+use Rattle.domain.specs.live_rule.declared.rights.ChainRight.{ChainRight}
+use Rattle.domain.proofs.live_read.Lemmas.{stays_makes}
+use Rattle.domain.specs.live_write.Chains.{list_in}
 use Rattle.rcu_list.specs.Refusing.{RefusesInsertion}
 use Rattle.rcu_list.proofs.Writing.{by_no_note, chain_known, comes_in, keys_pushed, keys_walked, note_still, pushed_map, rank_walked, same_own}
 use Rattle.rcu_list.proofs.list.RcuList.insert.Goals as goal

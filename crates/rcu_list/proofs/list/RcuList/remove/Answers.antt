@@ -6,13 +6,13 @@ use Rattle.live_log.specs.Keys.{key_of}
 use Rattle.live_log.specs.Log.{Log, Begins, note_of}
 use Rattle.live_log.specs.Maps.{IsUnnoted}
 use Rattle.live_log.proofs.Lemmas.{begins_trans}
-use Rattle.live_rule.specs.declared.rights.ChainRight.{ChainRight}
-use Rattle.live_items.specs.Retiring.{Queues}
-use Rattle.live_reclaim.specs.Refusing.{RefusesRetirement}
-use Rattle.live_write.specs.Chains.{list_in}
-use Rattle.live_write.proofs.Lemmas.{index_has}
+use Rattle.domain.specs.live_rule.declared.rights.ChainRight.{ChainRight}
+use Rattle.domain.specs.live_items.Retiring.{Queues}
+use Rattle.domain.specs.live_reclaim.Refusing.{RefusesRetirement}
+use Rattle.domain.specs.live_write.Chains.{list_in}
+use Rattle.domain.proofs.live_write.Lemmas.{index_has}
 use Rattle.rcu_list.proofs.Writing.{by_no_note, by_second, chain_known, cut_map, found_there, if_err, if_ok, keys_walked, may_remove, note_still, note_walked, same_own, walked_missing, KnowsKeys, by_result, keys_cut}
-use Rattle.live_table.specs.Rights.{own_in}
+use Rattle.domain.specs.live_table.Rights.{own_in}
 use Rattle.rcu_list.proofs.list.RcuList.remove.Goals as goal
 
 pub returns-in_default-clause-refused : goal.returns-in_default-clause-refused

@@ -6,13 +6,13 @@ use Rattle.live_log.specs.Keys.{key_of}
 use Rattle.live_log.specs.Log.{Log, Begins, closed_of, note_of}
 use Rattle.live_log.specs.Maps.{IsUnnoted}
 use Rattle.live_log.proofs.Lemmas.{begins_trans}
-use Rattle.live_rule.specs.Places.{cell_at, closed_at}
-use Rattle.live_rule.specs.declared.rights.ChainRight.{ChainRight}
-use Rattle.live_table.specs.Rights.{cell_in, own_in}
-use Rattle.live_items.specs.Retiring.{Queues}
-use Rattle.live_read.proofs.Lemmas.{stays_makes}
-use Rattle.live_write.specs.Chains.{list_in}
-use Rattle.live_write.proofs.Lemmas.{index_has}
+use Rattle.domain.specs.live_rule.Places.{cell_at, closed_at}
+use Rattle.domain.specs.live_rule.declared.rights.ChainRight.{ChainRight}
+use Rattle.domain.specs.live_table.Rights.{cell_in, own_in}
+use Rattle.domain.specs.live_items.Retiring.{Queues}
+use Rattle.domain.proofs.live_read.Lemmas.{stays_makes}
+use Rattle.domain.specs.live_write.Chains.{list_in}
+use Rattle.domain.proofs.live_write.Lemmas.{index_has}
 use Rattle.rcu_list.proofs.Writing.{by_no_note, by_second, chain_known, keys_walked, note_still, note_walked, replaced_map, same_own, stays_both, takes_over, KnowsKeys, by_result, keys_replaced}
 use Rattle.rcu_list.proofs.list.RcuList.replace.Goals as goal
 

@@ -1,7 +1,7 @@
 use Rattle.std.proofs.Common.{◌≡◌, ◌%◌, [], refl}
 use Rattle.live_log.specs.Log.{Log}
-use Rattle.live_read.specs.Holding.{log_of}
-use Rattle.live_read.proofs.Lemmas.{looks_twice}
+use Rattle.domain.specs.live_read.Holding.{log_of}
+use Rattle.domain.proofs.live_read.Lemmas.{looks_twice}
 use Rattle.rcu_list.proofs.Going.{began_before, nothing_there}
 use Rattle.rcu_list.proofs.view.ListView.for_each_of.Goals as goal
 

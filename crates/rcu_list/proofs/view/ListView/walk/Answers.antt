@@ -3,8 +3,8 @@ use Rattle.std.specs.List.{FoldsTo}
 use Rattle.std.proofs.lemmas.Fn.{FoldsTo-push}
 use Rattle.live_log.specs.Keys.{rank_of}
 use Rattle.live_log.specs.Log.{note_of}
-use Rattle.live_read.specs.Holding.{log_of}
-use Rattle.live_read.proofs.Lemmas.{looks_twice}
+use Rattle.domain.specs.live_read.Holding.{log_of}
+use Rattle.domain.proofs.live_read.Lemmas.{looks_twice}
 use Rattle.rcu_list.proofs.Going.{goes_by, goes_first, goes_first_by, goes_last, goes_lower, goes_next, goes_none}
 use Rattle.rcu_list.proofs.view.ListView.walk.Goals as goal
 

@@ -3,7 +3,7 @@ use Rattle.std.specs.List.{FoldsTo}
 use Rattle.rcu_model.specs.declared.event.ObjectId.{ObjectId}
 use Rattle.live_log.specs.Keys.{rank_of}
 use Rattle.live_log.specs.Log.{note_of}
-use Rattle.live_read.specs.Holding.{log_of}
+use Rattle.domain.specs.live_read.Holding.{log_of}
 use Rattle.rcu_list.proofs.Going.{GoesAt}
 use Rattle.rcu_list.proofs.view.ListView.walk.Given as goal
 

@@ -6,8 +6,8 @@ use native.Mathlib.Decide.{ℕ_discrete}
 use Rattle.rcu_model.specs.declared.event.ObjectId.{ObjectId}
 use Rattle.rcu_model.specs.declared.refusal.Refusal.{Refusal}
 use Rattle.rcu_model.specs.declared.refusal.Refusal.TheVariants.{PoolFull}
-use Rattle.live_rule.specs.declared.view.Sizes.{Sizes}
-use Rattle.live_write.specs.Searching.{AreTaken, IsUsedUp}
+use Rattle.rcu_list.specs.live_rule.declared.view.Sizes.{Sizes}
+use Rattle.rcu_list.specs.live_write.Searching.{AreTaken, IsUsedUp}
 use Rattle.rcu_model.specs.Sets.{In, replaced}
 use Rattle.rcu_model.proofs.Lemmas.{at_number_same, in_objects, replaced_there}
 use Rattle.live_log.specs.declared.event.LiveEvent.{LiveEvent}
@@ -16,10 +16,10 @@ use Rattle.live_log.specs.declared.event.ObjectEvent.TheVariants.{Replace}
 use Rattle.live_log.specs.Log.{Log, Begins, Has, HaveEnded, IsLiveRun, chain_note, note_of, state_of}
 use Rattle.live_log.specs.Tables.{IsDirectory, IsFree, IsReplaced, MayDirect, Names, tabled}
 use Rattle.live_log.proofs.Lemmas.{begins_trans, chain_used, linked_or_replaced, note_stays, noted_or_ended, replaced_note, run_of, unnoted_free}
-use Rattle.live_rule.specs.declared.rights.ChainRight.{ChainRight}
-use Rattle.live_rule.specs.declared.view.View.{View}
-use Rattle.live_table.specs.Rights.{AreAsKnown, cell_in, own_in, payload_in}
-use Rattle.live_write.specs.Chains.{MayPublish, push_by, replace_by}
+use Rattle.rcu_list.specs.live_rule.declared.rights.ChainRight.{ChainRight}
+use Rattle.rcu_list.specs.live_rule.declared.view.View.{View}
+use Rattle.rcu_list.specs.live_table.Rights.{AreAsKnown, cell_in, own_in, payload_in}
+use Rattle.rcu_list.specs.live_write.Chains.{MayPublish, push_by, replace_by}
 use Rattle.rcu_hash.specs.Naming.{IsNamedBy, words_by}
 use Rattle.rcu_hash.specs.Writers.{AreFrom, Each, HasKeysIn, HasNote, HasNothing, HasSeen, IsSame, Pairwise, lengths_of, rights_of}
 
