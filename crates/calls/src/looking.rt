@@ -18,9 +18,7 @@ fn get_in_list<P: GracePlan, B: Site>(
     reader: &mut Reader<P, Tabled, B>,
     view: ListView<B>,
     key: u64,
-) -> Result<Option<u64>, Refusal>
-    requires { P.QSBR ≡ B.qsbr }
-{
+) -> Result<Option<u64>, Refusal> {
     let mut section = reader.section()?;
     Ok(view.get(&mut section, key))
 }
@@ -30,9 +28,7 @@ fn get_in_table<P: GracePlan + Drop, B: Site>(
     reader: &mut Reader<P, Tabled, B>,
     table: &RcuHash<'_, P, B, Code>,
     key: u64,
-) -> Result<Option<u64>, Refusal>
-    requires { P.QSBR ≡ B.qsbr }
-{
+) -> Result<Option<u64>, Refusal> {
     let mut section = reader.section()?;
     Ok(table.get(&mut section, key))
 }
@@ -42,9 +38,7 @@ fn walk_list<P: GracePlan, B: Site>(
     reader: &mut Reader<P, Tabled, B>,
     view: ListView<B>,
     room: Vec<(u64, u64)>,
-) -> Result<Vec<(u64, u64)>, Refusal>
-    requires { P.QSBR ≡ B.qsbr }
-{
+) -> Result<Vec<(u64, u64)>, Refusal> {
     let mut met = room;
     let mut full = false;
     let mut visit = |key: u64, value: u64| {
@@ -60,9 +54,7 @@ fn walk_table<P: GracePlan + Drop, B: Site>(
     reader: &mut Reader<P, Tabled, B>,
     table: &RcuHash<'_, P, B, Code>,
     room: Vec<(u64, u64)>,
-) -> Result<Vec<(u64, u64)>, Refusal>
-    requires { P.QSBR ≡ B.qsbr }
-{
+) -> Result<Vec<(u64, u64)>, Refusal> {
     let mut met = room;
     let mut full = false;
     let mut visit = |key: u64, value: u64| {
@@ -96,9 +88,7 @@ fn in_list<P: GracePlan + Drop, B: Site>(
     view: ListView<B>,
     room: Option<Vec<(u64, u64)>>,
     key: u64,
-) -> Answer
-    requires { P.QSBR ≡ B.qsbr }
-{
+) -> Answer {
     match room {
         None => value(get_in_list(reader, view, key)),
         Some(room) => met(walk_list(reader, view, room)),
@@ -111,9 +101,7 @@ fn in_table<P: GracePlan + Drop, B: Site>(
     table: &RcuHash<'_, P, B, Code>,
     room: Option<Vec<(u64, u64)>>,
     key: u64,
-) -> Answer
-    requires { P.QSBR ≡ B.qsbr }
-{
+) -> Answer {
     match room {
         None => value(get_in_table(reader, table, key)),
         Some(room) => met(walk_table(reader, table, room)),
@@ -130,7 +118,6 @@ fn look<P: GracePlan + Drop, B: Site>(
     verb: Verb,
     numbers: [u64; 4],
 ) -> Answer
-    requires flavour { P.QSBR ≡ B.qsbr }
     requires stands { Stands walker.old.reader.core walker.old.held }
     ensures { Stands walker.new.reader.core walker.new.held }
 {
@@ -139,7 +126,7 @@ fn look<P: GracePlan + Drop, B: Site>(
     if !is_there(maps, is_list, number) {
         return Answer::Refused(Refusal::NoActor);
     }
-    if walker.reader.core.depth == 0 {
+    if walker.reader.core.depth() == 0 {
         return Answer::Refused(Refusal::NotOpen);
     }
     let room = if verb == Verb::WalkList || verb == Verb::WalkTable {
@@ -175,9 +162,7 @@ fn look_in<P: GracePlan + Drop, B: Site>(
     number: usize,
     room: Option<Vec<(u64, u64)>>,
     key: u64,
-) -> Answer
-    requires { P.QSBR ≡ B.qsbr }
-{
+) -> Answer {
     if is_list {
         match maps.lists.get(number) {
             Some(Some(list)) => in_list(reader, list.view(), room, key),
@@ -201,7 +186,6 @@ pub(crate) fn look_line<P: GracePlan + Drop, B: Site>(
     verb: Verb,
     numbers: [u64; 4],
 ) -> Answer
-    requires flavour { P.QSBR ≡ B.qsbr }
     requires stand { All (λ o. IfSome o (λ w. Stands w.reader.core w.held)) places.old.items }
     ensures { All (λ o. IfSome o (λ w. Stands w.reader.core w.held)) places.new.items }
 {

@@ -7,7 +7,7 @@ use crate::session::Session;
 use crate::walker::done;
 use call_text::{Answer, Call, Verb};
 use gp_memb::GracePlan;
-use rcu_hash::{Domain, RcuHash, RcuList, Record, Site, Tabled};
+use rcu_hash::{Domain, Handle, RcuHash, RcuList, Site, Tabled};
 use rcu_model::Refusal;
 use std::alloc::{AllocError, Global};
 use std::sync::Wait;
@@ -85,7 +85,7 @@ impl<'d, P: GracePlan + Drop, B: Site> Maps<'d, P, B> {
 /// A list over a chain.
 fn made_list<'d, P: GracePlan + Drop, B: Site>(
     domain: &'d Domain<P, Tabled, B, Code>,
-    record: &mut Record<B>,
+    record: &mut Handle<B>,
     chain: usize,
 ) -> Result<RcuList<'d, P, Tabled, B, Code>, Refusal> {
     let chain = plain::chain(domain, record, chain)?;
@@ -95,7 +95,7 @@ fn made_list<'d, P: GracePlan + Drop, B: Site>(
 /// Puts a list at its place: refused with `Busy` where one is there.
 fn new_list<'d, P: GracePlan + Drop, B: Site>(
     domain: &'d Domain<P, Tabled, B, Code>,
-    record: &mut Record<B>,
+    record: &mut Handle<B>,
     place: &mut Option<RcuList<'d, P, Tabled, B, Code>>,
     chain: usize,
 ) -> Answer {
@@ -126,7 +126,7 @@ fn value<P: GracePlan + Drop, B: Site>(
 fn list_line<'d, P: GracePlan + Drop, B: Site, R: Wait>(
     rt: &R,
     domain: &'d Domain<P, Tabled, B, Code>,
-    record: &mut Record<B>,
+    record: &mut Handle<B>,
     place: &mut Option<RcuList<'d, P, Tabled, B, Code>>,
     verb: Verb,
     numbers: [u64; 4],
@@ -158,7 +158,7 @@ fn new_table<'d, P: GracePlan + Drop, B: Site, R: Wait>(
     rt: &R,
     alloc: Global,
     domain: &'d Domain<P, Tabled, B, Code>,
-    record: &mut Record<B>,
+    record: &mut Handle<B>,
     place: &mut Option<Table<'d, P, B>>,
     numbers: [u64; 4],
 ) -> Answer {
@@ -188,7 +188,7 @@ fn new_table<'d, P: GracePlan + Drop, B: Site, R: Wait>(
 fn grow<P: GracePlan + Drop, B: Site, R: Wait>(
     rt: &R,
     alloc: Global,
-    record: &mut Record<B>,
+    record: &mut Handle<B>,
     table: &mut Table<'_, P, B>,
     first: usize,
     buckets: usize,
@@ -215,7 +215,7 @@ fn callbacks(alloc: Global, many: u64, code: u64) -> Result<(Vec<Code>, Vec<u64>
 fn tidy<P: GracePlan + Drop, B: Site, R: Wait>(
     rt: &R,
     alloc: Global,
-    record: &mut Record<B>,
+    record: &mut Handle<B>,
     inside: bool,
     table: &mut Table<'_, P, B>,
     many: u64,
@@ -248,7 +248,7 @@ fn table_line<'d, P: GracePlan + Drop, B: Site, R: Wait>(
     rt: &R,
     alloc: Global,
     domain: &'d Domain<P, Tabled, B, Code>,
-    record: &mut Record<B>,
+    record: &mut Handle<B>,
     inside: bool,
     place: &mut Option<Table<'d, P, B>>,
     verb: Verb,

@@ -4,8 +4,8 @@
 use crate::codes::Code;
 use gp_memb::GracePlan;
 use rcu_hash::{
-    AnyChain, BarrierMark, Chain, ChainRule, Counts, Domain, LiveCookie, Owned, RcuHash, RcuList,
-    Record, Site, Tabled, Ticket, TidyEnd, Unlinked, WorkerEnd,
+    AnyChain, BarrierMark, Chain, ChainRule, Counts, Domain, Handle, LiveCookie, Owned, RcuHash,
+    RcuList, Site, Tabled, Ticket, TidyEnd, Unlinked, WorkerEnd,
 };
 use rcu_model::Refusal;
 use std::alloc::Global;
@@ -14,16 +14,16 @@ use std::sync::Wait;
 /// `Domain::split`.
 pub(crate) fn split<P: GracePlan + Drop, K: ChainRule, B: Site>(
     domain: &Domain<P, K, B, Code>,
-    record: &mut Record<B>,
-) -> Record<B> {
+    record: &mut Handle<B>,
+) -> Handle<B> {
     domain.split(record)
 }
 
 /// `Domain::inform`.
 pub(crate) fn inform<P: GracePlan + Drop, K: ChainRule, B: Site>(
     domain: &Domain<P, K, B, Code>,
-    from: &mut Record<B>,
-    to: &mut Record<B>,
+    from: &mut Handle<B>,
+    to: &mut Handle<B>,
 ) {
     domain.inform(from, to);
 }
@@ -32,7 +32,7 @@ pub(crate) fn inform<P: GracePlan + Drop, K: ChainRule, B: Site>(
 pub(crate) fn alloc<P: GracePlan + Drop, K: ChainRule, B: Site, R: Wait>(
     rt: &R,
     domain: &Domain<P, K, B, Code>,
-    record: &mut Record<B>,
+    record: &mut Handle<B>,
     words: [u64; 4],
 ) -> Result<Owned<B>, Refusal> {
     domain.alloc(rt, record, words)
@@ -41,7 +41,7 @@ pub(crate) fn alloc<P: GracePlan + Drop, K: ChainRule, B: Site, R: Wait>(
 /// `Domain::discard`.
 pub(crate) fn discard<P: GracePlan + Drop, K: ChainRule, B: Site>(
     domain: &Domain<P, K, B, Code>,
-    record: &mut Record<B>,
+    record: &mut Handle<B>,
     owned: Owned<B>,
 ) {
     domain.discard(record, owned);
@@ -59,7 +59,7 @@ pub(crate) fn object<P: GracePlan + Drop, K: ChainRule, B: Site>(
 pub(crate) fn synchronize<P: GracePlan + Drop, K: ChainRule, B: Site, R: Wait>(
     rt: &R,
     domain: &Domain<P, K, B, Code>,
-    record: &mut Record<B>,
+    record: &mut Handle<B>,
 ) -> Result<(), Refusal> {
     domain.synchronize(rt, record)
 }
@@ -67,7 +67,7 @@ pub(crate) fn synchronize<P: GracePlan + Drop, K: ChainRule, B: Site, R: Wait>(
 /// `Domain::start_poll`.
 pub(crate) fn start_poll<P: GracePlan + Drop, K: ChainRule, B: Site>(
     domain: &Domain<P, K, B, Code>,
-    record: &mut Record<B>,
+    record: &mut Handle<B>,
 ) -> Result<LiveCookie, Refusal> {
     domain.start_poll(record)
 }
@@ -75,7 +75,7 @@ pub(crate) fn start_poll<P: GracePlan + Drop, K: ChainRule, B: Site>(
 /// `Domain::poll`.
 pub(crate) fn poll<P: GracePlan + Drop, K: ChainRule, B: Site>(
     domain: &Domain<P, K, B, Code>,
-    record: &mut Record<B>,
+    record: &mut Handle<B>,
     cookie: &LiveCookie,
 ) -> bool {
     domain.poll(record, cookie)
@@ -85,7 +85,7 @@ pub(crate) fn poll<P: GracePlan + Drop, K: ChainRule, B: Site>(
 pub(crate) fn barrier<P: GracePlan + Drop, K: ChainRule, B: Site, R: Wait>(
     rt: &R,
     domain: &Domain<P, K, B, Code>,
-    record: &mut Record<B>,
+    record: &mut Handle<B>,
 ) {
     domain.barrier(rt, record);
 }
@@ -93,7 +93,7 @@ pub(crate) fn barrier<P: GracePlan + Drop, K: ChainRule, B: Site, R: Wait>(
 /// `Domain::barrier_start`.
 pub(crate) fn barrier_start<P: GracePlan + Drop, K: ChainRule, B: Site>(
     domain: &Domain<P, K, B, Code>,
-    record: &mut Record<B>,
+    record: &mut Handle<B>,
 ) -> BarrierMark {
     domain.barrier_start(record)
 }
@@ -101,7 +101,7 @@ pub(crate) fn barrier_start<P: GracePlan + Drop, K: ChainRule, B: Site>(
 /// `Domain::barrier_done`.
 pub(crate) fn barrier_done<P: GracePlan + Drop, K: ChainRule, B: Site>(
     domain: &Domain<P, K, B, Code>,
-    record: &mut Record<B>,
+    record: &mut Handle<B>,
     mark: &BarrierMark,
 ) -> bool {
     domain.barrier_done(record, mark)
@@ -110,7 +110,7 @@ pub(crate) fn barrier_done<P: GracePlan + Drop, K: ChainRule, B: Site>(
 /// `Domain::counts`.
 pub(crate) fn counts<P: GracePlan + Drop, K: ChainRule, B: Site>(
     domain: &Domain<P, K, B, Code>,
-    record: &mut Record<B>,
+    record: &mut Handle<B>,
 ) -> Counts {
     domain.counts(record)
 }
@@ -119,7 +119,7 @@ pub(crate) fn counts<P: GracePlan + Drop, K: ChainRule, B: Site>(
 pub(crate) fn stalled<P: GracePlan + Drop, K: ChainRule, B: Site>(
     alloc: Global,
     domain: &Domain<P, K, B, Code>,
-    record: &mut Record<B>,
+    record: &mut Handle<B>,
 ) -> Result<Vec<usize>, Refusal> {
     domain.stalled(alloc, record)
 }
@@ -128,7 +128,7 @@ pub(crate) fn stalled<P: GracePlan + Drop, K: ChainRule, B: Site>(
 pub(crate) fn close<P: GracePlan + Drop, K: ChainRule, B: Site, R: Wait>(
     rt: &R,
     domain: &Domain<P, K, B, Code>,
-    record: &mut Record<B>,
+    record: &mut Handle<B>,
 ) {
     domain.close(rt, record);
 }
@@ -138,7 +138,7 @@ pub(crate) fn run_worker<P: GracePlan + Drop, K: ChainRule, B: Site, R: Wait>(
     rt: &R,
     alloc: Global,
     domain: &Domain<P, K, B, Code>,
-    record: &mut Record<B>,
+    record: &mut Handle<B>,
     queue: usize,
 ) -> Result<WorkerEnd<B, Code>, Refusal> {
     domain.run_worker(rt, alloc, record, queue)
@@ -149,7 +149,7 @@ pub(crate) fn run_queued<P: GracePlan + Drop, K: ChainRule, B: Site, R: Wait>(
     rt: &R,
     alloc: Global,
     domain: &Domain<P, K, B, Code>,
-    record: &mut Record<B>,
+    record: &mut Handle<B>,
     queue: usize,
 ) -> Result<WorkerEnd<B, Code>, Refusal> {
     domain.run_queued(rt, alloc, record, queue)
@@ -158,7 +158,7 @@ pub(crate) fn run_queued<P: GracePlan + Drop, K: ChainRule, B: Site, R: Wait>(
 /// `Domain::chain`.
 pub(crate) fn chain<'d, P: GracePlan + Drop, K: ChainRule, B: Site>(
     domain: &'d Domain<P, K, B, Code>,
-    record: &mut Record<B>,
+    record: &mut Handle<B>,
     number: usize,
 ) -> Result<Chain<'d, P, K, B, Code>, Refusal> {
     domain.chain(record, number)
@@ -168,7 +168,7 @@ pub(crate) fn chain<'d, P: GracePlan + Drop, K: ChainRule, B: Site>(
 pub(crate) fn retire<P: GracePlan + Drop, B: Site, R: Wait>(
     rt: &R,
     domain: &Domain<P, AnyChain, B, Code>,
-    record: &mut Record<B>,
+    record: &mut Handle<B>,
     unlinked: Unlinked<B>,
     callback: Code,
 ) -> Result<Ticket, (Refusal, Unlinked<B>, Code)> {
@@ -179,7 +179,7 @@ pub(crate) fn retire<P: GracePlan + Drop, B: Site, R: Wait>(
 pub(crate) fn cut_retire<P: GracePlan + Drop, B: Site, R: Wait>(
     rt: &R,
     domain: &Domain<P, AnyChain, B, Code>,
-    record: &mut Record<B>,
+    record: &mut Handle<B>,
     chain: &mut Chain<'_, P, AnyChain, B, Code>,
     index: usize,
     callback: Code,
@@ -191,7 +191,7 @@ pub(crate) fn cut_retire<P: GracePlan + Drop, B: Site, R: Wait>(
 pub(crate) fn replace_retire<P: GracePlan + Drop, B: Site, R: Wait>(
     rt: &R,
     domain: &Domain<P, AnyChain, B, Code>,
-    record: &mut Record<B>,
+    record: &mut Handle<B>,
     chain: &mut Chain<'_, P, AnyChain, B, Code>,
     index: usize,
     owned: Owned<B>,
@@ -203,7 +203,7 @@ pub(crate) fn replace_retire<P: GracePlan + Drop, B: Site, R: Wait>(
 /// `Chain::push`.
 pub(crate) fn push<P: GracePlan + Drop, B: Site>(
     chain: &mut Chain<'_, P, AnyChain, B, Code>,
-    record: &mut Record<B>,
+    record: &mut Handle<B>,
     owned: Owned<B>,
 ) {
     chain.push(record, owned);
@@ -212,7 +212,7 @@ pub(crate) fn push<P: GracePlan + Drop, B: Site>(
 /// `Chain::replace`.
 pub(crate) fn replace<P: GracePlan + Drop, B: Site>(
     chain: &mut Chain<'_, P, AnyChain, B, Code>,
-    record: &mut Record<B>,
+    record: &mut Handle<B>,
     index: usize,
     owned: Owned<B>,
 ) -> Result<Unlinked<B>, (Refusal, Owned<B>)> {
@@ -222,7 +222,7 @@ pub(crate) fn replace<P: GracePlan + Drop, B: Site>(
 /// `Chain::cut`.
 pub(crate) fn cut<P: GracePlan + Drop, B: Site>(
     chain: &mut Chain<'_, P, AnyChain, B, Code>,
-    record: &mut Record<B>,
+    record: &mut Handle<B>,
     index: usize,
 ) -> Result<Unlinked<B>, Refusal> {
     chain.cut(record, index)
@@ -254,7 +254,7 @@ pub(crate) fn note<P: GracePlan + Drop, B: Site>(
 /// `Chain::set_note`.
 pub(crate) fn set_note<P: GracePlan + Drop, B: Site>(
     chain: &mut Chain<'_, P, AnyChain, B, Code>,
-    record: &mut Record<B>,
+    record: &mut Handle<B>,
     note: u64,
 ) {
     chain.set_note(record, note);
@@ -263,7 +263,7 @@ pub(crate) fn set_note<P: GracePlan + Drop, B: Site>(
 /// `Chain::hear`.
 pub(crate) fn hear<P: GracePlan + Drop, B: Site>(
     chain: &mut Chain<'_, P, AnyChain, B, Code>,
-    record: &mut Record<B>,
+    record: &mut Handle<B>,
 ) {
     chain.hear(record);
 }
@@ -290,7 +290,7 @@ pub(crate) fn value<P: GracePlan + Drop, B: Site>(
 pub(crate) fn list_insert<P: GracePlan + Drop, B: Site, R: Wait>(
     rt: &R,
     list: &mut RcuList<'_, P, Tabled, B, Code>,
-    record: &mut Record<B>,
+    record: &mut Handle<B>,
     key: u64,
     value: u64,
 ) -> Result<(), Refusal> {
@@ -301,7 +301,7 @@ pub(crate) fn list_insert<P: GracePlan + Drop, B: Site, R: Wait>(
 pub(crate) fn list_replace<P: GracePlan + Drop, B: Site, R: Wait>(
     rt: &R,
     list: &mut RcuList<'_, P, Tabled, B, Code>,
-    record: &mut Record<B>,
+    record: &mut Handle<B>,
     key: u64,
     value: u64,
     callback: Code,
@@ -316,7 +316,7 @@ pub(crate) fn list_replace<P: GracePlan + Drop, B: Site, R: Wait>(
 pub(crate) fn list_remove<P: GracePlan + Drop, B: Site, R: Wait>(
     rt: &R,
     list: &mut RcuList<'_, P, Tabled, B, Code>,
-    record: &mut Record<B>,
+    record: &mut Handle<B>,
     key: u64,
     callback: Code,
 ) -> Result<Ticket, Refusal> {
@@ -331,7 +331,7 @@ pub(crate) fn new_table<'d, P: GracePlan + Drop, B: Site, R: Wait>(
     rt: &R,
     alloc: Global,
     domain: &'d Domain<P, Tabled, B, Code>,
-    record: &mut Record<B>,
+    record: &mut Handle<B>,
     directory: usize,
     first: usize,
     buckets: usize,
@@ -343,7 +343,7 @@ pub(crate) fn new_table<'d, P: GracePlan + Drop, B: Site, R: Wait>(
 pub(crate) fn table_insert<P: GracePlan + Drop, B: Site, R: Wait>(
     rt: &R,
     table: &RcuHash<'_, P, B, Code>,
-    record: &mut Record<B>,
+    record: &mut Handle<B>,
     key: u64,
     value: u64,
 ) -> Result<(), Refusal> {
@@ -354,7 +354,7 @@ pub(crate) fn table_insert<P: GracePlan + Drop, B: Site, R: Wait>(
 pub(crate) fn table_replace<P: GracePlan + Drop, B: Site, R: Wait>(
     rt: &R,
     table: &RcuHash<'_, P, B, Code>,
-    record: &mut Record<B>,
+    record: &mut Handle<B>,
     key: u64,
     value: u64,
     callback: Code,
@@ -369,7 +369,7 @@ pub(crate) fn table_replace<P: GracePlan + Drop, B: Site, R: Wait>(
 pub(crate) fn table_remove<P: GracePlan + Drop, B: Site, R: Wait>(
     rt: &R,
     table: &RcuHash<'_, P, B, Code>,
-    record: &mut Record<B>,
+    record: &mut Handle<B>,
     key: u64,
     callback: Code,
 ) -> Result<Ticket, Refusal> {
@@ -384,7 +384,7 @@ pub(crate) fn grow<P: GracePlan + Drop, B: Site, R: Wait>(
     rt: &R,
     alloc: Global,
     table: &RcuHash<'_, P, B, Code>,
-    record: &mut Record<B>,
+    record: &mut Handle<B>,
     first: usize,
     buckets: usize,
 ) -> Result<usize, Refusal> {
@@ -395,7 +395,7 @@ pub(crate) fn grow<P: GracePlan + Drop, B: Site, R: Wait>(
 pub(crate) fn tidy<P: GracePlan + Drop, B: Site, R: Wait>(
     rt: &R,
     table: &RcuHash<'_, P, B, Code>,
-    record: &mut Record<B>,
+    record: &mut Handle<B>,
     jobs: Vec<Code>,
 ) -> TidyEnd<Code> {
     table.tidy(rt, record, jobs)

@@ -8,7 +8,7 @@ use crate::codes::Code;
 use crate::walker::{Walker, walk};
 use call_text::{Answer, Verb};
 use gp_memb::GracePlan;
-use rcu_hash::{ChainRule, Domain, Record, Site};
+use rcu_hash::{ChainRule, Domain, Handle, Site};
 use rcu_model::Refusal;
 use std::alloc::{AllocError, Global};
 use std::sync::Wait;
@@ -33,7 +33,7 @@ pub(crate) fn no_readers<P: GracePlan, K: ChainRule, B: Site>(
 fn register<P: GracePlan + Drop, K: ChainRule, B: Site, R: Wait>(
     rt: &R,
     domain: &Domain<P, K, B, Code>,
-    record: &mut Record<B>,
+    record: &mut Handle<B>,
     place: &mut Option<Walker<P, K, B>>,
 ) -> Answer
     requires { IfSome place.old (λ w. Stands w.reader.core w.held) }
@@ -53,7 +53,7 @@ fn register<P: GracePlan + Drop, K: ChainRule, B: Site, R: Wait>(
 
 /// Gives a reader's slot back.
 fn unregister<P: GracePlan, K: ChainRule, B: Site>(
-    record: &mut Record<B>,
+    record: &mut Handle<B>,
     place: &mut Option<Walker<P, K, B>>,
 ) -> Answer
     requires { IfSome place.old (λ w. Stands w.reader.core w.held) }
@@ -76,12 +76,11 @@ fn unregister<P: GracePlan, K: ChainRule, B: Site>(
 fn at_place<P: GracePlan + Drop, K: ChainRule, B: Site, R: Wait>(
     rt: &R,
     domain: &Domain<P, K, B, Code>,
-    record: &mut Record<B>,
+    record: &mut Handle<B>,
     place: &mut Option<Walker<P, K, B>>,
     verb: Verb,
     number: usize,
 ) -> Answer
-    requires flavour { P.QSBR ≡ B.qsbr }
     requires stands { IfSome place.old (λ w. Stands w.reader.core w.held) }
     ensures { IfSome place.new (λ w. Stands w.reader.core w.held) }
 {
@@ -99,13 +98,12 @@ fn at_place<P: GracePlan + Drop, K: ChainRule, B: Site, R: Wait>(
 pub(crate) fn reader_line<P: GracePlan + Drop, K: ChainRule, B: Site, R: Wait>(
     rt: &R,
     domain: &Domain<P, K, B, Code>,
-    record: &mut Record<B>,
+    record: &mut Handle<B>,
     places: &mut Vec<Option<Walker<P, K, B>>>,
     reader: usize,
     verb: Verb,
     number: usize,
 ) -> Answer
-    requires flavour { P.QSBR ≡ B.qsbr }
     requires stand { All (λ o. IfSome o (λ w. Stands w.reader.core w.held)) places.old.items }
     ensures { All (λ o. IfSome o (λ w. Stands w.reader.core w.held)) places.new.items }
 {
@@ -118,9 +116,9 @@ pub(crate) fn reader_line<P: GracePlan + Drop, K: ChainRule, B: Site, R: Wait>(
 /// Whether a reader's section stands in the way of a grace period.
 fn is_inside<P: GracePlan, K: ChainRule, B: Site>(walker: &Walker<P, K, B>) -> bool {
     if P::QSBR {
-        walker.reader.core.word != 0
+        walker.reader.core.word() != 0
     } else {
-        walker.reader.core.depth != 0
+        walker.reader.core.depth() != 0
     }
 }
 

@@ -25,7 +25,7 @@ fn answer_chains<P: GracePlan + Drop, B: Site, W: Write, H: Wait>(
     text: &[u8],
     writer: &mut W,
 ) -> Result<(), ReplayFault>
-    requires { (P.QSBR ≡ B.qsbr) × (opened.table.words.shared.table_id ≡ B.table) × (opened.table.words.shared.key ≡ B.sizes) }
+    requires { (opened.table.words.shared.table_id ≡ B.table) × (opened.table.words.shared.key ≡ B.sizes) }
     ensures { AnswersLines text.now (W.contents writer.old) (W.contents writer.new) result }
 {
     let queues = opened.table.queues;
@@ -46,7 +46,7 @@ fn answer_maps<P: GracePlan + Drop, B: Site, W: Write, H: Wait>(
     text: &[u8],
     writer: &mut W,
 ) -> Result<(), ReplayFault>
-    requires { (P.QSBR ≡ B.qsbr) × (opened.table.words.shared.table_id ≡ B.table) × (opened.table.words.shared.key ≡ B.sizes) }
+    requires { (opened.table.words.shared.table_id ≡ B.table) × (opened.table.words.shared.key ≡ B.sizes) }
     ensures { AnswersLines text.now (W.contents writer.old) (W.contents writer.new) result }
 {
     let queues = opened.table.queues;

@@ -8,7 +8,7 @@ use crate::updater::{Updater, all_updaters};
 use crate::workers::{are_waiting, worker_line};
 use call_text::{Answer, Verb};
 use gp_memb::GracePlan;
-use rcu_hash::{ChainRule, Domain, Record, Site};
+use rcu_hash::{ChainRule, Domain, Handle, Site};
 use rcu_model::Refusal;
 use std::alloc::{AllocError, Global};
 use std::sync::Wait;
@@ -18,7 +18,7 @@ use std::sync::Wait;
 pub(crate) struct Session<'d, P: GracePlan + Drop, K: ChainRule, B: Site> {
     pub(crate) domain: &'d Domain<P, K, B, Code>,
     /// What readers, lists, tables and workers are called with.
-    pub(crate) record: Record<B>,
+    pub(crate) record: Handle<B>,
     pub(crate) updaters: Vec<Updater<B>>,
     queues: usize,
     closed: bool,
@@ -29,7 +29,7 @@ impl<'d, P: GracePlan + Drop, K: ChainRule, B: Site> Session<'d, P, K, B> {
     pub(crate) fn new(
         alloc: Global,
         domain: &'d Domain<P, K, B, Code>,
-        mut record: Record<B>,
+        mut record: Handle<B>,
         queues: usize,
     ) -> Result<Session<'d, P, K, B>, AllocError> {
         let updaters = all_updaters(alloc, domain, &mut record)?;

@@ -13,7 +13,7 @@ use crate::session::Session;
 use crate::walker::Walker;
 use call_text::{Actor, Answer, Call, Verb};
 use gp_memb::GracePlan;
-use rcu_hash::{AnyChain, Domain, Record, Site, Tabled};
+use rcu_hash::{AnyChain, Domain, Handle, Site, Tabled};
 use rcu_model::Refusal;
 use std::alloc::{AllocError, Global};
 use std::sync::Wait;
@@ -35,7 +35,6 @@ pub(crate) struct OfChains<'d, P: GracePlan + Drop, B: Site> {
     pub(crate) session: Session<'d, P, AnyChain, B>,
     pub(crate) places: Vec<Option<Walker<P, AnyChain, B>>>,
     writers: Vec<Option<Writer<'d, P, B>>>,
-    pub(crate) ghost flavour: { P.QSBR ≡ B.qsbr },
 }
 
 impl<'d, P: GracePlan + Drop, B: Site> OfChains<'d, P, B> {
@@ -43,10 +42,9 @@ impl<'d, P: GracePlan + Drop, B: Site> OfChains<'d, P, B> {
     pub(crate) fn new(
         alloc: Global,
         domain: &'d Domain<P, AnyChain, B, Code>,
-        record: Record<B>,
+        record: Handle<B>,
         queues: usize,
     ) -> Result<OfChains<'d, P, B>, AllocError>
-        requires { P.QSBR ≡ B.qsbr }
         ensures { IfOk result (λ s. All (λ o. IfSome o (λ w. Stands w.reader.core w.held)) s.places.items) }
     {
         Ok(OfChains {
@@ -162,7 +160,6 @@ pub(crate) struct OfMaps<'d, P: GracePlan + Drop, B: Site> {
     pub(crate) session: Session<'d, P, Tabled, B>,
     pub(crate) places: Vec<Option<Walker<P, Tabled, B>>>,
     maps: Maps<'d, P, B>,
-    pub(crate) ghost flavour: { P.QSBR ≡ B.qsbr },
 }
 
 impl<'d, P: GracePlan + Drop, B: Site> OfMaps<'d, P, B> {
@@ -170,10 +167,9 @@ impl<'d, P: GracePlan + Drop, B: Site> OfMaps<'d, P, B> {
     pub(crate) fn new(
         alloc: Global,
         domain: &'d Domain<P, Tabled, B, Code>,
-        record: Record<B>,
+        record: Handle<B>,
         queues: usize,
     ) -> Result<OfMaps<'d, P, B>, AllocError>
-        requires { P.QSBR ≡ B.qsbr }
         ensures { IfOk result (λ s. All (λ o. IfSome o (λ w. Stands w.reader.core w.held)) s.places.items) }
     {
         Ok(OfMaps {

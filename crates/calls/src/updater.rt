@@ -5,7 +5,7 @@ use crate::plain;
 use crate::walker::done;
 use call_text::{Answer, Verb};
 use gp_memb::GracePlan;
-use rcu_hash::{BarrierMark, ChainRule, Domain, LiveCookie, Owned, Record, Site, Unlinked};
+use rcu_hash::{BarrierMark, ChainRule, Domain, Handle, LiveCookie, Owned, Site, Unlinked};
 use rcu_model::Refusal;
 use std::alloc::{AllocError, Global};
 use std::sync::Wait;
@@ -17,7 +17,7 @@ const UPDATERS: usize = 16;
 #[derive(Drop)]
 pub(crate) struct Updater<B: Site> {
     /// What it has seen and heard of.
-    pub(crate) record: Record<B>,
+    pub(crate) record: Handle<B>,
     /// What it allocated and did not publish.
     pub(crate) owned: Vec<Owned<B>>,
     /// What it cut and did not retire.
@@ -30,7 +30,7 @@ pub(crate) struct Updater<B: Site> {
 pub(crate) fn all_updaters<P: GracePlan + Drop, K: ChainRule, B: Site>(
     alloc: Global,
     domain: &Domain<P, K, B, Code>,
-    record: &mut Record<B>,
+    record: &mut Handle<B>,
 ) -> Result<Vec<Updater<B>>, AllocError> {
     let mut all = Vec::new(alloc);
     for _ in 0..UPDATERS {

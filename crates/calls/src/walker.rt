@@ -34,7 +34,6 @@ fn found(held: Option<Held>) -> Answer {
 
 /// One lock more, in which is held what was held before.
 fn lock<P: GracePlan, K: ChainRule, B: Site>(walker: &mut Walker<P, K, B>) -> Answer
-    requires flavour { P.QSBR ≡ B.qsbr }
     requires stands { Stands walker.old.reader.core walker.old.held }
     ensures { Stands walker.new.reader.core walker.new.held }
 {
@@ -44,7 +43,6 @@ fn lock<P: GracePlan, K: ChainRule, B: Site>(walker: &mut Walker<P, K, B>) -> An
 
 /// As `lock`, but that it tells whether it locked.
 fn try_lock<P: GracePlan, K: ChainRule, B: Site>(walker: &mut Walker<P, K, B>) -> Answer
-    requires flavour { P.QSBR ≡ B.qsbr }
     requires stands { Stands walker.old.reader.core walker.old.held }
     ensures { Stands walker.new.reader.core walker.new.held }
 {
@@ -61,22 +59,20 @@ fn kept(depth: u64, held: Option<Held>) -> Option<Held>
 
 /// One lock less. After the last one nothing is held.
 fn unlock<P: GracePlan, K: ChainRule, B: Site>(walker: &mut Walker<P, K, B>) -> Answer
-    requires flavour { P.QSBR ≡ B.qsbr }
     requires stands { Stands walker.old.reader.core walker.old.held }
     ensures { Stands walker.new.reader.core walker.new.held }
 {
     let made = walker.reader.unlock();
-    walker.held = kept(walker.reader.core.depth, walker.held);
+    walker.held = kept(walker.reader.core.depth(), walker.held);
     done(made)
 }
 
 /// `first`: refused with `NotOpen` where no lock is open.
 fn first<P: GracePlan, K: ChainRule, B: Site>(walker: &mut Walker<P, K, B>, chain: usize) -> Answer
-    requires flavour { P.QSBR ≡ B.qsbr }
     requires stands { Stands walker.old.reader.core walker.old.held }
     ensures { Stands walker.new.reader.core walker.new.held }
 {
-    if walker.reader.core.depth == 0 {
+    if walker.reader.core.depth() == 0 {
         return Answer::Refused(Refusal::NotOpen);
     }
     match walker.reader.first(chain) {
@@ -90,7 +86,6 @@ fn first<P: GracePlan, K: ChainRule, B: Site>(walker: &mut Walker<P, K, B>, chai
 
 /// `next`: refused with `NoPlace` where nothing was found last.
 fn next<P: GracePlan, K: ChainRule, B: Site>(walker: &mut Walker<P, K, B>) -> Answer
-    requires flavour { P.QSBR ≡ B.qsbr }
     requires stands { Stands walker.old.reader.core walker.old.held }
     ensures { Stands walker.new.reader.core walker.new.held }
 {
@@ -104,7 +99,6 @@ fn next<P: GracePlan, K: ChainRule, B: Site>(walker: &mut Walker<P, K, B>) -> An
 
 /// `read`: refused with `NoPlace` where nothing was found last.
 fn read<P: GracePlan, K: ChainRule, B: Site>(walker: &mut Walker<P, K, B>) -> Answer
-    requires flavour { P.QSBR ≡ B.qsbr }
     requires stands { Stands walker.old.reader.core walker.old.held }
     ensures { Stands walker.new.reader.core walker.new.held }
 {
@@ -117,7 +111,6 @@ fn read<P: GracePlan, K: ChainRule, B: Site>(walker: &mut Walker<P, K, B>) -> An
 
 /// `read_word`: refused with `NoPlace` where nothing was found last, and at an index above 3.
 fn word<P: GracePlan, K: ChainRule, B: Site>(walker: &mut Walker<P, K, B>, index: usize) -> Answer
-    requires flavour { P.QSBR ≡ B.qsbr }
     requires stands { Stands walker.old.reader.core walker.old.held }
     ensures { Stands walker.new.reader.core walker.new.held }
 {
@@ -133,7 +126,6 @@ fn word<P: GracePlan, K: ChainRule, B: Site>(walker: &mut Walker<P, K, B>, index
 
 /// The calls of the quiescent-state flavour, which are refused while a lock is open.
 fn announce<P: GracePlan, K: ChainRule, B: Site>(walker: &mut Walker<P, K, B>, verb: Verb) -> Answer
-    requires flavour { P.QSBR ≡ B.qsbr }
     requires stands { Stands walker.old.reader.core walker.old.held }
     ensures { Stands walker.new.reader.core walker.new.held }
 {
@@ -142,7 +134,7 @@ fn announce<P: GracePlan, K: ChainRule, B: Site>(walker: &mut Walker<P, K, B>, v
         Verb::Quiescent => walker.reader.quiescent(),
         _ => walker.reader.offline(),
     };
-    if walker.reader.core.depth == 0 {
+    if walker.reader.core.depth() == 0 {
         walker.held = None;
     }
     done(made)
@@ -154,7 +146,6 @@ fn look<P: GracePlan, K: ChainRule, B: Site>(
     verb: Verb,
     number: usize,
 ) -> Answer
-    requires flavour { P.QSBR ≡ B.qsbr }
     requires stands { Stands walker.old.reader.core walker.old.held }
     ensures { Stands walker.new.reader.core walker.new.held }
 {
@@ -173,7 +164,6 @@ pub(crate) fn walk<P: GracePlan, K: ChainRule, B: Site>(
     verb: Verb,
     number: usize,
 ) -> Answer
-    requires flavour { P.QSBR ≡ B.qsbr }
     requires stands { Stands walker.old.reader.core walker.old.held }
     ensures { Stands walker.new.reader.core walker.new.held }
 {

@@ -4,7 +4,7 @@ use crate::codes::Code;
 use crate::plain;
 use call_text::{Answer, Called, Verb};
 use gp_memb::GracePlan;
-use rcu_hash::{ChainRule, Domain, Finished, Record, Site, Stop, WorkerEnd};
+use rcu_hash::{ChainRule, Domain, Finished, Handle, Site, Stop, WorkerEnd};
 use rcu_model::Refusal;
 use std::alloc::{AllocError, Global};
 use std::sync::Wait;
@@ -12,7 +12,7 @@ use std::sync::Wait;
 /// How many callbacks of a queue are queued and have not run.
 pub(crate) fn waiting<P: GracePlan + Drop, K: ChainRule, B: Site>(
     domain: &Domain<P, K, B, Code>,
-    record: &mut Record<B>,
+    record: &mut Handle<B>,
     queue: usize,
 ) -> u64 {
     let counts = plain::counts(domain, record);
@@ -25,7 +25,7 @@ pub(crate) fn waiting<P: GracePlan + Drop, K: ChainRule, B: Site>(
 /// Whether callbacks of any queue are queued and have not run.
 pub(crate) fn are_waiting<P: GracePlan + Drop, K: ChainRule, B: Site>(
     domain: &Domain<P, K, B, Code>,
-    record: &mut Record<B>,
+    record: &mut Handle<B>,
 ) -> bool {
     let counts = plain::counts(domain, record);
     counts.waiting.iter().any(|waiting| *waiting != 0)
@@ -58,7 +58,7 @@ fn run<P: GracePlan + Drop, K: ChainRule, B: Site, R: Wait>(
     rt: &R,
     alloc: Global,
     domain: &Domain<P, K, B, Code>,
-    record: &mut Record<B>,
+    record: &mut Handle<B>,
     room: Vec<Called>,
     verb: Verb,
     queue: usize,
@@ -83,7 +83,7 @@ pub(crate) fn worker_line<P: GracePlan + Drop, K: ChainRule, B: Site, R: Wait>(
     rt: &R,
     alloc: Global,
     domain: &Domain<P, K, B, Code>,
-    record: &mut Record<B>,
+    record: &mut Handle<B>,
     inside: bool,
     closed: bool,
     verb: Verb,

@@ -10,6 +10,7 @@ use Rattle.atomic_table.specs.declared.shared.Seat.{Seat}
 use Rattle.rcu_model.specs.declared.event.ObjectId.{ObjectId}
 use Rattle.rcu_model.specs.Sets.{In}
 use Rattle.callback_queue.specs.declared.item.Item.{Item}
+use Rattle.callback_queue.specs.declared.item.Ripe.{Ripe}
 use Rattle.call_rcu_worker.specs.declared.finished.Finished.{Finished}
 use Rattle.live_log.specs.declared.event.LiveEvent.{LiveEvent}
 use Rattle.live_log.specs.declared.event.LiveEvent.TheVariants.{Close}
@@ -24,7 +25,8 @@ use Rattle.live_words.specs.live_table.Steps.{IsKnown, Keeps, Went, looked_view}
 use Rattle.live_words.specs.live_queues.Queues.{IsAt}
 use Rattle.live_items.specs.Items.{InOrder, IsPlaced, JobValue}
 use Rattle.live_items.specs.Running.{KeepsFinds}
-use Rattle.live_reclaim.specs.Batches.{AreRunAs, IsDue, IsRunAs, Lists}
+use Rattle.live_reclaim.specs.Batches.{AreRunAs, IsRunAs, Lists}
+pub use Rattle.live_reclaim.proofs.Running.{all_and, all_later, due_later}
 use Rattle.domain.specs.declared.worker_end.Stop.{Stop}
 use Rattle.domain.specs.Working.{FoundUsedUp, GoesOn, HasMore, HasWorked, Looks, left_by}
 
@@ -37,42 +39,28 @@ ended_later mark old new b ended r n m at = subst (λ (l : Log). Has (Close r n)
 pub line_longer : (old new : Log) (q : ℕ) → Begins old new → length (line_of old q) ≤ length (line_of new q)
 line_longer old new q b = let g = line_grows old new q b in let e = ap (λ (l : List ObjectId). length l) g.1 ∙ length-append (line_of old q) g.0 in omega (arith, e)
 
-run_later : (q : ℕ) (old new : Log) (n : ℕ) (entry : Finished) → Begins old new → IsRunAs q old n entry → IsRunAs q new n entry
-run_later q old new n entry b x = record { ticket = x.ticket; turn = stands_later old new q n entry.object b x.turn; run = (grows_log old new b).reclaimed entry.object x.run }
-
-pub all_later : (q : ℕ) (old new : Log) (n : ℕ) (entries : List Finished) → Begins old new → AreRunAs q old n entries → AreRunAs q new n entries
-all_later q old new n [] b x = x
-all_later q old new n (e ∷ es) b x = (run_later q old new n e b x.0, all_later q old new (n + 1) es b x.1)
-
-pub all_and : (q : ℕ) (log : Log) (n m : ℕ) (entries : List Finished) (entry : Finished) → m ≡ n + length entries → AreRunAs q log n entries → IsRunAs q log m entry → AreRunAs q log n (entries ++ entry ∷ [])
-all_and q log n m [] entry e x r = (subst (λ (k : ℕ). IsRunAs q log k entry) (omega (arith, e)) r, x)
-all_and q log n m (z ∷ zs) entry e x r = (x.0, all_and q log (n + 1) m zs entry (omega (arith, e)) x.1 r)
-
-pub due_later : (q given : ℕ) (old new : Log) → Begins old new → IsDue q given old → IsDue q given new
-due_later q given old new b x = (x.0, begins_trans x.0 old new x.1 b, ended_later x.0 old new b x.2, x.3)
-
 -- of the list, in a later log
-pub list_later : (q : ℕ) (old new : Log) (first last : ℕ) (a b : List Finished) → Begins old new → b ≡ a → Lists q old first last a → Lists q new first last b
-list_later q old new first last a b x e l = subst (λ (z : List Finished). Lists q new first last z) (sym e) (all_later q old new first a x l.0, l.1)
+pub list_later : {D : Type 0} (answers : D → Ripe → ℕ → Type 0) (qsbr : Bool) (allows : Log → LiveEvent → Type 0) (q : ℕ) (old new : Log) (first last : ℕ) (a b : List Finished) → Begins old new → IsLiveRun qsbr allows new → b ≡ a → Lists answers q old first last a → Lists answers q new first last b
+list_later answers qsbr allows q old new first last a b x run e l = subst (λ (z : List Finished). Lists answers q new first last z) (sym e) (all_later answers qsbr allows q old new first a x run l.0, l.1)
 
 -- more were queued, as one knows who sees all that was seen and heard of
 pub more_known : (q n : ℕ) (v : View) (log : Log) → Begins v.seen log → Begins v.heard log → IsKnown (HasMore q n) v → HasMore q n log
 more_known q n v log seen heard known = ⊎_elim (λ (m : HasMore q n v.seen). let l = line_longer v.seen log q seen in omega (arith, m, l)) (λ (m : HasMore q n v.heard). let l = line_longer v.heard log q heard in omega (arith, m, l)) known
 
 -- what is left is so in a later log
-pub order_later : (q : ℕ) (old new : Log) (n : ℕ) (items : List (Item JobValue)) → Begins old new → InOrder q old n items → InOrder q new n items
+pub order_later : {D : Type 0} (q : ℕ) (old new : Log) (n : ℕ) (items : List (Item (JobValue D))) → Begins old new → InOrder q old n items → InOrder q new n items
 order_later q old new n [] b x = x
 order_later q old new n (i ∷ is) b x = (record { turn = x.0.turn; known = begins_trans i.job.0.seen old new x.0.known b; named = x.0.named }, order_later q old new (n + 1) is b x.1)
 
 -- and so is nothing
-pub none_in_order : (q : ℕ) (log : Log) (n : ℕ) (items : List (Item JobValue)) → items ≡ [] → InOrder q log n items
+pub none_in_order : {D : Type 0} (q : ℕ) (log : Log) (n : ℕ) (items : List (Item (JobValue D))) → items ≡ [] → InOrder q log n items
 none_in_order q log n items e = subst (InOrder q log n) (sym e) tt
 
 -- of a batch, whose last item comes first
-pub order_popped : (q : ℕ) (log : Log) (n : ℕ) (items rest : List (Item JobValue)) (item : Item JobValue) → items ≡ rest ++ item ∷ [] → InOrder q log n (reverse items) → IsPlaced q log n item × InOrder q log (n + 1) (reverse rest)
+pub order_popped : {D : Type 0} (q : ℕ) (log : Log) (n : ℕ) (items rest : List (Item (JobValue D))) (item : Item (JobValue D)) → items ≡ rest ++ item ∷ [] → InOrder q log n (reverse items) → IsPlaced q log n item × InOrder q log (n + 1) (reverse rest)
 order_popped q log n items rest item e o = subst (InOrder q log n) (ap reverse e ∙ reverse-append rest (item ∷ [])) o
 
-pub none_left : (items : List (Item JobValue)) → length items ≡ 0 → items ≡ []
+pub none_left : {D : Type 0} (items : List (Item (JobValue D))) → length items ≡ 0 → items ≡ []
 none_left [] e = refl
 none_left (x ∷ xs) e = absurd (omega (arith, e))
 
@@ -88,19 +76,19 @@ have_later q n old new b low ran k o less at =
     let same : there.0 ≡ o = some-injective there.0 o (sym (stands_later old new q k there.0 b there.1) ∙ at) in
     (grows_log old new b).reclaimed o (ran k o less (there.1 ∙ ap some same))
 
-one_more : (q : ℕ) (log : Log) (n : ℕ) (entry : Finished) → HaveRun q n log → IsRunAs q log n entry → HaveRun q (n + 1) log
-one_more q log n entry ran x k o less at = ⊎_elim
+one_more : {D : Type 0} (answers : D → Ripe → ℕ → Type 0) (q : ℕ) (log : Log) (n : ℕ) (entry : Finished) → HaveRun q n log → IsRunAs answers q log n entry → HaveRun q (n + 1) log
+one_more answers q log n entry ran x k o less at = ⊎_elim
     (λ (y : ((k == n) ≡ true) × (k ≡ n)). let same : entry.object ≡ o = some-injective entry.object o (sym x.turn ∙ (ap (λ (i : ℕ). get_elem? (line_of log q) i) (sym y.1) ∙ at)) in subst (λ (p : ObjectId). In (state_of log).reclaimed p) same x.run)
     (λ (y : ((k == n) ≡ false) × (k ≢ n)). let no = y.1 in ran k o (omega (arith, less, no)) at)
     (eqb_tells k n)
 
-all_through : (q : ℕ) (log : Log) (n m : ℕ) (entries : List Finished) → n + length entries ≡ m → HaveRun q n log → AreRunAs q log n entries → HaveRun q m log
-all_through q log n m [] e ran x = subst (λ (k : ℕ). HaveRun q k log) (omega (arith, e)) ran
-all_through q log n m (z ∷ zs) e ran x = all_through q log (n + 1) m zs (omega (arith, e)) (one_more q log n z ran x.0) x.1
+all_through : {D : Type 0} (answers : D → Ripe → ℕ → Type 0) (q : ℕ) (log : Log) (n m : ℕ) (entries : List Finished) → n + length entries ≡ m → HaveRun q n log → AreRunAs answers q log n entries → HaveRun q m log
+all_through answers q log n m [] e ran x = subst (λ (k : ℕ). HaveRun q k log) (omega (arith, e)) ran
+all_through answers q log n m (z ∷ zs) e ran x = all_through answers q log (n + 1) m zs (omega (arith, e)) (one_more answers q log n z ran x.0) x.1
 
 -- those that had run at the start have, and so have those of the list
-pub ran_through : (q : ℕ) (start log : Log) (first last : ℕ) (entries : List Finished) → Begins start log → first ≤ length (line_of start q) → HaveRun q first start → Lists q log first last entries → HaveRun q last log
-ran_through q start log first last entries b low ran l = all_through q log first last entries l.1 (have_later q first start log b low ran) l.0
+pub ran_through : {D : Type 0} (answers : D → Ripe → ℕ → Type 0) (q : ℕ) (start log : Log) (first last : ℕ) (entries : List Finished) → Begins start log → first ≤ length (line_of start q) → HaveRun q first start → Lists answers q log first last entries → HaveRun q last log
+ran_through answers q start log first last entries b low ran l = all_through answers q log first last entries l.1 (have_later q first start log b low ran) l.0
 
 finds_trans : (u v w : View) → KeepsFinds u v → KeepsFinds v w → KeepsFinds u w
 finds_trans u v w a b =
@@ -121,12 +109,12 @@ used_up_since first start log old between new b since e x = record {
   used_up = x.used_up;
 }
 
--- a seat worked that had seen as much as the witness and found nothing; the witness takes in what the seat found
-pub worked_for : (qsbr : Bool) (allows : Log → LiveEvent → Type 0) (key sizes : Sizes) (q : ℕ) (seen heard : Log) (v : View) (looks found before : Looks) (loads loaded earlier : List Log) (entries : List Finished) (items : List (Item JobValue)) (stop : Stop) (log : Log)
+-- a seat worked that had seen as much as the caller and found nothing; the caller takes in what the seat found
+pub worked_for : {D : Type 0} (answers : D → Ripe → ℕ → Type 0) (qsbr : Bool) (allows : Log → LiveEvent → Type 0) (key sizes : Sizes) (q : ℕ) (seen heard : Log) (v : View) (looks found before : Looks) (loads loaded earlier : List Log) (entries : List Finished) (items : List (Item (JobValue D))) (stop : Stop) (log : Log)
     → v ≡ bare sizes seen heard → looks ≡ found ++ before → loads ≡ loaded ++ earlier
-    → HasWorked qsbr allows key q v.seen v.heard v.looks found v.loads loaded entries items stop log
-    → HasWorked qsbr allows key q seen heard before looks earlier loads entries items stop log
-worked_for qsbr allows key sizes q seen heard v looks found before loads loaded earlier entries items stop log is looks_are loads_are h =
+    → HasWorked answers qsbr allows key q v.seen v.heard v.looks found v.loads loaded entries items stop log
+    → HasWorked answers qsbr allows key q seen heard before looks earlier loads entries items stop log
+worked_for answers qsbr allows key sizes q seen heard v looks found before loads loaded earlier entries items stop log is looks_are loads_are h =
     let x : ℕ × ℕ = (work_at key q, left_by stop) in
     let y : ℕ × ℕ = (finished_at key q, h.first) in
     let z : ℕ × ℕ = (work_at key q, 0) in

@@ -7,7 +7,7 @@ use Rattle.live_words.specs.live_rule.declared.view.View.{View}
 use Rattle.live_words.specs.live_rule.Views.{bare}
 use Rattle.live_status.specs.Status.{Looks, Stalls}
 
--- the witness takes in what the seat found
+-- the caller takes in what the seat found
 pub stalls_for : (qsbr : Bool) (allows : Log → LiveEvent → Type 0) (key sizes : Sizes) (seen heard : Log) (v : View) (earlier loaded loads : List Log) (before looked looks : Looks) (slots : List ℕ) (log : Log)
     → v ≡ bare sizes seen heard → loads ≡ loaded ++ earlier → looks ≡ looked ++ before
     → Stalls qsbr allows key v.seen v.heard v.loads loaded v.looks looked slots log

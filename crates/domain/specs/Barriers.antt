@@ -1,16 +1,25 @@
 -- What a barrier tells.
-use Rattle.std.specs.Prelude.{Bool}
+use Rattle.std.specs.Prelude.{Bool, ◌≡◌, ℕ, List, ◌++◌}
 use Rattle.live_log.specs.declared.event.LiveEvent.{LiveEvent}
 use Rattle.live_log.specs.Log.{Log, Begins}
+use Rattle.live_words.specs.live_rule.declared.view.Sizes.{Sizes}
+use Rattle.live_read.specs.declared.caller.Caller.{Ghosts}
 use Rattle.live_read.specs.Hearing.{IsAfter}
-use Rattle.live_barrier.specs.Barrier.{HaveAllRun}
+use Rattle.live_barrier.specs.Barrier.{AreNoted, HaveAllRun, HaveRunAsCounted}
 
--- All that was queued in `asked` has its Run in the log. `asked` is a log that comes after all that had been seen and
--- heard of; which one it is, no clause names.
-pub record Barred (qsbr : Bool) (allows : Log → LiveEvent → Type 0) (seen heard log : Log) : Type 0 where
+-- The barrier loaded how many each queue was given, before all else that it loaded, and as many of each queue have their
+-- Run in what its caller hears of then. So has all that was queued in `asked`, a log that comes after all that the
+-- caller had seen and heard of; which one it is, no clause names.
+pub record Barred {W S : Type 0} (w : Ghosts W S) (qsbr : Bool) (allows : Log → LiveEvent → Type 0) (key : Sizes) (old new : W) : Type 0 where
   pub asked : Log
-  pub after : Begins seen asked
-  pub after_heard : Begins heard asked
-  pub later : IsAfter qsbr allows seen heard log
-  pub since : Begins asked log
-  pub run : HaveAllRun asked log
+  pub after : Begins (w.seen old) asked
+  pub after_heard : Begins (w.heard old) asked
+  pub later : IsAfter qsbr allows (w.seen old) (w.heard old) (w.heard new)
+  pub since : Begins asked (w.heard new)
+  pub run : HaveAllRun asked (w.heard new)
+  pub counts : List ℕ
+  pub first_looks : List (ℕ × ℕ)
+  pub looks_since : List (ℕ × ℕ)
+  pub looked : w.looks new ≡ looks_since ++ (first_looks ++ w.looks old)
+  pub noted : AreNoted key counts key.queues first_looks
+  pub run_as_counted : HaveRunAsCounted key counts (w.heard new)

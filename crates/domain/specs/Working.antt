@@ -2,6 +2,7 @@
 use Rattle.std.specs.Prelude.{Bool, ◌≡◌, ◌≢◌, ℕ, ◌^◌, ◌<◌, ◌≤◌, List, [], ◌∷◌, ◌++◌, length}
 use Rattle.atomic_table.specs.declared.shared.Seat.{Seat}
 use Rattle.callback_queue.specs.declared.item.Item.{Item}
+use Rattle.callback_queue.specs.declared.item.Ripe.{Ripe}
 use Rattle.call_rcu_worker.specs.declared.finished.Finished.{Finished}
 use Rattle.live_log.specs.declared.event.LiveEvent.{LiveEvent}
 use Rattle.live_log.specs.Log.{Log, Begins, HaveRun, IsLiveRun, line_of, seq_of}
@@ -49,12 +50,12 @@ pub record FoundUsedUp (start log : Log) (old new : List Log) : Type 0 where
 abbrev pub HasMore : ℕ → ℕ → Log → Type 0
 HasMore q n log = n < length (line_of log q)
 
-module _ (qsbr : Bool) (allows : Log → LiveEvent → Type 0) (key : Sizes) (q : ℕ) where
+module _ {D : Type 0} (answers : D → Ripe → ℕ → Type 0) (qsbr : Bool) (allows : Log → LiveEvent → Type 0) (key : Sizes) (q : ℕ) where
   -- A worker began after all that had been seen and heard of, when the first so many were finished, and ran those that
-  -- came next, each in its turn. Where it was closed, no more were queued; where it was served, no more had been when it
+  -- came next, each in its turn: a deleter was called with each, and answered the code of its entry. Where it was closed, no more were queued; where it was served, no more had been when it
   -- began; and where memory was refused, more were. What is left comes next after them, and nothing is but where the
   -- numbers were used up.
-  pub record HasWorked (seen heard : Log) (old new : Looks) (old_loads new_loads : List Log) (entries : List Finished) (items : List (Item JobValue)) (stop : Stop) (log : Log) : Type 0 where
+  pub record HasWorked (seen heard : Log) (old new : Looks) (old_loads new_loads : List Log) (entries : List Finished) (items : List (Item (JobValue D))) (stop : Stop) (log : Log) : Type 0 where
     pub start : Log
     pub first : ℕ
     pub last : ℕ
@@ -66,7 +67,7 @@ module _ (qsbr : Bool) (allows : Log → LiveEvent → Type 0) (key : Sizes) (q 
     pub queued : first ≤ length (line_of start q)
     pub later : Begins start log
     pub run : IsLiveRun qsbr allows log
-    pub lists : Lists q log first last entries
+    pub lists : Lists answers q log first last entries
     pub through : HaveRun q last log
     pub left : InOrder q log last items
     pub nothing : stop ≢ Exhausted → items ≡ []

@@ -2,7 +2,7 @@
 
 ghost use Rattle.std.specs.Prelude.{◌≡◌, ◌++◌, IsTrue, List, MatchBool, ℕ};
 ghost use Rattle.live_log.specs.Log.{Begins};
-ghost use Rattle.live_barrier.specs.Barrier.{AreNoted, AreReached, HaveAllRun, WasLess, WereGiven};
+ghost use Rattle.live_barrier.specs.Barrier.{AreNoted, AreReached, HaveAllRun, HaveRunAsCounted, WasLess, WereGiven};
 ghost use Rattle.live_read.specs.Hearing.{IsAfter, Stays};
 ghost use Rattle.domain.specs.Barriers.{Barred};
 
@@ -10,7 +10,7 @@ use crate::domain::Domain;
 use crossbeam_utils::Backoff;
 use gp_memb::GracePlan;
 use live_barrier::BarrierMark;
-use live_read::{Site, Witness};
+use live_read::{Caller, Site};
 use live_reclaim::Deleter;
 use live_words::ChainRule;
 use std::sync::Wait;
@@ -19,49 +19,52 @@ impl<P: GracePlan + Drop, K: ChainRule, B: Site, D: Deleter> Domain<P, K, B, D> 
     /// Begins a barrier that nobody waits for: notes how many callbacks each queue was given, by the counts that it
     /// loads, which `looks` tells. The mark keeps a log that begins with all that the caller had seen and heard of. It
     /// never waits and takes no memory.
-    pub fn barrier_start<W: Witness>(&self, witness: &mut W) -> BarrierMark
-        requires { W.home witness.old ≡ (B.table, B.sizes) }
-        ensures asked { Begins (W.seen witness.old) result.asked.value.me.0.seen × Begins (W.heard witness.old) result.asked.value.me.0.seen × Begins result.asked.value.me.0.seen (W.heard witness.new) × (result.asked.value.me.0.sizes ≡ B.sizes) }
-        ensures given { WereGiven B.sizes result.counts (W.heard witness.new) }
-        ensures noted { (since : List (ℕ × ℕ)) × (W.looks witness.new ≡ since ++ W.looks witness.old) × AreNoted B.sizes result.counts B.sizes.queues since }
-        ensures heard { IsAfter P.QSBR K.allows (W.seen witness.old) (W.heard witness.old) (W.heard witness.new) }
-        ensures same { Stays W.Witness witness.old witness.new × (W.loads witness.new ≡ W.loads witness.old) }
+    pub fn barrier_start<W: Caller<B>>(&self, caller: &mut W) -> BarrierMark
+        ensures asked { Begins (W.seen caller.old) result.asked.value.me.0.seen × Begins (W.heard caller.old) result.asked.value.me.0.seen × Begins result.asked.value.me.0.seen (W.heard caller.new) × (result.asked.value.me.0.sizes ≡ B.sizes) }
+        ensures given { WereGiven B.sizes result.counts (W.heard caller.new) }
+        ensures noted { (since : List (ℕ × ℕ)) × (W.looks caller.new ≡ since ++ W.looks caller.old) × AreNoted B.sizes result.counts B.sizes.queues since }
+        ensures heard { IsAfter P.QSBR K.allows (W.seen caller.old) (W.heard caller.old) (W.heard caller.new) }
+        ensures same { Stays W.Caller caller.old caller.new × (W.loads caller.new ≡ W.loads caller.old) }
     {
-        let mut seat = witness.tell(&self.table);
+        let mut seat = caller.tell(&self.table);
         let mark = live_barrier::barrier_start(&self.table, &mut seat);
-        witness.learn(&self.table, seat);
+        caller.learn(&self.table, seat);
         mark
     }
 
     /// Whether a barrier is passed: true exactly where as many callbacks of each queue have finished as the mark noted,
-    /// by the finished counts that it loads, which `looks` tells. Then all that was queued in the mark's log has its
-    /// Run, where the caller had seen that log or heard of it. It never waits and takes no memory.
-    pub fn barrier_done<W: Witness>(&self, witness: &mut W, mark: &BarrierMark) -> bool
-        requires { W.home witness.old ≡ (B.table, B.sizes) }
-        ensures exact { (since : List (ℕ × ℕ)) × (W.looks witness.new ≡ since ++ W.looks witness.old) × MatchBool result (AreReached B.sizes mark.now.counts B.sizes.queues since) (WasLess B.sizes mark.now.counts since) }
-        ensures passed { IsTrue result → mark.now.asked.value.me.0.sizes ≡ B.sizes → Begins mark.now.asked.value.me.0.seen (W.heard witness.old) → HaveAllRun mark.now.asked.value.me.0.seen (W.heard witness.new) }
-        ensures heard { IsAfter P.QSBR K.allows (W.seen witness.old) (W.heard witness.old) (W.heard witness.new) }
-        ensures same { Stays W.Witness witness.old witness.new × (W.loads witness.new ≡ W.loads witness.old) }
+    /// by the finished counts that it loads, which `looks` tells.
+    ///
+    /// Then of each queue as many objects have their Run as the mark counted, whoever queued them. And all that was
+    /// queued in the mark's log has its Run, where the caller had seen that log or heard of it. It never waits and
+    /// takes no memory.
+    pub fn barrier_done<W: Caller<B>>(&self, caller: &mut W, mark: &BarrierMark) -> bool
+        ensures exact { (since : List (ℕ × ℕ)) × (W.looks caller.new ≡ since ++ W.looks caller.old) × MatchBool result (AreReached B.sizes mark.now.counts B.sizes.queues since) (WasLess B.sizes mark.now.counts since) }
+        ensures run { IsTrue result → HaveRunAsCounted B.sizes mark.now.counts (W.heard caller.new) }
+        ensures passed { IsTrue result → mark.now.asked.value.me.0.sizes ≡ B.sizes → Begins mark.now.asked.value.me.0.seen (W.heard caller.old) → HaveAllRun mark.now.asked.value.me.0.seen (W.heard caller.new) }
+        ensures heard { IsAfter P.QSBR K.allows (W.seen caller.old) (W.heard caller.old) (W.heard caller.new) }
+        ensures same { Stays W.Caller caller.old caller.new × (W.loads caller.new ≡ W.loads caller.old) }
     {
-        let mut seat = witness.tell(&self.table);
+        let mut seat = caller.tell(&self.table);
         let passed = live_barrier::barrier_done(&self.table, &mut seat, mark);
-        witness.learn(&self.table, seat);
+        caller.learn(&self.table, seat);
         passed
     }
 
-    /// Waits until all that was queued before the call has run, liburcu's `rcu_barrier`: each object that was queued in
-    /// what the caller had seen and heard of has its Run in the log that the caller hears of at the return. It waits
-    /// for the workers of all queues, with a back-off, so it is not called in a section or a callback. It takes no
-    /// memory.
-    pub fn barrier<W: Witness, R: Wait>(&self, rt: &R, witness: &mut W)
-        requires { W.home witness.old ≡ (B.table, B.sizes) }
-        ensures barred { Barred P.QSBR K.allows (W.seen witness.old) (W.heard witness.old) (W.heard witness.new) }
-        ensures same { Stays W.Witness witness.old witness.new × (W.loads witness.new ≡ W.loads witness.old) }
+    /// Waits until all that was queued before the call has run, liburcu's `rcu_barrier`. It loads how many callbacks
+    /// each queue was given, which `looks` tells. At the return as many objects of each queue have their Run in the log
+    /// that the caller hears of, whoever queued them. So has each object that was queued in what the caller knew.
+    ///
+    /// It waits for the workers of all queues, with a back-off, so it is not called in a section or a callback. It
+    /// takes no memory.
+    pub fn barrier<W: Caller<B>, R: Wait>(&self, rt: &R, caller: &mut W)
+        ensures barred { Barred W.Caller P.QSBR K.allows B.sizes caller.old caller.new }
+        ensures same { Stays W.Caller caller.old caller.new × (W.loads caller.new ≡ W.loads caller.old) }
     {
-        let mark = self.barrier_start(witness);
+        let mark = self.barrier_start(caller);
         let backoff = Backoff::new();
         for _ in rt.forever() {
-            if self.barrier_done(witness, &mark) {
+            if self.barrier_done(caller, &mark) {
                 return;
             }
             backoff.snooze();

@@ -9,6 +9,7 @@ ghost use Rattle.live_words.specs.live_table.Steps.{Keeps};
 ghost use Rattle.live_read.specs.Hearing.{FindsNothing, IsAfter, IsAsBefore, Stays};
 ghost use Rattle.live_read.specs.Holding.{log_of};
 ghost use Rattle.live_read.specs.Registering.{FindsAllClaimed, WasFree};
+ghost use Rattle.live_grace.specs.Answers.{EndedByThen};
 ghost use Rattle.domain.specs.Waiting.{LoadedOnce, Synchronized};
 
 use crate::grace_lock::GraceLock;
@@ -16,7 +17,7 @@ use crate::queue::Queue;
 use callback_queue::Callback;
 use gp_memb::GracePlan;
 use live_grace::{LiveCookie, ask};
-use live_read::{Reader, Record, Site, Witness};
+use live_read::{Caller, Handle, Reader, Site};
 use live_reclaim::Deleter;
 use live_words::{ChainRule, LiveSeat, LiveTable};
 use rcu_model::Refusal;
@@ -26,12 +27,12 @@ use std::sync::{Arc, Mutex, Wait};
 /// retired with a callback `D`, and its grace periods are waited for and polled. Threads share it by reference or by
 /// `Arc`.
 #[derive(Drop)]
-pub struct Domain<P: GracePlan, K: ChainRule, B: Site, D: Deleter = Callback> {
+pub struct Domain<P: GracePlan, K: ChainRule, B: Site, D: Drop = Callback> {
     pub(crate) table: Arc<LiveTable<P, K>>,
     pub(crate) grace: Mutex<GraceLock<P, B>>,
     pub(crate) queues: Vec<Queue<B, D>>,
     pub(crate) ghost queued: { (vec_len queues ≡ B.sizes.queues) × (1 ≤ B.sizes.queues) },
-    pub(crate) ghost named: { ((arc_value table).words.shared.table_id ≡ B.table) × ((arc_value table).words.shared.key ≡ B.sizes) × (P.QSBR ≡ B.qsbr) },
+    pub(crate) ghost named: { ((arc_value table).words.shared.table_id ≡ B.table) × ((arc_value table).words.shared.key ≡ B.sizes) },
 }
 
 impl<P: GracePlan + Drop, K: ChainRule, B: Site, D: Deleter> Domain<P, K, B, D> {
@@ -41,40 +42,37 @@ impl<P: GracePlan + Drop, K: ChainRule, B: Site, D: Deleter> Domain<P, K, B, D> 
     ///
     /// Refused with `NoSlot` only where the bit of every slot was found set: `looks` tells the words that it found. It
     /// takes no lock and no memory, and waits for nobody.
-    pub fn register<W: Witness, R: Wait>(
+    pub fn register<W: Caller<B>, R: Wait>(
         &self,
         rt: &R,
-        witness: &mut W,
+        caller: &mut W,
     ) -> Result<Reader<P, K, B>, Refusal>
-        requires { W.home witness.old ≡ (B.table, B.sizes) }
         ensures idle { IfOk result (λ r. (r.core.depth ≡ 0) × (r.core.locks ≡ 0) × (P.QSBR ≡ true → r.core.word ≡ 0)) }
         ensures slot { IfOk result (λ r. (r.core.slot < B.sizes.slots) × WasFree r.core.slot r.core.seat.me.0.looks) }
-        ensures told { IfOk result (λ r. IsAfter P.QSBR K.allows (W.seen witness.old) (W.heard witness.old) (log_of r.core)) }
-        ensures same { IfOk result (λ _. IsAsBefore W.Witness witness.old witness.new) }
-        ensures refused { IfErr result (λ e. (e ≡ NoSlot) × FindsAllClaimed B.sizes (W.looks witness.old) (W.looks witness.new)) }
-        ensures heard { IfErr result (λ _. IsAfter P.QSBR K.allows (W.seen witness.old) (W.heard witness.old) (W.heard witness.new)) }
-        ensures witness { Stays W.Witness witness.old witness.new × (W.loads witness.new ≡ W.loads witness.old) }
+        ensures told { IfOk result (λ r. IsAfter P.QSBR K.allows (W.seen caller.old) (W.heard caller.old) (log_of r.core)) }
+        ensures same { IfOk result (λ _. IsAsBefore W.Caller caller.old caller.new) }
+        ensures refused { IfErr result (λ e. (e ≡ NoSlot) × FindsAllClaimed B.sizes (W.looks caller.old) (W.looks caller.new)) }
+        ensures heard { IfErr result (λ _. IsAfter P.QSBR K.allows (W.seen caller.old) (W.heard caller.old) (W.heard caller.new)) }
+        ensures caller { Stays W.Caller caller.old caller.new × (W.loads caller.new ≡ W.loads caller.old) }
     {
-        Reader::register(rt, &self.table, witness)
+        Reader::register(rt, &self.table, caller)
     }
 
-    /// A record that has seen and heard as much as the witness, for another thread. It never waits.
-    pub fn split<W: Witness>(&self, witness: &mut W) -> Record<B>
-        requires { W.home witness.old ≡ (B.table, B.sizes) }
-        ensures told { (result.seat.me.0.seen ≡ W.seen witness.old) × (result.seat.me.0.heard ≡ W.heard witness.old) }
-        ensures same { IsAsBefore W.Witness witness.old witness.new }
+    /// A handle that has seen and heard as much as the caller, for another thread. It never waits.
+    pub fn split<W: Caller<B>>(&self, caller: &mut W) -> Handle<B>
+        ensures told { (result.seat.me.0.seen ≡ W.seen caller.old) × (result.seat.me.0.heard ≡ W.heard caller.old) }
+        ensures same { IsAsBefore W.Caller caller.old caller.new }
     {
-        Record::split(&self.table, witness)
+        Handle::split(&self.table, caller)
     }
 
-    /// The one witness hears what the other has seen and heard of, beside all that it had seen and heard of itself. It
+    /// The one caller hears what the other has seen and heard of, beside all that it had seen and heard of itself. It
     /// never waits.
-    pub fn inform<S: Witness, T: Witness>(&self, from: &mut S, to: &mut T)
-        requires { (S.home from.old ≡ (B.table, B.sizes)) × (T.home to.old ≡ (B.table, B.sizes)) }
+    pub fn inform<S: Caller<B>, T: Caller<B>>(&self, from: &mut S, to: &mut T)
         ensures told { Begins (S.seen from.old) (T.heard to.new) × Begins (S.heard from.old) (T.heard to.new) }
         ensures kept { IsAfter P.QSBR K.allows (T.seen to.old) (T.heard to.old) (T.heard to.new) }
-        ensures from { IsAsBefore S.Witness from.old from.new }
-        ensures to { FindsNothing T.Witness to.old to.new }
+        ensures from { IsAsBefore S.Caller from.old from.new }
+        ensures to { FindsNothing T.Caller to.old to.new }
     {
         live_read::inform(&self.table, from, to);
     }
@@ -97,15 +95,14 @@ impl<P: GracePlan + Drop, K: ChainRule, B: Site, D: Deleter> Domain<P, K, B, D> 
     /// section or lock open, and is offline where its reader is of the quiescent-state flavour.
     ///
     /// Refused with `Exhausted` exactly where the sequence number that its ask loads is at or above 2^62.
-    pub fn synchronize<W: Witness, R: Wait>(&self, rt: &R, witness: &mut W) -> Result<(), Refusal>
-        requires { W.home witness.old ≡ (B.table, B.sizes) }
-        ensures ended { IfOk result (λ _. Synchronized P.QSBR K.allows (W.seen witness.old) (W.heard witness.old) (W.loads witness.old) (W.loads witness.new) (W.heard witness.new)) }
-        ensures refused { IfErr result (λ e. (e ≡ Exhausted) × LoadedOnce P.QSBR K.allows (W.seen witness.old) (W.heard witness.old) (W.loads witness.old) (W.loads witness.new) (W.heard witness.new) × (2 ^ 62 ≤ seq_of (W.heard witness.new))) }
-        ensures witness { FindsNothing W.Witness witness.old witness.new }
+    pub fn synchronize<W: Caller<B>, R: Wait>(&self, rt: &R, caller: &mut W) -> Result<(), Refusal>
+        ensures ended { IfOk result (λ _. Synchronized P.QSBR K.allows (W.seen caller.old) (W.heard caller.old) (W.loads caller.old) (W.loads caller.new) (W.heard caller.new)) }
+        ensures refused { IfErr result (λ e. (e ≡ Exhausted) × LoadedOnce P.QSBR K.allows (W.seen caller.old) (W.heard caller.old) (W.loads caller.old) (W.loads caller.new) (W.heard caller.new) × (2 ^ 62 ≤ seq_of (W.heard caller.new))) }
+        ensures caller { FindsNothing W.Caller caller.old caller.new }
     {
-        let mut seat = witness.tell(&self.table);
+        let mut seat = caller.tell(&self.table);
         let answered = self.wait(rt, &mut seat);
-        witness.learn(&self.table, seat);
+        caller.learn(&self.table, seat);
         answered
     }
 
@@ -114,34 +111,33 @@ impl<P: GracePlan + Drop, K: ChainRule, B: Site, D: Deleter> Domain<P, K, B, D> 
     ///
     /// Refused with `Exhausted` exactly where the sequence number that it loads is at or above 2^62. It never waits and
     /// takes no memory.
-    pub fn start_poll<W: Witness>(&self, witness: &mut W) -> Result<LiveCookie, Refusal>
-        requires { W.home witness.old ≡ (B.table, B.sizes) }
-        ensures loaded { LoadedOnce P.QSBR K.allows (W.seen witness.old) (W.heard witness.old) (W.loads witness.old) (W.loads witness.new) (W.heard witness.new) }
-        ensures cookie { IfOk result (λ c. (c.asked.value.me.0.seen ≡ W.heard witness.new) × (cookie_for (seq_of (W.heard witness.new)) ≡ Ok c.cookie)) }
+    pub fn start_poll<W: Caller<B>>(&self, caller: &mut W) -> Result<LiveCookie, Refusal>
+        ensures loaded { LoadedOnce P.QSBR K.allows (W.seen caller.old) (W.heard caller.old) (W.loads caller.old) (W.loads caller.new) (W.heard caller.new) }
+        ensures cookie { IfOk result (λ c. (c.asked.value.me.0.seen ≡ W.heard caller.new) × (cookie_for (seq_of (W.heard caller.new)) ≡ Ok c.cookie)) }
         ensures refused { IfErr result (λ e. e ≡ Exhausted) }
-        ensures taken { IsOk result ↔ (seq_of (W.heard witness.new) < 2 ^ 62) }
-        ensures witness { FindsNothing W.Witness witness.old witness.new }
+        ensures taken { IsOk result ↔ (seq_of (W.heard caller.new) < 2 ^ 62) }
+        ensures caller { FindsNothing W.Caller caller.old caller.new }
     {
-        let mut seat = witness.tell(&self.table);
+        let mut seat = caller.tell(&self.table);
         let cookie = live_grace::start_poll(&self.table, &mut seat);
-        witness.learn(&self.table, seat);
+        caller.learn(&self.table, seat);
         cookie
     }
 
     /// Whether a grace period has passed since the cookie was taken, liburcu's `poll_state_synchronize_rcu`: true
     /// exactly where the sequence number that it loads is at or above the cookie. Then each section that was open in
-    /// the cookie's log has ended, where the caller had seen that log or heard of it. It never waits and takes no
-    /// memory.
-    pub fn poll<W: Witness>(&self, witness: &mut W, cookie: &LiveCookie) -> bool
-        requires { W.home witness.old ≡ (B.table, B.sizes) }
-        ensures loaded { LoadedOnce P.QSBR K.allows (W.seen witness.old) (W.heard witness.old) (W.loads witness.old) (W.loads witness.new) (W.heard witness.new) }
-        ensures exact { IsTrue result ↔ (cookie.now.cookie ≤ seq_of (W.heard witness.new)) }
-        ensures past { Begins cookie.now.asked.value.me.0.seen (W.heard witness.new) → IsTrue result → HaveEnded cookie.now.asked.value.me.0.seen (W.heard witness.new) }
-        ensures witness { FindsNothing W.Witness witness.old witness.new }
+    /// the cookie's log has ended, where the caller had seen that log or heard of it. So it has for a caller who hears
+    /// of that log later. It never waits and takes no memory.
+    pub fn poll<W: Caller<B>>(&self, caller: &mut W, cookie: &LiveCookie) -> bool
+        ensures loaded { LoadedOnce P.QSBR K.allows (W.seen caller.old) (W.heard caller.old) (W.loads caller.old) (W.loads caller.new) (W.heard caller.new) }
+        ensures exact { IsTrue result ↔ (cookie.now.cookie ≤ seq_of (W.heard caller.new)) }
+        ensures later { IsTrue result → EndedByThen P.QSBR K.allows cookie.now.asked.value.me.0.seen (W.heard caller.new) }
+        ensures past { Begins cookie.now.asked.value.me.0.seen (W.heard caller.new) → IsTrue result → HaveEnded cookie.now.asked.value.me.0.seen (W.heard caller.new) }
+        ensures caller { FindsNothing W.Caller caller.old caller.new }
     {
-        let mut seat = witness.tell(&self.table);
+        let mut seat = caller.tell(&self.table);
         let past = live_grace::poll(&self.table, &mut seat, cookie);
-        witness.learn(&self.table, seat);
+        caller.learn(&self.table, seat);
         past
     }
 }

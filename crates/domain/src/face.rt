@@ -14,7 +14,7 @@ ghost use Rattle.domain.specs.Waiting.{LoadedOnce, Synchronized};
 use crate::domain::Domain;
 use callback_queue::Ticket;
 use gp_memb::GracePlan;
-use live_read::{Site, Witness};
+use live_read::{Caller, Site};
 use live_reclaim::Deleter;
 use live_words::ChainRule;
 use live_write::Unlinked;
@@ -25,44 +25,41 @@ impl<P: GracePlan + Drop, K: ChainRule, B: Site, D: Deleter> Domain<P, K, B, D> 
     /// [saferecl.rcu]'s `rcu_synchronize`: `synchronize`.
     ///
     /// Refused with `Exhausted`, as that.
-    pub fn rcu_synchronize<W: Witness, R: Wait>(
+    pub fn rcu_synchronize<W: Caller<B>, R: Wait>(
         &self,
         rt: &R,
-        witness: &mut W,
+        caller: &mut W,
     ) -> Result<(), Refusal>
-        requires { W.home witness.old ≡ (B.table, B.sizes) }
-        ensures ended { IfOk result (λ _. Synchronized P.QSBR K.allows (W.seen witness.old) (W.heard witness.old) (W.loads witness.old) (W.loads witness.new) (W.heard witness.new)) }
-        ensures refused { IfErr result (λ e. (e ≡ Exhausted) × LoadedOnce P.QSBR K.allows (W.seen witness.old) (W.heard witness.old) (W.loads witness.old) (W.loads witness.new) (W.heard witness.new) × (2 ^ 62 ≤ seq_of (W.heard witness.new))) }
-        ensures witness { FindsNothing W.Witness witness.old witness.new }
+        ensures ended { IfOk result (λ _. Synchronized P.QSBR K.allows (W.seen caller.old) (W.heard caller.old) (W.loads caller.old) (W.loads caller.new) (W.heard caller.new)) }
+        ensures refused { IfErr result (λ e. (e ≡ Exhausted) × LoadedOnce P.QSBR K.allows (W.seen caller.old) (W.heard caller.old) (W.loads caller.old) (W.loads caller.new) (W.heard caller.new) × (2 ^ 62 ≤ seq_of (W.heard caller.new))) }
+        ensures caller { FindsNothing W.Caller caller.old caller.new }
     {
-        self.synchronize(rt, witness)
+        self.synchronize(rt, caller)
     }
 
     /// [saferecl.rcu]'s `rcu_barrier`: `barrier`.
-    pub fn rcu_barrier<W: Witness, R: Wait>(&self, rt: &R, witness: &mut W)
-        requires { W.home witness.old ≡ (B.table, B.sizes) }
-        ensures barred { Barred P.QSBR K.allows (W.seen witness.old) (W.heard witness.old) (W.heard witness.new) }
-        ensures same { Stays W.Witness witness.old witness.new × (W.loads witness.new ≡ W.loads witness.old) }
+    pub fn rcu_barrier<W: Caller<B>, R: Wait>(&self, rt: &R, caller: &mut W)
+        ensures barred { Barred W.Caller P.QSBR K.allows B.sizes caller.old caller.new }
+        ensures same { Stays W.Caller caller.old caller.new × (W.loads caller.new ≡ W.loads caller.old) }
     {
-        self.barrier(rt, witness);
+        self.barrier(rt, caller);
     }
 
     /// [saferecl.rcu]'s `rcu_retire`: `retire`.
     ///
     /// Refused with `Closed` or `Memory`, as that; then both parts come back.
-    pub fn rcu_retire<W: Witness, R: Wait>(
+    pub fn rcu_retire<W: Caller<B>, R: Wait>(
         &self,
         rt: &R,
-        witness: &mut W,
+        caller: &mut W,
         unlinked: Unlinked<B>,
         callback: D,
     ) -> Result<Ticket, (Refusal, Unlinked<B>, D)>
-        requires { W.home witness.old ≡ (B.table, B.sizes) }
-        ensures queued { IfOk result (λ t. (given : ℕ) × (t.0 ≡ given + 1) × Queues P.QSBR K.allows (IsAfterAll unlinked.seat.me.0.seen (W.seen witness.old) (W.heard witness.old)) (object_in unlinked.seat.me.0.object) (unlinked.chain % B.sizes.queues) given (W.heard witness.new)) }
-        ensures same { IfOk result (λ _. OnlyHears W.Witness witness.old witness.new) }
-        ensures refused { IfErr result (λ e. RefusesRetirement W.Witness P.QSBR K.allows B.sizes (unlinked.chain % B.sizes.queues) witness.old witness.new e.0) }
+        ensures queued { IfOk result (λ t. (given : ℕ) × (t.0 ≡ given + 1) × Queues P.QSBR K.allows (IsAfterAll unlinked.seat.me.0.seen (W.seen caller.old) (W.heard caller.old)) (object_in unlinked.seat.me.0.object) (unlinked.chain % B.sizes.queues) given (W.heard caller.new)) }
+        ensures same { IfOk result (λ _. OnlyHears W.Caller caller.old caller.new) }
+        ensures refused { IfErr result (λ e. RefusesRetirement W.Caller P.QSBR K.allows B.sizes (unlinked.chain % B.sizes.queues) caller.old caller.new e.0) }
         ensures back { IfErr result (λ e. (e.1 ≡ unlinked) × (e.2 ≡ callback)) }
     {
-        self.retire(rt, witness, unlinked, callback)
+        self.retire(rt, caller, unlinked, callback)
     }
 }

@@ -23,7 +23,7 @@ pub use domain::Domain;
 pub use live_barrier::BarrierMark;
 pub use live_grace::LiveCookie;
 pub use live_items::Job;
-pub use live_read::{Held, Reader, Record, Section, Site, Witness, readings_fit};
+pub use live_read::{Caller, Handle, Held, Reader, Section, Site, readings_fit};
 pub use live_reclaim::Deleter;
 pub use live_status::Counts;
 pub use live_words::{AnyChain, ChainRule, Keyed, Tabled};

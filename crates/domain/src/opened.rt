@@ -10,7 +10,7 @@ use crate::domain::Domain;
 use crate::grace_lock::GraceLock;
 use crate::queue::queues_of;
 use gp_memb::GracePlan;
-use live_read::{Record, Site};
+use live_read::{Handle, Site};
 use live_reclaim::Deleter;
 use live_words::{ChainRule, LiveSeat, LiveTable};
 use rcu_model::Refusal;
@@ -52,7 +52,7 @@ impl<P: GracePlan + Drop, K: ChainRule> Opened<P, K> {
         Ok(Opened { table, seat })
     }
 
-    /// The domain under this name, none of whose slots is claimed, and the first record, which has seen nothing yet.
+    /// The domain under this name, none of whose slots is claimed, and the first handle, which has seen nothing yet.
     /// `D` is what is called with each object that is reclaimed:
     /// the boxed `Callback`, or a type of the program's own.
     ///
@@ -60,8 +60,8 @@ impl<P: GracePlan + Drop, K: ChainRule> Opened<P, K> {
     pub fn named<B: Site, D: Deleter>(
         self,
         alloc: Global,
-    ) -> Result<(Domain<P, K, B, D>, Record<B>), Refusal>
-        requires { (P.QSBR ≡ B.qsbr) × (self.table.words.shared.table_id ≡ B.table) × (self.table.words.shared.key ≡ B.sizes) }
+    ) -> Result<(Domain<P, K, B, D>, Handle<B>), Refusal>
+        requires { (self.table.words.shared.table_id ≡ B.table) × (self.table.words.shared.key ≡ B.sizes) }
         ensures ok { IfOk result (λ made. (made.1.seat.me.0.seen ≡ []) × (made.1.seat.me.0.heard ≡ [])) }
         ensures err { IfErr result (λ e. e ≡ Memory) }
     {
@@ -73,7 +73,7 @@ impl<P: GracePlan + Drop, K: ChainRule> Opened<P, K> {
         let Ok(queues) = queues_of(alloc, &table, &mut seat) else {
             return Err(Refusal::Memory);
         };
-        let record = Record::new(table.tell(&mut seat));
+        let record = Handle::new(table.tell(&mut seat));
         Ok((
             Domain {
                 table,

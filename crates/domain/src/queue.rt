@@ -16,7 +16,7 @@ use std::sync::{Mutex, MutexGuard, Wait};
 
 /// A queue of callbacks under its lock, and where its worker rests while nothing is to be done.
 #[derive(Drop)]
-pub(crate) struct Queue<B: Site, D: Deleter> {
+pub(crate) struct Queue<B: Site, D: Drop> {
     pub(crate) items: Mutex<Items<B, D>>,
     /// Only the queue's worker takes this lock, while it rests.
     pub(crate) parker: Mutex<Parker>,

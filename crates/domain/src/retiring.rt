@@ -17,7 +17,7 @@ use crate::domain::Domain;
 use crate::writing::Chain;
 use callback_queue::Ticket;
 use gp_memb::GracePlan;
-use live_read::{Site, Witness};
+use live_read::{Caller, Site};
 use live_reclaim::{Deleter, refusal_of};
 use live_words::ChainRule;
 use live_write::{Owned, Unlinked};
@@ -39,29 +39,28 @@ impl<P: GracePlan + Drop, K: ChainRule, B: Site, D: Deleter> Domain<P, K, B, D> 
     ///
     /// Refused with `Closed` exactly where the queue's closed word is 1, which `looks` tells, else with `Memory` where
     /// memory is; then both parts come back. It waits for the queue's lock alone.
-    pub fn retire<W: Witness, R: Wait>(
+    pub fn retire<W: Caller<B>, R: Wait>(
         &self,
         rt: &R,
-        witness: &mut W,
+        caller: &mut W,
         unlinked: Unlinked<B>,
         callback: D,
     ) -> Result<Ticket, (Refusal, Unlinked<B>, D)>
-        requires { W.home witness.old ≡ (B.table, B.sizes) }
-        ensures queued { IfOk result (λ t. (given : ℕ) × (t.0 ≡ given + 1) × Queues P.QSBR K.allows (IsAfterAll unlinked.seat.me.0.seen (W.seen witness.old) (W.heard witness.old)) (object_in unlinked.seat.me.0.object) (unlinked.chain % B.sizes.queues) given (W.heard witness.new)) }
-        ensures same { IfOk result (λ _. OnlyHears W.Witness witness.old witness.new) }
-        ensures refused { IfErr result (λ e. RefusesRetirement W.Witness P.QSBR K.allows B.sizes (unlinked.chain % B.sizes.queues) witness.old witness.new e.0) }
+        ensures queued { IfOk result (λ t. (given : ℕ) × (t.0 ≡ given + 1) × Queues P.QSBR K.allows (IsAfterAll unlinked.seat.me.0.seen (W.seen caller.old) (W.heard caller.old)) (object_in unlinked.seat.me.0.object) (unlinked.chain % B.sizes.queues) given (W.heard caller.new)) }
+        ensures same { IfOk result (λ _. OnlyHears W.Caller caller.old caller.new) }
+        ensures refused { IfErr result (λ e. RefusesRetirement W.Caller P.QSBR K.allows B.sizes (unlinked.chain % B.sizes.queues) caller.old caller.new e.0) }
         ensures back { IfErr result (λ e. (e.1 ≡ unlinked) × (e.2 ≡ callback)) }
     {
         let number = self.queue_of(unlinked.chain());
         let queue = &self.queues[number];
         let mut items = queue.lock(rt, number);
-        match items.retire(&self.table, witness, unlinked, callback) {
+        match items.retire(&self.table, caller, unlinked, callback) {
             Ok(ticket) => {
                 queue.unparker.unpark();
                 Ok(ticket)
             }
             Err((_, unlinked, callback)) => {
-                let refusal = refusal_of(&self.table, witness, number);
+                let refusal = refusal_of(&self.table, caller, number);
                 Err((refusal, unlinked, callback))
             }
         }
@@ -73,19 +72,18 @@ impl<P: GracePlan + Drop, K: ChainRule, B: Site, D: Deleter> Domain<P, K, B, D> 
     ///
     /// Refused with `NoPlace` exactly where the index is not below the chain's length, else as `retire`; then the chain
     /// is as it was, and the callback comes back. It waits for the queue's lock alone.
-    pub fn cut_retire<W: Witness, R: Wait>(
+    pub fn cut_retire<W: Caller<B>, R: Wait>(
         &self,
         rt: &R,
-        witness: &mut W,
+        caller: &mut W,
         chain: &mut Chain<'_, P, K, B, D>,
         index: usize,
         callback: D,
     ) -> Result<Ticket, (Refusal, D)>
-        requires home { W.home witness.old ≡ (B.table, B.sizes) }
-        requires rule { (o : ObjectId) → slice_get (list_in chain.old.seat.me.0) index ≡ Some o → MayPublish P.QSBR K.allows chain.old.seat.me.0 (W.seen witness.old) (W.heard witness.old) [] (cut_of o chain.old.seat.me.0) }
-        ensures retired { IfOk result (λ t. Retires P.QSBR K.allows chain.old.seat.me.0 chain.new.seat.me.0 (W.seen witness.old) (W.heard witness.old) [] index (λ o. cut_of o chain.old.seat.me.0) (λ o. without_object o (list_in chain.old.seat.me.0)) (chain.old.number % B.sizes.queues) t.0 (W.heard witness.new)) }
-        ensures same { IfOk result (λ _. OnlyMakesLast W.Witness witness.old witness.new chain.new.seat.me.0.seen × (chain.new.number ≡ chain.old.number) × (chain.new.home.now ≡ chain.old.home.now)) }
-        ensures refused { IfErr result (λ e. ((e.0 ≡ NoPlace) × (length (list_in chain.old.seat.me.0) ≤ index) × (witness.new ≡ witness.old)) ⊎ ((index < length (list_in chain.old.seat.me.0)) × RefusesRetirement W.Witness P.QSBR K.allows B.sizes (chain.old.number % B.sizes.queues) witness.old witness.new e.0)) }
+        requires rule { (o : ObjectId) → slice_get (list_in chain.old.seat.me.0) index ≡ Some o → MayPublish P.QSBR K.allows chain.old.seat.me.0 (W.seen caller.old) (W.heard caller.old) [] (cut_of o chain.old.seat.me.0) }
+        ensures retired { IfOk result (λ t. Retires P.QSBR K.allows chain.old.seat.me.0 chain.new.seat.me.0 (W.seen caller.old) (W.heard caller.old) [] index (λ o. cut_of o chain.old.seat.me.0) (λ o. without_object o (list_in chain.old.seat.me.0)) (chain.old.number % B.sizes.queues) t.0 (W.heard caller.new)) }
+        ensures same { IfOk result (λ _. OnlyMakesLast W.Caller caller.old caller.new chain.new.seat.me.0.seen × (chain.new.number ≡ chain.old.number) × (chain.new.home.now ≡ chain.old.home.now)) }
+        ensures refused { IfErr result (λ e. ((e.0 ≡ NoPlace) × (length (list_in chain.old.seat.me.0) ≤ index) × (caller.new ≡ caller.old)) ⊎ ((index < length (list_in chain.old.seat.me.0)) × RefusesRetirement W.Caller P.QSBR K.allows B.sizes (chain.old.number % B.sizes.queues) caller.old caller.new e.0)) }
         ensures back { IfErr result (λ e. (e.1 ≡ callback) × (chain.new ≡ chain.old)) }
     {
         if index >= chain.len() {
@@ -95,12 +93,12 @@ impl<P: GracePlan + Drop, K: ChainRule, B: Site, D: Deleter> Domain<P, K, B, D> 
         let queue = &self.queues[number];
         let mut items = queue.lock(rt, number);
         if items.prepare().is_err() {
-            return Err((refusal_of(&self.table, witness, number), callback));
+            return Err((refusal_of(&self.table, caller, number), callback));
         }
-        let Ok(unlinked) = chain.cut(witness, index) else {
+        let Ok(unlinked) = chain.cut(caller, index) else {
             unreachable!()
         };
-        match items.retire(&self.table, witness, unlinked, callback) {
+        match items.retire(&self.table, caller, unlinked, callback) {
             Ok(ticket) => {
                 queue.unparker.unpark();
                 Ok(ticket)
@@ -116,20 +114,19 @@ impl<P: GracePlan + Drop, K: ChainRule, B: Site, D: Deleter> Domain<P, K, B, D> 
     ///
     /// Refused with `NoPlace` exactly where the index is not below the chain's length, else as `retire`; then the chain
     /// is as it was, and the record and the callback come back. It waits for the queue's lock alone.
-    pub fn replace_retire<W: Witness, R: Wait>(
+    pub fn replace_retire<W: Caller<B>, R: Wait>(
         &self,
         rt: &R,
-        witness: &mut W,
+        caller: &mut W,
         chain: &mut Chain<'_, P, K, B, D>,
         index: usize,
         owned: Owned<B>,
         callback: D,
     ) -> Result<Ticket, (Refusal, Owned<B>, D)>
-        requires home { W.home witness.old ≡ (B.table, B.sizes) }
-        requires rule { (o : ObjectId) → slice_get (list_in chain.old.seat.me.0) index ≡ Some o → MayPublish P.QSBR K.allows chain.old.seat.me.0 (W.seen witness.old) (W.heard witness.old) owned.seat.me.0.seen (replace_by o chain.old.seat.me.0 owned.seat.me.0) }
-        ensures retired { IfOk result (λ t. Retires P.QSBR K.allows chain.old.seat.me.0 chain.new.seat.me.0 (W.seen witness.old) (W.heard witness.old) owned.seat.me.0.seen index (λ o. replace_by o chain.old.seat.me.0 owned.seat.me.0) (λ o. replaced o (object_in owned.seat.me.0.object) (list_in chain.old.seat.me.0)) (chain.old.number % B.sizes.queues) t.0 (W.heard witness.new)) }
-        ensures same { IfOk result (λ _. OnlyMakesLast W.Witness witness.old witness.new chain.new.seat.me.0.seen × (chain.new.number ≡ chain.old.number) × (chain.new.home.now ≡ chain.old.home.now)) }
-        ensures refused { IfErr result (λ e. ((e.0 ≡ NoPlace) × (length (list_in chain.old.seat.me.0) ≤ index) × (witness.new ≡ witness.old)) ⊎ ((index < length (list_in chain.old.seat.me.0)) × RefusesRetirement W.Witness P.QSBR K.allows B.sizes (chain.old.number % B.sizes.queues) witness.old witness.new e.0)) }
+        requires rule { (o : ObjectId) → slice_get (list_in chain.old.seat.me.0) index ≡ Some o → MayPublish P.QSBR K.allows chain.old.seat.me.0 (W.seen caller.old) (W.heard caller.old) owned.seat.me.0.seen (replace_by o chain.old.seat.me.0 owned.seat.me.0) }
+        ensures retired { IfOk result (λ t. Retires P.QSBR K.allows chain.old.seat.me.0 chain.new.seat.me.0 (W.seen caller.old) (W.heard caller.old) owned.seat.me.0.seen index (λ o. replace_by o chain.old.seat.me.0 owned.seat.me.0) (λ o. replaced o (object_in owned.seat.me.0.object) (list_in chain.old.seat.me.0)) (chain.old.number % B.sizes.queues) t.0 (W.heard caller.new)) }
+        ensures same { IfOk result (λ _. OnlyMakesLast W.Caller caller.old caller.new chain.new.seat.me.0.seen × (chain.new.number ≡ chain.old.number) × (chain.new.home.now ≡ chain.old.home.now)) }
+        ensures refused { IfErr result (λ e. ((e.0 ≡ NoPlace) × (length (list_in chain.old.seat.me.0) ≤ index) × (caller.new ≡ caller.old)) ⊎ ((index < length (list_in chain.old.seat.me.0)) × RefusesRetirement W.Caller P.QSBR K.allows B.sizes (chain.old.number % B.sizes.queues) caller.old caller.new e.0)) }
         ensures back { IfErr result (λ e. (e.1 ≡ owned) × (e.2 ≡ callback) × (chain.new ≡ chain.old)) }
     {
         if index >= chain.len() {
@@ -139,12 +136,12 @@ impl<P: GracePlan + Drop, K: ChainRule, B: Site, D: Deleter> Domain<P, K, B, D> 
         let queue = &self.queues[number];
         let mut items = queue.lock(rt, number);
         if items.prepare().is_err() {
-            return Err((refusal_of(&self.table, witness, number), owned, callback));
+            return Err((refusal_of(&self.table, caller, number), owned, callback));
         }
-        let Ok(unlinked) = chain.replace(witness, index, owned) else {
+        let Ok(unlinked) = chain.replace(caller, index, owned) else {
             unreachable!()
         };
-        match items.retire(&self.table, witness, unlinked, callback) {
+        match items.retire(&self.table, caller, unlinked, callback) {
             Ok(ticket) => {
                 queue.unparker.unpark();
                 Ok(ticket)
@@ -155,15 +152,14 @@ impl<P: GracePlan + Drop, K: ChainRule, B: Site, D: Deleter> Domain<P, K, B, D> 
 
     /// Closes all queues: every later retirement is refused, and what is queued still runs. The caller hears of that.
     /// It takes no memory, and waits for the queues' locks alone.
-    pub fn close<W: Witness, R: Wait>(&self, rt: &R, witness: &mut W)
-        requires { W.home witness.old ≡ (B.table, B.sizes) }
-        ensures closed { (q : ℕ) → q < B.sizes.queues → closed_of q (W.heard witness.new) ≡ 1 }
-        ensures after { IsAfter P.QSBR K.allows (W.seen witness.old) (W.heard witness.old) (W.heard witness.new) }
-        ensures same { OnlyHears W.Witness witness.old witness.new }
+    pub fn close<W: Caller<B>, R: Wait>(&self, rt: &R, caller: &mut W)
+        ensures closed { (q : ℕ) → q < B.sizes.queues → closed_of q (W.heard caller.new) ≡ 1 }
+        ensures after { IsAfter P.QSBR K.allows (W.seen caller.old) (W.heard caller.old) (W.heard caller.new) }
+        ensures same { OnlyHears W.Caller caller.old caller.new }
     {
         for number in 0..self.queues.len() {
             let queue = &self.queues[number];
-            queue.lock(rt, number).close(&self.table, witness);
+            queue.lock(rt, number).close(&self.table, caller);
             queue.unparker.unpark();
         }
     }

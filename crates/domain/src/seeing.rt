@@ -9,7 +9,7 @@ ghost use Rattle.domain.specs.Waiting.{LoadedOnce};
 
 use crate::domain::Domain;
 use gp_memb::GracePlan;
-use live_read::{Site, Witness};
+use live_read::{Caller, Site};
 use live_reclaim::Deleter;
 use live_status::{Counts, count_all};
 use live_words::ChainRule;
@@ -27,15 +27,14 @@ impl<P: GracePlan + Drop, K: ChainRule, B: Site, D: Deleter> Domain<P, K, B, D> 
     /// How full the domain is: how many records are in use, how many retired objects of each queue have not run, and
     /// the sequence number. The counts are loaded one after another, so they are of different moments of the call. It
     /// takes as long as the pool is large; it never waits and takes no memory.
-    pub fn counts<W: Witness>(&self, witness: &mut W) -> Counts
-        requires { W.home witness.old ≡ (B.table, B.sizes) }
-        ensures counted { (found : Looks) × (W.looks witness.new ≡ found ++ W.looks witness.old) × Counted B.sizes found result }
-        ensures seq { LoadedOnce P.QSBR K.allows (W.seen witness.old) (W.heard witness.old) (W.loads witness.old) (W.loads witness.new) (W.heard witness.new) × (seq_of (W.heard witness.new) ≡ result.seq) }
-        ensures same { Stays W.Witness witness.old witness.new }
+    pub fn counts<W: Caller<B>>(&self, caller: &mut W) -> Counts
+        ensures counted { (found : Looks) × (W.looks caller.new ≡ found ++ W.looks caller.old) × Counted B.sizes found result }
+        ensures seq { LoadedOnce P.QSBR K.allows (W.seen caller.old) (W.heard caller.old) (W.loads caller.old) (W.loads caller.new) (W.heard caller.new) × (seq_of (W.heard caller.new) ≡ result.seq) }
+        ensures same { Stays W.Caller caller.old caller.new }
     {
-        let mut seat = witness.tell(&self.table);
+        let mut seat = caller.tell(&self.table);
         let counts = count_all(&self.table, &mut seat);
-        witness.learn(&self.table, seat);
+        caller.learn(&self.table, seat);
         counts
     }
 
@@ -44,15 +43,18 @@ impl<P: GracePlan + Drop, K: ChainRule, B: Site, D: Deleter> Domain<P, K, B, D> 
     /// was open; none does where no grace period runs.
     ///
     /// Refused with `Memory` where the list's memory is refused; then nothing was loaded. It never waits.
-    pub fn stalled<W: Witness>(&self, alloc: Global, witness: &mut W) -> Result<Vec<usize>, Refusal>
-        requires { W.home witness.old ≡ (B.table, B.sizes) }
-        ensures told { IfOk result (λ slots. Stalls P.QSBR K.allows B.sizes (W.seen witness.old) (W.heard witness.old) (W.loads witness.old) (W.loads witness.new) (W.looks witness.old) (W.looks witness.new) slots.items (W.heard witness.new)) }
-        ensures refused { IfErr result (λ e. (e ≡ Memory) × IsAsBefore W.Witness witness.old witness.new) }
-        ensures same { Stays W.Witness witness.old witness.new }
+    pub fn stalled<W: Caller<B>>(
+        &self,
+        alloc: Global,
+        caller: &mut W,
+    ) -> Result<Vec<usize>, Refusal>
+        ensures told { IfOk result (λ slots. Stalls P.QSBR K.allows B.sizes (W.seen caller.old) (W.heard caller.old) (W.loads caller.old) (W.loads caller.new) (W.looks caller.old) (W.looks caller.new) slots.items (W.heard caller.new)) }
+        ensures refused { IfErr result (λ e. (e ≡ Memory) × IsAsBefore W.Caller caller.old caller.new) }
+        ensures same { Stays W.Caller caller.old caller.new }
     {
-        let mut seat = witness.tell(&self.table);
+        let mut seat = caller.tell(&self.table);
         let slots = live_status::stalled(alloc, &self.table, &mut seat)?;
-        witness.learn(&self.table, seat);
+        caller.learn(&self.table, seat);
         Ok(slots)
     }
 }

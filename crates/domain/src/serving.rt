@@ -21,7 +21,7 @@ use call_rcu_worker::Finished;
 use callback_queue::Item;
 use gp_memb::GracePlan;
 use live_items::Job;
-use live_read::{Site, Witness};
+use live_read::{Caller, Site};
 use live_reclaim::{Deleter, begin_work};
 use live_words::{ChainRule, LiveSeat, end_work, free_work, load_queued};
 use rcu_model::Refusal;
@@ -54,7 +54,7 @@ impl<P: GracePlan + Drop, K: ChainRule, B: Site, D: Deleter> Domain<P, K, B, D> 
         requires left { left.old.items ≡ [] }
         ensures seat { GoesOn P.QSBR K.allows seat.old seat.new }
         ensures work { WorksFor queue result.0 seat.new.me.0 }
-        ensures list { Lists queue seat.new.me.0.seen first result.0 list.new.items }
+        ensures list { Lists D.answers queue seat.new.me.0.seen first result.0 list.new.items }
         ensures left { InOrder queue seat.new.me.0.heard result.0 left.new.items × (result.1 ≢ stopped.Exhausted → left.new.items ≡ []) }
         ensures served { result.1 ≡ stopped.Served → length (line_of seat.old.me.0.seen queue) ≤ result.0 }
         ensures exhausted { result.1 ≡ stopped.Exhausted → FoundUsedUp seat.old.me.0.seen seat.new.me.0.seen seat.old.me.0.loads seat.new.me.0.loads }
@@ -99,7 +99,7 @@ impl<P: GracePlan + Drop, K: ChainRule, B: Site, D: Deleter> Domain<P, K, B, D> 
         requires left { left.old.items ≡ [] }
         ensures seat { GoesOn P.QSBR K.allows seat.old seat.new }
         ensures work { WorksFor queue result.0 seat.new.me.0 }
-        ensures list { Lists queue seat.new.me.0.seen first result.0 list.new.items }
+        ensures list { Lists D.answers queue seat.new.me.0.seen first result.0 list.new.items }
         ensures left { InOrder queue seat.new.me.0.heard result.0 left.new.items × (result.1 ≢ stopped.Exhausted → left.new.items ≡ []) }
         ensures closed { result.1 ≡ stopped.Closed → IsEmptied queue result.0 seat.new.me.0.seen × (until ≡ ends.Closed) }
         ensures served { result.1 ≡ stopped.Served → (length (line_of seat.old.me.0.seen queue) ≤ result.0) × (until ≡ ends.Served) }
@@ -138,7 +138,7 @@ impl<P: GracePlan + Drop, K: ChainRule, B: Site, D: Deleter> Domain<P, K, B, D> 
     ) -> Result<WorkerEnd<B, D>, Refusal>
         requires { (seat.old.table_id ≡ B.table) × (seat.old.me.0.sizes ≡ B.sizes) × (seat.old.me.1 ≡ []) }
         ensures seat { (seat.new.table_id ≡ B.table) × (seat.new.me.1 ≡ []) }
-        ensures worked { IfOk result (λ e. HasWorked P.QSBR K.allows B.sizes queue seat.old.me.0.seen seat.old.me.0.heard seat.old.me.0.looks seat.new.me.0.looks seat.old.me.0.loads seat.new.me.0.loads e.finished.items e.left.items e.stop seat.new.me.0.seen) }
+        ensures worked { IfOk result (λ e. HasWorked D.answers P.QSBR K.allows B.sizes queue seat.old.me.0.seen seat.old.me.0.heard seat.old.me.0.looks seat.new.me.0.looks seat.old.me.0.loads seat.new.me.0.loads e.finished.items e.left.items e.stop seat.new.me.0.seen) }
         ensures until { IfOk result (λ e. (e.stop ≡ stopped.Closed → until ≡ ends.Closed) × (e.stop ≡ stopped.Served → until ≡ ends.Served)) }
         ensures refused { IfErr result (λ e. RefusesWork B.sizes queue seat.old.me.0.looks seat.new.me.0.looks e) }
         ensures later { IfErr result (λ _. queue < B.sizes.queues → IsLater P.QSBR K.allows seat.old.me.0 seat.new.me.0) }
@@ -156,28 +156,27 @@ impl<P: GracePlan + Drop, K: ChainRule, B: Site, D: Deleter> Domain<P, K, B, D> 
     }
 
     /// Works for a queue, as whoever calls, for as long as is asked.
-    fn work_as<W: Witness, R: Wait>(
+    fn work_as<W: Caller<B>, R: Wait>(
         &self,
         rt: &R,
         alloc: Global,
-        witness: &mut W,
+        caller: &mut W,
         queue: usize,
         until: Until,
     ) -> Result<WorkerEnd<B, D>, Refusal>
-        requires { W.home witness.old ≡ (B.table, B.sizes) }
-        ensures worked { IfOk result (λ e. HasWorked P.QSBR K.allows B.sizes queue (W.seen witness.old) (W.heard witness.old) (W.looks witness.old) (W.looks witness.new) (W.loads witness.old) (W.loads witness.new) e.finished.items e.left.items e.stop (W.heard witness.new)) }
+        ensures worked { IfOk result (λ e. HasWorked D.answers P.QSBR K.allows B.sizes queue (W.seen caller.old) (W.heard caller.old) (W.looks caller.old) (W.looks caller.new) (W.loads caller.old) (W.loads caller.new) e.finished.items e.left.items e.stop (W.heard caller.new)) }
         ensures until { IfOk result (λ e. (e.stop ≡ stopped.Closed → until ≡ ends.Closed) × (e.stop ≡ stopped.Served → until ≡ ends.Served)) }
-        ensures refused { IfErr result (λ e. RefusesWork B.sizes queue (W.looks witness.old) (W.looks witness.new) e) }
-        ensures heard { IfErr result (λ _. queue < B.sizes.queues → IsAfter P.QSBR K.allows (W.seen witness.old) (W.heard witness.old) (W.heard witness.new)) }
-        ensures nobody { B.sizes.queues ≤ queue → witness.new ≡ witness.old }
-        ensures same { Stays W.Witness witness.old witness.new }
+        ensures refused { IfErr result (λ e. RefusesWork B.sizes queue (W.looks caller.old) (W.looks caller.new) e) }
+        ensures heard { IfErr result (λ _. queue < B.sizes.queues → IsAfter P.QSBR K.allows (W.seen caller.old) (W.heard caller.old) (W.heard caller.new)) }
+        ensures nobody { B.sizes.queues ≤ queue → caller.new ≡ caller.old }
+        ensures same { Stays W.Caller caller.old caller.new }
     {
         if queue >= self.queues.len() {
             return Err(Refusal::NoActor);
         }
-        let mut seat = witness.tell(&self.table);
+        let mut seat = caller.tell(&self.table);
         let end = self.employ(rt, alloc, &mut seat, queue, until);
-        witness.learn(&self.table, seat);
+        caller.learn(&self.table, seat);
         end
     }
 
@@ -186,26 +185,29 @@ impl<P: GracePlan + Drop, K: ChainRule, B: Site, D: Deleter> Domain<P, K, B, D> 
     /// held. It rests while nothing is queued. The caller, who has no section or lock open and is offline where its
     /// reader is of the quiescent-state flavour, hears of all that.
     ///
+    /// Each object's deleter is called with it and the words that were published with it, and the entry's code is the
+    /// answer. A clause here tells that some deleter was called so, since of what a lock holds only the type is known.
+    /// That it is the object's own, `run_next` tells of an item, and `live_items` of the way there.
+    ///
     /// It stops early where the sequence numbers are used up, and then nobody works for the queue any more; or where
     /// memory is refused for what is queued. Refused with `NoActor` exactly where there is no such queue, else with
     /// `Busy` where its hold word was found to be 1, as while another works for it, and with `Exhausted` where it was
     /// found to be 2.
-    pub fn run_worker<W: Witness, R: Wait>(
+    pub fn run_worker<W: Caller<B>, R: Wait>(
         &self,
         rt: &R,
         alloc: Global,
-        witness: &mut W,
+        caller: &mut W,
         queue: usize,
     ) -> Result<WorkerEnd<B, D>, Refusal>
-        requires { W.home witness.old ≡ (B.table, B.sizes) }
-        ensures worked { IfOk result (λ e. HasWorked P.QSBR K.allows B.sizes queue (W.seen witness.old) (W.heard witness.old) (W.looks witness.old) (W.looks witness.new) (W.loads witness.old) (W.loads witness.new) e.finished.items e.left.items e.stop (W.heard witness.new)) }
+        ensures worked { IfOk result (λ e. HasWorked D.answers P.QSBR K.allows B.sizes queue (W.seen caller.old) (W.heard caller.old) (W.looks caller.old) (W.looks caller.new) (W.loads caller.old) (W.loads caller.new) e.finished.items e.left.items e.stop (W.heard caller.new)) }
         ensures stopped { IfOk result (λ e. e.stop ≢ stopped.Served) }
-        ensures refused { IfErr result (λ e. RefusesWork B.sizes queue (W.looks witness.old) (W.looks witness.new) e) }
-        ensures heard { IfErr result (λ _. queue < B.sizes.queues → IsAfter P.QSBR K.allows (W.seen witness.old) (W.heard witness.old) (W.heard witness.new)) }
-        ensures nobody { B.sizes.queues ≤ queue → witness.new ≡ witness.old }
-        ensures same { Stays W.Witness witness.old witness.new }
+        ensures refused { IfErr result (λ e. RefusesWork B.sizes queue (W.looks caller.old) (W.looks caller.new) e) }
+        ensures heard { IfErr result (λ _. queue < B.sizes.queues → IsAfter P.QSBR K.allows (W.seen caller.old) (W.heard caller.old) (W.heard caller.new)) }
+        ensures nobody { B.sizes.queues ≤ queue → caller.new ≡ caller.old }
+        ensures same { Stays W.Caller caller.old caller.new }
     {
-        self.work_as(rt, alloc, witness, queue, Until::Closed)
+        self.work_as(rt, alloc, caller, queue, Until::Closed)
     }
 
     /// Runs what is queued and returns, for a program without a thread to spare: where something is, waits for a grace
@@ -215,21 +217,20 @@ impl<P: GracePlan + Drop, K: ChainRule, B: Site, D: Deleter> Domain<P, K, B, D> 
     /// reader is of the quiescent-state flavour.
     ///
     /// It stops early, and is refused, as `run_worker`.
-    pub fn run_queued<W: Witness, R: Wait>(
+    pub fn run_queued<W: Caller<B>, R: Wait>(
         &self,
         rt: &R,
         alloc: Global,
-        witness: &mut W,
+        caller: &mut W,
         queue: usize,
     ) -> Result<WorkerEnd<B, D>, Refusal>
-        requires { W.home witness.old ≡ (B.table, B.sizes) }
-        ensures worked { IfOk result (λ e. HasWorked P.QSBR K.allows B.sizes queue (W.seen witness.old) (W.heard witness.old) (W.looks witness.old) (W.looks witness.new) (W.loads witness.old) (W.loads witness.new) e.finished.items e.left.items e.stop (W.heard witness.new)) }
+        ensures worked { IfOk result (λ e. HasWorked D.answers P.QSBR K.allows B.sizes queue (W.seen caller.old) (W.heard caller.old) (W.looks caller.old) (W.looks caller.new) (W.loads caller.old) (W.loads caller.new) e.finished.items e.left.items e.stop (W.heard caller.new)) }
         ensures stopped { IfOk result (λ e. e.stop ≢ stopped.Closed) }
-        ensures refused { IfErr result (λ e. RefusesWork B.sizes queue (W.looks witness.old) (W.looks witness.new) e) }
-        ensures heard { IfErr result (λ _. queue < B.sizes.queues → IsAfter P.QSBR K.allows (W.seen witness.old) (W.heard witness.old) (W.heard witness.new)) }
-        ensures nobody { B.sizes.queues ≤ queue → witness.new ≡ witness.old }
-        ensures same { Stays W.Witness witness.old witness.new }
+        ensures refused { IfErr result (λ e. RefusesWork B.sizes queue (W.looks caller.old) (W.looks caller.new) e) }
+        ensures heard { IfErr result (λ _. queue < B.sizes.queues → IsAfter P.QSBR K.allows (W.seen caller.old) (W.heard caller.old) (W.heard caller.new)) }
+        ensures nobody { B.sizes.queues ≤ queue → caller.new ≡ caller.old }
+        ensures same { Stays W.Caller caller.old caller.new }
     {
-        self.work_as(rt, alloc, witness, queue, Until::Served)
+        self.work_as(rt, alloc, caller, queue, Until::Served)
     }
 }

@@ -4,7 +4,6 @@ use call_rcu_worker::Finished;
 use callback_queue::Item;
 use live_items::Job;
 use live_read::Site;
-use live_reclaim::Deleter;
 
 /// Why a worker stopped.
 #[derive(Clone, Copy, Debug, PartialEq, Eq, Drop)]
@@ -21,7 +20,7 @@ pub enum Stop {
 
 /// What a worker did, and why it stopped.
 #[derive(Drop)]
-pub struct WorkerEnd<B: Site, D: Deleter> {
+pub struct WorkerEnd<B: Site, D: Drop> {
     /// What it ran, in the order of the tickets.
     pub finished: Vec<Finished>,
     /// Where the sequence numbers are used up, what waited for a grace period then, and is not run.

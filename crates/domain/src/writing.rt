@@ -13,7 +13,7 @@ ghost use Rattle.live_write.specs.Searching.{AreTaken, IsUsedUp};
 use crate::domain::Domain;
 use callback_queue::Callback;
 use gp_memb::GracePlan;
-use live_read::{Site, Witness};
+use live_read::{Caller, Site};
 use live_reclaim::Deleter;
 use live_words::ChainRule;
 use live_write::{Owned, Unlinked};
@@ -33,52 +33,49 @@ impl<P: GracePlan + Drop, K: ChainRule, B: Site, D: Deleter> Domain<P, K, B, D> 
     /// or above 2^62: `looks` tells the words that it found. A number is drawn before a record is looked for, so a
     /// refusal by a full pool uses one up. It takes no memory, and waits for nobody, but tries again where other
     /// threads draw object numbers meanwhile.
-    pub fn alloc<W: Witness, R: Wait>(
+    pub fn alloc<W: Caller<B>, R: Wait>(
         &self,
         rt: &R,
-        witness: &mut W,
+        caller: &mut W,
         words: [u64; 4],
     ) -> Result<Owned<B>, Refusal>
-        requires { W.home witness.old ≡ (B.table, B.sizes) }
-        ensures owned { IfOk result (λ o. (payload_in o.seat.me.0.object ≡ words) × (o.seat.me.0.seen ≡ W.heard witness.new)) }
-        ensures looks { (found : List (ℕ × ℕ)) × (W.looks witness.new ≡ found ++ W.looks witness.old) × IfErr result (λ e. (e ≡ PoolFull) × (IsUsedUp B.sizes found ⊎ AreTaken B.sizes found)) }
-        ensures heard { IsAfter P.QSBR K.allows (W.seen witness.old) (W.heard witness.old) (W.heard witness.new) }
-        ensures same { Stays W.Witness witness.old witness.new × (W.loads witness.new ≡ W.loads witness.old) }
+        ensures owned { IfOk result (λ o. (payload_in o.seat.me.0.object ≡ words) × (o.seat.me.0.seen ≡ W.heard caller.new)) }
+        ensures looks { (found : List (ℕ × ℕ)) × (W.looks caller.new ≡ found ++ W.looks caller.old) × IfErr result (λ e. (e ≡ PoolFull) × (IsUsedUp B.sizes found ⊎ AreTaken B.sizes found)) }
+        ensures heard { IsAfter P.QSBR K.allows (W.seen caller.old) (W.heard caller.old) (W.heard caller.new) }
+        ensures same { Stays W.Caller caller.old caller.new × (W.loads caller.new ≡ W.loads caller.old) }
     {
-        live_write::alloc(rt, &self.table, witness, words)
+        live_write::alloc(rt, &self.table, caller, words)
     }
 
     /// Frees a record that no chain has linked. Its object's number is given to no other. The caller hears of what was
     /// seen at the allocation; `looks` tells the store. It never waits and takes no memory.
-    pub fn discard<W: Witness>(&self, witness: &mut W, owned: Owned<B>)
-        requires { W.home witness.old ≡ (B.table, B.sizes) }
-        ensures freed { W.looks witness.new ≡ (cell_at B.sizes (cell_in owned.seat.me.0.object) 0, 0) ∷ W.looks witness.old }
-        ensures heard { IsAfter P.QSBR K.allows (W.seen witness.old) (W.heard witness.old) (W.heard witness.new) × Begins owned.seat.me.0.seen (W.heard witness.new) }
-        ensures loads { (log : Log) × (W.loads witness.new ≡ log ∷ W.loads witness.old) × IsAfter P.QSBR K.allows (W.seen witness.old) (W.heard witness.old) log × Begins log (W.heard witness.new) }
-        ensures same { Stays W.Witness witness.old witness.new }
+    pub fn discard<W: Caller<B>>(&self, caller: &mut W, owned: Owned<B>)
+        ensures freed { W.looks caller.new ≡ (cell_at B.sizes (cell_in owned.seat.me.0.object) 0, 0) ∷ W.looks caller.old }
+        ensures heard { IsAfter P.QSBR K.allows (W.seen caller.old) (W.heard caller.old) (W.heard caller.new) × Begins owned.seat.me.0.seen (W.heard caller.new) }
+        ensures loads { (log : Log) × (W.loads caller.new ≡ log ∷ W.loads caller.old) × IsAfter P.QSBR K.allows (W.seen caller.old) (W.heard caller.old) log × Begins log (W.heard caller.new) }
+        ensures same { Stays W.Caller caller.old caller.new }
     {
-        live_write::discard(&self.table, witness, owned);
+        live_write::discard(&self.table, caller, owned);
     }
 
-    /// The one writer of a chain, which has the right to it until it is dropped. The caller hears of what was seen at
-    /// that.
+    /// The one writer of a chain, which has the right to it until it is dropped or released. The caller hears of what
+    /// was seen at that.
     ///
     /// Refused with `NoPlace` exactly where there is no such chain, else with `Busy` exactly where its hold word was
     /// found to be 1, which `looks` tells. It takes no memory and never waits.
-    pub fn chain<'d, W: Witness>(
+    pub fn chain<'d, W: Caller<B>>(
         &'d self,
-        witness: &mut W,
+        caller: &mut W,
         chain: usize,
     ) -> Result<Chain<'d, P, K, B, D>, Refusal>
-        requires { W.home witness.old ≡ (B.table, B.sizes) }
-        ensures held { IfOk result (λ c. (c.number ≡ chain) × (chain < B.sizes.chains) × (W.looks witness.new ≡ (hold_at B.sizes chain, 0) ∷ W.looks witness.old) × Begins (W.heard witness.new) c.seat.me.0.seen) }
+        ensures held { IfOk result (λ c. (c.number ≡ chain) × (chain < B.sizes.chains) × (W.looks caller.new ≡ (hold_at B.sizes chain, 0) ∷ W.looks caller.old) × Begins (W.heard caller.new) c.seat.me.0.seen) }
         ensures domain { IfOk result (λ c. c.home.now ≡ self.now) }
         ensures run { IfOk result (λ c. IsLiveRun P.QSBR K.allows c.seat.me.0.seen × (lent_chains c.seat.me.0.chains ≡ [])) }
-        ensures refused { IfErr result (λ e. ((e ≡ NoPlace) × (B.sizes.chains ≤ chain) × (witness.new ≡ witness.old)) ⊎ ((e ≡ Busy) × (chain < B.sizes.chains) × (W.looks witness.new ≡ (hold_at B.sizes chain, 1) ∷ W.looks witness.old))) }
-        ensures heard { chain < B.sizes.chains → IsAfter P.QSBR K.allows (W.seen witness.old) (W.heard witness.old) (W.heard witness.new) }
-        ensures same { Stays W.Witness witness.old witness.new × (W.loads witness.new ≡ W.loads witness.old) }
+        ensures refused { IfErr result (λ e. ((e ≡ NoPlace) × (B.sizes.chains ≤ chain) × (caller.new ≡ caller.old)) ⊎ ((e ≡ Busy) × (chain < B.sizes.chains) × (W.looks caller.new ≡ (hold_at B.sizes chain, 1) ∷ W.looks caller.old))) }
+        ensures heard { chain < B.sizes.chains → IsAfter P.QSBR K.allows (W.seen caller.old) (W.heard caller.old) (W.heard caller.new) }
+        ensures same { Stays W.Caller caller.old caller.new × (W.loads caller.new ≡ W.loads caller.old) }
     {
-        Chain::hold(self, &self.table, witness, chain)
+        Chain::hold(self, &self.table, caller, chain)
     }
 
     /// The object of a record that was cut, by a load of the record's header, which is kept among the looks of the

@@ -6,6 +6,8 @@ mod deleter;
 #[cfg(test)]
 mod plain;
 #[cfg(test)]
+mod polling;
+#[cfg(test)]
 mod readings;
 #[cfg(test)]
 mod reclaiming;

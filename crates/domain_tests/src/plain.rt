@@ -2,7 +2,7 @@
 //! and each clause that it hears costs time.
 
 use domain::{
-    AnyChain, Chain, Counts, Deleter, Domain, LiveCookie, Owned, Record, Site, Ticket, Unlinked,
+    AnyChain, Chain, Counts, Deleter, Domain, Handle, LiveCookie, Owned, Site, Ticket, Unlinked,
     WorkerEnd,
 };
 use gp_memb::GracePlan;
@@ -14,7 +14,7 @@ use std::sync::Wait;
 pub(crate) fn alloc<P: GracePlan + Drop, B: Site, D: Deleter, R: Wait>(
     rt: &R,
     domain: &Domain<P, AnyChain, B, D>,
-    record: &mut Record<B>,
+    record: &mut Handle<B>,
     words: [u64; 4],
 ) -> Result<Owned<B>, Refusal> {
     domain.alloc(rt, record, words)
@@ -23,7 +23,7 @@ pub(crate) fn alloc<P: GracePlan + Drop, B: Site, D: Deleter, R: Wait>(
 /// `Domain::chain`.
 pub(crate) fn chain<'d, P: GracePlan + Drop, B: Site, D: Deleter>(
     domain: &'d Domain<P, AnyChain, B, D>,
-    record: &mut Record<B>,
+    record: &mut Handle<B>,
     number: usize,
 ) -> Result<Chain<'d, P, AnyChain, B, D>, Refusal> {
     domain.chain(record, number)
@@ -32,7 +32,7 @@ pub(crate) fn chain<'d, P: GracePlan + Drop, B: Site, D: Deleter>(
 /// `Chain::push`.
 pub(crate) fn push<P: GracePlan + Drop, B: Site, D: Deleter>(
     writer: &mut Chain<'_, P, AnyChain, B, D>,
-    record: &mut Record<B>,
+    record: &mut Handle<B>,
     owned: Owned<B>,
 ) {
     writer.push(record, owned);
@@ -41,7 +41,7 @@ pub(crate) fn push<P: GracePlan + Drop, B: Site, D: Deleter>(
 /// `Chain::cut`.
 pub(crate) fn cut<P: GracePlan + Drop, B: Site, D: Deleter>(
     writer: &mut Chain<'_, P, AnyChain, B, D>,
-    record: &mut Record<B>,
+    record: &mut Handle<B>,
     index: usize,
 ) -> Result<Unlinked<B>, Refusal> {
     writer.cut(record, index)
@@ -51,7 +51,7 @@ pub(crate) fn cut<P: GracePlan + Drop, B: Site, D: Deleter>(
 pub(crate) fn retire<P: GracePlan + Drop, B: Site, D: Deleter, R: Wait>(
     rt: &R,
     domain: &Domain<P, AnyChain, B, D>,
-    record: &mut Record<B>,
+    record: &mut Handle<B>,
     unlinked: Unlinked<B>,
     callback: D,
 ) -> Result<Ticket, (Refusal, Unlinked<B>, D)> {
@@ -62,7 +62,7 @@ pub(crate) fn retire<P: GracePlan + Drop, B: Site, D: Deleter, R: Wait>(
 pub(crate) fn cut_retire<P: GracePlan + Drop, B: Site, D: Deleter, R: Wait>(
     rt: &R,
     domain: &Domain<P, AnyChain, B, D>,
-    record: &mut Record<B>,
+    record: &mut Handle<B>,
     writer: &mut Chain<'_, P, AnyChain, B, D>,
     index: usize,
     callback: D,
@@ -74,7 +74,7 @@ pub(crate) fn cut_retire<P: GracePlan + Drop, B: Site, D: Deleter, R: Wait>(
 pub(crate) fn close<P: GracePlan + Drop, B: Site, D: Deleter, R: Wait>(
     rt: &R,
     domain: &Domain<P, AnyChain, B, D>,
-    record: &mut Record<B>,
+    record: &mut Handle<B>,
 ) {
     domain.close(rt, record)
 }
@@ -84,7 +84,7 @@ pub(crate) fn run_worker<P: GracePlan + Drop, B: Site, D: Deleter, R: Wait>(
     rt: &R,
     alloc: Global,
     domain: &Domain<P, AnyChain, B, D>,
-    record: &mut Record<B>,
+    record: &mut Handle<B>,
     queue: usize,
 ) -> Result<WorkerEnd<B, D>, Refusal> {
     domain.run_worker(rt, alloc, record, queue)
@@ -94,7 +94,7 @@ pub(crate) fn run_worker<P: GracePlan + Drop, B: Site, D: Deleter, R: Wait>(
 pub(crate) fn barrier<P: GracePlan + Drop, B: Site, D: Deleter, R: Wait>(
     rt: &R,
     domain: &Domain<P, AnyChain, B, D>,
-    record: &mut Record<B>,
+    record: &mut Handle<B>,
 ) {
     domain.barrier(rt, record)
 }
@@ -103,7 +103,7 @@ pub(crate) fn barrier<P: GracePlan + Drop, B: Site, D: Deleter, R: Wait>(
 pub(crate) fn synchronize<P: GracePlan + Drop, B: Site, D: Deleter, R: Wait>(
     rt: &R,
     domain: &Domain<P, AnyChain, B, D>,
-    record: &mut Record<B>,
+    record: &mut Handle<B>,
 ) -> Result<(), Refusal> {
     domain.synchronize(rt, record)
 }
@@ -111,7 +111,7 @@ pub(crate) fn synchronize<P: GracePlan + Drop, B: Site, D: Deleter, R: Wait>(
 /// `Domain::start_poll`.
 pub(crate) fn start_poll<P: GracePlan + Drop, B: Site, D: Deleter>(
     domain: &Domain<P, AnyChain, B, D>,
-    record: &mut Record<B>,
+    record: &mut Handle<B>,
 ) -> Result<LiveCookie, Refusal> {
     domain.start_poll(record)
 }
@@ -119,7 +119,7 @@ pub(crate) fn start_poll<P: GracePlan + Drop, B: Site, D: Deleter>(
 /// `Domain::poll`.
 pub(crate) fn poll<P: GracePlan + Drop, B: Site, D: Deleter>(
     domain: &Domain<P, AnyChain, B, D>,
-    record: &mut Record<B>,
+    record: &mut Handle<B>,
     cookie: &LiveCookie,
 ) -> bool {
     domain.poll(record, cookie)
@@ -128,7 +128,7 @@ pub(crate) fn poll<P: GracePlan + Drop, B: Site, D: Deleter>(
 /// `Domain::counts`.
 pub(crate) fn counts<P: GracePlan + Drop, B: Site, D: Deleter>(
     domain: &Domain<P, AnyChain, B, D>,
-    record: &mut Record<B>,
+    record: &mut Handle<B>,
 ) -> Counts {
     domain.counts(record)
 }
@@ -137,7 +137,7 @@ pub(crate) fn counts<P: GracePlan + Drop, B: Site, D: Deleter>(
 pub(crate) fn stalled<P: GracePlan + Drop, B: Site, D: Deleter>(
     alloc: Global,
     domain: &Domain<P, AnyChain, B, D>,
-    record: &mut Record<B>,
+    record: &mut Handle<B>,
 ) -> Result<Vec<usize>, Refusal> {
     domain.stalled(alloc, record)
 }

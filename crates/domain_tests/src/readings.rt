@@ -34,7 +34,7 @@ fn publishes<P: GracePlan + Drop, B: Site, R: Wait>(
     chain: usize,
     words: [u64; 4],
 ) -> Result<(Option<[u64; 4]>, Option<[u64; 4]>), Refusal>
-    requires { (P.QSBR ≡ B.qsbr) × (0 < section.old.reader.now.core.depth) }
+    requires { 0 < section.old.reader.now.core.depth }
     ensures reader { section.new.reader.ghost_name ≡ section.old.reader.ghost_name }
     ensures counts { (section.new.reader.now.core.depth ≡ section.old.reader.now.core.depth) × (section.new.reader.now.core.locks ≡ section.old.reader.now.core.locks) }
     ensures writer { IfOk result (λ got. got.0 ≡ Some words) }
@@ -58,7 +58,7 @@ fn reads_across<P: GracePlan + Drop, B: Site>(
     section: &mut Section<P, AnyChain, B>,
     chain: usize,
 ) -> Result<Option<[u64; 4]>, Refusal>
-    requires { (P.QSBR ≡ B.qsbr) × (0 < section.old.reader.now.core.depth) }
+    requires { 0 < section.old.reader.now.core.depth }
     ensures reader { section.new.reader.ghost_name ≡ section.old.reader.ghost_name }
     ensures counts { (section.new.reader.now.core.depth ≡ section.old.reader.now.core.depth) × (section.new.reader.now.core.locks ≡ section.old.reader.now.core.locks) }
 {
@@ -78,7 +78,7 @@ fn reads_on<P: GracePlan, B: Site>(
     section: &mut Section<P, AnyChain, B>,
     chain: usize,
 ) -> Result<Option<([u64; 4], bool)>, Refusal>
-    requires { (P.QSBR ≡ B.qsbr) × (0 < section.old.reader.now.core.depth) }
+    requires { 0 < section.old.reader.now.core.depth }
     ensures reader { section.new.reader.ghost_name ≡ section.old.reader.ghost_name }
     ensures counts { (section.new.reader.now.core.depth ≡ section.old.reader.now.core.depth) × (section.new.reader.now.core.locks ≡ section.old.reader.now.core.locks) }
     ensures run { IfOk result (λ got. IfSome got (λ _. (s : SectionId) (m : Readings) → HasRead s m section.old.reader.now.core → (a b c : Log) × (o : ObjectId) × (found : Option ObjectId) × HasRead s (Read s (Next o found) ∷ later c (Read s (Touch o) ∷ later b (Read s (First chain (Some o)) ∷ later a m))) section.new.reader.now.core)) }
@@ -105,7 +105,7 @@ fn reads_all<P: GracePlan + Drop, B: Site, R: Wait>(
     domain: &Domain<P, AnyChain, B, Adds>,
     reader: &mut Reader<P, AnyChain, B>,
 ) -> Result<Told, Refusal>
-    requires { (P.QSBR ≡ B.qsbr) × (reader.old.core.depth ≡ 0) × (reader.old.core.locks ≡ 0) }
+    requires { (reader.old.core.depth ≡ 0) × (reader.old.core.locks ≡ 0) }
 {
     let mut section = reader.section()?;
     let (own, first) = publishes(rt, domain, &mut section, 0, [1, 2, 3, 4])?;
@@ -122,7 +122,7 @@ fn reads_alone<P: GracePlan + Drop, B: Site, R: Wait>(
     alloc: Global,
     opened: Opened<P, AnyChain>,
 ) -> Result<Told, Refusal>
-    requires { (P.QSBR ≡ B.qsbr) × (opened.table.words.shared.table_id ≡ B.table) × (opened.table.words.shared.key ≡ B.sizes) }
+    requires { (opened.table.words.shared.table_id ≡ B.table) × (opened.table.words.shared.key ≡ B.sizes) }
 {
     let (domain, mut record) = opened.named::<B, Adds>(alloc)?;
     let mut reader = domain.register(rt, &mut record)?;

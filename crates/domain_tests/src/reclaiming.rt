@@ -5,7 +5,7 @@ ghost use Rattle.std.specs.Prelude.{◌≡◌, false, true};
 use crate::deleter::Adds;
 use crate::plain;
 use domain::{
-    AnyChain, Callback, Deleter, Domain, Finished, LiveConfig, Opened, Record, Ripe, Site, Stop,
+    AnyChain, Callback, Deleter, Domain, Finished, Handle, LiveConfig, Opened, Ripe, Site, Stop,
     Ticket, Unlinked, WorkerEnd,
 };
 use gp_memb::{GracePlan, MembPlan};
@@ -29,7 +29,7 @@ fn of_queues(queues: usize) -> LiveConfig {
 fn cut_one<B: Site, R: Wait>(
     rt: &R,
     domain: &Domain<MembPlan, AnyChain, B, Adds>,
-    record: &mut Record<B>,
+    record: &mut Handle<B>,
     chain: usize,
     word: u64,
 ) -> Result<Unlinked<B>, Refusal> {
@@ -55,7 +55,7 @@ fn reclaims<B: Site, R: Wait>(
     rt: &R,
     alloc: Global,
     domain: &Domain<MembPlan, AnyChain, B, Callback>,
-    record: &mut Record<B>,
+    record: &mut Handle<B>,
     callback: Callback,
 ) -> Result<(u64, (usize, Option<Finished>, usize, Stop)), Refusal> {
     let owned = plain::alloc(rt, domain, record, [5, 0, 0, 0])?;
@@ -75,7 +75,7 @@ fn reclaims_one<B: Site, R: Wait>(
     opened: Opened<MembPlan, AnyChain>,
     callback: Callback,
 ) -> Result<(u64, (usize, Option<Finished>, usize, Stop)), Refusal>
-    requires { (B.qsbr ≡ false) × (opened.table.words.shared.table_id ≡ B.table) × (opened.table.words.shared.key ≡ B.sizes) }
+    requires { (opened.table.words.shared.table_id ≡ B.table) × (opened.table.words.shared.key ≡ B.sizes) }
 {
     let (domain, mut record) = opened.named::<B, Callback>(alloc)?;
     reclaims(rt, alloc, &domain, &mut record, callback)
@@ -104,7 +104,7 @@ fn works<P: GracePlan + Drop, B: Site, R: Wait>(
     rt: &R,
     alloc: Global,
     domain: &Domain<P, AnyChain, B, Adds>,
-    record: &mut Record<B>,
+    record: &mut Handle<B>,
 ) -> Result<(u64, Stop), Refusal> {
     let end = plain::run_worker(rt, alloc, domain, record, 0)?;
     let mut good = 0u64;
@@ -123,7 +123,7 @@ fn second_worker<B: Site, R: Wait>(
     rt: &R,
     alloc: Global,
     domain: &Domain<MembPlan, AnyChain, B, Adds>,
-    record: &mut Record<B>,
+    record: &mut Handle<B>,
 ) -> Result<Option<Refusal>, Refusal> {
     let unlinked = cut_one(rt, domain, record, 0, 1)?;
     if plain::retire(rt, domain, record, unlinked, Adds(1)).is_err() {
@@ -140,7 +140,7 @@ fn two_workers<B: Site + Send + Sync, R: Threads + Wait + Sync>(
     alloc: Global,
     opened: Opened<MembPlan, AnyChain>,
 ) -> Result<(Option<Refusal>, (u64, Stop)), Refusal>
-    requires { (B.qsbr ≡ false) × (opened.table.words.shared.table_id ≡ B.table) × (opened.table.words.shared.key ≡ B.sizes) }
+    requires { (opened.table.words.shared.table_id ≡ B.table) × (opened.table.words.shared.key ≡ B.sizes) }
 {
     let (domain, mut record) = opened.named::<B, Adds>(alloc)?;
     let other = domain.split(&mut record);

@@ -4,7 +4,7 @@ ghost use Rattle.std.specs.Prelude.{◌≡◌, false, true};
 
 use crate::deleter::Adds;
 use crate::plain;
-use domain::{AnyChain, Counts, Deleter, Domain, LiveConfig, Opened, Reader, Record, Ripe, Site};
+use domain::{AnyChain, Counts, Deleter, Domain, Handle, LiveConfig, Opened, Reader, Ripe, Site};
 use gp_memb::{GracePlan, MembPlan};
 use gp_qsbr::QsbrPlan;
 use rcu_model::Refusal;
@@ -37,7 +37,7 @@ fn counted(seq: u64, records: u64, waits: [u64; 2]) -> Counts {
 fn retires_two<B: Site, R: Wait>(
     rt: &R,
     domain: &Domain<MembPlan, AnyChain, B, Adds>,
-    record: &mut Record<B>,
+    record: &mut Handle<B>,
 ) -> Result<(), Refusal> {
     let mut writer = plain::chain(domain, record, 1)?;
     for word in 1..4 {
@@ -58,7 +58,7 @@ fn counts<B: Site, R: Wait>(
     alloc: Global,
     opened: Opened<MembPlan, AnyChain>,
 ) -> Result<[Counts; 4], Refusal>
-    requires { (B.qsbr ≡ false) × (opened.table.words.shared.table_id ≡ B.table) × (opened.table.words.shared.key ≡ B.sizes) }
+    requires { (opened.table.words.shared.table_id ≡ B.table) × (opened.table.words.shared.key ≡ B.sizes) }
 {
     let (domain, mut record) = opened.named::<B, Adds>(alloc)?;
     let new = plain::counts(&domain, &mut record);
@@ -90,6 +90,8 @@ fn until_raised(flag: &AtomicU64) {
 }
 
 impl Deleter for Pauses {
+    ghost answers = { λ _ _ code. code ≡ 0 };
+
     fn call(self, _ripe: Ripe) -> u64 {
         self.entered.store(1, Ordering::SeqCst);
         until_raised(&self.seen);
@@ -101,7 +103,7 @@ impl Deleter for Pauses {
 fn retires<B: Site, R: Wait, D: Deleter>(
     rt: &R,
     domain: &Domain<MembPlan, AnyChain, B, D>,
-    record: &mut Record<B>,
+    record: &mut Handle<B>,
     callback: D,
 ) -> Result<(), Refusal> {
     let mut writer = plain::chain(domain, record, 0)?;
@@ -119,7 +121,7 @@ fn retires<B: Site, R: Wait, D: Deleter>(
 fn takes_each_lock<B: Site, R: Wait, D: Deleter>(
     rt: &R,
     domain: &Domain<MembPlan, AnyChain, B, D>,
-    record: &mut Record<B>,
+    record: &mut Handle<B>,
 ) -> Result<(), Refusal> {
     plain::close(rt, domain, record);
     plain::synchronize(rt, domain, record)?;
@@ -132,7 +134,7 @@ fn counts_within<B: Site + Send + Sync, R: Threads + Wait + Sync, D: Deleter + S
     rt: &R,
     alloc: Global,
     domain: &Domain<MembPlan, AnyChain, B, D>,
-    record: &mut Record<B>,
+    record: &mut Handle<B>,
     entered: &AtomicU64,
     seen: &AtomicU64,
 ) -> Result<Counts, Refusal> {
@@ -166,7 +168,7 @@ fn paused<B: Site + Send + Sync, R: Threads + Wait + Sync>(
     entered: &Arc<AtomicU64>,
     seen: &Arc<AtomicU64>,
 ) -> Result<Counts, Refusal>
-    requires { (B.qsbr ≡ false) × (opened.table.words.shared.table_id ≡ B.table) × (opened.table.words.shared.key ≡ B.sizes) }
+    requires { (opened.table.words.shared.table_id ≡ B.table) × (opened.table.words.shared.key ≡ B.sizes) }
 {
     let (domain, mut record) = opened.named::<B, Pauses>(alloc)?;
     let in_call: Result<Arc<AtomicU64>, _> = entered.clone();
@@ -195,9 +197,7 @@ fn a_callback_comes_after_the_free_and_before_the_count(rt: HostRuntime) {
 }
 
 /// A reader that a grace period has to wait for.
-fn stands<P: GracePlan, B: Site>(reader: &mut Reader<P, AnyChain, B>) -> Result<(), Refusal>
-    requires { P.QSBR ≡ B.qsbr }
-{
+fn stands<P: GracePlan, B: Site>(reader: &mut Reader<P, AnyChain, B>) -> Result<(), Refusal> {
     if P::QSBR {
         reader.online()
     } else {
@@ -206,9 +206,7 @@ fn stands<P: GracePlan, B: Site>(reader: &mut Reader<P, AnyChain, B>) -> Result<
 }
 
 /// It waits for the reader no more.
-fn leaves<P: GracePlan, B: Site>(reader: &mut Reader<P, AnyChain, B>) -> Result<(), Refusal>
-    requires { P.QSBR ≡ B.qsbr }
-{
+fn leaves<P: GracePlan, B: Site>(reader: &mut Reader<P, AnyChain, B>) -> Result<(), Refusal> {
     if P::QSBR {
         reader.offline()
     } else {
@@ -221,11 +219,9 @@ fn looks<P: GracePlan + Drop, B: Site, R: Wait>(
     rt: &R,
     alloc: Global,
     domain: &Domain<P, AnyChain, B, Adds>,
-    record: &mut Record<B>,
+    record: &mut Handle<B>,
     mut reader: Reader<P, AnyChain, B>,
-) -> Result<Vec<usize>, Refusal>
-    requires { P.QSBR ≡ B.qsbr }
-{
+) -> Result<Vec<usize>, Refusal> {
     for _ in rt.forever() {
         let slots = plain::stalled(alloc, domain, record)?;
         if slots.len() > 0 {
@@ -246,18 +242,14 @@ fn while_one_waits<
     rt: &R,
     alloc: Global,
     domain: &Domain<P, AnyChain, B, Adds>,
-    record: &mut Record<B>,
+    record: &mut Handle<B>,
     reader: Reader<P, AnyChain, B>,
-) -> Result<Vec<usize>, Refusal>
-    requires { P.QSBR ≡ B.qsbr }
-{
+) -> Result<Vec<usize>, Refusal> {
     let mut other = domain.split(record);
     let (waited, found) = join(
         rt,
         move || plain::synchronize(rt, domain, record),
-        move ||
-            requires { P.QSBR ≡ B.qsbr }
-        { looks(rt, alloc, domain, &mut other, reader) },
+        move || { looks(rt, alloc, domain, &mut other, reader) },
     );
     waited?;
     found
@@ -269,7 +261,7 @@ fn sees<P: GracePlan + Drop + Send + Sync, B: Site + Send + Sync, R: Threads + W
     alloc: Global,
     opened: Opened<P, AnyChain>,
 ) -> Result<(usize, Vec<usize>, usize), Refusal>
-    requires { (P.QSBR ≡ B.qsbr) × (opened.table.words.shared.table_id ≡ B.table) × (opened.table.words.shared.key ≡ B.sizes) }
+    requires { (opened.table.words.shared.table_id ≡ B.table) × (opened.table.words.shared.key ≡ B.sizes) }
 {
     let (domain, mut record) = opened.named::<B, Adds>(alloc)?;
     let _first = domain.register(rt, &mut record)?;

@@ -7,7 +7,7 @@ ghost use Rattle.std.specs.Thread.{IsSync};
 
 use crate::deleter::Adds;
 use crate::plain;
-use domain::{AnyChain, Chain, Domain, LiveConfig, Opened, Owned, Reader, Record, Site};
+use domain::{AnyChain, Chain, Domain, Handle, LiveConfig, Opened, Owned, Reader, Site};
 use gp_memb::{GracePlan, MembPlan};
 use gp_qsbr::QsbrPlan;
 use rcu_model::Refusal;
@@ -37,7 +37,7 @@ fn one_section<P: GracePlan, B: Site>(
     numbers: &Numbers,
     number: u64,
 ) -> Result<(), Refusal>
-    requires { (P.QSBR ≡ B.qsbr) × (reader.old.core.depth ≡ 0) × (reader.old.core.locks ≡ 0) }
+    requires { (reader.old.core.depth ≡ 0) × (reader.old.core.locks ≡ 0) }
     ensures { (reader.new.core.depth ≡ 0) × (reader.new.core.locks ≡ 0) }
 {
     let section = reader.section()?;
@@ -58,7 +58,7 @@ struct Idle<P: GracePlan, B: Site> {
 fn registered<P: GracePlan + Drop, B: Site, R: Wait>(
     rt: &R,
     domain: &Domain<P, AnyChain, B, Adds>,
-    record: &mut Record<B>,
+    record: &mut Handle<B>,
 ) -> Result<Idle<P, B>, Refusal> {
     let reader = domain.register(rt, record)?;
     Ok(Idle { reader })
@@ -66,11 +66,9 @@ fn registered<P: GracePlan + Drop, B: Site, R: Wait>(
 
 /// Sections, one after the other, and an announcement after each in the quiescent-state flavour. Whether none was
 /// refused.
-fn reads<P: GracePlan, B: Site>(idle: Idle<P, B>, all: &[Numbers]) -> bool
-    requires { P.QSBR ≡ B.qsbr }
-{
+fn reads<P: GracePlan, B: Site>(idle: Idle<P, B>, all: &[Numbers]) -> bool {
     let Idle { mut reader } = idle;
-    let Some(numbers) = all.get(reader.core.slot) else {
+    let Some(numbers) = all.get(reader.core.slot()) else {
         return false;
     };
     if P::QSBR && reader.online().is_err() {
@@ -117,7 +115,7 @@ fn have_ended(all: &[Numbers], found: &[u64; 4]) -> bool {
 fn waits_once<P: GracePlan + Drop, B: Site, R: Wait>(
     rt: &R,
     domain: &Domain<P, AnyChain, B, Adds>,
-    record: &mut Record<B>,
+    record: &mut Handle<B>,
     all: &[Numbers],
 ) -> Result<bool, Refusal> {
     let found = all_begun(all);
@@ -130,7 +128,7 @@ fn waits_once<P: GracePlan + Drop, B: Site, R: Wait>(
 fn polls_once<P: GracePlan + Drop, B: Site, R: Wait>(
     rt: &R,
     domain: &Domain<P, AnyChain, B, Adds>,
-    record: &mut Record<B>,
+    record: &mut Handle<B>,
     all: &[Numbers],
 ) -> Result<bool, Refusal> {
     let found = all_begun(all);
@@ -149,7 +147,7 @@ fn polls_once<P: GracePlan + Drop, B: Site, R: Wait>(
 fn waits<P: GracePlan + Drop, B: Site, R: Wait>(
     rt: &R,
     domain: &Domain<P, AnyChain, B, Adds>,
-    mut record: Record<B>,
+    mut record: Handle<B>,
     all: &[Numbers],
 ) -> bool {
     for _ in 0..WAITS {
@@ -164,9 +162,7 @@ fn waits<P: GracePlan + Drop, B: Site, R: Wait>(
 }
 
 /// Sections of a reader that no table of numbers is kept of. Whether none was refused.
-fn spins<B: Site>(idle: Idle<MembPlan, B>) -> bool
-    requires { B.qsbr ≡ false }
-{
+fn spins<B: Site>(idle: Idle<MembPlan, B>) -> bool {
     let Idle { mut reader } = idle;
     for _ in 0..SECTIONS {
         let Ok(section) = reader.section() else {
@@ -183,7 +179,7 @@ fn spawns<B: Site + Send + Sync + 'static, R: Threads + Wait + Copy + Send + 'st
     alloc: Global,
     opened: Opened<MembPlan, AnyChain>,
 ) -> Result<(bool, bool), Refusal>
-    requires { (B.qsbr ≡ false) × (opened.table.words.shared.table_id ≡ B.table) × (opened.table.words.shared.key ≡ B.sizes) }
+    requires { (opened.table.words.shared.table_id ≡ B.table) × (opened.table.words.shared.key ≡ B.sizes) }
 {
     let (domain, mut record) = opened.named::<B, Adds>(alloc)?;
     let mut other = domain.split(&mut record);
@@ -194,12 +190,7 @@ fn spawns<B: Site + Send + Sync + 'static, R: Threads + Wait + Copy + Send + 'st
     let Ok(theirs) = Arc::try_clone(&home) else {
         return Err(Refusal::Memory);
     };
-    let reads = thread::spawn(
-        &rt,
-        move ||
-            requires { B.qsbr ≡ false }
-        { spins(one) },
-    );
+    let reads = thread::spawn(&rt, move || { spins(one) });
     let waits = thread::spawn(&rt, move || theirs.synchronize(&rt, &mut other).is_ok());
     home.synchronize(&rt, &mut record)?;
     match (reads, waits) {
@@ -211,7 +202,7 @@ fn spawns<B: Site + Send + Sync + 'static, R: Threads + Wait + Copy + Send + 'st
 /// Pushes a record, and reads what is first then.
 fn pushes<P: GracePlan + Drop, B: Site>(
     mut chain: Chain<'_, P, AnyChain, B, Adds>,
-    mut record: Record<B>,
+    mut record: Handle<B>,
     owned: Owned<B>,
 ) -> Option<[u64; 4]> {
     chain.push(&mut record, owned);
@@ -225,7 +216,7 @@ fn moves_a_writer<
     B: Site + Send + Sync,
     R: Threads + Wait + Sync,
 >(rt: &R, alloc: Global, opened: Opened<P, AnyChain>) -> Result<(Option<[u64; 4]>, usize), Refusal>
-    requires { (P.QSBR ≡ B.qsbr) × (opened.table.words.shared.table_id ≡ B.table) × (opened.table.words.shared.key ≡ B.sizes) }
+    requires { (opened.table.words.shared.table_id ≡ B.table) × (opened.table.words.shared.key ≡ B.sizes) }
 {
     let (domain, mut record) = opened.named::<B, Adds>(alloc)?;
     let other = domain.split(&mut record);

@@ -14,6 +14,12 @@ pub(crate) enum OnReclaim {
 }
 
 impl Deleter for OnReclaim {
+    ghost use Rattle.std.specs.Prelude.{◌≡◌, slice_index};
+    ghost use Rattle.examples.specs.declared.callbacks.OnReclaim.TheVariants.{Close, Free};
+
+    // The word that it is about.
+    ghost answers = { elim [ Free ↦ λ ripe code. code ≡ slice_index ripe.payload 0 | Close ↦ λ ripe code. code ≡ slice_index ripe.payload 1 ] };
+
     fn call(self, ripe: Ripe) -> u64 {
         let [size, file, _, _] = ripe.payload;
         match self {

@@ -1,6 +1,5 @@
 //! Threads by hand: one writes a map, and hands a value on that the other opens after a grace period.
 
-ghost use Rattle.std.specs.Prelude.{false};
 ghost use Rattle.rcu.specs.Naming.{Names};
 
 use rcu::{Domain, Handle, Map, Memb, NoCallback, Opened, Pending, Reclaim, Refusal, Site, Tabled};
@@ -52,7 +51,7 @@ pub(crate) fn serve<B: Site + Send + Sync, R: Threads + Wait + Sync>(
     alloc: Global,
     opened: Opened<Memb, Tabled>,
 ) -> Result<u64, Refusal>
-    requires { Names false B.Site opened }
+    requires { Names B.Site opened }
 {
     let (domain, mut own) = opened.named::<B, Reclaim<NoCallback>>(alloc)?;
     let rooms = Map::new(rt, alloc, &domain, &mut own, 0, 1, 4, NoCallback)?;

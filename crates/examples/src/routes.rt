@@ -1,6 +1,8 @@
 //! A routing table: a map for each length of prefix, of which a section looks the longer one up first.
 
-use rcu::{Domain, Handle, Map, Memb, NoCallback, Program, Reader, Reclaim, Refusal, Site, Tabled};
+use rcu::{
+    Chains, Domain, Handle, Map, Memb, NoCallback, Program, Reader, Reclaim, Refusal, Site, Tabled,
+};
 use std::alloc::Global;
 use std::sync::Wait;
 
@@ -42,13 +44,16 @@ impl<R: Wait> Program<Memb, Tabled, Reclaim<NoCallback>, R> for Router {
         domain: &Domain<Memb, Tabled, B, Reclaim<NoCallback>>,
         mut own: Handle<B>,
     ) -> Result<(u64, u64, u64), Refusal> {
-        let longer = Map::new(rt, alloc, domain, &mut own, 0, 2, 4, NoCallback)?;
-        let shorter = Map::new(rt, alloc, domain, &mut own, 1, 6, 4, NoCallback)?;
+        let mut chains = Chains::of(domain);
+        let (index, row) = (chains.take(1)?, chains.take(4)?);
+        let longer = Map::new(rt, alloc, domain, &mut own, index, row, 4, NoCallback)?;
+        let (index, row) = (chains.take(1)?, chains.take(4)?);
+        let shorter = Map::new(rt, alloc, domain, &mut own, index, row, 4, NoCallback)?;
         let mut reader = domain.register(rt, &mut own)?;
         shorter.set(rt, &mut own, ADDRESS & SHORTER, 1)?;
         longer.set(rt, &mut own, ADDRESS & LONGER, 2)?;
         let before = next_hop(&longer, &shorter, &mut reader)?;
-        longer.resize(rt, alloc, &mut own, 10, 8)?;
+        longer.resize(rt, alloc, &mut own, chains.take(8)?, 8)?;
         let grown = next_hop(&longer, &shorter, &mut reader)?;
         longer.remove(rt, &mut own, ADDRESS & LONGER)?;
         Ok((before, grown, next_hop(&longer, &shorter, &mut reader)?))

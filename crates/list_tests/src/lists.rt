@@ -6,7 +6,7 @@ use crate::deleter::Adds;
 use crate::plain::list_put;
 use gp_memb::{GracePlan, MembPlan};
 use gp_qsbr::QsbrPlan;
-use rcu_hash::{Chain, Domain, Keyed, ListView, LiveConfig, Opened, RcuList, Record, Site};
+use rcu_hash::{Chain, Domain, Handle, Keyed, ListView, LiveConfig, Opened, RcuList, Site};
 use rcu_model::Refusal;
 use std::alloc::Global;
 use std::marker::Brand;
@@ -25,7 +25,7 @@ fn of_pool(pool: usize) -> LiveConfig {
 /// A list over chain 0.
 fn listed<'d, P: GracePlan + Drop, B: Site>(
     domain: &'d Domain<P, Keyed, B, Adds>,
-    record: &mut Record<B>,
+    record: &mut Handle<B>,
 ) -> Result<RcuList<'d, P, Keyed, B, Adds>, Refusal> {
     let chain = domain.chain(record, 0)?;
     match RcuList::new(chain) {
@@ -50,7 +50,7 @@ fn refused<P: GracePlan + Drop, B: Site>(
 fn bad_chains<P: GracePlan + Drop, B: Site, R: Wait>(
     rt: &R,
     domain: &Domain<P, Keyed, B, Adds>,
-    record: &mut Record<B>,
+    record: &mut Handle<B>,
 ) -> Result<[bool; 5], Refusal> {
     let mut list = listed(domain, record)?;
     list_put(rt, &mut list, record, 3, 30)?;
@@ -75,7 +75,7 @@ fn bad_chains_in<P: GracePlan + Drop, B: Site, R: Wait>(
     alloc: Global,
     opened: Opened<P, Keyed>,
 ) -> Result<[bool; 5], Refusal>
-    requires { (P.QSBR ≡ B.qsbr) × (opened.table.words.shared.table_id ≡ B.table) × (opened.table.words.shared.key ≡ B.sizes) }
+    requires { (opened.table.words.shared.table_id ≡ B.table) × (opened.table.words.shared.key ≡ B.sizes) }
 {
     let (domain, mut record) = opened.named::<B, Adds>(alloc)?;
     bad_chains(rt, &domain, &mut record)

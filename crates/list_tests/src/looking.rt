@@ -4,7 +4,7 @@ ghost use Rattle.std.specs.Prelude.{◌≡◌};
 
 use crate::deleter::Adds;
 use gp_memb::GracePlan;
-use rcu_hash::{ChainRule, Domain, LiveConfig, Reader, Record, Site};
+use rcu_hash::{ChainRule, Domain, Handle, LiveConfig, Reader, Site};
 use rcu_model::Refusal;
 use std::sync::Wait;
 use std::sync::atomic::{AtomicBool, Ordering};
@@ -30,7 +30,7 @@ pub(crate) struct Idle<P: GracePlan, K: ChainRule, B: Site> {
 pub(crate) fn registered<P: GracePlan + Drop, K: ChainRule, B: Site, R: Wait>(
     rt: &R,
     domain: &Domain<P, K, B, Adds>,
-    record: &mut Record<B>,
+    record: &mut Handle<B>,
 ) -> Result<Idle<P, K, B>, Refusal> {
     let reader = domain.register(rt, record)?;
     Ok(Idle { reader })

@@ -3,7 +3,7 @@
 
 use crate::deleter::Adds;
 use gp_memb::GracePlan;
-use rcu_hash::{MapRule, RcuHash, RcuList, Record, Site, TidyEnd};
+use rcu_hash::{Handle, MapRule, RcuHash, RcuList, Site, TidyEnd};
 use rcu_model::Refusal;
 use std::alloc::Global;
 use std::sync::Wait;
@@ -12,7 +12,7 @@ use std::sync::Wait;
 pub(crate) fn put<P: GracePlan + Drop, B: Site, R: Wait>(
     rt: &R,
     table: &RcuHash<'_, P, B, Adds>,
-    record: &mut Record<B>,
+    record: &mut Handle<B>,
     key: u64,
     value: u64,
 ) -> Result<(), Refusal> {
@@ -24,7 +24,7 @@ pub(crate) fn grow<P: GracePlan + Drop, B: Site, R: Wait>(
     rt: &R,
     alloc: Global,
     table: &RcuHash<'_, P, B, Adds>,
-    record: &mut Record<B>,
+    record: &mut Handle<B>,
     first: usize,
     buckets: usize,
 ) -> Result<usize, Refusal> {
@@ -35,7 +35,7 @@ pub(crate) fn grow<P: GracePlan + Drop, B: Site, R: Wait>(
 pub(crate) fn tidy<P: GracePlan + Drop, B: Site, R: Wait>(
     rt: &R,
     table: &RcuHash<'_, P, B, Adds>,
-    record: &mut Record<B>,
+    record: &mut Handle<B>,
     jobs: Vec<Adds>,
 ) -> TidyEnd<Adds> {
     table.tidy(rt, record, jobs)
@@ -45,7 +45,7 @@ pub(crate) fn tidy<P: GracePlan + Drop, B: Site, R: Wait>(
 pub(crate) fn list_put<P: GracePlan + Drop, K: MapRule, B: Site, R: Wait>(
     rt: &R,
     list: &mut RcuList<'_, P, K, B, Adds>,
-    record: &mut Record<B>,
+    record: &mut Handle<B>,
     key: u64,
     value: u64,
 ) -> Result<(), Refusal> {

@@ -10,7 +10,7 @@ use crate::looking::{Idle, of_two_readers, registered, waits_for};
 use crate::plain::{grow, put, tidy};
 use gp_memb::{GracePlan, MembPlan};
 use gp_qsbr::QsbrPlan;
-use rcu_hash::{Opened, RcuHash, Record, Site, Tabled};
+use rcu_hash::{Handle, Opened, RcuHash, Site, Tabled};
 use rcu_model::Refusal;
 use std::alloc::Global;
 use std::marker::Brand;
@@ -25,7 +25,7 @@ const KEYS: u64 = 100;
 fn fills<P: GracePlan + Drop, B: Site, R: Wait>(
     rt: &R,
     table: &RcuHash<'_, P, B, Adds>,
-    record: &mut Record<B>,
+    record: &mut Handle<B>,
     first: u64,
 ) -> Result<(), Refusal> {
     for number in 0..KEYS {
@@ -50,11 +50,9 @@ fn writes_in_a_section<P: GracePlan + Drop, B: Site, R: Wait>(
     rt: &R,
     table: &RcuHash<'_, P, B, Adds>,
     idle: Idle<P, Tabled, B>,
-    record: Record<B>,
+    record: Handle<B>,
     told: &Signals,
-) -> Result<(), Refusal>
-    requires { P.QSBR ≡ B.qsbr }
-{
+) -> Result<(), Refusal> {
     let Idle { mut reader } = idle;
     let mut record = record;
     if P::QSBR {
@@ -76,7 +74,7 @@ fn tidies<P: GracePlan + Drop, B: Site, R: Wait>(
     rt: &R,
     alloc: Global,
     table: &RcuHash<'_, P, B, Adds>,
-    record: Record<B>,
+    record: Handle<B>,
     left: usize,
     told: &Signals,
 ) -> Result<usize, Refusal> {
@@ -93,11 +91,9 @@ fn three_work<P: GracePlan + Drop + Send + Sync, B: Site + Send + Sync, R: Threa
     alloc: Global,
     table: &RcuHash<'_, P, B, Adds>,
     reader: Idle<P, Tabled, B>,
-    records: (Record<B>, Record<B>, Record<B>),
+    records: (Handle<B>, Handle<B>, Handle<B>),
     left: usize,
-) -> Result<usize, Refusal>
-    requires { P.QSBR ≡ B.qsbr }
-{
+) -> Result<usize, Refusal> {
     let (one, two, three) = records;
     let signals = Signals {
         open: AtomicBool::new(false),
@@ -106,9 +102,7 @@ fn three_work<P: GracePlan + Drop + Send + Sync, B: Site + Send + Sync, R: Threa
     let told = &signals;
     let (wrote, (more, retired)) = join(
         rt,
-        move ||
-            requires { P.QSBR ≡ B.qsbr }
-        { writes_in_a_section(rt, table, reader, one, told) },
+        move || { writes_in_a_section(rt, table, reader, one, told) },
         move ||
             requires { IsSync R.row }
         {
@@ -134,7 +128,7 @@ fn shares<P: GracePlan + Drop + Send + Sync, B: Site + Send + Sync, R: Threads +
     alloc: Global,
     opened: Opened<P, Tabled>,
 ) -> Result<(usize, [Option<u64>; 3]), Refusal>
-    requires { (P.QSBR ≡ B.qsbr) × (opened.table.words.shared.table_id ≡ B.table) × (opened.table.words.shared.key ≡ B.sizes) }
+    requires { (opened.table.words.shared.table_id ≡ B.table) × (opened.table.words.shared.key ≡ B.sizes) }
 {
     let (domain, mut record) = opened.named::<B, Adds>(alloc)?;
     let reader = registered(rt, &domain, &mut record)?;

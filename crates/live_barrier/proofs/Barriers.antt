@@ -14,7 +14,7 @@ use Rattle.live_words.specs.live_rule.declared.view.Sizes.{Sizes}
 use Rattle.live_words.specs.live_rule.declared.view.View.{View}
 use Rattle.live_words.specs.live_rule.Places.{finished_at, queued_at}
 use Rattle.live_words.specs.live_table.Steps.{IsKnown, Went, looked_view}
-use Rattle.live_barrier.specs.Barrier.{AreNoted, AreReached, Found, HaveAllRun}
+use Rattle.live_barrier.specs.Barrier.{AreNoted, AreReached, Found, HasRunTo, HaveAllRun}
 
 -- a queue is never shorter than it was
 pub longer : (old log : Log) (q : ℕ) → Begins old log → length (line_of old q) ≤ length (line_of log q)
@@ -83,6 +83,24 @@ pub passes_more : (old log new : Log) (queue count f : ℕ) → Begins old new �
 passes_more old log new queue count f after later covered reached run passed q low o k at = dite (ℕ_discrete q queue)
     (λ same. barrier_of old old new queue (length (line_of old queue)) f ([], refl) after refl (omega arith) run o k (subst (λ (z : ℕ). get_elem? (line_of old z) k ≡ some o) same at))
     (λ ne. (grows_log log new later).reclaimed o (passed q (omega arith) o k at))
+
+at_front : {A : Type 0} (xs ys : List A) (k : ℕ) → k < length xs → get_elem? (xs ++ ys) k ≡ get_elem? xs k
+at_front [] ys k low = absurd (omega arith)
+at_front (x ∷ xs) ys zero low = refl
+at_front (x ∷ xs) ys (suc k) low = at_front xs ys k (omega arith)
+
+-- what was run to a number is so in each later log
+pub runs_still : (log new : Log) (q n : ℕ) → Begins log new → HasRunTo log q n → HasRunTo new q n
+runs_still log new q n later (run, low) =
+    let more = line_grows log new q later in let l = longer log new q later in
+    (λ k o under at. (grows_log log new later).reclaimed o (run k o under (sym (at_front (line_of log q) more.0 k (omega arith)) ∙ (ap (λ (z : List ObjectId). get_elem? z k) (sym more.1) ∙ at))), omega arith)
+
+-- one more queue has run to its count
+pub runs_more : (log new : Log) (counts : List ℕ) (queue f : ℕ) → Begins log new → get_or counts queue 0 ≤ f → HasRunTo new queue f
+    → ((q : ℕ) → q < queue → HasRunTo log q (get_or counts q 0)) → (q : ℕ) → q < queue + 1 → HasRunTo new q (get_or counts q 0)
+runs_more log new counts queue f later reached (run, low) before q under = dite (ℕ_discrete q queue)
+    (λ same. subst (λ (z : ℕ). HasRunTo new z (get_or counts z 0)) (sym same) (λ k o few at. run k o (omega arith) at, omega arith))
+    (λ ne. runs_still log new q (get_or counts q 0) later (before q (omega arith)))
 
 nothing_before : {A : Type 0} (xs ys : List A) → [] ≡ xs ++ ys → xs ≡ []
 nothing_before [] ys e = refl

@@ -4,7 +4,7 @@ use Rattle.atomic_table.specs.Table.{Me}
 use Rattle.rcu_model.specs.declared.event.ObjectId.{ObjectId}
 use Rattle.rcu_model.specs.Sets.{In}
 use Rattle.live_log.specs.declared.event.LiveEvent.{LiveEvent}
-use Rattle.live_log.specs.Log.{Log, line_of, state_of}
+use Rattle.live_log.specs.Log.{HaveRun, Log, line_of, state_of}
 use Rattle.live_words.specs.live_rule.declared.view.Sizes.{Sizes}
 use Rattle.live_words.specs.live_rule.declared.view.View.{View}
 use Rattle.live_words.specs.live_rule.Places.{finished_at, queued_at}
@@ -17,6 +17,14 @@ CoverAll key counts log = (q : ℕ) → q < key.queues → length (line_of log q
 -- each queue of the table had been given at least its count
 abbrev pub WereGiven : Sizes → List ℕ → Log → Type 0
 WereGiven key counts log = (q : ℕ) → q < key.queues → slice_index counts q ≤ length (line_of log q)
+
+-- so many objects of a queue, from the first, were queued and have their Run
+abbrev pub HasRunTo : Log → ℕ → ℕ → Type 0
+HasRunTo log q n = HaveRun q n log × (n ≤ length (line_of log q))
+
+-- of each queue of the table as many were queued as were counted, and as many have their Run
+abbrev pub HaveRunAsCounted : Sizes → List ℕ → Log → Type 0
+HaveRunAsCounted key counts log = (q : ℕ) → q < key.queues → HasRunTo log q (slice_index counts q)
 
 -- all that was queued in the old log has its Run in the new one
 abbrev pub HaveAllRun : Log → Log → Type 0

@@ -3,7 +3,7 @@ ghost use Rattle.std.specs.Prelude.{◌≡◌, ◌≤◌, ◌++◌, List, ℕ, I
 ghost use Rattle.live_words.specs.live_rule.Steps.{Precedes};
 ghost use Rattle.live_log.specs.Log.{Begins};
 ghost use Rattle.live_words.specs.live_table.Steps.{IsKnown, Keeps};
-ghost use Rattle.live_barrier.specs.Barrier.{AreNoted, AreReached, CoverAll, Found, HaveAllRun, WasLess, WereGiven};
+ghost use Rattle.live_barrier.specs.Barrier.{AreNoted, AreReached, CoverAll, Found, HaveAllRun, HaveRunAsCounted, WasLess, WereGiven};
 
 use gp_memb::GracePlan;
 use live_words::{ChainRule, LiveSeat, LiveTable, load_finished, load_queued};
@@ -41,9 +41,11 @@ pub fn barrier_start<P: GracePlan, K: ChainRule>(
 }
 
 /// Whether the barrier is passed: loads how many callbacks of each queue have finished, queue by queue, up to the first
-/// of which fewer have than the barrier noted. It is true exactly where there is none. Then all that was queued in the
-/// log at the barrier's first load has its Run, where the seat had seen or heard of that log. It never waits and takes
-/// no memory.
+/// of which fewer have than the barrier noted. It is true exactly where there is none.
+///
+/// Then of each queue as many objects have their Run as the barrier counted, whoever queued them. And all that was
+/// queued in the log at the barrier's first load has its Run, where the seat had seen or heard of that log. It never
+/// waits and takes no memory.
 pub fn barrier_done<P: GracePlan, K: ChainRule>(
     table: &LiveTable<P, K>,
     seat: &mut LiveSeat,
@@ -53,6 +55,7 @@ pub fn barrier_done<P: GracePlan, K: ChainRule>(
     requires queues { 1 ≤ table.now.queues }
     ensures seat { Keeps seat.old seat.new }
     ensures exact { (since : List (ℕ × ℕ)) × Found P.QSBR K.allows since seat.old.me seat.new.me × MatchBool result (AreReached table.now.words.shared.key mark.now.counts table.now.words.shared.key.queues since) (WasLess table.now.words.shared.key mark.now.counts since) }
+    ensures run { IsTrue result → HaveRunAsCounted table.now.words.shared.key mark.now.counts seat.new.me.0.seen }
     ensures passed { IsTrue result → mark.now.asked.value.me.0.sizes ≡ table.now.words.shared.key → IsKnown (Begins mark.now.asked.value.me.0.seen) seat.old.me.0 → HaveAllRun mark.now.asked.value.me.0.seen seat.new.me.0.seen }
 {
     for queue in 0..table.queues {

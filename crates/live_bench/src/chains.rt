@@ -7,7 +7,7 @@ use crate::kind::{OnChains, RECORDS, last_of};
 use gp_memb::GracePlan;
 use live_load::{RoundDone, begin, together, when_free, works};
 use rcu_hash::{
-    AnyChain, Callback, Chain, Deleter, Domain, Held, Opened, Owned, Reader, Record, Ripe, Section,
+    AnyChain, Callback, Chain, Deleter, Domain, Handle, Held, Opened, Owned, Reader, Ripe, Section,
     Site,
 };
 use rcu_model::Refusal;
@@ -24,21 +24,18 @@ const UPDATE_EVERY: u64 = 100;
 struct Measured<'d, 'a, P: GracePlan, B: Site> {
     domain: &'d Domain<P, AnyChain, B, RoundDone>,
     // The record that each thread's own is split from.
-    root: &'a Mutex<Record<B>>,
+    root: &'a Mutex<Handle<B>>,
     // How many hands have ended.
     ended: &'a AtomicU64,
     operation: OnChains,
     hands: usize,
     count: u64,
-    ghost flavour: { P.QSBR ≡ B.qsbr },
     ghost some: { 0 < hands },
 }
 
 /// One section with nothing in it.
 #[inline(always)]
-fn section<P: GracePlan, B: Site>(reader: &mut Reader<P, AnyChain, B>) -> bool
-    requires { P.QSBR ≡ B.qsbr }
-{
+fn section<P: GracePlan, B: Site>(reader: &mut Reader<P, AnyChain, B>) -> bool {
     match reader.section() {
         Ok(_section) => true,
         Err(_) => false,
@@ -46,9 +43,7 @@ fn section<P: GracePlan, B: Site>(reader: &mut Reader<P, AnyChain, B>) -> bool
 }
 
 /// Sections one after the other. Answers how many.
-fn sections<P: GracePlan, B: Site>(reader: &mut Reader<P, AnyChain, B>, count: u64) -> u64
-    requires { P.QSBR ≡ B.qsbr }
-{
+fn sections<P: GracePlan, B: Site>(reader: &mut Reader<P, AnyChain, B>, count: u64) -> u64 {
     let mut done = 0;
     for number in 0..count {
         if section(reader) {
@@ -59,9 +54,7 @@ fn sections<P: GracePlan, B: Site>(reader: &mut Reader<P, AnyChain, B>, count: u
 }
 
 /// Sections with a quiescent state after each. Answers how many.
-fn announcements<P: GracePlan, B: Site>(reader: &mut Reader<P, AnyChain, B>, count: u64) -> u64
-    requires { P.QSBR ≡ B.qsbr }
-{
+fn announcements<P: GracePlan, B: Site>(reader: &mut Reader<P, AnyChain, B>, count: u64) -> u64 {
     let mut done = 0;
     for number in 0..count {
         if section(reader) && reader.quiescent().is_ok() {
@@ -76,9 +69,7 @@ fn announcements<P: GracePlan, B: Site>(reader: &mut Reader<P, AnyChain, B>, cou
 fn read_first<P: GracePlan, B: Site>(
     reader: &mut Reader<P, AnyChain, B>,
     chain: usize,
-) -> Result<u64, Refusal>
-    requires { P.QSBR ≡ B.qsbr }
-{
+) -> Result<u64, Refusal> {
     let mut section = reader.section()?;
     match section.first(chain)? {
         Some(held) => {
@@ -93,9 +84,7 @@ fn read_first<P: GracePlan, B: Site>(
 fn reads<P: GracePlan, B: Site>(
     reader: &mut Reader<P, AnyChain, B>,
     count: u64,
-) -> Result<u64, Refusal>
-    requires { P.QSBR ≡ B.qsbr }
-{
+) -> Result<u64, Refusal> {
     let mut done = 0;
     for number in 0..count {
         if read_first(reader, 0)? == 0 {
@@ -111,7 +100,7 @@ fn read_again<P: GracePlan, B: Site>(
     held: Held,
     count: u64,
 ) -> u64
-    requires open_section { (P.QSBR ≡ B.qsbr) × (0 < section.old.reader.now.core.depth) }
+    requires open_section { 0 < section.old.reader.now.core.depth }
     requires held { MayHoldIn section.old.reader.now.core held.cell }
 {
     let mut sum = 0;
@@ -127,7 +116,7 @@ fn walk_on<P: GracePlan, B: Site>(
     section: &mut Section<P, AnyChain, B>,
     count: u64,
 ) -> Result<u64, Refusal>
-    requires { (P.QSBR ≡ B.qsbr) × (0 < section.old.reader.now.core.depth) }
+    requires { 0 < section.old.reader.now.core.depth }
 {
     let mut at = section.first(0)?;
     let mut walks = 0;
@@ -148,9 +137,7 @@ fn reading<P: GracePlan, B: Site>(
     reader: &mut Reader<P, AnyChain, B>,
     operation: OnChains,
     count: u64,
-) -> Result<u64, Refusal>
-    requires { P.QSBR ≡ B.qsbr }
-{
+) -> Result<u64, Refusal> {
     begin(reader)?;
     match operation {
         OnChains::Announcement => Ok(announcements(reader, count)),
@@ -178,7 +165,7 @@ fn reading<P: GracePlan, B: Site>(
 fn synchronizations<P: GracePlan + Drop, B: Site, D: Deleter, R: Wait>(
     rt: &R,
     domain: &Domain<P, AnyChain, B, D>,
-    record: &mut Record<B>,
+    record: &mut Handle<B>,
     count: u64,
 ) -> Result<u64, Refusal> {
     let _one = domain.register(rt, record)?;
@@ -194,7 +181,7 @@ fn synchronizations<P: GracePlan + Drop, B: Site, D: Deleter, R: Wait>(
 /// Looks whether one ask is answered. Answers how many said no.
 fn polls<P: GracePlan + Drop, B: Site, D: Deleter>(
     domain: &Domain<P, AnyChain, B, D>,
-    record: &mut Record<B>,
+    record: &mut Handle<B>,
     count: u64,
 ) -> Result<u64, Refusal> {
     let cookie = domain.start_poll(record)?;
@@ -211,7 +198,7 @@ fn polls<P: GracePlan + Drop, B: Site, D: Deleter>(
 fn alloc<P: GracePlan + Drop, B: Site, D: Deleter, R: Wait>(
     rt: &R,
     domain: &Domain<P, AnyChain, B, D>,
-    record: &mut Record<B>,
+    record: &mut Handle<B>,
     word: u64,
 ) -> Result<Owned<B>, Refusal> {
     domain.alloc(rt, record, [word; 4])
@@ -221,7 +208,7 @@ fn alloc<P: GracePlan + Drop, B: Site, D: Deleter, R: Wait>(
 fn one_record<P: GracePlan + Drop, B: Site, D: Deleter, R: Wait>(
     rt: &R,
     writer: &mut Chain<'_, P, AnyChain, B, D>,
-    record: &mut Record<B>,
+    record: &mut Handle<B>,
     operation: OnChains,
     word: u64,
 ) -> Result<(), Refusal> {
@@ -242,7 +229,7 @@ fn one_record<P: GracePlan + Drop, B: Site, D: Deleter, R: Wait>(
 fn records<P: GracePlan + Drop, B: Site, D: Deleter, R: Wait>(
     rt: &R,
     domain: &Domain<P, AnyChain, B, D>,
-    record: &mut Record<B>,
+    record: &mut Handle<B>,
     operation: OnChains,
     count: u64,
 ) -> Result<u64, Refusal> {
@@ -257,7 +244,7 @@ fn records<P: GracePlan + Drop, B: Site, D: Deleter, R: Wait>(
 fn published<'d, P: GracePlan + Drop, B: Site, D: Deleter, R: Wait>(
     rt: &R,
     domain: &'d Domain<P, AnyChain, B, D>,
-    record: &mut Record<B>,
+    record: &mut Handle<B>,
     chain: usize,
 ) -> Result<Chain<'d, P, AnyChain, B, D>, Refusal> {
     let owned = alloc(rt, domain, record, 0)?;
@@ -270,7 +257,7 @@ fn published<'d, P: GracePlan + Drop, B: Site, D: Deleter, R: Wait>(
 fn replaces<P: GracePlan + Drop, B: Site, D: Deleter, R: Wait>(
     rt: &R,
     domain: &Domain<P, AnyChain, B, D>,
-    record: &mut Record<B>,
+    record: &mut Handle<B>,
     writer: &mut Chain<'_, P, AnyChain, B, D>,
     word: u64,
     deleter: D,
@@ -289,7 +276,7 @@ fn replaces<P: GracePlan + Drop, B: Site, D: Deleter, R: Wait>(
 fn retirements<P: GracePlan + Drop, B: Site, R: Wait>(
     rt: &R,
     measured: &Measured<'_, '_, P, B>,
-    record: &mut Record<B>,
+    record: &mut Handle<B>,
 ) -> Result<u64, Refusal> {
     let domain = measured.domain;
     let mut writer = published(rt, domain, record, 0)?;
@@ -307,7 +294,7 @@ fn retirements<P: GracePlan + Drop, B: Site, R: Wait>(
 fn mixed_one<P: GracePlan + Drop, B: Site, R: Wait>(
     rt: &R,
     measured: &Measured<'_, '_, P, B>,
-    record: &mut Record<B>,
+    record: &mut Handle<B>,
     reader: &mut Reader<P, AnyChain, B>,
     writer: &mut Chain<'_, P, AnyChain, B, RoundDone>,
     number: u64,
@@ -327,7 +314,7 @@ fn mixed_one<P: GracePlan + Drop, B: Site, R: Wait>(
 fn mixed<P: GracePlan + Drop, B: Site, R: Wait>(
     rt: &R,
     measured: &Measured<'_, '_, P, B>,
-    record: &mut Record<B>,
+    record: &mut Handle<B>,
     reader: &mut Reader<P, AnyChain, B>,
     chain: usize,
 ) -> Result<u64, Refusal> {
@@ -343,7 +330,7 @@ fn mixed<P: GracePlan + Drop, B: Site, R: Wait>(
 fn hand<P: GracePlan + Drop, B: Site, R: Wait>(
     rt: &R,
     measured: &Measured<'_, '_, P, B>,
-    record: &mut Record<B>,
+    record: &mut Handle<B>,
     number: usize,
 ) -> Result<u64, Refusal> {
     let (domain, count) = (measured.domain, measured.count);
@@ -407,7 +394,7 @@ pub(crate) fn on_chains<
     hands: usize,
     count: u64,
 ) -> Result<u64, Refusal>
-    requires { (P.QSBR ≡ B.qsbr) × (opened.table.words.shared.table_id ≡ B.table) × (opened.table.words.shared.key ≡ B.sizes) }
+    requires { (opened.table.words.shared.table_id ≡ B.table) × (opened.table.words.shared.key ≡ B.sizes) }
 {
     let (domain, mut record) = opened.named::<B, RoundDone>(alloc)?;
     if operation.is_read() {
@@ -438,7 +425,7 @@ pub(crate) fn on_chains<
 fn retires<P: GracePlan + Drop, B: Site, D: Deleter, R: Wait, F: Fn() -> Option<D>>(
     rt: &R,
     domain: &Domain<P, AnyChain, B, D>,
-    record: &mut Record<B>,
+    record: &mut Handle<B>,
     count: u64,
     callback: F,
 ) -> Result<u64, Refusal>
@@ -459,7 +446,7 @@ fn retiring_part<P: GracePlan + Drop, B: Site, D: Deleter, R: Wait, F: Fn() -> O
     rt: &R,
     alloc: Global,
     domain: &Domain<P, AnyChain, B, D>,
-    root: &Mutex<Record<B>>,
+    root: &Mutex<Handle<B>>,
     count: u64,
     number: usize,
     callback: F,
@@ -481,7 +468,7 @@ pub(crate) fn boxed<
     B: Site + Send + Sync,
     R: Threads + Wait + Sync,
 >(rt: &R, alloc: Global, opened: Opened<P, AnyChain>, count: u64) -> Result<u64, Refusal>
-    requires { (P.QSBR ≡ B.qsbr) × (opened.table.words.shared.table_id ≡ B.table) × (opened.table.words.shared.key ≡ B.sizes) }
+    requires { (opened.table.words.shared.table_id ≡ B.table) × (opened.table.words.shared.key ≡ B.sizes) }
 {
     let (domain, record) = opened.named::<B, Callback>(alloc)?;
     let root = Mutex::new(record);

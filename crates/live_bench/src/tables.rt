@@ -8,7 +8,7 @@ use live_load::{
     Buckets, Map, RoundDone, Target, View, begin, grows_to, look, put, table, take_out, together,
     view_of, walk, works,
 };
-use rcu_hash::{Domain, Opened, Reader, Record, Site, Tabled};
+use rcu_hash::{Domain, Handle, Opened, Reader, Site, Tabled};
 use rcu_model::Refusal;
 use std::alloc::Global;
 use std::sync::atomic::{AtomicBool, AtomicU64, Ordering};
@@ -33,7 +33,7 @@ struct Measured<'d, 'a, P: GracePlan, B: Site> {
     domain: &'d Domain<P, Tabled, B, RoundDone>,
     map: &'a Map<'d, P, B>,
     // The record that each thread's own is split from.
-    root: &'a Mutex<Record<B>>,
+    root: &'a Mutex<Handle<B>>,
     view: View<B>,
     operation: OnTable,
     hands: usize,
@@ -44,7 +44,6 @@ struct Measured<'d, 'a, P: GracePlan, B: Site> {
     done: AtomicBool,
     // Counts as fast as it can: a program that may read no clock measures time by that.
     clock: AtomicU64,
-    ghost flavour: { P.QSBR ≡ B.qsbr },
 }
 
 /// The key that is looked up as the one of this number.
@@ -64,9 +63,7 @@ fn look_up<P: GracePlan, B: Site>(
     reader: &mut Reader<P, Tabled, B>,
     view: &View<B>,
     key: u64,
-) -> Result<bool, Refusal>
-    requires { P.QSBR ≡ B.qsbr }
-{
+) -> Result<bool, Refusal> {
     let mut section = reader.section()?;
     Ok(look(&mut section, view, key).is_some())
 }
@@ -133,7 +130,7 @@ fn walks_through<P: GracePlan, B: Site>(
 fn reading<P: GracePlan + Drop, B: Site, R: Wait>(
     rt: &R,
     measured: &Measured<'_, '_, P, B>,
-    record: &mut Record<B>,
+    record: &mut Handle<B>,
 ) -> Result<u64, Refusal> {
     let mut reader = measured.domain.register(rt, record)?;
     begin(&mut reader)?;
@@ -164,7 +161,7 @@ fn ticks(clock: &AtomicU64, done: &AtomicBool) -> u64 {
 fn insertions<P: GracePlan + Drop, B: Site, R: Wait>(
     rt: &R,
     map: &Map<'_, P, B>,
-    record: &mut Record<B>,
+    record: &mut Handle<B>,
     count: u64,
 ) -> Result<u64, Refusal> {
     for key in 0..count {
@@ -177,7 +174,7 @@ fn insertions<P: GracePlan + Drop, B: Site, R: Wait>(
 fn removals<P: GracePlan + Drop, B: Site, R: Wait>(
     rt: &R,
     map: &Map<'_, P, B>,
-    record: &mut Record<B>,
+    record: &mut Handle<B>,
     count: u64,
 ) -> Result<u64, Refusal> {
     for number in 0..count {
@@ -193,7 +190,7 @@ fn growths<P: GracePlan + Drop, B: Site, R: Wait>(
     rt: &R,
     alloc: Global,
     measured: &Measured<'_, '_, P, B>,
-    record: &mut Record<B>,
+    record: &mut Handle<B>,
     count: u64,
 ) -> Result<u64, Refusal> {
     for number in 0..count {
@@ -216,7 +213,7 @@ fn hand<P: GracePlan + Drop, B: Site, R: Wait>(
     rt: &R,
     alloc: Global,
     measured: &Measured<'_, '_, P, B>,
-    record: &mut Record<B>,
+    record: &mut Handle<B>,
     number: usize,
 ) -> Result<u64, Refusal> {
     let count = measured.count;
@@ -266,7 +263,7 @@ pub(crate) fn on_table<
     hands: usize,
     count: u64,
 ) -> Result<u64, Refusal>
-    requires { (P.QSBR ≡ B.qsbr) × (opened.table.words.shared.table_id ≡ B.table) × (opened.table.words.shared.key ≡ B.sizes) }
+    requires { (opened.table.words.shared.table_id ≡ B.table) × (opened.table.words.shared.key ≡ B.sizes) }
 {
     let (domain, mut record) = opened.named::<B, RoundDone>(alloc)?;
     let home = &domain;

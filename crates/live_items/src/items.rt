@@ -2,7 +2,7 @@
 ghost use Rattle.std.specs.Prelude.{◌≡◌, ◌≢◌, ◌⊎◌, ◌+◌, ◌-◌, ◌<◌, ◌≤◌, ◌^◌, ◌∷◌, ◌++◌, [], length, max, reverse, vec_capacity, vec_len, true, false, IfErr, IfOk, IsOk};
 ghost use Rattle.rcu_model.specs.declared.refusal.Refusal.TheVariants.{Closed, Memory};
 ghost use Rattle.rcu_model.specs.declared.event.ObjectId.{ObjectId};
-ghost use Rattle.callback_queue.specs.Queue.{closed_queue, empty_queue, given_of, handed_out, pushed, sealed, taken_out, with_place};
+ghost use Rattle.callback_queue.specs.Queue.{closed_queue, empty_queue, given_of, handed_out, sealed, taken_out, with_place};
 ghost use Rattle.live_log.specs.declared.event.LiveEvent.TheVariants.{CloseQueue};
 ghost use Rattle.live_log.specs.Log.{Begins, line_of};
 ghost use Rattle.live_words.specs.live_rule.declared.rights.QueueRight.TheVariants.{Owns};
@@ -10,14 +10,14 @@ ghost use Rattle.live_words.specs.live_rule.declared.rights.RecordRight.TheVaria
 ghost use Rattle.live_words.specs.live_table.Rights.{object_in};
 ghost use Rattle.live_words.specs.live_table.Steps.{Keeps};
 ghost use Rattle.live_read.specs.Hearing.{OnlyHears};
-ghost use Rattle.live_items.specs.Items.{Closes, InOrder, JobValue, ripened};
+ghost use Rattle.live_items.specs.Items.{Closes, InOrder, IsPushed, ripened};
 ghost use Rattle.live_items.specs.Retiring.{IsAfterAll, Queues};
 
 use crate::job::Job;
 use crate::retiring::queue_object;
 use callback_queue::{CallbackQueue, Item, Ticket};
 use gp_memb::GracePlan;
-use live_read::{Site, Witness, tell_all};
+use live_read::{Caller, Site, tell_all};
 use live_words::{ChainRule, LiveSeat, LiveTable, store_closed};
 use live_write::Unlinked;
 use poll_cookie::Cookie;
@@ -40,7 +40,7 @@ impl<B: Site, C: Drop> Model for Items<B, C> {
     ghost use Rattle.live_items.specs.Items.{IsUnderLock, Jobs};
 
     // The items, what the queue's seat knows, and which queue it is.
-    ghost Value = { Jobs × View × ℕ };
+    ghost Value = { Jobs C × View × ℕ };
 
     ghost view = { λ i. (i.queue, i.seat.me.0, i.number) };
 
@@ -88,26 +88,26 @@ impl<B: Site, C: Drop> Items<B, C> {
     }
 
     /// Retires a cut object and queues its callback, liburcu's `call_rcu`. The retirement comes after the cut, and
-    /// after all that the witness had seen and heard of; the witness hears of it.
+    /// after all that the caller had seen and heard of; the caller hears of it.
     ///
     /// Refused with `Closed` exactly where the queue was closed, else with `Memory`; then nothing was stored, and both
     /// parts come back. It waits for nobody.
-    pub fn retire<P: GracePlan, K: ChainRule, W: Witness>(
+    pub fn retire<P: GracePlan, K: ChainRule, W: Caller<B>>(
         &mut self,
         table: &LiveTable<P, K>,
-        witness: &mut W,
+        caller: &mut W,
         unlinked: Unlinked<B>,
         callback: C,
     ) -> Result<Ticket, (Refusal, Unlinked<B>, C)>
-        requires site { (table.now.words.shared.table_id ≡ B.table) × (table.now.words.shared.key ≡ B.sizes) × (W.home witness.old ≡ (B.table, B.sizes)) }
+        requires site { (table.now.words.shared.table_id ≡ B.table) × (table.now.words.shared.key ≡ B.sizes) }
         ensures queue { self.new.2 ≡ self.old.2 }
         ensures ticket { IfOk result (λ t. (self.old.0.closed ≡ false) × (t.0 ≡ given_of self.old.0 + 1) × (given_of self.new.0 ≡ t.0)) }
-        ensures pushed { IfOk result (λ _. (job : JobValue) × (self.new.0 ≡ pushed (with_place self.old.0) (record { object = object_in unlinked.seat.me.0.object; job = job }))) }
-        ensures retired { IfOk result (λ t. Queues P.QSBR K.allows (IsAfterAll unlinked.seat.me.0.seen (W.seen witness.old) (W.heard witness.old)) (object_in unlinked.seat.me.0.object) self.old.2 (given_of self.old.0) (W.heard witness.new)) }
+        ensures pushed { IfOk result (λ _. IsPushed self.old.0 self.new.0 (object_in unlinked.seat.me.0.object) callback) }
+        ensures retired { IfOk result (λ t. Queues P.QSBR K.allows (IsAfterAll unlinked.seat.me.0.seen (W.seen caller.old) (W.heard caller.old)) (object_in unlinked.seat.me.0.object) self.old.2 (given_of self.old.0) (W.heard caller.new)) }
         ensures refused { IfErr result (λ e. ((e.0 ≡ Closed) × (self.old.0.closed ≡ true)) ⊎ ((e.0 ≡ Memory) × (self.old.0.closed ≡ false))) }
         ensures prepared { self.old.0.closed ≡ false → self.old.0.reserved ≡ true → given_of self.old.0 < 2 ^ 63 → IsOk result }
-        ensures back { IfErr result (λ e. (e.1 ≡ unlinked) × (e.2 ≡ callback) × (self.new ≡ self.old) × (witness.new ≡ witness.old)) }
-        ensures same { OnlyHears W.Witness witness.old witness.new }
+        ensures back { IfErr result (λ e. (e.1 ≡ unlinked) × (e.2 ≡ callback) × (self.new ≡ self.old) × (caller.new ≡ caller.old)) }
+        ensures same { OnlyHears W.Caller caller.old caller.new }
     {
         if self.queue.is_closed() {
             return Err((Refusal::Closed, unlinked, callback));
@@ -120,10 +120,10 @@ impl<B: Site, C: Drop> Items<B, C> {
             return Err((Refusal::Memory, unlinked, callback));
         };
         let (mut seat, cell) = unlinked.into_parts();
-        let told = tell_all(table, witness);
+        let told = tell_all(table, caller);
         table.learn(&mut seat, told);
         let (seat, number) = queue_object(table, &mut self.seat, seat, self.number, given, cell);
-        witness.learn(table, table.tell(&mut self.seat));
+        caller.learn(table, table.tell(&mut self.seat));
         let item = Item {
             object: ObjectId(number),
             job: Job::of(seat, cell, callback),
@@ -243,22 +243,22 @@ impl<B: Site, C: Drop> Items<B, C> {
         }
     }
 
-    /// Closes the queue: every later `retire` is refused, and what is queued stays. The witness hears of it. It waits
+    /// Closes the queue: every later `retire` is refused, and what is queued stays. The caller hears of it. It waits
     /// for nobody and takes no memory.
-    pub fn close<P: GracePlan, K: ChainRule, W: Witness>(
+    pub fn close<P: GracePlan, K: ChainRule, W: Caller<B>>(
         &mut self,
         table: &LiveTable<P, K>,
-        witness: &mut W,
+        caller: &mut W,
     )
-        requires site { (table.now.words.shared.table_id ≡ B.table) × (table.now.words.shared.key ≡ B.sizes) × (W.home witness.old ≡ (B.table, B.sizes)) }
+        requires site { (table.now.words.shared.table_id ≡ B.table) × (table.now.words.shared.key ≡ B.sizes) }
         ensures queue { (self.new.0 ≡ closed_queue self.old.0) × (self.new.2 ≡ self.old.2) }
-        ensures closed { Closes P.QSBR K.allows (W.seen witness.old) (W.heard witness.old) self.old.2 (W.heard witness.new) }
-        ensures same { OnlyHears W.Witness witness.old witness.new }
+        ensures closed { Closes P.QSBR K.allows (W.seen caller.old) (W.heard caller.old) self.old.2 (W.heard caller.new) }
+        ensures same { OnlyHears W.Caller caller.old caller.new }
     {
-        let told = tell_all(table, witness);
+        let told = tell_all(table, caller);
         table.learn(&mut self.seat, told);
         store_closed(table, &mut self.seat, self.number);
         self.queue.close();
-        witness.learn(table, table.tell(&mut self.seat));
+        caller.learn(table, table.tell(&mut self.seat));
     }
 }

@@ -18,10 +18,10 @@ impl<B: Site, C: Drop> Model for Job<B, C> {
     ghost use Rattle.live_words.specs.live_table.Rights.{IsQueued, cell_in};
     ghost use Rattle.live_items.specs.Items.{JobValue};
 
-    // What its seat knows, and its record.
-    ghost Value = { JobValue };
+    // What its seat knows, its record, and what is called.
+    ghost Value = { JobValue C };
 
-    ghost view = { λ j. (j.seat.me.0, j.cell) };
+    ghost view = { λ j. (j.seat.me.0, j.cell, j.callback) };
 
     ghost invariant = { λ j. (j.seat.table_id ≡ B.table) × (j.seat.me.1 ≡ []) × (j.seat.me.0.sizes ≡ B.sizes) × IsQueued j.seat.me.0 × (cell_in j.seat.me.0.object ≡ j.cell) × (j.cell < B.sizes.pool) };
 }
@@ -34,7 +34,7 @@ impl<B: Site, C: Drop> Job<B, C> {
     pub(crate) fn of(seat: LiveSeat, cell: usize, callback: C) -> Job<B, C>
         requires site { (seat.table_id ≡ B.table) × (seat.me.0.sizes ≡ B.sizes) × (seat.me.1 ≡ []) }
         requires right { IsQueued seat.me.0 × (cell_in seat.me.0.object ≡ cell) × (cell < B.sizes.pool) }
-        ensures { result ≡ (seat.me.0, cell) }
+        ensures { result ≡ (seat.me.0, cell, callback) }
     {
         Job {
             seat,
@@ -45,7 +45,9 @@ impl<B: Site, C: Drop> Job<B, C> {
     }
 
     /// What was to be called. Its object is never run.
-    pub fn into_callback(self) -> C {
+    pub fn into_callback(self) -> C
+        ensures { result ≡ self.2 }
+    {
         let Job { callback, .. } = self;
         callback
     }

@@ -35,7 +35,8 @@ fn load_words<P: GracePlan, K: ChainRule>(
 
 impl<B: Site, C: Drop> Job<B, C> {
     /// Runs the job's object, which the worker knows to be ripe: loads its four words, and then frees its record. The
-    /// worker's seat hears of that, and then what comes with the job may be called. It never waits and takes no memory.
+    /// worker's seat hears of that. Then the job's own callback may be called, which comes back with the words. It never
+    /// waits and takes no memory.
     pub fn run<P: GracePlan, K: ChainRule>(
         self,
         table: &LiveTable<P, K>,
@@ -49,6 +50,7 @@ impl<B: Site, C: Drop> Job<B, C> {
         ensures finds { KeepsFinds worker.old.me.0 worker.new.me.0 }
         ensures run { Runs P.QSBR K.allows self.0.seen worker.old.me.0.seen object worker.new.me.0.heard }
         ensures ripe { (result.0.object ≡ object) × (result.0.payload ≡ payload_of worker.new.me.0.heard object) }
+        ensures callback { result.1 ≡ self.2 }
     {
         let Job {
             mut seat,

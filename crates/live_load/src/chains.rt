@@ -64,7 +64,7 @@ fn threads<
     load: Load,
     watch: &W,
 ) -> Result<Counts, Refusal>
-    requires { (P.QSBR ≡ B.qsbr) × (opened.table.words.shared.table_id ≡ B.table) × (opened.table.words.shared.key ≡ B.sizes) × (0 < load.updaters) }
+    requires { (opened.table.words.shared.table_id ≡ B.table) × (opened.table.words.shared.key ≡ B.sizes) × (0 < load.updaters) }
 {
     let (domain, record) = opened.named::<B, RoundDone>(alloc)?;
     let root = Mutex::new(record);

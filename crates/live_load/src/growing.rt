@@ -6,7 +6,7 @@ use crate::threads::Shared;
 use crate::updating::{Updated, when_free};
 use crate::watch::Watch;
 use gp_memb::GracePlan;
-use rcu_hash::{RcuHash, Record, Site, Tabled};
+use rcu_hash::{Handle, RcuHash, Site, Tabled};
 use rcu_model::Refusal;
 use std::alloc::Global;
 use std::sync::Wait;
@@ -27,7 +27,7 @@ fn grow<P: GracePlan + Drop, B: Site, R: Wait>(
     rt: &R,
     alloc: Global,
     table: &RcuHash<'_, P, B, RoundDone>,
-    record: &mut Record<B>,
+    record: &mut Handle<B>,
     buckets: Buckets,
 ) -> Result<usize, Refusal> {
     table.grow(rt, alloc, record, buckets.first, buckets.number)
@@ -38,7 +38,7 @@ fn tidy<P: GracePlan + Drop, B: Site, R: Wait>(
     rt: &R,
     alloc: Global,
     table: &RcuHash<'_, P, B, RoundDone>,
-    record: &mut Record<B>,
+    record: &mut Handle<B>,
     left: usize,
 ) -> Result<u64, Refusal> {
     let end = table.tidy(rt, record, callbacks(alloc, left)?);
@@ -54,7 +54,7 @@ pub fn grows_to<P: GracePlan + Drop, B: Site, R: Wait>(
     rt: &R,
     alloc: Global,
     map: &Map<'_, P, B>,
-    record: &mut Record<B>,
+    record: &mut Handle<B>,
     buckets: Buckets,
 ) -> Result<u64, Refusal> {
     let Map::Table(table) = map else {
@@ -69,7 +69,7 @@ pub(crate) fn growths<P: GracePlan + Drop, B: Site, R: Wait, W: Watch>(
     rt: &R,
     alloc: Global,
     shared: &Shared<'_, '_, P, Tabled, B, W>,
-    record: &mut Record<B>,
+    record: &mut Handle<B>,
     map: &Map<'_, P, B>,
 ) -> Result<Updated, Refusal> {
     let mut retired = 0u64;

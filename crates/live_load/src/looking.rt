@@ -7,7 +7,7 @@ use crate::threads::Shared;
 use crate::waiting::Mark;
 use crate::watch::Watch;
 use gp_memb::GracePlan;
-use rcu_hash::{Reader, Record, Site, Tabled};
+use rcu_hash::{Handle, Reader, Site, Tabled};
 use rcu_model::Refusal;
 use std::sync::Wait;
 use std::time::Clock;
@@ -51,9 +51,7 @@ fn one_look<P: GracePlan, B: Site>(
     mark: &Mark,
     number: u64,
     looked: &mut Looked,
-) -> Result<bool, Refusal>
-    requires { P.QSBR ≡ B.qsbr }
-{
+) -> Result<bool, Refusal> {
     let mut section = reader.section()?;
     mark.begin(number);
     let found = look(&mut section, view, looked.key);
@@ -72,9 +70,7 @@ fn one_walk<P: GracePlan, B: Site>(
     view: &View<B>,
     mark: &Mark,
     number: u64,
-) -> Result<bool, Refusal>
-    requires { P.QSBR ≡ B.qsbr }
-{
+) -> Result<bool, Refusal> {
     let mut met = Met { once: 0, twice: 0 };
     let mut visit = |key: u64, _value: u64| met.meets(key);
     let mut section = reader.section()?;
@@ -123,7 +119,7 @@ fn sections<P: GracePlan + Drop, B: Site, R: Clock, W: Watch>(
 pub(crate) fn looks<P: GracePlan + Drop, B: Site, R: Wait + Clock, W: Watch>(
     rt: &R,
     shared: &Shared<'_, '_, P, Tabled, B, W>,
-    record: &mut Record<B>,
+    record: &mut Handle<B>,
     view: &View<B>,
     marks: &[Mark],
     number: usize,

@@ -16,7 +16,7 @@ use crate::updating::{rounds, when_free};
 use crate::waiting::{Mark, marks, waits};
 use crate::watch::Watch;
 use gp_memb::GracePlan;
-use rcu_hash::{LiveConfig, Opened, Record, Site, Tabled};
+use rcu_hash::{Handle, LiveConfig, Opened, Site, Tabled};
 use rcu_model::Refusal;
 use std::alloc::Global;
 use std::marker::Brand;
@@ -33,7 +33,7 @@ const OWN: u64 = 1_000;
 fn one_round<P: GracePlan + Drop, B: Site, R: Wait>(
     rt: &R,
     map: &Map<'_, P, B>,
-    record: &mut Record<B>,
+    record: &mut Handle<B>,
     updater: usize,
     round: u64,
 ) -> Result<(), Refusal> {
@@ -92,7 +92,7 @@ fn threads<
     load: Load,
     watch: &W,
 ) -> Result<Counts, Refusal>
-    requires { (P.QSBR ≡ B.qsbr) × (opened.table.words.shared.table_id ≡ B.table) × (opened.table.words.shared.key ≡ B.sizes) × (0 < load.updaters) }
+    requires { (opened.table.words.shared.table_id ≡ B.table) × (opened.table.words.shared.key ≡ B.sizes) × (0 < load.updaters) }
 {
     let (domain, mut record) = opened.named::<B, RoundDone>(alloc)?;
     let home = &domain;

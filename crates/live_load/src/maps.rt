@@ -6,7 +6,7 @@ ghost use Rattle.std.specs.Prelude.{◌≡◌, ◌<◌};
 use crate::round::RoundDone;
 use crate::target::Target;
 use gp_memb::GracePlan;
-use rcu_hash::{Domain, ListView, RcuHash, RcuList, Record, Section, Site, TableView, Tabled};
+use rcu_hash::{Domain, Handle, ListView, RcuHash, RcuList, Section, Site, TableView, Tabled};
 use rcu_model::Refusal;
 use std::alloc::Global;
 use std::sync::{Mutex, Wait};
@@ -64,7 +64,7 @@ pub fn table<'d, P: GracePlan + Drop, B: Site, R: Wait>(
     rt: &R,
     alloc: Global,
     domain: &'d Domain<P, Tabled, B, RoundDone>,
-    record: &mut Record<B>,
+    record: &mut Handle<B>,
     buckets: Buckets,
 ) -> Result<Map<'d, P, B>, Refusal> {
     let Buckets { first, number } = buckets;
@@ -75,7 +75,7 @@ pub fn table<'d, P: GracePlan + Drop, B: Site, R: Wait>(
 /// A list with no keys, in chain 0.
 fn list<'d, P: GracePlan + Drop, B: Site>(
     domain: &'d Domain<P, Tabled, B, RoundDone>,
-    record: &mut Record<B>,
+    record: &mut Handle<B>,
 ) -> Result<Map<'d, P, B>, Refusal> {
     match RcuList::new(domain.chain(record, FIRST)?) {
         Ok(list) => Ok(Map::List(Mutex::new(list))),
@@ -88,7 +88,7 @@ pub(crate) fn filled<'d, P: GracePlan + Drop, B: Site, R: Wait>(
     rt: &R,
     alloc: Global,
     domain: &'d Domain<P, Tabled, B, RoundDone>,
-    record: &mut Record<B>,
+    record: &mut Handle<B>,
     target: Target,
 ) -> Result<Map<'d, P, B>, Refusal> {
     let map = match target {
@@ -116,7 +116,7 @@ pub fn view_of<P: GracePlan + Drop, B: Site>(
 pub fn put<P: GracePlan + Drop, B: Site, R: Wait>(
     rt: &R,
     map: &Map<'_, P, B>,
-    record: &mut Record<B>,
+    record: &mut Handle<B>,
     key: u64,
     value: u64,
 ) -> Result<(), Refusal> {
@@ -130,7 +130,7 @@ pub fn put<P: GracePlan + Drop, B: Site, R: Wait>(
 pub(crate) fn change<P: GracePlan + Drop, B: Site, R: Wait>(
     rt: &R,
     map: &Map<'_, P, B>,
-    record: &mut Record<B>,
+    record: &mut Handle<B>,
     key: u64,
     value: u64,
 ) -> Result<(), Refusal> {
@@ -149,7 +149,7 @@ pub(crate) fn change<P: GracePlan + Drop, B: Site, R: Wait>(
 pub fn take_out<P: GracePlan + Drop, B: Site, R: Wait>(
     rt: &R,
     map: &Map<'_, P, B>,
-    record: &mut Record<B>,
+    record: &mut Handle<B>,
     key: u64,
 ) -> Result<(), Refusal> {
     let taken = match map {
@@ -168,7 +168,7 @@ pub fn look<P: GracePlan, B: Site>(
     view: &View<B>,
     key: u64,
 ) -> Option<u64>
-    requires { (P.QSBR ≡ B.qsbr) × (0 < section.old.reader.now.core.depth) }
+    requires { 0 < section.old.reader.now.core.depth }
 {
     match view {
         View::List(list) => list.get(section, key),
@@ -182,7 +182,7 @@ pub fn walk<P: GracePlan, B: Site, F: FnMut(u64, u64)>(
     view: &View<B>,
     visit: &mut F,
 )
-    requires open_section { (P.QSBR ≡ B.qsbr) × (0 < section.old.reader.now.core.depth) }
+    requires open_section { 0 < section.old.reader.now.core.depth }
     requires callable { F.IsAlwaysCallable visit.old }
 {
     match view {

@@ -6,7 +6,7 @@ use crate::deadline::Deadline;
 use crate::load::Load;
 use crate::round::RoundDone;
 use gp_memb::GracePlan;
-use rcu_hash::{AnyChain, ChainRule, Domain, Reader, Record, Site};
+use rcu_hash::{AnyChain, ChainRule, Domain, Handle, Reader, Site};
 use rcu_model::Refusal;
 use std::sync::Wait;
 use std::time::Clock;
@@ -14,9 +14,7 @@ use std::time::Clock;
 /// A reader of the quiescent-state flavour goes online.
 pub fn begin<P: GracePlan, K: ChainRule, B: Site>(
     reader: &mut Reader<P, K, B>,
-) -> Result<(), Refusal>
-    requires { P.QSBR ≡ B.qsbr }
-{
+) -> Result<(), Refusal> {
     if P::QSBR { reader.online() } else { Ok(()) }
 }
 
@@ -34,7 +32,7 @@ fn one_section<P: GracePlan, B: Site>(
     reader: &mut Reader<P, AnyChain, B>,
     chain: usize,
 ) -> Result<bool, Refusal>
-    requires { (P.QSBR ≡ B.qsbr) × (reader.old.core.depth ≡ 0) × (reader.old.core.locks ≡ 0) }
+    requires { (reader.old.core.depth ≡ 0) × (reader.old.core.locks ≡ 0) }
     ensures { (reader.new.core.depth ≡ 0) × (reader.new.core.locks ≡ 0) }
 {
     let mut section = reader.section()?;
@@ -55,7 +53,7 @@ fn sections<P: GracePlan, B: Site, R: Clock>(
     load: &Load,
     deadline: &Deadline,
 ) -> Result<u64, Refusal>
-    requires { (P.QSBR ≡ B.qsbr) × (reader.old.core.depth ≡ 0) × (reader.old.core.locks ≡ 0) × (0 < load.now.updaters) }
+    requires { (reader.old.core.depth ≡ 0) × (reader.old.core.locks ≡ 0) × (0 < load.now.updaters) }
     ensures idle { (reader.new.core.depth ≡ 0) × (reader.new.core.locks ≡ 0) }
     ensures count { IfOk result (λ mixed. mixed ≤ load.now.rounds) }
 {
@@ -79,11 +77,11 @@ fn sections<P: GracePlan, B: Site, R: Clock>(
 pub(crate) fn reads<P: GracePlan + Drop, B: Site, R: Wait + Clock>(
     rt: &R,
     domain: &Domain<P, AnyChain, B, RoundDone>,
-    record: &mut Record<B>,
+    record: &mut Handle<B>,
     load: &Load,
     deadline: &Deadline,
 ) -> Result<u64, Refusal>
-    requires { (P.QSBR ≡ B.qsbr) × (0 < load.now.updaters) }
+    requires { 0 < load.now.updaters }
     ensures { IfOk result (λ mixed. mixed ≤ load.now.rounds) }
 {
     let mut reader = domain.register(rt, record)?;

@@ -7,6 +7,10 @@ use rcu_hash::{Deleter, Ripe};
 pub struct RoundDone(pub u64);
 
 impl Deleter for RoundDone {
+    ghost use Rattle.std.specs.Prelude.{◌≡◌};
+
+    ghost answers = { λ d _ code. code ≡ d.0 };
+
     fn call(self, _ripe: Ripe) -> u64 {
         self.0
     }

@@ -8,7 +8,7 @@ use crate::load::Load;
 use crate::round::RoundDone;
 use crate::updating::Updated;
 use gp_memb::GracePlan;
-use rcu_hash::{ChainRule, Deleter, Domain, Record, Site, Stop};
+use rcu_hash::{ChainRule, Deleter, Domain, Handle, Site, Stop};
 use rcu_model::Refusal;
 use std::alloc::Global;
 use std::sync::atomic::{AtomicU64, Ordering};
@@ -42,7 +42,7 @@ pub(crate) struct Helpers {
 pub(crate) struct Shared<'d, 'a, P: GracePlan, K: ChainRule, B: Site, W> {
     pub(crate) domain: &'d Domain<P, K, B, RoundDone>,
     // The record that each thread's own is split from.
-    pub(crate) root: &'a Mutex<Record<B>>,
+    pub(crate) root: &'a Mutex<Handle<B>>,
     // How many of those that retire have ended.
     pub(crate) ended: &'a AtomicU64,
     pub(crate) load: Load,
@@ -50,7 +50,6 @@ pub(crate) struct Shared<'d, 'a, P: GracePlan, K: ChainRule, B: Site, W> {
     pub(crate) deadline: Deadline,
     // Who hears how far the first updater is.
     pub(crate) watch: &'a W,
-    pub(crate) ghost flavour: { P.QSBR ≡ B.qsbr },
     pub(crate) ghost some: { 0 < load.updaters },
 }
 
@@ -85,7 +84,7 @@ impl<P: GracePlan + Drop, K: ChainRule, B: Site, W> Shared<'_, '_, P, K, B, W> {
     }
 
     /// A record of a thread's own.
-    pub(crate) fn record<R: Wait>(&self, rt: &R) -> Record<B> {
+    pub(crate) fn record<R: Wait>(&self, rt: &R) -> Handle<B> {
         self.domain.split(&mut *self.root.lock(rt))
     }
 
@@ -98,7 +97,7 @@ impl<P: GracePlan + Drop, K: ChainRule, B: Site, W> Shared<'_, '_, P, K, B, W> {
     pub(crate) fn ends<R: Wait>(
         &self,
         rt: &R,
-        record: &mut Record<B>,
+        record: &mut Handle<B>,
         done: Result<Updated, Refusal>,
     ) -> Result<Counts, Refusal> {
         let before = self.ended.fetch_add(1, Ordering::SeqCst);
@@ -119,7 +118,7 @@ impl<P: GracePlan + Drop, K: ChainRule, B: Site, W> Shared<'_, '_, P, K, B, W> {
         &self,
         rt: &R,
         alloc: Global,
-        record: &mut Record<B>,
+        record: &mut Handle<B>,
         queue: usize,
     ) -> Result<Counts, Refusal> {
         let finished = works(rt, alloc, self.domain, record, queue)?;
@@ -135,7 +134,7 @@ pub fn works<P: GracePlan + Drop, K: ChainRule, B: Site, D: Deleter, R: Wait>(
     rt: &R,
     alloc: Global,
     domain: &Domain<P, K, B, D>,
-    record: &mut Record<B>,
+    record: &mut Handle<B>,
     queue: usize,
 ) -> Result<u64, Refusal> {
     let end = domain.run_worker(rt, alloc, record, queue)?;

@@ -6,7 +6,7 @@ use crate::round::RoundDone;
 use crate::threads::Shared;
 use crate::watch::Watch;
 use gp_memb::GracePlan;
-use rcu_hash::{AnyChain, Chain, ChainRule, Domain, Record, Site};
+use rcu_hash::{AnyChain, Chain, ChainRule, Domain, Handle, Site};
 use rcu_model::Refusal;
 use std::sync::Wait;
 use std::thread;
@@ -93,7 +93,7 @@ pub(crate) fn rounds<
 fn replaces<P: GracePlan + Drop, B: Site, R: Wait>(
     rt: &R,
     domain: &Domain<P, AnyChain, B, RoundDone>,
-    record: &mut Record<B>,
+    record: &mut Handle<B>,
     writer: &mut Chain<'_, P, AnyChain, B, RoundDone>,
     word: u64,
 ) -> Result<(), Refusal> {
@@ -111,7 +111,7 @@ fn replaces<P: GracePlan + Drop, B: Site, R: Wait>(
 fn published<'d, P: GracePlan + Drop, B: Site, R: Wait>(
     rt: &R,
     domain: &'d Domain<P, AnyChain, B, RoundDone>,
-    record: &mut Record<B>,
+    record: &mut Handle<B>,
     chain: usize,
 ) -> Result<Chain<'d, P, AnyChain, B, RoundDone>, Refusal> {
     let mut writer = domain.chain(record, chain)?;
@@ -124,7 +124,7 @@ fn published<'d, P: GracePlan + Drop, B: Site, R: Wait>(
 pub(crate) fn updates<P: GracePlan + Drop, B: Site, R: Wait + Clock, W: Watch>(
     rt: &R,
     shared: &Shared<'_, '_, P, AnyChain, B, W>,
-    record: &mut Record<B>,
+    record: &mut Handle<B>,
     chain: usize,
 ) -> Result<Updated, Refusal>
     ensures { IfOk result (λ done. done.retired ≤ shared.now.load.rounds) }

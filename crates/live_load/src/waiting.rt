@@ -6,7 +6,7 @@ use crate::round::RoundDone;
 use crate::threads::Shared;
 use crate::watch::Watch;
 use gp_memb::GracePlan;
-use rcu_hash::{ChainRule, Domain, LiveCookie, Record, Site};
+use rcu_hash::{ChainRule, Domain, Handle, LiveCookie, Site};
 use rcu_model::Refusal;
 use std::alloc::Global;
 use std::sync::Wait;
@@ -51,7 +51,7 @@ pub(crate) fn marks(alloc: Global, readers: u32) -> Result<Vec<Mark>, Refusal> {
 /// Whether one of so many polls was answered.
 fn is_answered<P: GracePlan + Drop, K: ChainRule, B: Site>(
     domain: &Domain<P, K, B, RoundDone>,
-    record: &mut Record<B>,
+    record: &mut Handle<B>,
     cookie: &LiveCookie,
     polls: u32,
 ) -> bool {
@@ -69,7 +69,7 @@ fn is_answered<P: GracePlan + Drop, K: ChainRule, B: Site>(
 fn one_wait<P: GracePlan + Drop, K: ChainRule, B: Site, R: Wait>(
     rt: &R,
     domain: &Domain<P, K, B, RoundDone>,
-    record: &mut Record<B>,
+    record: &mut Handle<B>,
     mark: &Mark,
     polls: u32,
 ) -> Result<bool, Refusal> {
@@ -86,7 +86,7 @@ fn one_wait<P: GracePlan + Drop, K: ChainRule, B: Site, R: Wait>(
 pub(crate) fn waits<P: GracePlan + Drop, K: ChainRule, B: Site, R: Wait, W: Watch>(
     rt: &R,
     shared: &Shared<'_, '_, P, K, B, W>,
-    record: &mut Record<B>,
+    record: &mut Handle<B>,
     marks: &[Mark],
 ) -> Result<Counts, Refusal> {
     let mut mixed = 0u64;

@@ -1,18 +1,18 @@
--- What a witness knows after one call and another, where a change of a chain was made for it in one of them.
+-- What a caller knows after one call and another, where a change of a chain was made for it in one of them.
 use Rattle.std.proofs.Common.{ℕ, ◌+◌, [], ◌∷◌, ◌++◌, ◌∙◌, ap, sym, refl, append_assoc, arith}
 use Rattle.std.proofs.lemmas.List.{length-append}
 use Rattle.live_log.specs.Log.{Log}
 use Rattle.live_read.specs.Hearing.{MakesLast, MakesMany, OnlyHears, OnlyMakesLast, OnlyMakesMany, Stays}
-use Rattle.live_read.specs.declared.witness.Witness.{Ghosts}
+use Rattle.live_read.specs.declared.caller.Caller.{Ghosts}
 
-module _ {W : Type 0} (w : Ghosts W) (a b c : W) (log : Log) where
+module _ {W S : Type 0} (w : Ghosts W S) (a b c : W) (log : Log) where
   -- the change came first
   pub makes_stays : MakesLast w a b log → Stays w b c → MakesLast w a c log
   makes_stays m s = let n = m.made in record {
     event = m.event;
     before = m.before;
     is = m.is;
-    made = (s.0 ∙ n.0, s.1 ∙ n.1, s.2 ∙ n.2, λ h. s.3 (n.3 h), s.4 ∙ n.4);
+    made = (s.0 ∙ n.0, s.1 ∙ n.1, λ h. s.2 (n.2 h), s.3 ∙ n.3);
   }
 
   pub makes_hears : OnlyMakesLast w a b log → OnlyHears w b c → OnlyMakesLast w a c log
@@ -24,14 +24,14 @@ module _ {W : Type 0} (w : Ghosts W) (a b c : W) (log : Log) where
     event = m.event;
     before = m.before;
     is = m.is;
-    made = (n.0 ∙ s.0, n.1 ∙ s.1, n.2 ∙ s.2, λ h. n.3 (s.3 h), n.4 ∙ ap (λ (l : Log). m.event ∷ l) s.4);
+    made = (n.0 ∙ s.0, n.1 ∙ s.1, λ h. n.2 (s.2 h), n.3 ∙ ap (λ (l : Log). m.event ∷ l) s.3);
   }
 
   pub hears_makes : OnlyHears w a b → OnlyMakesLast w b c log → OnlyMakesLast w a c log
   hears_makes s m = (stays_makes s.0.0 m.0, m.1 ∙ s.0.1, m.2 ∙ s.1)
 
 -- how many changes were made
-module _ {W : Type 0} (w : Ghosts W) where
+module _ {W S : Type 0} (w : Ghosts W S) where
   pub none_made : (a b : W) → Stays w a b → MakesMany w a b 0
   none_made a b s = record { changes = []; are = refl; made = s }
 
@@ -42,7 +42,7 @@ module _ {W : Type 0} (w : Ghosts W) where
   more_made a b c m n x y = let s = x.made in let t = y.made in record {
     changes = y.changes ++ x.changes;
     are = let all = length-append y.changes x.changes in omega (arith, all, x.are, y.are);
-    made = (t.0 ∙ s.0, t.1 ∙ s.1, t.2 ∙ s.2, λ h. t.3 (s.3 h), t.4 ∙ (ap (λ (l : Log). y.changes ++ l) s.4 ∙ sym (append_assoc y.changes x.changes (w.changes a))));
+    made = (t.0 ∙ s.0, t.1 ∙ s.1, λ h. t.2 (s.2 h), t.3 ∙ (ap (λ (l : Log). y.changes ++ l) s.3 ∙ sym (append_assoc y.changes x.changes (w.changes a))));
   }
 
   pub none_only : (a b : W) → OnlyHears w a b → OnlyMakesMany w a b 0

@@ -56,7 +56,7 @@ module _ {P K : Type 0} {g : plan.Ghosts P} where
   abbrev standing : ReaderCore P K g → Standing
   standing r = record { slot = r.slot; word = r.word; ordinal = ordinal r; depth = r.depth; locks = r.locks }
 
-  -- a call was made for the one that bears its table's name, as a witness: it has heard of something, has seen no more,
+  -- a call was made for the one that bears its table's name, as a caller: it has heard of something, has seen no more,
   -- and stands as it stood
   pub held_across : {B : Type 0} {site : Ghosts B} (r s : Reader P K B g site) → log_of s.core ≡ log_of r.core → standing s.core ≡ standing r.core → KeepsHeld r.core s.core
   held_across r s log same = held_stays r.core s.core (ap (λ (x : Standing). x.slot) same) (s.named.1 ∙ sym r.named.1) log (ap (λ (x : Standing). x.ordinal) same)

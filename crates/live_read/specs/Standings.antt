@@ -1,4 +1,4 @@
--- How a witness stands, beside what it has seen.
+-- How a caller stands, beside what it has seen.
 use Rattle.std.specs.Prelude.{ℕ}
 
 -- of a reader its slot, the word that it stored last, how many sections its slot has had, how many sections and locks

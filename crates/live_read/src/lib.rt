@@ -1,6 +1,7 @@
 #![tactic(auto)]
 //! Readers of the library over live threads, and their sections.
 
+mod caller;
 mod claiming;
 mod flavour;
 mod held;
@@ -12,8 +13,8 @@ mod registering;
 mod section;
 mod site;
 mod telling;
-mod witness;
 
+pub use caller::{Caller, Handle};
 pub use held::Held;
 pub use laws::readings_fit;
 pub use reader::Reader;
@@ -21,4 +22,3 @@ pub use reader_core::ReaderCore;
 pub use section::Section;
 pub use site::Site;
 pub use telling::{inform, learn_more, tell_all};
-pub use witness::{Record, Witness};

@@ -7,12 +7,12 @@ ghost use Rattle.reader_word.specs.declared.layout.Layout.TheVariants.{Wide};
 ghost use Rattle.reader_word.specs.Word.{count_of};
 ghost use Rattle.live_words.specs.live_table.Rights.{IsOwner, count_in, word_in};
 
+use crate::caller::Caller;
 use crate::held::Held;
 use crate::reader_core::ReaderCore;
 use crate::section::Section;
 use crate::site::Site;
 use crate::telling::tell_all;
-use crate::witness::Witness;
 use gp_memb::GracePlan;
 use live_words::{ChainRule, LiveSeat, LiveTable};
 use rcu_model::Refusal;

@@ -20,20 +20,16 @@ use std::sync::Arc;
 const GREATEST: u64 = 2_147_483_647;
 
 /// A registered reader of either flavour, which goes by its own table: what a reader does, whoever has it. `Reader` is
-/// this with the name of its table. Its seat is the record of the thread that has it.
+/// this with the name of its table. Its seat keeps what its thread has seen.
 #[derive(Drop)]
 pub struct ReaderCore<P: GracePlan, K: ChainRule> {
     pub(crate) table: Arc<LiveTable<P, K>>,
     /// What it has seen, and its right to its word.
-    pub seat: LiveSeat,
-    /// Its slot.
-    pub slot: usize,
-    /// The word that it stored last.
-    pub word: u64,
-    /// How many locks and sections are open.
-    pub depth: u64,
-    /// How many of them are locks of the standard's face.
-    pub locks: u64,
+    pub(crate) seat: LiveSeat,
+    pub(crate) slot: usize,
+    pub(crate) word: u64,
+    pub(crate) depth: u64,
+    pub(crate) locks: u64,
     pub(crate) flavour: Flavour<P>,
     pub ghost seated: { (seat.table_id ≡ (arc_value table).words.shared.table_id) × (seat.me.0.sizes ≡ (arc_value table).words.shared.key) × (seat.me.1 ≡ []) },
     pub(crate) ghost owns: { IsOwner seat.me.0 slot × (word_in seat.me.0.slot ≡ word) × (slot < (arc_value table).slots) },
@@ -65,6 +61,34 @@ impl<P: GracePlan, K: ChainRule> ReaderCore<P, K> {
             locks: 0,
             flavour: Flavour::new(),
         }
+    }
+
+    /// Its slot.
+    pub fn slot(&self) -> usize
+        ensures { result ≡ self.now.slot }
+    {
+        self.slot
+    }
+
+    /// The word that it stored last.
+    pub fn word(&self) -> u64
+        ensures { result ≡ self.now.word }
+    {
+        self.word
+    }
+
+    /// How many locks and sections are open.
+    pub fn depth(&self) -> u64
+        ensures { result ≡ self.now.depth }
+    {
+        self.depth
+    }
+
+    /// How many of these are locks of the standard's face.
+    pub fn locks(&self) -> u64
+        ensures { result ≡ self.now.locks }
+    {
+        self.locks
     }
 
     /// Whether its section of the log is open, liburcu's `rcu_read_ongoing`: in the general-purpose flavour while a

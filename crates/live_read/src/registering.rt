@@ -10,12 +10,12 @@ ghost use Rattle.live_read.specs.Hearing.{IsAfter, IsAsBefore, Stays};
 ghost use Rattle.live_read.specs.Holding.{log_of};
 ghost use Rattle.live_read.specs.Registering.{AllWereClaimed, Finds, FindsAllClaimed, IsGivenBack, LeavesFree, Misses, WasFree};
 
+use crate::caller::Caller;
 use crate::claiming::claim_any;
 use crate::reader::Reader;
 use crate::reader_core::ReaderCore;
 use crate::site::Site;
 use crate::telling::learn_more;
-use crate::witness::Witness;
 use gp_memb::GracePlan;
 use live_words::{ChainRule, LiveSeat, LiveTable, look_slot, release};
 use rcu_model::Refusal;
@@ -101,31 +101,30 @@ fn another_owner<P: GracePlan, K: ChainRule, R: Wait>(
 impl<P: GracePlan, K: ChainRule, B: Site> Reader<P, K, B> {
     /// Registers a reader in the first slot that is found free, liburcu's `rcu_register_thread`: one atomic step claims
     /// the slot, before the reader is handed out. It is offline in the quiescent-state flavour, and has seen all that
-    /// the witness has seen and heard of.
+    /// the caller has seen and heard of.
     ///
     /// Refused with `NoSlot` only where the bit of every slot was found set: `looks` tells the words that it found. It
     /// takes no lock and no memory, and waits for nobody.
-    pub fn register<W: Witness, R: Wait>(
+    pub fn register<W: Caller<B>, R: Wait>(
         rt: &R,
         table: &Arc<LiveTable<P, K>>,
-        witness: &mut W,
+        caller: &mut W,
     ) -> Result<Reader<P, K, B>, Refusal>
         requires table { ((arc_value table.now).words.shared.table_id ≡ B.table) × ((arc_value table.now).words.shared.key ≡ B.sizes) }
-        requires home { W.home witness.old ≡ (B.table, B.sizes) }
         ensures idle { IfOk result (λ r. (r.core.depth ≡ 0) × (r.core.locks ≡ 0) × (P.QSBR ≡ true → r.core.word ≡ 0)) }
         ensures slot { IfOk result (λ r. (r.core.slot < B.sizes.slots) × WasFree r.core.slot r.core.seat.me.0.looks) }
-        ensures told { IfOk result (λ r. IsAfter P.QSBR K.allows (W.seen witness.old) (W.heard witness.old) (log_of r.core)) }
-        ensures same { IfOk result (λ _. IsAsBefore W.Witness witness.old witness.new) }
-        ensures refused { IfErr result (λ e. (e ≡ NoSlot) × FindsAllClaimed B.sizes (W.looks witness.old) (W.looks witness.new)) }
-        ensures heard { IfErr result (λ _. IsAfter P.QSBR K.allows (W.seen witness.old) (W.heard witness.old) (W.heard witness.new)) }
-        ensures witness { Stays W.Witness witness.old witness.new × (W.loads witness.new ≡ W.loads witness.old) }
+        ensures told { IfOk result (λ r. IsAfter P.QSBR K.allows (W.seen caller.old) (W.heard caller.old) (log_of r.core)) }
+        ensures same { IfOk result (λ _. IsAsBefore W.Caller caller.old caller.new) }
+        ensures refused { IfErr result (λ e. (e ≡ NoSlot) × FindsAllClaimed B.sizes (W.looks caller.old) (W.looks caller.new)) }
+        ensures heard { IfErr result (λ _. IsAfter P.QSBR K.allows (W.seen caller.old) (W.heard caller.old) (W.heard caller.new)) }
+        ensures caller { Stays W.Caller caller.old caller.new × (W.loads caller.new ≡ W.loads caller.old) }
     {
         let own = another_owner(rt, table);
-        let seat = witness.tell(table);
+        let seat = caller.tell(table);
         match ReaderCore::register(own, seat) {
             Ok(core) => Ok(Reader::of(core)),
             Err(seat) => {
-                witness.learn(table, seat);
+                caller.learn(table, seat);
                 Err(Refusal::NoSlot)
             }
         }
@@ -133,27 +132,26 @@ impl<P: GracePlan, K: ChainRule, B: Site> Reader<P, K, B> {
 
     /// Gives the slot of a reader back, liburcu's `rcu_unregister_thread`. An online reader of the quiescent-state
     /// flavour goes offline first, which closes its section; then one atomic step clears its bit, which the last of the
-    /// witness's looks shows. The witness hears of that, and of all that the reader had seen and heard of. A reader that
+    /// caller's looks shows. The caller hears of that, and of all that the reader had seen and heard of. A reader that
     /// is dropped in place of this keeps its slot claimed.
     ///
     /// Refused with `Busy` exactly while a section or a lock of it is open, and then it comes back as it was. It takes
     /// no lock and no memory, and never waits.
-    pub fn unregister<W: Witness>(self, witness: &mut W) -> Result<(), (Refusal, Reader<P, K, B>)>
-        requires { W.home witness.old ≡ (B.table, B.sizes) }
+    pub fn unregister<W: Caller<B>>(self, caller: &mut W) -> Result<(), (Refusal, Reader<P, K, B>)>
         ensures left { IfOk result (λ _. self.core.depth ≡ 0) }
-        ensures kept { IfOk result (λ _. IsAfter P.QSBR K.allows (W.seen witness.old) (W.heard witness.old) (W.heard witness.new)) }
-        ensures told { IfOk result (λ _. Begins (log_of self.core) (W.heard witness.new) × Begins self.core.seat.me.0.heard (W.heard witness.new)) }
-        ensures closed { IfOk result (λ _. P.QSBR ≡ true → self.core.word ≢ 0 → Has (Close self.core.slot (count_in self.core.seat.me.0.slot)) (W.heard witness.new)) }
-        ensures freed { IfOk result (λ _. LeavesFree self.core.slot (self.core.seat.me.0.looks ++ W.looks witness.old) (W.looks witness.new)) }
-        ensures busy { IfErr result (λ e. (e.0 ≡ Busy) × (e.1 ≡ self) × (0 < self.core.depth) × IsAsBefore W.Witness witness.old witness.new) }
-        ensures witness { Stays W.Witness witness.old witness.new }
+        ensures kept { IfOk result (λ _. IsAfter P.QSBR K.allows (W.seen caller.old) (W.heard caller.old) (W.heard caller.new)) }
+        ensures told { IfOk result (λ _. Begins (log_of self.core) (W.heard caller.new) × Begins self.core.seat.me.0.heard (W.heard caller.new)) }
+        ensures closed { IfOk result (λ _. P.QSBR ≡ true → self.core.word ≢ 0 → Has (Close self.core.slot (count_in self.core.seat.me.0.slot)) (W.heard caller.new)) }
+        ensures freed { IfOk result (λ _. LeavesFree self.core.slot (self.core.seat.me.0.looks ++ W.looks caller.old) (W.looks caller.new)) }
+        ensures busy { IfErr result (λ e. (e.0 ≡ Busy) × (e.1 ≡ self) × (0 < self.core.depth) × IsAsBefore W.Caller caller.old caller.new) }
+        ensures caller { Stays W.Caller caller.old caller.new }
     {
         if self.core.depth != 0 {
             return Err((Refusal::Busy, self));
         }
         let Reader { core, .. } = self;
         let (table, seat) = core.give_back();
-        learn_more(&table, witness, seat);
+        learn_more(&table, caller, seat);
         Ok(())
     }
 }

@@ -6,7 +6,6 @@ use std::marker::Brand;
 /// picks it where it begins to use the table.
 pub trait Site {
     ghost use Rattle.atomic_table.specs.Seated.{TableId};
-    ghost use Rattle.std.specs.Prelude.{Bool};
     ghost use Rattle.live_words.specs.live_rule.declared.view.Sizes.{Sizes};
 
     /// The table.
@@ -14,9 +13,6 @@ pub trait Site {
 
     /// How many slots, chains, queues and records it has.
     ghost sizes: { Sizes };
-
-    /// Whether it is of the quiescent-state flavour.
-    ghost qsbr: { Bool };
 }
 
 impl Site for Brand {
@@ -25,6 +21,4 @@ impl Site for Brand {
     ghost table = { record { words = 0; slots = 0; views_name = 0; atom = 0; block = 0; offset = 0; slot_names = [] } };
 
     ghost sizes = { record { slots = 0; chains = 0; queues = 0; pool = 0 } };
-
-    ghost qsbr = { false };
 }

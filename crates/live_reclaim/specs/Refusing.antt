@@ -7,9 +7,9 @@ use Rattle.live_log.specs.Log.{Log, closed_of}
 use Rattle.live_words.specs.live_rule.declared.view.Sizes.{Sizes}
 use Rattle.live_words.specs.live_rule.Places.{closed_at}
 use Rattle.live_read.specs.Hearing.{IsAfter, Stays}
-use Rattle.live_read.specs.declared.witness.Witness.{Ghosts}
+use Rattle.live_read.specs.declared.caller.Caller.{Ghosts}
 
-module _ {W : Type 0} (w : Ghosts W) (qsbr : Bool) (allows : Log → LiveEvent → Type 0) (key : Sizes) (q : ℕ) (old new : W) (e : Refusal) where
+module _ {W S : Type 0} (w : Ghosts W S) (qsbr : Bool) (allows : Log → LiveEvent → Type 0) (key : Sizes) (q : ℕ) (old new : W) (e : Refusal) where
   -- the queue's closed word was loaded, and the refusal goes by it
   pub record RefusesRetirement : Type 0 where
     pub closed : ℕ

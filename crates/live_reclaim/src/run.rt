@@ -4,7 +4,7 @@ ghost use Rattle.live_log.specs.Log.{Begins, IsLiveRun};
 ghost use Rattle.live_words.specs.live_table.Steps.{Keeps};
 ghost use Rattle.live_items.specs.Items.{IsPlaced};
 ghost use Rattle.live_items.specs.Running.{KeepsFinds};
-ghost use Rattle.live_reclaim.specs.Batches.{IsDue, IsRunAs, WorksFor};
+ghost use Rattle.live_reclaim.specs.Batches.{IsDue, IsRunAs, WorksFor, ripe_in};
 
 use crate::deleter::Deleter;
 use call_rcu_worker::Finished;
@@ -14,8 +14,9 @@ use live_items::Job;
 use live_read::Site;
 use live_words::{ChainRule, LiveSeat, LiveTable, store_finished};
 
-/// Runs the item whose turn it is: its record is freed, then its deleter is called, and then the finished count is
-/// stored. It waits for what the deleter waits for.
+/// Runs the item whose turn it is: its record is freed, then its own deleter is called, and then the finished count is
+/// stored. The deleter is called with the item's object and the words that were published with it. The code is what it
+/// answers. It waits for what the deleter waits for.
 pub fn run_next<P: GracePlan, K: ChainRule, B: Site, D: Deleter>(
     table: &LiveTable<P, K>,
     seat: &mut LiveSeat,
@@ -31,7 +32,8 @@ pub fn run_next<P: GracePlan, K: ChainRule, B: Site, D: Deleter>(
     ensures seat { Keeps seat.old seat.new × (seat.new.me.1 ≡ seat.old.me.1) × (seat.new.me.0.sizes ≡ seat.old.me.0.sizes) × WorksFor queue (finished + 1) seat.new.me.0 }
     ensures finds { KeepsFinds seat.old.me.0 seat.new.me.0 }
     ensures seen { Begins seat.old.me.0.seen seat.new.me.0.seen × IsLiveRun P.QSBR K.allows seat.new.me.0.seen }
-    ensures run { IsRunAs queue seat.new.me.0.seen finished result }
+    ensures run { IsRunAs D.answers queue seat.new.me.0.seen finished result }
+    ensures called { (result.object ≡ item.object) × D.answers item.job.2 (ripe_in seat.new.me.0.seen item.object) result.code }
 {
     let Item { object, job } = item;
     let (ripe, deleter) = job.run(table, seat, object);

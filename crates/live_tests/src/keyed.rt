@@ -10,7 +10,7 @@ ghost use Rattle.live_words.specs.live_table.Rights.{payload_in};
 ghost use Rattle.live_write.specs.Chains.{list_in};
 
 use gp_memb::{GracePlan, MembPlan};
-use live_read::{Record, Site};
+use live_read::{Handle, Site};
 use live_words::{Keyed, LiveSeat, LiveTable};
 use live_write::{Chain, Owned, alloc};
 use rcu_model::Refusal;
@@ -42,7 +42,7 @@ fn may_stand_first<P: GracePlan, B: Site, H>(
 /// Pushes a record where the rule allows it. Whether it did.
 fn push_above<P: GracePlan, B: Site, H>(
     chain: &mut Chain<'_, P, Keyed, B, H>,
-    record: &mut Record<B>,
+    record: &mut Handle<B>,
     owned: Owned<B>,
     words: [u64; 4],
 ) -> bool
@@ -60,7 +60,7 @@ fn push_above<P: GracePlan, B: Site, H>(
 /// Replaces an object by one with its key and rank, as the rule wants. Whether it did.
 fn replace_alike<P: GracePlan, B: Site, H>(
     chain: &mut Chain<'_, P, Keyed, B, H>,
-    record: &mut Record<B>,
+    record: &mut Handle<B>,
     index: usize,
     owned: Owned<B>,
     words: [u64; 4],
@@ -86,7 +86,7 @@ fn writes<P: GracePlan, B: Site, R: Wait>(
 ) -> Result<([bool; 5], [Option<[u64; 4]>; 2]), Refusal>
     requires site { (table.now.words.shared.table_id ≡ B.table) × (table.now.words.shared.key ≡ B.sizes) × (root.table_id ≡ B.table) × (root.me.0.sizes ≡ B.sizes) × (root.me.1 ≡ []) }
 {
-    let mut record: Record<B> = Record::new(root);
+    let mut record: Handle<B> = Handle::new(root);
     let mut chain: Chain<P, Keyed, B, _> = Chain::hold(table, table, &mut record, 0)?;
     let first: Owned<B> = alloc(rt, table, &mut record, [3, 7, 1, 0])?;
     let pushed_first = push_above(&mut chain, &mut record, first, [3, 7, 1, 0]);

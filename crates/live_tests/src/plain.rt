@@ -6,7 +6,7 @@ ghost use Rattle.std.specs.Prelude.{◌≡◌};
 use callback_queue::Ticket;
 use gp_memb::GracePlan;
 use live_items::Items;
-use live_read::{Record, Site};
+use live_read::{Handle, Site};
 use live_words::{AnyChain, LiveTable};
 use live_write::{Chain, Owned, Unlinked};
 use rcu_model::{ObjectId, Refusal};
@@ -19,7 +19,7 @@ pub(crate) type Writer<'t, P, B> = Chain<'t, P, AnyChain, B, LiveTable<P, AnyCha
 pub(crate) fn alloc<P: GracePlan, B: Site, R: Wait>(
     rt: &R,
     table: &LiveTable<P, AnyChain>,
-    record: &mut Record<B>,
+    record: &mut Handle<B>,
     words: [u64; 4],
 ) -> Result<Owned<B>, Refusal>
     requires { (table.now.words.shared.table_id ≡ B.table) × (table.now.words.shared.key ≡ B.sizes) }
@@ -30,7 +30,7 @@ pub(crate) fn alloc<P: GracePlan, B: Site, R: Wait>(
 /// `Chain::hold`.
 pub(crate) fn hold<'t, P: GracePlan, B: Site>(
     table: &'t LiveTable<P, AnyChain>,
-    record: &mut Record<B>,
+    record: &mut Handle<B>,
     chain: usize,
 ) -> Result<Writer<'t, P, B>, Refusal>
     requires { (table.now.words.shared.table_id ≡ B.table) × (table.now.words.shared.key ≡ B.sizes) }
@@ -41,7 +41,7 @@ pub(crate) fn hold<'t, P: GracePlan, B: Site>(
 /// `Chain::push`.
 pub(crate) fn push<P: GracePlan, B: Site>(
     chain: &mut Writer<'_, P, B>,
-    record: &mut Record<B>,
+    record: &mut Handle<B>,
     owned: Owned<B>,
 ) {
     chain.push(record, owned);
@@ -50,7 +50,7 @@ pub(crate) fn push<P: GracePlan, B: Site>(
 /// `Chain::cut`.
 pub(crate) fn cut<P: GracePlan, B: Site>(
     chain: &mut Writer<'_, P, B>,
-    record: &mut Record<B>,
+    record: &mut Handle<B>,
     index: usize,
 ) -> Result<Unlinked<B>, Refusal> {
     chain.cut(record, index)
@@ -60,7 +60,7 @@ pub(crate) fn cut<P: GracePlan, B: Site>(
 pub(crate) fn retire<P: GracePlan, B: Site>(
     items: &mut Items<B, ObjectId>,
     table: &LiveTable<P, AnyChain>,
-    record: &mut Record<B>,
+    record: &mut Handle<B>,
     unlinked: Unlinked<B>,
     callback: ObjectId,
 ) -> Result<Ticket, (Refusal, Unlinked<B>, ObjectId)>

@@ -9,7 +9,7 @@ use crate::plain;
 use callback_queue::Item;
 use gp_memb::{GracePlan, MembPlan};
 use live_items::{Items, Job};
-use live_read::{Record, Site, Witness};
+use live_read::{Caller, Handle, Site};
 use live_words::{
     AnyChain, LiveSeat, LiveTable, end_work, free_work, hold_work, load_closed, load_finished,
     load_queued,
@@ -25,7 +25,7 @@ use std::sync::Wait;
 fn cut_one<P: GracePlan, B: Site, R: Wait>(
     rt: &R,
     table: &LiveTable<P, AnyChain>,
-    record: &mut Record<B>,
+    record: &mut Handle<B>,
     words: [u64; 4],
 ) -> Result<Unlinked<B>, Refusal>
     requires { (table.now.words.shared.table_id ≡ B.table) × (table.now.words.shared.key ≡ B.sizes) }
@@ -41,7 +41,7 @@ fn retires_two<P: GracePlan, B: Site, R: Wait>(
     rt: &R,
     table: &LiveTable<P, AnyChain>,
     items: &mut Items<B, ObjectId>,
-    record: &mut Record<B>,
+    record: &mut Handle<B>,
 ) -> Result<(), Refusal>
     requires { (table.now.words.shared.table_id ≡ B.table) × (table.now.words.shared.key ≡ B.sizes) }
     ensures { items.new.2 ≡ items.old.2 }
@@ -70,7 +70,7 @@ fn batches<P: GracePlan, B: Site, R: Wait>(
 {
     let queue = table.cut_spare_queue(&mut root);
     let mut items: Items<B, ObjectId> = Items::new(memory, queue, 0);
-    let mut record: Record<B> = Record::new(root);
+    let mut record: Handle<B> = Handle::new(root);
     retires_two(rt, table, &mut items, &mut record)?;
     let mut worker = record.tell(table);
     let mut list: Vec<u64> = Vec::new(memory);
@@ -105,7 +105,7 @@ fn takes_back<P: GracePlan, B: Site, R: Wait>(
 {
     let queue = table.cut_spare_queue(&mut root);
     let mut items: Items<B, ObjectId> = Items::new(memory, queue, 0);
-    let mut record: Record<B> = Record::new(root);
+    let mut record: Handle<B> = Handle::new(root);
     retires_two(rt, table, &mut items, &mut record)?;
     let mut worker = record.tell(table);
     let mut list: Vec<u64> = Vec::new(memory);

@@ -8,7 +8,7 @@ ghost use Rattle.live_words.specs.live_rule.Views.{first_view};
 use crate::registering::first_record;
 use gp_memb::{GracePlan, MembPlan};
 use gp_qsbr::QsbrPlan;
-use live_read::{Reader, Record, Site, Witness, inform};
+use live_read::{Caller, Handle, Reader, Site, inform};
 use live_words::{AnyChain, ChainRule, LiveSeat, LiveTable};
 use rcu_model::Refusal;
 use std::marker::Brand;
@@ -29,30 +29,28 @@ fn first_reader<P: GracePlan, K: ChainRule, B: Site, R: Wait>(
 }
 
 fn nests<B: Site>(reader: &mut Reader<MembPlan, AnyChain, B>) -> Result<([u64; 5], bool), Refusal>
-    requires { (B.qsbr ≡ false) × (reader.old.core.depth ≡ 0) × (reader.old.core.locks ≡ 0) }
+    requires { (reader.old.core.depth ≡ 0) × (reader.old.core.locks ≡ 0) }
 {
     let mut outer = reader.section()?;
-    let one = outer.reader.core.word;
+    let one = outer.reader.core.word();
     let inner = outer.reader.section()?;
-    let two = inner.reader.core.word;
+    let two = inner.reader.core.word();
     inner.close();
-    let left = outer.reader.core.word;
+    let left = outer.reader.core.word();
     outer.reader.lock()?;
-    let locked = outer.reader.core.word;
+    let locked = outer.reader.core.word();
     outer.reader.unlock()?;
     let refused = matches!(outer.reader.unlock(), Err(Refusal::NotOpen));
-    let alive = outer.reader.core.word;
+    let alive = outer.reader.core.word();
     outer.close();
     Ok(([one, two, left, locked, alive], refused))
 }
 
-fn locks<B: Site>(reader: &mut Reader<MembPlan, AnyChain, B>) -> Result<[bool; 6], Refusal>
-    requires { B.qsbr ≡ false }
-{
+fn locks<B: Site>(reader: &mut Reader<MembPlan, AnyChain, B>) -> Result<[bool; 6], Refusal> {
     let none = matches!(reader.unlock(), Err(Refusal::NotOpen));
-    let locked = reader.try_lock() && reader.core.word == 1;
+    let locked = reader.try_lock() && reader.core.word() == 1;
     reader.unlock()?;
-    let left = reader.core.word == 0;
+    let left = reader.core.word() == 0;
     let online = matches!(reader.online(), Err(Refusal::WrongFlavour));
     let quiescent = matches!(reader.quiescent(), Err(Refusal::WrongFlavour));
     let offline = matches!(reader.offline(), Err(Refusal::WrongFlavour));
@@ -61,16 +59,14 @@ fn locks<B: Site>(reader: &mut Reader<MembPlan, AnyChain, B>) -> Result<[bool; 6
 
 fn announces<B: Site>(
     reader: &mut Reader<QsbrPlan, AnyChain, B>,
-) -> Result<([bool; 5], [bool; 4], [u64; 3]), Refusal>
-    requires { B.qsbr ≡ true }
-{
+) -> Result<([bool; 5], [bool; 4], [u64; 3]), Refusal> {
     let outside = matches!(reader.section(), Err(Refusal::NotOpen));
     let unlocked = matches!(reader.lock(), Err(Refusal::NotOpen));
     let tried = !reader.try_lock();
     let silent = matches!(reader.quiescent(), Err(Refusal::NotOpen));
     let gone = matches!(reader.offline(), Err(Refusal::NotOpen));
     reader.online()?;
-    let online = reader.core.word;
+    let online = reader.core.word();
     let again = matches!(reader.online(), Err(Refusal::Busy));
     reader.lock()?;
     let locked = matches!(reader.quiescent(), Err(Refusal::Busy));
@@ -82,12 +78,12 @@ fn announces<B: Site>(
     drop(nested);
     drop(section);
     reader.quiescent()?;
-    let announced = reader.core.word;
+    let announced = reader.core.word();
     reader.offline()?;
     Ok((
         [outside, unlocked, tried, silent, gone],
         [again, locked, inside, within],
-        [online, announced, reader.core.word],
+        [online, announced, reader.core.word()],
     ))
 }
 
@@ -95,7 +91,7 @@ fn tells<P: GracePlan, K: ChainRule, B: Site>(table: &LiveTable<P, K>, reader: &
     requires { table.now.words.shared.table_id ≡ B.table }
     ensures { (reader.new.core.depth ≡ reader.old.core.depth) × (reader.new.core.locks ≡ reader.old.core.locks) }
 {
-    let mut record = Record::<B>::split(table, reader);
+    let mut record = Handle::<B>::split(table, reader);
     inform(table, &mut record, reader);
     let told = reader.tell(table);
     record.learn(table, told);
@@ -106,7 +102,7 @@ fn general<B: Site, R: Wait>(
     words: &Arc<LiveTable<MembPlan, AnyChain>>,
     root: LiveSeat,
 ) -> Result<(([u64; 5], bool), [bool; 6]), Refusal>
-    requires site { (B.qsbr ≡ false) × ((arc_value words.now).words.shared.table_id ≡ B.table) × (root.table_id ≡ B.table) × ((arc_value words.now).words.shared.key ≡ B.sizes) }
+    requires site { ((arc_value words.now).words.shared.table_id ≡ B.table) × (root.table_id ≡ B.table) × ((arc_value words.now).words.shared.key ≡ B.sizes) }
     requires new { root.me ≡ (first_view (arc_value words.now).words.shared.key, []) }
 {
     let mut reader = first_reader::<MembPlan, AnyChain, B, R>(rt, words, root)?;
@@ -119,7 +115,7 @@ fn quiescent<B: Site, R: Wait>(
     words: &Arc<LiveTable<QsbrPlan, AnyChain>>,
     root: LiveSeat,
 ) -> Result<([bool; 5], [bool; 4], [u64; 3]), Refusal>
-    requires site { (B.qsbr ≡ true) × ((arc_value words.now).words.shared.table_id ≡ B.table) × (root.table_id ≡ B.table) × ((arc_value words.now).words.shared.key ≡ B.sizes) }
+    requires site { ((arc_value words.now).words.shared.table_id ≡ B.table) × (root.table_id ≡ B.table) × ((arc_value words.now).words.shared.key ≡ B.sizes) }
     requires new { root.me ≡ (first_view (arc_value words.now).words.shared.key, []) }
 {
     let mut reader = first_reader::<QsbrPlan, AnyChain, B, R>(rt, words, root)?;

@@ -7,7 +7,7 @@ ghost use Rattle.std.specs.Thread.{IsSync};
 use crate::plain;
 use gp_memb::{GracePlan, MembPlan};
 use gp_qsbr::QsbrPlan;
-use live_read::{Record, Site};
+use live_read::{Handle, Site};
 use live_words::{AnyChain, LiveSeat, LiveTable};
 use live_write::discard;
 use rcu_model::Refusal;
@@ -43,7 +43,7 @@ fn allocates_twice<P: GracePlan, B: Site, R: Wait>(
     requires site { (table.now.words.shared.table_id ≡ B.table) × (table.now.words.shared.key ≡ B.sizes) × (root.table_id ≡ B.table) × (root.me.0.sizes ≡ B.sizes) × (root.me.1 ≡ []) }
     requires sizes { (table.now.slots ≡ 1) × (table.now.chains ≡ 0) × (table.now.queues ≡ 0) × (table.now.pool ≡ 1) }
 {
-    let mut record: Record<B> = Record::new(root);
+    let mut record: Handle<B> = Handle::new(root);
     let first = plain::alloc(rt, table, &mut record, [3, 5, 7, 11])?;
     let allocated = first_record(table);
     let refused = plain::alloc(rt, table, &mut record, [1; 4]);
@@ -93,7 +93,7 @@ fn is_refused<P: GracePlan, B: Site, R: Wait>(
 ) -> bool
     requires { (table.now.words.shared.table_id ≡ B.table) × (table.now.words.shared.key ≡ B.sizes) × (root.table_id ≡ B.table) × (root.me.0.sizes ≡ B.sizes) × (root.me.1 ≡ []) }
 {
-    let mut record: Record<B> = Record::new(root);
+    let mut record: Handle<B> = Handle::new(root);
     let refused = plain::alloc(rt, table, &mut record, [1; 4]);
     matches!(refused, Err(Refusal::PoolFull))
 }
@@ -103,7 +103,7 @@ fn allocates_many<P: GracePlan, B: Site, R: Wait>(
     rt: &R,
     alloc_in: Global,
     table: &LiveTable<P, AnyChain>,
-    mut record: Record<B>,
+    mut record: Handle<B>,
 ) -> Result<Vec<u64>, Refusal>
     requires { (table.now.words.shared.table_id ≡ B.table) × (table.now.words.shared.key ≡ B.sizes) }
 {
@@ -126,8 +126,8 @@ fn two_allocate<P: GracePlan + Send + Sync, B: Site + Send + Sync, R: Threads + 
 ) -> Result<Vec<u64>, Refusal>
     requires { (table.now.words.shared.table_id ≡ B.table) × (table.now.words.shared.key ≡ B.sizes) × (root.table_id ≡ B.table) × (root.me.0.sizes ≡ B.sizes) × (root.me.1 ≡ []) }
 {
-    let one: Record<B> = Record::new(table.tell(&mut root));
-    let two: Record<B> = Record::new(root);
+    let one: Handle<B> = Handle::new(table.tell(&mut root));
+    let two: Handle<B> = Handle::new(root);
     let (first, second) = join(
         rt,
         move ||

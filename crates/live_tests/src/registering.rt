@@ -6,7 +6,7 @@ ghost use Rattle.std.specs.Arc.{arc_value};
 ghost use Rattle.live_words.specs.live_rule.Views.{first_view};
 
 use gp_memb::{GracePlan, MembPlan};
-use live_read::{Reader, Record, Site};
+use live_read::{Handle, Reader, Site};
 use live_words::{AnyChain, ChainRule, LiveSeat, LiveTable};
 use rcu_model::Refusal;
 use std::alloc::Global;
@@ -17,11 +17,11 @@ use std::sync::{Arc, Wait};
 pub fn first_record<P: GracePlan, K: ChainRule, B: Site>(
     words: &Arc<LiveTable<P, K>>,
     mut root: LiveSeat,
-) -> Record<B>
+) -> Handle<B>
     requires site { ((arc_value words.now).words.shared.table_id ≡ B.table) × (root.table_id ≡ B.table) × ((arc_value words.now).words.shared.key ≡ B.sizes) }
     requires new { root.me ≡ (first_view (arc_value words.now).words.shared.key, []) }
 {
-    Record::new(words.tell(&mut root))
+    Handle::new(words.tell(&mut root))
 }
 
 /// Claims every slot, and then one that was given back: how many readers there were, how the next was refused, which
@@ -48,20 +48,20 @@ fn fills<B: Site, R: Wait>(
     let Some(last) = readers.pop() else {
         return Err(Refusal::NotOpen);
     };
-    let given_back = last.core.slot;
+    let given_back = last.core.slot();
     if let Err((refusal, _)) = last.unregister(&mut record) {
         return Err(refusal);
     }
     let again: Reader<MembPlan, AnyChain, B> = Reader::register(rt, words, &mut record)?;
     let full_again = is_full::<B, R>(rt, words, &mut record);
-    Ok((count, full, given_back, again.core.slot, full_again))
+    Ok((count, full, given_back, again.core.slot(), full_again))
 }
 
 /// Whether there is no slot for another reader.
 fn is_full<B: Site, R: Wait>(
     rt: &R,
     words: &Arc<LiveTable<MembPlan, AnyChain>>,
-    record: &mut Record<B>,
+    record: &mut Handle<B>,
 ) -> bool
     requires { ((arc_value words.now).words.shared.table_id ≡ B.table) × ((arc_value words.now).words.shared.key ≡ B.sizes) }
 {
@@ -85,14 +85,14 @@ fn leaves<B: Site, R: Wait>(
     let Err((Refusal::Busy, mut reader)) = reader.unregister(&mut record) else {
         return Err(Refusal::NotOpen);
     };
-    let locked = reader.core.word == 1;
+    let locked = reader.core.word() == 1;
     reader.unlock()?;
     let left = reader.unregister(&mut record).is_ok();
     let cleared = words.words.shared.peek(48) == 0;
     let dropped: Reader<MembPlan, AnyChain, B> = Reader::register(rt, words, &mut record)?;
     drop(dropped);
     let next: Reader<MembPlan, AnyChain, B> = Reader::register(rt, words, &mut record)?;
-    Ok([set, locked, left, cleared, next.core.slot == 1])
+    Ok([set, locked, left, cleared, next.core.slot() == 1])
 }
 
 #[test]

@@ -7,7 +7,7 @@ ghost use Rattle.live_words.specs.live_table.Steps.{Keeps};
 use crate::plain;
 use gp_memb::GracePlan;
 use gp_qsbr::QsbrPlan;
-use live_read::{Record, Site};
+use live_read::{Handle, Site};
 use live_words::{AnyChain, LiveSeat, LiveTable, load_link};
 use rcu_model::Refusal;
 use std::marker::Brand;
@@ -33,7 +33,7 @@ fn refuses<P: GracePlan, B: Site, R: Wait>(
 ) -> Result<(Option<[u64; 4]>, [u64; 2], usize, [bool; 4]), Refusal>
     requires site { (table.now.words.shared.table_id ≡ B.table) × (table.now.words.shared.key ≡ B.sizes) × (root.table_id ≡ B.table) × (root.me.0.sizes ≡ B.sizes) × (root.me.1 ≡ []) }
 {
-    let mut record: Record<B> = Record::new(root);
+    let mut record: Handle<B> = Handle::new(root);
     let missing = plain::hold(table, &mut record, 1);
     let mut chain = plain::hold(table, &mut record, 0)?;
     let busy = plain::hold(table, &mut record, 0);
@@ -53,7 +53,9 @@ fn refuses<P: GracePlan, B: Site, R: Wait>(
     ];
     drop(chain);
     let again = plain::hold(table, &mut record, 0)?;
-    Ok((payload, notes, again.len(), refusals))
+    again.release(&mut record);
+    let last = plain::hold(table, &mut record, 0)?;
+    Ok((payload, notes, last.len(), refusals))
 }
 
 #[test]

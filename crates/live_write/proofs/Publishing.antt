@@ -23,7 +23,7 @@ use Rattle.live_words.specs.live_periods.Periods.{LoadedSeq}
 use Rattle.live_words.specs.live_chains.Chains.{MayWrite, Writes, IsBefore, IsThere, push_of, cut_of, cut_view, replace_of, replaced_view, head_after}
 use Rattle.live_words.proofs.live_chains.Lemmas.{note_same, there_after}
 use Rattle.live_read.specs.Hearing.{IsAfter, IsAsBefore, OnlyMakesLast}
-use Rattle.live_read.specs.declared.witness.Witness.{Ghosts}
+use Rattle.live_read.specs.declared.caller.Caller.{Ghosts}
 use Rattle.live_write.specs.Chains.{GoesOn, MayPublish, Publishes, list_in, push_by, replace_by}
 
 -- what a seat with the writer's chains has seen and heard of: all that the writer had seen and heard of, and its
@@ -84,17 +84,17 @@ module _ {S : Type 0} (qsbr : Bool) (allows : Log → LiveEvent → Type 0) (see
   pub has_record : (t : View) (u : View) (a b : Me S View) → a.0 ≡ taken_view t u → LoadedSeq qsbr allows a b → w ≡ (taken_view f.0 b.0, f.1) → w.0.object ≡ u.object
   has_record t u a b took loaded is = ap (λ (z : Me S View). z.0.object) is ∙ (ap (λ (z : Me S View). z.0.object) loaded.0 ∙ ap (λ (z : View). z.object) took)
 
--- a witness that learns of a change of the writer's, which was told what the witness knew
-pub makes_last : {W : Type 0} (w : Ghosts W) (w0 w1 w2 : W) (told : View) (e : LiveEvent) (before log : Log) → IsAsBefore w w0 w1
+-- a caller that learns of a change of the writer's, which was told what the caller knew
+pub makes_last : {W S : Type 0} (w : Ghosts W S) (w0 w1 w2 : W) (told : View) (e : LiveEvent) (before log : Log) → IsAsBefore w w0 w1
     → (w.loads w2 ≡ told.loads ++ w.loads w1) × (w.looks w2 ≡ told.looks ++ w.looks w1) × (w.changes w2 ≡ told.changes ++ w.changes w1)
-    → (w.seen w2 ≡ w.seen w1) × (w.home w2 ≡ w.home w1) × (w.standing w2 ≡ w.standing w1) → (w.is_in w1 → w.is_in w2)
+    → (w.seen w2 ≡ w.seen w1) × (w.standing w2 ≡ w.standing w1) → (w.is_in w1 → w.is_in w2)
     → (told.loads ≡ []) × (told.looks ≡ []) × (told.changes ≡ e ∷ []) → log ≡ e ∷ before → OnlyMakesLast w w0 w2 log
 makes_last w w0 w1 w2 told e before log first learnt same inside new is = let a = first.0.0.0 in (
   record {
     event = e;
     before = before;
     is = is;
-    made = (same.0 ∙ a.0, same.1 ∙ a.1, same.2 ∙ a.2, λ h. inside (a.3 h), learnt.2 ∙ (ap (λ (l : Log). l ++ w.changes w1) new.2 ∙ ap (λ (l : Log). e ∷ l) a.4));
+    made = (same.0 ∙ a.0, same.1 ∙ a.1, λ h. inside (a.2 h), learnt.2 ∙ (ap (λ (l : Log). l ++ w.changes w1) new.2 ∙ ap (λ (l : Log). e ∷ l) a.3));
   },
   learnt.1 ∙ (ap (λ (l : List (ℕ × ℕ)). l ++ w.looks w1) new.1 ∙ first.0.0.1),
   learnt.0 ∙ (ap (λ (l : List Log). l ++ w.loads w1) new.0 ∙ first.0.1),

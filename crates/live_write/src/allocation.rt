@@ -13,7 +13,7 @@ ghost use Rattle.live_write.specs.Searching.{Allocates, AreTaken, IsUsedUp, Sear
 use crate::records::Owned;
 use crate::search::{draw, take_any};
 use gp_memb::GracePlan;
-use live_read::{Site, Witness};
+use live_read::{Caller, Site};
 use live_words::{ChainRule, LiveSeat, LiveTable, load_seq, store_discard, store_word};
 use rcu_model::Refusal;
 use std::marker::PhantomData;
@@ -59,28 +59,28 @@ fn take_filled<P: GracePlan, K: ChainRule, R: Wait>(
     Ok((cell, number))
 }
 
-/// Takes a free record for a new object, whose payload these words become. The witness hears of what it saw.
+/// Takes a free record for a new object, whose payload these words become. The caller hears of what it saw.
 ///
 /// Refused with `PoolFull` only where it found the header of each record other than 0, or the last object number at or
 /// above 2^62: `looks` tells the words that it found. A number is drawn before a record is looked for, so a refusal by a
 /// full pool uses one up. It takes no memory. It waits for nobody, but tries again where other threads draw numbers
 /// meanwhile.
-pub fn alloc<P: GracePlan, K: ChainRule, B: Site, W: Witness, R: Wait>(
+pub fn alloc<P: GracePlan, K: ChainRule, B: Site, W: Caller<B>, R: Wait>(
     rt: &R,
     table: &LiveTable<P, K>,
-    witness: &mut W,
+    caller: &mut W,
     words: [u64; 4],
 ) -> Result<Owned<B>, Refusal>
-    requires site { (table.now.words.shared.table_id ≡ B.table) × (table.now.words.shared.key ≡ B.sizes) × (W.home witness.old ≡ (B.table, B.sizes)) }
-    ensures owned { IfOk result (λ o. (payload_in o.seat.me.0.object ≡ words) × (o.seat.me.0.seen ≡ W.heard witness.new)) }
-    ensures looks { (found : List (ℕ × ℕ)) × (W.looks witness.new ≡ found ++ W.looks witness.old) × IfErr result (λ e. (e ≡ PoolFull) × (IsUsedUp B.sizes found ⊎ AreTaken B.sizes found)) }
-    ensures heard { IsAfter P.QSBR K.allows (W.seen witness.old) (W.heard witness.old) (W.heard witness.new) }
-    ensures same { Stays W.Witness witness.old witness.new × (W.loads witness.new ≡ W.loads witness.old) }
+    requires site { (table.now.words.shared.table_id ≡ B.table) × (table.now.words.shared.key ≡ B.sizes) }
+    ensures owned { IfOk result (λ o. (payload_in o.seat.me.0.object ≡ words) × (o.seat.me.0.seen ≡ W.heard caller.new)) }
+    ensures looks { (found : List (ℕ × ℕ)) × (W.looks caller.new ≡ found ++ W.looks caller.old) × IfErr result (λ e. (e ≡ PoolFull) × (IsUsedUp B.sizes found ⊎ AreTaken B.sizes found)) }
+    ensures heard { IsAfter P.QSBR K.allows (W.seen caller.old) (W.heard caller.old) (W.heard caller.new) }
+    ensures same { Stays W.Caller caller.old caller.new × (W.loads caller.new ≡ W.loads caller.old) }
 {
-    let mut seat = witness.tell(table);
+    let mut seat = caller.tell(table);
     let taken = take_filled(rt, table, &mut seat, words);
     let own = table.cut_object(&mut seat);
-    witness.learn(table, seat);
+    caller.learn(table, seat);
     let (cell, number) = taken?;
     Ok(Owned {
         seat: own,
@@ -91,23 +91,23 @@ pub fn alloc<P: GracePlan, K: ChainRule, B: Site, W: Witness, R: Wait>(
 }
 
 /// Frees a record that no chain has linked: stores 0 in its header. Its object's number is given to no other. The
-/// witness hears of what was seen at the allocation; the store is kept among the words that were found for it. It never
+/// caller hears of what was seen at the allocation; the store is kept among the words that were found for it. It never
 /// waits and takes no memory.
-pub fn discard<P: GracePlan, K: ChainRule, B: Site, W: Witness>(
+pub fn discard<P: GracePlan, K: ChainRule, B: Site, W: Caller<B>>(
     table: &LiveTable<P, K>,
-    witness: &mut W,
+    caller: &mut W,
     owned: Owned<B>,
 )
-    requires site { (table.now.words.shared.table_id ≡ B.table) × (table.now.words.shared.key ≡ B.sizes) × (W.home witness.old ≡ (B.table, B.sizes)) }
-    ensures freed { W.looks witness.new ≡ (cell_at B.sizes (cell_in owned.seat.me.0.object) 0, 0) ∷ W.looks witness.old }
-    ensures heard { IsAfter P.QSBR K.allows (W.seen witness.old) (W.heard witness.old) (W.heard witness.new) × Begins owned.seat.me.0.seen (W.heard witness.new) }
-    ensures loads { (log : Log) × (W.loads witness.new ≡ log ∷ W.loads witness.old) × IsAfter P.QSBR K.allows (W.seen witness.old) (W.heard witness.old) log × Begins log (W.heard witness.new) }
-    ensures same { Stays W.Witness witness.old witness.new }
+    requires site { (table.now.words.shared.table_id ≡ B.table) × (table.now.words.shared.key ≡ B.sizes) }
+    ensures freed { W.looks caller.new ≡ (cell_at B.sizes (cell_in owned.seat.me.0.object) 0, 0) ∷ W.looks caller.old }
+    ensures heard { IsAfter P.QSBR K.allows (W.seen caller.old) (W.heard caller.old) (W.heard caller.new) × Begins owned.seat.me.0.seen (W.heard caller.new) }
+    ensures loads { (log : Log) × (W.loads caller.new ≡ log ∷ W.loads caller.old) × IsAfter P.QSBR K.allows (W.seen caller.old) (W.heard caller.old) log × Begins log (W.heard caller.new) }
+    ensures same { Stays W.Caller caller.old caller.new }
 {
     let Owned { seat, cell, .. } = owned;
-    let mut told = witness.tell(table);
+    let mut told = caller.tell(table);
     load_seq(table, &mut told);
     table.take_object(&mut told, seat);
     store_discard(table, &mut told, cell);
-    witness.learn(table, told);
+    caller.learn(table, told);
 }

@@ -19,7 +19,7 @@ use crate::publish::{cut_record, hear_caller, push_record, replace_record, write
 use crate::records::{Owned, Unlinked};
 use crate::walk::{count, read, seek};
 use gp_memb::GracePlan;
-use live_read::{Site, Witness};
+use live_read::{Caller, Site};
 use live_words::{ChainRule, LiveSeat, LiveTable, free_chain, hold_chain, load_note};
 use rcu_model::{ObjectId, Refusal};
 use std::marker::PhantomData;
@@ -44,36 +44,36 @@ pub struct Chain<'d, P: GracePlan, K: ChainRule, B: Site, H> {
 }
 
 impl<'d, P: GracePlan, K: ChainRule, B: Site, H> Chain<'d, P, K, B, H> {
-    /// Takes the right to write a chain, if nobody has it, and counts its objects by a walk. The witness hears of what
+    /// Takes the right to write a chain, if nobody has it, and counts its objects by a walk. The caller hears of what
     /// was seen at the taking; the writer knows the list and the note of the log that it has seen, and no other chain.
     ///
     /// Refused with `NoPlace` exactly where there is no such chain, else with `Busy` exactly where its hold word was
     /// found to be 1, which `looks` tells. It takes no memory and never waits.
-    pub fn hold<W: Witness>(
+    pub fn hold<W: Caller<B>>(
         home: &'d H,
         table: &'d LiveTable<P, K>,
-        witness: &mut W,
+        caller: &mut W,
         chain: usize,
     ) -> Result<Chain<'d, P, K, B, H>, Refusal>
-        requires site { (table.now.words.shared.table_id ≡ B.table) × (table.now.words.shared.key ≡ B.sizes) × (W.home witness.old ≡ (B.table, B.sizes)) }
-        ensures held { IfOk result (λ c. (c.number ≡ chain) × (chain < B.sizes.chains) × (W.looks witness.new ≡ (hold_at B.sizes chain, 0) ∷ W.looks witness.old) × Begins (W.heard witness.new) c.seat.me.0.seen) }
+        requires site { (table.now.words.shared.table_id ≡ B.table) × (table.now.words.shared.key ≡ B.sizes) }
+        ensures held { IfOk result (λ c. (c.number ≡ chain) × (chain < B.sizes.chains) × (W.looks caller.new ≡ (hold_at B.sizes chain, 0) ∷ W.looks caller.old) × Begins (W.heard caller.new) c.seat.me.0.seen) }
         ensures home { IfOk result (λ c. c.home.now ≡ home.now) }
         ensures run { IfOk result (λ c. IsLiveRun P.QSBR K.allows c.seat.me.0.seen × (lent_chains c.seat.me.0.chains ≡ [])) }
-        ensures refused { IfErr result (λ e. ((e ≡ NoPlace) × (B.sizes.chains ≤ chain) × (witness.new ≡ witness.old)) ⊎ ((e ≡ Busy) × (chain < B.sizes.chains) × (W.looks witness.new ≡ (hold_at B.sizes chain, 1) ∷ W.looks witness.old))) }
-        ensures heard { chain < B.sizes.chains → IsAfter P.QSBR K.allows (W.seen witness.old) (W.heard witness.old) (W.heard witness.new) }
-        ensures same { Stays W.Witness witness.old witness.new × (W.loads witness.new ≡ W.loads witness.old) }
+        ensures refused { IfErr result (λ e. ((e ≡ NoPlace) × (B.sizes.chains ≤ chain) × (caller.new ≡ caller.old)) ⊎ ((e ≡ Busy) × (chain < B.sizes.chains) × (W.looks caller.new ≡ (hold_at B.sizes chain, 1) ∷ W.looks caller.old))) }
+        ensures heard { chain < B.sizes.chains → IsAfter P.QSBR K.allows (W.seen caller.old) (W.heard caller.old) (W.heard caller.new) }
+        ensures same { Stays W.Caller caller.old caller.new × (W.loads caller.new ≡ W.loads caller.old) }
     {
         if chain >= table.chains {
             return Err(Refusal::NoPlace);
         }
-        let mut told = witness.tell(table);
+        let mut told = caller.tell(table);
         let found = hold_chain(table, &mut told, chain);
         if found != 0 {
-            witness.learn(table, told);
+            caller.learn(table, told);
             return Err(Refusal::Busy);
         }
         let mut seat = table.cut_chains(&mut told);
-        witness.learn(table, told);
+        caller.learn(table, told);
         let linked = count(table, &mut seat, chain);
         Ok(Chain {
             home,
@@ -108,20 +108,19 @@ impl<'d, P: GracePlan, K: ChainRule, B: Site, H> Chain<'d, P, K, B, H> {
     }
 
     /// The object of a record becomes the first of the chain, liburcu's `cds_list_add_rcu`: its link is stored, and
-    /// then the head. The event comes after all that the witness and who allocated the record had seen, and the witness
+    /// then the head. The event comes after all that the caller and who allocated the record had seen, and the caller
     /// hears of it. The chain's rule has to allow it in each log that does. It takes no memory and never waits.
-    pub fn push<W: Witness>(&mut self, witness: &mut W, owned: Owned<B>) -> ObjectId
-        requires home { W.home witness.old ≡ (B.table, B.sizes) }
-        requires rule { MayPublish P.QSBR K.allows self.old.seat.me.0 (W.seen witness.old) (W.heard witness.old) owned.seat.me.0.seen (push_by self.old.seat.me.0 owned.seat.me.0) }
+    pub fn push<W: Caller<B>>(&mut self, caller: &mut W, owned: Owned<B>) -> ObjectId
+        requires rule { MayPublish P.QSBR K.allows self.old.seat.me.0 (W.seen caller.old) (W.heard caller.old) owned.seat.me.0.seen (push_by self.old.seat.me.0 owned.seat.me.0) }
         ensures object { result ≡ object_in owned.seat.me.0.object }
         ensures list { (list_in self.new.seat.me.0 ≡ result ∷ list_in self.old.seat.me.0) × ((own_in self.new.seat.me.0.chains).note ≡ (own_in self.old.seat.me.0.chains).note) × (lent_chains self.new.seat.me.0.chains ≡ lent_chains self.old.seat.me.0.chains) × (self.new.number ≡ self.old.number) × (self.new.home.now ≡ self.old.home.now) }
-        ensures pushed { Publishes P.QSBR K.allows self.old.seat.me.0 (W.seen witness.old) (W.heard witness.old) owned.seat.me.0.seen (push_by self.old.seat.me.0 owned.seat.me.0) self.new.seat.me.0.seen }
-        ensures heard { W.heard witness.new ≡ self.new.seat.me.0.seen }
-        ensures same { OnlyMakesLast W.Witness witness.old witness.new self.new.seat.me.0.seen }
+        ensures pushed { Publishes P.QSBR K.allows self.old.seat.me.0 (W.seen caller.old) (W.heard caller.old) owned.seat.me.0.seen (push_by self.old.seat.me.0 owned.seat.me.0) self.new.seat.me.0.seen }
+        ensures heard { W.heard caller.new ≡ self.new.seat.me.0.seen }
+        ensures same { OnlyMakesLast W.Caller caller.old caller.new self.new.seat.me.0.seen }
     {
         let object = owned.object();
         let Owned { seat, cell, .. } = owned;
-        push_record(self.table, &mut self.seat, self.number, witness, seat, cell);
+        push_record(self.table, &mut self.seat, self.number, caller, seat, cell);
         self.linked += 1;
         object
     }
@@ -150,50 +149,52 @@ impl<'d, P: GracePlan, K: ChainRule, B: Site, H> Chain<'d, P, K, B, H> {
     }
 
     /// The object at an index leaves the chain, liburcu's `cds_list_del_rcu`, after a walk to it: what led to it leads
-    /// to what follows it, and its own link stays. The event comes after all that the witness had seen, and the witness
+    /// to what follows it, and its own link stays. The event comes after all that the caller had seen, and the caller
     /// hears of it. The chain's rule has to allow it in each log that does.
     ///
     /// Refused with `NoPlace` exactly where the index is not below the length, and then nothing changes. It takes no
     /// memory and never waits.
-    pub fn cut<W: Witness>(&mut self, witness: &mut W, index: usize) -> Result<Unlinked<B>, Refusal>
-        requires home { W.home witness.old ≡ (B.table, B.sizes) }
-        requires rule { (o : ObjectId) → slice_get (list_in self.old.seat.me.0) index ≡ Some o → MayPublish P.QSBR K.allows self.old.seat.me.0 (W.seen witness.old) (W.heard witness.old) [] (cut_of o self.old.seat.me.0) }
+    pub fn cut<W: Caller<B>>(
+        &mut self,
+        caller: &mut W,
+        index: usize,
+    ) -> Result<Unlinked<B>, Refusal>
+        requires rule { (o : ObjectId) → slice_get (list_in self.old.seat.me.0) index ≡ Some o → MayPublish P.QSBR K.allows self.old.seat.me.0 (W.seen caller.old) (W.heard caller.old) [] (cut_of o self.old.seat.me.0) }
         ensures object { IfOk result (λ u. (slice_get (list_in self.old.seat.me.0) index ≡ Some (object_in u.seat.me.0.object)) × (u.seat.me.0.seen ≡ self.new.seat.me.0.seen) × (u.chain ≡ self.old.number)) }
         ensures list { IfOk result (λ u. (list_in self.new.seat.me.0 ≡ without_object (object_in u.seat.me.0.object) (list_in self.old.seat.me.0)) × ((own_in self.new.seat.me.0.chains).note ≡ (own_in self.old.seat.me.0.chains).note) × (lent_chains self.new.seat.me.0.chains ≡ lent_chains self.old.seat.me.0.chains) × (self.new.number ≡ self.old.number) × (self.new.home.now ≡ self.old.home.now)) }
-        ensures cut { IfOk result (λ u. Publishes P.QSBR K.allows self.old.seat.me.0 (W.seen witness.old) (W.heard witness.old) [] (cut_of (object_in u.seat.me.0.object) self.old.seat.me.0) self.new.seat.me.0.seen) }
-        ensures heard { IfOk result (λ _. W.heard witness.new ≡ self.new.seat.me.0.seen) }
-        ensures refused { IfErr result (λ e. (e ≡ NoPlace) × (length (list_in self.old.seat.me.0) ≤ index) × (self.new ≡ self.old) × (witness.new ≡ witness.old)) }
-        ensures same { IfOk result (λ _. OnlyMakesLast W.Witness witness.old witness.new self.new.seat.me.0.seen) }
+        ensures cut { IfOk result (λ u. Publishes P.QSBR K.allows self.old.seat.me.0 (W.seen caller.old) (W.heard caller.old) [] (cut_of (object_in u.seat.me.0.object) self.old.seat.me.0) self.new.seat.me.0.seen) }
+        ensures heard { IfOk result (λ _. W.heard caller.new ≡ self.new.seat.me.0.seen) }
+        ensures refused { IfErr result (λ e. (e ≡ NoPlace) × (length (list_in self.old.seat.me.0) ≤ index) × (self.new ≡ self.old) × (caller.new ≡ caller.old)) }
+        ensures same { IfOk result (λ _. OnlyMakesLast W.Caller caller.old caller.new self.new.seat.me.0.seen) }
     {
         if index >= self.linked {
             return Err(Refusal::NoPlace);
         }
-        let (seat, cell) = cut_record(self.table, &mut self.seat, self.number, witness, index);
+        let (seat, cell) = cut_record(self.table, &mut self.seat, self.number, caller, index);
         self.linked -= 1;
         Ok(Unlinked::of(seat, cell, self.number))
     }
 
     /// The object of a record takes the place of the one at an index, liburcu's `cds_list_replace_rcu`, after a walk to
     /// it: the new one's link is stored, and then what led to the old one leads to the new one. The event comes after
-    /// all that the witness and who allocated the record had seen, and the witness hears of it. The chain's rule has to
+    /// all that the caller and who allocated the record had seen, and the caller hears of it. The chain's rule has to
     /// allow it in each log that does.
     ///
     /// Refused with `NoPlace` exactly where the index is not below the length; then nothing changes, and the record
     /// comes back. It takes no memory and never waits.
-    pub fn replace<W: Witness>(
+    pub fn replace<W: Caller<B>>(
         &mut self,
-        witness: &mut W,
+        caller: &mut W,
         index: usize,
         owned: Owned<B>,
     ) -> Result<Unlinked<B>, (Refusal, Owned<B>)>
-        requires home { W.home witness.old ≡ (B.table, B.sizes) }
-        requires rule { (o : ObjectId) → slice_get (list_in self.old.seat.me.0) index ≡ Some o → MayPublish P.QSBR K.allows self.old.seat.me.0 (W.seen witness.old) (W.heard witness.old) owned.seat.me.0.seen (replace_by o self.old.seat.me.0 owned.seat.me.0) }
+        requires rule { (o : ObjectId) → slice_get (list_in self.old.seat.me.0) index ≡ Some o → MayPublish P.QSBR K.allows self.old.seat.me.0 (W.seen caller.old) (W.heard caller.old) owned.seat.me.0.seen (replace_by o self.old.seat.me.0 owned.seat.me.0) }
         ensures object { IfOk result (λ u. (slice_get (list_in self.old.seat.me.0) index ≡ Some (object_in u.seat.me.0.object)) × (u.seat.me.0.seen ≡ self.new.seat.me.0.seen) × (u.chain ≡ self.old.number)) }
         ensures list { IfOk result (λ u. (list_in self.new.seat.me.0 ≡ replaced (object_in u.seat.me.0.object) (object_in owned.seat.me.0.object) (list_in self.old.seat.me.0)) × ((own_in self.new.seat.me.0.chains).note ≡ (own_in self.old.seat.me.0.chains).note) × (lent_chains self.new.seat.me.0.chains ≡ lent_chains self.old.seat.me.0.chains) × (self.new.number ≡ self.old.number) × (self.new.home.now ≡ self.old.home.now)) }
-        ensures replaced { IfOk result (λ u. Publishes P.QSBR K.allows self.old.seat.me.0 (W.seen witness.old) (W.heard witness.old) owned.seat.me.0.seen (replace_by (object_in u.seat.me.0.object) self.old.seat.me.0 owned.seat.me.0) self.new.seat.me.0.seen) }
-        ensures heard { IfOk result (λ _. W.heard witness.new ≡ self.new.seat.me.0.seen) }
-        ensures refused { IfErr result (λ e. (e.0 ≡ NoPlace) × (e.1 ≡ owned) × (length (list_in self.old.seat.me.0) ≤ index) × (self.new ≡ self.old) × (witness.new ≡ witness.old)) }
-        ensures same { IfOk result (λ _. OnlyMakesLast W.Witness witness.old witness.new self.new.seat.me.0.seen) }
+        ensures replaced { IfOk result (λ u. Publishes P.QSBR K.allows self.old.seat.me.0 (W.seen caller.old) (W.heard caller.old) owned.seat.me.0.seen (replace_by (object_in u.seat.me.0.object) self.old.seat.me.0 owned.seat.me.0) self.new.seat.me.0.seen) }
+        ensures heard { IfOk result (λ _. W.heard caller.new ≡ self.new.seat.me.0.seen) }
+        ensures refused { IfErr result (λ e. (e.0 ≡ NoPlace) × (e.1 ≡ owned) × (length (list_in self.old.seat.me.0) ≤ index) × (self.new ≡ self.old) × (caller.new ≡ caller.old)) }
+        ensures same { IfOk result (λ _. OnlyMakesLast W.Caller caller.old caller.new self.new.seat.me.0.seen) }
     {
         if index >= self.linked {
             return Err((Refusal::NoPlace, owned));
@@ -203,7 +204,7 @@ impl<'d, P: GracePlan, K: ChainRule, B: Site, H> Chain<'d, P, K, B, H> {
             self.table,
             &mut self.seat,
             self.number,
-            witness,
+            caller,
             index,
             seat,
             cell,
@@ -220,31 +221,29 @@ impl<'d, P: GracePlan, K: ChainRule, B: Site, H> Chain<'d, P, K, B, H> {
         load_note(self.table, &mut self.seat, self.number)
     }
 
-    /// The writer sees all that the witness has seen and heard of, by a load of the chain's note, and the witness hears
+    /// The writer sees all that the caller has seen and heard of, by a load of the chain's note, and the caller hears
     /// of what the writer has seen then. So the list and the note that the writer knows are those of a log that comes
     /// after all that its caller knew. It takes no memory and never waits.
-    pub fn hear<W: Witness>(&mut self, witness: &mut W)
-        requires { W.home witness.old ≡ (B.table, B.sizes) }
+    pub fn hear<W: Caller<B>>(&mut self, caller: &mut W)
         ensures chains { (self.new.seat.me.0.chains ≡ self.old.seat.me.0.chains) × (self.new.number ≡ self.old.number) × (self.new.home.now ≡ self.old.home.now) }
-        ensures told { IsAfter P.QSBR K.allows (W.seen witness.old) (W.heard witness.old) self.new.seat.me.0.seen × Begins self.old.seat.me.0.seen self.new.seat.me.0.seen × Begins self.old.seat.me.0.heard self.new.seat.me.0.seen }
+        ensures told { IsAfter P.QSBR K.allows (W.seen caller.old) (W.heard caller.old) self.new.seat.me.0.seen × Begins self.old.seat.me.0.seen self.new.seat.me.0.seen × Begins self.old.seat.me.0.heard self.new.seat.me.0.seen }
         ensures known { AreAsKnown self.new.seat.me.0.seen self.new.seat.me.0.chains }
-        ensures heard { W.heard witness.new ≡ self.new.seat.me.0.seen }
-        ensures same { OnlyHears W.Witness witness.old witness.new }
+        ensures heard { W.heard caller.new ≡ self.new.seat.me.0.seen }
+        ensures same { OnlyHears W.Caller caller.old caller.new }
     {
-        hear_caller(self.table, &mut self.seat, self.number, witness);
+        hear_caller(self.table, &mut self.seat, self.number, caller);
     }
 
-    /// The chain's note becomes this one. The note comes after all that the witness had seen, and the witness hears of
+    /// The chain's note becomes this one. The note comes after all that the caller had seen, and the caller hears of
     /// it. The chain's rule has to allow it in each log that does. It takes no memory and never waits.
-    pub fn set_note<W: Witness>(&mut self, witness: &mut W, note: u64)
-        requires home { W.home witness.old ≡ (B.table, B.sizes) }
-        requires rule { MayPublish P.QSBR K.allows self.old.seat.me.0 (W.seen witness.old) (W.heard witness.old) [] (ChainNote self.old.number note) }
+    pub fn set_note<W: Caller<B>>(&mut self, caller: &mut W, note: u64)
+        requires rule { MayPublish P.QSBR K.allows self.old.seat.me.0 (W.seen caller.old) (W.heard caller.old) [] (ChainNote self.old.number note) }
         ensures note { ((own_in self.new.seat.me.0.chains).note ≡ note) × (list_in self.new.seat.me.0 ≡ list_in self.old.seat.me.0) × (lent_chains self.new.seat.me.0.chains ≡ lent_chains self.old.seat.me.0.chains) × (self.new.number ≡ self.old.number) × (self.new.home.now ≡ self.old.home.now) }
-        ensures noted { Publishes P.QSBR K.allows self.old.seat.me.0 (W.seen witness.old) (W.heard witness.old) [] (ChainNote self.old.number note) self.new.seat.me.0.seen }
-        ensures heard { W.heard witness.new ≡ self.new.seat.me.0.seen }
-        ensures same { OnlyHears W.Witness witness.old witness.new }
+        ensures noted { Publishes P.QSBR K.allows self.old.seat.me.0 (W.seen caller.old) (W.heard caller.old) [] (ChainNote self.old.number note) self.new.seat.me.0.seen }
+        ensures heard { W.heard caller.new ≡ self.new.seat.me.0.seen }
+        ensures same { OnlyHears W.Caller caller.old caller.new }
     {
-        write_note(self.table, &mut self.seat, self.number, witness, note);
+        write_note(self.table, &mut self.seat, self.number, caller, note);
     }
 
     /// Lends the chain's right to another chain's writer, behind those that were lent to that before. That writer has
@@ -273,6 +272,27 @@ impl<'d, P: GracePlan, K: ChainRule, B: Site, H> Chain<'d, P, K, B, H> {
             linked,
             site,
         }
+    }
+
+    /// Gives the chain back, as dropping it does, and tells its caller: its hold word becomes 0, which `looks` tells.
+    /// The caller hears of all that the writer had seen. It takes no memory and never waits.
+    pub fn release<W: Caller<B>>(self, caller: &mut W)
+        ensures freed { W.looks caller.new ≡ (hold_at B.sizes self.entry.number, 0) ∷ W.looks caller.old }
+        ensures heard { IsAfter P.QSBR K.allows (W.seen caller.old) (W.heard caller.old) (W.heard caller.new) × Begins self.entry.seat.me.0.seen (W.heard caller.new) }
+        ensures same { Stays W.Caller caller.old caller.new × (W.loads caller.new ≡ W.loads caller.old) }
+    {
+        let Chain {
+            home: _,
+            table,
+            mut seat,
+            number,
+            linked: _,
+            site: _,
+        } = self;
+        hear_caller(table, &mut seat, number, caller);
+        let mut right = table.cut_chains(&mut seat);
+        free_chain(table, &mut right, number);
+        caller.learn(table, right);
     }
 }
 

@@ -14,158 +14,158 @@ ghost use Rattle.live_write.specs.Chains.{MayPublish, Publishes, list_in, push_b
 
 use crate::walk::find;
 use gp_memb::GracePlan;
-use live_read::{Witness, tell_all};
+use live_read::{Caller, Site, tell_all};
 use live_words::{
     ChainRule, LiveSeat, LiveTable, cut, load_head, load_link, load_note, load_seq, push, replace,
     store_note,
 };
 
 /// The object of a fresh record, by the seat with the right to it, becomes the first of the seat's own chain.
-pub(crate) fn push_record<P: GracePlan, K: ChainRule, W: Witness>(
+pub(crate) fn push_record<P: GracePlan, K: ChainRule, B: Site, W: Caller<B>>(
     table: &LiveTable<P, K>,
     seat: &mut LiveSeat,
     chain: usize,
-    witness: &mut W,
+    caller: &mut W,
     owned: LiveSeat,
     cell: usize,
 )
     requires seat { (seat.old.table_id ≡ table.now.words.shared.table_id) × (seat.old.me.0.sizes ≡ table.now.words.shared.key) × (chain < table.now.chains) × (cell < table.now.pool) }
     requires owned { (owned.table_id ≡ table.now.words.shared.table_id) × (owned.me.1 ≡ []) × IsFresh owned.me.0 × (cell_in owned.me.0.object ≡ cell) }
-    requires witness { W.home witness.old ≡ (table.now.words.shared.table_id, table.now.words.shared.key) }
+    requires site { (table.now.words.shared.table_id ≡ B.table) × (table.now.words.shared.key ≡ B.sizes) }
     requires right { IsWriter seat.old.me.0 × ((own_in seat.old.me.0.chains).chain ≡ chain) }
-    requires rule { MayPublish P.QSBR K.allows seat.old.me.0 (W.seen witness.old) (W.heard witness.old) owned.me.0.seen (push_by seat.old.me.0 owned.me.0) }
+    requires rule { MayPublish P.QSBR K.allows seat.old.me.0 (W.seen caller.old) (W.heard caller.old) owned.me.0.seen (push_by seat.old.me.0 owned.me.0) }
     ensures seat { Keeps seat.old seat.new × (seat.new.me.1 ≡ seat.old.me.1) × (seat.new.me.0.sizes ≡ seat.old.me.0.sizes) × IsListed seat.new.me.0 }
     ensures list { (seat.new.me.0.chains ≡ record (own_in seat.old.me.0.chains) { head = cell + 1; objects = object_in owned.me.0.object ∷ list_in seat.old.me.0 } ∷ lent_chains seat.old.me.0.chains) × (length (list_in seat.old.me.0) ≤ table.now.pool) }
-    ensures pushed { Publishes P.QSBR K.allows seat.old.me.0 (W.seen witness.old) (W.heard witness.old) owned.me.0.seen (push_by seat.old.me.0 owned.me.0) seat.new.me.0.seen }
-    ensures heard { W.heard witness.new ≡ seat.new.me.0.seen }
-    ensures same { OnlyMakesLast W.Witness witness.old witness.new seat.new.me.0.seen }
+    ensures pushed { Publishes P.QSBR K.allows seat.old.me.0 (W.seen caller.old) (W.heard caller.old) owned.me.0.seen (push_by seat.old.me.0 owned.me.0) seat.new.me.0.seen }
+    ensures heard { W.heard caller.new ≡ seat.new.me.0.seen }
+    ensures same { OnlyMakesLast W.Caller caller.old caller.new seat.new.me.0.seen }
 {
-    let mut told = tell_all(table, witness);
+    let mut told = tell_all(table, caller);
     table.take_object(&mut told, owned);
     load_seq(table, &mut told);
     let head = load_head(table, seat, chain);
     table.take_object(seat, told);
     push(table, seat, chain, cell, head);
     let pushed = table.tell_changes(seat);
-    witness.learn_changes(table, pushed);
+    caller.learn_changes(table, pushed);
 }
 
 /// The object at an index of the seat's own chain leaves it. Answers the seat with the right to it, and its record.
-pub(crate) fn cut_record<P: GracePlan, K: ChainRule, W: Witness>(
+pub(crate) fn cut_record<P: GracePlan, K: ChainRule, B: Site, W: Caller<B>>(
     table: &LiveTable<P, K>,
     seat: &mut LiveSeat,
     chain: usize,
-    witness: &mut W,
+    caller: &mut W,
     index: usize,
 ) -> (LiveSeat, usize)
     requires seat { (seat.old.table_id ≡ table.now.words.shared.table_id) × (seat.old.me.0.sizes ≡ table.now.words.shared.key) × (chain < table.now.chains) × (index < length (list_in seat.old.me.0)) }
-    requires witness { W.home witness.old ≡ (table.now.words.shared.table_id, table.now.words.shared.key) }
+    requires site { (table.now.words.shared.table_id ≡ B.table) × (table.now.words.shared.key ≡ B.sizes) }
     requires right { IsWriter seat.old.me.0 × ((own_in seat.old.me.0.chains).chain ≡ chain) }
-    requires rule { (o : ObjectId) → slice_get (list_in seat.old.me.0) index ≡ Some o → MayPublish P.QSBR K.allows seat.old.me.0 (W.seen witness.old) (W.heard witness.old) [] (cut_of o seat.old.me.0) }
+    requires rule { (o : ObjectId) → slice_get (list_in seat.old.me.0) index ≡ Some o → MayPublish P.QSBR K.allows seat.old.me.0 (W.seen caller.old) (W.heard caller.old) [] (cut_of o seat.old.me.0) }
     ensures seat { Keeps seat.old seat.new × (seat.new.me.1 ≡ seat.old.me.1) × (seat.new.me.0.sizes ≡ seat.old.me.0.sizes) × IsListed seat.new.me.0 }
     ensures unlinked { (result.0.table_id ≡ seat.old.table_id) × (result.0.me.1 ≡ []) × (result.0.me.0.sizes ≡ seat.old.me.0.sizes) × (result.0.me.0.seen ≡ seat.new.me.0.seen) × IsUnlinked result.0.me.0 × (cell_in result.0.me.0.object ≡ result.1) × (result.1 < table.now.pool) }
     ensures object { slice_get (list_in seat.old.me.0) index ≡ Some (object_in result.0.me.0.object) }
     ensures list { (own_in seat.new.me.0.chains ≡ record (own_in seat.old.me.0.chains) { head = (own_in seat.new.me.0.chains).head; objects = without_object (object_in result.0.me.0.object) (list_in seat.old.me.0) }) × (lent_chains seat.new.me.0.chains ≡ lent_chains seat.old.me.0.chains) × IsWriter seat.new.me.0 }
     ensures fewer { length (list_in seat.new.me.0) + 1 ≡ length (list_in seat.old.me.0) }
-    ensures cut { Publishes P.QSBR K.allows seat.old.me.0 (W.seen witness.old) (W.heard witness.old) [] (cut_of (object_in result.0.me.0.object) seat.old.me.0) seat.new.me.0.seen }
-    ensures heard { W.heard witness.new ≡ seat.new.me.0.seen }
-    ensures same { OnlyMakesLast W.Witness witness.old witness.new seat.new.me.0.seen }
+    ensures cut { Publishes P.QSBR K.allows seat.old.me.0 (W.seen caller.old) (W.heard caller.old) [] (cut_of (object_in result.0.me.0.object) seat.old.me.0) seat.new.me.0.seen }
+    ensures heard { W.heard caller.new ≡ seat.new.me.0.seen }
+    ensures same { OnlyMakesLast W.Caller caller.old caller.new seat.new.me.0.seen }
 {
     let (before, cell) = find(table, seat, chain, index);
-    let told = tell_all(table, witness);
+    let told = tell_all(table, caller);
     table.learn(seat, told);
     cut(table, seat, chain, before, cell);
     let unlinked = table.cut_object(seat);
     let left = table.tell_changes(seat);
-    witness.learn_changes(table, left);
+    caller.learn_changes(table, left);
     (unlinked, cell)
 }
 
 /// The object of a fresh record, by the seat with the right to it, takes the place of the one at an index of the seat's
 /// own chain. Answers the seat with the right to what it replaced, and its record.
-pub(crate) fn replace_record<P: GracePlan, K: ChainRule, W: Witness>(
+pub(crate) fn replace_record<P: GracePlan, K: ChainRule, B: Site, W: Caller<B>>(
     table: &LiveTable<P, K>,
     seat: &mut LiveSeat,
     chain: usize,
-    witness: &mut W,
+    caller: &mut W,
     index: usize,
     owned: LiveSeat,
     cell: usize,
 ) -> (LiveSeat, usize)
     requires seat { (seat.old.table_id ≡ table.now.words.shared.table_id) × (seat.old.me.0.sizes ≡ table.now.words.shared.key) × (chain < table.now.chains) × (index < length (list_in seat.old.me.0)) × (cell < table.now.pool) }
     requires owned { (owned.table_id ≡ table.now.words.shared.table_id) × (owned.me.1 ≡ []) × IsFresh owned.me.0 × (cell_in owned.me.0.object ≡ cell) }
-    requires witness { W.home witness.old ≡ (table.now.words.shared.table_id, table.now.words.shared.key) }
+    requires site { (table.now.words.shared.table_id ≡ B.table) × (table.now.words.shared.key ≡ B.sizes) }
     requires right { IsWriter seat.old.me.0 × ((own_in seat.old.me.0.chains).chain ≡ chain) }
-    requires rule { (o : ObjectId) → slice_get (list_in seat.old.me.0) index ≡ Some o → MayPublish P.QSBR K.allows seat.old.me.0 (W.seen witness.old) (W.heard witness.old) owned.me.0.seen (replace_by o seat.old.me.0 owned.me.0) }
+    requires rule { (o : ObjectId) → slice_get (list_in seat.old.me.0) index ≡ Some o → MayPublish P.QSBR K.allows seat.old.me.0 (W.seen caller.old) (W.heard caller.old) owned.me.0.seen (replace_by o seat.old.me.0 owned.me.0) }
     ensures seat { Keeps seat.old seat.new × (seat.new.me.1 ≡ seat.old.me.1) × (seat.new.me.0.sizes ≡ seat.old.me.0.sizes) × IsListed seat.new.me.0 }
     ensures unlinked { (result.0.table_id ≡ seat.old.table_id) × (result.0.me.1 ≡ []) × (result.0.me.0.sizes ≡ seat.old.me.0.sizes) × (result.0.me.0.seen ≡ seat.new.me.0.seen) × IsUnlinked result.0.me.0 × (cell_in result.0.me.0.object ≡ result.1) × (result.1 < table.now.pool) }
     ensures object { slice_get (list_in seat.old.me.0) index ≡ Some (object_in result.0.me.0.object) }
     ensures list { (own_in seat.new.me.0.chains ≡ record (own_in seat.old.me.0.chains) { head = (own_in seat.new.me.0.chains).head; objects = replaced (object_in result.0.me.0.object) (object_in owned.me.0.object) (list_in seat.old.me.0) }) × (lent_chains seat.new.me.0.chains ≡ lent_chains seat.old.me.0.chains) × IsWriter seat.new.me.0 }
     ensures many { length (list_in seat.new.me.0) ≡ length (list_in seat.old.me.0) }
-    ensures replaced { Publishes P.QSBR K.allows seat.old.me.0 (W.seen witness.old) (W.heard witness.old) owned.me.0.seen (replace_by (object_in result.0.me.0.object) seat.old.me.0 owned.me.0) seat.new.me.0.seen }
-    ensures heard { W.heard witness.new ≡ seat.new.me.0.seen }
-    ensures same { OnlyMakesLast W.Witness witness.old witness.new seat.new.me.0.seen }
+    ensures replaced { Publishes P.QSBR K.allows seat.old.me.0 (W.seen caller.old) (W.heard caller.old) owned.me.0.seen (replace_by (object_in result.0.me.0.object) seat.old.me.0 owned.me.0) seat.new.me.0.seen }
+    ensures heard { W.heard caller.new ≡ seat.new.me.0.seen }
+    ensures same { OnlyMakesLast W.Caller caller.old caller.new seat.new.me.0.seen }
 {
     let (before, was) = find(table, seat, chain, index);
     let next = load_link(table, seat, was);
-    let mut told = tell_all(table, witness);
+    let mut told = tell_all(table, caller);
     table.take_object(&mut told, owned);
     load_seq(table, &mut told);
     table.take_object(seat, told);
     replace(table, seat, chain, before, cell, next);
     let unlinked = table.cut_object(seat);
     let changed = table.tell_changes(seat);
-    witness.learn_changes(table, changed);
+    caller.learn_changes(table, changed);
     (unlinked, was)
 }
 
 /// The note of the seat's own chain becomes this one.
-pub(crate) fn write_note<P: GracePlan, K: ChainRule, W: Witness>(
+pub(crate) fn write_note<P: GracePlan, K: ChainRule, B: Site, W: Caller<B>>(
     table: &LiveTable<P, K>,
     seat: &mut LiveSeat,
     chain: usize,
-    witness: &mut W,
+    caller: &mut W,
     note: u64,
 )
     requires seat { (seat.old.table_id ≡ table.now.words.shared.table_id) × (seat.old.me.0.sizes ≡ table.now.words.shared.key) × (chain < table.now.chains) }
-    requires witness { W.home witness.old ≡ (table.now.words.shared.table_id, table.now.words.shared.key) }
+    requires site { (table.now.words.shared.table_id ≡ B.table) × (table.now.words.shared.key ≡ B.sizes) }
     requires right { IsWriter seat.old.me.0 × ((own_in seat.old.me.0.chains).chain ≡ chain) }
-    requires rule { MayPublish P.QSBR K.allows seat.old.me.0 (W.seen witness.old) (W.heard witness.old) [] (ChainNote chain note) }
+    requires rule { MayPublish P.QSBR K.allows seat.old.me.0 (W.seen caller.old) (W.heard caller.old) [] (ChainNote chain note) }
     ensures seat { Keeps seat.old seat.new × (seat.new.me.1 ≡ seat.old.me.1) × (seat.new.me.0.sizes ≡ seat.old.me.0.sizes) × IsListed seat.new.me.0 }
     ensures note { seat.new.me.0.chains ≡ record (own_in seat.old.me.0.chains) { note = note } ∷ lent_chains seat.old.me.0.chains }
-    ensures noted { Publishes P.QSBR K.allows seat.old.me.0 (W.seen witness.old) (W.heard witness.old) [] (ChainNote chain note) seat.new.me.0.seen }
-    ensures heard { W.heard witness.new ≡ seat.new.me.0.seen }
-    ensures same { OnlyHears W.Witness witness.old witness.new }
+    ensures noted { Publishes P.QSBR K.allows seat.old.me.0 (W.seen caller.old) (W.heard caller.old) [] (ChainNote chain note) seat.new.me.0.seen }
+    ensures heard { W.heard caller.new ≡ seat.new.me.0.seen }
+    ensures same { OnlyHears W.Caller caller.old caller.new }
 {
     load_note(table, seat, chain);
-    let told = tell_all(table, witness);
+    let told = tell_all(table, caller);
     table.learn(seat, told);
     store_note(table, seat, chain, note);
     let heard = table.tell(seat);
-    witness.learn(table, heard);
+    caller.learn(table, heard);
 }
 
-/// The seat, which has a chain of its own, sees all that the witness has seen and heard of, by a load of that chain's
-/// note, and the witness hears of what the seat has seen then.
-pub(crate) fn hear_caller<P: GracePlan, K: ChainRule, W: Witness>(
+/// The seat, which has a chain of its own, sees all that the caller has seen and heard of, by a load of that chain's
+/// note, and the caller hears of what the seat has seen then.
+pub(crate) fn hear_caller<P: GracePlan, K: ChainRule, B: Site, W: Caller<B>>(
     table: &LiveTable<P, K>,
     seat: &mut LiveSeat,
     chain: usize,
-    witness: &mut W,
+    caller: &mut W,
 )
     requires seat { (seat.old.table_id ≡ table.now.words.shared.table_id) × (seat.old.me.0.sizes ≡ table.now.words.shared.key) × (chain < table.now.chains) × IsWriter seat.old.me.0 }
-    requires witness { W.home witness.old ≡ (table.now.words.shared.table_id, table.now.words.shared.key) }
+    requires site { (table.now.words.shared.table_id ≡ B.table) × (table.now.words.shared.key ≡ B.sizes) }
     ensures seat { Keeps seat.old seat.new × (seat.new.me.1 ≡ seat.old.me.1) × (seat.new.me.0.sizes ≡ seat.old.me.0.sizes) × IsListed seat.new.me.0 }
     ensures chains { seat.new.me.0.chains ≡ seat.old.me.0.chains }
-    ensures told { IsAfter P.QSBR K.allows (W.seen witness.old) (W.heard witness.old) seat.new.me.0.seen × Begins seat.old.me.0.seen seat.new.me.0.seen × Begins seat.old.me.0.heard seat.new.me.0.seen }
+    ensures told { IsAfter P.QSBR K.allows (W.seen caller.old) (W.heard caller.old) seat.new.me.0.seen × Begins seat.old.me.0.seen seat.new.me.0.seen × Begins seat.old.me.0.heard seat.new.me.0.seen }
     ensures known { AreAsKnown seat.new.me.0.seen seat.new.me.0.chains }
-    ensures heard { W.heard witness.new ≡ seat.new.me.0.seen }
-    ensures same { OnlyHears W.Witness witness.old witness.new }
+    ensures heard { W.heard caller.new ≡ seat.new.me.0.seen }
+    ensures same { OnlyHears W.Caller caller.old caller.new }
 {
     load_note(table, seat, chain);
-    let told = tell_all(table, witness);
+    let told = tell_all(table, caller);
     table.learn(seat, told);
     load_note(table, seat, chain);
     let heard = table.tell(seat);
-    witness.learn(table, heard);
+    caller.learn(table, heard);
 }

@@ -6,14 +6,14 @@ use Rattle.live_log.specs.Log.{Log, Begins}
 use Rattle.live_log.specs.Tables.{tabled}
 use Rattle.live_log.proofs.Lemmas.{begins_trans}
 use Rattle.rcu_hash.specs.live_read.Hearing.{MakesLast, Stays}
-use Rattle.rcu_hash.specs.live_read.declared.witness.Witness.{Ghosts}
+use Rattle.rcu_hash.specs.live_read.declared.caller.Caller.{Ghosts}
 use Rattle.rcu_hash.proofs.live_read.Lemmas.{stays_makes}
 use Rattle.rcu_hash.specs.rcu_list.Calls.{HandsOver}
 use Rattle.rcu_hash.specs.Publishing.{InsertsThrough, RemovesThrough, ReplacesThrough}
 use Rattle.rcu.specs.Keys.{GivesWord}
 use Rattle.rcu.proofs.Putting.{queued_later}
 
-module _ {W : Type 0} (w : Ghosts W) (qsbr : Bool) (chains queues d : ℕ) (old new : W) (key : ℕ) where
+module _ {W S : Type 0} (w : Ghosts W S) (qsbr : Bool) (chains queues d : ℕ) (old new : W) (key : ℕ) where
   pub gives_insertion : (value chain : ℕ) → InsertsThrough qsbr tabled chains d (w.seen old) (w.heard old) key value chain (w.heard new) → MakesLast w old new (w.heard new) → GivesWord w qsbr chains queues d old new key (Some value)
   gives_insertion value chain i made = record { published = w.heard new; chain = chain; event = _; had = None; changes = i.changes; told = ([], refl); made = made; retired = λ h e. absurd (none_some h e) }
 
@@ -23,8 +23,8 @@ module _ {W : Type 0} (w : Ghosts W) (qsbr : Bool) (chains queues d : ℕ) (old 
   pub gives_removal : (chain : ℕ) (left : ObjectId) (published : Log) (ticket : ℕ) → RemovesThrough qsbr tabled chains d (w.seen old) (w.heard old) key chain left published → HandsOver qsbr tabled left (chain % queues) ticket published (w.heard new) → MakesLast w old new published → GivesWord w qsbr chains queues d old new key None
   gives_removal chain left published ticket r h made = record { published = published; chain = chain; event = _; had = Some r.had; changes = r.changes; told = queued_later qsbr tabled published left (chain % queues) h.given (w.heard new) h.queued; made = made; retired = λ _ _. (left, ticket, h) }
 
--- a witness that stood as it stood when the call was made gave all that was given in the call
-pub gives_after : {W : Type 0} (w : Ghosts W) (qsbr : Bool) (chains queues d : ℕ) (old was new : W) (key : ℕ) (has : Option ℕ) → Stays w old was → Begins (w.heard old) (w.heard was) → GivesWord w qsbr chains queues d was new key has → GivesWord w qsbr chains queues d old new key has
+-- a caller that stood as it stood when the call was made gave all that was given in the call
+pub gives_after : {W S : Type 0} (w : Ghosts W S) (qsbr : Bool) (chains queues d : ℕ) (old was new : W) (key : ℕ) (has : Option ℕ) → Stays w old was → Begins (w.heard old) (w.heard was) → GivesWord w qsbr chains queues d was new key has → GivesWord w qsbr chains queues d old new key has
 gives_after w qsbr chains queues d old was new key has stays later g =
     let k = g.changes in record {
       published = g.published;

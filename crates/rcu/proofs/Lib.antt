@@ -2,3 +2,4 @@ pub mod Giving
 pub mod Hearing
 pub mod Putting
 pub mod Refused
+pub mod Standing

@@ -13,7 +13,7 @@ use Rattle.rcu_hash.specs.live_read.Hearing.{IsAfter, Stays}
 use Rattle.rcu_hash.specs.live_table.Rights.{AreAsKnown, IsWriter, own_in}
 use Rattle.rcu_hash.specs.live_items.Retiring.{Queues}
 use Rattle.rcu_hash.specs.live_write.Chains.{Publishes, list_in}
-use Rattle.rcu_hash.specs.live_read.declared.witness.Witness.{Ghosts}
+use Rattle.rcu_hash.specs.live_read.declared.caller.Caller.{Ghosts}
 use Rattle.rcu_hash.proofs.live_read.Lemmas.{stays_makes}
 use Rattle.rcu.specs.Slots.{PushesValue, PutsValue, ReplacesValue, any_change, first_in}
 use Rattle.rcu.proofs.Hearing.{still_after}
@@ -84,8 +84,8 @@ module _ (qsbr : Bool) (allows : Log → LiveEvent → Type 0) (writer : View) (
   replaced_words c q o cell words log four p =
       ap (λ (x : ℕ × List ℕ). words_in x.1) (replaced_note qsbr allows log c q o cell words p.run (subst (Has (Object (Replace c q o cell words))) (sym p.wrote) (inl refl))) ∙ four_words words four
 
--- a witness that stood as it stood when the call was made put all that was put in the call
-module _ {W : Type 0} (w : Ghosts W) (qsbr : Bool) (old was new : W) (c : ℕ) (words : List ℕ) (stays : Stays w old was) (later : Begins (w.heard old) (w.heard was)) where
+-- a caller that stood as it stood when the call was made put all that was put in the call
+module _ {W S : Type 0} (w : Ghosts W S) (qsbr : Bool) (old was new : W) (c : ℕ) (words : List ℕ) (stays : Stays w old was) (later : Begins (w.heard old) (w.heard was)) where
   pub puts_after : PutsValue w qsbr was new c words → PutsValue w qsbr old new c words
   puts_after p = record {
     at = p.at;

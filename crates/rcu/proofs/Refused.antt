@@ -6,7 +6,7 @@ use Rattle.live_log.specs.Log.{Log, Begins}
 use Rattle.live_log.proofs.Lemmas.{begins_trans}
 use Rattle.rcu_hash.specs.live_rule.declared.view.Sizes.{Sizes}
 use Rattle.rcu_hash.specs.live_read.Hearing.{Stays}
-use Rattle.rcu_hash.specs.live_read.declared.witness.Witness.{Ghosts}
+use Rattle.rcu_hash.specs.live_read.declared.caller.Caller.{Ghosts}
 use Rattle.rcu_hash.specs.live_reclaim.Refusing.{RefusesRetirement}
 use Rattle.rcu_hash.specs.rcu_list.Refusing.{FindsNoRecord, GivesBack}
 use Rattle.rcu_hash.specs.Refusing.{During, RefusesInsertionThrough, RefusesReplacementThrough}
@@ -14,16 +14,16 @@ use Rattle.rcu_hash.specs.Tidying.{Tidies}
 use Rattle.rcu.specs.Keys.{HearsMore}
 use Rattle.rcu.proofs.Hearing.{Went, stays_on, went_on}
 
-module _ {W : Type 0} (w : Ghosts W) (old new : W) where
+module _ {W S : Type 0} (w : Ghosts W S) (old new : W) where
   -- it stands as it stood, and has heard of no less
   abbrev pub Goes : Type 0
   Goes = Stays w old new × Begins (w.heard old) (w.heard new)
 
 -- so after one call and another
-pub goes_on : {W : Type 0} (w : Ghosts W) (a b c : W) → Goes w a b → Goes w b c → Goes w a c
+pub goes_on : {W S : Type 0} (w : Ghosts W S) (a b c : W) → Goes w a b → Goes w b c → Goes w a c
 goes_on w a b c p q = (stays_on w a b c p.0 q.0, begins_trans (w.heard a) (w.heard b) (w.heard c) p.1 q.1)
 
-module _ {W : Type 0} (w : Ghosts W) (qsbr : Bool) (allows : Log → LiveEvent → Type 0) (sizes : Sizes) (old new : W) (e : Refusal) where
+module _ {W S : Type 0} (w : Ghosts W S) (qsbr : Bool) (allows : Log → LiveEvent → Type 0) (sizes : Sizes) (old new : W) (e : Refusal) where
   during : (is_so : Log → Type 0) → During w qsbr allows old new is_so → Begins (w.heard old) (w.heard new)
   during is_so d = begins_trans (w.heard old) d.at (w.heard new) d.after.after_heard d.before
 
@@ -44,15 +44,15 @@ module _ {W : Type 0} (w : Ghosts W) (qsbr : Bool) (allows : Log → LiveEvent �
   refused_insertion d key (inr (lacked, inr f)) = no_record f
 
 -- a retirement that was refused, for the one reason or the other
-pub went_refused : {W P Q R : Type 0} (w : Ghosts W) (qsbr : Bool) (allows : Log → LiveEvent → Type 0) {sizes : Sizes} {queue : ℕ} {e : Refusal} (a b c : W) → Went w qsbr allows a b → (P × Q × (c ≡ b)) ⊎ (R × RefusesRetirement w qsbr allows sizes queue b c e) → Went w qsbr allows a c
+pub went_refused : {W S P Q R : Type 0} (w : Ghosts W S) (qsbr : Bool) (allows : Log → LiveEvent → Type 0) {sizes : Sizes} {queue : ℕ} {e : Refusal} (a b c : W) → Went w qsbr allows a b → (P × Q × (c ≡ b)) ⊎ (R × RefusesRetirement w qsbr allows sizes queue b c e) → Went w qsbr allows a c
 went_refused w qsbr allows a b c had (inl r) = subst (Went w qsbr allows a) (sym r.2) had
 went_refused w qsbr allows a b c had (inr r) = went_on w qsbr allows a b c had (r.1.same.0.0, r.1.after)
 
--- a witness that hears more after one call and another hears more
-pub hears_on : {W : Type 0} (w : Ghosts W) (a b c : W) → HearsMore w a b → HearsMore w b c → HearsMore w a c
-hears_on w a b c p q = (q.0 ∙ p.0, q.1 ∙ p.1, begins_trans (w.heard a) (w.heard b) (w.heard c) p.2 q.2)
+-- a caller that hears more after one call and another hears more
+pub hears_on : {W S : Type 0} (w : Ghosts W S) (a b c : W) → HearsMore w a b → HearsMore w b c → HearsMore w a c
+hears_on w a b c p q = (q.0 ∙ p.0, begins_trans (w.heard a) (w.heard b) (w.heard c) p.1 q.1)
 
 -- whatever came of a tidying, its caller hears more
-pub tidied_hears : {W P Q D : Type 0} (w : Ghosts W) (qsbr : Bool) (allows : Log → LiveEvent → Type 0) (old new : W) {sizes : Sizes} {d : ℕ} {jobs left : List D} → Tidies w qsbr allows old new sizes d jobs left ⊎ (P × Stays w old new × Q) → Begins (w.heard old) (w.heard new) → HearsMore w old new
-tidied_hears w qsbr allows old new (inl t) later = (t.uses.made.made.0, t.uses.made.made.1, later)
-tidied_hears w qsbr allows old new (inr s) later = (s.1.0, s.1.1, later)
+pub tidied_hears : {W S P Q D : Type 0} (w : Ghosts W S) (qsbr : Bool) (allows : Log → LiveEvent → Type 0) (old new : W) {sizes : Sizes} {d : ℕ} {jobs left : List D} → Tidies w qsbr allows old new sizes d jobs left ⊎ (P × Stays w old new × Q) → Begins (w.heard old) (w.heard new) → HearsMore w old new
+tidied_hears w qsbr allows old new (inl t) later = (t.uses.made.made.0, later)
+tidied_hears w qsbr allows old new (inr s) later = (s.1.0, later)

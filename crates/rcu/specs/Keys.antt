@@ -8,7 +8,7 @@ use Rattle.live_log.specs.Tables.{tabled}
 use Rattle.rcu_hash.specs.live_read.Hearing.{MakesLast}
 use Rattle.rcu_hash.specs.live_read.Holding.{log_of}
 use Rattle.rcu_hash.specs.live_read.declared.reader_core.ReaderCore.{ReaderCore}
-use Rattle.rcu_hash.specs.live_read.declared.witness.Witness.{Ghosts}
+use Rattle.rcu_hash.specs.live_read.declared.caller.Caller.{Ghosts}
 use Rattle.rcu_hash.specs.rcu_list.Calls.{HandsOver}
 use Rattle.rcu_hash.specs.Directories.{directed_map}
 use Rattle.rcu_hash.specs.Growing.{Grows}
@@ -38,19 +38,19 @@ pub record Grew (qsbr : Bool) (allows : Log → LiveEvent → Type 0) (chains d 
   pub grows : Grows qsbr allows chains d seen start first buckets entries grown
   pub before : Begins grown new
 
--- the witness is of the same table, has seen no more, and has heard of no less
-abbrev pub HearsMore : {W : Type 0} → Ghosts W → W → W → Type 0
-HearsMore w old new = (w.seen new ≡ w.seen old) × (w.home new ≡ w.home old) × Begins (w.heard old) (w.heard new)
+-- the caller has seen no more, and has heard of no less
+abbrev pub HearsMore : {W S : Type 0} → Ghosts W S → W → W → Type 0
+HearsMore w old new = (w.seen new ≡ w.seen old) × Begins (w.heard old) (w.heard new)
 
 -- a reader found this for the key between these two moments of it
 abbrev pub GetsValue : {T P K : Type 0} {g : plan.Ghosts P} → (T → ℕ) → ℕ → ℕ → ReaderCore P K g → ReaderCore P K g → ℕ → Option T → Type 0
 GetsValue packed chains d r s key found = Gets packed chains d (log_of r) r.seat.me.0.heard (log_of s) key found
 
--- Between these two moments of a witness the key has this word from the last event of a log on, or none, and each other
+-- Between these two moments of a caller the key has this word from the last event of a log on, or none, and each other
 -- key what it had before the event. That came after all that the caller had seen and heard of, the caller has heard of
 -- it, and no other change of a chain was made for it. A record that had the key's value before was retired then, in one
 -- of so many queues.
-pub record GivesWord {W : Type 0} (w : Ghosts W) (qsbr : Bool) (chains queues d : ℕ) (old new : W) (key : ℕ) (has : Option ℕ) : Type 0 where
+pub record GivesWord {W S : Type 0} (w : Ghosts W S) (qsbr : Bool) (chains queues d : ℕ) (old new : W) (key : ℕ) (has : Option ℕ) : Type 0 where
   pub published : Log
   pub chain : ℕ
   pub event : LiveEvent
@@ -61,5 +61,5 @@ pub record GivesWord {W : Type 0} (w : Ghosts W) (qsbr : Bool) (chains queues d 
   pub retired : (h : ℕ) → had ≡ Some h → (left : ObjectId) × (ticket : ℕ) × HandsOver qsbr tabled left (chain % queues) ticket published (w.heard new)
 
 -- and the map grew
-abbrev pub GrewTo : {W : Type 0} → Ghosts W → Bool → ℕ → ℕ → W → W → ℕ → ℕ → Type 0
+abbrev pub GrewTo : {W S : Type 0} → Ghosts W S → Bool → ℕ → ℕ → W → W → ℕ → ℕ → Type 0
 GrewTo w qsbr chains d old new first buckets = Grew qsbr tabled chains d (w.seen old) (w.heard old) first buckets (w.heard new)

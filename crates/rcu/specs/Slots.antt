@@ -10,7 +10,7 @@ use Rattle.live_log.specs.Log.{Log, Begins, objects_of, payload_of}
 use Rattle.rcu_hash.specs.live_read.Hearing.{IsAfter, MakesLast}
 use Rattle.rcu_hash.specs.live_read.Holding.{log_of}
 use Rattle.rcu_hash.specs.live_read.declared.reader_core.ReaderCore.{ReaderCore}
-use Rattle.rcu_hash.specs.live_read.declared.witness.Witness.{Ghosts}
+use Rattle.rcu_hash.specs.live_read.declared.caller.Caller.{Ghosts}
 use Rattle.rcu_hash.specs.rcu_list.Calls.{HandsOver}
 
 -- the rule of chains that any change fits
@@ -40,8 +40,8 @@ module _ (qsbr : Bool) (allows : Log → LiveEvent → Type 0) (seen heard : Log
 abbrev pub FindsValue : {T P K : Type 0} {g : plan.Ghosts P} → Bool → (T → List ℕ) → ℕ → T → ReaderCore P K g → ReaderCore P K g → T → Type 0
 FindsValue qsbr packed c first r s x = Finds qsbr any_change (log_of r) r.seat.me.0.heard packed c first (log_of s) x
 
--- between these two moments of a witness
-module _ {W : Type 0} (w : Ghosts W) (qsbr : Bool) (old new : W) where
+-- between these two moments of a caller
+module _ {W S : Type 0} (w : Ghosts W S) (qsbr : Bool) (old new : W) where
   -- A record with these words became the first of the chain by the last event of a log, after all that the caller knew.
   -- The caller has heard of it, and no other change of a chain was made for it.
   pub record PutsValue (c : ℕ) (words : List ℕ) : Type 0 where

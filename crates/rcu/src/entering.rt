@@ -37,7 +37,7 @@ fn entered<
     R,
     F: Program<P, K, D, R> + Drop,
 >(rt: &R, alloc: Global, opened: Opened<P, K>, program: F) -> Result<F::Out, Refusal>
-    requires { Names P.QSBR B.Site opened }
+    requires { Names B.Site opened }
     ensures { IfErr result (λ e. e ≡ Memory) }
 {
     let (domain, first) = opened.named::<B, D>(alloc)?;

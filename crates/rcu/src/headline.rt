@@ -13,10 +13,11 @@ ghost use Rattle.rcu.specs.Headline.{IsSafeNow};
 
 use gp_memb::GracePlan;
 use live_log::the_log_is_a_run;
-use rcu_hash::{ChainRule, Deleter, Domain, Site, Witness};
+use rcu_hash::{Caller, ChainRule, Deleter, Domain, Site};
 
 /// At every moment at which a table keeps its rule, which each step of the library does, its threads have one log. In
 /// that an object's callback runs at most once, and only after every section that was open at its retirement has ended.
+/// And a reader whose word tells of a section is in one: its `Open` is in that log, and its `Close` is not.
 pub fn every_moment_is_safe<P: GracePlan, K: ChainRule, S>()
     ensures { (key : Sizes) (s : State S View) → KeepsRule P.QSBR K.allows key s → IsSafeNow P.QSBR key s }
 {
@@ -26,15 +27,14 @@ pub fn every_moment_is_safe<P: GracePlan, K: ChainRule, S>()
 /// The caller hears of the log of all that the domain's threads have done until now, by one load. It begins with all
 /// that the caller had seen and heard of, and keeps the headline's promise: in it an object's callback runs at most
 /// once, and only after every section that was open at its retirement has ended. It never waits and takes no memory.
-pub fn hear<P: GracePlan + Drop, K: ChainRule, B: Site, D: Deleter, W: Witness>(
+pub fn hear<P: GracePlan + Drop, K: ChainRule, B: Site, D: Deleter, W: Caller<B>>(
     domain: &Domain<P, K, B, D>,
-    witness: &mut W,
+    caller: &mut W,
 )
-    requires { W.home witness.old ≡ (B.table, B.sizes) }
-    ensures safe { IsSafeLog (events_of (W.heard witness.new)) }
-    ensures loaded { LoadedOnce P.QSBR K.allows (W.seen witness.old) (W.heard witness.old) (W.loads witness.old) (W.loads witness.new) (W.heard witness.new) }
-    ensures same { FindsNothing W.Witness witness.old witness.new }
+    ensures safe { IsSafeLog (events_of (W.heard caller.new)) }
+    ensures loaded { LoadedOnce P.QSBR K.allows (W.seen caller.old) (W.heard caller.old) (W.loads caller.old) (W.loads caller.new) (W.heard caller.new) }
+    ensures same { FindsNothing W.Caller caller.old caller.new }
 {
     the_log_is_a_run::<K>();
-    let _asked = domain.start_poll(witness);
+    let _asked = domain.start_poll(caller);
 }

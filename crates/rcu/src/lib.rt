@@ -3,6 +3,7 @@
 //! none of those below it.
 
 mod callbacks;
+mod chains;
 mod entering;
 mod headline;
 mod map;
@@ -15,18 +16,19 @@ mod words;
 mod working;
 
 pub use callbacks::NoCallback;
+pub use chains::Chains;
 pub use entering::with_domain;
 pub use gp_memb::{GracePlan, MembPlan as Memb};
 pub use gp_qsbr::QsbrPlan as Qsbr;
 pub use headline::{every_moment_is_safe, hear};
 pub use map::{Map, Reclaim};
-pub use pending::{Asked, Pending, PendingOf};
+pub use pending::{Asked, Heard, Pending, PendingOf};
 pub use program::{Program, Threaded};
 pub use rcu_hash::{
-    AnyChain, BarrierMark, Callback, Chain, ChainRule, Counts, Deleter, Domain, Finished, Held,
-    Keyed, ListView, LiveConfig as Config, LiveCookie as Cookie, Opened, Owned, RcuHash, RcuList,
-    Reader, Record as Handle, Ripe, Section, Site, Stop, TableView, Tabled, Ticket, TidyEnd,
-    Unlinked, Witness, WorkerEnd,
+    AnyChain, BarrierMark, Callback, Caller, Chain, ChainRule, Counts, Deleter, Domain, Finished,
+    Handle, Held, Keyed, ListView, LiveConfig as Config, LiveCookie as Cookie, Opened, Owned,
+    RcuHash, RcuList, Reader, Ripe, Section, Site, Stop, TableView, Tabled, Ticket, TidyEnd,
+    Unlinked, WorkerEnd,
 };
 pub use rcu_model::{ObjectId, Refusal};
 pub use slot::Slot;

@@ -13,7 +13,7 @@ ghost use Rattle.rcu.specs.Keys.{GetsValue, GivesWord, GrewTo, HearsMore};
 
 use crate::words::Word;
 use gp_memb::GracePlan;
-use rcu_hash::{Deleter, Domain, RcuHash, Ripe, Section, Site, Tabled, Witness};
+use rcu_hash::{Caller, Deleter, Domain, RcuHash, Ripe, Section, Site, Tabled};
 use rcu_model::Refusal;
 use std::alloc::Global;
 use std::marker::PhantomData;
@@ -30,6 +30,12 @@ pub enum Reclaim<F> {
 }
 
 impl<F: Deleter> Deleter for Reclaim<F> {
+    ghost use Rattle.std.specs.Prelude.{◌≡◌};
+    ghost use Rattle.rcu.specs.declared.map.Reclaim.TheVariants.{Gone, Moved};
+
+    // 0 where its entry moved, and else what the inner one answers.
+    ghost answers = { elim [ Moved ↦ λ _ code. code ≡ 0 | Gone f ↦ F.answers f ] };
+
     fn call(self, ripe: Ripe) -> u64 {
         match self {
             Reclaim::Moved => 0,
@@ -54,7 +60,7 @@ fn moved<F: Deleter>(alloc: Global, many: usize) -> Result<Vec<Reclaim<F>>, Refu
 /// A map from keys to values of one word, over a hash table in the domain's chains. Any number of threads read and write
 /// it. `F` is called with each entry that leaves it, once no section can hold that.
 #[derive(Drop)]
-pub struct Map<'d, P: GracePlan, B: Site, F: Deleter, T: Word> {
+pub struct Map<'d, P: GracePlan, B: Site, F: Drop, T: Word> {
     domain: &'d Domain<P, Tabled, B, Reclaim<F>>,
     /// The table of the values' words.
     pub table: RcuHash<'d, P, B, Reclaim<F>>,
@@ -74,24 +80,23 @@ impl<'d, P: GracePlan + Drop, B: Site, F: Deleter + Copy, T: Word + Copy + Drop>
     ///
     /// Refused as `RcuHash::new`: with `BadConfig` where the number of buckets is not 1 to 4,096, or one of the chains is
     /// not there, in use, or named twice, with `Memory` where memory is refused, or with `PoolFull` where no record is free.
-    pub fn new<W: Witness, R: Wait>(
+    pub fn new<W: Caller<B>, R: Wait>(
         rt: &R,
         alloc: Global,
         domain: &'d Domain<P, Tabled, B, Reclaim<F>>,
-        witness: &mut W,
+        caller: &mut W,
         directory: usize,
         first: usize,
         buckets: usize,
         deleter: F,
     ) -> Result<Map<'d, P, B, F, T>, Refusal>
-        requires { W.home witness.old ≡ (B.table, B.sizes) }
         ensures made { IfOk result (λ m. m.table.directory ≡ directory) }
-        ensures founded { IfOk result (λ _. Founds P.QSBR tabled directory (W.seen witness.old) (W.heard witness.old) first buckets (W.heard witness.new)) }
-        ensures map { IfOk result (λ _. (key : ℕ) → (directed_map B.sizes.chains directory (W.heard witness.new) key ≡ None) × LeadsTo directory (W.heard witness.new) key (bucket_of first buckets key)) }
-        ensures later { Begins (W.heard witness.old) (W.heard witness.new) }
+        ensures founded { IfOk result (λ _. Founds P.QSBR tabled directory (W.seen caller.old) (W.heard caller.old) first buckets (W.heard caller.new)) }
+        ensures map { IfOk result (λ _. (key : ℕ) → (directed_map B.sizes.chains directory (W.heard caller.new) key ≡ None) × LeadsTo directory (W.heard caller.new) key (bucket_of first buckets key)) }
+        ensures later { Begins (W.heard caller.old) (W.heard caller.new) }
         ensures refused { IfErr result (λ e. (e ≡ BadConfig) ⊎ (e ≡ Memory) ⊎ (e ≡ PoolFull)) }
     {
-        let table = RcuHash::new(rt, alloc, domain, witness, directory, first, buckets)?;
+        let table = RcuHash::new(rt, alloc, domain, caller, directory, first, buckets)?;
         Ok(Map {
             domain,
             table,
@@ -122,26 +127,25 @@ impl<'d, P: GracePlan + Drop, B: Site, F: Deleter + Copy, T: Word + Copy + Drop>
     /// or `Memory` as `Domain::retire`. It tries again where another thread gives the key a value, or takes it away, at
     /// the same time, and
     /// waits for the locks of the table and of the queue.
-    pub fn set<W: Witness, R: Wait>(
+    pub fn set<W: Caller<B>, R: Wait>(
         &self,
         rt: &R,
-        witness: &mut W,
+        caller: &mut W,
         key: u64,
         value: T,
     ) -> Result<(), Refusal>
-        requires { W.home witness.old ≡ (B.table, B.sizes) }
-        ensures set { IfOk result (λ _. GivesWord W.Witness P.QSBR B.sizes.chains B.sizes.queues self.now.table.directory witness.old witness.new key (Some (T.packed value))) }
+        ensures set { IfOk result (λ _. GivesWord W.Caller P.QSBR B.sizes.chains B.sizes.queues self.now.table.directory caller.old caller.new key (Some (T.packed value))) }
         ensures refused { IfErr result (λ e. (e ≡ PoolFull) ⊎ (e ≡ Closed) ⊎ (e ≡ Memory)) }
     {
         let word = value.pack();
         for _ in rt.forever() {
             let callback = Reclaim::Gone(self.deleter);
-            match self.table.replace(rt, witness, key, word, callback) {
+            match self.table.replace(rt, caller, key, word, callback) {
                 Ok(_) => return Ok(()),
                 Err((Refusal::Missing, _)) => {}
                 Err((refusal, _)) => return Err(refusal),
             }
-            match self.table.insert(rt, witness, key, word) {
+            match self.table.insert(rt, caller, key, word) {
                 Ok(()) => return Ok(()),
                 Err(Refusal::Exists) => {}
                 Err(refusal) => return Err(refusal),
@@ -155,19 +159,18 @@ impl<'d, P: GracePlan + Drop, B: Site, F: Deleter + Copy, T: Word + Copy + Drop>
     ///
     /// Refused with `Missing` where the key had no value at a moment of the call, and with `Closed` or `Memory` as
     /// `Domain::retire`.
-    pub fn remove<W: Witness, R: Wait>(
+    pub fn remove<W: Caller<B>, R: Wait>(
         &self,
         rt: &R,
-        witness: &mut W,
+        caller: &mut W,
         key: u64,
     ) -> Result<(), Refusal>
-        requires { W.home witness.old ≡ (B.table, B.sizes) }
-        ensures removed { IfOk result (λ _. GivesWord W.Witness P.QSBR B.sizes.chains B.sizes.queues self.now.table.directory witness.old witness.new key None) }
-        ensures refused { IfErr result (λ e. RefusesRemovalThrough W.Witness P.QSBR tabled B.sizes witness.old witness.new e self.now.table.directory key) }
+        ensures removed { IfOk result (λ _. GivesWord W.Caller P.QSBR B.sizes.chains B.sizes.queues self.now.table.directory caller.old caller.new key None) }
+        ensures refused { IfErr result (λ e. RefusesRemovalThrough W.Caller P.QSBR tabled B.sizes caller.old caller.new e self.now.table.directory key) }
     {
         match self
             .table
-            .remove(rt, witness, key, Reclaim::Gone(self.deleter))
+            .remove(rt, caller, key, Reclaim::Gone(self.deleter))
         {
             Ok(_) => Ok(()),
             Err((refusal, _)) => Err(refusal),
@@ -180,18 +183,17 @@ impl<'d, P: GracePlan + Drop, B: Site, F: Deleter + Copy, T: Word + Copy + Drop>
     ///
     /// Refused with `Memory` where memory is refused, with `Exhausted` where the sequence numbers are used up, and with
     /// `Closed` as `Domain::retire`; then something is left.
-    pub fn tidy<W: Witness, R: Wait>(
+    pub fn tidy<W: Caller<B>, R: Wait>(
         &self,
         rt: &R,
         alloc: Global,
-        witness: &mut W,
+        caller: &mut W,
     ) -> Result<(), Refusal>
-        requires { W.home witness.old ≡ (B.table, B.sizes) }
-        ensures heard { HearsMore W.Witness witness.old witness.new }
+        ensures heard { HearsMore W.Caller caller.old caller.new }
     {
         let mut many = 0;
         for _ in rt.forever() {
-            let end = self.table.tidy(rt, witness, moved(alloc, many)?);
+            let end = self.table.tidy(rt, caller, moved(alloc, many)?);
             match end.stop {
                 None => return Ok(()),
                 Some(Refusal::FewJobs) => many = end.left,
@@ -207,21 +209,20 @@ impl<'d, P: GracePlan + Drop, B: Site, F: Deleter + Copy, T: Word + Copy + Drop>
     ///
     /// Refused as `RcuHash::grow`, but that it tidies first where an earlier growth left something; and as `tidy`, when
     /// the map may have grown.
-    pub fn resize<W: Witness, R: Wait>(
+    pub fn resize<W: Caller<B>, R: Wait>(
         &self,
         rt: &R,
         alloc: Global,
-        witness: &mut W,
+        caller: &mut W,
         first: usize,
         buckets: usize,
     ) -> Result<(), Refusal>
-        requires { W.home witness.old ≡ (B.table, B.sizes) }
-        ensures grown { IfOk result (λ _. GrewTo W.Witness P.QSBR B.sizes.chains self.now.table.directory witness.old witness.new first buckets) }
+        ensures grown { IfOk result (λ _. GrewTo W.Caller P.QSBR B.sizes.chains self.now.table.directory caller.old caller.new first buckets) }
     {
         for _ in rt.forever() {
-            match self.table.grow(rt, alloc, witness, first, buckets) {
-                Ok(_) => return self.tidy(rt, alloc, witness),
-                Err(Refusal::Busy) => self.tidy(rt, alloc, witness)?,
+            match self.table.grow(rt, alloc, caller, first, buckets) {
+                Ok(_) => return self.tidy(rt, alloc, caller),
+                Err(Refusal::Busy) => self.tidy(rt, alloc, caller)?,
                 Err(refusal) => return Err(refusal),
             }
         }

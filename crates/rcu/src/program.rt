@@ -1,7 +1,7 @@
 //! What is run over a domain.
 
 use gp_memb::GracePlan;
-use rcu_hash::{ChainRule, Deleter, Domain, Record, Site};
+use rcu_hash::{ChainRule, Deleter, Domain, Handle, Site};
 use rcu_model::Refusal;
 use std::alloc::Global;
 
@@ -17,7 +17,7 @@ pub trait Program<P: GracePlan, K: ChainRule, D: Deleter, R> {
         rt: &R,
         alloc: Global,
         domain: &Domain<P, K, B, D>,
-        first: Record<B>,
+        first: Handle<B>,
     ) -> Self::Out;
 }
 
@@ -33,7 +33,7 @@ pub trait Threaded<P: GracePlan, K: ChainRule, D: Deleter, R> {
         &self,
         _rt: &R,
         _domain: &Domain<P, K, B, D>,
-        _first: &mut Record<B>,
+        _first: &mut Handle<B>,
     ) -> Result<(), Refusal> {
         Ok(())
     }
@@ -44,7 +44,7 @@ pub trait Threaded<P: GracePlan, K: ChainRule, D: Deleter, R> {
         rt: &R,
         alloc: Global,
         domain: &Domain<P, K, B, D>,
-        own: Record<B>,
+        own: Handle<B>,
         number: usize,
     ) -> Self::Out;
 }

@@ -9,7 +9,7 @@ ghost use Rattle.rcu.specs.Slots.{FindsValue, PushesValue, ReplacesValue, any_ch
 use crate::words::Words;
 use crossbeam_utils::Backoff;
 use gp_memb::GracePlan;
-use rcu_hash::{AnyChain, Deleter, Domain, Section, Site, Ticket, Witness};
+use rcu_hash::{AnyChain, Caller, Deleter, Domain, Section, Site, Ticket};
 use rcu_model::Refusal;
 use std::marker::PhantomData;
 use std::sync::Wait;
@@ -17,7 +17,7 @@ use std::sync::Wait;
 /// One value that readers find at any moment, and that is replaced as a whole, as arc-swap's `ArcSwap`: over a chain of
 /// the domain, whose one record has it.
 #[derive(Drop)]
-pub struct Slot<'d, P: GracePlan, B: Site, D: Deleter, T: Words> {
+pub struct Slot<'d, P: GracePlan, B: Site, D: Drop, T: Words> {
     domain: &'d Domain<P, AnyChain, B, D>,
     /// The chain of its record.
     pub chain: usize,
@@ -71,39 +71,38 @@ impl<'d, P: GracePlan + Drop, B: Site, D: Deleter, T: Words + Copy + Drop> Slot<
     /// Refused with `Busy` where another thread writes the slot, with `PoolFull` as `Domain::alloc`, with `Closed` or
     /// `Memory` as `Domain::retire`; then the value is as it was, and the callback comes back. It waits for the queue's
     /// lock alone.
-    pub fn try_replace<W: Witness, R: Wait>(
+    pub fn try_replace<W: Caller<B>, R: Wait>(
         &self,
         rt: &R,
-        witness: &mut W,
+        caller: &mut W,
         value: T,
         callback: D,
     ) -> Result<Option<Ticket>, (Refusal, D)>
-        requires { W.home witness.old ≡ (B.table, B.sizes) }
-        ensures pushed { IfOk result (λ found. IfNone found (PushesValue W.Witness P.QSBR witness.old witness.new self.now.chain (T.packed value))) }
-        ensures replaced { IfOk result (λ found. IfSome found (λ t. ReplacesValue W.Witness P.QSBR witness.old witness.new self.now.chain (T.packed value) (self.now.chain % B.sizes.queues) t.0)) }
+        ensures pushed { IfOk result (λ found. IfNone found (PushesValue W.Caller P.QSBR caller.old caller.new self.now.chain (T.packed value))) }
+        ensures replaced { IfOk result (λ found. IfSome found (λ t. ReplacesValue W.Caller P.QSBR caller.old caller.new self.now.chain (T.packed value) (self.now.chain % B.sizes.queues) t.0)) }
         ensures refused { IfErr result (λ e. (e.0 ≡ Busy) ⊎ (e.0 ≡ PoolFull) ⊎ (e.0 ≡ Closed) ⊎ (e.0 ≡ Memory)) }
-        ensures back { IfErr result (λ e. (e.1 ≡ callback) × Stays W.Witness witness.old witness.new) }
-        ensures heard { IfErr result (λ _. IsAfter P.QSBR any_change (W.seen witness.old) (W.heard witness.old) (W.heard witness.new)) }
+        ensures back { IfErr result (λ e. (e.1 ≡ callback) × Stays W.Caller caller.old caller.new) }
+        ensures heard { IfErr result (λ _. IsAfter P.QSBR any_change (W.seen caller.old) (W.heard caller.old) (W.heard caller.new)) }
     {
-        let mut writer = match self.domain.chain(witness, self.chain) {
+        let mut writer = match self.domain.chain(caller, self.chain) {
             Ok(writer) => writer,
             Err(refusal) => return Err((refusal, callback)),
         };
-        let owned = match self.domain.alloc(rt, witness, value.pack()) {
+        let owned = match self.domain.alloc(rt, caller, value.pack()) {
             Ok(owned) => owned,
             Err(refusal) => return Err((refusal, callback)),
         };
         if writer.len() == 0 {
-            writer.push(witness, owned);
+            writer.push(caller, owned);
             return Ok(None);
         }
         match self
             .domain
-            .replace_retire(rt, witness, &mut writer, 0, owned, callback)
+            .replace_retire(rt, caller, &mut writer, 0, owned, callback)
         {
             Ok(ticket) => Ok(Some(ticket)),
             Err((refusal, owned, callback)) => {
-                self.domain.discard(witness, owned); // else its record stays out of use
+                self.domain.discard(caller, owned); // else its record stays out of use
                 Err((refusal, callback))
             }
         }
@@ -111,23 +110,22 @@ impl<'d, P: GracePlan + Drop, B: Site, D: Deleter, T: Words + Copy + Drop> Slot<
 
     /// As `try_replace`, but it waits while another thread writes the slot, and while no record is free: for ever where no
     /// worker frees one, so a caller has no section or lock open, and is offline in the quiescent-state flavour.
-    pub fn replace<W: Witness, R: Wait>(
+    pub fn replace<W: Caller<B>, R: Wait>(
         &self,
         rt: &R,
-        witness: &mut W,
+        caller: &mut W,
         value: T,
         callback: D,
     ) -> Result<Option<Ticket>, (Refusal, D)>
-        requires { W.home witness.old ≡ (B.table, B.sizes) }
-        ensures pushed { IfOk result (λ found. IfNone found (PushesValue W.Witness P.QSBR witness.old witness.new self.now.chain (T.packed value))) }
-        ensures replaced { IfOk result (λ found. IfSome found (λ t. ReplacesValue W.Witness P.QSBR witness.old witness.new self.now.chain (T.packed value) (self.now.chain % B.sizes.queues) t.0)) }
+        ensures pushed { IfOk result (λ found. IfNone found (PushesValue W.Caller P.QSBR caller.old caller.new self.now.chain (T.packed value))) }
+        ensures replaced { IfOk result (λ found. IfSome found (λ t. ReplacesValue W.Caller P.QSBR caller.old caller.new self.now.chain (T.packed value) (self.now.chain % B.sizes.queues) t.0)) }
         ensures refused { IfErr result (λ e. (e.0 ≡ Closed) ⊎ (e.0 ≡ Memory)) }
-        ensures back { IfErr result (λ e. (e.1 ≡ callback) × Stays W.Witness witness.old witness.new) }
+        ensures back { IfErr result (λ e. (e.1 ≡ callback) × Stays W.Caller caller.old caller.new) }
     {
         let backoff = Backoff::new();
         let mut callback = callback;
         for _ in rt.forever() {
-            match self.try_replace(rt, witness, value, callback) {
+            match self.try_replace(rt, caller, value, callback) {
                 Ok(ticket) => return Ok(ticket),
                 Err((Refusal::Busy | Refusal::PoolFull, back)) => callback = back,
                 Err(refused) => return Err(refused),

@@ -6,7 +6,7 @@ ghost use Rattle.std.specs.Thread.{IsSync};
 use crate::program::Threaded;
 use crate::working::work;
 use gp_memb::GracePlan;
-use rcu_hash::{ChainRule, Deleter, Domain, LiveConfig, Opened, Record, Site};
+use rcu_hash::{ChainRule, Deleter, Domain, Handle, LiveConfig, Opened, Site};
 use rcu_model::Refusal;
 use std::alloc::Global;
 use std::marker::Brand;
@@ -69,7 +69,7 @@ fn all<
 ) -> Result<Ended<F::Out>, Refusal>
 where
     F::Out: Send + Drop,
-    requires { Names P.QSBR B.Site opened }
+    requires { Names B.Site opened }
 {
     let (domain, mut first) = opened.named::<B, D>(alloc)?;
     program.begin::<B>(rt, &domain, &mut first)?;
@@ -125,7 +125,7 @@ fn none_yet(alloc: Global, queues: usize) -> Result<Vec<Result<u64, Refusal>>, R
 fn own<P: GracePlan + Drop, K: ChainRule, B: Site, D: Deleter, R: Wait>(
     rt: &R,
     domain: &Domain<P, K, B, D>,
-    root: &Mutex<Record<B>>,
-) -> Record<B> {
+    root: &Mutex<Handle<B>>,
+) -> Handle<B> {
     domain.split(&mut *root.lock(rt))
 }

@@ -5,7 +5,7 @@ ghost use Rattle.live_log.specs.Log.{HaveRun};
 ghost use Rattle.rcu_hash.specs.live_reclaim.Working.{IsEmptied};
 
 use gp_memb::GracePlan;
-use rcu_hash::{ChainRule, Deleter, Domain, Site, Stop, Witness};
+use rcu_hash::{Caller, ChainRule, Deleter, Domain, Site, Stop};
 use rcu_model::Refusal;
 use std::alloc::Global;
 use std::sync::Wait;
@@ -18,19 +18,18 @@ use std::thread;
 /// Refused as `Domain::run_worker`, and with `Exhausted` where the sequence numbers are used up; then the callbacks of
 /// what is left are dropped. The caller, who has no section or lock open, and is offline where its reader is of the
 /// quiescent-state flavour, hears of all that.
-pub fn work<P: GracePlan + Drop, K: ChainRule, B: Site, D: Deleter, W: Witness, R: Wait>(
+pub fn work<P: GracePlan + Drop, K: ChainRule, B: Site, D: Deleter, W: Caller<B>, R: Wait>(
     rt: &R,
     alloc: Global,
     domain: &Domain<P, K, B, D>,
-    witness: &mut W,
+    caller: &mut W,
     queue: usize,
 ) -> Result<u64, Refusal>
-    requires { W.home witness.old ≡ (B.table, B.sizes) }
-    ensures run { IfOk result (λ _. (all : ℕ) × IsEmptied queue all (W.heard witness.new) × HaveRun queue all (W.heard witness.new)) }
+    ensures run { IfOk result (λ _. (all : ℕ) × IsEmptied queue all (W.heard caller.new) × HaveRun queue all (W.heard caller.new)) }
 {
     let mut reclaimed = 0u64;
     for _ in rt.forever() {
-        let end = domain.run_worker(rt, alloc, witness, queue)?;
+        let end = domain.run_worker(rt, alloc, caller, queue)?;
         reclaimed = reclaimed.saturating_add(end.finished.len() as u64);
         match end.stop {
             Stop::Closed | Stop::Served => return Ok(reclaimed),

@@ -22,7 +22,7 @@ use Rattle.rcu_list.specs.live_table.Rights.{AreAsKnown, IsListed, IsWriter, own
 use Rattle.rcu_list.specs.live_items.Retiring.{Queues}
 use Rattle.rcu_list.specs.live_read.Hearing.{MakesMany, OnlyHears, OnlyMakesLast, Stays}
 use Rattle.rcu_list.proofs.live_read.Lemmas.{more_made, none_made}
-use Rattle.rcu_list.specs.live_read.declared.witness.Witness.{Ghosts}
+use Rattle.rcu_list.specs.live_read.declared.caller.Caller.{Ghosts}
 use Rattle.rcu_list.specs.live_reclaim.Refusing.{RefusesRetirement}
 use Rattle.rcu_list.specs.live_write.Chains.{MayPublish, list_in}
 use Rattle.rcu_list.proofs.Lemmas.{KnowsKeys}
@@ -152,7 +152,7 @@ module _ (qsbr : Bool) where
           subst (λ (k : ℕ). tabled log (ChainNote k 0)) number (inr (refl, free, none, unnamed))
 
 -- what a refused retirement tells
-module _ {W : Type 0} (w : Ghosts W) (qsbr : Bool) (allows : Log → LiveEvent → Type 0) (sizes : Sizes) (q : ℕ) (old new : W) (e : Refusal) (r : RefusesRetirement w qsbr allows sizes q old new e) where
+module _ {W S : Type 0} (w : Ghosts W S) (qsbr : Bool) (allows : Log → LiveEvent → Type 0) (sizes : Sizes) (q : ℕ) (old new : W) (e : Refusal) (r : RefusesRetirement w qsbr allows sizes q old new e) where
   pub refused_why : IsRefused w old new e
   refused_why = ⊎_elim (λ closed. inl (closed.0, (q, sym r.told ∙ closed.1))) (λ memory. inr memory.0) r.why
 
@@ -160,7 +160,7 @@ module _ {W : Type 0} (w : Ghosts W) (qsbr : Bool) (allows : Log → LiveEvent �
   refused_finds = (r.same.1, (_ ∷ [], r.looked))
 
 -- what goes on
-module _ {W : Type 0} (w : Ghosts W) where
+module _ {W S : Type 0} (w : Ghosts W S) where
   pub only_finds : (a b : W) → OnlyHears w a b → FindsMore w a b
   only_finds a b h = (h.1, ([], h.0.1))
 
@@ -174,7 +174,7 @@ module _ {W : Type 0} (w : Ghosts W) where
   finds_none a = (refl, ([], refl))
 
   pub stays_none : (a : W) → Stays w a a
-  stays_none a = (refl, refl, refl, λ h. h, refl)
+  stays_none a = (refl, refl, λ h. h, refl)
 
 -- a retirement is heard of after what came before it
 pub queued_later : (qsbr : Bool) (allows : Log → LiveEvent → Type 0) (at : Log → Type 0) (o : ObjectId) (queue given : ℕ) (known log : Log) (r : Queues qsbr allows at o queue given log) → Begins known r.before → Begins known log
@@ -221,7 +221,7 @@ module _ (qsbr : Bool) (allows : Log → LiveEvent → Type 0) (sizes : Sizes) (
   heard_on known heard log ((Clears, at) ∷ ss) b f = let p = f.0.leaves.writes in
       heard_on known at log ss (begins_trans known p.before at (begins_trans known heard p.before b p.after.1) (_ ∷ [], p.wrote)) f.1
 
-  module _ {D W : Type 0} (w : Ghosts W) where
+  module _ {D W S : Type 0} (w : Ghosts W S) where
     pub uses_none : (a b : W) (jobs : List D) (heard log : Log) → Stays w a b → Begins heard log → Uses qsbr allows sizes d seen w a b jobs jobs heard log
     uses_none a b jobs heard log stays before = record { used = []; are = sym (append-nil jobs); steps = []; follow = before; many = refl; made = none_made w a b stays }
 

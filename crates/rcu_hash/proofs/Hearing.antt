@@ -8,7 +8,7 @@ use Rattle.live_log.proofs.Lemmas.{begins_trans}
 use Rattle.rcu_list.specs.live_rule.declared.view.Sizes.{Sizes}
 use Rattle.rcu_list.specs.live_rule.Places.{cell_at, closed_at}
 use Rattle.rcu_list.specs.live_read.Hearing.{IsAfter, OnlyHears}
-use Rattle.rcu_list.specs.live_read.declared.witness.Witness.{Ghosts}
+use Rattle.rcu_list.specs.live_read.declared.caller.Caller.{Ghosts}
 use Rattle.rcu_list.specs.live_reclaim.Refusing.{RefusesRetirement}
 use Rattle.rcu_list.specs.Maps.{HasLastRank, map_of}
 use Rattle.rcu_list.specs.Refusing as list
@@ -27,7 +27,7 @@ after_both qsbr allows seen heard seen' middle log is a b = record {
 }
 
 -- the caller before the call, once the list's writer heard it, and at the end
-module _ {W : Type 0} (w : Ghosts W) (qsbr : Bool) (allows : Log → LiveEvent → Type 0) (sizes : Sizes) (w0 w1 w2 : W) (hears : OnlyHears w w0 w1) (after : IsAfter qsbr allows (w.seen w0) (w.heard w0) (w.heard w1)) where
+module _ {W S : Type 0} (w : Ghosts W S) (qsbr : Bool) (allows : Log → LiveEvent → Type 0) (sizes : Sizes) (w0 w1 w2 : W) (hears : OnlyHears w w0 w1) (after : IsAfter qsbr allows (w.seen w0) (w.heard w0) (w.heard w1)) where
   later : (log : Log) → IsAfter qsbr allows (w.seen w1) (w.heard w1) log → IsAfter qsbr allows (w.seen w0) (w.heard w0) log
   later log a = record {
     after_seen = subst (λ (l : Log). Begins l log) hears.0.0.0 a.after_seen;

@@ -12,7 +12,7 @@ use Rattle.rcu_list.specs.live_rule.Places.{hold_at}
 use Rattle.rcu_list.specs.live_rule.declared.view.Sizes.{Sizes}
 use Rattle.rcu_list.specs.live_rule.declared.view.View.{View}
 use Rattle.rcu_list.specs.live_read.Hearing.{IsAfter}
-use Rattle.rcu_list.specs.live_read.declared.witness.Witness.{Ghosts}
+use Rattle.rcu_list.specs.live_read.declared.caller.Caller.{Ghosts}
 use Rattle.rcu_hash.specs.Copies.{value_among, value_in_bucket}
 use Rattle.rcu_hash.specs.Refusing.{During, FindsFree, FindsTaken, IsInUse, IsUnused}
 use Rattle.rcu_hash.specs.Tables.{IsAmong, are_apart}
@@ -44,7 +44,7 @@ module _ (buckets number : ℕ) (vs : List View) (es : List (ℕ × ℕ)) (many 
       ∙ (copied key ∙ ap (λ (x : Option View). value_at x key) (sym (get_other vs v (key % buckets) (λ e. other (e ∙ many)))))))
 
 -- what was so in some log of a part of a call
-module _ {W : Type 0} (w : Ghosts W) (qsbr : Bool) (allows : Log → LiveEvent → Type 0) (old mid new : W) where
+module _ {W S : Type 0} (w : Ghosts W S) (qsbr : Bool) (allows : Log → LiveEvent → Type 0) (old mid new : W) where
   pub during_since : (is_so : Log → Type 0) → w.seen mid ≡ w.seen old → Begins (w.heard old) (w.heard mid) → During w qsbr allows mid new is_so → During w qsbr allows old new is_so
   during_since is_so seen heard d = record {
     at = d.at;
@@ -65,7 +65,7 @@ module _ {W : Type 0} (w : Ghosts W) (qsbr : Bool) (allows : Log → LiveEvent �
       (cases_lt c (first + n))
 
 -- that a chain was taken, in a later part of a call
-pub taken_since : {W : Type 0} (w : Ghosts W) (qsbr : Bool) (allows : Log → LiveEvent → Type 0) (sizes : Sizes) (P Q : ℕ → Type 0) → ((c : ℕ) → P c → Q c) → (old mid new : W) → w.seen mid ≡ w.seen old → Begins (w.heard old) (w.heard mid) → (found : List (ℕ × ℕ)) → w.looks mid ≡ found ++ w.looks old → ((c : ℕ) → P c → ¬ In found (hold_at sizes c, 0)) → FindsTaken w qsbr allows mid new sizes P → FindsTaken w qsbr allows old new sizes Q
+pub taken_since : {W S : Type 0} (w : Ghosts W S) (qsbr : Bool) (allows : Log → LiveEvent → Type 0) (sizes : Sizes) (P Q : ℕ → Type 0) → ((c : ℕ) → P c → Q c) → (old mid new : W) → w.seen mid ≡ w.seen old → Begins (w.heard old) (w.heard mid) → (found : List (ℕ × ℕ)) → w.looks mid ≡ found ++ w.looks old → ((c : ℕ) → P c → ¬ In found (hold_at sizes c, 0)) → FindsTaken w qsbr allows mid new sizes P → FindsTaken w qsbr allows old new sizes Q
 taken_since w qsbr allows sizes P Q on old mid new seen heard found looks fresh t = record {
   chain = t.chain;
   one = on t.chain t.one;
@@ -105,7 +105,7 @@ in_both a m b n some more apart = by (cases_lt b (a + m)) (cases_lt a (b + n))
         (cases_lt b a)
 
 -- what the looks and loads of one part of a call tell, and of one after the other
-module _ {W : Type 0} (w : Ghosts W) where
+module _ {W S : Type 0} (w : Ghosts W S) where
   abbrev pub Told : W → W → Type 0
   Told a b = ((found : List (ℕ × ℕ)) × (w.looks b ≡ found ++ w.looks a)) × ((logs : List Log) × (w.loads b ≡ logs ++ w.loads a))
 

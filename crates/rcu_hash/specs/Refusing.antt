@@ -8,7 +8,7 @@ use Rattle.live_log.specs.Log.{Log, Begins, chain_note, state_of}
 use Rattle.rcu_list.specs.live_rule.Places.{hold_at}
 use Rattle.rcu_list.specs.live_rule.declared.view.Sizes.{Sizes}
 use Rattle.rcu_list.specs.live_read.Hearing.{IsAfter, OnlyHears}
-use Rattle.rcu_list.specs.live_read.declared.witness.Witness.{Ghosts}
+use Rattle.rcu_list.specs.live_read.declared.caller.Caller.{Ghosts}
 use Rattle.rcu_list.specs.live_reclaim.Refusing.{RefusesRetirement}
 use Rattle.rcu_list.specs.Maps.{HasLastRank}
 use Rattle.rcu_list.specs.Refusing.{FindsNoRecord, GivesBack}
@@ -22,7 +22,7 @@ IsInUse c log = ((state_of log).chain c ≢ []) ⊎ (chain_note c log ≢ 0)
 abbrev pub IsUnused : ℕ → Log → Type 0
 IsUnused c log = ((state_of log).chain c ≡ []) × (chain_note c log ≡ 0)
 
-module _ {W : Type 0} (w : Ghosts W) (qsbr : Bool) (allows : Log → LiveEvent → Type 0) (old new : W) where
+module _ {W S : Type 0} (w : Ghosts W S) (qsbr : Bool) (allows : Log → LiveEvent → Type 0) (old new : W) where
   -- it is so of some log of the call: one that comes after all that the caller knew, and that it has heard of at the
   -- end
   pub record During (is_so : Log → Type 0) : Type 0 where
@@ -45,7 +45,7 @@ module _ {W : Type 0} (w : Ghosts W) (qsbr : Bool) (allows : Log → LiveEvent �
   FindsFree is_one = (c : ℕ) → is_one c → During (IsUnused c)
 
 -- of a table that a directory leads
-module _ {W : Type 0} (w : Ghosts W) (qsbr : Bool) (allows : Log → LiveEvent → Type 0) (sizes : Sizes) (old new : W) (e : Refusal) (d key : ℕ) where
+module _ {W S : Type 0} (w : Ghosts W S) (qsbr : Bool) (allows : Log → LiveEvent → Type 0) (sizes : Sizes) (old new : W) (e : Refusal) (d key : ℕ) where
   -- the key had a value in the table, in this chain; or it had none
   abbrev pub HadIn : ℕ → Type 0
   HadIn c = During w qsbr allows old new (λ log. IsSome (directed_map sizes.chains d log key) × LeadsTo d log key c)

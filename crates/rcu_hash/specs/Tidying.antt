@@ -15,7 +15,7 @@ use Rattle.rcu_list.specs.live_rule.declared.view.View.{View}
 use Rattle.rcu_list.specs.live_items.Retiring.{Queues}
 use Rattle.rcu_list.specs.live_table.Rights.{object_in}
 use Rattle.rcu_list.specs.live_read.Hearing.{MakesMany}
-use Rattle.rcu_list.specs.live_read.declared.witness.Witness.{Ghosts}
+use Rattle.rcu_list.specs.live_read.declared.caller.Caller.{Ghosts}
 use Rattle.rcu_list.specs.live_write.Chains.{list_in}
 use Rattle.rcu_list.specs.domain.Waiting.{LoadedOnce, Synchronized}
 use Rattle.rcu_list.specs.Calls.{HandsOver}
@@ -117,9 +117,9 @@ module _ (qsbr : Bool) (allows : Log → LiveEvent → Type 0) (sizes : Sizes) (
   Follow heard [] log = Begins heard log
   Follow heard (s ∷ ss) log = Does heard s.0 s.1 × Follow s.1 ss log
 
-  -- steps that used these callbacks, from the back, one for each retirement; no change was made for the witness but
+  -- steps that used these callbacks, from the back, one for each retirement; no change was made for the caller but
   -- one for each cut
-  pub record Uses {D W : Type 0} (w : Ghosts W) (old new : W) (jobs left : List D) (heard log : Log) : Type 0 where
+  pub record Uses {D W S : Type 0} (w : Ghosts W S) (old new : W) (jobs left : List D) (heard log : Log) : Type 0 where
     pub used : List D
     pub are : jobs ≡ left ++ used
     pub steps : List (Kind × Log)
@@ -127,8 +127,8 @@ module _ (qsbr : Bool) (allows : Log → LiveEvent → Type 0) (sizes : Sizes) (
     pub many : retired_in steps ≡ length used
     pub made : MakesMany w old new (cuts_in steps)
 
-module _ {W : Type 0} (w : Ghosts W) (old new : W) where
-  -- words may have been found for the witness, but the sequence number was not loaded
+module _ {W S : Type 0} (w : Ghosts W S) (old new : W) where
+  -- words may have been found for the caller, but the sequence number was not loaded
   abbrev pub FindsMore : Type 0
   FindsMore = (w.loads new ≡ w.loads old) × ((found : List (ℕ × ℕ)) × (w.looks new ≡ found ++ w.looks old))
 
@@ -140,7 +140,7 @@ module _ {W : Type 0} (w : Ghosts W) (old new : W) where
   abbrev pub IsStopped : {D : Type 0} → List D → Refusal → Type 0
   IsStopped jobs e = ((e ≡ FewJobs) × (jobs ≡ [])) ⊎ IsRefused e
 
-module _ {W : Type 0} (w : Ghosts W) (qsbr : Bool) (allows : Log → LiveEvent → Type 0) (old new : W) where
+module _ {W S : Type 0} (w : Ghosts W S) (qsbr : Bool) (allows : Log → LiveEvent → Type 0) (old new : W) where
   -- the sequence number was at its end
   abbrev pub IsExhausted : Refusal → Type 0
   IsExhausted e = (e ≡ Exhausted) × LoadedOnce qsbr allows (w.seen old) (w.heard old) (w.loads old) (w.loads new) (w.heard new) × (2 ^ 62 ≤ seq_of (w.heard new))

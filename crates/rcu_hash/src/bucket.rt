@@ -19,13 +19,13 @@ ghost use Rattle.rcu_hash.specs.Tables.{bucket_of};
 use crate::directory::{Desk, Naming};
 use gp_memb::GracePlan;
 use live_log::Tabled;
-use rcu_list::{Chain, Deleter, Site, Ticket, Witness, prepare_insertion, prepare_replacement};
+use rcu_list::{Caller, Chain, Deleter, Site, Ticket, prepare_insertion, prepare_replacement};
 use rcu_model::Refusal;
 use std::sync::Wait;
 
 /// A chain of keys, which its directory names.
 #[derive(Drop)]
-pub(crate) struct Bucket<'d, P: GracePlan, B: Site, D: Deleter> {
+pub(crate) struct Bucket<'d, P: GracePlan, B: Site, D: Drop> {
     pub(crate) chain: Chain<'d, P, Tabled, B, D>,
     pub(crate) naming: Naming,
     pub(crate) ghost alone: { lent_chains chain.seat.me.0.chains ≡ [] },
@@ -36,112 +36,108 @@ pub(crate) struct Bucket<'d, P: GracePlan, B: Site, D: Deleter> {
 impl<'d, P: GracePlan + Drop, B: Site, D: Deleter> Bucket<'d, P, B, D> {
     /// The bucket's writer sees all that the caller has seen and heard of, and the caller hears of a log in which the
     /// bucket and its directory are as their writers know them.
-    pub(crate) fn hear<W: Witness, R: Wait>(
+    pub(crate) fn hear<W: Caller<B>, R: Wait>(
         &mut self,
         rt: &R,
         desk: &Desk<'d, P, B, D>,
-        witness: &mut W,
+        caller: &mut W,
     )
-        requires { W.home witness.old ≡ (B.table, B.sizes) }
-        ensures told { IsAfter P.QSBR tabled (W.seen witness.old) (W.heard witness.old) (W.heard witness.new) × Begins self.old.chain.seat.me.0.seen (W.heard witness.new) × (W.heard witness.new ≡ self.new.chain.seat.me.0.seen) }
-        ensures map { (key : ℕ) → directed_map B.sizes.chains self.old.naming.directory (W.heard witness.new) key ≡ map_of (W.heard witness.new) (bucket_of self.old.naming.first self.old.naming.buckets key) key }
-        ensures leads { (key : ℕ) → LeadsTo self.old.naming.directory (W.heard witness.new) key (bucket_of self.old.naming.first self.old.naming.buckets key) }
-        ensures same { OnlyHears W.Witness witness.old witness.new × (self.new.naming ≡ self.old.naming) × (self.new.chain.number ≡ self.old.chain.number) }
+        ensures told { IsAfter P.QSBR tabled (W.seen caller.old) (W.heard caller.old) (W.heard caller.new) × Begins self.old.chain.seat.me.0.seen (W.heard caller.new) × (W.heard caller.new ≡ self.new.chain.seat.me.0.seen) }
+        ensures map { (key : ℕ) → directed_map B.sizes.chains self.old.naming.directory (W.heard caller.new) key ≡ map_of (W.heard caller.new) (bucket_of self.old.naming.first self.old.naming.buckets key) key }
+        ensures leads { (key : ℕ) → LeadsTo self.old.naming.directory (W.heard caller.new) key (bucket_of self.old.naming.first self.old.naming.buckets key) }
+        ensures same { OnlyHears W.Caller caller.old caller.new × (self.new.naming ≡ self.old.naming) × (self.new.chain.number ≡ self.old.chain.number) }
     {
         let (mut place, directory) = desk.take(rt, self.naming);
         let lent = directory.lend(&mut self.chain);
-        self.chain.hear(witness);
+        self.chain.hear(caller);
         *place = Some(lent.take_back(&mut self.chain));
     }
 
     /// As `RcuHash::insert`, of a key that the directory leads to this bucket.
-    pub(crate) fn insert<W: Witness, R: Wait>(
+    pub(crate) fn insert<W: Caller<B>, R: Wait>(
         &mut self,
         rt: &R,
         desk: &Desk<'d, P, B, D>,
-        witness: &mut W,
+        caller: &mut W,
         key: u64,
         value: u64,
     ) -> Result<(), Refusal>
-        requires home { W.home witness.old ≡ (B.table, B.sizes) }
         requires key { bucket_of self.old.naming.first self.old.naming.buckets key ≡ self.old.chain.number }
-        ensures inserted { IfOk result (λ _. InsertsThrough P.QSBR tabled B.sizes.chains self.old.naming.directory (W.seen witness.old) (W.heard witness.old) key value self.old.chain.number (W.heard witness.new)) }
-        ensures changes { IfOk result (λ _. MakesLast W.Witness witness.old witness.new (W.heard witness.new)) }
-        ensures heard { IfOk result (λ _. (W.loads witness.new ≡ W.loads witness.old) × ((found : List (ℕ × ℕ)) × (W.looks witness.new ≡ found ++ W.looks witness.old))) }
-        ensures refused { IfErr result (λ e. RefusesInsertionThrough W.Witness P.QSBR tabled B.sizes witness.old witness.new e self.old.naming.directory key) }
+        ensures inserted { IfOk result (λ _. InsertsThrough P.QSBR tabled B.sizes.chains self.old.naming.directory (W.seen caller.old) (W.heard caller.old) key value self.old.chain.number (W.heard caller.new)) }
+        ensures changes { IfOk result (λ _. MakesLast W.Caller caller.old caller.new (W.heard caller.new)) }
+        ensures heard { IfOk result (λ _. (W.loads caller.new ≡ W.loads caller.old) × ((found : List (ℕ × ℕ)) × (W.looks caller.new ≡ found ++ W.looks caller.old))) }
+        ensures refused { IfErr result (λ e. RefusesInsertionThrough W.Caller P.QSBR tabled B.sizes caller.old caller.new e self.old.naming.directory key) }
         ensures same { (self.new.naming ≡ self.old.naming) × (self.new.chain.number ≡ self.old.chain.number) }
     {
-        self.hear(rt, desk, witness);
-        let owned = prepare_insertion(rt, &mut self.chain, witness, key, value)?;
+        self.hear(rt, desk, caller);
+        let owned = prepare_insertion(rt, &mut self.chain, caller, key, value)?;
         let (mut place, directory) = desk.take(rt, self.naming);
         let lent = directory.lend(&mut self.chain);
-        self.chain.push(witness, owned);
+        self.chain.push(caller, owned);
         *place = Some(lent.take_back(&mut self.chain));
         Ok(())
     }
 
     /// As `RcuHash::replace`, of a key that the directory leads to this bucket.
-    pub(crate) fn replace<W: Witness, R: Wait>(
+    pub(crate) fn replace<W: Caller<B>, R: Wait>(
         &mut self,
         rt: &R,
         desk: &Desk<'d, P, B, D>,
-        witness: &mut W,
+        caller: &mut W,
         key: u64,
         value: u64,
         callback: D,
     ) -> Result<Ticket, (Refusal, D)>
-        requires home { W.home witness.old ≡ (B.table, B.sizes) }
         requires key { bucket_of self.old.naming.first self.old.naming.buckets key ≡ self.old.chain.number }
-        ensures replaced { IfOk result (λ t. (left : ObjectId) × (published : Log) × ReplacesThrough P.QSBR tabled B.sizes.chains self.old.naming.directory (W.seen witness.old) (W.heard witness.old) key value self.old.chain.number left published × HandsOver P.QSBR tabled left (self.old.chain.number % B.sizes.queues) t.0 published (W.heard witness.new) × MakesLast W.Witness witness.old witness.new published) }
-        ensures heard { IfOk result (λ _. (W.loads witness.new ≡ W.loads witness.old) × ((found : List (ℕ × ℕ)) × (W.looks witness.new ≡ found ++ W.looks witness.old))) }
-        ensures refused { IfErr result (λ e. RefusesReplacementThrough W.Witness P.QSBR tabled B.sizes witness.old witness.new e.0 self.old.naming.directory key) }
+        ensures replaced { IfOk result (λ t. (left : ObjectId) × (published : Log) × ReplacesThrough P.QSBR tabled B.sizes.chains self.old.naming.directory (W.seen caller.old) (W.heard caller.old) key value self.old.chain.number left published × HandsOver P.QSBR tabled left (self.old.chain.number % B.sizes.queues) t.0 published (W.heard caller.new) × MakesLast W.Caller caller.old caller.new published) }
+        ensures heard { IfOk result (λ _. (W.loads caller.new ≡ W.loads caller.old) × ((found : List (ℕ × ℕ)) × (W.looks caller.new ≡ found ++ W.looks caller.old))) }
+        ensures refused { IfErr result (λ e. RefusesReplacementThrough W.Caller P.QSBR tabled B.sizes caller.old caller.new e.0 self.old.naming.directory key) }
         ensures back { IfErr result (λ e. e.1 ≡ callback) }
         ensures same { (self.new.naming ≡ self.old.naming) × (self.new.chain.number ≡ self.old.chain.number) }
     {
-        self.hear(rt, desk, witness);
-        let (index, owned) = match prepare_replacement(rt, &mut self.chain, witness, key, value) {
+        self.hear(rt, desk, caller);
+        let (index, owned) = match prepare_replacement(rt, &mut self.chain, caller, key, value) {
             Ok(ready) => ready,
             Err(refusal) => return Err((refusal, callback)),
         };
         let domain = self.chain.domain();
         let (mut place, directory) = desk.take(rt, self.naming);
         let lent = directory.lend(&mut self.chain);
-        let answer = domain.replace_retire(rt, witness, &mut self.chain, index, owned, callback);
+        let answer = domain.replace_retire(rt, caller, &mut self.chain, index, owned, callback);
         *place = Some(lent.take_back(&mut self.chain));
         match answer {
             Ok(ticket) => Ok(ticket),
             Err((refusal, owned, callback)) => {
-                domain.discard(witness, owned);
+                domain.discard(caller, owned);
                 Err((refusal, callback))
             }
         }
     }
 
     /// As `RcuHash::remove`, of a key that the directory leads to this bucket.
-    pub(crate) fn remove<W: Witness, R: Wait>(
+    pub(crate) fn remove<W: Caller<B>, R: Wait>(
         &mut self,
         rt: &R,
         desk: &Desk<'d, P, B, D>,
-        witness: &mut W,
+        caller: &mut W,
         key: u64,
         callback: D,
     ) -> Result<Ticket, (Refusal, D)>
-        requires home { W.home witness.old ≡ (B.table, B.sizes) }
         requires key { bucket_of self.old.naming.first self.old.naming.buckets key ≡ self.old.chain.number }
-        ensures removed { IfOk result (λ t. (left : ObjectId) × (published : Log) × RemovesThrough P.QSBR tabled B.sizes.chains self.old.naming.directory (W.seen witness.old) (W.heard witness.old) key self.old.chain.number left published × HandsOver P.QSBR tabled left (self.old.chain.number % B.sizes.queues) t.0 published (W.heard witness.new) × MakesLast W.Witness witness.old witness.new published) }
-        ensures heard { IfOk result (λ _. (W.looks witness.new ≡ W.looks witness.old) × (W.loads witness.new ≡ W.loads witness.old)) }
-        ensures refused { IfErr result (λ e. RefusesRemovalThrough W.Witness P.QSBR tabled B.sizes witness.old witness.new e.0 self.old.naming.directory key) }
+        ensures removed { IfOk result (λ t. (left : ObjectId) × (published : Log) × RemovesThrough P.QSBR tabled B.sizes.chains self.old.naming.directory (W.seen caller.old) (W.heard caller.old) key self.old.chain.number left published × HandsOver P.QSBR tabled left (self.old.chain.number % B.sizes.queues) t.0 published (W.heard caller.new) × MakesLast W.Caller caller.old caller.new published) }
+        ensures heard { IfOk result (λ _. (W.looks caller.new ≡ W.looks caller.old) × (W.loads caller.new ≡ W.loads caller.old)) }
+        ensures refused { IfErr result (λ e. RefusesRemovalThrough W.Caller P.QSBR tabled B.sizes caller.old caller.new e.0 self.old.naming.directory key) }
         ensures back { IfErr result (λ e. e.1 ≡ callback) }
         ensures same { (self.new.naming ≡ self.old.naming) × (self.new.chain.number ≡ self.old.chain.number) }
     {
-        self.hear(rt, desk, witness);
+        self.hear(rt, desk, caller);
         let Some(index) = self.chain.index_of(key) else {
             return Err((Refusal::Missing, callback));
         };
         let domain = self.chain.domain();
         let (mut place, directory) = desk.take(rt, self.naming);
         let lent = directory.lend(&mut self.chain);
-        let answer = domain.cut_retire(rt, witness, &mut self.chain, index, callback);
+        let answer = domain.cut_retire(rt, caller, &mut self.chain, index, callback);
         *place = Some(lent.take_back(&mut self.chain));
         answer
     }

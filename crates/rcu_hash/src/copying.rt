@@ -17,7 +17,7 @@ ghost use Rattle.rcu_hash.specs.Writers.{AreFrom, Each, HasKeysIn, HasNoNote, Is
 use crate::bucket::Bucket;
 use gp_memb::GracePlan;
 use live_log::Tabled;
-use rcu_list::{Chain, Deleter, Domain, Owned, Site, Witness};
+use rcu_list::{Caller, Chain, Deleter, Domain, Owned, Site};
 use rcu_model::Refusal;
 use std::sync::Wait;
 
@@ -33,27 +33,26 @@ pub(crate) struct Copied<B: Site> {
 /// One more record, whose rank is how many there were. It waits for nobody.
 ///
 /// Refused with `Memory` where memory is, else with `PoolFull` where no record is free.
-fn copy_key<P: GracePlan + Drop, B: Site, D: Deleter, W: Witness, R: Wait>(
+fn copy_key<P: GracePlan + Drop, B: Site, D: Deleter, W: Caller<B>, R: Wait>(
     rt: &R,
     domain: &Domain<P, Tabled, B, D>,
-    witness: &mut W,
+    caller: &mut W,
     copied: &mut Vec<Copied<B>>,
     key: u64,
     value: u64,
 ) -> Result<(), Refusal>
-    requires home { W.home witness.old ≡ (B.table, B.sizes) }
     ensures copied { IfOk result (λ _. map {B = ℕ × ℕ} (λ c. (c.key, c.value)) copied.new.items ≡ map (λ c. (c.key, c.value)) copied.old.items ++ (key, value) ∷ []) }
     ensures ranks { IfOk result (λ _. map (λ c. c.rank) copied.new.items ≡ map (λ c. c.rank) copied.old.items ++ vec_len copied.old ∷ []) }
     ensures refused { IfErr result (λ e. (copied.new.items ≡ copied.old.items) × ((e ≡ Memory) ⊎ (e ≡ PoolFull))) }
-    ensures looks { (found : List (ℕ × ℕ)) × (W.looks witness.new ≡ found ++ W.looks witness.old) × IfErr result (λ e. (e ≡ PoolFull) → IsUsedUp B.sizes found ⊎ AreTaken B.sizes found) }
-    ensures heard { Begins (W.heard witness.old) (W.heard witness.new) }
-    ensures same { Stays W.Witness witness.old witness.new × (W.loads witness.new ≡ W.loads witness.old) }
+    ensures looks { (found : List (ℕ × ℕ)) × (W.looks caller.new ≡ found ++ W.looks caller.old) × IfErr result (λ e. (e ≡ PoolFull) → IsUsedUp B.sizes found ⊎ AreTaken B.sizes found) }
+    ensures heard { Begins (W.heard caller.old) (W.heard caller.new) }
+    ensures same { Stays W.Caller caller.old caller.new × (W.loads caller.new ≡ W.loads caller.old) }
 {
     if copied.reserve(1).is_err() {
         return Err(Refusal::Memory);
     }
     let rank = copied.len() as u64;
-    let owned = domain.alloc(rt, witness, [key, value, rank, 0])?;
+    let owned = domain.alloc(rt, caller, [key, value, rank, 0])?;
     copied.push_reserved(Copied {
         key,
         value,
@@ -67,22 +66,21 @@ impl<'d, P: GracePlan + Drop, B: Site, D: Deleter> Bucket<'d, P, B, D> {
     /// Records for the keys of the bucket of this number, behind those of other buckets. It waits for nobody.
     ///
     /// Refused at the first record that is, with `Memory` or `PoolFull`.
-    pub(crate) fn copy<W: Witness, R: Wait>(
+    pub(crate) fn copy<W: Caller<B>, R: Wait>(
         &mut self,
         rt: &R,
-        witness: &mut W,
+        caller: &mut W,
         copied: &mut Vec<Copied<B>>,
         number: usize,
     ) -> Result<(), Refusal>
-        requires home { W.home witness.old ≡ (B.table, B.sizes) }
         requires others { (0 < self.old.naming.buckets) × ((key : ℕ) → key % self.old.naming.buckets ≡ number → value_among (map (λ c. (c.key, c.value)) copied.old.items) key ≡ None) }
         requires apart { AreApart (map (λ c. (c.key, c.value)) copied.old.items) × AreRanked 0 (map (λ c. c.rank) copied.old.items) }
         ensures copied { IfOk result (λ _. (key : ℕ) → value_among (map (λ c. (c.key, c.value)) copied.new.items) key ≡ (if key % self.old.naming.buckets == number then value_at (Some self.new.chain.seat.me.0) key else value_among (map (λ c. (c.key, c.value)) copied.old.items) key)) }
         ensures apart { IfOk result (λ _. AreApart (map (λ c. (c.key, c.value)) copied.new.items) × AreRanked 0 (map (λ c. c.rank) copied.new.items)) }
         ensures refused { IfErr result (λ e. (e ≡ Memory) ⊎ (e ≡ PoolFull)) }
-        ensures looks { (found : List (ℕ × ℕ)) × (W.looks witness.new ≡ found ++ W.looks witness.old) × IfErr result (λ e. (e ≡ PoolFull) → IsUsedUp B.sizes found ⊎ AreTaken B.sizes found) }
-        ensures heard { Begins (W.heard witness.old) (W.heard witness.new) }
-        ensures same { Stays W.Witness witness.old witness.new × (W.loads witness.new ≡ W.loads witness.old) }
+        ensures looks { (found : List (ℕ × ℕ)) × (W.looks caller.new ≡ found ++ W.looks caller.old) × IfErr result (λ e. (e ≡ PoolFull) → IsUsedUp B.sizes found ⊎ AreTaken B.sizes found) }
+        ensures heard { Begins (W.heard caller.old) (W.heard caller.new) }
+        ensures same { Stays W.Caller caller.old caller.new × (W.loads caller.new ≡ W.loads caller.old) }
         ensures walked { (self.new.naming ≡ self.old.naming) × Keeps self.old.chain.seat self.new.chain.seat × Went P.QSBR tabled self.old.chain.seat.me.0 self.old.chain.seat.me self.new.chain.seat.me × (self.new.chain.number ≡ self.old.chain.number) × (self.new.chain.home.now ≡ self.old.chain.home.now) }
     {
         // By this load the writer sees a run, also where the chain is empty.
@@ -94,7 +92,7 @@ impl<'d, P: GracePlan + Drop, B: Site, D: Deleter> Bucket<'d, P, B, D> {
                 unreachable!()
             };
             if words[0] % buckets == number as u64 {
-                copy_key(rt, domain, witness, copied, words[0], words[1])?;
+                copy_key(rt, domain, caller, copied, words[0], words[1])?;
             }
         }
         Ok(())
@@ -102,15 +100,14 @@ impl<'d, P: GracePlan + Drop, B: Site, D: Deleter> Bucket<'d, P, B, D> {
 }
 
 /// Frees the records. The caller hears of that. It never waits.
-pub(crate) fn discard_all<P: GracePlan + Drop, B: Site, D: Deleter, W: Witness>(
+pub(crate) fn discard_all<P: GracePlan + Drop, B: Site, D: Deleter, W: Caller<B>>(
     domain: &Domain<P, Tabled, B, D>,
-    witness: &mut W,
+    caller: &mut W,
     copied: Vec<Copied<B>>,
 )
-    requires home { W.home witness.old ≡ (B.table, B.sizes) }
-    ensures heard { Begins (W.heard witness.old) (W.heard witness.new) }
-    ensures told { ((found : List (ℕ × ℕ)) × (W.looks witness.new ≡ found ++ W.looks witness.old)) × ((logs : List Log) × (W.loads witness.new ≡ logs ++ W.loads witness.old)) }
-    ensures same { Stays W.Witness witness.old witness.new }
+    ensures heard { Begins (W.heard caller.old) (W.heard caller.new) }
+    ensures told { ((found : List (ℕ × ℕ)) × (W.looks caller.new ≡ found ++ W.looks caller.old)) × ((logs : List Log) × (W.loads caller.new ≡ logs ++ W.loads caller.old)) }
+    ensures same { Stays W.Caller caller.old caller.new }
 {
     let many = copied.len();
     let mut rest = copied.into_iter();
@@ -124,27 +121,26 @@ pub(crate) fn discard_all<P: GracePlan + Drop, B: Site, D: Deleter, W: Witness>(
             rank: _,
             owned,
         } = copied;
-        domain.discard(witness, owned);
+        domain.discard(caller, owned);
     }
     rest.destroy_empty();
 }
 
 /// Each record becomes the first of its key's chain, in their order: of as many buckets as there are chains. The caller
 /// hears of that. It never waits.
-pub(crate) fn fill<'d, P: GracePlan + Drop, B: Site, D: Deleter, W: Witness>(
+pub(crate) fn fill<'d, P: GracePlan + Drop, B: Site, D: Deleter, W: Caller<B>>(
     chains: &mut Vec<Chain<'d, P, Tabled, B, D>>,
-    witness: &mut W,
+    caller: &mut W,
     copied: Vec<Copied<B>>,
 )
-    requires home { W.home witness.old ≡ (B.table, B.sizes) }
     requires chains { (0 < vec_len chains.old) × Each IsEmpty (map (λ c. c.seat.me.0) chains.old.items) × Each IsAlone (map (λ c. c.seat.me.0) chains.old.items) }
     requires copied { AreApart (map (λ c. (c.key, c.value)) copied.items) × AreRanked 0 (map (λ c. c.rank) copied.items) }
     ensures values { (key : ℕ) → value_in_bucket (vec_len chains.new) (map (λ c. c.seat.me.0) chains.new.items) key ≡ value_among (map (λ c. (c.key, c.value)) copied.items) key }
-    ensures filled { (first : ℕ) → AreFrom first (map (λ c. c.seat.me.0) chains.old.items) → CopiesAll (Writes P.QSBR tabled (W.seen witness.old)) first (vec_len chains.old) (W.heard witness.old) (map (λ c. (c.key, c.value)) copied.items) (W.heard witness.new) }
+    ensures filled { (first : ℕ) → AreFrom first (map (λ c. c.seat.me.0) chains.old.items) → CopiesAll (Writes P.QSBR tabled (W.seen caller.old)) first (vec_len chains.old) (W.heard caller.old) (map (λ c. (c.key, c.value)) copied.items) (W.heard caller.new) }
     ensures chains { (vec_len chains.new ≡ vec_len chains.old) × (map (λ c. c.number) chains.new.items ≡ map (λ c. c.number) chains.old.items) }
     ensures known { Each HasKeysIn (map (λ c. c.seat.me.0) chains.new.items) × Each HasNoNote (map (λ c. c.seat.me.0) chains.new.items) × Each IsAlone (map (λ c. c.seat.me.0) chains.new.items) }
-    ensures heard { Begins (W.heard witness.old) (W.heard witness.new) }
-    ensures same { OnlyMakesMany W.Witness witness.old witness.new (vec_len copied) }
+    ensures heard { Begins (W.heard caller.old) (W.heard caller.new) }
+    ensures same { OnlyMakesMany W.Caller caller.old caller.new (vec_len copied) }
 {
     let buckets = chains.len() as u64;
     let many = copied.len();
@@ -159,7 +155,7 @@ pub(crate) fn fill<'d, P: GracePlan + Drop, B: Site, D: Deleter, W: Witness>(
             rank: _,
             owned,
         } = copied;
-        chains[(key % buckets) as usize].push(witness, owned);
+        chains[(key % buckets) as usize].push(caller, owned);
     }
     rest.destroy_empty();
 }

@@ -14,7 +14,7 @@ ghost use Rattle.rcu_hash.specs.Tidying.{IsLinked};
 
 use gp_memb::GracePlan;
 use live_log::Tabled;
-use rcu_list::{Chain, Deleter, Lent, Site, Witness};
+use rcu_list::{Caller, Chain, Deleter, Lent, Site};
 use rcu_model::ObjectId;
 use std::sync::{Mutex, MutexGuard, Wait};
 
@@ -45,7 +45,7 @@ impl Naming {
 
 /// The writer of a directory's chain, which links that one record.
 #[derive(Drop)]
-pub(crate) struct Directory<'d, P: GracePlan, B: Site, D: Deleter> {
+pub(crate) struct Directory<'d, P: GracePlan, B: Site, D: Drop> {
     pub(crate) chain: Chain<'d, P, Tabled, B, D>,
     pub(crate) naming: Naming,
     pub(crate) ghost own: { (chain.number ≡ naming.directory) × (lent_chains chain.seat.me.0.chains ≡ []) × ((own_in chain.seat.me.0.chains).note ≡ 0) },
@@ -55,7 +55,7 @@ pub(crate) struct Directory<'d, P: GracePlan, B: Site, D: Deleter> {
 }
 
 /// The same while another writer has the right to the chain.
-pub(crate) struct LentDirectory<'d, P: GracePlan, B: Site, D: Deleter> {
+pub(crate) struct LentDirectory<'d, P: GracePlan, B: Site, D: Drop> {
     pub(crate) lent: Lent<'d, P, Tabled, B, D>,
     pub(crate) naming: Naming,
     pub(crate) ghost own: { (lent.number ≡ naming.directory) × (lent.linked ≡ 1) },
@@ -101,20 +101,19 @@ impl<'d, P: GracePlan, B: Site, D: Deleter> LentDirectory<'d, P, B, D> {
 impl<'d, P: GracePlan + Drop, B: Site, D: Deleter> Directory<'d, P, B, D> {
     /// The caller hears of a log in which it is linked, and the chains that it names have its table's note. It never
     /// waits.
-    pub(crate) fn hear<W: Witness>(&mut self, witness: &mut W)
-        requires { W.home witness.old ≡ (B.table, B.sizes) }
-        ensures linked { IsLinked self.old.naming.directory self.old.naming.object (W.heard witness.new) }
-        ensures noted { (c : ℕ) → IsAmong self.old.naming.first self.old.naming.buckets c → chain_note c (W.heard witness.new) ≡ self.old.naming.directory + 1 }
-        ensures heard { IsAfter P.QSBR tabled (W.seen witness.old) (W.heard witness.old) (W.heard witness.new) }
-        ensures same { OnlyHears W.Witness witness.old witness.new × (self.new.naming ≡ self.old.naming) }
+    pub(crate) fn hear<W: Caller<B>>(&mut self, caller: &mut W)
+        ensures linked { IsLinked self.old.naming.directory self.old.naming.object (W.heard caller.new) }
+        ensures noted { (c : ℕ) → IsAmong self.old.naming.first self.old.naming.buckets c → chain_note c (W.heard caller.new) ≡ self.old.naming.directory + 1 }
+        ensures heard { IsAfter P.QSBR tabled (W.seen caller.old) (W.heard caller.old) (W.heard caller.new) }
+        ensures same { OnlyHears W.Caller caller.old caller.new × (self.new.naming ≡ self.old.naming) }
     {
-        self.chain.hear(witness);
+        self.chain.hear(caller);
     }
 }
 
 /// A directory's writer under its lock; none while another thread has lent it, which holds the lock then.
 #[derive(Drop)]
-pub(crate) struct Desk<'d, P: GracePlan, B: Site, D: Deleter> {
+pub(crate) struct Desk<'d, P: GracePlan, B: Site, D: Drop> {
     pub(crate) writer: Mutex<Option<Directory<'d, P, B, D>>>,
 }
 
@@ -168,14 +167,13 @@ impl<'d, P: GracePlan + Drop, B: Site, D: Deleter> Desk<'d, P, B, D> {
 
     /// The caller hears of a log in which the chains that this directory names have its table's note. It waits for the
     /// directory's lock.
-    pub(crate) fn hear_named<W: Witness, R: Wait>(&self, rt: &R, naming: Naming, witness: &mut W)
-        requires { W.home witness.old ≡ (B.table, B.sizes) }
-        ensures noted { (c : ℕ) → IsAmong naming.first naming.buckets c → chain_note c (W.heard witness.new) ≡ naming.directory + 1 }
-        ensures heard { IsAfter P.QSBR tabled (W.seen witness.old) (W.heard witness.old) (W.heard witness.new) }
-        ensures same { OnlyHears W.Witness witness.old witness.new }
+    pub(crate) fn hear_named<W: Caller<B>, R: Wait>(&self, rt: &R, naming: Naming, caller: &mut W)
+        ensures noted { (c : ℕ) → IsAmong naming.first naming.buckets c → chain_note c (W.heard caller.new) ≡ naming.directory + 1 }
+        ensures heard { IsAfter P.QSBR tabled (W.seen caller.old) (W.heard caller.old) (W.heard caller.new) }
+        ensures same { OnlyHears W.Caller caller.old caller.new }
     {
         let (mut place, mut directory) = self.take(rt, naming);
-        directory.hear(witness);
+        directory.hear(caller);
         *place = Some(directory);
     }
 }

@@ -15,11 +15,11 @@ use crate::directory::{Directory, Naming};
 use crate::rights::{lend_all, take_all_back};
 use gp_memb::GracePlan;
 use live_log::Tabled;
-use rcu_list::{Chain, Deleter, Lent, Owned, Site, Unlinked, Witness};
+use rcu_list::{Caller, Chain, Deleter, Lent, Owned, Site, Unlinked};
 
 /// The writers of chains that lend their rights to the directory's, with room for them when they have their rights
 /// again.
-pub(crate) struct Lenders<'d, P: GracePlan, B: Site, D: Deleter> {
+pub(crate) struct Lenders<'d, P: GracePlan, B: Site, D: Drop> {
     pub(crate) chains: Vec<Chain<'d, P, Tabled, B, D>>,
     pub(crate) lents: Vec<Lent<'d, P, Tabled, B, D>>,
     pub(crate) back: Vec<Chain<'d, P, Tabled, B, D>>,
@@ -29,11 +29,11 @@ pub(crate) struct Lenders<'d, P: GracePlan, B: Site, D: Deleter> {
 /// Another directory, which names the second chains, takes the place of this one, which names the first ones; for that
 /// they all lend it their rights. Answers it, the record that it replaced, and the writers. The caller hears of that.
 /// It never waits.
-pub(crate) fn exchange<'d, P: GracePlan + Drop, B: Site, D: Deleter, W: Witness>(
+pub(crate) fn exchange<'d, P: GracePlan + Drop, B: Site, D: Deleter, W: Caller<B>>(
     directory: Directory<'d, P, B, D>,
     olds: Lenders<'d, P, B, D>,
     news: Lenders<'d, P, B, D>,
-    witness: &mut W,
+    caller: &mut W,
     owned: Owned<B>,
     first: usize,
 ) -> (
@@ -42,7 +42,6 @@ pub(crate) fn exchange<'d, P: GracePlan + Drop, B: Site, D: Deleter, W: Witness>
     Vec<Chain<'d, P, Tabled, B, D>>,
     Vec<Chain<'d, P, Tabled, B, D>>,
 )
-    requires home { W.home witness.old ≡ (B.table, B.sizes) }
     requires olds { (vec_len olds.chains ≡ directory.naming.buckets) × AreFrom directory.naming.first (map (λ c. c.seat.me.0) olds.chains.items) × Each IsAlone (map (λ c. c.seat.me.0) olds.chains.items) × Each HasKeysIn (map (λ c. c.seat.me.0) olds.chains.items) }
     requires news { (0 < vec_len news.chains) × (first + vec_len news.chains ≤ B.sizes.chains) × AreFrom first (map (λ c. c.seat.me.0) news.chains.items) × Each IsAlone (map (λ c. c.seat.me.0) news.chains.items) × Each HasKeysIn (map (λ c. c.seat.me.0) news.chains.items) }
     requires apart { ((directory.naming.directory < first) ⊎ (first + vec_len news.chains ≤ directory.naming.directory)) × ((directory.naming.first + directory.naming.buckets ≤ first) ⊎ (first + vec_len news.chains ≤ directory.naming.first)) }
@@ -53,8 +52,8 @@ pub(crate) fn exchange<'d, P: GracePlan + Drop, B: Site, D: Deleter, W: Witness>
     ensures unlinked { IsRecord directory.entry.naming.directory result.1.chain result.1.seat.me.0 }
     ensures olds { (vec_len result.2 ≡ vec_len olds.entry.chains) × AreFrom directory.entry.naming.first (map (λ c. c.seat.me.0) result.2.items) × Each IsAlone (map (λ c. c.seat.me.0) result.2.items) × Each HasKeysIn (map (λ c. c.seat.me.0) result.2.items) × Each (HasNote (directory.entry.naming.directory + 1)) (map (λ c. c.seat.me.0) result.2.items) }
     ensures news { (vec_len result.3 ≡ vec_len news.entry.chains) × AreFrom first (map (λ c. c.seat.me.0) result.3.items) × Each IsAlone (map (λ c. c.seat.me.0) result.3.items) × Each HasKeysIn (map (λ c. c.seat.me.0) result.3.items) × Each (IsNamedBy directory.entry.naming.directory (object_in owned.seat.me.0.object)) (map (λ c. c.seat.me.0) result.3.items) }
-    ensures grown { (entries : List (ℕ × ℕ)) → AreApart entries → ((key : ℕ) → value_in_bucket (vec_len olds.entry.chains) (map (λ c. c.seat.me.0) olds.entry.chains.items) key ≡ value_among entries key) → Exchanges P.QSBR tabled B.sizes.chains directory.entry.naming.directory (W.seen witness.old) (W.heard witness.old) directory.entry.naming.object first (vec_len news.entry.chains) entries (W.heard witness.new) }
-    ensures same { OnlyMakesLast W.Witness witness.old witness.new (W.heard witness.new) }
+    ensures grown { (entries : List (ℕ × ℕ)) → AreApart entries → ((key : ℕ) → value_in_bucket (vec_len olds.entry.chains) (map (λ c. c.seat.me.0) olds.entry.chains.items) key ≡ value_among entries key) → Exchanges P.QSBR tabled B.sizes.chains directory.entry.naming.directory (W.seen caller.old) (W.heard caller.old) directory.entry.naming.object first (vec_len news.entry.chains) entries (W.heard caller.new) }
+    ensures same { OnlyMakesLast W.Caller caller.old caller.new (W.heard caller.new) }
 {
     let Directory { mut chain, naming } = directory;
     let Lenders {
@@ -73,7 +72,7 @@ pub(crate) fn exchange<'d, P: GracePlan + Drop, B: Site, D: Deleter, W: Witness>
     let object = owned.object();
     let old_lents = lend_all(old_chains, old_lents, &mut chain);
     let new_lents = lend_all(new_chains, new_lents, &mut chain);
-    let Ok(unlinked) = chain.replace(witness, 0, owned) else {
+    let Ok(unlinked) = chain.replace(caller, 0, owned) else {
         unreachable!()
     };
     let left = take_all_back(old_lents, old_back, &mut chain);

@@ -26,7 +26,7 @@ use crate::shelf::Shelf;
 use crate::table::{RcuHash, fits};
 use gp_memb::GracePlan;
 use live_log::Tabled;
-use rcu_list::{Chain, Deleter, Site, Witness};
+use rcu_list::{Caller, Chain, Deleter, Site};
 use rcu_model::Refusal;
 use std::alloc::Global;
 use std::sync::{RwLockWriteGuard, Wait};
@@ -62,24 +62,23 @@ fn chains_of<'d, P: GracePlan + Drop, B: Site, D: Deleter>(
 
 /// Fills the new chains, lets another directory take the place of the shelf's, and stocks the shelf with the new
 /// buckets. Answers what the old directory left. The caller hears of that.
-fn commit<'d, P: GracePlan + Drop, B: Site, D: Deleter, W: Witness, R: Wait>(
+fn commit<'d, P: GracePlan + Drop, B: Site, D: Deleter, W: Caller<B>, R: Wait>(
     rt: &R,
     desk: &Desk<'d, P, B, D>,
     shelf: &mut Shelf<'d, P, B, D>,
-    witness: &mut W,
+    caller: &mut W,
     growth: Growth<'d, P, B, D>,
     first: usize,
 ) -> Left<'d, P, B, D>
-    requires home { W.home witness.old ≡ (B.table, B.sizes) }
     requires rooms { (shelf.old.naming.buckets ≤ vec_capacity growth.rooms.olds) × (shelf.old.naming.buckets ≤ vec_capacity growth.rooms.returned) × (vec_len growth.chains ≤ vec_capacity growth.rooms.noted) × (vec_len growth.chains ≤ vec_capacity growth.rooms.named) × (vec_len growth.chains ≤ vec_capacity growth.rooms.places) }
     requires taken { (vec_len growth.taken ≡ shelf.old.naming.buckets) × AreFrom shelf.old.naming.first (map (λ b. b.chain.seat.me.0) growth.taken.items) }
     requires copied { ((key : ℕ) → value_among (map (λ c. (c.key, c.value)) growth.copied.items) key ≡ value_in_bucket shelf.old.naming.buckets (map (λ b. b.chain.seat.me.0) growth.taken.items) key) × AreApart (map (λ c. (c.key, c.value)) growth.copied.items) × AreRanked 0 (map (λ c. c.rank) growth.copied.items) }
     requires chains { (0 < vec_len growth.chains) × (first + vec_len growth.chains ≤ B.sizes.chains) × AreFrom first (map (λ c. c.seat.me.0) growth.chains.items) × Each IsEmpty (map (λ c. c.seat.me.0) growth.chains.items) × Each IsAlone (map (λ c. c.seat.me.0) growth.chains.items) }
     requires record { (payload_in growth.owned.seat.me.0.object ≡ words_by first (vec_len growth.chains)) × (growth.old_lents.items ≡ []) × (shelf.old.naming.buckets ≤ vec_capacity growth.old_lents) × (growth.new_lents.items ≡ []) × (vec_len growth.chains ≤ vec_capacity growth.new_lents) }
     requires apart { ((shelf.old.naming.directory < first) ⊎ (first + vec_len growth.chains ≤ shelf.old.naming.directory)) × ((shelf.old.naming.first + shelf.old.naming.buckets ≤ first) ⊎ (first + vec_len growth.chains ≤ shelf.old.naming.first)) }
-    ensures grown { Grows P.QSBR tabled B.sizes.chains shelf.old.naming.directory (W.seen witness.old) (W.heard witness.old) first (vec_len growth.entry.chains) (map (λ c. (c.key, c.value)) growth.entry.copied.items) (W.heard witness.new) }
+    ensures grown { Grows P.QSBR tabled B.sizes.chains shelf.old.naming.directory (W.seen caller.old) (W.heard caller.old) first (vec_len growth.entry.chains) (map (λ c. (c.key, c.value)) growth.entry.copied.items) (W.heard caller.new) }
     ensures left { result.naming.directory ≡ shelf.old.naming.directory }
-    ensures same { OnlyMakesMany W.Witness witness.old witness.new (vec_len growth.entry.copied + 1) }
+    ensures same { OnlyMakesMany W.Caller caller.old caller.new (vec_len growth.entry.copied + 1) }
 {
     let Growth {
         rooms,
@@ -91,8 +90,8 @@ fn commit<'d, P: GracePlan + Drop, B: Site, D: Deleter, W: Witness, R: Wait>(
         new_lents,
     } = growth;
     let (mut place, mut directory) = desk.take(rt, shelf.naming);
-    directory.chain.hear(witness);
-    fill(&mut chains, witness, copied);
+    directory.chain.hear(caller);
+    fill(&mut chains, caller, copied);
     let olds = Lenders {
         chains: chains_of(taken, rooms.olds),
         lents: old_lents,
@@ -102,13 +101,13 @@ fn commit<'d, P: GracePlan + Drop, B: Site, D: Deleter, W: Witness, R: Wait>(
         chains: note_all(
             chains,
             rooms.noted,
-            witness,
+            caller,
             shelf.naming.directory as u64 + 1,
         ),
         lents: new_lents,
         back: rooms.named,
     };
-    let (directory, unlinked, left, named) = exchange(directory, olds, news, witness, owned, first);
+    let (directory, unlinked, left, named) = exchange(directory, olds, news, caller, owned, first);
     let naming = directory.naming;
     *place = Some(directory);
     *shelf = Shelf {
@@ -161,26 +160,25 @@ impl<'d, P: GracePlan + Drop, B: Site, D: Deleter> RcuHash<'d, P, B, D> {
     /// `PoolFull` where there is no record for a key or for the directory; then it made no change. That its records and
     /// chains are free again, tests show. It waits for the table's locks, and for no grace period, but tries again
     /// where other threads draw object numbers meanwhile.
-    pub fn grow<W: Witness, R: Wait>(
+    pub fn grow<W: Caller<B>, R: Wait>(
         &self,
         rt: &R,
         alloc: Global,
-        witness: &mut W,
+        caller: &mut W,
         first: usize,
         buckets: usize,
     ) -> Result<usize, Refusal>
-        requires { W.home witness.old ≡ (B.table, B.sizes) }
-        ensures grown { IfOk result (λ left. (entries : List (ℕ × ℕ)) × Grows P.QSBR tabled B.sizes.chains self.now.directory (W.seen witness.old) (W.heard witness.old) first buckets entries (W.heard witness.new) × (left ≡ length entries + 1) × (fits B.sizes.chains self.now.directory first buckets ≡ true)) }
-        ensures free { IfOk result (λ _. FindsFree W.Witness P.QSBR tabled witness.old witness.new (IsAmong first buckets)) }
-        ensures refused { IfErr result (λ e. ((e ≡ Busy) × HasLeft self.now.directory (W.heard witness.new) × IsAfter P.QSBR tabled (W.seen witness.old) (W.heard witness.old) (W.heard witness.new)) ⊎ (((e ≡ BadConfig) × ((fits B.sizes.chains self.now.directory first buckets ≡ false) ⊎ FindsTaken W.Witness P.QSBR tabled witness.old witness.new B.sizes (IsAmong first buckets))) ⊎ ((fits B.sizes.chains self.now.directory first buckets ≡ true) × ((e ≡ Memory) ⊎ (e ≡ PoolFull))))) }
-        ensures heard { Begins (W.heard witness.old) (W.heard witness.new) }
-        ensures looks { (found : List (ℕ × ℕ)) × (W.looks witness.new ≡ found ++ W.looks witness.old) × IfErr result (λ e. (e ≡ PoolFull) → IsUsedUp B.sizes found ⊎ AreTaken B.sizes found) }
-        ensures loads { ((logs : List Log) × (W.loads witness.new ≡ logs ++ W.loads witness.old)) × IfOk result (λ _. W.loads witness.new ≡ W.loads witness.old) }
-        ensures changes { IfOk result (λ left. MakesMany W.Witness witness.old witness.new left) × IfErr result (λ _. Stays W.Witness witness.old witness.new) }
+        ensures grown { IfOk result (λ left. (entries : List (ℕ × ℕ)) × Grows P.QSBR tabled B.sizes.chains self.now.directory (W.seen caller.old) (W.heard caller.old) first buckets entries (W.heard caller.new) × (left ≡ length entries + 1) × (fits B.sizes.chains self.now.directory first buckets ≡ true)) }
+        ensures free { IfOk result (λ _. FindsFree W.Caller P.QSBR tabled caller.old caller.new (IsAmong first buckets)) }
+        ensures refused { IfErr result (λ e. ((e ≡ Busy) × HasLeft self.now.directory (W.heard caller.new) × IsAfter P.QSBR tabled (W.seen caller.old) (W.heard caller.old) (W.heard caller.new)) ⊎ (((e ≡ BadConfig) × ((fits B.sizes.chains self.now.directory first buckets ≡ false) ⊎ FindsTaken W.Caller P.QSBR tabled caller.old caller.new B.sizes (IsAmong first buckets))) ⊎ ((fits B.sizes.chains self.now.directory first buckets ≡ true) × ((e ≡ Memory) ⊎ (e ≡ PoolFull))))) }
+        ensures heard { Begins (W.heard caller.old) (W.heard caller.new) }
+        ensures looks { (found : List (ℕ × ℕ)) × (W.looks caller.new ≡ found ++ W.looks caller.old) × IfErr result (λ e. (e ≡ PoolFull) → IsUsedUp B.sizes found ⊎ AreTaken B.sizes found) }
+        ensures loads { ((logs : List Log) × (W.loads caller.new ≡ logs ++ W.loads caller.old)) × IfOk result (λ _. W.loads caller.new ≡ W.loads caller.old) }
+        ensures changes { IfOk result (λ left. MakesMany W.Caller caller.old caller.new left) × IfErr result (λ _. Stays W.Caller caller.old caller.new) }
     {
         let (mut place, left) = self.take_left(rt);
         if let Some(left) = left {
-            *place = Some(left.hear(rt, &self.desk, witness));
+            *place = Some(left.hear(rt, &self.desk, caller));
             return Err(Refusal::Busy);
         }
         if !fits(self.domain.chains(), self.directory, first, buckets) {
@@ -189,12 +187,12 @@ impl<'d, P: GracePlan + Drop, B: Site, D: Deleter> RcuHash<'d, P, B, D> {
         let mut shelf = self.own_shelf(rt);
         let old = shelf.naming;
         if !are_apart(old, first, buckets) {
-            self.desk.hear_named(rt, old, witness);
+            self.desk.hear_named(rt, old, caller);
             return Err(Refusal::BadConfig);
         }
-        let growth = Growth::ready(rt, alloc, self.domain, &shelf, witness, first, buckets)?;
+        let growth = Growth::ready(rt, alloc, self.domain, &shelf, caller, first, buckets)?;
         let left = growth.copied.len() + 1;
-        let rest = commit(rt, &self.desk, &mut shelf, witness, growth, first);
+        let rest = commit(rt, &self.desk, &mut shelf, caller, growth, first);
         put_down(&mut place, rest);
         Ok(left)
     }

@@ -19,14 +19,14 @@ use crate::making::{hold_all, room};
 use crate::shelf::{Place, Shelf};
 use gp_memb::GracePlan;
 use live_log::Tabled;
-use rcu_list::{Chain, Deleter, Domain, Lent, Owned, Site, Witness};
+use rcu_list::{Caller, Chain, Deleter, Domain, Lent, Owned, Site};
 use rcu_model::Refusal;
 use std::alloc::Global;
 use std::sync::Wait;
 
 /// Room for the writers and the buckets while they change hands.
 #[derive(Drop)]
-pub(crate) struct Rooms<'d, P: GracePlan, B: Site, D: Deleter> {
+pub(crate) struct Rooms<'d, P: GracePlan, B: Site, D: Drop> {
     pub(crate) olds: Vec<Chain<'d, P, Tabled, B, D>>,
     pub(crate) returned: Vec<Chain<'d, P, Tabled, B, D>>,
     pub(crate) noted: Vec<Chain<'d, P, Tabled, B, D>>,
@@ -54,7 +54,7 @@ impl<'d, P: GracePlan + Drop, B: Site, D: Deleter> Rooms<'d, P, B, D> {
 }
 
 /// What a growth needs before its first event.
-pub(crate) struct Growth<'d, P: GracePlan, B: Site, D: Deleter> {
+pub(crate) struct Growth<'d, P: GracePlan, B: Site, D: Drop> {
     pub(crate) rooms: Rooms<'d, P, B, D>,
     /// The buckets of the table.
     pub(crate) taken: Vec<Bucket<'d, P, B, D>>,
@@ -71,26 +71,25 @@ pub(crate) struct Growth<'d, P: GracePlan, B: Site, D: Deleter> {
 ///
 /// Refused at the first record that is, with `Memory` or `PoolFull`; what was taken and copied then is there all the
 /// same.
-fn copy_all<'d, P: GracePlan + Drop, B: Site, D: Deleter, W: Witness, R: Wait>(
+fn copy_all<'d, P: GracePlan + Drop, B: Site, D: Deleter, W: Caller<B>, R: Wait>(
     rt: &R,
     shelf: &Shelf<'d, P, B, D>,
-    witness: &mut W,
+    caller: &mut W,
     taken: &mut Vec<Bucket<'d, P, B, D>>,
     copied: &mut Vec<Copied<B>>,
 ) -> Result<(), Refusal>
-    requires home { W.home witness.old ≡ (B.table, B.sizes) }
     requires room { (taken.old.items ≡ []) × (shelf.now.naming.buckets ≤ vec_capacity taken.old) × (copied.old.items ≡ []) }
     ensures copied { IfOk result (λ _. ((key : ℕ) → value_among (map (λ c. (c.key, c.value)) copied.new.items) key ≡ value_in_bucket shelf.now.naming.buckets (map (λ b. b.chain.seat.me.0) taken.new.items) key) × AreApart (map (λ c. (c.key, c.value)) copied.new.items) × AreRanked 0 (map (λ c. c.rank) copied.new.items)) }
     ensures taken { IfOk result (λ _. (vec_len taken.new ≡ shelf.now.naming.buckets) × AreFrom shelf.now.naming.first (map (λ b. b.chain.seat.me.0) taken.new.items)) }
     ensures many { vec_len taken.new ≤ shelf.now.naming.buckets }
     ensures refused { IfErr result (λ e. (e ≡ Memory) ⊎ (e ≡ PoolFull)) }
-    ensures looks { (found : List (ℕ × ℕ)) × (W.looks witness.new ≡ found ++ W.looks witness.old) × IfErr result (λ e. (e ≡ PoolFull) → IsUsedUp B.sizes found ⊎ AreTaken B.sizes found) }
-    ensures heard { Begins (W.heard witness.old) (W.heard witness.new) }
-    ensures same { Stays W.Witness witness.old witness.new × (W.loads witness.new ≡ W.loads witness.old) }
+    ensures looks { (found : List (ℕ × ℕ)) × (W.looks caller.new ≡ found ++ W.looks caller.old) × IfErr result (λ e. (e ≡ PoolFull) → IsUsedUp B.sizes found ⊎ AreTaken B.sizes found) }
+    ensures heard { Begins (W.heard caller.old) (W.heard caller.new) }
+    ensures same { Stays W.Caller caller.old caller.new × (W.loads caller.new ≡ W.loads caller.old) }
 {
     for number in 0..shelf.naming.buckets {
         let (_place, mut bucket) = shelf.take(rt, number);
-        let answer = bucket.copy(rt, witness, copied, number);
+        let answer = bucket.copy(rt, caller, copied, number);
         taken.push_reserved(bucket);
         answer?;
     }
@@ -118,11 +117,11 @@ fn restock<'d, P: GracePlan + Drop, B: Site, D: Deleter, R: Wait>(
 /// The record of a directory, and room for what is left of writers that lend it their rights.
 ///
 /// Refused with `Memory` or `PoolFull`.
-fn provide<'d, P: GracePlan + Drop, B: Site, D: Deleter, W: Witness, R: Wait>(
+fn provide<'d, P: GracePlan + Drop, B: Site, D: Deleter, W: Caller<B>, R: Wait>(
     rt: &R,
     alloc: Global,
     domain: &Domain<P, Tabled, B, D>,
-    witness: &mut W,
+    caller: &mut W,
     olds: usize,
     first: usize,
     buckets: usize,
@@ -134,12 +133,11 @@ fn provide<'d, P: GracePlan + Drop, B: Site, D: Deleter, W: Witness, R: Wait>(
     ),
     Refusal,
 >
-    requires home { W.home witness.old ≡ (B.table, B.sizes) }
     ensures made { IfOk result (λ r. (payload_in r.0.seat.me.0.object ≡ words_by first buckets) × (r.1.items ≡ []) × (olds ≤ vec_capacity r.1) × (r.2.items ≡ []) × (buckets ≤ vec_capacity r.2)) }
     ensures refused { IfErr result (λ e. (e ≡ Memory) ⊎ (e ≡ PoolFull)) }
-    ensures looks { (found : List (ℕ × ℕ)) × (W.looks witness.new ≡ found ++ W.looks witness.old) × IfErr result (λ e. (e ≡ PoolFull) → IsUsedUp B.sizes found ⊎ AreTaken B.sizes found) }
-    ensures heard { Begins (W.heard witness.old) (W.heard witness.new) }
-    ensures same { Stays W.Witness witness.old witness.new × (W.loads witness.new ≡ W.loads witness.old) }
+    ensures looks { (found : List (ℕ × ℕ)) × (W.looks caller.new ≡ found ++ W.looks caller.old) × IfErr result (λ e. (e ≡ PoolFull) → IsUsedUp B.sizes found ⊎ AreTaken B.sizes found) }
+    ensures heard { Begins (W.heard caller.old) (W.heard caller.new) }
+    ensures same { Stays W.Caller caller.old caller.new × (W.loads caller.new ≡ W.loads caller.old) }
 {
     let old_lents = room(alloc, olds)?;
     let new_lents = match room(alloc, buckets) {
@@ -149,7 +147,7 @@ fn provide<'d, P: GracePlan + Drop, B: Site, D: Deleter, W: Witness, R: Wait>(
             return Err(refusal);
         }
     };
-    match domain.alloc(rt, witness, [first as u64, buckets as u64, 0, 1]) {
+    match domain.alloc(rt, caller, [first as u64, buckets as u64, 0, 1]) {
         Ok(owned) => Ok((owned, old_lents, new_lents)),
         Err(refusal) => {
             old_lents.destroy_empty();
@@ -160,22 +158,21 @@ fn provide<'d, P: GracePlan + Drop, B: Site, D: Deleter, W: Witness, R: Wait>(
 }
 
 /// Takes back what was made ready for a growth that is refused. The caller hears of that.
-fn undo<'d, P: GracePlan + Drop, B: Site, D: Deleter, W: Witness, R: Wait>(
+fn undo<'d, P: GracePlan + Drop, B: Site, D: Deleter, W: Caller<B>, R: Wait>(
     rt: &R,
     domain: &Domain<P, Tabled, B, D>,
     shelf: &Shelf<'d, P, B, D>,
-    witness: &mut W,
+    caller: &mut W,
     taken: Vec<Bucket<'d, P, B, D>>,
     copied: Vec<Copied<B>>,
 )
-    requires home { W.home witness.old ≡ (B.table, B.sizes) }
     requires many { vec_len taken ≤ shelf.now.naming.buckets }
-    ensures heard { Begins (W.heard witness.old) (W.heard witness.new) }
-    ensures told { ((found : List (ℕ × ℕ)) × (W.looks witness.new ≡ found ++ W.looks witness.old)) × ((logs : List Log) × (W.loads witness.new ≡ logs ++ W.loads witness.old)) }
-    ensures same { Stays W.Witness witness.old witness.new }
+    ensures heard { Begins (W.heard caller.old) (W.heard caller.new) }
+    ensures told { ((found : List (ℕ × ℕ)) × (W.looks caller.new ≡ found ++ W.looks caller.old)) × ((logs : List Log) × (W.loads caller.new ≡ logs ++ W.loads caller.old)) }
+    ensures same { Stays W.Caller caller.old caller.new }
 {
     restock(rt, shelf, taken);
-    discard_all(domain, witness, copied);
+    discard_all(domain, caller, copied);
 }
 
 impl<'d, P: GracePlan + Drop, B: Site, D: Deleter> Growth<'d, P, B, D> {
@@ -184,38 +181,38 @@ impl<'d, P: GracePlan + Drop, B: Site, D: Deleter> Growth<'d, P, B, D> {
     ///
     /// Refused with `Memory`, with `BadConfig` where a new chain has a writer, is not empty or has a note, or with
     /// `PoolFull`; then all is as it was.
-    pub(crate) fn ready<W: Witness, R: Wait>(
+    pub(crate) fn ready<W: Caller<B>, R: Wait>(
         rt: &R,
         alloc: Global,
         domain: &'d Domain<P, Tabled, B, D>,
         shelf: &Shelf<'d, P, B, D>,
-        witness: &mut W,
+        caller: &mut W,
         first: usize,
         buckets: usize,
     ) -> Result<Growth<'d, P, B, D>, Refusal>
-        requires home { (W.home witness.old ≡ (B.table, B.sizes)) × (first + buckets ≤ B.sizes.chains) }
+        requires range { first + buckets ≤ B.sizes.chains }
         ensures rooms { IfOk result (λ g. (shelf.now.naming.buckets ≤ vec_capacity g.rooms.olds) × (shelf.now.naming.buckets ≤ vec_capacity g.rooms.returned) × (buckets ≤ vec_capacity g.rooms.noted) × (buckets ≤ vec_capacity g.rooms.named) × (buckets ≤ vec_capacity g.rooms.places)) }
         ensures taken { IfOk result (λ g. (vec_len g.taken ≡ shelf.now.naming.buckets) × AreFrom shelf.now.naming.first (map (λ b. b.chain.seat.me.0) g.taken.items)) }
         ensures copied { IfOk result (λ g. ((key : ℕ) → value_among (map (λ c. (c.key, c.value)) g.copied.items) key ≡ value_in_bucket shelf.now.naming.buckets (map (λ b. b.chain.seat.me.0) g.taken.items) key) × AreApart (map (λ c. (c.key, c.value)) g.copied.items) × AreRanked 0 (map (λ c. c.rank) g.copied.items)) }
         ensures chains { IfOk result (λ g. (vec_len g.chains ≡ buckets) × AreFrom first (map (λ c. c.seat.me.0) g.chains.items) × Each IsEmpty (map (λ c. c.seat.me.0) g.chains.items) × Each IsAlone (map (λ c. c.seat.me.0) g.chains.items)) }
         ensures record { IfOk result (λ g. (payload_in g.owned.seat.me.0.object ≡ words_by first buckets) × (g.old_lents.items ≡ []) × (shelf.now.naming.buckets ≤ vec_capacity g.old_lents) × (g.new_lents.items ≡ []) × (buckets ≤ vec_capacity g.new_lents)) }
-        ensures refused { IfErr result (λ e. ((e ≡ BadConfig) × FindsTaken W.Witness P.QSBR tabled witness.old witness.new B.sizes (IsAmong first buckets)) ⊎ ((e ≡ Memory) ⊎ (e ≡ PoolFull))) }
-        ensures free { IfOk result (λ _. FindsFree W.Witness P.QSBR tabled witness.old witness.new (IsAmong first buckets)) }
-        ensures heard { Begins (W.heard witness.old) (W.heard witness.new) }
-        ensures looks { (found : List (ℕ × ℕ)) × (W.looks witness.new ≡ found ++ W.looks witness.old) × IfErr result (λ e. (e ≡ PoolFull) → IsUsedUp B.sizes found ⊎ AreTaken B.sizes found) }
-        ensures loads { ((logs : List Log) × (W.loads witness.new ≡ logs ++ W.loads witness.old)) × IfOk result (λ _. W.loads witness.new ≡ W.loads witness.old) }
-        ensures same { Stays W.Witness witness.old witness.new }
+        ensures refused { IfErr result (λ e. ((e ≡ BadConfig) × FindsTaken W.Caller P.QSBR tabled caller.old caller.new B.sizes (IsAmong first buckets)) ⊎ ((e ≡ Memory) ⊎ (e ≡ PoolFull))) }
+        ensures free { IfOk result (λ _. FindsFree W.Caller P.QSBR tabled caller.old caller.new (IsAmong first buckets)) }
+        ensures heard { Begins (W.heard caller.old) (W.heard caller.new) }
+        ensures looks { (found : List (ℕ × ℕ)) × (W.looks caller.new ≡ found ++ W.looks caller.old) × IfErr result (λ e. (e ≡ PoolFull) → IsUsedUp B.sizes found ⊎ AreTaken B.sizes found) }
+        ensures loads { ((logs : List Log) × (W.loads caller.new ≡ logs ++ W.loads caller.old)) × IfOk result (λ _. W.loads caller.new ≡ W.loads caller.old) }
+        ensures same { Stays W.Caller caller.old caller.new }
     {
         let olds = shelf.naming.buckets;
         let rooms = Rooms::new(alloc, olds, buckets)?;
         let mut taken = room(alloc, olds)?;
-        let chains = hold_all(domain, witness, room(alloc, buckets)?, first, buckets)?;
+        let chains = hold_all(domain, caller, room(alloc, buckets)?, first, buckets)?;
         let mut copied = Vec::new(alloc);
-        if let Err(refusal) = copy_all(rt, shelf, witness, &mut taken, &mut copied) {
-            undo(rt, domain, shelf, witness, taken, copied);
+        if let Err(refusal) = copy_all(rt, shelf, caller, &mut taken, &mut copied) {
+            undo(rt, domain, shelf, caller, taken, copied);
             return Err(refusal);
         }
-        match provide(rt, alloc, domain, witness, olds, first, buckets) {
+        match provide(rt, alloc, domain, caller, olds, first, buckets) {
             Ok((owned, old_lents, new_lents)) => Ok(Growth {
                 rooms,
                 taken,
@@ -226,7 +223,7 @@ impl<'d, P: GracePlan + Drop, B: Site, D: Deleter> Growth<'d, P, B, D> {
                 new_lents,
             }),
             Err(refusal) => {
-                undo(rt, domain, shelf, witness, taken, copied);
+                undo(rt, domain, shelf, caller, taken, copied);
                 Err(refusal)
             }
         }

@@ -10,13 +10,13 @@ ghost use Rattle.rcu_hash.specs.Writers.{Each, HasKeysIn, HasNote, IsAlone, IsOu
 use crate::directory::{Desk, Naming};
 use gp_memb::GracePlan;
 use live_log::Tabled;
-use rcu_list::{Chain, Deleter, Site, Unlinked, Witness};
+use rcu_list::{Caller, Chain, Deleter, Site, Unlinked};
 use std::sync::Wait;
 
 /// What a directory left when another one took its place: its record, unless that is retired, and chains that it named,
 /// with the objects that are not retired yet.
 #[derive(Drop)]
-pub(crate) struct Left<'d, P: GracePlan, B: Site, D: Deleter> {
+pub(crate) struct Left<'d, P: GracePlan, B: Site, D: Drop> {
     /// The directory that took its place.
     pub(crate) naming: Naming,
     pub(crate) unlinked: Option<Unlinked<B>>,
@@ -32,39 +32,37 @@ pub(crate) struct Left<'d, P: GracePlan, B: Site, D: Deleter> {
 impl<'d, P: GracePlan + Drop, B: Site, D: Deleter> Desk<'d, P, B, D> {
     /// The caller hears of a log in which a chain that an earlier directory named has its note still. It waits for the
     /// directory's lock.
-    pub(crate) fn hear_left<W: Witness, R: Wait>(
+    pub(crate) fn hear_left<W: Caller<B>, R: Wait>(
         &self,
         rt: &R,
         naming: Naming,
-        witness: &mut W,
+        caller: &mut W,
         chain: &mut Chain<'_, P, Tabled, B, D>,
     )
-        requires home { W.home witness.old ≡ (B.table, B.sizes) }
         requires chain { IsLeft naming.directory naming.first naming.buckets chain.old.seat.me.0 }
-        ensures left { HasLeft naming.directory (W.heard witness.new) }
-        ensures heard { IsAfter P.QSBR tabled (W.seen witness.old) (W.heard witness.old) (W.heard witness.new) }
+        ensures left { HasLeft naming.directory (W.heard caller.new) }
+        ensures heard { IsAfter P.QSBR tabled (W.seen caller.old) (W.heard caller.old) (W.heard caller.new) }
         ensures chain { IsLeft naming.directory naming.first naming.buckets chain.new.seat.me.0 }
-        ensures same { OnlyHears W.Witness witness.old witness.new }
+        ensures same { OnlyHears W.Caller caller.old caller.new }
     {
         let (mut place, directory) = self.take(rt, naming);
         let lent = directory.lend(chain);
-        chain.hear(witness);
+        chain.hear(caller);
         *place = Some(lent.take_back(chain));
     }
 }
 
 impl<'d, P: GracePlan + Drop, B: Site, D: Deleter> Left<'d, P, B, D> {
     /// The caller hears of a log in which this is left. It waits for the directory's lock.
-    pub(crate) fn hear<W: Witness, R: Wait>(
+    pub(crate) fn hear<W: Caller<B>, R: Wait>(
         self,
         rt: &R,
         desk: &Desk<'d, P, B, D>,
-        witness: &mut W,
+        caller: &mut W,
     ) -> Left<'d, P, B, D>
-        requires { W.home witness.old ≡ (B.table, B.sizes) }
-        ensures left { HasLeft self.entry.naming.directory (W.heard witness.new) }
-        ensures heard { IsAfter P.QSBR tabled (W.seen witness.old) (W.heard witness.old) (W.heard witness.new) }
-        ensures same { OnlyHears W.Witness witness.old witness.new × (result.naming ≡ self.entry.naming) }
+        ensures left { HasLeft self.entry.naming.directory (W.heard caller.new) }
+        ensures heard { IsAfter P.QSBR tabled (W.seen caller.old) (W.heard caller.old) (W.heard caller.new) }
+        ensures same { OnlyHears W.Caller caller.old caller.new × (result.naming ≡ self.entry.naming) }
     {
         let Left {
             naming,
@@ -74,7 +72,7 @@ impl<'d, P: GracePlan + Drop, B: Site, D: Deleter> Left<'d, P, B, D> {
         let Some(mut chain) = chains.pop() else {
             unreachable!()
         };
-        desk.hear_left(rt, naming, witness, &mut chain);
+        desk.hear_left(rt, naming, caller, &mut chain);
         chains.push_reserved(chain);
         Left {
             naming,

@@ -19,9 +19,9 @@ mod view;
 
 pub use laws::buckets_answer_for_their_table;
 pub use rcu_list::{
-    AnyChain, BarrierMark, Callback, Chain, ChainRule, Counts, Deleter, Domain, Finished, Held,
-    Keyed, Lent, ListView, LiveConfig, LiveCookie, MapRule, Opened, Owned, RcuList, Reader, Record,
-    Ripe, Section, Site, Stop, Tabled, Ticket, Unlinked, Witness, WorkerEnd,
+    AnyChain, BarrierMark, Callback, Caller, Chain, ChainRule, Counts, Deleter, Domain, Finished,
+    Handle, Held, Keyed, Lent, ListView, LiveConfig, LiveCookie, MapRule, Opened, Owned, RcuList,
+    Reader, Ripe, Section, Site, Stop, Tabled, Ticket, Unlinked, WorkerEnd,
 };
 pub use table::RcuHash;
 pub use tidying::TidyEnd;

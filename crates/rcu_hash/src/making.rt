@@ -23,7 +23,7 @@ use crate::rights::{lend_all, take_all_back};
 use crate::shelf::Place;
 use gp_memb::GracePlan;
 use live_log::Tabled;
-use rcu_list::{Chain, Deleter, Domain, Lent, Owned, Site, Witness};
+use rcu_list::{Caller, Chain, Deleter, Domain, Lent, Owned, Site};
 use rcu_model::Refusal;
 use std::alloc::Global;
 use std::sync::Mutex;
@@ -44,23 +44,23 @@ pub(crate) fn room<T>(alloc: Global, many: usize) -> Result<Vec<T>, Refusal>
 /// The writer of a chain that has none, is empty and has no note: in the log of which the caller hears last.
 ///
 /// Refused with `BadConfig` exactly where it is not. The caller hears of what was seen. It never waits.
-pub(crate) fn hold_empty<'d, P: GracePlan + Drop, B: Site, D: Deleter, W: Witness>(
+pub(crate) fn hold_empty<'d, P: GracePlan + Drop, B: Site, D: Deleter, W: Caller<B>>(
     domain: &'d Domain<P, Tabled, B, D>,
-    witness: &mut W,
+    caller: &mut W,
     chain: usize,
 ) -> Result<Chain<'d, P, Tabled, B, D>, Refusal>
-    requires { (W.home witness.old ≡ (B.table, B.sizes)) × (chain < B.sizes.chains) }
-    ensures held { IfOk result (λ c. (c.number ≡ chain) × IsEmpty c.seat.me.0 × IsAlone c.seat.me.0 × IsLiveRun P.QSBR tabled c.seat.me.0.seen × (W.looks witness.new ≡ (hold_at B.sizes chain, 0) ∷ W.looks witness.old)) }
-    ensures refused { IfErr result (λ e. (e ≡ BadConfig) × FindsTaken W.Witness P.QSBR tabled witness.old witness.new B.sizes (λ c. c ≡ chain)) }
-    ensures unused { IfOk result (λ _. IsUnused chain (W.heard witness.new)) }
-    ensures heard { IsAfter P.QSBR tabled (W.seen witness.old) (W.heard witness.old) (W.heard witness.new) }
-    ensures same { Stays W.Witness witness.old witness.new × (W.loads witness.new ≡ W.loads witness.old) × ((found : List (ℕ × ℕ)) × (W.looks witness.new ≡ found ++ W.looks witness.old)) }
+    requires { chain < B.sizes.chains }
+    ensures held { IfOk result (λ c. (c.number ≡ chain) × IsEmpty c.seat.me.0 × IsAlone c.seat.me.0 × IsLiveRun P.QSBR tabled c.seat.me.0.seen × (W.looks caller.new ≡ (hold_at B.sizes chain, 0) ∷ W.looks caller.old)) }
+    ensures refused { IfErr result (λ e. (e ≡ BadConfig) × FindsTaken W.Caller P.QSBR tabled caller.old caller.new B.sizes (λ c. c ≡ chain)) }
+    ensures unused { IfOk result (λ _. IsUnused chain (W.heard caller.new)) }
+    ensures heard { IsAfter P.QSBR tabled (W.seen caller.old) (W.heard caller.old) (W.heard caller.new) }
+    ensures same { Stays W.Caller caller.old caller.new × (W.loads caller.new ≡ W.loads caller.old) × ((found : List (ℕ × ℕ)) × (W.looks caller.new ≡ found ++ W.looks caller.old)) }
 {
-    let mut writer = match domain.chain(witness, chain) {
+    let mut writer = match domain.chain(caller, chain) {
         Ok(writer) => writer,
         Err(_) => return Err(Refusal::BadConfig),
     };
-    writer.hear(witness);
+    writer.hear(caller);
     if writer.note() != 0 || writer.len() != 0 {
         return Err(Refusal::BadConfig);
     }
@@ -71,43 +71,42 @@ pub(crate) fn hold_empty<'d, P: GracePlan + Drop, B: Site, D: Deleter, W: Witnes
 ///
 /// Refused with `BadConfig` where one is not; then all are given back. The caller hears of what was seen. It never
 /// waits.
-pub(crate) fn hold_all<'d, P: GracePlan + Drop, B: Site, D: Deleter, W: Witness>(
+pub(crate) fn hold_all<'d, P: GracePlan + Drop, B: Site, D: Deleter, W: Caller<B>>(
     domain: &'d Domain<P, Tabled, B, D>,
-    witness: &mut W,
+    caller: &mut W,
     mut chains: Vec<Chain<'d, P, Tabled, B, D>>,
     first: usize,
     many: usize,
 ) -> Result<Vec<Chain<'d, P, Tabled, B, D>>, Refusal>
-    requires home { (W.home witness.old ≡ (B.table, B.sizes)) × (first + many ≤ B.sizes.chains) }
+    requires range { first + many ≤ B.sizes.chains }
     requires room { (chains.items ≡ []) × (many ≤ vec_capacity chains) }
     ensures held { IfOk result (λ cs. (vec_len cs ≡ many) × AreFrom first (map (λ c. c.seat.me.0) cs.items) × Each IsEmpty (map (λ c. c.seat.me.0) cs.items) × Each IsAlone (map (λ c. c.seat.me.0) cs.items)) }
-    ensures refused { IfErr result (λ e. (e ≡ BadConfig) × FindsTaken W.Witness P.QSBR tabled witness.old witness.new B.sizes (IsAmong first many)) }
-    ensures free { IfOk result (λ _. FindsFree W.Witness P.QSBR tabled witness.old witness.new (IsAmong first many)) }
-    ensures heard { Begins (W.heard witness.old) (W.heard witness.new) }
-    ensures same { Stays W.Witness witness.old witness.new × (W.loads witness.new ≡ W.loads witness.old) × ((found : List (ℕ × ℕ)) × (W.looks witness.new ≡ found ++ W.looks witness.old)) }
+    ensures refused { IfErr result (λ e. (e ≡ BadConfig) × FindsTaken W.Caller P.QSBR tabled caller.old caller.new B.sizes (IsAmong first many)) }
+    ensures free { IfOk result (λ _. FindsFree W.Caller P.QSBR tabled caller.old caller.new (IsAmong first many)) }
+    ensures heard { Begins (W.heard caller.old) (W.heard caller.new) }
+    ensures same { Stays W.Caller caller.old caller.new × (W.loads caller.new ≡ W.loads caller.old) × ((found : List (ℕ × ℕ)) × (W.looks caller.new ≡ found ++ W.looks caller.old)) }
 {
     for number in 0..many {
-        chains.push_reserved(hold_empty(domain, witness, first + number)?);
+        chains.push_reserved(hold_empty(domain, caller, first + number)?);
     }
     Ok(chains)
 }
 
 /// The chains of these writers get this note, from none. There is room for the writers. The caller hears of that. It
 /// never waits.
-pub(crate) fn note_all<'d, P: GracePlan + Drop, B: Site, D: Deleter, W: Witness>(
+pub(crate) fn note_all<'d, P: GracePlan + Drop, B: Site, D: Deleter, W: Caller<B>>(
     chains: Vec<Chain<'d, P, Tabled, B, D>>,
     mut noted: Vec<Chain<'d, P, Tabled, B, D>>,
-    witness: &mut W,
+    caller: &mut W,
     note: u64,
 ) -> Vec<Chain<'d, P, Tabled, B, D>>
-    requires home { W.home witness.old ≡ (B.table, B.sizes) }
     requires room { (noted.items ≡ []) × (vec_len chains ≤ vec_capacity noted) }
     requires chains { Each HasNoNote (map (λ c. c.seat.me.0) chains.items) × Each IsAlone (map (λ c. c.seat.me.0) chains.items) }
-    ensures noted { (vec_len result ≡ vec_len chains.entry) × Pairwise IsSame (map (λ c. c.seat.me.0) chains.entry.items) (map (λ c. c.seat.me.0) result.items) × Each (Noted (W.heard witness.old) note) (map (λ c. c.seat.me.0) result.items) × Each IsAlone (map (λ c. c.seat.me.0) result.items) }
-    ensures told { (first : ℕ) → AreFrom first (map (λ c. c.seat.me.0) chains.entry.items) → NotesAll (Writes P.QSBR tabled (W.seen witness.old)) note first (vec_len chains.entry) (W.heard witness.old) (W.heard witness.new) }
+    ensures noted { (vec_len result ≡ vec_len chains.entry) × Pairwise IsSame (map (λ c. c.seat.me.0) chains.entry.items) (map (λ c. c.seat.me.0) result.items) × Each (Noted (W.heard caller.old) note) (map (λ c. c.seat.me.0) result.items) × Each IsAlone (map (λ c. c.seat.me.0) result.items) }
+    ensures told { (first : ℕ) → AreFrom first (map (λ c. c.seat.me.0) chains.entry.items) → NotesAll (Writes P.QSBR tabled (W.seen caller.old)) note first (vec_len chains.entry) (W.heard caller.old) (W.heard caller.new) }
     ensures runs { Each (IsRunIn P.QSBR) (map (λ c. c.seat.me.0) result.items) }
-    ensures heard { Begins (W.heard witness.old) (W.heard witness.new) }
-    ensures same { OnlyHears W.Witness witness.old witness.new }
+    ensures heard { Begins (W.heard caller.old) (W.heard caller.new) }
+    ensures same { OnlyHears W.Caller caller.old caller.new }
 {
     let many = chains.len();
     let mut rest = chains.into_iter();
@@ -115,7 +114,7 @@ pub(crate) fn note_all<'d, P: GracePlan + Drop, B: Site, D: Deleter, W: Witness>
         let Some(mut chain) = rest.next() else {
             unreachable!()
         };
-        chain.set_note(witness, note);
+        chain.set_note(caller, note);
         noted.push_reserved(chain);
     }
     noted
@@ -124,16 +123,15 @@ pub(crate) fn note_all<'d, P: GracePlan + Drop, B: Site, D: Deleter, W: Witness>
 /// A directory of these chains: a push of its record into its own chain, for which they all lend their rights. There is
 /// room for what is left of the writers then, and for them when they have their rights again. The caller hears of the
 /// push. It never waits.
-pub(crate) fn direct<'d, P: GracePlan + Drop, B: Site, D: Deleter, W: Witness>(
+pub(crate) fn direct<'d, P: GracePlan + Drop, B: Site, D: Deleter, W: Caller<B>>(
     mut chain: Chain<'d, P, Tabled, B, D>,
     chains: Vec<Chain<'d, P, Tabled, B, D>>,
     lents: Vec<Lent<'d, P, Tabled, B, D>>,
     back: Vec<Chain<'d, P, Tabled, B, D>>,
-    witness: &mut W,
+    caller: &mut W,
     owned: Owned<B>,
     first: usize,
 ) -> (Directory<'d, P, B, D>, Vec<Chain<'d, P, Tabled, B, D>>)
-    requires home { W.home witness.old ≡ (B.table, B.sizes) }
     requires room { (lents.items ≡ []) × (vec_len chains ≤ vec_capacity lents) × (back.items ≡ []) × (vec_len chains ≤ vec_capacity back) }
     requires own { IsEmpty chain.seat.me.0 × IsAlone chain.seat.me.0 × IsLiveRun P.QSBR tabled chain.seat.me.0.seen }
     requires range { (0 < vec_len chains) × (first + vec_len chains ≤ B.sizes.chains) × ((chain.number < first) ⊎ (first + vec_len chains ≤ chain.number)) }
@@ -141,14 +139,14 @@ pub(crate) fn direct<'d, P: GracePlan + Drop, B: Site, D: Deleter, W: Witness>(
     requires record { payload_in owned.seat.me.0.object ≡ words_by first (vec_len chains) }
     ensures directory { result.0.naming ≡ record { directory = chain.entry.number; object = object_in owned.seat.me.0.object; first = first; buckets = vec_len chains.entry } }
     ensures chains { (vec_len result.1 ≡ vec_len chains.entry) × AreFrom first (map (λ c. c.seat.me.0) result.1.items) × Each IsAlone (map (λ c. c.seat.me.0) result.1.items) × Each HasKeysIn (map (λ c. c.seat.me.0) result.1.items) × Each (IsNamedBy chain.entry.number (object_in owned.seat.me.0.object)) (map (λ c. c.seat.me.0) result.1.items) }
-    ensures map { (key : ℕ) → (directed_map B.sizes.chains chain.entry.number (W.heard witness.new) key ≡ None) × LeadsTo chain.entry.number (W.heard witness.new) key (bucket_of first (vec_len chains.entry) key) }
-    ensures pushed { (cell : ℕ) × Writes P.QSBR tabled (W.seen witness.old) (W.heard witness.old) (Object (Push chain.entry.number (object_in owned.seat.me.0.object) cell (words_by first (vec_len chains.entry)))) (W.heard witness.new) }
-    ensures heard { IsAfter P.QSBR tabled (W.seen witness.old) (W.heard witness.old) (W.heard witness.new) }
-    ensures same { OnlyMakesLast W.Witness witness.old witness.new (W.heard witness.new) }
+    ensures map { (key : ℕ) → (directed_map B.sizes.chains chain.entry.number (W.heard caller.new) key ≡ None) × LeadsTo chain.entry.number (W.heard caller.new) key (bucket_of first (vec_len chains.entry) key) }
+    ensures pushed { (cell : ℕ) × Writes P.QSBR tabled (W.seen caller.old) (W.heard caller.old) (Object (Push chain.entry.number (object_in owned.seat.me.0.object) cell (words_by first (vec_len chains.entry)))) (W.heard caller.new) }
+    ensures heard { IsAfter P.QSBR tabled (W.seen caller.old) (W.heard caller.old) (W.heard caller.new) }
+    ensures same { OnlyMakesLast W.Caller caller.old caller.new (W.heard caller.new) }
 {
     let buckets = chains.len();
     let lents = lend_all(chains, lents, &mut chain);
-    let object = chain.push(witness, owned);
+    let object = chain.push(caller, owned);
     let back = take_all_back(lents, back, &mut chain);
     let naming = Naming {
         directory: chain.number(),

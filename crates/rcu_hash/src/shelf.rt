@@ -13,7 +13,7 @@ pub(crate) type Place<'d, P, B, D> = Mutex<Option<Bucket<'d, P, B, D>>>;
 
 /// The buckets that a directory names, in order.
 #[derive(Drop)]
-pub(crate) struct Shelf<'d, P: GracePlan, B: Site, D: Deleter> {
+pub(crate) struct Shelf<'d, P: GracePlan, B: Site, D: Drop> {
     pub(crate) naming: Naming,
     pub(crate) buckets: Vec<Place<'d, P, B, D>>,
     pub(crate) ghost many: { (0 < naming.buckets) × (vec_len buckets ≡ naming.buckets) },

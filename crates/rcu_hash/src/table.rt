@@ -25,7 +25,7 @@ use crate::shelf::Shelf;
 use crate::view::TableView;
 use gp_memb::GracePlan;
 use live_log::Tabled;
-use rcu_list::{Callback, Deleter, Domain, Section, Site, Ticket, Witness};
+use rcu_list::{Callback, Caller, Deleter, Domain, Section, Site, Ticket};
 use rcu_model::Refusal;
 use std::alloc::Global;
 use std::sync::{Mutex, RwLock, RwLockReadGuard, Wait};
@@ -52,7 +52,7 @@ pub(crate) fn fits(chains: usize, directory: usize, first: usize, buckets: usize
 /// change; lookups take none. `grow` puts another directory in the place of this one while the table is read. Dropping
 /// the table gives its chains back with their keys and notes, so that no other table or list can be made over them.
 #[derive(Drop)]
-pub struct RcuHash<'d, P: GracePlan, B: Site, D: Deleter = Callback> {
+pub struct RcuHash<'d, P: GracePlan, B: Site, D: Drop = Callback> {
     /// The chain of its directory.
     pub directory: usize,
     pub(crate) domain: &'d Domain<P, Tabled, B, D>,
@@ -72,26 +72,25 @@ impl<'d, P: GracePlan + Drop, B: Site, D: Deleter> RcuHash<'d, P, B, D> {
     /// chain is one of the buckets', else with `Memory` where memory is, with `BadConfig` where a chain had a writer,
     /// linked an object or had a note other than 0 during the call, or with `PoolFull` where there is no record. It
     /// waits for nobody, but tries again where other threads draw object numbers meanwhile.
-    pub fn new<W: Witness, R: Wait>(
+    pub fn new<W: Caller<B>, R: Wait>(
         rt: &R,
         alloc: Global,
         domain: &'d Domain<P, Tabled, B, D>,
-        witness: &mut W,
+        caller: &mut W,
         directory: usize,
         first: usize,
         buckets: usize,
     ) -> Result<RcuHash<'d, P, B, D>, Refusal>
-        requires { W.home witness.old ≡ (B.table, B.sizes) }
         ensures made { IfOk result (λ t. (t.directory ≡ directory) × (fits B.sizes.chains directory first buckets ≡ true)) }
-        ensures founded { IfOk result (λ _. Founds P.QSBR tabled directory (W.seen witness.old) (W.heard witness.old) first buckets (W.heard witness.new)) }
-        ensures free { IfOk result (λ _. FindsFree W.Witness P.QSBR tabled witness.old witness.new (λ c. (c ≡ directory) ⊎ IsAmong first buckets c)) }
-        ensures map { IfOk result (λ _. (key : ℕ) → (directed_map B.sizes.chains directory (W.heard witness.new) key ≡ None) × LeadsTo directory (W.heard witness.new) key (bucket_of first buckets key)) }
-        ensures heard { IfOk result (λ _. IsAfter P.QSBR tabled (W.seen witness.old) (W.heard witness.old) (W.heard witness.new)) }
-        ensures later { Begins (W.heard witness.old) (W.heard witness.new) }
-        ensures refused { IfErr result (λ e. ((e ≡ BadConfig) × ((fits B.sizes.chains directory first buckets ≡ false) ⊎ FindsTaken W.Witness P.QSBR tabled witness.old witness.new B.sizes (λ c. (c ≡ directory) ⊎ IsAmong first buckets c))) ⊎ ((fits B.sizes.chains directory first buckets ≡ true) × ((e ≡ Memory) ⊎ (e ≡ PoolFull)))) }
-        ensures looks { (found : List (ℕ × ℕ)) × (W.looks witness.new ≡ found ++ W.looks witness.old) × IfErr result (λ e. (e ≡ PoolFull) → IsUsedUp B.sizes found ⊎ AreTaken B.sizes found) }
-        ensures changes { IfOk result (λ _. MakesLast W.Witness witness.old witness.new (W.heard witness.new)) × IfErr result (λ _. Stays W.Witness witness.old witness.new) }
-        ensures same { W.loads witness.new ≡ W.loads witness.old }
+        ensures founded { IfOk result (λ _. Founds P.QSBR tabled directory (W.seen caller.old) (W.heard caller.old) first buckets (W.heard caller.new)) }
+        ensures free { IfOk result (λ _. FindsFree W.Caller P.QSBR tabled caller.old caller.new (λ c. (c ≡ directory) ⊎ IsAmong first buckets c)) }
+        ensures map { IfOk result (λ _. (key : ℕ) → (directed_map B.sizes.chains directory (W.heard caller.new) key ≡ None) × LeadsTo directory (W.heard caller.new) key (bucket_of first buckets key)) }
+        ensures heard { IfOk result (λ _. IsAfter P.QSBR tabled (W.seen caller.old) (W.heard caller.old) (W.heard caller.new)) }
+        ensures later { Begins (W.heard caller.old) (W.heard caller.new) }
+        ensures refused { IfErr result (λ e. ((e ≡ BadConfig) × ((fits B.sizes.chains directory first buckets ≡ false) ⊎ FindsTaken W.Caller P.QSBR tabled caller.old caller.new B.sizes (λ c. (c ≡ directory) ⊎ IsAmong first buckets c))) ⊎ ((fits B.sizes.chains directory first buckets ≡ true) × ((e ≡ Memory) ⊎ (e ≡ PoolFull)))) }
+        ensures looks { (found : List (ℕ × ℕ)) × (W.looks caller.new ≡ found ++ W.looks caller.old) × IfErr result (λ e. (e ≡ PoolFull) → IsUsedUp B.sizes found ⊎ AreTaken B.sizes found) }
+        ensures changes { IfOk result (λ _. MakesLast W.Caller caller.old caller.new (W.heard caller.new)) × IfErr result (λ _. Stays W.Caller caller.old caller.new) }
+        ensures same { W.loads caller.new ≡ W.loads caller.old }
     {
         if !fits(domain.chains(), directory, first, buckets) {
             return Err(Refusal::BadConfig);
@@ -101,18 +100,18 @@ impl<'d, P: GracePlan + Drop, B: Site, D: Deleter> RcuHash<'d, P, B, D> {
         let noted = room(alloc, buckets)?;
         let back = room(alloc, buckets)?;
         let places = room(alloc, buckets)?;
-        let own = hold_empty(domain, witness, directory)?;
-        let chains = hold_all(domain, witness, chains, first, buckets)?;
+        let own = hold_empty(domain, caller, directory)?;
+        let chains = hold_all(domain, caller, chains, first, buckets)?;
         let lents = room(alloc, buckets)?;
-        let owned = match domain.alloc(rt, witness, [first as u64, buckets as u64, 0, 1]) {
+        let owned = match domain.alloc(rt, caller, [first as u64, buckets as u64, 0, 1]) {
             Ok(owned) => owned,
             Err(refusal) => {
                 lents.destroy_empty();
                 return Err(refusal);
             }
         };
-        let chains = note_all(chains, noted, witness, directory as u64 + 1);
-        let (writer, chains) = direct(own, chains, lents, back, witness, owned, first);
+        let chains = note_all(chains, noted, caller, directory as u64 + 1);
+        let (writer, chains) = direct(own, chains, lents, back, caller, owned, first);
         let naming = writer.naming;
         let buckets = shelve(chains, places, naming);
         Ok(RcuHash {
@@ -151,7 +150,7 @@ impl<'d, P: GracePlan + Drop, B: Site, D: Deleter> RcuHash<'d, P, B, D> {
     /// The value of a key, or none; liburcu's `cds_lfht_lookup`: as `TableView::get`. It never waits and takes no
     /// memory.
     pub fn get(&self, section: &mut Section<'_, P, Tabled, B>, key: u64) -> Option<u64>
-        requires { (P.QSBR ≡ B.qsbr) × (0 < section.old.reader.now.core.depth) }
+        requires { 0 < section.old.reader.now.core.depth }
         ensures reader { section.new.reader.ghost_name ≡ section.old.reader.ghost_name }
         ensures looked { Looks P.QSBR tabled section.old.reader.now.core section.new.reader.now.core }
         ensures window { AnswersThrough (log_of section.old.reader.now.core) section.old.reader.now.core.seat.me.0.heard (log_of section.new.reader.now.core) B.sizes.chains self.now.directory key result }
@@ -165,22 +164,21 @@ impl<'d, P: GracePlan + Drop, B: Site, D: Deleter> RcuHash<'d, P, B, D> {
     /// Refused with `Exists` only where the key had a value in some log of the call, else with `PoolFull` where its
     /// bucket's ranks are used up, or as `alloc`; then it made no change. It takes no memory, and waits for the locks
     /// of the table alone, but tries again where other threads draw object numbers meanwhile.
-    pub fn insert<W: Witness, R: Wait>(
+    pub fn insert<W: Caller<B>, R: Wait>(
         &self,
         rt: &R,
-        witness: &mut W,
+        caller: &mut W,
         key: u64,
         value: u64,
     ) -> Result<(), Refusal>
-        requires { W.home witness.old ≡ (B.table, B.sizes) }
-        ensures inserted { IfOk result (λ _. (chain : ℕ) × InsertsThrough P.QSBR tabled B.sizes.chains self.now.directory (W.seen witness.old) (W.heard witness.old) key value chain (W.heard witness.new)) }
-        ensures changes { IfOk result (λ _. MakesLast W.Witness witness.old witness.new (W.heard witness.new)) }
-        ensures same { IfOk result (λ _. (W.loads witness.new ≡ W.loads witness.old) × ((found : List (ℕ × ℕ)) × (W.looks witness.new ≡ found ++ W.looks witness.old))) }
-        ensures refused { IfErr result (λ e. RefusesInsertionThrough W.Witness P.QSBR tabled B.sizes witness.old witness.new e self.now.directory key) }
+        ensures inserted { IfOk result (λ _. (chain : ℕ) × InsertsThrough P.QSBR tabled B.sizes.chains self.now.directory (W.seen caller.old) (W.heard caller.old) key value chain (W.heard caller.new)) }
+        ensures changes { IfOk result (λ _. MakesLast W.Caller caller.old caller.new (W.heard caller.new)) }
+        ensures same { IfOk result (λ _. (W.loads caller.new ≡ W.loads caller.old) × ((found : List (ℕ × ℕ)) × (W.looks caller.new ≡ found ++ W.looks caller.old))) }
+        ensures refused { IfErr result (λ e. RefusesInsertionThrough W.Caller P.QSBR tabled B.sizes caller.old caller.new e self.now.directory key) }
     {
         let shelf = self.shelf(rt);
         let (mut place, mut bucket) = shelf.take(rt, shelf.bucket(key));
-        let answer = bucket.insert(rt, &self.desk, witness, key, value);
+        let answer = bucket.insert(rt, &self.desk, caller, key, value);
         *place = Some(bucket);
         answer
     }
@@ -192,22 +190,21 @@ impl<'d, P: GracePlan + Drop, B: Site, D: Deleter> RcuHash<'d, P, B, D> {
     /// Refused with `Missing` only where the key had no value in some log of the call, else as `alloc`, else as
     /// `retire`; then it made no change, the callback comes back, and the new record is back in the pool. It waits for
     /// the locks of the table and of the queue, and tries again where other threads draw object numbers meanwhile.
-    pub fn replace<W: Witness, R: Wait>(
+    pub fn replace<W: Caller<B>, R: Wait>(
         &self,
         rt: &R,
-        witness: &mut W,
+        caller: &mut W,
         key: u64,
         value: u64,
         callback: D,
     ) -> Result<Ticket, (Refusal, D)>
-        requires { W.home witness.old ≡ (B.table, B.sizes) }
-        ensures replaced { IfOk result (λ t. (chain : ℕ) × (left : ObjectId) × (published : Log) × ReplacesThrough P.QSBR tabled B.sizes.chains self.now.directory (W.seen witness.old) (W.heard witness.old) key value chain left published × HandsOver P.QSBR tabled left (chain % B.sizes.queues) t.0 published (W.heard witness.new) × MakesLast W.Witness witness.old witness.new published) }
-        ensures same { IfOk result (λ _. (W.loads witness.new ≡ W.loads witness.old) × ((found : List (ℕ × ℕ)) × (W.looks witness.new ≡ found ++ W.looks witness.old))) }
-        ensures refused { IfErr result (λ e. (e.1 ≡ callback) × RefusesReplacementThrough W.Witness P.QSBR tabled B.sizes witness.old witness.new e.0 self.now.directory key) }
+        ensures replaced { IfOk result (λ t. (chain : ℕ) × (left : ObjectId) × (published : Log) × ReplacesThrough P.QSBR tabled B.sizes.chains self.now.directory (W.seen caller.old) (W.heard caller.old) key value chain left published × HandsOver P.QSBR tabled left (chain % B.sizes.queues) t.0 published (W.heard caller.new) × MakesLast W.Caller caller.old caller.new published) }
+        ensures same { IfOk result (λ _. (W.loads caller.new ≡ W.loads caller.old) × ((found : List (ℕ × ℕ)) × (W.looks caller.new ≡ found ++ W.looks caller.old))) }
+        ensures refused { IfErr result (λ e. (e.1 ≡ callback) × RefusesReplacementThrough W.Caller P.QSBR tabled B.sizes caller.old caller.new e.0 self.now.directory key) }
     {
         let shelf = self.shelf(rt);
         let (mut place, mut bucket) = shelf.take(rt, shelf.bucket(key));
-        let answer = bucket.replace(rt, &self.desk, witness, key, value, callback);
+        let answer = bucket.replace(rt, &self.desk, caller, key, value, callback);
         *place = Some(bucket);
         answer
     }
@@ -218,21 +215,20 @@ impl<'d, P: GracePlan + Drop, B: Site, D: Deleter> RcuHash<'d, P, B, D> {
     ///
     /// Refused with `Missing` only where the key had no value in some log of the call, else as `retire`; then it made
     /// no change, and the callback comes back. It waits for the locks of the table and of the queue alone.
-    pub fn remove<W: Witness, R: Wait>(
+    pub fn remove<W: Caller<B>, R: Wait>(
         &self,
         rt: &R,
-        witness: &mut W,
+        caller: &mut W,
         key: u64,
         callback: D,
     ) -> Result<Ticket, (Refusal, D)>
-        requires { W.home witness.old ≡ (B.table, B.sizes) }
-        ensures removed { IfOk result (λ t. (chain : ℕ) × (left : ObjectId) × (published : Log) × RemovesThrough P.QSBR tabled B.sizes.chains self.now.directory (W.seen witness.old) (W.heard witness.old) key chain left published × HandsOver P.QSBR tabled left (chain % B.sizes.queues) t.0 published (W.heard witness.new) × MakesLast W.Witness witness.old witness.new published) }
-        ensures same { IfOk result (λ _. (W.looks witness.new ≡ W.looks witness.old) × (W.loads witness.new ≡ W.loads witness.old)) }
-        ensures refused { IfErr result (λ e. (e.1 ≡ callback) × RefusesRemovalThrough W.Witness P.QSBR tabled B.sizes witness.old witness.new e.0 self.now.directory key) }
+        ensures removed { IfOk result (λ t. (chain : ℕ) × (left : ObjectId) × (published : Log) × RemovesThrough P.QSBR tabled B.sizes.chains self.now.directory (W.seen caller.old) (W.heard caller.old) key chain left published × HandsOver P.QSBR tabled left (chain % B.sizes.queues) t.0 published (W.heard caller.new) × MakesLast W.Caller caller.old caller.new published) }
+        ensures same { IfOk result (λ _. (W.looks caller.new ≡ W.looks caller.old) × (W.loads caller.new ≡ W.loads caller.old)) }
+        ensures refused { IfErr result (λ e. (e.1 ≡ callback) × RefusesRemovalThrough W.Caller P.QSBR tabled B.sizes caller.old caller.new e.0 self.now.directory key) }
     {
         let shelf = self.shelf(rt);
         let (mut place, mut bucket) = shelf.take(rt, shelf.bucket(key));
-        let answer = bucket.remove(rt, &self.desk, witness, key, callback);
+        let answer = bucket.remove(rt, &self.desk, caller, key, callback);
         *place = Some(bucket);
         answer
     }
@@ -244,7 +240,7 @@ impl<'d, P: GracePlan + Drop, B: Site, D: Deleter> RcuHash<'d, P, B, D> {
         section: &mut Section<'_, P, Tabled, B>,
         visit: &mut F,
     )
-        requires open_section { (P.QSBR ≡ B.qsbr) × (0 < section.old.reader.now.core.depth) }
+        requires open_section { 0 < section.old.reader.now.core.depth }
         requires callable { F.IsAlwaysCallable visit.old }
         ensures reader { section.new.reader.ghost_name ≡ section.old.reader.ghost_name }
         ensures looked { Looks P.QSBR tabled section.old.reader.now.core section.new.reader.now.core }

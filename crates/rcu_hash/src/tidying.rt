@@ -16,7 +16,7 @@ use crate::left::Left;
 use crate::table::RcuHash;
 use gp_memb::GracePlan;
 use live_log::Tabled;
-use rcu_list::{Callback, Chain, Deleter, Domain, Site, Ticket, Unlinked, Witness};
+use rcu_list::{Callback, Caller, Chain, Deleter, Domain, Site, Ticket, Unlinked};
 use rcu_model::Refusal;
 use std::sync::{MutexGuard, Wait};
 
@@ -64,36 +64,34 @@ impl<'d, P: GracePlan + Drop, B: Site, D: Deleter> Desk<'d, P, B, D> {
     /// table meanwhile.
     ///
     /// Refused with `Exhausted` where no more of them can be counted.
-    fn settle<W: Witness, R: Wait>(
+    fn settle<W: Caller<B>, R: Wait>(
         &self,
         rt: &R,
         domain: &Domain<P, Tabled, B, D>,
         directory: usize,
-        witness: &mut W,
+        caller: &mut W,
     ) -> Result<Naming, Refusal>
-        requires { W.home witness.old ≡ (B.table, B.sizes) }
-        ensures waited { IfOk result (λ n. (n.directory ≡ directory) × HasWaited directory n.object (W.heard witness.new)) }
-        ensures ended { IfOk result (λ _. Synchronized P.QSBR tabled (W.seen witness.old) (W.heard witness.old) (W.loads witness.old) (W.loads witness.new) (W.heard witness.new)) }
-        ensures refused { IfErr result (λ e. IsExhausted W.Witness P.QSBR tabled witness.old witness.new e) }
-        ensures heard { Begins (W.heard witness.old) (W.heard witness.new) }
-        ensures same { FindsNothing W.Witness witness.old witness.new }
+        ensures waited { IfOk result (λ n. (n.directory ≡ directory) × HasWaited directory n.object (W.heard caller.new)) }
+        ensures ended { IfOk result (λ _. Synchronized P.QSBR tabled (W.seen caller.old) (W.heard caller.old) (W.loads caller.old) (W.loads caller.new) (W.heard caller.new)) }
+        ensures refused { IfErr result (λ e. IsExhausted W.Caller P.QSBR tabled caller.old caller.new e) }
+        ensures heard { Begins (W.heard caller.old) (W.heard caller.new) }
+        ensures same { FindsNothing W.Caller caller.old caller.new }
     {
-        let naming = self.hear(rt, directory, witness);
-        match domain.synchronize(rt, witness) {
+        let naming = self.hear(rt, directory, caller);
+        match domain.synchronize(rt, caller) {
             Ok(()) => Ok(naming),
             Err(refusal) => Err(refusal),
         }
     }
 
     /// The caller hears of a log in which a directory is linked: which one. It waits for the directory's lock.
-    fn hear<W: Witness, R: Wait>(&self, rt: &R, directory: usize, witness: &mut W) -> Naming
-        requires { W.home witness.old ≡ (B.table, B.sizes) }
-        ensures linked { (result.directory ≡ directory) × IsLinked directory result.object (W.heard witness.new) }
-        ensures heard { IsAfter P.QSBR tabled (W.seen witness.old) (W.heard witness.old) (W.heard witness.new) }
-        ensures same { OnlyHears W.Witness witness.old witness.new }
+    fn hear<W: Caller<B>, R: Wait>(&self, rt: &R, directory: usize, caller: &mut W) -> Naming
+        ensures linked { (result.directory ≡ directory) × IsLinked directory result.object (W.heard caller.new) }
+        ensures heard { IsAfter P.QSBR tabled (W.seen caller.old) (W.heard caller.old) (W.heard caller.new) }
+        ensures same { OnlyHears W.Caller caller.old caller.new }
     {
         let (mut place, mut present) = self.take_present(rt, directory);
-        present.hear(witness);
+        present.hear(caller);
         let naming = present.naming;
         *place = Some(present);
         naming
@@ -103,29 +101,28 @@ impl<'d, P: GracePlan + Drop, B: Site, D: Deleter> Desk<'d, P, B, D> {
     /// directory and of the queue.
     ///
     /// Refused as `retire`; then the callback comes back.
-    fn retire_first<W: Witness, R: Wait>(
+    fn retire_first<W: Caller<B>, R: Wait>(
         &self,
         rt: &R,
         naming: Naming,
-        witness: &mut W,
+        caller: &mut W,
         chain: &mut Chain<'_, P, Tabled, B, D>,
         job: D,
     ) -> Result<Ticket, (Refusal, D)>
-        requires home { W.home witness.old ≡ (B.table, B.sizes) }
-        requires waited { HasWaited naming.directory naming.object (W.heard witness.old) }
+        requires waited { HasWaited naming.directory naming.object (W.heard caller.old) }
         requires chain { IsLeft naming.directory naming.first naming.buckets chain.old.seat.me.0 }
         requires some { 0 < length (list_in chain.old.seat.me.0) }
-        ensures retired { IfOk result (λ _. RetiresObject P.QSBR tabled B.sizes naming.directory (W.seen witness.old) (W.heard witness.old) (W.heard witness.new) × (length (list_in chain.old.seat.me.0) ≡ length (list_in chain.new.seat.me.0) + 1)) }
-        ensures refused { IfErr result (λ e. (e.1 ≡ job) × IsRefused W.Witness witness.old witness.new e.0 × (list_in chain.new.seat.me.0 ≡ list_in chain.old.seat.me.0)) }
+        ensures retired { IfOk result (λ _. RetiresObject P.QSBR tabled B.sizes naming.directory (W.seen caller.old) (W.heard caller.old) (W.heard caller.new) × (length (list_in chain.old.seat.me.0) ≡ length (list_in chain.new.seat.me.0) + 1)) }
+        ensures refused { IfErr result (λ e. (e.1 ≡ job) × IsRefused W.Caller caller.old caller.new e.0 × (list_in chain.new.seat.me.0 ≡ list_in chain.old.seat.me.0)) }
         ensures chain { IsLeft naming.directory naming.first naming.buckets chain.new.seat.me.0 }
-        ensures heard { Begins (W.heard witness.old) (W.heard witness.new) }
-        ensures changes { IfOk result (λ _. MakesMany W.Witness witness.old witness.new 1) × IfErr result (λ _. Stays W.Witness witness.old witness.new) }
-        ensures same { FindsMore W.Witness witness.old witness.new }
+        ensures heard { Begins (W.heard caller.old) (W.heard caller.new) }
+        ensures changes { IfOk result (λ _. MakesMany W.Caller caller.old caller.new 1) × IfErr result (λ _. Stays W.Caller caller.old caller.new) }
+        ensures same { FindsMore W.Caller caller.old caller.new }
     {
         let domain = chain.domain();
         let (mut place, directory) = self.take(rt, naming);
         let lent = directory.lend(chain);
-        let answer = domain.cut_retire(rt, witness, chain, 0, job);
+        let answer = domain.cut_retire(rt, caller, chain, 0, job);
         *place = Some(lent.take_back(chain));
         answer
     }
@@ -133,30 +130,29 @@ impl<'d, P: GracePlan + Drop, B: Site, D: Deleter> Desk<'d, P, B, D> {
     /// Retires all objects of a chain that an earlier directory named, as long as there are callbacks.
     ///
     /// Refused where those run out, else as `retire`.
-    fn retire_all<W: Witness, R: Wait>(
+    fn retire_all<W: Caller<B>, R: Wait>(
         &self,
         rt: &R,
         naming: Naming,
-        witness: &mut W,
+        caller: &mut W,
         chain: &mut Chain<'_, P, Tabled, B, D>,
         jobs: &mut Vec<D>,
     ) -> Result<(), Refusal>
-        requires home { W.home witness.old ≡ (B.table, B.sizes) }
-        requires waited { HasWaited naming.directory naming.object (W.heard witness.old) }
+        requires waited { HasWaited naming.directory naming.object (W.heard caller.old) }
         requires chain { IsLeft naming.directory naming.first naming.buckets chain.old.seat.me.0 }
-        ensures uses { Uses P.QSBR tabled B.sizes naming.directory (W.seen witness.old) W.Witness witness.old witness.new jobs.old.items jobs.new.items (W.heard witness.old) (W.heard witness.new) }
+        ensures uses { Uses P.QSBR tabled B.sizes naming.directory (W.seen caller.old) W.Caller caller.old caller.new jobs.old.items jobs.new.items (W.heard caller.old) (W.heard caller.new) }
         ensures emptied { IfOk result (λ _. HasNothing chain.new.seat.me.0) }
-        ensures stopped { IfErr result (λ e. (0 < length (list_in chain.new.seat.me.0)) × IsStopped W.Witness witness.old witness.new jobs.new.items e) }
+        ensures stopped { IfErr result (λ e. (0 < length (list_in chain.new.seat.me.0)) × IsStopped W.Caller caller.old caller.new jobs.new.items e) }
         ensures chain { IsLeft naming.directory naming.first naming.buckets chain.new.seat.me.0 }
-        ensures waited { HasWaited naming.directory naming.object (W.heard witness.new) }
-        ensures same { FindsMore W.Witness witness.old witness.new }
+        ensures waited { HasWaited naming.directory naming.object (W.heard caller.new) }
+        ensures same { FindsMore W.Caller caller.old caller.new }
     {
         let many = chain.len();
         for _ in 0..many {
             let Some(job) = jobs.pop() else {
                 return Err(Refusal::FewJobs);
             };
-            if let Err((refusal, job)) = self.retire_first(rt, naming, witness, chain, job) {
+            if let Err((refusal, job)) = self.retire_first(rt, naming, caller, chain, job) {
                 jobs.push_reserved(job);
                 return Err(refusal);
             }
@@ -165,57 +161,55 @@ impl<'d, P: GracePlan + Drop, B: Site, D: Deleter> Desk<'d, P, B, D> {
     }
 
     /// Gives back an empty chain that an earlier directory named, without its note. It waits for the directory's lock.
-    fn give_back<W: Witness, R: Wait>(
+    fn give_back<W: Caller<B>, R: Wait>(
         &self,
         rt: &R,
         naming: Naming,
-        witness: &mut W,
+        caller: &mut W,
         chain: Chain<'_, P, Tabled, B, D>,
     )
-        requires home { W.home witness.old ≡ (B.table, B.sizes) }
-        requires waited { HasWaited naming.directory naming.object (W.heard witness.old) }
+        requires waited { HasWaited naming.directory naming.object (W.heard caller.old) }
         requires chain { IsLeft naming.directory naming.first naming.buckets chain.seat.me.0 }
         requires nothing { HasNothing chain.seat.me.0 }
-        ensures cleared { ClearsNote P.QSBR tabled B.sizes naming.directory (W.seen witness.old) (W.heard witness.old) (W.heard witness.new) }
-        ensures same { OnlyHears W.Witness witness.old witness.new }
+        ensures cleared { ClearsNote P.QSBR tabled B.sizes naming.directory (W.seen caller.old) (W.heard caller.old) (W.heard caller.new) }
+        ensures same { OnlyHears W.Caller caller.old caller.new }
     {
         let mut chain = chain;
         let (mut place, directory) = self.take(rt, naming);
         let lent = directory.lend(&mut chain);
-        chain.set_note(witness, 0);
+        chain.set_note(caller, 0);
         *place = Some(lent.take_back(&mut chain));
     }
 
     /// Retires all objects of these chains and gives them back, from the last one, as long as there are callbacks.
     ///
     /// Refused where those run out, else as `retire`; then the chains that are left have objects.
-    fn clear_all<W: Witness, R: Wait>(
+    fn clear_all<W: Caller<B>, R: Wait>(
         &self,
         rt: &R,
         naming: Naming,
-        witness: &mut W,
+        caller: &mut W,
         chains: &mut Vec<Chain<'d, P, Tabled, B, D>>,
         jobs: &mut Vec<D>,
     ) -> Result<(), Refusal>
-        requires home { W.home witness.old ≡ (B.table, B.sizes) }
-        requires waited { HasWaited naming.directory naming.object (W.heard witness.old) }
+        requires waited { HasWaited naming.directory naming.object (W.heard caller.old) }
         requires chains { Each (IsLeft naming.directory naming.first naming.buckets) (map (λ c. c.seat.me.0) chains.old.items) }
-        ensures uses { Uses P.QSBR tabled B.sizes naming.directory (W.seen witness.old) W.Witness witness.old witness.new jobs.old.items jobs.new.items (W.heard witness.old) (W.heard witness.new) }
+        ensures uses { Uses P.QSBR tabled B.sizes naming.directory (W.seen caller.old) W.Caller caller.old caller.new jobs.old.items jobs.new.items (W.heard caller.old) (W.heard caller.new) }
         ensures chains { Each (IsLeft naming.directory naming.first naming.buckets) (map (λ c. c.seat.me.0) chains.new.items) }
         ensures emptied { IfOk result (λ _. chains.new.items ≡ []) }
-        ensures stopped { IfErr result (λ e. (0 < objects_in (map (λ c. c.seat.me.0) chains.new.items)) × IsStopped W.Witness witness.old witness.new jobs.new.items e) }
-        ensures same { FindsMore W.Witness witness.old witness.new }
+        ensures stopped { IfErr result (λ e. (0 < objects_in (map (λ c. c.seat.me.0) chains.new.items)) × IsStopped W.Caller caller.old caller.new jobs.new.items e) }
+        ensures same { FindsMore W.Caller caller.old caller.new }
     {
         let many = chains.len();
         for _ in 0..many {
             let Some(mut chain) = chains.pop() else {
                 unreachable!()
             };
-            if let Err(refusal) = self.retire_all(rt, naming, witness, &mut chain, jobs) {
+            if let Err(refusal) = self.retire_all(rt, naming, caller, &mut chain, jobs) {
                 chains.push_reserved(chain);
                 return Err(refusal);
             }
-            self.give_back(rt, naming, witness, chain);
+            self.give_back(rt, naming, caller, chain);
         }
         Ok(())
     }
@@ -224,21 +218,20 @@ impl<'d, P: GracePlan + Drop, B: Site, D: Deleter> Desk<'d, P, B, D> {
 /// Retires the record of an earlier directory, where it is not retired.
 ///
 /// Refused where there is no callback for it, else as `retire`; then it is where it was.
-fn retire_record<P: GracePlan + Drop, B: Site, D: Deleter, W: Witness, R: Wait>(
+fn retire_record<P: GracePlan + Drop, B: Site, D: Deleter, W: Caller<B>, R: Wait>(
     rt: &R,
     domain: &Domain<P, Tabled, B, D>,
-    witness: &mut W,
+    caller: &mut W,
     replaced: &mut Option<Unlinked<B>>,
     jobs: &mut Vec<D>,
 ) -> Result<(), Refusal>
-    requires home { W.home witness.old ≡ (B.table, B.sizes) }
-    ensures uses { (d : ℕ) → IfSome replaced.old (λ u. IsRecord d u.chain u.seat.me.0) → Uses P.QSBR tabled B.sizes d (W.seen witness.old) W.Witness witness.old witness.new jobs.old.items jobs.new.items (W.heard witness.old) (W.heard witness.new) }
+    ensures uses { (d : ℕ) → IfSome replaced.old (λ u. IsRecord d u.chain u.seat.me.0) → Uses P.QSBR tabled B.sizes d (W.seen caller.old) W.Caller caller.old caller.new jobs.old.items jobs.new.items (W.heard caller.old) (W.heard caller.new) }
     ensures retired { IfOk result (λ _. replaced.new ≡ None) }
     ensures kept { (replaced.new ≡ None) ⊎ (replaced.new ≡ replaced.old) }
-    ensures stopped { IfErr result (λ e. IsSome replaced.new × IsStopped W.Witness witness.old witness.new jobs.new.items e) }
-    ensures heard { Begins (W.heard witness.old) (W.heard witness.new) }
-    ensures changes { Stays W.Witness witness.old witness.new }
-    ensures same { FindsMore W.Witness witness.old witness.new }
+    ensures stopped { IfErr result (λ e. IsSome replaced.new × IsStopped W.Caller caller.old caller.new jobs.new.items e) }
+    ensures heard { Begins (W.heard caller.old) (W.heard caller.new) }
+    ensures changes { Stays W.Caller caller.old caller.new }
+    ensures same { FindsMore W.Caller caller.old caller.new }
 {
     let Some(unlinked) = replaced.take() else {
         return Ok(());
@@ -247,7 +240,7 @@ fn retire_record<P: GracePlan + Drop, B: Site, D: Deleter, W: Witness, R: Wait>(
         *replaced = Some(unlinked);
         return Err(Refusal::FewJobs);
     };
-    match domain.retire(rt, witness, unlinked, job) {
+    match domain.retire(rt, caller, unlinked, job) {
         Ok(_) => Ok(()),
         Err((refusal, unlinked, job)) => {
             *replaced = Some(unlinked);
@@ -300,45 +293,43 @@ impl<'d, P: GracePlan + Drop, B: Site, D: Deleter> RcuHash<'d, P, B, D> {
     /// Retires these after the grace period that was waited for: first the record, then the objects of the chains.
     ///
     /// Refused where callbacks run out, else as `retire`.
-    fn retire_left<W: Witness, R: Wait>(
+    fn retire_left<W: Caller<B>, R: Wait>(
         &self,
         rt: &R,
-        witness: &mut W,
+        caller: &mut W,
         naming: Naming,
         replaced: &mut Option<Unlinked<B>>,
         chains: &mut Vec<Chain<'d, P, Tabled, B, D>>,
         jobs: &mut Vec<D>,
     ) -> Result<(), Refusal>
-        requires home { W.home witness.old ≡ (B.table, B.sizes) }
-        requires waited { HasWaited naming.directory naming.object (W.heard witness.old) }
+        requires waited { HasWaited naming.directory naming.object (W.heard caller.old) }
         requires record { IfSome replaced.old (λ u. IsRecord naming.directory u.chain u.seat.me.0) }
         requires chains { (0 < vec_len chains.old) × Each (IsLeft naming.directory naming.first naming.buckets) (map (λ c. c.seat.me.0) chains.old.items) }
         ensures kept { (replaced.new ≡ None) ⊎ (replaced.new ≡ replaced.old) }
         ensures chains { IfErr result (λ _. 0 < vec_len chains.new) × Each (IsLeft naming.directory naming.first naming.buckets) (map (λ c. c.seat.me.0) chains.new.items) }
-        ensures uses { Uses P.QSBR tabled B.sizes naming.directory (W.seen witness.old) W.Witness witness.old witness.new jobs.old.items jobs.new.items (W.heard witness.old) (W.heard witness.new) }
-        ensures stopped { IfErr result (λ e. (IsSome replaced.new ⊎ (0 < objects_in (map (λ c. c.seat.me.0) chains.new.items))) × IsStopped W.Witness witness.old witness.new jobs.new.items e) }
-        ensures same { FindsMore W.Witness witness.old witness.new }
+        ensures uses { Uses P.QSBR tabled B.sizes naming.directory (W.seen caller.old) W.Caller caller.old caller.new jobs.old.items jobs.new.items (W.heard caller.old) (W.heard caller.new) }
+        ensures stopped { IfErr result (λ e. (IsSome replaced.new ⊎ (0 < objects_in (map (λ c. c.seat.me.0) chains.new.items))) × IsStopped W.Caller caller.old caller.new jobs.new.items e) }
+        ensures same { FindsMore W.Caller caller.old caller.new }
     {
-        retire_record(rt, self.domain, witness, replaced, jobs)?;
-        self.desk.clear_all(rt, naming, witness, chains, jobs)
+        retire_record(rt, self.domain, caller, replaced, jobs)?;
+        self.desk.clear_all(rt, naming, caller, chains, jobs)
     }
 
     /// Retires what the directories before this one left, after the grace period that was waited for while it was
     /// linked. Where there is nothing of it left another thread has tidied since.
-    fn retire_behind<W: Witness, R: Wait>(
+    fn retire_behind<W: Caller<B>, R: Wait>(
         &self,
         rt: &R,
-        witness: &mut W,
+        caller: &mut W,
         naming: Naming,
         jobs: Vec<D>,
     ) -> TidyEnd<D>
-        requires home { W.home witness.old ≡ (B.table, B.sizes) }
-        requires waited { HasWaited naming.directory naming.object (W.heard witness.old) }
+        requires waited { HasWaited naming.directory naming.object (W.heard caller.old) }
         ensures jobs { (used : List D) × (jobs.items ≡ result.jobs.items ++ used) × (length used ≡ result.retired) }
-        ensures uses { Uses P.QSBR tabled B.sizes naming.directory (W.seen witness.old) W.Witness witness.old witness.new jobs.items result.jobs.items (W.heard witness.old) (W.heard witness.new) }
+        ensures uses { Uses P.QSBR tabled B.sizes naming.directory (W.seen caller.old) W.Caller caller.old caller.new jobs.items result.jobs.items (W.heard caller.old) (W.heard caller.new) }
         ensures done { IfNone result.stop (result.left ≡ 0) }
-        ensures stopped { IfSome result.stop (λ e. (0 < result.left) × IsStopped W.Witness witness.old witness.new result.jobs.items e) }
-        ensures same { FindsMore W.Witness witness.old witness.new }
+        ensures stopped { IfSome result.stop (λ e. (0 < result.left) × IsStopped W.Caller caller.old caller.new result.jobs.items e) }
+        ensures same { FindsMore W.Caller caller.old caller.new }
     {
         let (mut place, left) = self.take_left(rt);
         let mut jobs = jobs;
@@ -356,7 +347,7 @@ impl<'d, P: GracePlan + Drop, B: Site, D: Deleter> RcuHash<'d, P, B, D> {
             unlinked: mut replaced,
             mut chains,
         } = left;
-        let answer = self.retire_left(rt, witness, naming, &mut replaced, &mut chains, &mut jobs);
+        let answer = self.retire_left(rt, caller, naming, &mut replaced, &mut chains, &mut jobs);
         let retired = many - jobs.len();
         let Err(refusal) = answer else {
             return TidyEnd::done(retired, jobs);
@@ -394,20 +385,19 @@ impl<'d, P: GracePlan + Drop, B: Site, D: Deleter> RcuHash<'d, P, B, D> {
     /// It stops with `FewJobs` where callbacks run out while objects are left, with `Exhausted` where the grace period
     /// is refused, and with `Closed` or `Memory` as `retire`. While it waits for the grace period it holds no lock:
     /// writers and readers go on, and a growth is refused with `Busy`.
-    pub fn tidy<W: Witness, R: Wait>(&self, rt: &R, witness: &mut W, jobs: Vec<D>) -> TidyEnd<D>
-        requires home { W.home witness.old ≡ (B.table, B.sizes) }
+    pub fn tidy<W: Caller<B>, R: Wait>(&self, rt: &R, caller: &mut W, jobs: Vec<D>) -> TidyEnd<D>
         ensures jobs { (used : List D) × (jobs.items ≡ result.jobs.items ++ used) × (length used ≡ result.retired) }
-        ensures tidied { Tidies W.Witness P.QSBR tabled witness.old witness.new B.sizes self.now.directory jobs.items result.jobs.items ⊎ ((result.jobs.items ≡ jobs.items) × Stays W.Witness witness.old witness.new × ((witness.new ≡ witness.old) ⊎ IsExhausted W.Witness P.QSBR tabled witness.old witness.new Exhausted)) }
+        ensures tidied { Tidies W.Caller P.QSBR tabled caller.old caller.new B.sizes self.now.directory jobs.items result.jobs.items ⊎ ((result.jobs.items ≡ jobs.items) × Stays W.Caller caller.old caller.new × ((caller.new ≡ caller.old) ⊎ IsExhausted W.Caller P.QSBR tabled caller.old caller.new Exhausted)) }
         ensures done { IfNone result.stop (result.left ≡ 0) }
-        ensures stopped { IfSome result.stop (λ e. (0 < result.left) × (((e ≡ Exhausted) × (result.retired ≡ 0) × (2 ^ 62 ≤ seq_of (W.heard witness.new))) ⊎ IsStopped W.Witness witness.old witness.new result.jobs.items e)) }
-        ensures heard { Begins (W.heard witness.old) (W.heard witness.new) }
-        ensures same { (found : List (ℕ × ℕ)) × (W.looks witness.new ≡ found ++ W.looks witness.old) }
+        ensures stopped { IfSome result.stop (λ e. (0 < result.left) × (((e ≡ Exhausted) × (result.retired ≡ 0) × (2 ^ 62 ≤ seq_of (W.heard caller.new))) ⊎ IsStopped W.Caller caller.old caller.new result.jobs.items e)) }
+        ensures heard { Begins (W.heard caller.old) (W.heard caller.new) }
+        ensures same { (found : List (ℕ × ℕ)) × (W.looks caller.new ≡ found ++ W.looks caller.old) }
     {
         if self.left.lock(rt).is_none() {
             return TidyEnd::done(0, jobs);
         }
-        match self.desk.settle(rt, self.domain, self.directory, witness) {
-            Ok(naming) => self.retire_behind(rt, witness, naming, jobs),
+        match self.desk.settle(rt, self.domain, self.directory, caller) {
+            Ok(naming) => self.retire_behind(rt, caller, naming, jobs),
             Err(refusal) => self.keep_left(rt, jobs, refusal),
         }
     }

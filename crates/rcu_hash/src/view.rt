@@ -93,7 +93,7 @@ impl<B: Site> TableView<B> {
 
     // Three words of an object: a directory's kind, the first chain that it names, and how many.
     fn words<P: GracePlan>(section: &mut Section<'_, P, Tabled, B>, held: Held) -> (u64, u64, u64)
-        requires open_section { (P.QSBR ≡ B.qsbr) × (0 < section.old.reader.now.core.depth) }
+        requires open_section { 0 < section.old.reader.now.core.depth }
         requires held { MayHoldIn section.old.reader.now.core held.cell }
         ensures reader { section.new.reader.ghost_name ≡ section.old.reader.ghost_name }
         ensures looked { Looks P.QSBR tabled section.old.reader.now.core section.new.reader.now.core }
@@ -112,7 +112,7 @@ impl<B: Site> TableView<B> {
         held: Held,
         key: u64,
     ) -> Option<u64>
-        requires open_section { (P.QSBR ≡ B.qsbr) × (0 < section.old.reader.now.core.depth) }
+        requires open_section { 0 < section.old.reader.now.core.depth }
         requires inside { IsIn section.old.reader.now.core }
         requires first { (o : ObjectId) × FindsFirst section.old.reader.now.core self.directory (Some o) × MayHold section.old.reader.now.core o held.cell }
         ensures reader { section.new.reader.ghost_name ≡ section.old.reader.ghost_name }
@@ -135,7 +135,7 @@ impl<B: Site> TableView<B> {
     /// It reads the directory and the key's bucket alone, and returns, since ranks fall along the bucket's chain. It
     /// never waits and takes no memory.
     pub fn get<P: GracePlan>(self, section: &mut Section<'_, P, Tabled, B>, key: u64) -> Option<u64>
-        requires { (P.QSBR ≡ B.qsbr) × (0 < section.old.reader.now.core.depth) }
+        requires { 0 < section.old.reader.now.core.depth }
         ensures reader { section.new.reader.ghost_name ≡ section.old.reader.ghost_name }
         ensures looked { Looks P.QSBR tabled section.old.reader.now.core section.new.reader.now.core }
         ensures window { AnswersThrough (log_of section.old.reader.now.core) section.old.reader.now.core.seat.me.0.heard (log_of section.new.reader.now.core) B.sizes.chains self.directory key result }
@@ -154,7 +154,7 @@ impl<B: Site> TableView<B> {
         held: Held,
         visit: &mut F,
     )
-        requires open_section { (P.QSBR ≡ B.qsbr) × (0 < section.old.reader.now.core.depth) }
+        requires open_section { 0 < section.old.reader.now.core.depth }
         requires inside { IsIn section.old.reader.now.core }
         requires first { (o : ObjectId) × FindsFirst section.old.reader.now.core self.directory (Some o) × MayHold section.old.reader.now.core o held.cell }
         requires callable { F.IsAlwaysCallable visit.old }
@@ -183,7 +183,7 @@ impl<B: Site> TableView<B> {
         section: &mut Section<'_, P, Tabled, B>,
         visit: &mut F,
     )
-        requires open_section { (P.QSBR ≡ B.qsbr) × (0 < section.old.reader.now.core.depth) }
+        requires open_section { 0 < section.old.reader.now.core.depth }
         requires callable { F.IsAlwaysCallable visit.old }
         ensures reader { section.new.reader.ghost_name ≡ section.old.reader.ghost_name }
         ensures looked { Looks P.QSBR tabled section.old.reader.now.core section.new.reader.now.core }

@@ -17,7 +17,7 @@ use Rattle.domain.specs.live_table.Rights.{AreAsKnown, IsListed, IsWriter, cell_
 use Rattle.domain.specs.live_table.Steps.{Went}
 use Rattle.domain.specs.live_chains.Chains.{cut_of}
 use Rattle.domain.specs.live_read.Hearing.{Stays}
-use Rattle.domain.specs.live_read.declared.witness.Witness.{Ghosts}
+use Rattle.domain.specs.live_read.declared.caller.Caller.{Ghosts}
 use Rattle.domain.specs.live_write.Chains.{GoesOn, IsFirstWith, MayPublish, Publishes, list_in, push_by, replace_by}
 use Rattle.domain.proofs.live_write.Lemmas.{index_has}
 use Rattle.live_log.specs.Maps.{HasMaps, IsUnnoted, TakesKeys}
@@ -121,9 +121,9 @@ pub by_second : {A B C : Type 0} → A ⊎ B → ¬ A → (B → C) → C
 by_second (inl a) none f = absurd (none a)
 by_second (inr b) none f = f b
 
--- what stays of a witness over two calls
-pub stays_both : {W : Type 0} (w : Ghosts W) (a b c : W) → Stays w a b → Stays w b c → Stays w a c
-stays_both w a b c x y = (y.0 ∙ x.0, y.1 ∙ x.1, y.2 ∙ x.2, λ h. y.3 (x.3 h), y.4 ∙ x.4)
+-- what stays of a caller over two calls
+pub stays_both : {W S : Type 0} (w : Ghosts W S) (a b c : W) → Stays w a b → Stays w b c → Stays w a c
+stays_both w a b c x y = (y.0 ∙ x.0, y.1 ∙ x.1, λ h. y.2 (x.2 h), y.3 ∙ x.3)
 
 -- the writer's chain is free in each log that goes on from what it has seen, in which the note of its chain and the
 -- chains that were lent to it are as it knows them

@@ -7,12 +7,12 @@ use Rattle.live_log.specs.Log.{Log, Begins, IsLiveRun, closed_of}
 use Rattle.domain.specs.live_rule.Places.{cell_at, closed_at}
 use Rattle.domain.specs.live_rule.declared.view.Sizes.{Sizes}
 use Rattle.domain.specs.live_read.Hearing.{IsAfter, Stays}
-use Rattle.domain.specs.live_read.declared.witness.Witness.{Ghosts}
+use Rattle.domain.specs.live_read.declared.caller.Caller.{Ghosts}
 use Rattle.domain.specs.live_reclaim.Refusing.{RefusesRetirement}
 use Rattle.domain.specs.live_write.Searching.{AreTaken, IsUsedUp}
 use Rattle.rcu_list.specs.Maps.{HasLastRank, map_of}
 
-module _ {W : Type 0} (w : Ghosts W) (qsbr : Bool) (allows : Log → LiveEvent → Type 0) (sizes : Sizes) (old new : W) (e : Refusal) where
+module _ {W S : Type 0} (w : Ghosts W S) (qsbr : Bool) (allows : Log → LiveEvent → Type 0) (sizes : Sizes) (old new : W) (e : Refusal) where
   -- no record was had, as the words tell that the search for one found
   pub record FindsNoRecord : Type 0 where
     pub is : e ≡ PoolFull

@@ -8,9 +8,9 @@ mod rule;
 mod view;
 
 pub use domain::{
-    AnyChain, BarrierMark, Callback, Chain, ChainRule, Counts, Deleter, Domain, Finished, Held,
-    Keyed, Lent, LiveConfig, LiveCookie, Opened, Owned, Reader, Record, Ripe, Section, Site, Stop,
-    Tabled, Ticket, Unlinked, Witness, WorkerEnd,
+    AnyChain, BarrierMark, Callback, Caller, Chain, ChainRule, Counts, Deleter, Domain, Finished,
+    Handle, Held, Keyed, Lent, LiveConfig, LiveCookie, Opened, Owned, Reader, Ripe, Section, Site,
+    Stop, Tabled, Ticket, Unlinked, WorkerEnd,
 };
 pub use list::RcuList;
 pub use preparing::{prepare_insertion, prepare_replacement};

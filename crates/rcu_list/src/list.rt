@@ -17,7 +17,7 @@ ghost use Rattle.rcu_list.specs.Refusing.{RefusesInsertion, RefusesRemoval, Refu
 use crate::preparing::{prepare_insertion, prepare_replacement};
 use crate::rule::MapRule;
 use crate::view::ListView;
-use domain::{Callback, Chain, Deleter, Site, Ticket, Witness};
+use domain::{Callback, Caller, Chain, Deleter, Site, Ticket};
 use gp_memb::GracePlan;
 use rcu_model::Refusal;
 use std::sync::Wait;
@@ -26,7 +26,7 @@ use std::sync::Wait;
 /// payload of a key is the key, its value, its rank, and 0. Ranks fall along the chain: a key is put in at the front,
 /// above all others, and keeps its place as its value is replaced. Dropping the list gives its chain back.
 #[derive(Drop)]
-pub struct RcuList<'d, P: GracePlan, K: MapRule, B: Site, D: Deleter = Callback> {
+pub struct RcuList<'d, P: GracePlan, K: MapRule, B: Site, D: Drop = Callback> {
     /// The chain's writer.
     pub chain: Chain<'d, P, K, B, D>,
     // Its chain has no note, and its objects have keys.
@@ -63,14 +63,13 @@ impl<'d, P: GracePlan + Drop, K: MapRule, B: Site, D: Deleter> RcuList<'d, P, K,
     /// The writer sees all that the caller has seen and heard of, and the caller hears of what the writer has seen
     /// then. So what the writer knows of the map is known of a log that comes after all that its caller knew. It takes
     /// no memory and never waits.
-    pub fn hear<W: Witness>(&mut self, witness: &mut W)
-        requires { W.home witness.old ≡ (B.table, B.sizes) }
+    pub fn hear<W: Caller<B>>(&mut self, caller: &mut W)
         ensures chain { (self.new.chain.number ≡ self.old.chain.number) × (list_in self.new.chain.seat.me.0 ≡ list_in self.old.chain.seat.me.0) }
-        ensures told { IsAfter P.QSBR K.allows (W.seen witness.old) (W.heard witness.old) self.new.chain.seat.me.0.seen × Begins self.old.chain.seat.me.0.seen self.new.chain.seat.me.0.seen }
-        ensures heard { W.heard witness.new ≡ self.new.chain.seat.me.0.seen }
-        ensures same { OnlyHears W.Witness witness.old witness.new }
+        ensures told { IsAfter P.QSBR K.allows (W.seen caller.old) (W.heard caller.old) self.new.chain.seat.me.0.seen × Begins self.old.chain.seat.me.0.seen self.new.chain.seat.me.0.seen }
+        ensures heard { W.heard caller.new ≡ self.new.chain.seat.me.0.seen }
+        ensures same { OnlyHears W.Caller caller.old caller.new }
     {
-        self.chain.hear(witness);
+        self.chain.hear(caller);
     }
 
     /// The value of a key, or none, by the map that the writer knows. It walks from the head, and never waits.
@@ -94,21 +93,20 @@ impl<'d, P: GracePlan + Drop, K: MapRule, B: Site, D: Deleter> RcuList<'d, P, K,
     /// that comes after all that its caller knew), else with `PoolFull` where the ranks are used up, or as `alloc`;
     /// then the map is as it was. It takes no memory, and waits for nobody, but tries again where other threads draw
     /// object numbers meanwhile.
-    pub fn insert<W: Witness, R: Wait>(
+    pub fn insert<W: Caller<B>, R: Wait>(
         &mut self,
         rt: &R,
-        witness: &mut W,
+        caller: &mut W,
         key: u64,
         value: u64,
     ) -> Result<(), Refusal>
-        requires { W.home witness.old ≡ (B.table, B.sizes) }
-        ensures inserted { IfOk result (λ _. Inserts P.QSBR K.allows self.old.chain.number self.old.chain.seat.me.0.seen (W.seen witness.old) (W.heard witness.old) key value self.new.chain.seat.me.0.seen × (W.heard witness.new ≡ self.new.chain.seat.me.0.seen)) }
-        ensures same { IfOk result (λ _. (self.new.chain.number ≡ self.old.chain.number) × MakesLast W.Witness witness.old witness.new self.new.chain.seat.me.0.seen × (W.loads witness.new ≡ W.loads witness.old) × ((found : List (ℕ × ℕ)) × (W.looks witness.new ≡ found ++ W.looks witness.old))) }
-        ensures refused { IfErr result (λ e. RefusesInsertion W.Witness P.QSBR K.allows B.sizes witness.old witness.new e self.old.chain.seat.me.0.seen self.old.chain.number key) }
+        ensures inserted { IfOk result (λ _. Inserts P.QSBR K.allows self.old.chain.number self.old.chain.seat.me.0.seen (W.seen caller.old) (W.heard caller.old) key value self.new.chain.seat.me.0.seen × (W.heard caller.new ≡ self.new.chain.seat.me.0.seen)) }
+        ensures same { IfOk result (λ _. (self.new.chain.number ≡ self.old.chain.number) × MakesLast W.Caller caller.old caller.new self.new.chain.seat.me.0.seen × (W.loads caller.new ≡ W.loads caller.old) × ((found : List (ℕ × ℕ)) × (W.looks caller.new ≡ found ++ W.looks caller.old))) }
+        ensures refused { IfErr result (λ e. RefusesInsertion W.Caller P.QSBR K.allows B.sizes caller.old caller.new e self.old.chain.seat.me.0.seen self.old.chain.number key) }
         ensures kept { IfErr result (λ _. Keeps self.old.chain.seat self.new.chain.seat × Went P.QSBR K.allows self.old.chain.seat.me.0 self.old.chain.seat.me self.new.chain.seat.me × (self.new.chain.number ≡ self.old.chain.number)) }
     {
-        let owned = prepare_insertion(rt, &mut self.chain, witness, key, value)?;
-        self.chain.push(witness, owned);
+        let owned = prepare_insertion(rt, &mut self.chain, caller, key, value)?;
+        self.chain.push(caller, owned);
         Ok(())
     }
 
@@ -119,29 +117,28 @@ impl<'d, P: GracePlan + Drop, K: MapRule, B: Site, D: Deleter> RcuList<'d, P, K,
     /// Refused with `Missing` exactly where the key has no value, else as `alloc`, else as `retire`; then the map is as
     /// it was, the callback comes back, and the new record is back in the pool. It waits for the queue's lock alone,
     /// and tries again where other threads draw object numbers meanwhile.
-    pub fn replace<W: Witness, R: Wait>(
+    pub fn replace<W: Caller<B>, R: Wait>(
         &mut self,
         rt: &R,
-        witness: &mut W,
+        caller: &mut W,
         key: u64,
         value: u64,
         callback: D,
     ) -> Result<Ticket, (Refusal, D)>
-        requires { W.home witness.old ≡ (B.table, B.sizes) }
-        ensures replaced { IfOk result (λ t. (left : ObjectId) × Replaces P.QSBR K.allows self.old.chain.number self.old.chain.seat.me.0.seen (W.seen witness.old) (W.heard witness.old) key value left self.new.chain.seat.me.0.seen × HandsOver P.QSBR K.allows left (self.old.chain.number % B.sizes.queues) t.0 self.new.chain.seat.me.0.seen (W.heard witness.new)) }
-        ensures same { IfOk result (λ _. (self.new.chain.number ≡ self.old.chain.number) × MakesLast W.Witness witness.old witness.new self.new.chain.seat.me.0.seen × (W.loads witness.new ≡ W.loads witness.old) × ((found : List (ℕ × ℕ)) × (W.looks witness.new ≡ found ++ W.looks witness.old))) }
-        ensures refused { IfErr result (λ e. (e.1 ≡ callback) × RefusesReplacement W.Witness P.QSBR K.allows B.sizes witness.old witness.new e.0 self.old.chain.seat.me.0.seen self.old.chain.number key (self.old.chain.number % B.sizes.queues)) }
+        ensures replaced { IfOk result (λ t. (left : ObjectId) × Replaces P.QSBR K.allows self.old.chain.number self.old.chain.seat.me.0.seen (W.seen caller.old) (W.heard caller.old) key value left self.new.chain.seat.me.0.seen × HandsOver P.QSBR K.allows left (self.old.chain.number % B.sizes.queues) t.0 self.new.chain.seat.me.0.seen (W.heard caller.new)) }
+        ensures same { IfOk result (λ _. (self.new.chain.number ≡ self.old.chain.number) × MakesLast W.Caller caller.old caller.new self.new.chain.seat.me.0.seen × (W.loads caller.new ≡ W.loads caller.old) × ((found : List (ℕ × ℕ)) × (W.looks caller.new ≡ found ++ W.looks caller.old))) }
+        ensures refused { IfErr result (λ e. (e.1 ≡ callback) × RefusesReplacement W.Caller P.QSBR K.allows B.sizes caller.old caller.new e.0 self.old.chain.seat.me.0.seen self.old.chain.number key (self.old.chain.number % B.sizes.queues)) }
         ensures kept { IfErr result (λ _. Keeps self.old.chain.seat self.new.chain.seat × Went P.QSBR K.allows self.old.chain.seat.me.0 self.old.chain.seat.me self.new.chain.seat.me × (self.new.chain.number ≡ self.old.chain.number)) }
     {
-        let (index, owned) = match prepare_replacement(rt, &mut self.chain, witness, key, value) {
+        let (index, owned) = match prepare_replacement(rt, &mut self.chain, caller, key, value) {
             Ok(ready) => ready,
             Err(refusal) => return Err((refusal, callback)),
         };
         let domain = self.chain.domain();
-        match domain.replace_retire(rt, witness, &mut self.chain, index, owned, callback) {
+        match domain.replace_retire(rt, caller, &mut self.chain, index, owned, callback) {
             Ok(ticket) => Ok(ticket),
             Err((refusal, owned, callback)) => {
-                domain.discard(witness, owned);
+                domain.discard(caller, owned);
                 Err((refusal, callback))
             }
         }
@@ -153,23 +150,22 @@ impl<'d, P: GracePlan + Drop, K: MapRule, B: Site, D: Deleter> RcuList<'d, P, K,
     ///
     /// Refused with `Missing` exactly where the key has no value, else as `retire`; then the map is as it was, and the
     /// callback comes back. It waits for the queue's lock alone.
-    pub fn remove<W: Witness, R: Wait>(
+    pub fn remove<W: Caller<B>, R: Wait>(
         &mut self,
         rt: &R,
-        witness: &mut W,
+        caller: &mut W,
         key: u64,
         callback: D,
     ) -> Result<Ticket, (Refusal, D)>
-        requires { W.home witness.old ≡ (B.table, B.sizes) }
-        ensures removed { IfOk result (λ t. (left : ObjectId) × Removes P.QSBR K.allows self.old.chain.number self.old.chain.seat.me.0.seen (W.seen witness.old) (W.heard witness.old) key left self.new.chain.seat.me.0.seen × HandsOver P.QSBR K.allows left (self.old.chain.number % B.sizes.queues) t.0 self.new.chain.seat.me.0.seen (W.heard witness.new)) }
-        ensures same { IfOk result (λ _. (self.new.chain.number ≡ self.old.chain.number) × OnlyMakesLast W.Witness witness.old witness.new self.new.chain.seat.me.0.seen) }
-        ensures refused { IfErr result (λ e. (e.1 ≡ callback) × RefusesRemoval W.Witness P.QSBR K.allows B.sizes witness.old witness.new e.0 self.old.chain.seat.me.0.seen self.old.chain.number key (self.old.chain.number % B.sizes.queues)) }
+        ensures removed { IfOk result (λ t. (left : ObjectId) × Removes P.QSBR K.allows self.old.chain.number self.old.chain.seat.me.0.seen (W.seen caller.old) (W.heard caller.old) key left self.new.chain.seat.me.0.seen × HandsOver P.QSBR K.allows left (self.old.chain.number % B.sizes.queues) t.0 self.new.chain.seat.me.0.seen (W.heard caller.new)) }
+        ensures same { IfOk result (λ _. (self.new.chain.number ≡ self.old.chain.number) × OnlyMakesLast W.Caller caller.old caller.new self.new.chain.seat.me.0.seen) }
+        ensures refused { IfErr result (λ e. (e.1 ≡ callback) × RefusesRemoval W.Caller P.QSBR K.allows B.sizes caller.old caller.new e.0 self.old.chain.seat.me.0.seen self.old.chain.number key (self.old.chain.number % B.sizes.queues)) }
         ensures kept { IfErr result (λ _. Keeps self.old.chain.seat self.new.chain.seat × Went P.QSBR K.allows self.old.chain.seat.me.0 self.old.chain.seat.me self.new.chain.seat.me × (self.new.chain.number ≡ self.old.chain.number)) }
     {
         let Some(index) = self.chain.index_of(key) else {
             return Err((Refusal::Missing, callback));
         };
         let domain = self.chain.domain();
-        domain.cut_retire(rt, witness, &mut self.chain, index, callback)
+        domain.cut_retire(rt, caller, &mut self.chain, index, callback)
     }
 }

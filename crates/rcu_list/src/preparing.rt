@@ -13,7 +13,7 @@ ghost use Rattle.rcu_list.specs.Preparing.{MayComeIn, MayTakeOver};
 ghost use Rattle.rcu_list.specs.Refusing.{RefusesInsertion, RefusesSuccessor};
 
 use crate::rule::MapRule;
-use domain::{Chain, Deleter, Owned, Site, Witness};
+use domain::{Caller, Chain, Deleter, Owned, Site};
 use gp_memb::GracePlan;
 use rcu_model::Refusal;
 use std::sync::Wait;
@@ -45,18 +45,24 @@ fn fresh_rank<P: GracePlan + Drop, K: MapRule, B: Site, D: Deleter>(
 /// Refused with `Exists` exactly where the key has a value, else with `PoolFull` where the ranks are used up, or as
 /// `alloc`. It takes no memory, and waits for nobody, but tries again where other threads draw object numbers
 /// meanwhile.
-pub fn prepare_insertion<P: GracePlan + Drop, K: MapRule, B: Site, D: Deleter, W: Witness, R: Wait>(
+pub fn prepare_insertion<
+    P: GracePlan + Drop,
+    K: MapRule,
+    B: Site,
+    D: Deleter,
+    W: Caller<B>,
+    R: Wait,
+>(
     rt: &R,
     chain: &mut Chain<'_, P, K, B, D>,
-    witness: &mut W,
+    caller: &mut W,
     key: u64,
     value: u64,
 ) -> Result<Owned<B>, Refusal>
-    requires { W.home witness.old ≡ (B.table, B.sizes) }
     ensures ready { IfOk result (λ o. (made : MayComeIn chain.new.seat.me.0 o.seat.me.0 key value) × (made.rank < 2 ^ 62) × (map_of chain.old.seat.me.0.seen chain.old.number key ≡ None)) }
-    ensures heard { IfOk result (λ _. IsAfter P.QSBR K.allows (W.seen witness.old) (W.heard witness.old) (W.heard witness.new)) }
-    ensures same { IfOk result (λ _. Stays W.Witness witness.old witness.new × (W.loads witness.new ≡ W.loads witness.old) × ((found : List (ℕ × ℕ)) × (W.looks witness.new ≡ found ++ W.looks witness.old))) }
-    ensures refused { IfErr result (λ e. RefusesInsertion W.Witness P.QSBR K.allows B.sizes witness.old witness.new e chain.old.seat.me.0.seen chain.old.number key) }
+    ensures heard { IfOk result (λ _. IsAfter P.QSBR K.allows (W.seen caller.old) (W.heard caller.old) (W.heard caller.new)) }
+    ensures same { IfOk result (λ _. Stays W.Caller caller.old caller.new × (W.loads caller.new ≡ W.loads caller.old) × ((found : List (ℕ × ℕ)) × (W.looks caller.new ≡ found ++ W.looks caller.old))) }
+    ensures refused { IfErr result (λ e. RefusesInsertion W.Caller P.QSBR K.allows B.sizes caller.old caller.new e chain.old.seat.me.0.seen chain.old.number key) }
     ensures looked { Keeps chain.old.seat chain.new.seat × Went P.QSBR K.allows chain.old.seat.me.0 chain.old.seat.me chain.new.seat.me × (chain.new.number ≡ chain.old.number) × (chain.new.home.now ≡ chain.old.home.now) }
 {
     if chain.index_of(key).is_some() {
@@ -65,7 +71,7 @@ pub fn prepare_insertion<P: GracePlan + Drop, K: MapRule, B: Site, D: Deleter, W
     let Some(rank) = fresh_rank(chain) else {
         return Err(Refusal::PoolFull);
     };
-    chain.domain().alloc(rt, witness, [key, value, rank, 0])
+    chain.domain().alloc(rt, caller, [key, value, rank, 0])
 }
 
 /// The index of a key that has a value, and a record that takes its place, with the key, its rank and this value.
@@ -77,20 +83,19 @@ pub fn prepare_replacement<
     K: MapRule,
     B: Site,
     D: Deleter,
-    W: Witness,
+    W: Caller<B>,
     R: Wait,
 >(
     rt: &R,
     chain: &mut Chain<'_, P, K, B, D>,
-    witness: &mut W,
+    caller: &mut W,
     key: u64,
     value: u64,
 ) -> Result<(usize, Owned<B>), Refusal>
-    requires { W.home witness.old ≡ (B.table, B.sizes) }
     ensures ready { IfOk result (λ r. MayTakeOver chain.new.seat.me.0 r.1.seat.me.0 key value r.0 × IsSome (map_of chain.old.seat.me.0.seen chain.old.number key)) }
-    ensures heard { IfOk result (λ _. IsAfter P.QSBR K.allows (W.seen witness.old) (W.heard witness.old) (W.heard witness.new)) }
-    ensures same { IfOk result (λ _. Stays W.Witness witness.old witness.new × (W.loads witness.new ≡ W.loads witness.old) × ((found : List (ℕ × ℕ)) × (W.looks witness.new ≡ found ++ W.looks witness.old))) }
-    ensures refused { IfErr result (λ e. RefusesSuccessor W.Witness P.QSBR K.allows B.sizes witness.old witness.new e chain.old.seat.me.0.seen chain.old.number key) }
+    ensures heard { IfOk result (λ _. IsAfter P.QSBR K.allows (W.seen caller.old) (W.heard caller.old) (W.heard caller.new)) }
+    ensures same { IfOk result (λ _. Stays W.Caller caller.old caller.new × (W.loads caller.new ≡ W.loads caller.old) × ((found : List (ℕ × ℕ)) × (W.looks caller.new ≡ found ++ W.looks caller.old))) }
+    ensures refused { IfErr result (λ e. RefusesSuccessor W.Caller P.QSBR K.allows B.sizes caller.old caller.new e chain.old.seat.me.0.seen chain.old.number key) }
     ensures looked { Keeps chain.old.seat chain.new.seat × Went P.QSBR K.allows chain.old.seat.me.0 chain.old.seat.me chain.new.seat.me × (chain.new.number ≡ chain.old.number) × (chain.new.home.now ≡ chain.old.home.now) }
 {
     let Some(index) = chain.index_of(key) else {
@@ -99,7 +104,7 @@ pub fn prepare_replacement<
     let Some(words) = chain.get(index) else {
         unreachable!()
     };
-    match chain.domain().alloc(rt, witness, [key, value, words[2], 0]) {
+    match chain.domain().alloc(rt, caller, [key, value, words[2], 0]) {
         Ok(owned) => Ok((index, owned)),
         Err(refusal) => Err(refusal),
     }

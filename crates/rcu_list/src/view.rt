@@ -92,7 +92,7 @@ impl<B: Site> ListView<B> {
         held: Held,
         key: u64,
     ) -> Option<u64>
-        requires open_section { (P.QSBR ≡ B.qsbr) × (0 < section.old.reader.now.core.depth) }
+        requires open_section { 0 < section.old.reader.now.core.depth }
         requires held { MayHoldIn section.old.reader.now.core held.cell }
         ensures reader { section.new.reader.ghost_name ≡ section.old.reader.ghost_name }
         ensures looked { Looks P.QSBR K.allows section.old.reader.now.core section.new.reader.now.core }
@@ -113,7 +113,7 @@ impl<B: Site> ListView<B> {
         first: Held,
         key: u64,
     ) -> Option<u64>
-        requires open_section { (P.QSBR ≡ B.qsbr) × (0 < section.old.reader.now.core.depth) }
+        requires open_section { 0 < section.old.reader.now.core.depth }
         requires first { (o : ObjectId) × FindsFirst section.old.reader.now.core self.chain (Some o) × MayHold section.old.reader.now.core o first.cell }
         ensures reader { section.new.reader.ghost_name ≡ section.old.reader.ghost_name }
         ensures looked { Looks P.QSBR K.allows section.old.reader.now.core section.new.reader.now.core }
@@ -144,7 +144,7 @@ impl<B: Site> ListView<B> {
         section: &mut Section<'_, P, K, B>,
         key: u64,
     ) -> Option<u64>
-        requires { (P.QSBR ≡ B.qsbr) × (0 < section.old.reader.now.core.depth) }
+        requires { 0 < section.old.reader.now.core.depth }
         ensures reader { section.new.reader.ghost_name ≡ section.old.reader.ghost_name }
         ensures looked { Looks P.QSBR K.allows section.old.reader.now.core section.new.reader.now.core }
         ensures window { AnswersBetween (log_of section.old.reader.now.core) section.old.reader.now.core.seat.me.0.heard (log_of section.new.reader.now.core) self.chain key result }
@@ -161,7 +161,7 @@ impl<B: Site> ListView<B> {
         section: &mut Section<'_, P, K, B>,
         held: Held,
     ) -> (u64, u64)
-        requires open_section { (P.QSBR ≡ B.qsbr) × (0 < section.old.reader.now.core.depth) }
+        requires open_section { 0 < section.old.reader.now.core.depth }
         requires held { MayHoldIn section.old.reader.now.core held.cell }
         ensures reader { section.new.reader.ghost_name ≡ section.old.reader.ghost_name }
         ensures looked { Looks P.QSBR K.allows section.old.reader.now.core section.new.reader.now.core }
@@ -194,7 +194,7 @@ impl<B: Site> ListView<B> {
         bucket: u64,
         visit: &mut F,
     )
-        requires open_section { (P.QSBR ≡ B.qsbr) × (0 < section.old.reader.now.core.depth) }
+        requires open_section { 0 < section.old.reader.now.core.depth }
         requires first { (o : ObjectId) × FindsFirst section.old.reader.now.core self.chain (Some o) × MayHold section.old.reader.now.core o first.cell }
         requires some { 0 < buckets }
         requires callable { F.IsAlwaysCallable visit.old }
@@ -226,7 +226,7 @@ impl<B: Site> ListView<B> {
         bucket: u64,
         visit: &mut F,
     )
-        requires open_section { (P.QSBR ≡ B.qsbr) × (0 < section.old.reader.now.core.depth) }
+        requires open_section { 0 < section.old.reader.now.core.depth }
         requires some { 0 < buckets }
         requires callable { F.IsAlwaysCallable visit.old }
         ensures reader { section.new.reader.ghost_name ≡ section.old.reader.ghost_name }
@@ -252,7 +252,7 @@ impl<B: Site> ListView<B> {
         section: &mut Section<'_, P, K, B>,
         visit: &mut F,
     )
-        requires open_section { (P.QSBR ≡ B.qsbr) × (0 < section.old.reader.now.core.depth) }
+        requires open_section { 0 < section.old.reader.now.core.depth }
         requires callable { F.IsAlwaysCallable visit.old }
         ensures reader { section.new.reader.ghost_name ≡ section.old.reader.ghost_name }
         ensures looked { Looks P.QSBR K.allows section.old.reader.now.core section.new.reader.now.core }

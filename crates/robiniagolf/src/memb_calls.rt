@@ -167,7 +167,7 @@ pub extern "C" fn robiniagolf_memb_reader_unregister(
     if !reader.full {
         return 4;
     }
-    if reader.as_handle().kept.lend().core.depth != 0 {
+    if reader.as_handle().kept.lend().core.depth() != 0 {
         return 7;
     }
     give_back(alloc, reader)
@@ -257,7 +257,7 @@ pub extern "C" fn robiniagolf_memb_reader_depth(reader: &mut MembReaderHandle) -
         return 0;
     }
     let held = reader.as_handle().kept.lend();
-    let locks = held.core.locks;
+    let locks = held.core.locks();
     locks
 }
 

@@ -167,7 +167,7 @@ pub extern "C" fn robiniagolf_qsbr_reader_unregister(
     if !reader.full {
         return 4;
     }
-    if reader.as_handle().kept.lend().core.depth != 0 {
+    if reader.as_handle().kept.lend().core.depth() != 0 {
         return 7;
     }
     give_back(alloc, reader)
@@ -258,7 +258,7 @@ pub extern "C" fn robiniagolf_qsbr_reader_depth(reader: &mut QsbrReaderHandle) -
         return 0;
     }
     let held = reader.as_handle().kept.lend();
-    let locks = held.core.locks;
+    let locks = held.core.locks();
     locks
 }
 
@@ -342,7 +342,7 @@ pub extern "C" fn robiniagolf_qsbr_reader_is_online(reader: &mut QsbrReaderHandl
         return 4;
     }
     let held = reader.as_handle().kept.lend();
-    let word = held.core.word;
+    let word = held.core.word();
     if word != 0 { 0 } else { 8 }
 }
 

@@ -1,6 +1,5 @@
-use Rattle.std.proofs.Common.{false}
 use Rattle.rcu.specs.Naming.{names}
 use Rattle.examples.proofs.show.Given as goal
 
 abbrev pub ghosts-serve : goal.ghosts-serve
-ghosts-serve g a = names false a.opened
+ghosts-serve g a = names a.opened

@@ -28,7 +28,7 @@ returns-clause-found g c =
     let r = c.first.new.self.reader.now.core in let o : ObjectId = object_in u.object in let words : List ℕ = c.args.words in let log : Log = log_of r in let looked = c.in_ok-held.ensures.looked.1 in
     let at : (own_in v.chains).chain ≡ c.args.chain = c.in_ok-writer.writer.owns.2 ∙ c.in_ok-writer.ensures.held.0 in
     let event : push_by v u ≡ Object (Push c.args.chain o (cell_in u.object) words) = (λ i. Object (Push (at i) o (cell_in u.object) (c.in_ok-owned.ensures.owned.0 i))) in
-    let has : Has (Object (Push c.args.chain o (cell_in u.object) words)) log = written (push_by v u) (Object (Push c.args.chain o (cell_in u.object) words)) p.before c.push.new.self.seat.me.0.seen c.push.new.witness.core.seat.me.0.heard log event p.wrote c.push.ensures.heard looked.later.after_heard in
+    let has : Has (Object (Push c.args.chain o (cell_in u.object) words)) log = written (push_by v u) (Object (Push c.args.chain o (cell_in u.object) words)) p.before c.push.new.self.seat.me.0.seen c.push.new.caller.core.seat.me.0.heard log event p.wrote c.push.ensures.heard looked.later.after_heard in
     let payload : payload_of log o ≡ words = ap (λ (z : ℕ × List ℕ). words_in z.1) (c.published_words_stay.ensures.pushed q log c.args.chain o (cell_in u.object) words looked.later.run has) ∙ four_words words (search rules) in
     elim c.match-branch-4.branch [
       | in-Some w ↦

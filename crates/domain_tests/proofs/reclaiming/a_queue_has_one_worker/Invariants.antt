@@ -2,4 +2,4 @@ use Rattle.std.specs.Prelude.{false}
 use Rattle.domain_tests.proofs.reclaiming.a_queue_has_one_worker.Given as goal
 
 abbrev pub ghosts-two_workers : goal.ghosts-two_workers
-ghosts-two_workers g a = record { table = a.opened.table.words.shared.table_id; sizes = a.opened.table.words.shared.key; qsbr = false }
+ghosts-two_workers g a = record { table = a.opened.table.words.shared.table_id; sizes = a.opened.table.words.shared.key }

@@ -2,4 +2,4 @@ use Rattle.std.specs.Prelude.{false}
 use Rattle.domain_tests.proofs.seeing.a_callback_comes_after_the_free_and_before_the_count.Given as goal
 
 abbrev pub ghosts-paused : goal.ghosts-paused
-ghosts-paused g a = record { table = a.opened.table.words.shared.table_id; sizes = a.opened.table.words.shared.key; qsbr = false }
+ghosts-paused g a = record { table = a.opened.table.words.shared.table_id; sizes = a.opened.table.words.shared.key }

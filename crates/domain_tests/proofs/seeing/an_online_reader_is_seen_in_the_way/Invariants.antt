@@ -2,4 +2,4 @@ use Rattle.std.specs.Prelude.{true}
 use Rattle.domain_tests.proofs.seeing.an_online_reader_is_seen_in_the_way.Given as goal
 
 abbrev pub ghosts-sees : goal.ghosts-sees
-ghosts-sees g a = record { table = a.opened.table.words.shared.table_id; sizes = a.opened.table.words.shared.key; qsbr = true }
+ghosts-sees g a = record { table = a.opened.table.words.shared.table_id; sizes = a.opened.table.words.shared.key }

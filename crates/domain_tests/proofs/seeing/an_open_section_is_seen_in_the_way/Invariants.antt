@@ -2,4 +2,4 @@ use Rattle.std.specs.Prelude.{false}
 use Rattle.domain_tests.proofs.seeing.an_open_section_is_seen_in_the_way.Given as goal
 
 abbrev pub ghosts-sees : goal.ghosts-sees
-ghosts-sees g a = record { table = a.opened.table.words.shared.table_id; sizes = a.opened.table.words.shared.key; qsbr = false }
+ghosts-sees g a = record { table = a.opened.table.words.shared.table_id; sizes = a.opened.table.words.shared.key }

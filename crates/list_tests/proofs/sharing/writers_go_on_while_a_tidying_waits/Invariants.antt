@@ -2,7 +2,7 @@ use Rattle.std.specs.Prelude.{false, true}
 use Rattle.list_tests.proofs.sharing.writers_go_on_while_a_tidying_waits.Given as goal
 
 abbrev pub ghosts-shares : goal.ghosts-shares
-ghosts-shares g a = record { table = a.opened.table.words.shared.table_id; sizes = a.opened.table.words.shared.key; qsbr = false }
+ghosts-shares g a = record { table = a.opened.table.words.shared.table_id; sizes = a.opened.table.words.shared.key }
 
 abbrev pub ghosts-shares-2 : goal.ghosts-shares-2
-ghosts-shares-2 g a = record { table = a.opened.table.words.shared.table_id; sizes = a.opened.table.words.shared.key; qsbr = true }
+ghosts-shares-2 g a = record { table = a.opened.table.words.shared.table_id; sizes = a.opened.table.words.shared.key }

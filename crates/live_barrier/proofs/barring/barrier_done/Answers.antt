@@ -2,11 +2,11 @@ use Rattle.std.proofs.Common.{◌<◌, ◌∷◌, sym, refl, ap, ◌∙◌, subs
 use Rattle.live_words.specs.live_rule.declared.view.Sizes.{Sizes}
 use Rattle.live_words.specs.live_rule.declared.view.View.{View}
 use Rattle.live_words.specs.live_rule.Places.{finished_at}
-use Rattle.live_barrier.proofs.Barriers.{next_found, reached_more, passes_more, all_passed, known_before}
+use Rattle.live_barrier.proofs.Barriers.{next_found, reached_more, runs_more, passes_more, all_passed, known_before}
 use Rattle.live_barrier.proofs.barring.barrier_done.Goals as goal
 
 pub loop-queue-init : goal.loop-queue-init
-loop-queue-init g c = ((refl, refl), (λ _. refl), (λ low. absurd (omega arith)), (λ low. absurd (omega arith)), (λ _ _ q low. absurd (omega arith)), c.requires.seat.1)
+loop-queue-init g c = ((refl, refl), (λ _. refl), (λ low. absurd (omega arith)), (λ low. absurd (omega arith)), (λ _ _ q low. absurd (omega arith)), c.requires.seat.1, (λ q low. absurd (omega arith)))
 
 pub returns-then-load_finished-mark-clause-exact : goal.returns-then-load_finished-mark-clause-exact
 returns-then-load_finished-mark-clause-exact g c =
@@ -38,7 +38,14 @@ loop-queue-preserved g c =
           let covered = c.args.mark.now.noted c.loop-queue.queue (subst (λ (k : Sizes). c.loop-queue.queue < k.queues) (sym sizes) (omega arith)) in
           passes_more seen c.loop-queue.seat.me.0.seen new.seen c.loop-queue.queue _ c.load_finished.result (known_before old seen new.seen known f.1.2.0 f.1.2.1) e.looked.2.0 covered (omega arith) e.count.0 (i.4 sizes known) q under),
       ap (λ (v : View). v.sizes) e.looked.1 ∙ i.5,
+      (λ q under. runs_more c.loop-queue.seat.me.0.seen new.seen c.args.mark.now.counts c.loop-queue.queue c.load_finished.result e.looked.2.0 (omega arith) (e.count.0, e.count.1) i.6 q under),
     )
+
+pub returns-clause-run : goal.returns-clause-run
+returns-clause-run g c _ q low =
+    let over = c.loop-queue-test.false in
+    let queues = c.args.table.now.sized.4 in
+    c.loop-queue.invariant.6 q (omega arith)
 
 pub returns-clause-passed : goal.returns-clause-passed
 returns-clause-passed g c _ sizes known =

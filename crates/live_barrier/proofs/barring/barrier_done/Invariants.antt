@@ -1,12 +1,12 @@
-use Rattle.std.proofs.Common.{◌≡◌, ◌<◌, ℕ, List}
+use Rattle.std.proofs.Common.{◌≡◌, ◌<◌, ℕ, List, get_or}
 use Rattle.live_log.specs.Log.{Begins}
 use Rattle.live_words.specs.live_table.Steps.{IsKnown, Keeps}
 use Rattle.live_words.specs.live_queues.Queues.{HasNoOther}
-use Rattle.live_barrier.specs.Barrier.{AreReached, Found}
+use Rattle.live_barrier.specs.Barrier.{AreReached, Found, HasRunTo}
 use Rattle.live_barrier.proofs.Barriers.{IsPassed}
 use Rattle.live_barrier.proofs.barring.barrier_done.Given as goal
 
--- the queues so far have each been looked at once, and are passed
+-- the queues so far have each been looked at once, and are passed, and have run to their counts
 abbrev pub invariant-loop-queue : goal.invariant-loop-queue
 invariant-loop-queue g l = let key = l.table.words.shared.key in
     Keeps l.fn.seat l.seat
@@ -15,3 +15,4 @@ invariant-loop-queue g l = let key = l.table.words.shared.key in
     × (0 < l.queue → HasNoOther key l.seat.me.0.seen)
     × (l.mark.asked.value.me.0.sizes ≡ key → IsKnown (Begins l.mark.asked.value.me.0.seen) l.fn.seat.me.0 → (q : ℕ) → q < l.queue → IsPassed l.mark.asked.value.me.0.seen l.seat.me.0.seen q)
     × (l.seat.me.0.sizes ≡ key)
+    × ((q : ℕ) → q < l.queue → HasRunTo l.seat.me.0.seen q (get_or l.mark.counts q 0))

@@ -1,4 +1,4 @@
 use Rattle.live_load.proofs.chains.stress.Given as goal
 
 abbrev pub ghosts-threads : goal.ghosts-threads
-ghosts-threads g a = record { table = a.opened.table.words.shared.table_id; sizes = a.opened.table.words.shared.key; qsbr = g.P.GracePlan.QSBR }
+ghosts-threads g a = record { table = a.opened.table.words.shared.table_id; sizes = a.opened.table.words.shared.key }

@@ -1,10 +1,13 @@
-use Rattle.std.proofs.Common.{ℕ, [], ◌∷◌, refl, sym, ap, ◌∙◌, subst, inr, arith}
+use Rattle.std.proofs.Common.{◌≡◌, [], ◌∷◌, refl, sym, ap, ◌∙◌, subst, inr, arith}
 use Rattle.live_log.specs.Log.{Log, Begins}
 use Rattle.live_log.proofs.Lemmas.{begins_trans}
 use Rattle.live_words.specs.live_rule.declared.view.View.{View}
 use Rattle.live_words.specs.live_rule.declared.rights.WorkRight.{WorkRight}
 use Rattle.live_words.specs.live_table.Rights.{finished_in, work_in}
 use Rattle.live_words.specs.live_queues.Queues.{HasRunAt}
+use Rattle.callback_queue.specs.declared.item.Ripe.{Ripe}
+use Rattle.live_reclaim.specs.Batches.{ripe_in}
+use Rattle.live_reclaim.proofs.Running.{ripe_stays}
 use Rattle.live_reclaim.proofs.Ripening.{has_run, ripe_next, stands_later}
 use Rattle.live_reclaim.proofs.run.run_next.Goals as goal
 
@@ -46,6 +49,19 @@ returns-clause-seen g c =
     let same = ap (λ z. z.0.seen) c.run-deleter.ensures.worker.1 in
     (subst (λ (l : Log). Begins l last) same done.2.0, done.2.2)
 
+pub returns-clause-called : goal.returns-clause-called
+returns-clause-called g c =
+    let o = c.args.item.object in
+    let deleter = c.args.item.job.2 in
+    let log : Log = c.run-deleter.new.worker.me.0.heard in
+    let last : Log = c.store_finished.new.seat.me.0.seen in
+    let ran = c.run-deleter.ensures.run in
+    let ripe : Ripe = c.run-deleter.result.0 in
+    let done = c.store_finished.ensures.finished.2 in
+    let is : ripe ≡ ripe_in log o = λ i. record { object = c.run-deleter.ensures.ripe.0 i; payload = c.run-deleter.ensures.ripe.1 i } in
+    let same : ripe ≡ ripe_in last o = is ∙ sym (ripe_stays g.P.GracePlan.QSBR g.K.ChainRule.allows log last o done.1 done.2 (has_run ran.before log log o ran.wrote ([], refl))) in
+    (refl, subst (λ (d : g.row.D.Denot). g.D.Deleter.answers d (ripe_in last o) c.call-code.result) c.run-deleter.ensures.callback (subst (λ (r : Ripe). g.D.Deleter.answers c.run-deleter.result.1 r c.call-code.result) same c.call-code.ensures))
+
 pub returns-clause-run : goal.returns-clause-run
 returns-clause-run g c =
     let placed = c.requires.item in
@@ -59,4 +75,5 @@ returns-clause-run g c =
       ticket = refl;
       turn = stands_later was last c.args.queue c.args.finished c.args.item.object (begins_trans was log last on heard) placed.turn;
       run = has_run ran.before log last c.args.item.object ran.wrote heard;
+      called = (c.args.item.job.2, (returns-clause-called g c).1);
     }

@@ -2,4 +2,4 @@ use Rattle.std.specs.Prelude.{false}
 use Rattle.live_tests.proofs.queues.a_batch_leaves_once_its_grace_period_has_ended.Given as goal
 
 abbrev pub ghosts-batches : goal.ghosts-batches
-ghosts-batches g a = record { table = a.root.table_id; sizes = a.root.me.0.sizes; qsbr = false }
+ghosts-batches g a = record { table = a.root.table_id; sizes = a.root.me.0.sizes }

@@ -9,7 +9,7 @@ use Rattle.live_write.proofs.allocation.discard.Goals as goal
 pub returns-clause-heard : goal.returns-clause-heard
 returns-clause-heard g c = let s = c.store_discard.ensures.discarded.2 in let l = c.load_seq.ensures.looked.1 in let told = c.tell-told.ensures.seat.1 in
     let log : Log = c.store_discard.new.seat.me.0.seen in let loaded : Log = c.load_seq.new.seat.me.0.seen in let joined = c.take_object.ensures.2 in
-    let seen : Log = g.W.Witness.seen c.args.witness.now in let heard : Log = g.W.Witness.heard c.args.witness.now in let own : Log = c.args.owned.seat.me.0.seen in
+    let seen : Log = g.W.Caller.seen c.args.caller.now in let heard : Log = g.W.Caller.heard c.args.caller.now in let own : Log = c.args.owned.seat.me.0.seen in
     let before : Begins loaded log = subst (λ (x : Log). Begins x log) (ap (λ (m : Me (Unit {0}) View). m.0.seen) joined) s.0 in
     let beside : Begins own log = subst (λ (x : Log). Begins x log) (ap (λ (m : Me (Unit {0}) View). m.0.heard) joined) s.1 in
     let first : Begins seen loaded = subst (λ (x : Log). Begins x loaded) (ap (λ (m : Me (Unit {0}) View). m.0.seen) told) (subst (λ (x : Log). Begins c.tell-told.result.me.0.seen x) (sym l.1) l.2) in
@@ -20,7 +20,7 @@ returns-clause-heard g c = let s = c.store_discard.ensures.discarded.2 in let l 
 pub returns-clause-loads : goal.returns-clause-loads
 returns-clause-loads g c = let s = c.store_discard.ensures.discarded in let l = c.load_seq.ensures.looked in let told = c.tell-told.ensures.seat.1 in
     let log : Log = c.store_discard.new.seat.me.0.seen in let loaded : Log = c.load_seq.new.seat.me.0.seen in let joined = c.take_object.ensures.2 in
-    let seen : Log = g.W.Witness.seen c.args.witness.now in let heard : Log = g.W.Witness.heard c.args.witness.now in
+    let seen : Log = g.W.Caller.seen c.args.caller.now in let heard : Log = g.W.Caller.heard c.args.caller.now in
     let before : Begins loaded log = subst (λ (x : Log). Begins x log) (ap (λ (m : Me (Unit {0}) View). m.0.seen) joined) s.2.0 in
     let first : Begins seen loaded = subst (λ (x : Log). Begins x loaded) (ap (λ (m : Me (Unit {0}) View). m.0.seen) told) (subst (λ (x : Log). Begins c.tell-told.result.me.0.seen x) (sym l.1.1) l.1.2) in
     let second : Begins heard loaded = subst (λ (x : Log). Begins x loaded) (ap (λ (m : Me (Unit {0}) View). m.0.heard) told) (subst (λ (x : Log). Begins c.tell-told.result.me.0.heard x) (sym l.1.1) l.1.3) in

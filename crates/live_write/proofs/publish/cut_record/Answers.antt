@@ -14,7 +14,7 @@ use Rattle.live_write.proofs.publish.cut_record.Goals as goal
 
 pub cut-requires-clause-object : goal.cut-requires-clause-object
 cut-requires-clause-object g c =
-    let v = c.args.seat.now.me in let w = c.learn.new.seat.me in let seen = g.W.Witness.seen c.args.witness.now in let heard = g.W.Witness.heard c.args.witness.now in
+    let v = c.args.seat.now.me in let w = c.learn.new.seat.me in let seen = g.W.Caller.seen c.args.caller.now in let heard = g.W.Caller.heard c.args.caller.now in
     let hears = hears_caller g.P.GracePlan.QSBR g.K.ChainRule.allows seen heard v c.find-before.new.seat.me w c.find-before.ensures.walked.0 c.tell_all-told.result.me.0 c.tell_all-told.ensures.told c.learn.ensures.2 in
     let found = c.find-before.ensures.found in let s = cut_stands g.P.GracePlan.QSBR g.K.ChainRule.allows c.args.seat.now.me c.find-before.new.seat.me c.learn.new.seat.me c.tell_all-told.result.me.0 c.args.index c.find-before.result.0 c.find-before.result.1 c.find-before.ensures.found c.find-before.ensures.walked.0 c.learn.ensures.2 in
     (found.0, found.1, s.there, s.at, s.lies, may_write g.P.GracePlan.QSBR g.K.ChainRule.allows v.0 w.0 seen heard [] hears (cut_of found.1 v.0) (cut_of found.1 w.0) (cut_same v.0 w.0 found.1 found.1 hears.chains refl) (c.requires.rule found.1 found.2))
@@ -55,7 +55,7 @@ returns-clause-fewer g c =
 pub returns-clause-cut : goal.returns-clause-cut
 returns-clause-cut g c =
     let t = cut_leaves g.P.GracePlan.QSBR g.K.ChainRule.allows c.args.seat.now.me c.find-before.new.seat.me c.learn.new.seat.me c.tell_all-told.result.me.0 c.args.index c.find-before.result.0 c.find-before.result.1 c.find-before.ensures.found c.find-before.ensures.walked.0 c.learn.ensures.2 c.cut.new.seat.me c.tell_changes-left.new.seat.me c.cut_object-unlinked.result.me c.cut.ensures.cut c.cut_object-unlinked.ensures.4 (c.tell_changes-left.ensures.2 ∙ c.cut_object-unlinked.ensures.2) in
-    let v = c.args.seat.now.me in let w = c.learn.new.seat.me in let seen = g.W.Witness.seen c.args.witness.now in let heard = g.W.Witness.heard c.args.witness.now in
+    let v = c.args.seat.now.me in let w = c.learn.new.seat.me in let seen = g.W.Caller.seen c.args.caller.now in let heard = g.W.Caller.heard c.args.caller.now in
     let hears = hears_caller g.P.GracePlan.QSBR g.K.ChainRule.allows seen heard v c.find-before.new.seat.me w c.find-before.ensures.walked.0 c.tell_all-told.result.me.0 c.tell_all-told.ensures.told c.learn.ensures.2 in
     let found = c.find-before.ensures.found in let s = cut_stands g.P.GracePlan.QSBR g.K.ChainRule.allows c.args.seat.now.me c.find-before.new.seat.me c.learn.new.seat.me c.tell_all-told.result.me.0 c.args.index c.find-before.result.0 c.find-before.result.1 c.find-before.ensures.found c.find-before.ensures.walked.0 c.learn.ensures.2 in let did = c.cut.ensures.cut found.0 found.1 s.there s.at s.lies in let left = object_in c.cut_object-unlinked.result.me.0.object in
     subst (λ (l : Log). Publishes g.P.GracePlan.QSBR g.K.ChainRule.allows v.0 seen heard [] (cut_of left v.0) l) (sym t.seen.0)
@@ -66,5 +66,5 @@ returns-clause-same g c =
     let s = cut_stands g.P.GracePlan.QSBR g.K.ChainRule.allows c.args.seat.now.me c.find-before.new.seat.me c.learn.new.seat.me c.tell_all-told.result.me.0 c.args.index c.find-before.result.0 c.find-before.result.1 c.find-before.ensures.found c.find-before.ensures.walked.0 c.learn.ensures.2 in
     let found = c.find-before.ensures.found in let did = c.cut.ensures.cut found.0 found.1 s.there s.at s.lies in
     let t = c.tell_changes-left in let told = t.ensures.4 in let rest = c.cut_object-unlinked.ensures.2 in let l = c.learn_changes.ensures in
-    makes_last g.W.Witness c.args.witness.now c.tell_all-told.new.witness c.learn_changes.new.self t.result.me.0 (cut_of found.1 c.learn.new.seat.me.0) did.2.0 t.new.seat.me.0.seen c.tell_all-told.ensures.same l.loads l.same l.inside
+    makes_last g.W.Caller c.args.caller.now c.tell_all-told.new.caller c.learn_changes.new.self t.result.me.0 (cut_of found.1 c.learn.new.seat.me.0) did.2.0 t.new.seat.me.0.seen c.tell_all-told.ensures.same l.loads l.same l.inside
     (ap (λ m. m.0.loads) told, ap (λ m. m.0.looks) told, ap (λ m. m.0.changes) told ∙ (ap (λ m. m.0.changes) rest ∙ ap (λ (u : View). u.changes) did.1)) (ap (λ m. m.0.seen) t.ensures.2 ∙ (ap (λ m. m.0.seen) rest ∙ did.2.1))

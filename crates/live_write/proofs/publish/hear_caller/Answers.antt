@@ -9,13 +9,13 @@ use Rattle.live_write.proofs.publish.hear_caller.Goals as goal
 
 pub returns-clause-chains : goal.returns-clause-chains
 returns-clause-chains g c =
-    let qsbr = g.P.GracePlan.QSBR in let allows = g.K.ChainRule.allows in let v = c.args.seat.now.me in let w = c.learn.new.seat.me in let seen = g.W.Witness.seen c.args.witness.now in let heard = g.W.Witness.heard c.args.witness.now in
+    let qsbr = g.P.GracePlan.QSBR in let allows = g.K.ChainRule.allows in let v = c.args.seat.now.me in let w = c.learn.new.seat.me in let seen = g.W.Caller.seen c.args.caller.now in let heard = g.W.Caller.heard c.args.caller.now in
     let hears = hears_caller qsbr allows seen heard v c.load_note.new.seat.me w c.load_note.ensures.looked c.tell_all-told.result.me.0 c.tell_all-told.ensures.told c.learn.ensures.2 in
     ap (λ z. z.0.chains) c.tell-heard.ensures.2 ∙ (ap (λ (u : View). u.chains) c.load_note-2.ensures.looked.1 ∙ hears.chains)
 
 pub returns-clause-told : goal.returns-clause-told
 returns-clause-told g c =
-    let qsbr = g.P.GracePlan.QSBR in let allows = g.K.ChainRule.allows in let v = c.args.seat.now.me in let w = c.learn.new.seat.me in let n = c.load_note-2.new.seat.me in let seen = g.W.Witness.seen c.args.witness.now in let heard = g.W.Witness.heard c.args.witness.now in
+    let qsbr = g.P.GracePlan.QSBR in let allows = g.K.ChainRule.allows in let v = c.args.seat.now.me in let w = c.learn.new.seat.me in let n = c.load_note-2.new.seat.me in let seen = g.W.Caller.seen c.args.caller.now in let heard = g.W.Caller.heard c.args.caller.now in
     let hears = hears_caller qsbr allows seen heard v c.load_note.new.seat.me w c.load_note.ensures.looked c.tell_all-told.result.me.0 c.tell_all-told.ensures.told c.learn.ensures.2 in
     let later = c.load_note-2.ensures.looked.2 in
     subst (λ (l : Log). IsAfter qsbr allows seen heard l × Begins v.0.seen l × Begins v.0.heard l) (ap (λ z. z.0.seen) (sym c.tell-heard.ensures.2)) (

@@ -8,14 +8,14 @@ use Rattle.live_write.proofs.publish.write_note.Goals as goal
 
 pub store_note-requires-clause-rule : goal.store_note-requires-clause-rule
 store_note-requires-clause-rule g c =
-    let qsbr = g.P.GracePlan.QSBR in let allows = g.K.ChainRule.allows in let v = c.args.seat.now.me in let w = c.learn.new.seat.me in let seen = g.W.Witness.seen c.args.witness.now in let heard = g.W.Witness.heard c.args.witness.now in
+    let qsbr = g.P.GracePlan.QSBR in let allows = g.K.ChainRule.allows in let v = c.args.seat.now.me in let w = c.learn.new.seat.me in let seen = g.W.Caller.seen c.args.caller.now in let heard = g.W.Caller.heard c.args.caller.now in
     let hears = hears_caller qsbr allows seen heard v c.load_note.new.seat.me w c.load_note.ensures.looked c.tell_all-told.result.me.0 c.tell_all-told.ensures.told c.learn.ensures.2 in
     let chain = sym c.requires.right.1 ∙ ap (λ l. (own_in l).chain) (sym hears.chains) in
     may_write qsbr allows v.0 w.0 seen heard [] hears (ChainNote c.args.chain c.args.note) (ChainNote (own_in w.0.chains).chain c.args.note) (ap (λ (n : ℕ). ChainNote n c.args.note) chain) c.requires.rule
 
 pub returns-clause-noted : goal.returns-clause-noted
 returns-clause-noted g c =
-    let qsbr = g.P.GracePlan.QSBR in let allows = g.K.ChainRule.allows in let v = c.args.seat.now.me in let w = c.learn.new.seat.me in let seen = g.W.Witness.seen c.args.witness.now in let heard = g.W.Witness.heard c.args.witness.now in
+    let qsbr = g.P.GracePlan.QSBR in let allows = g.K.ChainRule.allows in let v = c.args.seat.now.me in let w = c.learn.new.seat.me in let seen = g.W.Caller.seen c.args.caller.now in let heard = g.W.Caller.heard c.args.caller.now in
     let hears = hears_caller qsbr allows seen heard v c.load_note.new.seat.me w c.load_note.ensures.looked c.tell_all-told.result.me.0 c.tell_all-told.ensures.told c.learn.ensures.2 in
     let chain = sym c.requires.right.1 ∙ ap (λ l. (own_in l).chain) (sym hears.chains) in
     subst (λ (l : Log). Publishes qsbr allows v.0 seen heard [] (ChainNote c.args.chain c.args.note) l) (ap (λ z. z.0.seen) (sym c.tell-heard.ensures.2))

@@ -5,11 +5,11 @@ use Rattle.rcu.proofs.waiting.alloc_when_free.Goals as goal
 
 pub returns-in-Ok-clause-heard : goal.returns-in-Ok-clause-heard
 returns-in-Ok-clause-heard g c =
-    let seen : Log = g.W.Witness.seen c.args.witness.now in let heard : Log = g.W.Witness.heard c.args.witness.now in
-    still_after g.P.GracePlan.QSBR g.K.ChainRule.allows seen heard (g.W.Witness.seen c.loop.witness) (g.W.Witness.heard c.loop.witness) (g.W.Witness.heard c.alloc.new.witness) c.loop.invariant.0.0 c.loop.invariant.1 c.alloc.ensures.heard
+    let seen : Log = g.W.Caller.seen c.args.caller.now in let heard : Log = g.W.Caller.heard c.args.caller.now in
+    still_after g.P.GracePlan.QSBR g.K.ChainRule.allows seen heard (g.W.Caller.seen c.loop.caller) (g.W.Caller.heard c.loop.caller) (g.W.Caller.heard c.alloc.new.caller) c.loop.invariant.0.0 c.loop.invariant.1 c.alloc.ensures.heard
 
 pub loop-preserved : goal.loop-preserved
 loop-preserved g c = (
-  stays_on g.W.Witness c.args.witness.now c.loop.witness c.alloc.new.witness c.loop.invariant.0 c.alloc.ensures.same.0,
-  begins_trans (g.W.Witness.heard c.args.witness.now) (g.W.Witness.heard c.loop.witness) (g.W.Witness.heard c.alloc.new.witness) c.loop.invariant.1 c.alloc.ensures.heard.after_heard,
+  stays_on g.W.Caller c.args.caller.now c.loop.caller c.alloc.new.caller c.loop.invariant.0 c.alloc.ensures.same.0,
+  begins_trans (g.W.Caller.heard c.args.caller.now) (g.W.Caller.heard c.loop.caller) (g.W.Caller.heard c.alloc.new.caller) c.loop.invariant.1 c.alloc.ensures.heard.after_heard,
 )

@@ -12,12 +12,12 @@ loop-init g c = record {
   heard = ([], refl);
   looks = ([], refl);
   loads = ([], refl);
-  same = (refl, refl, refl, λ h. h, refl);
+  same = (refl, refl, λ h. h, refl);
 }
 
 pub loop-preserved : goal.loop-preserved
 loop-preserved g c =
-    let w = g.W.Witness in let w0 = c.args.witness.now in let w1 = c.loop.witness in let w2 = c.discard.new.witness in
+    let w = g.W.Caller in let w0 = c.args.caller.now in let w1 = c.loop.caller in let w2 = c.discard.new.caller in
     let i = c.loop.invariant in let e = c.discard.ensures in let x : ℕ × ℕ = (cell_at g.B.Site.sizes (cell_in c.in-Some.copied.owned.seat.me.0.object) 0, 0) in record {
       left = let more = c.in-Some.ensures.cases.1 in let was = i.left in omega arith;
       heard = begins_trans (w.heard w0) (w.heard w1) (w.heard w2) i.heard e.heard.0.after_heard;

@@ -7,8 +7,8 @@ use Rattle.rcu_hash.proofs.copying.discard_all.Given as goal
 abbrev pub invariant-loop : goal.invariant-loop
 invariant-loop g l = record {
   left : into_iter_len l.rest + l.counter ≡ l.many;
-  heard : Begins (g.W.Witness.heard l.fn.witness) (g.W.Witness.heard l.witness);
-  looks : (found : List (ℕ × ℕ)) × (g.W.Witness.looks l.witness ≡ found ++ g.W.Witness.looks l.fn.witness);
-  loads : (logs : List Log) × (g.W.Witness.loads l.witness ≡ logs ++ g.W.Witness.loads l.fn.witness);
-  same : Stays g.W.Witness l.fn.witness l.witness;
+  heard : Begins (g.W.Caller.heard l.fn.caller) (g.W.Caller.heard l.caller);
+  looks : (found : List (ℕ × ℕ)) × (g.W.Caller.looks l.caller ≡ found ++ g.W.Caller.looks l.fn.caller);
+  loads : (logs : List Log) × (g.W.Caller.loads l.caller ≡ logs ++ g.W.Caller.loads l.fn.caller);
+  same : Stays g.W.Caller l.fn.caller l.caller;
 }

@@ -37,27 +37,29 @@ loop-init g c = let r = c.requires in let rest = c.into_iter-rest.ensures in rec
   filled = λ start from. ([], refl);
   numbers = refl;
   heard = ([], refl);
-  same = (record { changes = []; are = refl; made = (refl, refl, refl, λ h. h, refl) }, refl, refl);
+  same = (record { changes = []; are = refl; made = (refl, refl, λ h. h, refl) }, refl, refl);
 }
 
-pub push-requires-clause-rule : goal.push-requires-clause-rule
-push-requires-clause-rule g c =
-    let q = g.P.GracePlan.QSBR in let w = g.W.Witness in let i = c.loop.invariant in let x = c.in-Some.copied in let chain = c.index_mut.result.now in let n = c.len-buckets.result in
-    let items = c.loop.chains.items in let vs = map (λ c. c.seat.me.0) items in let v = chain.seat.me.0 in
-    let next = c.in-Some.ensures.cases.0 in
-    let low : x.key % n < n = mod_below x.key n (let some = c.requires.chains.0 in let len = c.len-buckets.ensures in omega arith) in
-    let at : slice_get vs (x.key % n) ≡ Some v = slice_get-map (λ c. c.seat.me.0) items (x.key % n) ∙ ap (option_map (λ c. c.seat.me.0)) (slice_get_read items (vec_len c.loop.chains) (x.key % n) chain c.loop.chains.ok.0 (let m = i.many in omega arith) c.index_mut.ensures.value) in
-    let all = map (λ c. (c.key, c.value)) c.args.copied.items in
-    let rank = ranked_next (λ c. (c.key, c.value)) (λ c. c.rank) all i.done c.loop.rest.rest.items c.next.new.self.rest.items x next c.loop.counter i.ranked in
-    let new = next_new (λ c. (c.key, c.value)) (λ c. c.rank) all i.done c.loop.rest.rest.items c.next.new.self.rest.items x next i.split c.requires.copied.0 in
-    may_put q v (w.seen c.loop.witness) (w.heard c.loop.witness) x.owned.seat.me.0.seen chain.owns.0 chain.owns.1 c.loop.counter (each_at (Holds c.loop.counter) vs (x.key % n) v i.holds at) x.owned.seat.me.0 x.key x.value
-    (x.words ∙ ap (words_of x.key x.value) rank.0)
-    (ap (λ z. value_at z x.key) (sym at) ∙ (i.values x.key ∙ new))
+pub push-requires : goal.push-requires
+push-requires g c = record {
+  rule =
+      let q = g.P.GracePlan.QSBR in let w = g.W.Caller in let i = c.loop.invariant in let x = c.in-Some.copied in let chain = c.index_mut.result.now in let n = c.len-buckets.result in
+      let items = c.loop.chains.items in let vs = map (λ c. c.seat.me.0) items in let v = chain.seat.me.0 in
+      let next = c.in-Some.ensures.cases.0 in
+      let low : x.key % n < n = mod_below x.key n (let some = c.requires.chains.0 in let len = c.len-buckets.ensures in omega arith) in
+      let at : slice_get vs (x.key % n) ≡ Some v = slice_get-map (λ c. c.seat.me.0) items (x.key % n) ∙ ap (option_map (λ c. c.seat.me.0)) (slice_get_read items (vec_len c.loop.chains) (x.key % n) chain c.loop.chains.ok.0 (let m = i.many in omega arith) c.index_mut.ensures.value) in
+      let all = map (λ c. (c.key, c.value)) c.args.copied.items in
+      let rank = ranked_next (λ c. (c.key, c.value)) (λ c. c.rank) all i.done c.loop.rest.rest.items c.next.new.self.rest.items x next c.loop.counter i.ranked in
+      let new = next_new (λ c. (c.key, c.value)) (λ c. c.rank) all i.done c.loop.rest.rest.items c.next.new.self.rest.items x next i.split c.requires.copied.0 in
+      may_put q v (w.seen c.loop.caller) (w.heard c.loop.caller) x.owned.seat.me.0.seen chain.owns.0 chain.owns.1 c.loop.counter (each_at (Holds c.loop.counter) vs (x.key % n) v i.holds at) x.owned.seat.me.0 x.key x.value
+      (x.words ∙ ap (words_of x.key x.value) rank.0)
+      (ap (λ z. value_at z x.key) (sym at) ∙ (i.values x.key ∙ new));
+}
 
 pub loop-preserved : goal.loop-preserved
 loop-preserved g c =
-    let q = g.P.GracePlan.QSBR in let w = g.W.Witness in let i = c.loop.invariant in let x = c.in-Some.copied in let chain = c.index_mut.result.now in let now = c.push.new.self in let n = c.len-buckets.result in let p = c.push.ensures in
-    let w0 = c.args.witness.now in let w1 = c.loop.witness in let w2 = c.push.new.witness in
+    let q = g.P.GracePlan.QSBR in let w = g.W.Caller in let i = c.loop.invariant in let x = c.in-Some.copied in let chain = c.index_mut.result.now in let now = c.push.new.self in let n = c.len-buckets.result in let p = c.push.ensures in
+    let w0 = c.args.caller.now in let w1 = c.loop.caller in let w2 = c.push.new.caller in
     let items = c.loop.chains.items in let vs = map (λ c. c.seat.me.0) items in let v = chain.seat.me.0 in let k = x.key % n in
     let next = c.in-Some.ensures.cases.0 in
     let low : x.key % n < n = mod_below x.key n (let some = c.requires.chains.0 in let len = c.len-buckets.ensures in omega arith) in
@@ -111,7 +113,7 @@ returns-clause-values g c key =
 
 pub returns-clause-filled : goal.returns-clause-filled
 returns-clause-filled g c start from =
-    let q = g.P.GracePlan.QSBR in let w = g.W.Witness in let w0 = c.args.witness.now in let w1 = c.loop.witness in let i = c.loop.invariant in
+    let q = g.P.GracePlan.QSBR in let w = g.W.Caller in let w0 = c.args.caller.now in let w1 = c.loop.caller in let i = c.loop.invariant in
     let none : c.loop.rest.rest.items ≡ [] = nil_from_length c.loop.rest.rest.items (let left = i.left in let end = c.loop-test.false in let most = c.loop.auto.counter-end in let ok = c.loop.rest.rest.ok.0 in omega arith) in
     let all = i.split ∙ (ap (λ l. i.done ++ map (λ c. (c.key, c.value)) l) none ∙ append-nil i.done) in
     subst (λ (es : List (ℕ × ℕ)). CopiesAll (Writes q tabled (w.seen w0)) start (vec_len c.args.chains.now) (w.heard w0) es (w.heard w1)) (sym all)
@@ -129,4 +131,4 @@ pub returns-clause-same : goal.returns-clause-same
 returns-clause-same g c =
     let i = c.loop.invariant in
     let all : c.loop.counter ≡ vec_len c.args.copied = let left = i.left in let end = c.loop-test.false in let most = c.loop.auto.counter-end in let many = c.len-many.ensures in omega arith in
-    subst (OnlyMakesMany g.W.Witness c.args.witness.now c.loop.witness) all i.same
+    subst (OnlyMakesMany g.W.Caller c.args.caller.now c.loop.caller) all i.same

@@ -20,8 +20,8 @@ invariant-loop g l = record {
   ranked : AreRanked l.counter (map (λ c. c.rank) (into_iter_items l.rest));
   holds : Each (Holds l.counter) (map (λ c. c.seat.me.0) l.chains.items);
   values : (key : ℕ) → value_at (slice_get (map (λ c. c.seat.me.0) l.chains.items) (key % l.buckets)) key ≡ value_among done key;
-  filled : (first : ℕ) → AreFrom first (map (λ c. c.seat.me.0) l.fn.chains.items) → CopiesAll (Writes g.P.GracePlan.QSBR tabled (g.W.Witness.seen l.fn.witness)) first l.buckets (g.W.Witness.heard l.fn.witness) done (g.W.Witness.heard l.witness);
+  filled : (first : ℕ) → AreFrom first (map (λ c. c.seat.me.0) l.fn.chains.items) → CopiesAll (Writes g.P.GracePlan.QSBR tabled (g.W.Caller.seen l.fn.caller)) first l.buckets (g.W.Caller.heard l.fn.caller) done (g.W.Caller.heard l.caller);
   numbers : map (λ c. c.number) l.chains.items ≡ map (λ c. c.number) l.fn.chains.items;
-  heard : Begins (g.W.Witness.heard l.fn.witness) (g.W.Witness.heard l.witness);
-  same : OnlyMakesMany g.W.Witness l.fn.witness l.witness l.counter;
+  heard : Begins (g.W.Caller.heard l.fn.caller) (g.W.Caller.heard l.caller);
+  same : OnlyMakesMany g.W.Caller l.fn.caller l.caller l.counter;
 }

@@ -32,24 +32,26 @@ lend_all-old_lents-requires-clause-known g c =
     let is : one.seat.me.0.chains ≡ own_in one.seat.me.0.chains ∷ [] = one.owns.0 ∙ ap (λ (xs : List ChainRight). own_in one.seat.me.0.chains ∷ xs) (ap (λ (v : View). lent_chains v.chains) looked.1.1 ∙ dir.own.1) in
     (subst (AreAsKnown one.seat.me.0.seen) (sym is) ((one.owns.1.0, one.owns.1.2), tt), looked.1.2.2)
 
-pub replace-requires-clause-rule : goal.replace-requires-clause-rule
-replace-requires-clause-rule g c p at =
-    let q = g.P.GracePlan.QSBR in let dir = c.args.directory in let d = dir.naming.directory in let first = c.args.first in let many = vec_len c.args.news.chains in
-    let vs = map (λ x. x.seat.me.0) c.args.olds.chains.items in let us = map (λ x. x.seat.me.0) c.args.news.chains.items in
-    let looked = c.note.ensures.looked in let e1 = c.lend_all-old_lents.ensures in let e2 = c.lend_all-new_lents.ensures in
-    let zero = dir.chain.seat.me.0 in let one = c.note.new.self.seat.me.0 in let three = c.lend_all-new_lents.new.to.seat.me.0 in let x : ChainRight = own_in zero.chains in
-    let lent : three.chains ≡ x ∷ (rights_of vs ++ rights_of us) = e2.chains ∙ ap (λ (xs : List ChainRight). xs ++ rights_of us) (e1.chains ∙ ap (λ (xs : List ChainRight). xs ++ rights_of vs) (ap (λ (v : View). v.chains) looked.1.1 ∙ (dir.chain.owns.0 ∙ ap (λ (xs : List ChainRight). x ∷ xs) dir.own.1))) in
-    let here : length us ≡ many = length-map c.args.news.chains.items (λ x. x.seat.me.0) ∙ sym c.args.news.chains.ok.0 in
-    let two = c.lend_all-old_lents.new.to.seat.me.0 in
-    let o = dir.naming.object in let owned = c.args.owned.seat.me.0 in
-    let list : list_in three ≡ o ∷ [] = ap (λ (xs : List ChainRight). (own_in xs).objects) lent ∙ dir.alone in
-    let own : x.chain ≡ d = dir.chain.owns.2 ∙ dir.own.0 in
-    let is : o ≡ p = first_only o p (list_in three) list at in
-    let notes : Each (HasNote (d + 1)) us = each_map (Noted c.requires.noted.0 (d + 1)) (HasNote (d + 1)) (λ v n. n.is) us c.requires.noted.2 in
-    let later : Begins zero.seen three.seen = begins_trans zero.seen one.seen three.seen looked.1.2.0 (begins_trans one.seen two.seen three.seen e1.later.0 e2.later.0) in
-    let directory : (log : Log) → Begins three.seen log → IsLiveRun q tabled log → IsDirectory (note_of log p) = λ log goes run.
-    subst (λ (z : ObjectId). IsDirectory (note_of log z)) is (directory_by log o dir.naming.first dir.naming.buckets (words_since q zero log o dir.naming.first dir.naming.buckets (begins_trans zero.seen three.seen log later goes) run dir.chain.owns.1 dir.alone dir.words)) in
-    may_relink q three owned x d first many vs us lent own dir.own.2 c.requires.record here c.requires.news.2 notes c.requires.apart.0 (g.W.Witness.seen c.args.witness.now) (g.W.Witness.heard c.args.witness.now) p directory
+pub replace-requires : goal.replace-requires
+replace-requires g c = record {
+  rule = λ p at.
+      let q = g.P.GracePlan.QSBR in let dir = c.args.directory in let d = dir.naming.directory in let first = c.args.first in let many = vec_len c.args.news.chains in
+      let vs = map (λ x. x.seat.me.0) c.args.olds.chains.items in let us = map (λ x. x.seat.me.0) c.args.news.chains.items in
+      let looked = c.note.ensures.looked in let e1 = c.lend_all-old_lents.ensures in let e2 = c.lend_all-new_lents.ensures in
+      let zero = dir.chain.seat.me.0 in let one = c.note.new.self.seat.me.0 in let three = c.lend_all-new_lents.new.to.seat.me.0 in let x : ChainRight = own_in zero.chains in
+      let lent : three.chains ≡ x ∷ (rights_of vs ++ rights_of us) = e2.chains ∙ ap (λ (xs : List ChainRight). xs ++ rights_of us) (e1.chains ∙ ap (λ (xs : List ChainRight). xs ++ rights_of vs) (ap (λ (v : View). v.chains) looked.1.1 ∙ (dir.chain.owns.0 ∙ ap (λ (xs : List ChainRight). x ∷ xs) dir.own.1))) in
+      let here : length us ≡ many = length-map c.args.news.chains.items (λ x. x.seat.me.0) ∙ sym c.args.news.chains.ok.0 in
+      let two = c.lend_all-old_lents.new.to.seat.me.0 in
+      let o = dir.naming.object in let owned = c.args.owned.seat.me.0 in
+      let list : list_in three ≡ o ∷ [] = ap (λ (xs : List ChainRight). (own_in xs).objects) lent ∙ dir.alone in
+      let own : x.chain ≡ d = dir.chain.owns.2 ∙ dir.own.0 in
+      let is : o ≡ p = first_only o p (list_in three) list at in
+      let notes : Each (HasNote (d + 1)) us = each_map (Noted c.requires.noted.0 (d + 1)) (HasNote (d + 1)) (λ v n. n.is) us c.requires.noted.2 in
+      let later : Begins zero.seen three.seen = begins_trans zero.seen one.seen three.seen looked.1.2.0 (begins_trans one.seen two.seen three.seen e1.later.0 e2.later.0) in
+      let directory : (log : Log) → Begins three.seen log → IsLiveRun q tabled log → IsDirectory (note_of log p) = λ log goes run.
+      subst (λ (z : ObjectId). IsDirectory (note_of log z)) is (directory_by log o dir.naming.first dir.naming.buckets (words_since q zero log o dir.naming.first dir.naming.buckets (begins_trans zero.seen three.seen log later goes) run dir.chain.owns.1 dir.alone dir.words)) in
+      may_relink q three owned x d first many vs us lent own dir.own.2 c.requires.record here c.requires.news.2 notes c.requires.apart.0 (g.W.Caller.seen c.args.caller.now) (g.W.Caller.heard c.args.caller.now) p directory;
+}
 
 pub take_all_back-left-requires-clause-room : goal.take_all_back-left-requires-clause-room
 take_all_back-left-requires-clause-room g c =
@@ -258,7 +260,7 @@ returns-clause-grown g c entries apart had =
     let saw : Each (SawBefore before) us = saw_on three.seen before p.after.after_writer.0 us e2.later.1 in
     let listed_old : Each IsListed vs = each_all IsListed c.args.olds.chains.items (λ x. x.seat.me.0) (λ x. x.owns.1) in
     let listed : Each IsListed us = each_all IsListed c.args.news.chains.items (λ x. x.seat.me.0) (λ x. x.owns.1) in
-    let w = g.W.Witness in let w0 = c.args.witness.now in let chains = g.B.Site.sizes.chains in
+    let w = g.W.Caller in let w0 = c.args.caller.now in let chains = g.B.Site.sizes.chains in
     let by_old : (key : ℕ) → value_in_bucket (vec_len c.args.olds.chains) vs key ≡ value_in_bucket dir.naming.buckets vs key = λ key. ap (λ (n : ℕ). value_in_bucket n vs key) c.requires.olds.0 in
     let map_was : (key : ℕ) → directed_map chains d before key ≡ value_in_bucket dir.naming.buckets vs key = λ key. map_before q d o new cell first many before log wrote p.run dir.naming.first dir.naming.buckets x vs us known own dir.alone words c.requires.olds.1 many_old c.requires.news.2 here c.requires.apart.0 chains listed_old saw_old listed saw key dir.fits.0 dir.fits.1 in
     let map_is : (key : ℕ) → directed_map chains d log key ≡ value_in_bucket many us key = λ key. map_after q d o new cell first many before log wrote p.run dir.naming.first dir.naming.buckets x vs us known own dir.alone words c.requires.olds.1 many_old c.requires.news.2 here c.requires.apart.0 chains listed_old saw_old listed saw key c.requires.news.0 c.requires.news.1 in
@@ -276,4 +278,4 @@ returns-clause-grown g c entries apart had =
     })
 
 pub returns-clause-same : goal.returns-clause-same
-returns-clause-same g c = let s = c.in-Ok.ensures in subst (OnlyMakesLast g.W.Witness c.args.witness.now c.replace.new.witness) (sym s.heard) s.same
+returns-clause-same g c = let s = c.in-Ok.ensures in subst (OnlyMakesLast g.W.Caller c.args.caller.now c.replace.new.caller) (sym s.heard) s.same

@@ -49,8 +49,8 @@ exchange-directory-requires-clause-news g c =
 
 pub exchange-directory-requires-clause-noted : goal.exchange-directory-requires-clause-noted
 exchange-directory-requires-clause-noted g c =
-    let w = g.W.Witness in let d = c.take-place.result.1 in let is = c.take-place.ensures in let h = c.hear.ensures in let f = c.fill.ensures in let n = c.note_all.ensures in
-    let now = c.hear.new.self in let t : Log = now.seat.me.0.seen in let later : Log = w.heard c.fill.new.witness in let note = c.args.shelf.now.naming.directory + 1 in
+    let w = g.W.Caller in let d = c.take-place.result.1 in let is = c.take-place.ensures in let h = c.hear.ensures in let f = c.fill.ensures in let n = c.note_all.ensures in
+    let now = c.hear.new.self in let t : Log = now.seat.me.0.seen in let later : Log = w.heard c.fill.new.caller in let note = c.args.shelf.now.naming.directory + 1 in
     let ws = map (λ x. x.seat.me.0) c.note_all.result.items in
     let goes : Begins t later = subst (λ (l : Log). Begins l later) h.heard f.heard in (
       t,
@@ -89,7 +89,7 @@ invariant_of-result g c =
 
 pub returns-clause-grown : goal.returns-clause-grown
 returns-clause-grown g c =
-    let q = g.P.GracePlan.QSBR in let w = g.W.Witness in let w0 = c.args.witness.now in let w1 = c.hear.new.witness in let w2 = c.fill.new.witness in let w3 = c.note_all.new.witness in let w4 = c.exchange-directory.new.witness in
+    let q = g.P.GracePlan.QSBR in let w = g.W.Caller in let w0 = c.args.caller.now in let w1 = c.hear.new.caller in let w2 = c.fill.new.caller in let w3 = c.note_all.new.caller in let w4 = c.exchange-directory.new.caller in
     let is = c.take-place.ensures in let h = c.hear.ensures in let f = c.fill.ensures in let n = c.note_all.ensures in let o = c.chains_of.ensures in let x = c.exchange-directory.ensures in let r = c.requires.chains in
     let chains = g.B.Site.sizes.chains in let first = c.args.first in let m = vec_len c.args.growth.chains in let filled = c.fill.new.chains.items in let taken = map (λ y. y.chain.seat.me.0) c.args.growth.taken.items in let olds = map (λ y. y.seat.me.0) c.chains_of.result.items in
     let dir = c.take-place.result.1 in let z : Naming = dir.naming in let now = c.hear.new.self in let t : Log = now.seat.me.0.seen in
@@ -124,7 +124,7 @@ returns-clause-grown g c =
 
 pub returns-clause-same : goal.returns-clause-same
 returns-clause-same g c =
-    let w = g.W.Witness in let w0 = c.args.witness.now in let w1 = c.hear.new.witness in let w2 = c.fill.new.witness in let w3 = c.note_all.new.witness in let w4 = c.exchange-directory.new.witness in let k = vec_len c.args.growth.copied in
+    let w = g.W.Caller in let w0 = c.args.caller.now in let w1 = c.hear.new.caller in let w2 = c.fill.new.caller in let w3 = c.note_all.new.caller in let w4 = c.exchange-directory.new.caller in let k = vec_len c.args.growth.copied in
     let all : 0 + k ≡ k = omega arith in
     let filled = subst (OnlyMakesMany w w0 w2) all (more_only w w0 w1 w2 0 k (none_only w w0 w1 c.hear.ensures.same) c.fill.ensures.same) in
     let named = one_only w w2 w4 (w.heard w4) (hears_makes w w2 w3 w4 (w.heard w4) c.note_all.ensures.same c.exchange-directory.ensures.same) in

@@ -14,7 +14,7 @@ use Rattle.rcu_hash.proofs.growth.copy_all.Goals as goal
 
 pub loop-number-preserved : goal.loop-number-preserved
 loop-number-preserved g c =
-    let w = g.W.Witness in let w0 = c.args.witness.now in let w1 = c.loop-number.witness in let w2 = c.copy-answer.new.witness in
+    let w = g.W.Caller in let w0 = c.args.caller.now in let w1 = c.loop-number.caller in let w2 = c.copy-answer.new.caller in
     let i = c.loop-number.invariant in let e = c.copy-answer.ensures in let ok = c.in_ok-answer.ensures in let t = c.take-place.ensures in let p = c.push_reserved.ensures in
     let had = c.loop-number.taken.items in let one = c.copy-answer.new.self in let shelf = c.args.shelf.now in let number = c.loop-number.number in
     let vs = map (λ b. b.chain.seat.me.0) had in let v : View = one.chain.seat.me.0 in
@@ -33,12 +33,12 @@ loop-number-preserved g c =
 
 pub returns-in_err-answer-clause-heard : goal.returns-in_err-answer-clause-heard
 returns-in_err-answer-clause-heard g c =
-    let w = g.W.Witness in begins_trans (w.heard c.args.witness.now) (w.heard c.loop-number.witness) (w.heard c.copy-answer.new.witness) c.loop-number.invariant.heard c.copy-answer.ensures.heard
+    let w = g.W.Caller in begins_trans (w.heard c.args.caller.now) (w.heard c.loop-number.caller) (w.heard c.copy-answer.new.caller) c.loop-number.invariant.heard c.copy-answer.ensures.heard
 
 pub returns-in_err-answer-clause-looks : goal.returns-in_err-answer-clause-looks
 returns-in_err-answer-clause-looks g c =
-    let w = g.W.Witness in let i = c.loop-number.invariant in let e = c.in_err-answer.ensures in let p = err_from_is_err_and c.from_residual.result c.from_residual.ensures.1 in (
+    let w = g.W.Caller in let i = c.loop-number.invariant in let e = c.in_err-answer.ensures in let p = err_from_is_err_and c.from_residual.result c.from_residual.ensures.1 in (
       e.looks.0 ++ i.looks.0,
-      looks_both (w.looks c.args.witness.now) (w.looks c.loop-number.witness) (w.looks c.copy-answer.new.witness) i.looks.0 e.looks.0 i.looks.1 e.looks.1,
+      looks_both (w.looks c.args.caller.now) (w.looks c.loop-number.caller) (w.looks c.copy-answer.new.caller) i.looks.0 e.looks.0 i.looks.1 e.looks.1,
       rw p.1 (λ is. found_more g.B.Site.sizes e.looks.0 i.looks.0 (e.looks.2 (sym p.2 ∙ is))),
     )

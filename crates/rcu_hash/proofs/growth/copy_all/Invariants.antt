@@ -12,7 +12,7 @@ invariant-loop-number g l = record {
   from : AreFrom l.fn.shelf.naming.first (map (λ b. b.chain.seat.me.0) l.taken.items);
   copied : (key : ℕ) → value_among (map (λ c. (c.key, c.value)) l.copied.items) key ≡ value_in_bucket l.fn.shelf.naming.buckets (map (λ b. b.chain.seat.me.0) l.taken.items) key;
   apart : AreApart (map (λ c. (c.key, c.value)) l.copied.items) × AreRanked 0 (map (λ c. c.rank) l.copied.items);
-  heard : Begins (g.W.Witness.heard l.fn.witness) (g.W.Witness.heard l.witness);
-  looks : (found : List (ℕ × ℕ)) × (g.W.Witness.looks l.witness ≡ found ++ g.W.Witness.looks l.fn.witness);
-  same : Stays g.W.Witness l.fn.witness l.witness × (g.W.Witness.loads l.witness ≡ g.W.Witness.loads l.fn.witness);
+  heard : Begins (g.W.Caller.heard l.fn.caller) (g.W.Caller.heard l.caller);
+  looks : (found : List (ℕ × ℕ)) × (g.W.Caller.looks l.caller ≡ found ++ g.W.Caller.looks l.fn.caller);
+  same : Stays g.W.Caller l.fn.caller l.caller × (g.W.Caller.loads l.caller ≡ g.W.Caller.loads l.fn.caller);
 }

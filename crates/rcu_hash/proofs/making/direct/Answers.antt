@@ -32,14 +32,16 @@ lend_all-lents-requires-clause-known g c =
     let chain = c.args.chain in let is = chain.owns.0 ∙ ap (λ (xs : List ChainRight). own_in chain.seat.me.0.chains ∷ xs) c.requires.own.1 in
     (subst (AreAsKnown chain.seat.me.0.seen) (sym is) ((chain.owns.1.0, chain.owns.1.2), tt), c.requires.own.2)
 
-pub push-object-requires-clause-rule : goal.push-object-requires-clause-rule
-push-object-requires-clause-rule g c =
-    let q = g.P.GracePlan.QSBR in let chain = c.args.chain in let vs = map (λ x. x.seat.me.0) c.args.chains.items in let two = c.lend_all-lents.new.to in let e = c.lend_all-lents.ensures in
-    let lent : two.seat.me.0.chains ≡ own_in chain.seat.me.0.chains ∷ rights_of vs = e.chains ∙ ap (λ (xs : List ChainRight). xs ++ rights_of vs) (chain.owns.0 ∙ ap (λ (xs : List ChainRight). own_in chain.seat.me.0.chains ∷ xs) c.requires.own.1) in
-    may_direct q two.seat.me.0 c.args.owned.seat.me.0 (own_in chain.seat.me.0.chains) chain.number c.args.first (length c.args.chains.items) vs lent chain.owns.2 c.requires.own.0.1
-    (c.requires.record ∙ ap (words_by c.args.first) c.args.chains.ok.0) (length-map c.args.chains.items (λ x. x.seat.me.0)) c.requires.chains.0 c.requires.chains.2
-    (subst (λ (n : ℕ). (chain.number < c.args.first) ⊎ (c.args.first + n ≤ chain.number)) c.args.chains.ok.0 c.requires.range.2)
-    (g.W.Witness.seen c.args.witness.now) (g.W.Witness.heard c.args.witness.now) c.requires.own.0.0
+pub push-object-requires : goal.push-object-requires
+push-object-requires g c = record {
+  rule =
+      let q = g.P.GracePlan.QSBR in let chain = c.args.chain in let vs = map (λ x. x.seat.me.0) c.args.chains.items in let two = c.lend_all-lents.new.to in let e = c.lend_all-lents.ensures in
+      let lent : two.seat.me.0.chains ≡ own_in chain.seat.me.0.chains ∷ rights_of vs = e.chains ∙ ap (λ (xs : List ChainRight). xs ++ rights_of vs) (chain.owns.0 ∙ ap (λ (xs : List ChainRight). own_in chain.seat.me.0.chains ∷ xs) c.requires.own.1) in
+      may_direct q two.seat.me.0 c.args.owned.seat.me.0 (own_in chain.seat.me.0.chains) chain.number c.args.first (length c.args.chains.items) vs lent chain.owns.2 c.requires.own.0.1
+      (c.requires.record ∙ ap (words_by c.args.first) c.args.chains.ok.0) (length-map c.args.chains.items (λ x. x.seat.me.0)) c.requires.chains.0 c.requires.chains.2
+      (subst (λ (n : ℕ). (chain.number < c.args.first) ⊎ (c.args.first + n ≤ chain.number)) c.args.chains.ok.0 c.requires.range.2)
+      (g.W.Caller.seen c.args.caller.now) (g.W.Caller.heard c.args.caller.now) c.requires.own.0.0;
+}
 
 pub take_all_back-back-requires-clause-room : goal.take_all_back-back-requires-clause-room
 take_all_back-back-requires-clause-room g c =
@@ -77,7 +79,7 @@ invariant_of-result g c =
 
 pub returns-clause-heard : goal.returns-clause-heard
 returns-clause-heard g c =
-    let q = g.P.GracePlan.QSBR in let w = g.W.Witness in let w0 = c.args.witness.now in let p = c.push-object.ensures in let log : Log = c.push-object.new.self.seat.me.0.seen in let before : Log = p.pushed.before in
+    let q = g.P.GracePlan.QSBR in let w = g.W.Caller in let w0 = c.args.caller.now in let p = c.push-object.ensures in let log : Log = c.push-object.new.self.seat.me.0.seen in let before : Log = p.pushed.before in
     let goes : Begins before log = (_ ∷ [], p.pushed.wrote) in
     subst (IsAfter q tabled (w.seen w0) (w.heard w0)) (sym p.heard) (record {
       after_seen = begins_trans (w.seen w0) before log p.pushed.after.after_caller.0 goes;
@@ -148,7 +150,7 @@ returns-clause-chains g c =
 
 pub returns-clause-pushed : goal.returns-clause-pushed
 returns-clause-pushed g c =
-    let q = g.P.GracePlan.QSBR in let w = g.W.Witness in let w0 = c.args.witness.now in let chain = c.args.chain in let two = c.lend_all-lents.new.to in let p = c.push-object.ensures in let owned = c.args.owned.seat.me.0 in
+    let q = g.P.GracePlan.QSBR in let w = g.W.Caller in let w0 = c.args.caller.now in let chain = c.args.chain in let two = c.lend_all-lents.new.to in let p = c.push-object.ensures in let owned = c.args.owned.seat.me.0 in
     let cell = cell_in owned.object in let words = words_by c.args.first (vec_len c.args.chains) in
     let number : (own_in two.seat.me.0.chains).chain ≡ chain.number = two.owns.2 ∙ c.lend_all-lents.ensures.same.0 in
     let event : push_by two.seat.me.0 owned ≡ Object (Push chain.number (object_in owned.object) cell words) = λ i. Object (Push (number i) (object_in owned.object) cell (c.requires.record i)) in (
@@ -162,4 +164,4 @@ returns-clause-pushed g c =
     )
 
 pub returns-clause-same : goal.returns-clause-same
-returns-clause-same g c = let p = c.push-object.ensures in subst (OnlyMakesLast g.W.Witness c.args.witness.now c.push-object.new.witness) (sym p.heard) p.same
+returns-clause-same g c = let p = c.push-object.ensures in subst (OnlyMakesLast g.W.Caller c.args.caller.now c.push-object.new.caller) (sym p.heard) p.same

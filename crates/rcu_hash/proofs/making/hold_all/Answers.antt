@@ -15,7 +15,7 @@ use Rattle.rcu_hash.proofs.making.hold_all.Goals as goal
 
 pub loop-number-preserved : goal.loop-number-preserved
 loop-number-preserved g c =
-    let w = g.W.Witness in let w0 = c.args.witness.now in let w1 = c.loop-number.witness in let w2 = c.hold_empty.new.witness in
+    let w = g.W.Caller in let w0 = c.args.caller.now in let w1 = c.loop-number.caller in let w2 = c.hold_empty.new.caller in
     let i = c.loop-number.invariant in let e = c.in_ok-hold_empty.ensures in let p = c.push_reserved.ensures in
     let had = c.loop-number.chains.items in let one = c.in_ok-hold_empty.field-0 in let first = c.args.first in
     let views : map (λ c. c.seat.me.0) c.push_reserved.new.self.items ≡ map (λ c. c.seat.me.0) had ++ one.seat.me.0 ∷ [] = ap (map (λ c. c.seat.me.0)) p.items ∙ map-append (λ c. c.seat.me.0) had (one ∷ []) in
@@ -43,19 +43,19 @@ loop-number-preserved g c =
 
 pub returns-in_err-hold_empty-clause-heard : goal.returns-in_err-hold_empty-clause-heard
 returns-in_err-hold_empty-clause-heard g c =
-    let w = g.W.Witness in begins_trans (w.heard c.args.witness.now) (w.heard c.loop-number.witness) (w.heard c.hold_empty.new.witness) c.loop-number.invariant.6 c.hold_empty.ensures.heard.after_heard
+    let w = g.W.Caller in begins_trans (w.heard c.args.caller.now) (w.heard c.loop-number.caller) (w.heard c.hold_empty.new.caller) c.loop-number.invariant.6 c.hold_empty.ensures.heard.after_heard
 
 pub returns-in_err-hold_empty-clause-same : goal.returns-in_err-hold_empty-clause-same
 returns-in_err-hold_empty-clause-same g c =
-    let w = g.W.Witness in let w0 = c.args.witness.now in let i = c.loop-number.invariant in let same = c.hold_empty.ensures.same in (
-      stays_both w w0 c.loop-number.witness c.hold_empty.new.witness i.3 same.0,
+    let w = g.W.Caller in let w0 = c.args.caller.now in let i = c.loop-number.invariant in let same = c.hold_empty.ensures.same in (
+      stays_both w w0 c.loop-number.caller c.hold_empty.new.caller i.3 same.0,
       same.1 ∙ i.4,
       (same.2.0 ++ i.5.0, same.2.1 ∙ (ap (λ (l : List (ℕ × ℕ)). same.2.0 ++ l) i.5.1 ∙ sym (append_assoc same.2.0 i.5.0 (w.looks w0)))),
     )
 
 pub returns-in_err-hold_empty-clause-refused : goal.returns-in_err-hold_empty-clause-refused
 returns-in_err-hold_empty-clause-refused g c =
-    let w = g.W.Witness in let w0 = c.args.witness.now in let w1 = c.loop-number.witness in let w2 = c.hold_empty.new.witness in
+    let w = g.W.Caller in let w0 = c.args.caller.now in let w1 = c.loop-number.caller in let w2 = c.hold_empty.new.caller in
     let i = c.loop-number.invariant in let first = c.args.first in let p = err_from_is_err_and c.from_residual.result c.from_residual.ensures.1 in let no = c.in_err-hold_empty.ensures.refused in
     rw p.1 (
       p.2 ∙ no.0,

@@ -10,7 +10,7 @@ use Rattle.rcu_hash.proofs.making.hold_all.Given as goal
 
 abbrev pub invariant-loop-number : goal.invariant-loop-number
 invariant-loop-number g l =
-    let w = g.W.Witness in let old = l.fn.witness in let new = l.witness in
+    let w = g.W.Caller in let old = l.fn.caller in let new = l.caller in
     (vec_len l.chains ≡ l.number) × (length l.chains.items ≡ l.number) × (l.many ≤ vec_capacity l.chains)
     × Stays w old new × (w.loads new ≡ w.loads old) × ((found : List (ℕ × ℕ)) × (w.looks new ≡ found ++ w.looks old) × AreHoldsOf g.B.Site.sizes (λ c. c < l.first + l.number) found) × Begins (w.heard old) (w.heard new)
     × FindsFree w g.P.GracePlan.QSBR tabled old new (IsAmong l.first l.number)

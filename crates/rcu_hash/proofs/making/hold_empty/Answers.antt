@@ -21,17 +21,17 @@ other_word place same = let words : 1 ≡ 0 = ap (λ (x : ℕ × ℕ). x.1) same
 -- its hold word told that it has a writer
 pub returns-in-Err-clause-refused : goal.returns-in-Err-clause-refused
 returns-in-Err-clause-refused g c =
-    let w = g.W.Witness in let place = hold_at g.B.Site.sizes c.args.chain in ⊎_elim
-    (λ none. let over = none.1 in let low = c.requires.1 in absurd (omega (arith, over, low)))
+    let w = g.W.Caller in let place = hold_at g.B.Site.sizes c.args.chain in ⊎_elim
+    (λ none. let over = none.1 in let low = c.requires in absurd (omega (arith, over, low)))
     (λ busy. (refl, record { chain = c.args.chain; one = refl; found = (place, 1) ∷ []; looks = busy.2; why = inl (inl refl, λ h. ⊎_elim (λ same. absurd (other_word place same)) (λ none. absurd none) h) }))
     c.in-Err.ensures.refused
 
 pub returns-in-Err-clause-heard : goal.returns-in-Err-clause-heard
-returns-in-Err-clause-heard g c = c.chain.ensures.heard c.requires.1
+returns-in-Err-clause-heard g c = c.chain.ensures.heard c.requires
 
 pub returns-in-Err-clause-same : goal.returns-in-Err-clause-same
 returns-in-Err-clause-same g c =
-    let w = g.W.Witness in let e = c.chain.ensures in let place = hold_at g.B.Site.sizes c.args.chain in
+    let w = g.W.Caller in let e = c.chain.ensures in let place = hold_at g.B.Site.sizes c.args.chain in
     (e.same.0, e.same.1, ⊎_elim (λ none. ([], ap w.looks none.2)) (λ busy. ((place, 1) ∷ [], busy.2)) c.in-Err.ensures.refused)
 
 -- what it links and which note it has, in the log of which the caller heard
@@ -44,13 +44,13 @@ known chain v log heard number listed = (
 -- it links an object, or has a note
 pub returns-then-note-ne0-clause-refused : goal.returns-then-note-ne0-clause-refused
 returns-then-note-ne0-clause-refused g c =
-    let w = g.W.Witness in let place = hold_at g.B.Site.sizes c.args.chain in let e = c.chain.ensures in let h = c.hear.ensures in let one = c.hear.new.self in let log : Log = w.heard c.hear.new.witness in
+    let w = g.W.Caller in let place = hold_at g.B.Site.sizes c.args.chain in let e = c.chain.ensures in let h = c.hear.ensures in let one = c.hear.new.self in let log : Log = w.heard c.hear.new.caller in
     let own : own_in c.note.new.self.seat.me.0.chains ≡ own_in one.seat.me.0.chains = ap (λ (v : View). own_in v.chains) c.note.ensures.looked.1.1 in
     let is = known c.args.chain one.seat.me.0 log h.heard (one.owns.2 ∙ (h.chains.1 ∙ c.in-Ok.ensures.held.0)) one.owns.1 in
     let t = h.told.0 in
-    let after : IsAfter g.P.GracePlan.QSBR tabled (w.seen c.args.witness.now) (w.heard c.args.witness.now) log = subst (IsAfter g.P.GracePlan.QSBR tabled (w.seen c.args.witness.now) (w.heard c.args.witness.now)) (sym h.heard) (record {
+    let after : IsAfter g.P.GracePlan.QSBR tabled (w.seen c.args.caller.now) (w.heard c.args.caller.now) log = subst (IsAfter g.P.GracePlan.QSBR tabled (w.seen c.args.caller.now) (w.heard c.args.caller.now)) (sym h.heard) (record {
       after_seen = subst (λ (l : Log). Begins l one.seat.me.0.seen) e.same.0.0 t.after_seen;
-      after_heard = begins_trans (w.heard c.args.witness.now) (w.heard c.chain.new.witness) one.seat.me.0.seen (e.heard c.requires.1).after_heard t.after_heard;
+      after_heard = begins_trans (w.heard c.args.caller.now) (w.heard c.chain.new.caller) one.seat.me.0.seen (e.heard c.requires).after_heard t.after_heard;
       run = t.run;
     }) in
     let used : IsInUse c.args.chain log = elim c.then-note-ne0.branch [ then-note-ne0-via-then-note-ne0 b ↦ inr (λ none. b.if-note-ne0.true (c.note.ensures.note.0 ∙ (sym is.1 ∙ none))) | then-note-ne0-via-else-note-ne0+then-len-ne0 b ↦ inl (λ none. b.if-len-ne0.true (b.len.ensures ∙ ap length (ap (λ (x : ChainRight). x.objects) own ∙ (sym is.0 ∙ none)))) ] in
@@ -58,30 +58,30 @@ returns-then-note-ne0-clause-refused g c =
 
 pub returns-then-note-ne0-clause-heard : goal.returns-then-note-ne0-clause-heard
 returns-then-note-ne0-clause-heard g c =
-    let w = g.W.Witness in let w0 = c.args.witness.now in let w1 = c.chain.new.witness in let w2 = c.hear.new.witness in let e = c.chain.ensures in let h = c.hear.ensures in let t = h.told.0 in
+    let w = g.W.Caller in let w0 = c.args.caller.now in let w1 = c.chain.new.caller in let w2 = c.hear.new.caller in let e = c.chain.ensures in let h = c.hear.ensures in let t = h.told.0 in
     subst (IsAfter g.P.GracePlan.QSBR tabled (w.seen w0) (w.heard w0)) (sym h.heard) (record {
       after_seen = subst (λ (l : Log). Begins l c.hear.new.self.seat.me.0.seen) e.same.0.0 t.after_seen;
-      after_heard = begins_trans (w.heard w0) (w.heard w1) c.hear.new.self.seat.me.0.seen (e.heard c.requires.1).after_heard t.after_heard;
+      after_heard = begins_trans (w.heard w0) (w.heard w1) c.hear.new.self.seat.me.0.seen (e.heard c.requires).after_heard t.after_heard;
       run = t.run;
     })
 
 pub returns-then-note-ne0-clause-same : goal.returns-then-note-ne0-clause-same
 returns-then-note-ne0-clause-same g c =
-    let w = g.W.Witness in let w0 = c.args.witness.now in let w1 = c.chain.new.witness in let w2 = c.hear.new.witness in let e = c.chain.ensures in let h = c.hear.ensures.same in let place = hold_at g.B.Site.sizes c.args.chain in
+    let w = g.W.Caller in let w0 = c.args.caller.now in let w1 = c.chain.new.caller in let w2 = c.hear.new.caller in let e = c.chain.ensures in let h = c.hear.ensures.same in let place = hold_at g.B.Site.sizes c.args.chain in
     (stays_both w w0 w1 w2 e.same.0 h.0.0, h.1 ∙ e.same.1, ((place, 0) ∷ [], h.0.1 ∙ c.in-Ok.ensures.held.2))
 
 pub returns-clause-heard : goal.returns-clause-heard
 returns-clause-heard g c =
-    let w = g.W.Witness in let w0 = c.args.witness.now in let w1 = c.chain.new.witness in let e = c.chain.ensures in let h = c.hear.ensures in let t = h.told.0 in
+    let w = g.W.Caller in let w0 = c.args.caller.now in let w1 = c.chain.new.caller in let e = c.chain.ensures in let h = c.hear.ensures in let t = h.told.0 in
     subst (IsAfter g.P.GracePlan.QSBR tabled (w.seen w0) (w.heard w0)) (sym h.heard) (record {
       after_seen = subst (λ (l : Log). Begins l c.hear.new.self.seat.me.0.seen) e.same.0.0 t.after_seen;
-      after_heard = begins_trans (w.heard w0) (w.heard w1) c.hear.new.self.seat.me.0.seen (e.heard c.requires.1).after_heard t.after_heard;
+      after_heard = begins_trans (w.heard w0) (w.heard w1) c.hear.new.self.seat.me.0.seen (e.heard c.requires).after_heard t.after_heard;
       run = t.run;
     })
 
 pub returns-clause-same : goal.returns-clause-same
 returns-clause-same g c =
-    let w = g.W.Witness in let w0 = c.args.witness.now in let w1 = c.chain.new.witness in let w2 = c.hear.new.witness in let e = c.chain.ensures in let h = c.hear.ensures.same in let place = hold_at g.B.Site.sizes c.args.chain in
+    let w = g.W.Caller in let w0 = c.args.caller.now in let w1 = c.chain.new.caller in let w2 = c.hear.new.caller in let e = c.chain.ensures in let h = c.hear.ensures.same in let place = hold_at g.B.Site.sizes c.args.chain in
     (stays_both w w0 w1 w2 e.same.0 h.0.0, h.1 ∙ e.same.1, ((place, 0) ∷ [], h.0.1 ∙ c.in-Ok.ensures.held.2))
 
 pub returns-clause-held : goal.returns-clause-held
@@ -99,5 +99,5 @@ pub returns-clause-unused : goal.returns-clause-unused
 returns-clause-unused g c =
     let h = c.hear.ensures in let l = c.note.ensures.looked in let one = c.hear.new.self in let now = c.note.new.self.seat.me.0 in
     let own : own_in now.chains ≡ own_in one.seat.me.0.chains = ap (λ (v : View). own_in v.chains) l.1.1 in
-    let is = known c.args.chain one.seat.me.0 (g.W.Witness.heard c.hear.new.witness) h.heard (one.owns.2 ∙ (h.chains.1 ∙ c.in-Ok.ensures.held.0)) one.owns.1 in
+    let is = known c.args.chain one.seat.me.0 (g.W.Caller.heard c.hear.new.caller) h.heard (one.owns.2 ∙ (h.chains.1 ∙ c.in-Ok.ensures.held.0)) one.owns.1 in
     (is.0 ∙ (ap (λ (x : ChainRight). x.objects) (sym own) ∙ nil_from_length (list_in now) (sym c.len.ensures ∙ c.if-len-ne0.false)), is.1 ∙ (sym c.note.ensures.note.0 ∙ c.if-note-ne0.false))

@@ -27,18 +27,20 @@ loop-init g c =
       notes = λ start from. ([], refl);
       runs = rw none tt;
       heard = ([], refl);
-      told = (((refl, refl, refl, λ h. h, refl), refl), refl);
+      told = (((refl, refl, λ h. h, refl), refl), refl);
     }
 
-pub set_note-requires-clause-rule : goal.set_note-requires-clause-rule
-set_note-requires-clause-rule g c log goes run known may =
-    let chain = c.in-Some.chain in
-    let none = (each_head HasNoNote (λ x. x.seat.me.0) (into_iter_items c.loop.rest) (into_iter_items c.next.new.self) chain c.in-Some.ensures.cases.0 c.loop.invariant.wait.0).0 in
-    inl (ap (λ (n : ℕ). chain_note n log) (sym chain.owns.2) ∙ ((subst (AreAsKnown log) chain.owns.0 known).0.1 ∙ none))
+pub set_note-requires : goal.set_note-requires
+set_note-requires g c = record {
+  rule = λ log goes run known may.
+      let chain = c.in-Some.chain in
+      let none = (each_head HasNoNote (λ x. x.seat.me.0) (into_iter_items c.loop.rest) (into_iter_items c.next.new.self) chain c.in-Some.ensures.cases.0 c.loop.invariant.wait.0).0 in
+      inl (ap (λ (n : ℕ). chain_note n log) (sym chain.owns.2) ∙ ((subst (AreAsKnown log) chain.owns.0 known).0.1 ∙ none));
+}
 
 pub loop-preserved : goal.loop-preserved
 loop-preserved g c =
-    let w = g.W.Witness in let w0 = c.args.witness.now in let w1 = c.loop.witness in let w2 = c.set_note.new.witness in
+    let w = g.W.Caller in let w0 = c.args.caller.now in let w1 = c.loop.caller in let w2 = c.set_note.new.caller in
     let i = c.loop.invariant in let first = c.in-Some.ensures.cases.0 in let left = into_iter_items c.loop.rest in let rest = into_iter_items c.next.new.self in
     let chain = c.in-Some.chain in let one = c.set_note.new.self in let e = c.set_note.ensures in let p = c.push_reserved.ensures in let had = c.loop.noted.items in
     let views : map (λ x. x.seat.me.0) c.push_reserved.new.self.items ≡ map (λ x. x.seat.me.0) had ++ one.seat.me.0 ∷ [] = ap (map (λ x. x.seat.me.0)) p.items ∙ map-append (λ x. x.seat.me.0) had (one ∷ []) in
@@ -93,6 +95,6 @@ returns-clause-noted g c =
 
 pub returns-clause-told : goal.returns-clause-told
 returns-clause-told g c start from =
-    let w = g.W.Witness in let w0 = c.args.witness.now in let w1 = c.loop.witness in let i = c.loop.invariant in
+    let w = g.W.Caller in let w0 = c.args.caller.now in let w1 = c.loop.caller in let i = c.loop.invariant in
     let all : c.loop.counter ≡ vec_len c.args.chains = let end = c.loop-test.false in let most = c.loop.auto.counter-end in let many = c.len-many.ensures in omega arith in
     subst (λ (k : ℕ). NotesAll (Writes g.P.GracePlan.QSBR tabled (w.seen w0)) c.args.note start k (w.heard w0) (w.heard w1)) all (i.notes start from)

@@ -14,9 +14,9 @@ invariant-loop g l = record {
   room : (vec_len l.noted ≡ l.counter) × (l.many ≤ vec_capacity l.noted);
   wait : Each HasNoNote (map (λ c. c.seat.me.0) (into_iter_items l.rest)) × Each IsAlone (map (λ c. c.seat.me.0) (into_iter_items l.rest));
   same : Pairwise IsSame (map (λ c. c.seat.me.0) l.fn.chains.items) (map (λ c. c.seat.me.0) l.noted.items ++ map (λ c. c.seat.me.0) (into_iter_items l.rest));
-  noted : Each (Noted (g.W.Witness.heard l.fn.witness) l.note) (map (λ c. c.seat.me.0) l.noted.items) × Each IsAlone (map (λ c. c.seat.me.0) l.noted.items);
-  notes : (first : ℕ) → AreFrom first (map (λ c. c.seat.me.0) l.fn.chains.items) → NotesAll (Writes g.P.GracePlan.QSBR tabled (g.W.Witness.seen l.fn.witness)) l.note first l.counter (g.W.Witness.heard l.fn.witness) (g.W.Witness.heard l.witness);
+  noted : Each (Noted (g.W.Caller.heard l.fn.caller) l.note) (map (λ c. c.seat.me.0) l.noted.items) × Each IsAlone (map (λ c. c.seat.me.0) l.noted.items);
+  notes : (first : ℕ) → AreFrom first (map (λ c. c.seat.me.0) l.fn.chains.items) → NotesAll (Writes g.P.GracePlan.QSBR tabled (g.W.Caller.seen l.fn.caller)) l.note first l.counter (g.W.Caller.heard l.fn.caller) (g.W.Caller.heard l.caller);
   runs : Each (IsRunIn g.P.GracePlan.QSBR) (map (λ c. c.seat.me.0) l.noted.items);
-  heard : Begins (g.W.Witness.heard l.fn.witness) (g.W.Witness.heard l.witness);
-  told : OnlyHears g.W.Witness l.fn.witness l.witness;
+  heard : Begins (g.W.Caller.heard l.fn.caller) (g.W.Caller.heard l.caller);
+  told : OnlyHears g.W.Caller l.fn.caller l.caller;
 }

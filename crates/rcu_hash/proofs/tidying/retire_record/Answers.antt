@@ -11,18 +11,18 @@ use Rattle.rcu_hash.proofs.tidying.retire_record.Goals as goal
 
 pub returns-in_default-clause-uses : goal.returns-in_default-clause-uses
 returns-in_default-clause-uses g c d its =
-    let w = g.W.Witness in let w0 = c.args.witness.now in
+    let w = g.W.Caller in let w0 = c.args.caller.now in
     uses_none g.P.GracePlan.QSBR tabled g.B.Site.sizes d (w.seen w0) w w0 w0 c.args.jobs.now.items (w.heard w0) (w.heard w0) (stays_none w w0) ([], refl)
 
 pub returns-in_default-pop-clause-uses : goal.returns-in_default-pop-clause-uses
 returns-in_default-pop-clause-uses g c d its =
-    let w = g.W.Witness in let w0 = c.args.witness.now in let jobs = c.args.jobs.now.items in let same : jobs ≡ c.pop.new.self.items = search rules in
+    let w = g.W.Caller in let w0 = c.args.caller.now in let jobs = c.args.jobs.now.items in let same : jobs ≡ c.pop.new.self.items = search rules in
     subst (λ js. Uses g.P.GracePlan.QSBR tabled g.B.Site.sizes d (w.seen w0) w w0 w0 jobs js (w.heard w0) (w.heard w0)) same
     (uses_none g.P.GracePlan.QSBR tabled g.B.Site.sizes d (w.seen w0) w w0 w0 jobs (w.heard w0) (w.heard w0) (stays_none w w0) ([], refl))
 
 pub returns-in-Ok-clause-uses : goal.returns-in-Ok-clause-uses
 returns-in-Ok-clause-uses g c d its =
-    let w = g.W.Witness in let w0 = c.args.witness.now in let w2 = c.retire.new.witness in let u = c.in-Some.unlinked in let r = c.in-Ok.ensures.queued in let k = r.2 in
+    let w = g.W.Caller in let w0 = c.args.caller.now in let w2 = c.retire.new.caller in let u = c.in-Some.unlinked in let r = c.in-Ok.ensures.queued in let k = r.2 in
     let is : c.args.replaced.now ≡ Some u = search rules in
     let mine : IsRecord d u.chain u.seat.me.0 = subst (λ (x : Option (Unlinked g.row.B.Denot g.B.Site)). IfSome x (λ z. IsRecord d z.chain z.seat.me.0)) is its in
     uses_one g.P.GracePlan.QSBR tabled g.B.Site.sizes d (w.seen w0) w w0 w2 c.args.jobs.now.items c.pop.new.self.items c.in-Some-pop.job (w.heard w0) (w.heard w2) Retires refl (none_made w w0 w2 c.in-Ok.ensures.same.0.0) c.in-Some-pop.ensures.items (record {
@@ -41,12 +41,12 @@ returns-in-Ok-clause-uses g c d its =
 
 pub returns-in-Ok-clause-heard : goal.returns-in-Ok-clause-heard
 returns-in-Ok-clause-heard g c =
-    let w = g.W.Witness in let w0 = c.args.witness.now in let w2 = c.retire.new.witness in let u = c.in-Some.unlinked in let r = c.in-Ok.ensures.queued in
+    let w = g.W.Caller in let w0 = c.args.caller.now in let w2 = c.retire.new.caller in let u = c.in-Some.unlinked in let r = c.in-Ok.ensures.queued in
     queued_later g.P.GracePlan.QSBR tabled (IsAfterAll u.seat.me.0.seen (w.seen w0) (w.heard w0)) (object_in u.seat.me.0.object) (u.chain % g.B.Site.sizes.queues) r.0 (w.heard w0) (w.heard w2) r.2 r.2.at.2
 
 pub returns-in-Err-clause-uses : goal.returns-in-Err-clause-uses
 returns-in-Err-clause-uses g c d its =
-    let w = g.W.Witness in let w0 = c.args.witness.now in let w2 = c.retire.new.witness in let e = c.in-Err.ensures in
+    let w = g.W.Caller in let w0 = c.args.caller.now in let w2 = c.retire.new.caller in let e = c.in-Err.ensures in
     let jobs = c.args.jobs.now.items in let left = c.pop.new.self.items in
     let back = c.push_reserved.ensures.items ∙ (ap (λ j. left ++ j ∷ []) e.back.1 ∙ sym c.in-Some-pop.ensures.items) in
     subst (λ js. Uses g.P.GracePlan.QSBR tabled g.B.Site.sizes d (w.seen w0) w w0 w2 jobs js (w.heard w0) (w.heard w2)) (sym back)
@@ -54,7 +54,7 @@ returns-in-Err-clause-uses g c d its =
 
 pub returns-in-Err-clause-same : goal.returns-in-Err-clause-same
 returns-in-Err-clause-same g c =
-    refused_finds g.W.Witness g.P.GracePlan.QSBR tabled g.B.Site.sizes (c.in-Some.unlinked.chain % g.B.Site.sizes.queues) c.args.witness.now c.retire.new.witness c.in-Err.refusal c.in-Err.ensures.refused
+    refused_finds g.W.Caller g.P.GracePlan.QSBR tabled g.B.Site.sizes (c.in-Some.unlinked.chain % g.B.Site.sizes.queues) c.args.caller.now c.retire.new.caller c.in-Err.refusal c.in-Err.ensures.refused
 
 pub returns-in-Err-clause-changes : goal.returns-in-Err-clause-changes
 returns-in-Err-clause-changes g c = c.in-Err.ensures.refused.same.0

@@ -27,7 +27,7 @@ returns-clause-worked g c =
     let look : ℕ × ℕ = (work_at g.B.Site.sizes q, left_by c.work_until-stop.result.1) in
     let more : Begins between last = left.2.0 in
     let later : Begins start last = begins_trans start between last w.seat.later more in
-    let lists = list_later q between last first n items items more refl w.list in
+    let lists = list_later g.D.Deleter.answers g.P.GracePlan.QSBR g.K.ChainRule.allows q between last first n items items more left.2.2 refl w.list in
     record {
       start = start;
       first = first;
@@ -41,7 +41,7 @@ returns-clause-worked g c =
       later = later;
       run = left.2.2;
       lists = lists;
-      through = ran_through q start last first n items later begun.3 begun.2 lists;
+      through = ran_through g.D.Deleter.answers q start last first n items later begun.3 begun.2 lists;
       left = order_later q c.work_until-stop.new.seat.me.0.heard last n c.work_until-stop.new.left.items left.2.1 w.left.0;
       nothing = w.left.1;
       closed = λ x. let e = (w.closed x).0 in let k = closed_stays g.P.GracePlan.QSBR g.K.ChainRule.allows between last q more left.2.2 e.0 in (k.0, ap (λ (l : List ObjectId). length l) k.1 ∙ e.1);

@@ -3,7 +3,7 @@ use Rattle.domain.proofs.domain.Domain.replace_retire.Goals as goal
 
 pub returns-clause-same : goal.returns-clause-same
 returns-clause-same g c = let k = c.in-Ok.ensures in (
-  makes_hears g.W.Witness c.args.witness.now c.replace.new.witness c.retire.new.witness c.replace.new.self.seat.me.0.seen k.same c.retire.ensures.same,
+  makes_hears g.W.Caller c.args.caller.now c.replace.new.caller c.retire.new.caller c.replace.new.self.seat.me.0.seen k.same c.retire.ensures.same,
   k.list.3,
   k.list.4,
 )

@@ -1,4 +1,4 @@
-use Rattle.std.proofs.Common.{rules, ◌+◌, List, [], ◌∷◌, length, reverse, subst, sym, ap, ◌∙◌, arith}
+use Rattle.std.proofs.Common.{rules, ◌+◌, List, length, reverse, subst, sym, ap, ◌∙◌, arith}
 use Rattle.std.proofs.lemmas.List.{length-append}
 use Rattle.call_rcu_worker.specs.declared.finished.Finished.{Finished}
 use Rattle.live_log.specs.Log.{Log}
@@ -22,6 +22,7 @@ run_next-done-requires-clause-due g c =
 
 pub loop-count-preserved : goal.loop-count-preserved
 loop-count-preserved g c =
+    let answers = g.D.Deleter.answers in
     let qsbr = g.P.GracePlan.QSBR in
     let allows = g.K.ChainRule.allows in
     let q = c.args.queue in
@@ -31,7 +32,7 @@ loop-count-preserved g c =
     let last : Log = c.run_next-done.new.seat.me.0.seen in
     let step : GoesOn qsbr allows c.loop-count.seat c.run_next-done.new.seat = record { keeps = e.seat.0; own = e.seat.1; sizes = e.seat.2; later = e.seen.0; run = e.seen.1; finds = e.finds } in
     let items = c.push_reserved.ensures.items in
-    let longer = ap (λ (l : List Finished). length l) items ∙ length-append c.loop-count.list.items (c.run_next-done.result ∷ []) in
+    let longer = ap (λ (l : List Finished). length l) items ∙ length-append c.loop-count.list.items _ in
     let len = c.push_reserved.ensures.len in
     let room = c.push_reserved.ensures.capacity in
     let had = i.4 in
@@ -43,7 +44,7 @@ loop-count-preserved g c =
       goes_trans qsbr allows c.args.seat.now c.loop-count.seat c.run_next-done.new.seat i.0 step,
       e.seat.3,
       due_later q c.args.given now last step.later i.2,
-      (subst (AreRunAs q last c.args.first) (sym items) (all_and q last c.args.first c.loop-count.count c.loop-count.list.items c.run_next-done.result (sym so) (all_later q now last c.args.first c.loop-count.list.items step.later i.3.0) e.run), omega (arith, longer, so)),
+      (subst (AreRunAs answers q last c.args.first) (sym items) (all_and answers q last c.args.first c.loop-count.count c.loop-count.list.items c.run_next-done.result (sym so) (all_later answers qsbr allows q now last c.args.first c.loop-count.list.items step.later step.run i.3.0) e.run), omega (arith, longer, so)),
       omega (arith, len, room, had, low),
       order_later q now last (c.loop-count.count + 1) (reverse c.pop.new.self.items) step.later order,
       omega (arith, fewer, few, low),

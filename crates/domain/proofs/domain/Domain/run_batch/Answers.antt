@@ -22,7 +22,7 @@ returns-then-is_err-clause-list g c =
     let waited = goes_trans qsbr allows c.args.seat.now c.seal-sealed.new.worker c.ripen.new.seat (goes_heard qsbr allows c.args.seat.now c.seal-sealed.new.worker sealed.worker.0 sealed.worker.1 c.requires.seat.2) c.ripen.ensures.seat.0 in
     let back = c.take_back.ensures.worker in
     let all = goes_trans qsbr allows c.args.seat.now c.ripen.new.seat c.take_back.new.worker waited (goes_heard qsbr allows c.ripen.new.seat c.take_back.new.worker back.0 back.1 waited.run) in
-    list_later c.args.queue c.args.seat.now.me.0.seen c.take_back.new.worker.me.0.seen c.args.first c.args.finished c.args.list.now.items c.seal-sealed.new.list.items all.later sealed.list c.requires.list
+    list_later g.D.Deleter.answers qsbr allows c.args.queue c.args.seat.now.me.0.seen c.take_back.new.worker.me.0.seen c.args.first c.args.finished c.args.list.now.items c.seal-sealed.new.list.items all.later all.run sealed.list c.requires.list
 
 pub run_all-count-requires-clause-list : goal.run_all-count-requires-clause-list
 run_all-count-requires-clause-list g c =
@@ -30,7 +30,7 @@ run_all-count-requires-clause-list g c =
     let allows = g.K.ChainRule.allows in
     let sealed = c.seal-sealed.ensures in
     let waited = goes_trans qsbr allows c.args.seat.now c.seal-sealed.new.worker c.ripen.new.seat (goes_heard qsbr allows c.args.seat.now c.seal-sealed.new.worker sealed.worker.0 sealed.worker.1 c.requires.seat.2) c.ripen.ensures.seat.0 in
-    (list_later c.args.queue c.args.seat.now.me.0.seen c.ripen.new.seat.me.0.seen c.args.first c.args.finished c.args.list.now.items c.seal-sealed.new.list.items waited.later sealed.list c.requires.list, c.in-Ok.ensures.given.2)
+    (list_later g.D.Deleter.answers qsbr allows c.args.queue c.args.seat.now.me.0.seen c.ripen.new.seat.me.0.seen c.args.first c.args.finished c.args.list.now.items c.seal-sealed.new.list.items waited.later waited.run sealed.list c.requires.list, c.in-Ok.ensures.given.2)
 
 pub returns-then-count-given-clause-seat : goal.returns-then-count-given-clause-seat
 returns-then-count-given-clause-seat g c =

@@ -11,8 +11,8 @@ returns-clause-told g c =
     let qsbr = g.P.GracePlan.QSBR in
     let allows = g.K.ChainRule.allows in
     let key = g.B.Site.sizes in
-    let w = g.W.Witness in
-    let old = c.args.witness.now in
+    let w = g.W.Caller in
+    let old = c.args.caller.now in
     let new = c.learn.new.self in
     let told : View = c.tell-seat.result.me.0 in
     let seat : View = c.stalled.new.seat.me.0 in
@@ -20,7 +20,7 @@ returns-clause-told g c =
     let learned = c.learn.ensures in
     let sizes : c.deref-2.result.now.words.shared.key ≡ key = search rules in
     subst (λ (l : Log). Stalls qsbr allows key (w.seen old) (w.heard old) (w.loads old) (w.loads new) (w.looks old) (w.looks new) c.in_ok-slots.slots.items l) (sym learned.heard)
-    (stalls_for qsbr allows key (w.home old).1 (w.seen old) (w.heard old) told (w.loads old) seat.loads (w.loads new) (w.looks old) seat.looks (w.looks new) c.in_ok-slots.slots.items seat.seen
+    (stalls_for qsbr allows key key (w.seen old) (w.heard old) told (w.loads old) seat.loads (w.loads new) (w.looks old) seat.looks (w.looks new) c.in_ok-slots.slots.items seat.seen
     (ap (λ m. m.0) c.tell-seat.ensures.seat.1)
     (learned.loads.0 ∙ ap (λ (l : List Log). seat.loads ++ l) same.2)
     (learned.loads.1 ∙ ap (λ (l : Looks). seat.looks ++ l) same.3)

@@ -12,15 +12,15 @@ returns-clause-worked g c =
     let allows = g.K.ChainRule.allows in
     let key = g.B.Site.sizes in
     let q = c.args.queue in
-    let w = g.W.Witness in
-    let old = c.args.witness.now in
+    let w = g.W.Caller in
+    let old = c.args.caller.now in
     let new = c.learn.new.self in
     let told : View = c.tell-seat.result.me.0 in
     let seat : View = c.employ-end.new.seat.me.0 in
     let same = c.tell-seat.ensures.same in
     let learned = c.learn.ensures in
-    IfOk-weaker c.employ-end.result _ _ (λ e h. subst (λ (l : Log). HasWorked qsbr allows key q (w.seen old) (w.heard old) (w.looks old) (w.looks new) (w.loads old) (w.loads new) e.finished.items e.left.items e.stop l) (sym learned.heard)
-    (worked_for qsbr allows key (w.home old).1 q (w.seen old) (w.heard old) told (w.looks new) seat.looks (w.looks old) (w.loads new) seat.loads (w.loads old) e.finished.items e.left.items e.stop seat.seen
+    IfOk-weaker c.employ-end.result _ _ (λ e h. subst (λ (l : Log). HasWorked g.D.Deleter.answers qsbr allows key q (w.seen old) (w.heard old) (w.looks old) (w.looks new) (w.loads old) (w.loads new) e.finished.items e.left.items e.stop l) (sym learned.heard)
+    (worked_for g.D.Deleter.answers qsbr allows key key q (w.seen old) (w.heard old) told (w.looks new) seat.looks (w.looks old) (w.loads new) seat.loads (w.loads old) e.finished.items e.left.items e.stop seat.seen
     (ap (λ m. m.0) c.tell-seat.ensures.seat.1)
     (learned.loads.1 ∙ ap (λ (l : Looks). seat.looks ++ l) same.3)
     (learned.loads.0 ∙ ap (λ (l : List Log). seat.loads ++ l) same.2)
@@ -29,7 +29,7 @@ returns-clause-worked g c =
 pub returns-clause-heard : goal.returns-clause-heard
 returns-clause-heard g c =
     let told : View = c.tell-seat.result.me.0 in
-    let heard : Log = g.W.Witness.heard c.learn.new.self in
+    let heard : Log = g.W.Caller.heard c.learn.new.self in
     let same = c.learn.ensures.heard in
     let is = c.tell-seat.ensures.seat.1 in
     IfErr-weaker c.employ-end.result _ _ (λ _ h low. let x = h low in record {

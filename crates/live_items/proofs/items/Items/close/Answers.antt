@@ -14,7 +14,7 @@ pub invariant_of-self : goal.invariant_of-self
 invariant_of-self g c =
     let key = g.B.Site.sizes in
     let q : ℕ = c.self.inside.number in
-    let jobs : Jobs = c.self.inside.queue in
+    let jobs : Jobs g.row.C.Denot = c.self.inside.queue in
     let old : View = c.self.inside.seat.me.0 in
     let new : View = c.store_closed.new.seat.me.0 in
     let i = c.self.invariant in
@@ -28,15 +28,15 @@ invariant_of-self g c =
     let under = under_closed key jobs old new q i.2 (ap (λ (v : View). v.sizes) closed.1 ∙ ap (λ (v : View). v.sizes) learn) later right (ap (λ (v : View). v.object) closed.1 ∙ ap (λ (v : View). v.object) learn) in (
       told.0 ∙ (c.store_closed.ensures.seat.0 ∙ (c.learn.ensures.0 ∙ i.0)),
       ap (λ z. z.1) told.2 ∙ (closed.0 ∙ (ap (λ z. z.1) c.learn.ensures.2 ∙ i.1)),
-      subst (λ (v : View). IsUnderLock key c.close.new.self v q) (sym (ap (λ z. z.0) told.2)) (subst (λ (j : Jobs). IsUnderLock key j new q) (sym c.close.ensures) under),
+      subst (λ (v : View). IsUnderLock key c.close.new.self v q) (sym (ap (λ z. z.0) told.2)) (subst (λ (j : Jobs g.row.C.Denot). IsUnderLock key j new q) (sym c.close.ensures) under),
     )
 
 pub returns-clause-closed : goal.returns-clause-closed
 returns-clause-closed g c =
     let qsbr = g.P.GracePlan.QSBR in
     let allows = g.K.ChainRule.allows in
-    let seen : Log = g.W.Witness.seen c.args.witness.now in
-    let heard : Log = g.W.Witness.heard c.args.witness.now in
+    let seen : Log = g.W.Caller.seen c.args.caller.now in
+    let heard : Log = g.W.Caller.heard c.args.caller.now in
     let i = c.self.invariant in
     let learn = ap (λ z. z.0) c.learn.ensures.2 in
     let closed = c.store_closed.ensures.closed in
@@ -51,4 +51,4 @@ returns-clause-closed g c =
       wrote = closed.2.1 ∙ ap (λ (n : ℕ). CloseQueue n ∷ before) queue;
       run = closed.2.4;
     } in
-    subst (λ (s : Jobs × View × ℕ). Closes qsbr allows seen heard s.2 (g.W.Witness.heard c.learn-2.new.self)) c.self.view_is (subst (Closes qsbr allows seen heard c.self.inside.number) (sym log) here)
+    subst (λ (s : Jobs g.row.C.Denot × View × ℕ). Closes qsbr allows seen heard s.2 (g.W.Caller.heard c.learn-2.new.self)) c.self.view_is (subst (Closes qsbr allows seen heard c.self.inside.number) (sym log) here)

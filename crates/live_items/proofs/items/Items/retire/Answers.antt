@@ -19,7 +19,7 @@ pub invariant_of-self-2 : goal.invariant_of-self-2
 invariant_of-self-2 g c =
     let key = g.B.Site.sizes in
     let q : ℕ = c.self.inside.number in
-    let jobs : Jobs = c.self.inside.queue in
+    let jobs : Jobs g.row.C.Denot = c.self.inside.queue in
     let old : View = c.self.inside.seat.me.0 in
     let new : View = c.queue_object-seat.new.lock.me.0 in
     let i = c.self.invariant in
@@ -30,17 +30,17 @@ invariant_of-self-2 g c =
     let put = c.in-Ok-push.ensures.ok in
     let given = c.given-given.ensures in
     let o : ObjectId = object_in c.learn.new.seat.me.0.object in
-    let item : Item JobValue = record { object = record { 0 = c.queue_object-seat.result.1 }; job = c.of.result } in
+    let item : Item (JobValue g.row.C.Denot) = record { object = record { 0 = c.queue_object-seat.result.1 }; job = c.of.result } in
     let named : item.object ≡ o = λ j. record { 0 = c.queue_object-seat.ensures.number j } in
-    let run : object_in item.job.0.object ≡ o = ap (λ (z : JobValue). object_in z.0.object) c.of.ensures ∙ ap object_in c.queue_object-seat.ensures.job.3 in
+    let run : object_in item.job.0.object ≡ o = ap (λ (z : JobValue g.row.C.Denot). object_in z.0.object) c.of.ensures ∙ ap object_in c.queue_object-seat.ensures.job.3 in
     let last : IsLast q (given_of jobs) item.object new.seen = subst (λ (n : ℕ). IsLast q n item.object new.seen) given (subst (λ (p : ObjectId). IsLast q c.given-given.result p new.seen) (sym named) queued.0.last) in
     let under = under_pushed key (with_place jobs) old new q (under_place key jobs old q i.2) lock.2 c.queue_object-seat.ensures.later item
-    (ap (λ (j : Jobs). j.closed) (sym reserved) ∙ put.0) (lock.3 ∙ ap (λ (n : ℕ). Owns q (n + 1) 0) given) lock.4 last
-    (ap (λ (z : JobValue). z.0.seen) c.of.ensures ∙ queued.1) (named ∙ sym run) in (
+    (ap (λ (j : Jobs g.row.C.Denot). j.closed) (sym reserved) ∙ put.0) (lock.3 ∙ ap (λ (n : ℕ). Owns q (n + 1) 0) given) lock.4 last
+    (ap (λ (z : JobValue g.row.C.Denot). z.0.seen) c.of.ensures ∙ queued.1) (named ∙ sym run) in (
       told.0 ∙ (lock.0.0 ∙ i.0),
       ap (λ z. z.1) told.2 ∙ (lock.1 ∙ i.1),
       subst (λ (v : View). IsUnderLock key c.push.new.self v q) (sym (ap (λ z. z.0) told.2))
-          (subst (λ (j : Jobs). IsUnderLock key j new q) (sym (put.2 ∙ ap (λ (j : Jobs). pushed j item) reserved)) under),
+          (subst (λ (j : Jobs g.row.C.Denot). IsUnderLock key j new q) (sym (put.2 ∙ ap (λ (j : Jobs g.row.C.Denot). pushed j item) reserved)) under),
     )
 
 pub returns-clause-retired : goal.returns-clause-retired
@@ -48,8 +48,8 @@ returns-clause-retired g c =
     let qsbr = g.P.GracePlan.QSBR in
     let allows = g.K.ChainRule.allows in
     let cut : Log = c.args.unlinked.seat.me.0.seen in
-    let seen : Log = g.W.Witness.seen c.args.witness.now in
-    let heard : Log = g.W.Witness.heard c.args.witness.now in
+    let seen : Log = g.W.Caller.seen c.args.caller.now in
+    let heard : Log = g.W.Caller.heard c.args.caller.now in
     let learned : View = c.learn.new.seat.me.0 in
     let new : Log = c.queue_object-seat.new.lock.me.0.seen in
     let parts = ap (λ z. z.me.0) c.into_parts-seat.ensures.seat.0 in
@@ -68,4 +68,15 @@ returns-clause-retired g c =
     let third = subst (λ (n : ℕ). Queues qsbr allows is (object_in c.args.unlinked.seat.me.0.object) c.self.inside.number n new) c.given-given.ensures second in
     let log = c.learn-2.ensures.heard ∙ ap (λ z. z.0.seen) c.tell.ensures.4 in
     let fourth = subst (λ (l : Log). Queues qsbr allows is (object_in c.args.unlinked.seat.me.0.object) c.self.inside.number (given_of c.self.inside.queue) l) (sym log) third in
-    subst (λ (s : Jobs × View × ℕ). Queues qsbr allows is (object_in c.args.unlinked.seat.me.0.object) s.2 (given_of s.0) (g.W.Witness.heard c.learn-2.new.self)) c.self.view_is fourth
+    subst (λ (s : Jobs g.row.C.Denot × View × ℕ). Queues qsbr allows is (object_in c.args.unlinked.seat.me.0.object) s.2 (given_of s.0) (g.W.Caller.heard c.learn-2.new.self)) c.self.view_is fourth
+
+pub returns-clause-pushed : goal.returns-clause-pushed
+returns-clause-pushed g c =
+    let item : Item (JobValue g.row.C.Denot) = record { object = record { 0 = c.queue_object-seat.result.1 }; job = c.of.result } in
+    let learn = ap (λ z. z.0) c.learn.ensures.2 in
+    let parts = ap (λ z. z.me.0) c.into_parts-seat.ensures.seat.0 in
+    let given : item.object ≡ object_in c.learn.new.seat.me.0.object = λ j. record { 0 = c.queue_object-seat.ensures.number j } in
+    let named = given ∙ (ap (λ (v : View). object_in v.object) learn ∙ ap (λ (v : View). object_in v.object) parts) in
+    let put = c.in-Ok-push.ensures.ok.2 ∙ ap (λ (j : Jobs g.row.C.Denot). pushed j item) c.in-Ok.ensures.ok in
+    let here = put ∙ ap (λ (s : Jobs g.row.C.Denot × View × ℕ). pushed (with_place s.0) item) c.self.view_is in
+    (c.of.result, ap (λ (z : JobValue g.row.C.Denot). z.2) c.of.ensures, here ∙ ap (λ (o : ObjectId). pushed (with_place c.args.self.now.0) (record { object = o; job = c.of.result })) named)

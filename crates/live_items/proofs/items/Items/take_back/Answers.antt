@@ -8,24 +8,24 @@ use Rattle.live_items.proofs.items.Items.take_back.Goals as goal
 
 pub invariant_of-self : goal.invariant_of-self
 invariant_of-self g c =
-    let jobs : Jobs = c.self.inside.queue in
+    let jobs : Jobs g.row.C.Denot = c.self.inside.queue in
     let i = c.self.invariant in
     let told = c.tell.ensures in
     let none = none_of jobs.ready (ap (λ z. z.0) (sym c.segments-ready.ensures) ∙ c.if-ready-eq0.true) in (
       told.0 ∙ i.0,
       ap (λ z. z.1) told.2 ∙ i.1,
       subst (λ (v : View). IsUnderLock g.B.Site.sizes c.take_waiting.new.self v c.self.inside.number) (sym (ap (λ z. z.0) told.2))
-          (subst (λ (j : Jobs). IsUnderLock g.B.Site.sizes j c.self.inside.seat.me.0 c.self.inside.number) (sym c.take_waiting.ensures.left) (under_taken g.B.Site.sizes c.self.inside.seat.me.0 c.self.inside.number jobs none i.2)),
+          (subst (λ (j : Jobs g.row.C.Denot). IsUnderLock g.B.Site.sizes j c.self.inside.seat.me.0 c.self.inside.number) (sym c.take_waiting.ensures.left) (under_taken g.B.Site.sizes c.self.inside.seat.me.0 c.self.inside.number jobs none i.2)),
     )
 
 pub returns-then-waiting-room-clause-placed : goal.returns-then-waiting-room-clause-placed
 returns-then-waiting-room-clause-placed g c empty =
-    let jobs : Jobs = c.self.inside.queue in
+    let jobs : Jobs g.row.C.Denot = c.self.inside.queue in
     let i = c.self.invariant in
     let none = none_of jobs.ready (ap (λ z. z.0) (sym c.segments-ready.ensures) ∙ c.if-ready-eq0.true) in
     let seen : Log = c.self.inside.seat.me.0.seen in
     let heard : c.learn.new.seat.me.0.heard ≡ seen = ap (λ m. m.0.heard) c.learn.ensures.2 ∙ ap (λ m. m.0.seen) c.tell.ensures.4 in
-    let moved : c.take_waiting.new.list.items ≡ jobs.waiting = c.take_waiting.ensures.moved ∙ ap (λ (l : List (Item JobValue)). l ++ jobs.waiting) empty in
+    let moved : c.take_waiting.new.list.items ≡ jobs.waiting = c.take_waiting.ensures.moved ∙ ap (λ (l : List (Item (JobValue g.row.C.Denot))). l ++ jobs.waiting) empty in
     let placed = waiting_placed g.B.Site.sizes c.self.inside.seat.me.0 c.self.inside.number jobs none i.2 in
     subst (λ (l : Log). InOrder c.args.queue l c.args.finished c.take_waiting.new.list.items) (sym heard)
     (subst (InOrder c.args.queue seen c.args.finished) (sym moved)

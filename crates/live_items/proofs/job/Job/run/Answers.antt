@@ -44,7 +44,7 @@ returns-clause-run g c =
     let before : Log = ran.2.0 in
     let log : Log = c.store_run.new.seat.me.0.seen in
     let heard : first.heard ≡ worker.seen = ap (λ (v : View). v.heard) learn ∙ ap (λ z. z.0.seen) c.tell.ensures.4 in
-    let o : object_in second.object ≡ c.args.object = ap (λ (v : View). object_in v.object) looked.1 ∙ (ap (λ (v : View). object_in v.object) learn ∙ (ap (λ (j : JobValue). object_in j.0.object) c.self.view_is ∙ sym c.requires.object)) in
+    let o : object_in second.object ≡ c.args.object = ap (λ (v : View). object_in v.object) looked.1 ∙ (ap (λ (v : View). object_in v.object) learn ∙ (ap (λ (j : JobValue g.row.C.Denot). object_in j.0.object) c.self.view_is ∙ sym c.requires.object)) in
     let here : Runs qsbr allows job.seen worker.seen c.args.object log = record {
       before = before;
       after_job = subst (λ (l : Log). Begins l before) (ap (λ (v : View). v.seen) learn) (begins_trans first.seen second.seen before looked.2.0 ran.2.2);
@@ -52,7 +52,7 @@ returns-clause-run g c =
       wrote = ran.2.1 ∙ ap (λ (p : ObjectId). Object (Run p) ∷ before) o;
       run = ran.2.4;
     } in
-    subst (λ (j : JobValue). Runs qsbr allows j.0.seen worker.seen c.args.object c.learn-2.new.seat.me.0.heard) c.self.view_is
+    subst (λ (j : JobValue g.row.C.Denot). Runs qsbr allows j.0.seen worker.seen c.args.object c.learn-2.new.seat.me.0.heard) c.self.view_is
     (subst (Runs qsbr allows job.seen worker.seen c.args.object) (sym (ap (λ z. z.0.heard) c.learn-2.ensures.2)) here)
 
 pub returns-clause-ripe : goal.returns-clause-ripe
@@ -67,6 +67,6 @@ returns-clause-ripe g c =
     let before : Log = ran.2.0 in
     let log : Log = c.store_run.new.seat.me.0.seen in
     let later : Begins second.seen log = subst (Begins second.seen) (sym ran.2.1) (begins_trans second.seen before (_ ∷ before) ran.2.2 (_ ∷ [], refl)) in
-    let o : object_in first.object ≡ c.args.object = ap (λ (v : View). object_in v.object) learn ∙ (ap (λ (j : JobValue). object_in j.0.object) c.self.view_is ∙ sym c.requires.object) in
+    let o : object_in first.object ≡ c.args.object = ap (λ (v : View). object_in v.object) learn ∙ (ap (λ (j : JobValue g.row.C.Denot). object_in j.0.object) c.self.view_is ∙ sym c.requires.object) in
     let kept = ap (λ (note : ℕ × List ℕ). words_in note.1) (sym (note_stays qsbr allows second.seen log (object_in first.object) later ran.2.4 words.1)) in
     (refl, words.0 ∙ (kept ∙ (ap (payload_of log) o ∙ ap (λ (l : Log). payload_of l c.args.object) (sym (ap (λ z. z.0.heard) c.learn-2.ensures.2)))))

@@ -2,4 +2,4 @@ use Rattle.rcu.specs.Keys.{HearsMore}
 use Rattle.rcu.proofs.map.Map.resize.Given as goal
 
 abbrev pub invariant-loop : goal.invariant-loop
-invariant-loop g l = HearsMore g.W.Witness l.fn.witness l.witness
+invariant-loop g l = HearsMore g.W.Caller l.fn.caller l.caller

@@ -7,22 +7,22 @@ use Rattle.rcu.proofs.map.Map.set.Goals as goal
 
 pub returns-in-Ok-clause-set : goal.returns-in-Ok-clause-set
 returns-in-Ok-clause-set g c =
-    let w = g.W.Witness in let qsbr = g.P.GracePlan.QSBR in let chains : ℕ = g.B.Site.sizes.chains in let queues : ℕ = g.B.Site.sizes.queues in let d : ℕ = c.args.self.now.table.directory in
+    let w = g.W.Caller in let qsbr = g.P.GracePlan.QSBR in let chains : ℕ = g.B.Site.sizes.chains in let queues : ℕ = g.B.Site.sizes.queues in let d : ℕ = c.args.self.now.table.directory in
     let i = c.loop.invariant in let r = c.in-Ok.ensures.replaced in
-    let old = c.args.witness.now in let was = c.loop.witness in let new = c.replace.new.witness in
+    let old = c.args.caller.now in let was = c.loop.caller in let new = c.replace.new.caller in
     subst (λ (v : ℕ). GivesWord w qsbr chains queues d old new c.args.key (Some v)) c.pack-word.ensures (gives_after w qsbr chains queues d old was new c.args.key (Some c.pack-word.result) i.0 i.1 (gives_replacement w qsbr chains queues d was new c.args.key c.pack-word.result r.0 r.1 r.2 _ r.3 r.4 r.5))
 
 pub returns-in-Ok-insert-clause-set : goal.returns-in-Ok-insert-clause-set
 returns-in-Ok-insert-clause-set g c =
-    let w = g.W.Witness in let qsbr = g.P.GracePlan.QSBR in let chains : ℕ = g.B.Site.sizes.chains in let queues : ℕ = g.B.Site.sizes.queues in let d : ℕ = c.args.self.now.table.directory in
+    let w = g.W.Caller in let qsbr = g.P.GracePlan.QSBR in let chains : ℕ = g.B.Site.sizes.chains in let queues : ℕ = g.B.Site.sizes.queues in let d : ℕ = c.args.self.now.table.directory in
     let r = c.in-Ok-insert.ensures.inserted in
-    let old = c.args.witness.now in let was = c.replace.new.witness in let new = c.insert.new.witness in
-    let i = goes_on w old c.loop.witness was c.loop.invariant (refused_replacement w qsbr tabled g.B.Site.sizes c.loop.witness was _ d c.args.key c.in-Err-Missing-default.ensures.refused.1) in
+    let old = c.args.caller.now in let was = c.replace.new.caller in let new = c.insert.new.caller in
+    let i = goes_on w old c.loop.caller was c.loop.invariant (refused_replacement w qsbr tabled g.B.Site.sizes c.loop.caller was _ d c.args.key c.in-Err-Missing-default.ensures.refused.1) in
     subst (λ (v : ℕ). GivesWord w qsbr chains queues d old new c.args.key (Some v)) c.pack-word.ensures (gives_after w qsbr chains queues d old was new c.args.key (Some c.pack-word.result) i.0 i.1 (gives_insertion w qsbr chains queues d was new c.args.key c.pack-word.result r.0 r.1 c.in-Ok-insert.ensures.changes))
 
 pub loop-preserved : goal.loop-preserved
 loop-preserved g c =
-    let w = g.W.Witness in let qsbr = g.P.GracePlan.QSBR in let d : ℕ = c.args.self.now.table.directory in
-    let was = c.replace.new.witness in
-    let i = goes_on w c.args.witness.now c.loop.witness was c.loop.invariant (refused_replacement w qsbr tabled g.B.Site.sizes c.loop.witness was _ d c.args.key c.in-Err-Missing-default.ensures.refused.1) in
-    goes_on w c.args.witness.now was c.insert.new.witness i (refused_insertion w qsbr tabled g.B.Site.sizes was c.insert.new.witness _ d c.args.key c.in-Err-Exists.ensures.refused)
+    let w = g.W.Caller in let qsbr = g.P.GracePlan.QSBR in let d : ℕ = c.args.self.now.table.directory in
+    let was = c.replace.new.caller in
+    let i = goes_on w c.args.caller.now c.loop.caller was c.loop.invariant (refused_replacement w qsbr tabled g.B.Site.sizes c.loop.caller was _ d c.args.key c.in-Err-Missing-default.ensures.refused.1) in
+    goes_on w c.args.caller.now was c.insert.new.caller i (refused_insertion w qsbr tabled g.B.Site.sizes was c.insert.new.caller _ d c.args.key c.in-Err-Exists.ensures.refused)

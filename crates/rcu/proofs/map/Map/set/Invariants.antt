@@ -3,4 +3,4 @@ use Rattle.rcu_hash.specs.live_read.Hearing.{Stays}
 use Rattle.rcu.proofs.map.Map.set.Given as goal
 
 abbrev pub invariant-loop : goal.invariant-loop
-invariant-loop g l = Stays g.W.Witness l.fn.witness l.witness × Begins (g.W.Witness.heard l.fn.witness) (g.W.Witness.heard l.witness)
+invariant-loop g l = Stays g.W.Caller l.fn.caller l.caller × Begins (g.W.Caller.heard l.fn.caller) (g.W.Caller.heard l.caller)

@@ -7,20 +7,20 @@ use Rattle.rcu.proofs.slot.Slot.replace.Goals as goal
 
 pub returns-in-Ok-clause-pushed : goal.returns-in-Ok-clause-pushed
 returns-in-Ok-clause-pushed g c =
-    let w = g.W.Witness in let i = c.loop.invariant in let old = c.args.witness.now in let was = c.loop.witness in let new = c.try_replace.new.witness in
+    let w = g.W.Caller in let i = c.loop.invariant in let old = c.args.caller.now in let was = c.loop.caller in let new = c.try_replace.new.caller in
     let chain : ℕ = c.args.self.now.chain in let words : List ℕ = g.T.Words.packed c.args.value in
     if_none c.in-Ok.ticket (PushesValue w g.P.GracePlan.QSBR was new chain words) (PushesValue w g.P.GracePlan.QSBR old new chain words) (pushes_after w g.P.GracePlan.QSBR old was new chain words i.1 i.2) c.in-Ok.ensures.pushed
 
 pub returns-in-Ok-clause-replaced : goal.returns-in-Ok-clause-replaced
 returns-in-Ok-clause-replaced g c =
-    let w = g.W.Witness in let i = c.loop.invariant in let old = c.args.witness.now in let was = c.loop.witness in let new = c.try_replace.new.witness in
+    let w = g.W.Caller in let i = c.loop.invariant in let old = c.args.caller.now in let was = c.loop.caller in let new = c.try_replace.new.caller in
     let chain : ℕ = c.args.self.now.chain in let words : List ℕ = g.T.Words.packed c.args.value in let queue : ℕ = chain % g.B.Site.sizes.queues in
     if_some c.in-Ok.ticket (λ t. ReplacesValue w g.P.GracePlan.QSBR was new chain words queue t.0) (λ t. ReplacesValue w g.P.GracePlan.QSBR old new chain words queue t.0) (λ t r. replaces_after w g.P.GracePlan.QSBR old was new chain words i.1 i.2 queue t.0 r) c.in-Ok.ensures.replaced
 
 pub loop-preserved : goal.loop-preserved
 loop-preserved g c =
-    let w = g.W.Witness in let i = c.loop.invariant in let e = c.in-Err-Busy-default.ensures in (
+    let w = g.W.Caller in let i = c.loop.invariant in let e = c.in-Err-Busy-default.ensures in (
       e.back.0 ∙ i.0,
-      stays_on w c.args.witness.now c.loop.witness c.try_replace.new.witness i.1 e.back.1,
-      begins_trans (w.heard c.args.witness.now) (w.heard c.loop.witness) (w.heard c.try_replace.new.witness) i.2 e.heard.after_heard,
+      stays_on w c.args.caller.now c.loop.caller c.try_replace.new.caller i.1 e.back.1,
+      begins_trans (w.heard c.args.caller.now) (w.heard c.loop.caller) (w.heard c.try_replace.new.caller) i.2 e.heard.after_heard,
     )

@@ -16,8 +16,8 @@ use Rattle.rcu.proofs.slot.Slot.try_replace.Goals as goal
 
 pub returns-then-len-eq0-clause-pushed : goal.returns-then-len-eq0-clause-pushed
 returns-then-len-eq0-clause-pushed g c =
-    let qsbr = g.P.GracePlan.QSBR in let w = g.W.Witness in
-    let old = c.args.witness.now in let told = c.chain.new.witness in let ready = c.alloc.new.witness in let put = c.push.new.witness in
+    let qsbr = g.P.GracePlan.QSBR in let w = g.W.Caller in
+    let old = c.args.caller.now in let told = c.chain.new.caller in let ready = c.alloc.new.caller in let put = c.push.new.caller in
     let v : View = c.in-Ok.writer.seat.me.0 in let new : View = c.push.new.self.seat.me.0 in let u : View = c.in-Ok-alloc.owned.seat.me.0 in
     let p = c.push.ensures.pushed in let chain : ℕ = c.args.self.now.chain in
     let had = went_on w qsbr any_change old told ready (c.in-Ok.ensures.same.0.0, c.in-Ok.ensures.heard c.args.self.now.low) (c.alloc.ensures.same.0.0, c.alloc.ensures.heard) in
@@ -47,8 +47,8 @@ returns-then-len-eq0-clause-pushed g c =
 
 pub returns-in-Ok-replace_retire-clause-replaced : goal.returns-in-Ok-replace_retire-clause-replaced
 returns-in-Ok-replace_retire-clause-replaced g c =
-    let qsbr = g.P.GracePlan.QSBR in let w = g.W.Witness in
-    let old = c.args.witness.now in let told = c.chain.new.witness in let ready = c.alloc.new.witness in let put = c.replace_retire.new.witness in
+    let qsbr = g.P.GracePlan.QSBR in let w = g.W.Caller in
+    let old = c.args.caller.now in let told = c.chain.new.caller in let ready = c.alloc.new.caller in let put = c.replace_retire.new.caller in
     let v : View = c.in-Ok.writer.seat.me.0 in let new : View = c.replace_retire.new.chain.seat.me.0 in let u : View = c.in-Ok-alloc.owned.seat.me.0 in
     let r = c.in-Ok-replace_retire.ensures.retired in let p = r.published in let chain : ℕ = c.args.self.now.chain in
     let had = went_on w qsbr any_change old told ready (c.in-Ok.ensures.same.0.0, c.in-Ok.ensures.heard c.args.self.now.low) (c.alloc.ensures.same.0.0, c.alloc.ensures.heard) in
@@ -80,12 +80,12 @@ returns-in-Ok-replace_retire-clause-replaced g c =
 
 pub returns-in-Err-alloc-clause-heard : goal.returns-in-Err-alloc-clause-heard
 returns-in-Err-alloc-clause-heard g c =
-    let w = g.W.Witness in
-    (went_on w g.P.GracePlan.QSBR any_change c.args.witness.now c.chain.new.witness c.alloc.new.witness (c.in-Ok.ensures.same.0.0, c.in-Ok.ensures.heard c.args.self.now.low) (c.alloc.ensures.same.0.0, c.alloc.ensures.heard)).1
+    let w = g.W.Caller in
+    (went_on w g.P.GracePlan.QSBR any_change c.args.caller.now c.chain.new.caller c.alloc.new.caller (c.in-Ok.ensures.same.0.0, c.in-Ok.ensures.heard c.args.self.now.low) (c.alloc.ensures.same.0.0, c.alloc.ensures.heard)).1
 
 pub returns-clause-heard : goal.returns-clause-heard
 returns-clause-heard g c =
-    let w = g.W.Witness in let qsbr = g.P.GracePlan.QSBR in
-    let before = c.args.witness.now in let ready = c.alloc.new.witness in let refused = c.replace_retire.new.witness in
-    let had = went_on w qsbr any_change before c.chain.new.witness ready (c.in-Ok.ensures.same.0.0, c.in-Ok.ensures.heard c.args.self.now.low) (c.alloc.ensures.same.0.0, c.alloc.ensures.heard) in
-    (went_on w qsbr any_change before refused c.discard.new.witness (went_refused w qsbr any_change before ready refused had c.in-Err-replace_retire.ensures.refused) (c.discard.ensures.same.0, c.discard.ensures.heard.0)).1
+    let w = g.W.Caller in let qsbr = g.P.GracePlan.QSBR in
+    let before = c.args.caller.now in let ready = c.alloc.new.caller in let refused = c.replace_retire.new.caller in
+    let had = went_on w qsbr any_change before c.chain.new.caller ready (c.in-Ok.ensures.same.0.0, c.in-Ok.ensures.heard c.args.self.now.low) (c.alloc.ensures.same.0.0, c.alloc.ensures.heard) in
+    (went_on w qsbr any_change before refused c.discard.new.caller (went_refused w qsbr any_change before ready refused had c.in-Err-replace_retire.ensures.refused) (c.discard.ensures.same.0, c.discard.ensures.heard.0)).1

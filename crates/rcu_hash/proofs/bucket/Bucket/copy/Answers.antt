@@ -43,16 +43,16 @@ invariant_of-self-in-loop-index g c =
 
 pub returns-in_err-copy_key-clause-looks : goal.returns-in_err-copy_key-clause-looks
 returns-in_err-copy_key-clause-looks g c =
-    let w = g.W.Witness in let i = c.loop-index.invariant in let e = c.in_err-copy_key.ensures in let p = err_from_is_err_and c.from_residual.result c.from_residual.ensures.1 in
+    let w = g.W.Caller in let i = c.loop-index.invariant in let e = c.in_err-copy_key.ensures in let p = err_from_is_err_and c.from_residual.result c.from_residual.ensures.1 in
     let found = e.looks.0 in let before = i.looks.0 in (
       found ++ before,
-      e.looks.1 ∙ (ap (λ (l : List (ℕ × ℕ)). found ++ l) i.looks.1 ∙ sym (append_assoc found before (w.looks c.args.witness.now))),
+      e.looks.1 ∙ (ap (λ (l : List (ℕ × ℕ)). found ++ l) i.looks.1 ∙ sym (append_assoc found before (w.looks c.args.caller.now))),
       rw p.1 (λ is. found_more g.B.Site.sizes found before (e.looks.2 (sym p.2 ∙ is))),
     )
 
 pub returns-in_err-copy_key-clause-heard : goal.returns-in_err-copy_key-clause-heard
 returns-in_err-copy_key-clause-heard g c =
-    let w = g.W.Witness in begins_trans (w.heard c.args.witness.now) (w.heard c.loop-index.witness) (w.heard c.copy_key.new.witness) c.loop-index.invariant.heard c.copy_key.ensures.heard
+    let w = g.W.Caller in begins_trans (w.heard c.args.caller.now) (w.heard c.loop-index.caller) (w.heard c.copy_key.new.caller) c.loop-index.invariant.heard c.copy_key.ensures.heard
 
 pub returns-in_err-copy_key-clause-walked : goal.returns-in_err-copy_key-clause-walked
 returns-in_err-copy_key-clause-walked g c =
@@ -61,7 +61,7 @@ returns-in_err-copy_key-clause-walked g c =
 
 pub loop-index-preserved : goal.loop-index-preserved
 loop-index-preserved g c =
-    let q = g.P.GracePlan.QSBR in let w = g.W.Witness in let w0 = c.args.witness.now in let w1 = c.loop-index.witness in
+    let q = g.P.GracePlan.QSBR in let w = g.W.Caller in let w0 = c.args.caller.now in let w1 = c.loop-index.caller in
     let i = c.loop-index.invariant in let e = c.in-Some.ensures in let s = e.some in let index = c.loop-index.index in
     let one = c.args.self.now.chain in let two = c.loop-index.self.chain in let three = c.get.new.self in let v = one.seat.me.0 in
     let went = went_both q tabled one.seat.me two.seat.me three.seat.me i.walked.2 e.walked.1 in
@@ -73,8 +73,8 @@ loop-index-preserved g c =
     let key = ap (λ (l : List ℕ). slice_index_or l 0 0) words in
     elim c.if-words-buckets.branch [
       | then-words-buckets+in_ok-copy_key z ↦
-          let k = z.in_ok-copy_key.ensures in let w2 = z.copy_key.new.witness in let falls = falls_known q v (run_of q tabled v.seen three.seat.me.0.seen went.2.0 went.2.2) one.owns.1 in
-          rw z.witness-is (rw z.copied-is (record {
+          let k = z.in_ok-copy_key.ensures in let w2 = z.copy_key.new.caller in let falls = falls_known q v (run_of q tabled v.seen three.seat.me.0.seen went.2.0 went.2.2) one.owns.1 in
+          rw z.caller-is (rw z.copied-is (record {
             copied = subst (IsCopied note os buckets number before (index + 1)) (sym (k.copied ∙ ap (λ (l : List ℕ). es ++ (slice_index_or l 0 0, slice_index_or l 1 0) ∷ []) words)) (copied_more note os buckets number before index es s.0 at i.copied falls (ap (λ (n : ℕ). n % buckets) (sym key) ∙ z.if-words-buckets.true));
             ranked = subst (AreRanked 0) (sym k.ranks) (subst (λ (n : ℕ). AreRanked 0 (ranks ++ n ∷ [])) many (more_ranked 0 ranks i.ranked));
             heard = begins_trans (w.heard w0) (w.heard w1) (w.heard w2) i.heard k.heard;
@@ -83,7 +83,7 @@ loop-index-preserved g c =
             walked = (i.walked.0, (e.walked.0.0 ∙ i.walked.1.0, e.walked.0.1 ∙ i.walked.1.1), went, e.walked.2 ∙ i.walked.3, e.walked.3 ∙ i.walked.4);
           }))
       | else-words-buckets z ↦
-          rw z.witness-is (rw z.copied-is (record {
+          rw z.caller-is (rw z.copied-is (record {
             copied = copied_skip note os buckets number before index es s.0 at i.copied (λ here. z.if-words-buckets.false (ap (λ (n : ℕ). n % buckets) key ∙ here));
             ranked = i.ranked;
             heard = i.heard;

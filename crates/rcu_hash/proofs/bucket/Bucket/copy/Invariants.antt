@@ -12,8 +12,8 @@ abbrev pub invariant-loop-index : goal.invariant-loop-index
 invariant-loop-index g l = record {
   copied : IsCopied (note_of l.fn.self.chain.seat.me.0.seen) (list_in l.fn.self.chain.seat.me.0) l.fn.self.naming.buckets l.number (map (λ c. (c.key, c.value)) l.fn.copied.items) l.index (map (λ c. (c.key, c.value)) l.copied.items);
   ranked : AreRanked 0 (map (λ c. c.rank) l.copied.items);
-  heard : Begins (g.W.Witness.heard l.fn.witness) (g.W.Witness.heard l.witness);
-  looks : (found : List (ℕ × ℕ)) × (g.W.Witness.looks l.witness ≡ found ++ g.W.Witness.looks l.fn.witness);
-  same : Stays g.W.Witness l.fn.witness l.witness × (g.W.Witness.loads l.witness ≡ g.W.Witness.loads l.fn.witness);
+  heard : Begins (g.W.Caller.heard l.fn.caller) (g.W.Caller.heard l.caller);
+  looks : (found : List (ℕ × ℕ)) × (g.W.Caller.looks l.caller ≡ found ++ g.W.Caller.looks l.fn.caller);
+  same : Stays g.W.Caller l.fn.caller l.caller × (g.W.Caller.loads l.caller ≡ g.W.Caller.loads l.fn.caller);
   walked : (l.self.naming ≡ l.fn.self.naming) × Keeps l.fn.self.chain.seat l.self.chain.seat × Went g.P.GracePlan.QSBR tabled l.fn.self.chain.seat.me.0 l.fn.self.chain.seat.me l.self.chain.seat.me × (l.self.chain.number ≡ l.fn.self.chain.number) × (l.self.chain.home.now ≡ l.fn.self.chain.home.now);
 }

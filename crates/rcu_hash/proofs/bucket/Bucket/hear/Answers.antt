@@ -48,7 +48,7 @@ returns-clause-told g c =
     let v = c.args.self.now.chain.seat.me.0 in let e = c.lend-lent.ensures in let h = c.hear.ensures in let b = c.take_back.ensures.from in
     let t : Log = c.hear.new.self.seat.me.0.seen in
     let goes : Begins v.seen t = begins_trans v.seen c.lend-lent.new.to.seat.me.0.seen t e.later.0 h.told.1 in (
-      subst (IsAfter g.P.GracePlan.QSBR tabled (g.W.Witness.seen c.args.witness.now) (g.W.Witness.heard c.args.witness.now)) (sym h.heard) h.told.0,
+      subst (IsAfter g.P.GracePlan.QSBR tabled (g.W.Caller.seen c.args.caller.now) (g.W.Caller.heard c.args.caller.now)) (sym h.heard) h.told.0,
       subst (Begins v.seen) (sym h.heard) goes,
       h.heard ∙ sym b.1,
     )
@@ -60,7 +60,7 @@ returns-clause-map g c key =
     let chains = h.chains.0 ∙ e.chains.0 in
     let alone = lent_is t c.hear.new.self.seat.me.0.chains _ _ n.object n.directory chains h.known d.alone (d.chain.owns.2 ∙ d.own.0) in
     let words = words_later q s t n.object h.told.1 h.told.0.run n.first n.buckets (lent_used q s n.directory n.object e.later.2 (lent_is s c.lend-lent.new.to.seat.me.0.chains _ _ n.object n.directory e.chains.0 e.known d.alone (d.chain.owns.2 ∙ d.own.0))) e.words in
-    subst (λ (m : Naming). directed_map g.B.Site.sizes.chains m.directory (g.W.Witness.heard c.hear.new.witness) key ≡ map_of (g.W.Witness.heard c.hear.new.witness) (bucket_of m.first m.buckets key) key) c.take-place.ensures
+    subst (λ (m : Naming). directed_map g.B.Site.sizes.chains m.directory (g.W.Caller.heard c.hear.new.caller) key ≡ map_of (g.W.Caller.heard c.hear.new.caller) (bucket_of m.first m.buckets key) key) c.take-place.ensures
     (subst (λ (l : Log). directed_map g.B.Site.sizes.chains n.directory l key ≡ map_of l (bucket_of n.first n.buckets key) key) (sym h.heard)
     (directed_between g.B.Site.sizes.chains n.first n.buckets d.fits.0 d.fits.1 q n.directory n.object t t t ([], refl) ([], refl) h.told.0.run alone alone words key))
 
@@ -70,5 +70,5 @@ returns-clause-leads g c key =
     let s : Log = c.lend-lent.new.to.seat.me.0.seen in let t : Log = c.hear.new.self.seat.me.0.seen in
     let alone = lent_is t c.hear.new.self.seat.me.0.chains _ _ n.object n.directory (h.chains.0 ∙ e.chains.0) h.known d.alone (d.chain.owns.2 ∙ d.own.0) in
     let words = words_later q s t n.object h.told.1 h.told.0.run n.first n.buckets (lent_used q s n.directory n.object e.later.2 (lent_is s c.lend-lent.new.to.seat.me.0.chains _ _ n.object n.directory e.chains.0 e.known d.alone (d.chain.owns.2 ∙ d.own.0))) e.words in
-    subst (λ (m : Naming). LeadsTo m.directory (g.W.Witness.heard c.hear.new.witness) key (bucket_of m.first m.buckets key)) c.take-place.ensures
+    subst (λ (m : Naming). LeadsTo m.directory (g.W.Caller.heard c.hear.new.caller) key (bucket_of m.first m.buckets key)) c.take-place.ensures
     (subst (λ (l : Log). LeadsTo n.directory l key (bucket_of n.first n.buckets key)) (sym h.heard) (leads_there t n.directory n.object n.first n.buckets key alone words))

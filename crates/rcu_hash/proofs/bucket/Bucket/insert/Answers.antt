@@ -35,19 +35,21 @@ invariant_of-self g c =
       named = ∥∥₁_map b.named (λ n. subst (λ (k : ℕ). WasNamed b.naming.directory b.naming.object k two.seat.me.0.seen) (sym l.2) (named_later b.naming.directory b.naming.object one.number one.seat.me.0.seen two.seat.me.0.seen l.1.2.0 n));
     }
 
-pub push-requires-clause-rule : goal.push-requires-clause-rule
-push-requires-clause-rule g c =
-    let q = g.P.GracePlan.QSBR in let maps = tabled_maps q in let b = c.hear.new.self in let one = b.chain in let two = c.prepare_insertion.new.chain in let three = c.lend-lent.new.to in
-    let p = c.in_ok-owned.ensures in let l = p.looked in let e = c.lend-lent.ensures in let d = c.take-place.result.1 in let is = c.take-place.ensures in
-    let same = ap (λ (x : ChainRight). x.objects) (ap own_in e.chains.0) in
-    let keys = keys_walked q tabled maps one.number one.seat.me two.seat.me l.1 one.owns.1 one.owns.2 b.keys in
-    let keys' = keys_on q tabled maps two.seat.me.0 three.seat.me.0 two.owns.1 e.later.0 e.later.2 same keys in
-    let number = three.owns.2 ∙ (e.chains.1 ∙ l.2) in
-    let may = may_write_named q three.seat.me.0 one.seat.me.0.seen b.naming.directory b.naming.object (own_in d.chain.seat.me.0.chains) (begins_trans one.seat.me.0.seen two.seat.me.0.seen three.seat.me.0.seen l.1.2.0 e.later.0) (ap lent_chains e.chains.0)
-    (d.chain.owns.2 ∙ (d.own.0 ∙ ap (λ (n : Naming). n.directory) is)) (d.alone ∙ ap (λ (n : Naming). n.object ∷ []) is)
-    (subst (λ (k : ℕ). ∥ WasNamed b.naming.directory b.naming.object k one.seat.me.0.seen ∥₁) (sym number) b.named) in
-    comes_in q tabled maps IsFree (free_takes q) three.seat.me.0 (g.W.Witness.seen c.prepare_insertion.new.witness) (g.W.Witness.heard c.prepare_insertion.new.witness) c.in_ok-owned.owned.seat.me.0.seen three.owns.0 three.owns.1 may keys'
-    c.in_ok-owned.owned.seat.me.0 c.args.key c.args.value (ready_later q two.seat.me.0 three.seat.me.0 c.in_ok-owned.owned.seat.me.0 c.args.key c.args.value two.owns.1 e.later.0 e.later.2 same p.ready.0)
+pub push-requires : goal.push-requires
+push-requires g c = record {
+  rule =
+      let q = g.P.GracePlan.QSBR in let maps = tabled_maps q in let b = c.hear.new.self in let one = b.chain in let two = c.prepare_insertion.new.chain in let three = c.lend-lent.new.to in
+      let p = c.in_ok-owned.ensures in let l = p.looked in let e = c.lend-lent.ensures in let d = c.take-place.result.1 in let is = c.take-place.ensures in
+      let same = ap (λ (x : ChainRight). x.objects) (ap own_in e.chains.0) in
+      let keys = keys_walked q tabled maps one.number one.seat.me two.seat.me l.1 one.owns.1 one.owns.2 b.keys in
+      let keys' = keys_on q tabled maps two.seat.me.0 three.seat.me.0 two.owns.1 e.later.0 e.later.2 same keys in
+      let number = three.owns.2 ∙ (e.chains.1 ∙ l.2) in
+      let may = may_write_named q three.seat.me.0 one.seat.me.0.seen b.naming.directory b.naming.object (own_in d.chain.seat.me.0.chains) (begins_trans one.seat.me.0.seen two.seat.me.0.seen three.seat.me.0.seen l.1.2.0 e.later.0) (ap lent_chains e.chains.0)
+      (d.chain.owns.2 ∙ (d.own.0 ∙ ap (λ (n : Naming). n.directory) is)) (d.alone ∙ ap (λ (n : Naming). n.object ∷ []) is)
+      (subst (λ (k : ℕ). ∥ WasNamed b.naming.directory b.naming.object k one.seat.me.0.seen ∥₁) (sym number) b.named) in
+      comes_in q tabled maps IsFree (free_takes q) three.seat.me.0 (g.W.Caller.seen c.prepare_insertion.new.caller) (g.W.Caller.heard c.prepare_insertion.new.caller) c.in_ok-owned.owned.seat.me.0.seen three.owns.0 three.owns.1 may keys'
+      c.in_ok-owned.owned.seat.me.0 c.args.key c.args.value (ready_later q two.seat.me.0 three.seat.me.0 c.in_ok-owned.owned.seat.me.0 c.args.key c.args.value two.owns.1 e.later.0 e.later.2 same p.ready.0);
+}
 
 pub take_back-requires-clause-words : goal.take_back-requires-clause-words
 take_back-requires-clause-words g c =
@@ -69,7 +71,7 @@ invariant_of-self-2 g c =
     let r = c.in_ok-owned.ensures in let l = r.looked in let e = c.lend-lent.ensures in let p = c.push.ensures in let f = c.take_back.ensures.from in let owned = c.in_ok-owned.owned in
     let same = ap (λ (x : ChainRight). x.objects) (ap own_in e.chains.0) in
     let keys = keys_on q tabled maps two.seat.me.0 three.seat.me.0 two.owns.1 e.later.0 e.later.2 same (keys_walked q tabled maps one.number one.seat.me two.seat.me l.1 one.owns.1 one.owns.2 b.keys) in
-    let keys' = keys_pushed q tabled maps three.seat.me.0 four.seat.me.0 three.owns.1 keys (g.W.Witness.seen c.prepare_insertion.new.witness) (g.W.Witness.heard c.prepare_insertion.new.witness) owned.seat.me.0.seen owned.seat.me.0 p.pushed
+    let keys' = keys_pushed q tabled maps three.seat.me.0 four.seat.me.0 three.owns.1 keys (g.W.Caller.seen c.prepare_insertion.new.caller) (g.W.Caller.heard c.prepare_insertion.new.caller) owned.seat.me.0.seen owned.seat.me.0 p.pushed
     (ap (λ (x : List ℕ). slice_index_or x 3 0) r.ready.0.words) (p.list.0 ∙ ap (λ (o : ObjectId). o ∷ list_in three.seat.me.0) p.object) in
     let last : Log = four.seat.me.0.seen in let then : Log = five.seat.me.0.seen in
     let goes = begins_trans one.seat.me.0.seen three.seat.me.0.seen last (begins_trans one.seat.me.0.seen two.seat.me.0.seen three.seat.me.0.seen l.1.2.0 e.later.0) (begins_trans three.seat.me.0.seen p.pushed.before last p.pushed.after.after_writer.0 (_ ∷ [], p.pushed.wrote)) in
@@ -81,7 +83,7 @@ invariant_of-self-2 g c =
 
 pub returns-clause-inserted : goal.returns-clause-inserted
 returns-clause-inserted g c =
-    let q = g.P.GracePlan.QSBR in let maps = tabled_maps q in let w = g.W.Witness in let w0 = c.args.witness.now in let w1 = c.hear.new.witness in let w2 = c.prepare_insertion.new.witness in
+    let q = g.P.GracePlan.QSBR in let maps = tabled_maps q in let w = g.W.Caller in let w0 = c.args.caller.now in let w1 = c.hear.new.caller in let w2 = c.prepare_insertion.new.caller in
     let b = c.hear.new.self in let one = b.chain in let two = c.prepare_insertion.new.chain in let three = c.lend-lent.new.to in let four = c.push.new.self in
     let r = c.in_ok-owned.ensures in let l = r.looked in let e = c.lend-lent.ensures in let p = c.push.ensures in let k = c.take_back.ensures in let owned = c.in_ok-owned.owned in let h = c.hear.ensures in
     let d = c.take-place.result.1 in let n = d.naming in let last = c.take_back.result in let named = c.take-place.ensures ∙ h.same.1 in
@@ -104,8 +106,8 @@ returns-clause-inserted g c =
     let is = subst (λ (m : Naming). (state_of new).chain m.directory ≡ m.object ∷ []) (k.naming.0 ∙ e.naming) (chain_known last.chain.seat.me.0 last.naming.directory last.chain.owns.1 (last.chain.owns.2 ∙ last.own.0) ∙ last.alone) in
     let through = inserts_through chains n.first n.buckets d.fits.0 d.fits.1 q n.directory n.object s new k.later.1 was is e.words seen heard key log
     (λ x y step. subst (Begins s) (ap rest (sym p.pushed.wrote ∙ step)) p.pushed.after.after_writer.0) k.later.0 value into in
-    subst (λ (x : ℕ). InsertsThrough q tabled chains c.args.self.now.naming.directory seen heard key value x (w.heard c.push.new.witness)) c.requires.key
-    (subst (λ (m : Naming). InsertsThrough q tabled chains m.directory seen heard key value (bucket_of m.first m.buckets key) (w.heard c.push.new.witness)) named
+    subst (λ (x : ℕ). InsertsThrough q tabled chains c.args.self.now.naming.directory seen heard key value x (w.heard c.push.new.caller)) c.requires.key
+    (subst (λ (m : Naming). InsertsThrough q tabled chains m.directory seen heard key value (bucket_of m.first m.buckets key) (w.heard c.push.new.caller)) named
     (subst (InsertsThrough q tabled chains n.directory seen heard key value (bucket_of n.first n.buckets key)) (sym p.heard) through))
 
 pub returns-clause-heard : goal.returns-clause-heard
@@ -115,12 +117,12 @@ returns-clause-heard g c =
 
 pub returns-clause-changes : goal.returns-clause-changes
 returns-clause-changes g c =
-    let w = g.W.Witness in let w0 = c.args.witness.now in let w1 = c.hear.new.witness in let w2 = c.prepare_insertion.new.witness in let w3 = c.push.new.witness in let p = c.push.ensures in let log : Log = c.push.new.self.seat.me.0.seen in
+    let w = g.W.Caller in let w0 = c.args.caller.now in let w1 = c.hear.new.caller in let w2 = c.prepare_insertion.new.caller in let w3 = c.push.new.caller in let p = c.push.ensures in let log : Log = c.push.new.self.seat.me.0.seen in
     subst (MakesLast w w0 w3) (sym p.heard) (stays_makes w w0 w1 w3 log c.hear.ensures.same.0.0.0 (stays_makes w w1 w2 w3 log c.in_ok-owned.ensures.same.0 p.same.0))
 
 pub returns-in_err-owned-clause-refused : goal.returns-in_err-owned-clause-refused
 returns-in_err-owned-clause-refused g c =
-    let q = g.P.GracePlan.QSBR in let w = g.W.Witness in let sizes = g.B.Site.sizes in let w0 = c.args.witness.now in let w1 = c.hear.new.witness in let w2 = c.prepare_insertion.new.witness in
+    let q = g.P.GracePlan.QSBR in let w = g.W.Caller in let sizes = g.B.Site.sizes in let w0 = c.args.caller.now in let w1 = c.hear.new.caller in let w2 = c.prepare_insertion.new.caller in
     let old = c.args.self.now in let n = old.naming in let b = c.hear.new.self in let h = c.hear.ensures in let key = c.args.key in let known : Log = b.chain.seat.me.0.seen in
     let p = err_from_is_err_and c.from_residual.result c.from_residual.ensures.1 in
     let map_is = subst (λ (l : Log). directed_map sizes.chains n.directory l key ≡ map_of l (bucket_of n.first n.buckets key) key) h.told.2 (h.map key) in

@@ -39,17 +39,19 @@ invariant_of-self g c =
       named = ∥∥₁_map b.named (λ n. subst (λ (k : ℕ). WasNamed b.naming.directory b.naming.object k two.seat.me.0.seen) (sym l.2) (named_later b.naming.directory b.naming.object one.number one.seat.me.0.seen two.seat.me.0.seen l.1.2.0 n));
     }
 
-pub cut_retire-answer-requires-clause-rule : goal.cut_retire-answer-requires-clause-rule
-cut_retire-answer-requires-clause-rule g c o at =
-    let q = g.P.GracePlan.QSBR in let maps = tabled_maps q in let b = c.hear.new.self in let one = b.chain in let two = c.index_of.new.self in let three = c.lend-lent.new.to in
-    let l = c.in-Some.ensures.walked in let e = c.lend-lent.ensures in let d = c.take-place.result.1 in let is = c.take-place.ensures in
-    let same = ap (λ (x : ChainRight). x.objects) (ap own_in e.chains.0) in
-    let keys = keys_on q tabled maps two.seat.me.0 three.seat.me.0 two.owns.1 e.later.0 e.later.2 same (keys_walked q tabled maps one.number one.seat.me two.seat.me l.1 one.owns.1 one.owns.2 b.keys) in
-    let number = three.owns.2 ∙ (e.chains.1 ∙ l.2) in
-    let may = may_write_named q three.seat.me.0 one.seat.me.0.seen b.naming.directory b.naming.object (own_in d.chain.seat.me.0.chains) (begins_trans one.seat.me.0.seen two.seat.me.0.seen three.seat.me.0.seen l.1.2.0 e.later.0) (ap lent_chains e.chains.0)
-    (d.chain.owns.2 ∙ (d.own.0 ∙ ap (λ (n : Naming). n.directory) is)) (d.alone ∙ ap (λ (n : Naming). n.object ∷ []) is)
-    (subst (λ (k : ℕ). ∥ WasNamed b.naming.directory b.naming.object k one.seat.me.0.seen ∥₁) (sym number) b.named) in
-    may_remove q tabled maps IsFree (free_takes q) three.seat.me.0 (g.W.Witness.seen c.hear.new.witness) (g.W.Witness.heard c.hear.new.witness) [] three.owns.0 three.owns.1 may keys o (index_has (list_in three.seat.me.0) c.in-Some.index o at)
+pub cut_retire-answer-requires : goal.cut_retire-answer-requires
+cut_retire-answer-requires g c = record {
+  rule = λ o at.
+      let q = g.P.GracePlan.QSBR in let maps = tabled_maps q in let b = c.hear.new.self in let one = b.chain in let two = c.index_of.new.self in let three = c.lend-lent.new.to in
+      let l = c.in-Some.ensures.walked in let e = c.lend-lent.ensures in let d = c.take-place.result.1 in let is = c.take-place.ensures in
+      let same = ap (λ (x : ChainRight). x.objects) (ap own_in e.chains.0) in
+      let keys = keys_on q tabled maps two.seat.me.0 three.seat.me.0 two.owns.1 e.later.0 e.later.2 same (keys_walked q tabled maps one.number one.seat.me two.seat.me l.1 one.owns.1 one.owns.2 b.keys) in
+      let number = three.owns.2 ∙ (e.chains.1 ∙ l.2) in
+      let may = may_write_named q three.seat.me.0 one.seat.me.0.seen b.naming.directory b.naming.object (own_in d.chain.seat.me.0.chains) (begins_trans one.seat.me.0.seen two.seat.me.0.seen three.seat.me.0.seen l.1.2.0 e.later.0) (ap lent_chains e.chains.0)
+      (d.chain.owns.2 ∙ (d.own.0 ∙ ap (λ (n : Naming). n.directory) is)) (d.alone ∙ ap (λ (n : Naming). n.object ∷ []) is)
+      (subst (λ (k : ℕ). ∥ WasNamed b.naming.directory b.naming.object k one.seat.me.0.seen ∥₁) (sym number) b.named) in
+      may_remove q tabled maps IsFree (free_takes q) three.seat.me.0 (g.W.Caller.seen c.hear.new.caller) (g.W.Caller.heard c.hear.new.caller) [] three.owns.0 three.owns.1 may keys o (index_has (list_in three.seat.me.0) c.in-Some.index o at);
+}
 
 pub take_back-requires-clause-words : goal.take_back-requires-clause-words
 take_back-requires-clause-words g c =
@@ -82,7 +84,7 @@ invariant_of-self-2 g c =
     (λ x k. (begins_trans s k.published.before t k.published.after.after_writer.0 (_ ∷ [], k.published.wrote), k.published.run))
     (λ x y. (([], ap (λ z. z.seat.me.0.seen) y.1), subst (IsLiveRun q tabled) (sym (ap (λ z. z.seat.me.0.seen) y.1)) e.later.2)) in
     let keys' : KnowsKeys four.seat.me.0 = by_result c.cut_retire-answer.result _ _ r.retired r.back
-    (λ x k. keys_cut q tabled maps three.seat.me.0 four.seat.me.0 three.owns.1 keys (g.W.Witness.seen c.hear.new.witness) (g.W.Witness.heard c.hear.new.witness) [] k.object k.published k.left)
+    (λ x k. keys_cut q tabled maps three.seat.me.0 four.seat.me.0 three.owns.1 keys (g.W.Caller.seen c.hear.new.caller) (g.W.Caller.heard c.hear.new.caller) [] k.object k.published k.left)
     (λ x y. subst (λ z. KnowsKeys z.seat.me.0) (sym y.1) keys) in
     let number : four.number ≡ three.number = by_result c.cut_retire-answer.result _ _ r.same r.back (λ x k. k.1) (λ x y. ap (λ z. z.number) y.1) in
     let later : Begins one.seat.me.0.seen then = subst (Begins one.seat.me.0.seen) (sym f.1) (begins_trans one.seat.me.0.seen s t (begins_trans one.seat.me.0.seen two.seat.me.0.seen s l.1.2.0 e.later.0) goes.0) in record {
@@ -93,7 +95,7 @@ invariant_of-self-2 g c =
 
 pub returns-clause-removed : goal.returns-clause-removed
 returns-clause-removed g c =
-    let q = g.P.GracePlan.QSBR in let maps = tabled_maps q in let w = g.W.Witness in let w0 = c.args.witness.now in let w1 = c.hear.new.witness in let w2 = c.cut_retire-answer.new.witness in
+    let q = g.P.GracePlan.QSBR in let maps = tabled_maps q in let w = g.W.Caller in let w0 = c.args.caller.now in let w1 = c.hear.new.caller in let w2 = c.cut_retire-answer.new.caller in
     let b = c.hear.new.self in let one = b.chain in let two = c.index_of.new.self in let three = c.lend-lent.new.to in let four = c.cut_retire-answer.new.chain in
     let i = c.in-Some.ensures in let l = i.walked in let f = i.found in let e = c.lend-lent.ensures in let k = c.take_back.ensures in let h = c.hear.ensures in
     let d = c.take-place.result.1 in let n = d.naming in let last = c.take_back.result in let named = c.take-place.ensures ∙ h.same.1 in
@@ -127,7 +129,7 @@ returns-clause-removed g c =
 
 pub returns-in_default-clause-refused : goal.returns-in_default-clause-refused
 returns-in_default-clause-refused g c =
-    let q = g.P.GracePlan.QSBR in let w = g.W.Witness in let sizes = g.B.Site.sizes in let w0 = c.args.witness.now in let w1 = c.hear.new.witness in
+    let q = g.P.GracePlan.QSBR in let w = g.W.Caller in let sizes = g.B.Site.sizes in let w0 = c.args.caller.now in let w1 = c.hear.new.caller in
     let n = c.args.self.now.naming in let one = c.hear.new.self.chain in let h = c.hear.ensures in let key = c.args.key in let known : Log = one.seat.me.0.seen in let i = c.in_default.ensures in
     let map_is = subst (λ (l : Log). directed_map sizes.chains n.directory l key ≡ map_of l (bucket_of n.first n.buckets key) key) h.told.2 (h.map key) in
     let missing = walked_missing q tabled (tabled_maps q) one.number one.seat.me c.index_of.new.self.seat.me i.walked.1 one.owns.1 one.owns.2 key i.none in
@@ -137,7 +139,7 @@ returns-in_default-clause-refused g c =
 
 pub returns-clause-refused : goal.returns-clause-refused
 returns-clause-refused g c =
-    let q = g.P.GracePlan.QSBR in let maps = tabled_maps q in let w = g.W.Witness in let sizes = g.B.Site.sizes in let w0 = c.args.witness.now in let w1 = c.hear.new.witness in let w2 = c.cut_retire-answer.new.witness in
+    let q = g.P.GracePlan.QSBR in let maps = tabled_maps q in let w = g.W.Caller in let sizes = g.B.Site.sizes in let w0 = c.args.caller.now in let w1 = c.hear.new.caller in let w2 = c.cut_retire-answer.new.caller in
     let n = c.args.self.now.naming in let one = c.hear.new.self.chain in let two = c.index_of.new.self in let three = c.lend-lent.new.to in let h = c.hear.ensures in let key = c.args.key in let known : Log = one.seat.me.0.seen in
     let i = c.in-Some.ensures in let l = i.walked in let f = i.found in let e = c.lend-lent.ensures in
     let map_is = subst (λ (x : Log). directed_map sizes.chains n.directory x key ≡ map_of x (bucket_of n.first n.buckets key) key) h.told.2 (h.map key) in

@@ -39,18 +39,20 @@ invariant_of-self g c =
       named = ∥∥₁_map b.named (λ n. subst (λ (k : ℕ). WasNamed b.naming.directory b.naming.object k two.seat.me.0.seen) (sym l.2) (named_later b.naming.directory b.naming.object one.number one.seat.me.0.seen two.seat.me.0.seen l.1.2.0 n));
     }
 
-pub replace_retire-answer-requires-clause-rule : goal.replace_retire-answer-requires-clause-rule
-replace_retire-answer-requires-clause-rule g c o at =
-    let q = g.P.GracePlan.QSBR in let maps = tabled_maps q in let b = c.hear.new.self in let one = b.chain in let two = c.prepare_replacement.new.chain in let three = c.lend-lent.new.to in
-    let l = c.in-Ok.ensures.looked in let e = c.lend-lent.ensures in let d = c.take-place.result.1 in let is = c.take-place.ensures in
-    let same = ap (λ (x : ChainRight). x.objects) (ap own_in e.chains.0) in
-    let keys = keys_on q tabled maps two.seat.me.0 three.seat.me.0 two.owns.1 e.later.0 e.later.2 same (keys_walked q tabled maps one.number one.seat.me two.seat.me l.1 one.owns.1 one.owns.2 b.keys) in
-    let number = three.owns.2 ∙ (e.chains.1 ∙ l.2) in
-    let may = may_write_named q three.seat.me.0 one.seat.me.0.seen b.naming.directory b.naming.object (own_in d.chain.seat.me.0.chains) (begins_trans one.seat.me.0.seen two.seat.me.0.seen three.seat.me.0.seen l.1.2.0 e.later.0) (ap lent_chains e.chains.0)
-    (d.chain.owns.2 ∙ (d.own.0 ∙ ap (λ (n : Naming). n.directory) is)) (d.alone ∙ ap (λ (n : Naming). n.object ∷ []) is)
-    (subst (λ (k : ℕ). ∥ WasNamed b.naming.directory b.naming.object k one.seat.me.0.seen ∥₁) (sym number) b.named) in
-    takes_over q tabled maps IsFree (free_takes q) three.seat.me.0 (g.W.Witness.seen c.prepare_replacement.new.witness) (g.W.Witness.heard c.prepare_replacement.new.witness) c.in-Ok.ready.1.seat.me.0.seen three.owns.0 three.owns.1 may keys
-    c.in-Ok.ready.1.seat.me.0 c.args.key c.args.value c.in-Ok.ready.0 (over_later q two.seat.me.0 three.seat.me.0 c.in-Ok.ready.1.seat.me.0 c.args.key c.args.value c.in-Ok.ready.0 two.owns.1 e.later.0 e.later.2 same c.in-Ok.ensures.ready.0) o at
+pub replace_retire-answer-requires : goal.replace_retire-answer-requires
+replace_retire-answer-requires g c = record {
+  rule = λ o at.
+      let q = g.P.GracePlan.QSBR in let maps = tabled_maps q in let b = c.hear.new.self in let one = b.chain in let two = c.prepare_replacement.new.chain in let three = c.lend-lent.new.to in
+      let l = c.in-Ok.ensures.looked in let e = c.lend-lent.ensures in let d = c.take-place.result.1 in let is = c.take-place.ensures in
+      let same = ap (λ (x : ChainRight). x.objects) (ap own_in e.chains.0) in
+      let keys = keys_on q tabled maps two.seat.me.0 three.seat.me.0 two.owns.1 e.later.0 e.later.2 same (keys_walked q tabled maps one.number one.seat.me two.seat.me l.1 one.owns.1 one.owns.2 b.keys) in
+      let number = three.owns.2 ∙ (e.chains.1 ∙ l.2) in
+      let may = may_write_named q three.seat.me.0 one.seat.me.0.seen b.naming.directory b.naming.object (own_in d.chain.seat.me.0.chains) (begins_trans one.seat.me.0.seen two.seat.me.0.seen three.seat.me.0.seen l.1.2.0 e.later.0) (ap lent_chains e.chains.0)
+      (d.chain.owns.2 ∙ (d.own.0 ∙ ap (λ (n : Naming). n.directory) is)) (d.alone ∙ ap (λ (n : Naming). n.object ∷ []) is)
+      (subst (λ (k : ℕ). ∥ WasNamed b.naming.directory b.naming.object k one.seat.me.0.seen ∥₁) (sym number) b.named) in
+      takes_over q tabled maps IsFree (free_takes q) three.seat.me.0 (g.W.Caller.seen c.prepare_replacement.new.caller) (g.W.Caller.heard c.prepare_replacement.new.caller) c.in-Ok.ready.1.seat.me.0.seen three.owns.0 three.owns.1 may keys
+      c.in-Ok.ready.1.seat.me.0 c.args.key c.args.value c.in-Ok.ready.0 (over_later q two.seat.me.0 three.seat.me.0 c.in-Ok.ready.1.seat.me.0 c.args.key c.args.value c.in-Ok.ready.0 two.owns.1 e.later.0 e.later.2 same c.in-Ok.ensures.ready.0) o at;
+}
 
 pub take_back-requires-clause-words : goal.take_back-requires-clause-words
 take_back-requires-clause-words g c =
@@ -83,7 +85,7 @@ invariant_of-self-2 g c =
     (λ x k. (begins_trans s k.published.before t k.published.after.after_writer.0 (_ ∷ [], k.published.wrote), k.published.run))
     (λ x y. (([], ap (λ z. z.seat.me.0.seen) y.2), subst (IsLiveRun q tabled) (sym (ap (λ z. z.seat.me.0.seen) y.2)) e.later.2)) in
     let keys' : KnowsKeys four.seat.me.0 = by_result c.replace_retire-answer.result _ _ r.retired r.back
-    (λ x k. keys_replaced q tabled maps three.seat.me.0 four.seat.me.0 three.owns.1 keys (g.W.Witness.seen c.prepare_replacement.new.witness) (g.W.Witness.heard c.prepare_replacement.new.witness) c.in-Ok.ready.1.seat.me.0.seen c.in-Ok.ready.1.seat.me.0 k.object k.published
+    (λ x k. keys_replaced q tabled maps three.seat.me.0 four.seat.me.0 three.owns.1 keys (g.W.Caller.seen c.prepare_replacement.new.caller) (g.W.Caller.heard c.prepare_replacement.new.caller) c.in-Ok.ready.1.seat.me.0.seen c.in-Ok.ready.1.seat.me.0 k.object k.published
     (ap (λ (v : List ℕ). slice_index_or v 3 0) c.in-Ok.ensures.ready.0.words) k.left)
     (λ x y. subst (λ z. KnowsKeys z.seat.me.0) (sym y.2) keys) in
     let number : four.number ≡ three.number = by_result c.replace_retire-answer.result _ _ r.same r.back (λ x k. k.1) (λ x y. ap (λ z. z.number) y.2) in
@@ -95,7 +97,7 @@ invariant_of-self-2 g c =
 
 pub returns-in-Ok-answer-clause-replaced : goal.returns-in-Ok-answer-clause-replaced
 returns-in-Ok-answer-clause-replaced g c =
-    let q = g.P.GracePlan.QSBR in let maps = tabled_maps q in let w = g.W.Witness in let w0 = c.args.witness.now in let w1 = c.hear.new.witness in let w2 = c.prepare_replacement.new.witness in let w3 = c.replace_retire-answer.new.witness in
+    let q = g.P.GracePlan.QSBR in let maps = tabled_maps q in let w = g.W.Caller in let w0 = c.args.caller.now in let w1 = c.hear.new.caller in let w2 = c.prepare_replacement.new.caller in let w3 = c.replace_retire-answer.new.caller in
     let b = c.hear.new.self in let one = b.chain in let two = c.prepare_replacement.new.chain in let three = c.lend-lent.new.to in let four = c.replace_retire-answer.new.chain in
     let p = c.in-Ok.ensures in let l = p.looked in let ready = p.ready.0 in let f = ready.found in let owned = c.in-Ok.ready.1 in let e = c.lend-lent.ensures in let k = c.take_back.ensures in let h = c.hear.ensures in
     let d = c.take-place.result.1 in let n = d.naming in let last = c.take_back.result in let named = c.take-place.ensures ∙ h.same.1 in let r = c.in-Ok-answer.ensures.retired in let z = c.in-Ok-answer.ensures.same in
@@ -135,7 +137,7 @@ returns-in-Ok-answer-clause-heard g c =
 
 pub returns-in-Err-clause-refused : goal.returns-in-Err-clause-refused
 returns-in-Err-clause-refused g c =
-    let q = g.P.GracePlan.QSBR in let w = g.W.Witness in let sizes = g.B.Site.sizes in let w0 = c.args.witness.now in let w1 = c.hear.new.witness in let w2 = c.prepare_replacement.new.witness in
+    let q = g.P.GracePlan.QSBR in let w = g.W.Caller in let sizes = g.B.Site.sizes in let w0 = c.args.caller.now in let w1 = c.hear.new.caller in let w2 = c.prepare_replacement.new.caller in
     let n = c.args.self.now.naming in let b = c.hear.new.self in let h = c.hear.ensures in let key = c.args.key in let known : Log = b.chain.seat.me.0.seen in let x = c.in-Err.refusal in
     let map_is = subst (λ (l : Log). directed_map sizes.chains n.directory l key ≡ map_of l (bucket_of n.first n.buckets key) key) h.told.2 (h.map key) in
     let leads = subst (λ (l : Log). LeadsTo n.directory l key (bucket_of n.first n.buckets key)) h.told.2 (h.leads key) in
@@ -144,8 +146,8 @@ returns-in-Err-clause-refused g c =
 
 pub returns-clause-refused : goal.returns-clause-refused
 returns-clause-refused g c =
-    let q = g.P.GracePlan.QSBR in let w = g.W.Witness in let sizes = g.B.Site.sizes in
-    let w0 = c.args.witness.now in let w1 = c.hear.new.witness in let w2 = c.prepare_replacement.new.witness in let w3 = c.replace_retire-answer.new.witness in let w4 = c.discard.new.witness in
+    let q = g.P.GracePlan.QSBR in let w = g.W.Caller in let sizes = g.B.Site.sizes in
+    let w0 = c.args.caller.now in let w1 = c.hear.new.caller in let w2 = c.prepare_replacement.new.caller in let w3 = c.replace_retire-answer.new.caller in let w4 = c.discard.new.caller in
     let n = c.args.self.now.naming in let one = c.hear.new.self.chain in let three = c.lend-lent.new.to in let h = c.hear.ensures in let key = c.args.key in let known : Log = one.seat.me.0.seen in let x = c.in-Err-answer.refusal in
     let a = c.in-Ok.ensures in let ready = a.ready.0 in let e = c.lend-lent.ensures in let d = c.discard.ensures in
     let map_is = subst (λ (l : Log). directed_map sizes.chains n.directory l key ≡ map_of l (bucket_of n.first n.buckets key) key) h.told.2 (h.map key) in

@@ -8,7 +8,7 @@ use Rattle.rcu_hash.proofs.directory.Desk.clear_all.Goals as goal
 
 pub loop-init : goal.loop-init
 loop-init g c =
-    let w = g.W.Witness in let w0 = c.args.witness.now in record {
+    let w = g.W.Caller in let w0 = c.args.caller.now in record {
       left = omega (arith, c.len-many.ensures);
       uses = uses_none g.P.GracePlan.QSBR tabled g.B.Site.sizes c.args.naming.directory (w.seen w0) w w0 w0 c.args.jobs.now.items (w.heard w0) (w.heard w0) (stays_none w w0) ([], refl);
       chains = c.requires.chains;
@@ -23,8 +23,8 @@ retire_all-requires-clause-chain g c =
 
 pub returns-in-Err-clause-uses : goal.returns-in-Err-clause-uses
 returns-in-Err-clause-uses g c =
-    let q = g.P.GracePlan.QSBR in let w = g.W.Witness in let sizes = g.B.Site.sizes in let d = c.args.naming.directory in
-    let w0 = c.args.witness.now in let w1 = c.loop.witness in let w2 = c.retire_all.new.witness in let i = c.loop.invariant in
+    let q = g.P.GracePlan.QSBR in let w = g.W.Caller in let sizes = g.B.Site.sizes in let d = c.args.naming.directory in
+    let w0 = c.args.caller.now in let w1 = c.loop.caller in let w2 = c.retire_all.new.caller in let i = c.loop.invariant in
     let first = c.args.jobs.now.items in let jobs = c.loop.jobs.items in let left = c.retire_all.new.jobs.items in
     uses_both q tabled sizes d (w.seen w0) w w0 w1 w2 first jobs left (w.heard w0) (w.heard w1) (w.heard w2) i.uses
     (subst (λ (seen : Log). Uses q tabled sizes d seen w w1 w2 jobs left (w.heard w1) (w.heard w2)) i.uses.made.made.0 c.in-Err.ensures.uses)
@@ -42,12 +42,12 @@ returns-in-Err-clause-stopped g c =
     (objects_pushed c.pop.new.self.items c.push_reserved.new.self.items c.retire_all.new.chain (λ x. x.seat.me.0) c.push_reserved.ensures.items s.0, s.1)
 
 pub returns-in-Err-clause-same : goal.returns-in-Err-clause-same
-returns-in-Err-clause-same g c = finds_both g.W.Witness c.args.witness.now c.loop.witness c.retire_all.new.witness c.loop.invariant.same c.in-Err.ensures.same
+returns-in-Err-clause-same g c = finds_both g.W.Caller c.args.caller.now c.loop.caller c.retire_all.new.caller c.loop.invariant.same c.in-Err.ensures.same
 
 pub loop-preserved : goal.loop-preserved
 loop-preserved g c =
-    let q = g.P.GracePlan.QSBR in let w = g.W.Witness in let sizes = g.B.Site.sizes in let n = c.args.naming in let d = n.directory in
-    let w0 = c.args.witness.now in let w1 = c.loop.witness in let w2 = c.retire_all.new.witness in let w3 = c.give_back.new.witness in let i = c.loop.invariant in let e = c.retire_all.ensures in let b = c.give_back.ensures in
+    let q = g.P.GracePlan.QSBR in let w = g.W.Caller in let sizes = g.B.Site.sizes in let n = c.args.naming in let d = n.directory in
+    let w0 = c.args.caller.now in let w1 = c.loop.caller in let w2 = c.retire_all.new.caller in let w3 = c.give_back.new.caller in let i = c.loop.invariant in let e = c.retire_all.ensures in let b = c.give_back.ensures in
     let first = c.args.jobs.now.items in let jobs = c.loop.jobs.items in let left = c.retire_all.new.jobs.items in
     let uses = subst (λ (seen : Log). Uses q tabled sizes d seen w w1 w2 jobs left (w.heard w1) (w.heard w2)) i.uses.made.made.0 e.uses in
     let clears = subst (λ (seen : Log). ClearsNote q tabled sizes d seen (w.heard w2) (w.heard w3)) (e.uses.made.made.0 ∙ i.uses.made.made.0) b.cleared in

@@ -7,8 +7,8 @@ use Rattle.rcu_hash.proofs.directory.Desk.clear_all.Given as goal
 abbrev pub invariant-loop : goal.invariant-loop
 invariant-loop g l = record {
   left : vec_len l.chains + l.counter ≡ l.many;
-  uses : Uses g.P.GracePlan.QSBR tabled g.B.Site.sizes l.naming.directory (g.W.Witness.seen l.fn.witness) g.W.Witness l.fn.witness l.witness l.fn.jobs.items l.jobs.items (g.W.Witness.heard l.fn.witness) (g.W.Witness.heard l.witness);
+  uses : Uses g.P.GracePlan.QSBR tabled g.B.Site.sizes l.naming.directory (g.W.Caller.seen l.fn.caller) g.W.Caller l.fn.caller l.caller l.fn.jobs.items l.jobs.items (g.W.Caller.heard l.fn.caller) (g.W.Caller.heard l.caller);
   chains : Each (IsLeft l.naming.directory l.naming.first l.naming.buckets) (map (λ c. c.seat.me.0) l.chains.items);
-  waited : HasWaited l.naming.directory l.naming.object (g.W.Witness.heard l.witness);
-  same : FindsMore g.W.Witness l.fn.witness l.witness;
+  waited : HasWaited l.naming.directory l.naming.object (g.W.Caller.heard l.caller);
+  same : FindsMore g.W.Caller l.fn.caller l.caller;
 }

@@ -13,18 +13,20 @@ use Rattle.rcu_hash.proofs.Emptying.{apart_there, directed_there, map_left, may_
 use Rattle.rcu_hash.proofs.Named.{lent_is, lent_used, used_later, words_later}
 use Rattle.rcu_hash.proofs.directory.Desk.give_back.Goals as goal
 
-pub set_note-requires-clause-rule : goal.set_note-requires-clause-rule
-set_note-requires-clause-rule g c =
-    let q = g.P.GracePlan.QSBR in let w = g.W.Witness in let w0 = c.args.witness.now in let d = c.take-place.result.1 in let n = d.naming in let named = c.take-place.ensures in
-    let one = c.args.chain in let three = c.lend-lent.new.to in let e = c.lend-lent.ensures in let s : Log = three.seat.me.0.seen in
-    let left : IsLeft n.directory n.first n.buckets one.seat.me.0 = subst (λ (m : Naming). IsLeft m.directory m.first m.buckets one.seat.me.0) (sym named) c.requires.chain in
-    let waited : HasWaited n.directory n.object (w.heard w0) = subst (λ (m : Naming). HasWaited m.directory m.object (w.heard w0)) (sym named) c.requires.waited in
-    let nothing = ap (λ (x : List ChainRight). (own_in x).objects) e.chains.0 ∙ c.requires.nothing in
-    let noted = ap (λ (x : List ChainRight). (own_in x).note) e.chains.0 ∙ left.2 in
-    let was = lent_is s three.seat.me.0.chains _ _ n.object n.directory e.chains.0 e.known d.alone (d.chain.owns.2 ∙ d.own.0) in
-    let outside = subst (λ (k : ℕ). ∥ (k < n.first) ⊎ (n.first + n.buckets ≤ k) ∥₁) (ap (λ (x : List ChainRight). (own_in x).chain) (sym e.chains.0)) left.3 in
-    may_clear_left q three.seat.me.0 n.directory n.object (own_in one.seat.me.0.chains) (own_in d.chain.seat.me.0.chains) e.chains.0 (d.chain.owns.2 ∙ d.own.0) d.alone three.owns.0 three.owns.1 noted
-    (w.seen w0) (w.heard w0) waited three.number n.first n.buckets three.owns.2 nothing (lent_used q s n.directory n.object e.later.2 was) e.words outside
+pub set_note-requires : goal.set_note-requires
+set_note-requires g c = record {
+  rule =
+      let q = g.P.GracePlan.QSBR in let w = g.W.Caller in let w0 = c.args.caller.now in let d = c.take-place.result.1 in let n = d.naming in let named = c.take-place.ensures in
+      let one = c.args.chain in let three = c.lend-lent.new.to in let e = c.lend-lent.ensures in let s : Log = three.seat.me.0.seen in
+      let left : IsLeft n.directory n.first n.buckets one.seat.me.0 = subst (λ (m : Naming). IsLeft m.directory m.first m.buckets one.seat.me.0) (sym named) c.requires.chain in
+      let waited : HasWaited n.directory n.object (w.heard w0) = subst (λ (m : Naming). HasWaited m.directory m.object (w.heard w0)) (sym named) c.requires.waited in
+      let nothing = ap (λ (x : List ChainRight). (own_in x).objects) e.chains.0 ∙ c.requires.nothing in
+      let noted = ap (λ (x : List ChainRight). (own_in x).note) e.chains.0 ∙ left.2 in
+      let was = lent_is s three.seat.me.0.chains _ _ n.object n.directory e.chains.0 e.known d.alone (d.chain.owns.2 ∙ d.own.0) in
+      let outside = subst (λ (k : ℕ). ∥ (k < n.first) ⊎ (n.first + n.buckets ≤ k) ∥₁) (ap (λ (x : List ChainRight). (own_in x).chain) (sym e.chains.0)) left.3 in
+      may_clear_left q three.seat.me.0 n.directory n.object (own_in one.seat.me.0.chains) (own_in d.chain.seat.me.0.chains) e.chains.0 (d.chain.owns.2 ∙ d.own.0) d.alone three.owns.0 three.owns.1 noted
+      (w.seen w0) (w.heard w0) waited three.number n.first n.buckets three.owns.2 nothing (lent_used q s n.directory n.object e.later.2 was) e.words outside;
+}
 
 pub take_back-requires-clause-words : goal.take_back-requires-clause-words
 take_back-requires-clause-words g c =
@@ -44,7 +46,7 @@ take_back-requires-clause-used g c =
 
 pub returns-clause-cleared : goal.returns-clause-cleared
 returns-clause-cleared g c =
-    let q = g.P.GracePlan.QSBR in let w = g.W.Witness in let sizes = g.B.Site.sizes in let w0 = c.args.witness.now in let w2 = c.set_note.new.witness in
+    let q = g.P.GracePlan.QSBR in let w = g.W.Caller in let sizes = g.B.Site.sizes in let w0 = c.args.caller.now in let w2 = c.set_note.new.caller in
     let d = c.take-place.result.1 in let n = d.naming in let named = c.take-place.ensures in
     let one = c.args.chain in let three = c.lend-lent.new.to in let e = c.lend-lent.ensures in let k = c.set_note.ensures.noted in
     let left : IsLeft n.directory n.first n.buckets one.seat.me.0 = subst (λ (m : Naming). IsLeft m.directory m.first m.buckets one.seat.me.0) (sym named) c.requires.chain in

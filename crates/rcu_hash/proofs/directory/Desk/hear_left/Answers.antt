@@ -41,7 +41,7 @@ returns-clause-left g c =
     let low : n.first ≤ k = subst (λ (w : List ℕ). slice_index_or w 0 0 ≤ k) words names.0 in
     let high : k < n.first + n.buckets = subst (λ (w : List ℕ). k < slice_index_or w 0 0 + slice_index_or w 1 0) words names.1 in
     ∥∥₁_elim left.3 (λ x y. absurd x) (λ out. ⊎_elim (λ under. absurd (omega (arith, low, under))) (λ over. absurd (omega (arith, high, over))) out) in
-    subst (λ (m : Naming). HasLeft m.directory (g.W.Witness.heard c.hear.new.witness)) named
+    subst (λ (m : Naming). HasLeft m.directory (g.W.Caller.heard c.hear.new.caller)) named
     (subst (HasLeft n.directory) (sym h.heard) (record {
       chain = k;
       object = n.object;
@@ -52,7 +52,7 @@ returns-clause-left g c =
 
 pub returns-clause-heard : goal.returns-clause-heard
 returns-clause-heard g c =
-    let w = g.W.Witness in let w0 = c.args.witness.now in
+    let w = g.W.Caller in let w0 = c.args.caller.now in
     subst (IsAfter g.P.GracePlan.QSBR tabled (w.seen w0) (w.heard w0)) (sym c.hear.ensures.heard) c.hear.ensures.told.0
 
 pub returns-clause-chain : goal.returns-clause-chain

@@ -7,7 +7,7 @@ use Rattle.rcu_hash.proofs.directory.Desk.retire_all.Goals as goal
 
 pub loop-init : goal.loop-init
 loop-init g c =
-    let w = g.W.Witness in let w0 = c.args.witness.now in record {
+    let w = g.W.Caller in let w0 = c.args.caller.now in record {
       left = omega (arith, c.len-many.ensures);
       uses = uses_none g.P.GracePlan.QSBR tabled g.B.Site.sizes c.args.naming.directory (w.seen w0) w w0 w0 c.args.jobs.now.items (w.heard w0) (w.heard w0) (stays_none w w0) ([], refl);
       chain = c.requires.chain;
@@ -17,8 +17,8 @@ loop-init g c =
 
 pub returns-in-Err-clause-uses : goal.returns-in-Err-clause-uses
 returns-in-Err-clause-uses g c =
-    let q = g.P.GracePlan.QSBR in let w = g.W.Witness in let sizes = g.B.Site.sizes in let d = c.args.naming.directory in
-    let w0 = c.args.witness.now in let w1 = c.loop.witness in let w2 = c.retire_first.new.witness in let i = c.loop.invariant in let e = c.in-Err.ensures in
+    let q = g.P.GracePlan.QSBR in let w = g.W.Caller in let sizes = g.B.Site.sizes in let d = c.args.naming.directory in
+    let w0 = c.args.caller.now in let w1 = c.loop.caller in let w2 = c.retire_first.new.caller in let i = c.loop.invariant in let e = c.in-Err.ensures in
     let first = c.args.jobs.now.items in let jobs = c.loop.jobs.items in let left = c.pop.new.self.items in
     let back = c.push_reserved.ensures.items ∙ (ap (λ j. left ++ j ∷ []) e.refused.0 ∙ sym c.in-Some.ensures.items) in
     subst (λ js. Uses q tabled sizes d (w.seen w0) w w0 w2 first js (w.heard w0) (w.heard w2)) (sym back)
@@ -26,16 +26,16 @@ returns-in-Err-clause-uses g c =
 
 pub returns-in-Err-clause-waited : goal.returns-in-Err-clause-waited
 returns-in-Err-clause-waited g c =
-    let w = g.W.Witness in let n = c.args.naming in
-    waited_later n.directory n.object (w.heard c.loop.witness) (w.heard c.retire_first.new.witness) c.in-Err.ensures.heard c.loop.invariant.waited
+    let w = g.W.Caller in let n = c.args.naming in
+    waited_later n.directory n.object (w.heard c.loop.caller) (w.heard c.retire_first.new.caller) c.in-Err.ensures.heard c.loop.invariant.waited
 
 pub returns-in-Err-clause-same : goal.returns-in-Err-clause-same
-returns-in-Err-clause-same g c = finds_both g.W.Witness c.args.witness.now c.loop.witness c.retire_first.new.witness c.loop.invariant.same c.in-Err.ensures.same
+returns-in-Err-clause-same g c = finds_both g.W.Caller c.args.caller.now c.loop.caller c.retire_first.new.caller c.loop.invariant.same c.in-Err.ensures.same
 
 pub loop-preserved : goal.loop-preserved
 loop-preserved g c =
-    let q = g.P.GracePlan.QSBR in let w = g.W.Witness in let sizes = g.B.Site.sizes in let n = c.args.naming in let d = n.directory in
-    let w0 = c.args.witness.now in let w1 = c.loop.witness in let w2 = c.retire_first.new.witness in let i = c.loop.invariant in let e = c.in_default-retire_first.ensures in
+    let q = g.P.GracePlan.QSBR in let w = g.W.Caller in let sizes = g.B.Site.sizes in let n = c.args.naming in let d = n.directory in
+    let w0 = c.args.caller.now in let w1 = c.loop.caller in let w2 = c.retire_first.new.caller in let i = c.loop.invariant in let e = c.in_default-retire_first.ensures in
     let first = c.args.jobs.now.items in let jobs = c.loop.jobs.items in let left = c.pop.new.self.items in
     let does = subst (λ (seen : Log). RetiresObject q tabled sizes d seen (w.heard w1) (w.heard w2)) i.uses.made.made.0 e.retired.0 in record {
       left = let fewer = e.retired.1 in let was = i.left in omega arith;

@@ -22,17 +22,19 @@ use Rattle.rcu_hash.proofs.Named.{lent_is, lent_used, used_later, words_later}
 use Rattle.rcu_list.proofs.live_read.Lemmas.{one_made}
 use Rattle.rcu_hash.proofs.directory.Desk.retire_first.Goals as goal
 
-pub cut_retire-answer-requires-clause-rule : goal.cut_retire-answer-requires-clause-rule
-cut_retire-answer-requires-clause-rule g c o at =
-    let q = g.P.GracePlan.QSBR in let maps = tabled_maps q in let w = g.W.Witness in let w0 = c.args.witness.now in let d = c.take-place.result.1 in let n = d.naming in let named = c.take-place.ensures in
-    let one = c.args.chain.now in let three = c.lend-lent.new.to in let e = c.lend-lent.ensures in
-    let left : IsLeft n.directory n.first n.buckets one.seat.me.0 = subst (λ (m : Naming). IsLeft m.directory m.first m.buckets one.seat.me.0) (sym named) c.requires.chain in
-    let waited : HasWaited n.directory n.object (w.heard w0) = subst (λ (m : Naming). HasWaited m.directory m.object (w.heard w0)) (sym named) c.requires.waited in
-    let same = ap (λ (x : List ChainRight). (own_in x).objects) e.chains.0 in
-    let noted = ap (λ (x : List ChainRight). (own_in x).note) e.chains.0 ∙ left.2 in
-    let keys = keys_on q tabled maps one.seat.me.0 three.seat.me.0 one.owns.1 e.later.0 e.later.2 same left.1 in
-    may_cut_left q three.seat.me.0 n.directory n.object (own_in one.seat.me.0.chains) (own_in d.chain.seat.me.0.chains) e.chains.0 (d.chain.owns.2 ∙ d.own.0) d.alone three.owns.0 three.owns.1 noted
-    (w.seen w0) (w.heard w0) waited keys o (index_has (list_in three.seat.me.0) 0 o at)
+pub cut_retire-answer-requires : goal.cut_retire-answer-requires
+cut_retire-answer-requires g c = record {
+  rule = λ o at.
+      let q = g.P.GracePlan.QSBR in let maps = tabled_maps q in let w = g.W.Caller in let w0 = c.args.caller.now in let d = c.take-place.result.1 in let n = d.naming in let named = c.take-place.ensures in
+      let one = c.args.chain.now in let three = c.lend-lent.new.to in let e = c.lend-lent.ensures in
+      let left : IsLeft n.directory n.first n.buckets one.seat.me.0 = subst (λ (m : Naming). IsLeft m.directory m.first m.buckets one.seat.me.0) (sym named) c.requires.chain in
+      let waited : HasWaited n.directory n.object (w.heard w0) = subst (λ (m : Naming). HasWaited m.directory m.object (w.heard w0)) (sym named) c.requires.waited in
+      let same = ap (λ (x : List ChainRight). (own_in x).objects) e.chains.0 in
+      let noted = ap (λ (x : List ChainRight). (own_in x).note) e.chains.0 ∙ left.2 in
+      let keys = keys_on q tabled maps one.seat.me.0 three.seat.me.0 one.owns.1 e.later.0 e.later.2 same left.1 in
+      may_cut_left q three.seat.me.0 n.directory n.object (own_in one.seat.me.0.chains) (own_in d.chain.seat.me.0.chains) e.chains.0 (d.chain.owns.2 ∙ d.own.0) d.alone three.owns.0 three.owns.1 noted
+      (w.seen w0) (w.heard w0) waited keys o (index_has (list_in three.seat.me.0) 0 o at);
+}
 
 pub take_back-requires-clause-words : goal.take_back-requires-clause-words
 take_back-requires-clause-words g c =
@@ -56,7 +58,7 @@ take_back-requires-clause-used g c =
 
 pub returns-clause-retired : goal.returns-clause-retired
 returns-clause-retired g c =
-    let q = g.P.GracePlan.QSBR in let w = g.W.Witness in let sizes = g.B.Site.sizes in let w0 = c.args.witness.now in let w2 = c.cut_retire-answer.new.witness in
+    let q = g.P.GracePlan.QSBR in let w = g.W.Caller in let sizes = g.B.Site.sizes in let w0 = c.args.caller.now in let w2 = c.cut_retire-answer.new.caller in
     let d = c.take-place.result.1 in let n = d.naming in let named = c.take-place.ensures in
     let one = c.args.chain.now in let three = c.lend-lent.new.to in let four = c.cut_retire-answer.new.chain in let five = c.take_back.new.from in let e = c.lend-lent.ensures in let f = c.take_back.ensures.from in
     let left : IsLeft n.directory n.first n.buckets one.seat.me.0 = subst (λ (m : Naming). IsLeft m.directory m.first m.buckets one.seat.me.0) (sym named) c.requires.chain in
@@ -94,17 +96,17 @@ returns-clause-retired g c =
 
 pub returns-clause-refused : goal.returns-clause-refused
 returns-clause-refused g c =
-    let q = g.P.GracePlan.QSBR in let w0 = c.args.witness.now in let w2 = c.cut_retire-answer.new.witness in let e = c.lend-lent.ensures in let f = c.take_back.ensures.from in
+    let q = g.P.GracePlan.QSBR in let w0 = c.args.caller.now in let w2 = c.cut_retire-answer.new.caller in let e = c.lend-lent.ensures in let f = c.take_back.ensures.from in
     let same = ap (λ (x : List ChainRight). (own_in x).objects) e.chains.0 in let some = c.requires.some in
     err_both c.cut_retire-answer.result _ _ _ c.cut_retire-answer.ensures.refused c.cut_retire-answer.ensures.back (λ x y z. by_second y (λ none. let short = none.1 in absurd (omega (arith, short, some, ap length same))) (λ r. (
       z.0,
-      refused_why g.W.Witness q tabled g.B.Site.sizes (c.lend-lent.new.to.number % g.B.Site.sizes.queues) w0 w2 x.0 r.1,
+      refused_why g.W.Caller q tabled g.B.Site.sizes (c.lend-lent.new.to.number % g.B.Site.sizes.queues) w0 w2 x.0 r.1,
       ap (λ (l : List ChainRight). (own_in l).objects) f.0 ∙ (ap (λ k. list_in k.seat.me.0) z.1 ∙ same),
     )))
 
 pub returns-clause-chain : goal.returns-clause-chain
 returns-clause-chain g c =
-    let q = g.P.GracePlan.QSBR in let maps = tabled_maps q in let w = g.W.Witness in let w0 = c.args.witness.now in let n = c.args.naming in
+    let q = g.P.GracePlan.QSBR in let maps = tabled_maps q in let w = g.W.Caller in let w0 = c.args.caller.now in let n = c.args.naming in
     let one = c.args.chain.now in let three = c.lend-lent.new.to in let four = c.cut_retire-answer.new.chain in let five = c.take_back.new.from in
     let e = c.lend-lent.ensures in let r = c.cut_retire-answer.ensures in let f = c.take_back.ensures.from in let left = c.requires.chain in
     let same = ap (λ (x : List ChainRight). (own_in x).objects) e.chains.0 in
@@ -126,7 +128,7 @@ returns-clause-chain g c =
 
 pub returns-clause-heard : goal.returns-clause-heard
 returns-clause-heard g c =
-    let q = g.P.GracePlan.QSBR in let w = g.W.Witness in let w0 = c.args.witness.now in let w2 = c.cut_retire-answer.new.witness in let e = c.lend-lent.ensures in let r = c.cut_retire-answer.ensures in
+    let q = g.P.GracePlan.QSBR in let w = g.W.Caller in let w0 = c.args.caller.now in let w2 = c.cut_retire-answer.new.caller in let e = c.lend-lent.ensures in let r = c.cut_retire-answer.ensures in
     let t : Log = c.cut_retire-answer.new.chain.seat.me.0.seen in
     let same = ap (λ (x : List ChainRight). (own_in x).objects) e.chains.0 in let some = c.requires.some in
     by_result c.cut_retire-answer.result _ _ r.retired r.refused
@@ -135,7 +137,7 @@ returns-clause-heard g c =
 
 pub returns-clause-same : goal.returns-clause-same
 returns-clause-same g c =
-    let q = g.P.GracePlan.QSBR in let w = g.W.Witness in let w0 = c.args.witness.now in let w2 = c.cut_retire-answer.new.witness in let e = c.lend-lent.ensures in let r = c.cut_retire-answer.ensures in
+    let q = g.P.GracePlan.QSBR in let w = g.W.Caller in let w0 = c.args.caller.now in let w2 = c.cut_retire-answer.new.caller in let e = c.lend-lent.ensures in let r = c.cut_retire-answer.ensures in
     let same = ap (λ (x : List ChainRight). (own_in x).objects) e.chains.0 in let some = c.requires.some in
     by_result c.cut_retire-answer.result _ _ r.same r.refused
     (λ x k. makes_finds w w0 w2 c.cut_retire-answer.new.chain.seat.me.0.seen k.0)
@@ -143,7 +145,7 @@ returns-clause-same g c =
 
 pub returns-clause-changes : goal.returns-clause-changes
 returns-clause-changes g c =
-    let w = g.W.Witness in let w0 = c.args.witness.now in let w2 = c.cut_retire-answer.new.witness in let e = c.lend-lent.ensures in let r = c.cut_retire-answer.ensures in
+    let w = g.W.Caller in let w0 = c.args.caller.now in let w2 = c.cut_retire-answer.new.caller in let e = c.lend-lent.ensures in let r = c.cut_retire-answer.ensures in
     let same = ap (λ (x : List ChainRight). (own_in x).objects) e.chains.0 in let some = c.requires.some in (
       if_ok c.cut_retire-answer.result _ _ _ (λ x k z. one_made w w0 w2 c.cut_retire-answer.new.chain.seat.me.0.seen k.0.0) r.same r.retired,
       if_err c.cut_retire-answer.result _ _ _ (λ x y z. by_second y (λ none. let short = none.1 in absurd (omega (arith, short, some, ap length same))) (λ k. k.1.same.0)) r.refused r.back,

@@ -6,12 +6,12 @@ use Rattle.rcu_hash.proofs.directory.Desk.settle.Goals as goal
 
 pub returns-in-Ok-clause-waited : goal.returns-in-Ok-clause-waited
 returns-in-Ok-clause-waited g c =
-    let w = g.W.Witness in let h = c.hear-naming.ensures in let s = c.in-Ok.ensures.ended in
-    (h.linked.0, record { known = w.heard c.hear-naming.new.witness; mark = s.asked; after = s.after.after_heard; before = s.later; linked = h.linked.1.0; directory = h.linked.1.1; ended = s.ended })
+    let w = g.W.Caller in let h = c.hear-naming.ensures in let s = c.in-Ok.ensures.ended in
+    (h.linked.0, record { known = w.heard c.hear-naming.new.caller; mark = s.asked; after = s.after.after_heard; before = s.later; linked = h.linked.1.0; directory = h.linked.1.1; ended = s.ended })
 
 pub returns-in-Ok-clause-ended : goal.returns-in-Ok-clause-ended
 returns-in-Ok-clause-ended g c =
-    let w = g.W.Witness in let w0 = c.args.witness.now in let h = c.hear-naming.ensures in let t : Log = w.heard c.hear-naming.new.witness in let s = c.in-Ok.ensures.ended in record {
+    let w = g.W.Caller in let w0 = c.args.caller.now in let h = c.hear-naming.ensures in let t : Log = w.heard c.hear-naming.new.caller in let s = c.in-Ok.ensures.ended in record {
       asked = s.asked;
       loads_since = s.loads_since;
       first_load = s.first_load ∙ ap (λ (l : List Log). s.loads_since ++ s.asked ∷ l) h.same.1;
@@ -24,17 +24,17 @@ returns-in-Ok-clause-ended g c =
 
 pub returns-in-Ok-clause-heard : goal.returns-in-Ok-clause-heard
 returns-in-Ok-clause-heard g c =
-    let w = g.W.Witness in let w0 = c.args.witness.now in let w1 = c.hear-naming.new.witness in let w2 = c.synchronize.new.witness in let s = c.in-Ok.ensures.ended in
+    let w = g.W.Caller in let w0 = c.args.caller.now in let w1 = c.hear-naming.new.caller in let w2 = c.synchronize.new.caller in let s = c.in-Ok.ensures.ended in
     begins_trans (w.heard w0) (w.heard w1) (w.heard w2) c.hear-naming.ensures.heard.after_heard (begins_trans (w.heard w1) s.asked (w.heard w2) s.after.after_heard s.later)
 
 pub returns-in-Ok-clause-same : goal.returns-in-Ok-clause-same
 returns-in-Ok-clause-same g c =
-    let w = g.W.Witness in let h = c.hear-naming.ensures.same in let k = c.in-Ok.ensures.witness in
-    (stays_both w c.args.witness.now c.hear-naming.new.witness c.synchronize.new.witness h.0.0 k.0, k.1 ∙ h.0.1)
+    let w = g.W.Caller in let h = c.hear-naming.ensures.same in let k = c.in-Ok.ensures.caller in
+    (stays_both w c.args.caller.now c.hear-naming.new.caller c.synchronize.new.caller h.0.0 k.0, k.1 ∙ h.0.1)
 
 pub returns-in-Err-clause-refused : goal.returns-in-Err-clause-refused
 returns-in-Err-clause-refused g c =
-    let w = g.W.Witness in let w0 = c.args.witness.now in let w2 = c.synchronize.new.witness in let h = c.hear-naming.ensures in let t : Log = w.heard c.hear-naming.new.witness in
+    let w = g.W.Caller in let w0 = c.args.caller.now in let w2 = c.synchronize.new.caller in let h = c.hear-naming.ensures in let t : Log = w.heard c.hear-naming.new.caller in
     let s = c.in-Err.ensures.refused in let l = s.1 in (
       s.0,
       record {
@@ -46,10 +46,10 @@ returns-in-Err-clause-refused g c =
 
 pub returns-in-Err-clause-heard : goal.returns-in-Err-clause-heard
 returns-in-Err-clause-heard g c =
-    let w = g.W.Witness in let w0 = c.args.witness.now in let w1 = c.hear-naming.new.witness in let w2 = c.synchronize.new.witness in
+    let w = g.W.Caller in let w0 = c.args.caller.now in let w1 = c.hear-naming.new.caller in let w2 = c.synchronize.new.caller in
     begins_trans (w.heard w0) (w.heard w1) (w.heard w2) c.hear-naming.ensures.heard.after_heard c.in-Err.ensures.refused.1.after.after_heard
 
 pub returns-in-Err-clause-same : goal.returns-in-Err-clause-same
 returns-in-Err-clause-same g c =
-    let w = g.W.Witness in let h = c.hear-naming.ensures.same in let k = c.in-Err.ensures.witness in
-    (stays_both w c.args.witness.now c.hear-naming.new.witness c.synchronize.new.witness h.0.0 k.0, k.1 ∙ h.0.1)
+    let w = g.W.Caller in let h = c.hear-naming.ensures.same in let k = c.in-Err.ensures.caller in
+    (stays_both w c.args.caller.now c.hear-naming.new.caller c.synchronize.new.caller h.0.0 k.0, k.1 ∙ h.0.1)

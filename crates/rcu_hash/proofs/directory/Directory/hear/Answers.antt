@@ -46,5 +46,5 @@ returns-clause-noted g c k among =
 
 pub returns-clause-heard : goal.returns-clause-heard
 returns-clause-heard g c =
-    let w = g.W.Witness in let w0 = c.args.witness.now in let h = c.hear.ensures in
+    let w = g.W.Caller in let w0 = c.args.caller.now in let h = c.hear.ensures in
     subst (IsAfter g.P.GracePlan.QSBR tabled (w.seen w0) (w.heard w0)) (sym h.heard) h.told.0

@@ -26,12 +26,12 @@ returns-in_err-room-clause-looks g c =
 
 pub returns-in-Err-clause-heard : goal.returns-in-Err-clause-heard
 returns-in-Err-clause-heard g c =
-    let w = g.W.Witness in let w0 = c.args.witness.now in let w1 = c.hold_all.new.witness in let w2 = c.copy_all.new.witness in let w3 = c.undo.new.witness in
+    let w = g.W.Caller in let w0 = c.args.caller.now in let w1 = c.hold_all.new.caller in let w2 = c.copy_all.new.caller in let w3 = c.undo.new.caller in
     begins_trans (w.heard w0) (w.heard w1) (w.heard w3) c.hold_all.ensures.heard (begins_trans (w.heard w1) (w.heard w2) (w.heard w3) c.copy_all.ensures.heard c.undo.ensures.heard)
 
 pub returns-in-Err-clause-looks : goal.returns-in-Err-clause-looks
 returns-in-Err-clause-looks g c =
-    let w = g.W.Witness in let l0 = w.looks c.args.witness.now in let l1 = w.looks c.hold_all.new.witness in let l2 = w.looks c.copy_all.new.witness in let l3 = w.looks c.undo.new.witness in
+    let w = g.W.Caller in let l0 = w.looks c.args.caller.now in let l1 = w.looks c.hold_all.new.caller in let l2 = w.looks c.copy_all.new.caller in let l3 = w.looks c.undo.new.caller in
     let a = c.hold_all.ensures.same.2 in let b = c.in-Err.ensures.looks in let u = c.undo.ensures.told.0 in let sizes = g.B.Site.sizes in (
       u.0 ++ (b.0 ++ a.0),
       looks_both l0 l2 l3 (b.0 ++ a.0) u.0 (looks_both l0 l1 l2 a.0 b.0 a.1 b.1) u.1,
@@ -40,24 +40,24 @@ returns-in-Err-clause-looks g c =
 
 pub returns-in-Err-clause-loads : goal.returns-in-Err-clause-loads
 returns-in-Err-clause-loads g c =
-    let w = g.W.Witness in let w0 = c.args.witness.now in let w1 = c.hold_all.new.witness in let w2 = c.copy_all.new.witness in let w3 = c.undo.new.witness in
+    let w = g.W.Caller in let w0 = c.args.caller.now in let w1 = c.hold_all.new.caller in let w2 = c.copy_all.new.caller in let w3 = c.undo.new.caller in
     let a = c.hold_all.ensures.same in let b = c.in-Err.ensures in
     ((told_both w w0 w2 w3 (told_both w w0 w1 w2 (told_looks w w0 w1 a.2.0 a.2.1 a.1) (told_looks w w1 w2 b.looks.0 b.looks.1 b.same.1)) c.undo.ensures.told).1, tt)
 
 pub returns-in-Ok-clause-heard : goal.returns-in-Ok-clause-heard
 returns-in-Ok-clause-heard g c =
-    let w = g.W.Witness in let w0 = c.args.witness.now in let w1 = c.hold_all.new.witness in let w2 = c.copy_all.new.witness in let w3 = c.provide.new.witness in
+    let w = g.W.Caller in let w0 = c.args.caller.now in let w1 = c.hold_all.new.caller in let w2 = c.copy_all.new.caller in let w3 = c.provide.new.caller in
     begins_trans (w.heard w0) (w.heard w1) (w.heard w3) c.hold_all.ensures.heard (begins_trans (w.heard w1) (w.heard w2) (w.heard w3) c.copy_all.ensures.heard c.provide.ensures.heard)
 
 pub returns-in-Ok-clause-free : goal.returns-in-Ok-clause-free
 returns-in-Ok-clause-free g c chain among =
-    let w = g.W.Witness in let w1 = c.hold_all.new.witness in let w3 = c.provide.new.witness in
-    during_earlier w g.P.GracePlan.QSBR tabled c.args.witness.now w1 w3 (IsUnused chain)
-    (begins_trans (w.heard w1) (w.heard c.copy_all.new.witness) (w.heard w3) c.copy_all.ensures.heard c.provide.ensures.heard) (c.in_ok-chains.ensures.free chain among)
+    let w = g.W.Caller in let w1 = c.hold_all.new.caller in let w3 = c.provide.new.caller in
+    during_earlier w g.P.GracePlan.QSBR tabled c.args.caller.now w1 w3 (IsUnused chain)
+    (begins_trans (w.heard w1) (w.heard c.copy_all.new.caller) (w.heard w3) c.copy_all.ensures.heard c.provide.ensures.heard) (c.in_ok-chains.ensures.free chain among)
 
 pub returns-in-Ok-clause-looks : goal.returns-in-Ok-clause-looks
 returns-in-Ok-clause-looks g c =
-    let w = g.W.Witness in let w0 = c.args.witness.now in let w1 = c.hold_all.new.witness in let w2 = c.copy_all.new.witness in let w3 = c.provide.new.witness in
+    let w = g.W.Caller in let w0 = c.args.caller.now in let w1 = c.hold_all.new.caller in let w2 = c.copy_all.new.caller in let w3 = c.provide.new.caller in
     let a = c.hold_all.ensures.same in let b = c.copy_all.ensures in let p = c.in-Ok.ensures in
     let told = told_both w w0 w2 w3 (told_both w w0 w1 w2 (told_looks w w0 w1 a.2.0 a.2.1 a.1) (told_looks w w1 w2 b.looks.0 b.looks.1 b.same.1)) (told_looks w w2 w3 p.looks.0 p.looks.1 p.same.1) in
     (told.0.0, told.0.1, tt)
@@ -68,12 +68,12 @@ returns-in-Ok-clause-loads g c =
 
 pub returns-clause-heard : goal.returns-clause-heard
 returns-clause-heard g c =
-    let w = g.W.Witness in let w0 = c.args.witness.now in let w1 = c.hold_all.new.witness in let w2 = c.copy_all.new.witness in let w3 = c.provide.new.witness in let w4 = c.undo-in-Err-provide.new.witness in
+    let w = g.W.Caller in let w0 = c.args.caller.now in let w1 = c.hold_all.new.caller in let w2 = c.copy_all.new.caller in let w3 = c.provide.new.caller in let w4 = c.undo-in-Err-provide.new.caller in
     begins_trans (w.heard w0) (w.heard w1) (w.heard w4) c.hold_all.ensures.heard (begins_trans (w.heard w1) (w.heard w2) (w.heard w4) c.copy_all.ensures.heard (begins_trans (w.heard w2) (w.heard w3) (w.heard w4) c.provide.ensures.heard c.undo-in-Err-provide.ensures.heard))
 
 pub returns-clause-looks : goal.returns-clause-looks
 returns-clause-looks g c =
-    let w = g.W.Witness in let l0 = w.looks c.args.witness.now in let l1 = w.looks c.hold_all.new.witness in let l2 = w.looks c.copy_all.new.witness in let l3 = w.looks c.provide.new.witness in let l4 = w.looks c.undo-in-Err-provide.new.witness in
+    let w = g.W.Caller in let l0 = w.looks c.args.caller.now in let l1 = w.looks c.hold_all.new.caller in let l2 = w.looks c.copy_all.new.caller in let l3 = w.looks c.provide.new.caller in let l4 = w.looks c.undo-in-Err-provide.new.caller in
     let a = c.hold_all.ensures.same.2 in let b = c.copy_all.ensures.looks in let p = c.in-Err-provide.ensures.looks in let u = c.undo-in-Err-provide.ensures.told.0 in let sizes = g.B.Site.sizes in (
       u.0 ++ (p.0 ++ (b.0 ++ a.0)),
       looks_both l0 l3 l4 (p.0 ++ (b.0 ++ a.0)) u.0 (looks_both l0 l2 l3 (b.0 ++ a.0) p.0 (looks_both l0 l1 l2 a.0 b.0 a.1 b.1) p.1) u.1,
@@ -82,7 +82,7 @@ returns-clause-looks g c =
 
 pub returns-clause-loads : goal.returns-clause-loads
 returns-clause-loads g c =
-    let w = g.W.Witness in let w0 = c.args.witness.now in let w1 = c.hold_all.new.witness in let w2 = c.copy_all.new.witness in let w3 = c.provide.new.witness in let w4 = c.undo-in-Err-provide.new.witness in
+    let w = g.W.Caller in let w0 = c.args.caller.now in let w1 = c.hold_all.new.caller in let w2 = c.copy_all.new.caller in let w3 = c.provide.new.caller in let w4 = c.undo-in-Err-provide.new.caller in
     let a = c.hold_all.ensures.same in let b = c.copy_all.ensures in let p = c.in-Err-provide.ensures in
     ((told_both w w0 w3 w4 (told_both w w0 w2 w3 (told_both w w0 w1 w2 (told_looks w w0 w1 a.2.0 a.2.1 a.1) (told_looks w w1 w2 b.looks.0 b.looks.1 b.same.1)) (told_looks w w2 w3 p.looks.0 p.looks.1 p.same.1)) c.undo-in-Err-provide.ensures.told).1, tt)
 

@@ -21,7 +21,7 @@ commit-rest-requires-clause-copied g c =
 
 pub returns-clause-grown : goal.returns-clause-grown
 returns-clause-grown g c =
-    let q = g.P.GracePlan.QSBR in let w = g.W.Witness in let w0 = c.args.witness.now in let w1 = c.ready.new.witness in let log : Log = w.heard c.commit-rest.new.witness in
+    let q = g.P.GracePlan.QSBR in let w = g.W.Caller in let w0 = c.args.caller.now in let w1 = c.ready.new.caller in let log : Log = w.heard c.commit-rest.new.caller in
     let chains = g.B.Site.sizes.chains in let growth = c.in_ok-growth.growth in let e = c.in_ok-growth.ensures in let first = c.args.first in
     let entries : List (ℕ × ℕ) = map (λ y. (y.key, y.value)) growth.copied.items in
     let directory : c.deref_mut-2.result.now.naming.directory ≡ c.args.self.now.directory = (λ i. (c.deref_mut-2.ensures.value i).naming.directory) ∙ c.own_shelf-shelf.ensures in (
@@ -35,15 +35,15 @@ returns-clause-grown g c =
 
 pub returns-clause-heard : goal.returns-clause-heard
 returns-clause-heard g c =
-    let w = g.W.Witness in let w0 = c.args.witness.now in let w1 = c.ready.new.witness in let log : Log = w.heard c.commit-rest.new.witness in let growth = c.in_ok-growth.growth in
+    let w = g.W.Caller in let w0 = c.args.caller.now in let w1 = c.ready.new.caller in let log : Log = w.heard c.commit-rest.new.caller in let growth = c.in_ok-growth.growth in
     let entries : List (ℕ × ℕ) = map (λ y. (y.key, y.value)) growth.copied.items in
     begins_trans (w.heard w0) (w.heard w1) log c.ready.ensures.heard (grows_go g.P.GracePlan.QSBR tabled g.B.Site.sizes.chains c.deref_mut-2.result.now.naming.directory c.args.first (vec_len growth.chains) entries log (w.seen w1) (w.heard w1) c.commit-rest.ensures.grown)
 
 pub returns-clause-free : goal.returns-clause-free
 returns-clause-free g c chain among =
-    let w = g.W.Witness in let w1 = c.ready.new.witness in let log : Log = w.heard c.commit-rest.new.witness in let growth = c.in_ok-growth.growth in
+    let w = g.W.Caller in let w1 = c.ready.new.caller in let log : Log = w.heard c.commit-rest.new.caller in let growth = c.in_ok-growth.growth in
     let entries : List (ℕ × ℕ) = map (λ y. (y.key, y.value)) growth.copied.items in
-    during_earlier w g.P.GracePlan.QSBR tabled c.args.witness.now w1 c.commit-rest.new.witness (IsUnused chain)
+    during_earlier w g.P.GracePlan.QSBR tabled c.args.caller.now w1 c.commit-rest.new.caller (IsUnused chain)
     (grows_go g.P.GracePlan.QSBR tabled g.B.Site.sizes.chains c.deref_mut-2.result.now.naming.directory c.args.first (vec_len growth.chains) entries log (w.seen w1) (w.heard w1) c.commit-rest.ensures.grown) (c.in_ok-growth.ensures.free chain among)
 
 -- a new chain was taken, or is one of the table's own, which have its note
@@ -54,7 +54,7 @@ returns-in_err-growth-clause-refused g c =
 
 pub returns-then-not-are_apart-clause-refused : goal.returns-then-not-are_apart-clause-refused
 returns-then-not-are_apart-clause-refused g c =
-    let w = g.W.Witness in let n = c.deref.result.now.naming in let h = c.hear_named.ensures in let log : Log = w.heard c.hear_named.new.witness in
+    let w = g.W.Caller in let n = c.deref.result.now.naming in let h = c.hear_named.ensures in let log : Log = w.heard c.hear_named.new.caller in
     let apart : are_apart n.first n.buckets c.args.first c.args.buckets ≡ false = sym c.are_apart.ensures ∙ c.if-not-are_apart.true in
     let some : 0 < c.args.buckets = search rules in
     let both = in_both n.first n.buckets c.args.first c.args.buckets c.deref.result.now.many.0 some apart in
@@ -63,6 +63,6 @@ returns-then-not-are_apart-clause-refused g c =
 
 pub returns-clause-changes : goal.returns-clause-changes
 returns-clause-changes g c =
-    let w = g.W.Witness in let w0 = c.args.witness.now in let w1 = c.ready.new.witness in let w2 = c.commit-rest.new.witness in let many = vec_len c.in_ok-growth.growth.copied + 1 in
+    let w = g.W.Caller in let w0 = c.args.caller.now in let w1 = c.ready.new.caller in let w2 = c.commit-rest.new.caller in let many = vec_len c.in_ok-growth.growth.copied + 1 in
     let left : 0 + many ≡ c.len-left.result + 1 = let len = c.len-left.ensures in omega arith in
     (subst (MakesMany w w0 w2) left (more_made w w0 w1 w2 0 many (none_made w w0 w1 c.ready.ensures.same) c.commit-rest.ensures.same.0), tt)

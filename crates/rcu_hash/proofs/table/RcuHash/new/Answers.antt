@@ -40,21 +40,21 @@ returns-in_err-places-clause-looks g c = let p = err_from_is_err_and c.from_resi
 
 pub returns-in_err-chains-2-clause-looks : goal.returns-in_err-chains-2-clause-looks
 returns-in_err-chains-2-clause-looks g c =
-    let p = err_from_is_err_and c.from_residual-in_err-chains-2.result c.from_residual-in_err-chains-2.ensures.1 in let m = c.in_err-chains-2.ensures.refused.0 in let w = g.W.Witness in
+    let p = err_from_is_err_and c.from_residual-in_err-chains-2.result c.from_residual-in_err-chains-2.ensures.1 in let m = c.in_err-chains-2.ensures.refused.0 in let w = g.W.Caller in
     let one = c.hold_empty.ensures.same.2 in let two = c.hold_all.ensures.same.2 in
-    (two.0 ++ one.0, looks_both (w.looks c.args.witness.now) (w.looks c.hold_empty.new.witness) (w.looks c.hold_all.new.witness) one.0 two.0 one.1 two.1, not_full g.B.Site.sizes (two.0 ++ one.0) c.from_residual-in_err-chains-2.result p.0 BadConfig p.1 (p.2 ∙ m) (λ z. cc))
+    (two.0 ++ one.0, looks_both (w.looks c.args.caller.now) (w.looks c.hold_empty.new.caller) (w.looks c.hold_all.new.caller) one.0 two.0 one.1 two.1, not_full g.B.Site.sizes (two.0 ++ one.0) c.from_residual-in_err-chains-2.result p.0 BadConfig p.1 (p.2 ∙ m) (λ z. cc))
 
 pub returns-in_err-lents-clause-looks : goal.returns-in_err-lents-clause-looks
 returns-in_err-lents-clause-looks g c =
-    let p = err_from_is_err_and c.from_residual-in_err-lents.result c.from_residual-in_err-lents.ensures.1 in let m = c.in_err-lents.ensures.refused in let w = g.W.Witness in
+    let p = err_from_is_err_and c.from_residual-in_err-lents.result c.from_residual-in_err-lents.ensures.1 in let m = c.in_err-lents.ensures.refused in let w = g.W.Caller in
     let one = c.hold_empty.ensures.same.2 in let two = c.hold_all.ensures.same.2 in
-    (two.0 ++ one.0, looks_both (w.looks c.args.witness.now) (w.looks c.hold_empty.new.witness) (w.looks c.hold_all.new.witness) one.0 two.0 one.1 two.1, not_full g.B.Site.sizes (two.0 ++ one.0) c.from_residual-in_err-lents.result p.0 Memory p.1 (p.2 ∙ m) (λ z. cc))
+    (two.0 ++ one.0, looks_both (w.looks c.args.caller.now) (w.looks c.hold_empty.new.caller) (w.looks c.hold_all.new.caller) one.0 two.0 one.1 two.1, not_full g.B.Site.sizes (two.0 ++ one.0) c.from_residual-in_err-lents.result p.0 Memory p.1 (p.2 ∙ m) (λ z. cc))
 
 pub returns-in-Err-clause-looks : goal.returns-in-Err-clause-looks
 returns-in-Err-clause-looks g c =
-    let w = g.W.Witness in let one = c.hold_empty.ensures.same.2 in let two = c.hold_all.ensures.same.2 in let three = c.in-Err.ensures.looks in
-    let held = looks_both (w.looks c.args.witness.now) (w.looks c.hold_empty.new.witness) (w.looks c.hold_all.new.witness) one.0 two.0 one.1 two.1 in
-    (three.0 ++ (two.0 ++ one.0), looks_both (w.looks c.args.witness.now) (w.looks c.hold_all.new.witness) (w.looks c.alloc.new.witness) (two.0 ++ one.0) three.0 held three.1, λ full. found_more g.B.Site.sizes three.0 (two.0 ++ one.0) three.2.1)
+    let w = g.W.Caller in let one = c.hold_empty.ensures.same.2 in let two = c.hold_all.ensures.same.2 in let three = c.in-Err.ensures.looks in
+    let held = looks_both (w.looks c.args.caller.now) (w.looks c.hold_empty.new.caller) (w.looks c.hold_all.new.caller) one.0 two.0 one.1 two.1 in
+    (three.0 ++ (two.0 ++ one.0), looks_both (w.looks c.args.caller.now) (w.looks c.hold_all.new.caller) (w.looks c.alloc.new.caller) (two.0 ++ one.0) three.0 held three.1, λ full. found_more g.B.Site.sizes three.0 (two.0 ++ one.0) three.2.1)
 
 -- what the caller hears of in a call that is refused comes after all that it had heard of
 pub returns-in_err-chains-clause-later : goal.returns-in_err-chains-clause-later
@@ -74,15 +74,15 @@ returns-in_err-own-clause-later g c = c.hold_empty.ensures.heard.after_heard
 
 pub returns-in_err-chains-2-clause-later : goal.returns-in_err-chains-2-clause-later
 returns-in_err-chains-2-clause-later g c =
-    let w = g.W.Witness in begins_trans (w.heard c.args.witness.now) (w.heard c.hold_empty.new.witness) (w.heard c.hold_all.new.witness) c.hold_empty.ensures.heard.after_heard c.hold_all.ensures.heard
+    let w = g.W.Caller in begins_trans (w.heard c.args.caller.now) (w.heard c.hold_empty.new.caller) (w.heard c.hold_all.new.caller) c.hold_empty.ensures.heard.after_heard c.hold_all.ensures.heard
 
 pub returns-in_err-lents-clause-later : goal.returns-in_err-lents-clause-later
 returns-in_err-lents-clause-later g c =
-    let w = g.W.Witness in begins_trans (w.heard c.args.witness.now) (w.heard c.hold_empty.new.witness) (w.heard c.hold_all.new.witness) c.hold_empty.ensures.heard.after_heard c.hold_all.ensures.heard
+    let w = g.W.Caller in begins_trans (w.heard c.args.caller.now) (w.heard c.hold_empty.new.caller) (w.heard c.hold_all.new.caller) c.hold_empty.ensures.heard.after_heard c.hold_all.ensures.heard
 
 pub returns-in-Err-clause-later : goal.returns-in-Err-clause-later
 returns-in-Err-clause-later g c =
-    let w = g.W.Witness in let w0 = c.args.witness.now in let w1 = c.hold_empty.new.witness in let w2 = c.hold_all.new.witness in let w3 = c.alloc.new.witness in
+    let w = g.W.Caller in let w0 = c.args.caller.now in let w1 = c.hold_empty.new.caller in let w2 = c.hold_all.new.caller in let w3 = c.alloc.new.caller in
     begins_trans (w.heard w0) (w.heard w1) (w.heard w3) c.hold_empty.ensures.heard.after_heard (begins_trans (w.heard w1) (w.heard w2) (w.heard w3) c.hold_all.ensures.heard c.alloc.ensures.heard.after_heard)
 
 pub note_all-chains-requires-clause-chains : goal.note_all-chains-requires-clause-chains
@@ -94,19 +94,19 @@ direct-writer-requires-clause-chains g c =
     let vs = map (λ x. x.seat.me.0) c.in_ok-chains-2.chains.items in let ws = map (λ x. x.seat.me.0) c.note_all-chains.result.items in (
       pair_from c.args.first vs ws n.1 h.1,
       pair_nothing vs ws n.1 (each_map IsEmpty HasNothing (λ v e. e.0) vs h.2),
-      subst (λ (d : ℕ). Each (HasNote (d + 1)) ws) (sym own.0) (each_map (Noted (g.W.Witness.heard c.alloc.new.witness) (directory + 1)) (HasNote (directory + 1)) (λ v z. z.is) ws n.2),
+      subst (λ (d : ℕ). Each (HasNote (d + 1)) ws) (sym own.0) (each_map (Noted (g.W.Caller.heard c.alloc.new.caller) (directory + 1)) (HasNote (directory + 1)) (λ v z. z.is) ws n.2),
       n.3,
     )
 
 pub returns-clause-map : goal.returns-clause-map
 returns-clause-map g c key =
-    let h = c.in_ok-chains-2.ensures.held in let n = c.note_all-chains.ensures.noted in let own = c.in_ok-own.ensures.held in let chains = g.B.Site.sizes.chains in let log : Log = g.W.Witness.heard c.direct-writer.new.witness in
+    let h = c.in_ok-chains-2.ensures.held in let n = c.note_all-chains.ensures.noted in let own = c.in_ok-own.ensures.held in let chains = g.B.Site.sizes.chains in let log : Log = g.W.Caller.heard c.direct-writer.new.caller in
     subst (λ (d : ℕ). (directed_map chains d log key ≡ None) × LeadsTo d log key (bucket_of c.args.first c.args.buckets key)) own.0
     (subst (λ (k : ℕ). (directed_map chains c.in_ok-own.own.number log key ≡ None) × LeadsTo c.in_ok-own.own.number log key (bucket_of c.args.first k key)) (n.0 ∙ h.0) (c.direct-writer.ensures.map key))
 
 pub returns-clause-heard : goal.returns-clause-heard
 returns-clause-heard g c =
-    let w = g.W.Witness in let w0 = c.args.witness.now in let w1 = c.hold_empty.new.witness in let w2 = c.hold_all.new.witness in let w3 = c.alloc.new.witness in let w4 = c.note_all-chains.new.witness in let w5 = c.direct-writer.new.witness in
+    let w = g.W.Caller in let w0 = c.args.caller.now in let w1 = c.hold_empty.new.caller in let w2 = c.hold_all.new.caller in let w3 = c.alloc.new.caller in let w4 = c.note_all-chains.new.caller in let w5 = c.direct-writer.new.caller in
     let a = c.hold_empty.ensures in let b = c.hold_all.ensures in let o = c.alloc.ensures in let n = c.note_all-chains.ensures in let d = c.direct-writer.ensures.heard in record {
       after_seen = subst (λ (l : Log). Begins l (w.heard w5)) (n.same.0.0.0 ∙ (o.same.0.0 ∙ (b.same.0.0 ∙ a.same.0.0))) d.after_seen;
       after_heard = begins_trans (w.heard w0) (w.heard w1) (w.heard w5) a.heard.after_heard (begins_trans (w.heard w1) (w.heard w2) (w.heard w5) b.heard (begins_trans (w.heard w2) (w.heard w3) (w.heard w5) o.heard.after_heard (begins_trans (w.heard w3) (w.heard w4) (w.heard w5) n.heard d.after_heard)));
@@ -118,14 +118,14 @@ returns-clause-later g c = (returns-clause-heard g c).after_heard
 
 pub returns-clause-looks : goal.returns-clause-looks
 returns-clause-looks g c =
-    let w = g.W.Witness in let one = c.hold_empty.ensures.same.2 in let two = c.hold_all.ensures.same.2 in let three = c.alloc.ensures.looks in let n = c.note_all-chains.ensures.same in let d = c.direct-writer.ensures.same in
-    let held = looks_both (w.looks c.args.witness.now) (w.looks c.hold_empty.new.witness) (w.looks c.hold_all.new.witness) one.0 two.0 one.1 two.1 in
-    (three.0 ++ (two.0 ++ one.0), d.1 ∙ (n.0.1 ∙ looks_both (w.looks c.args.witness.now) (w.looks c.hold_all.new.witness) (w.looks c.alloc.new.witness) (two.0 ++ one.0) three.0 held three.1), tt)
+    let w = g.W.Caller in let one = c.hold_empty.ensures.same.2 in let two = c.hold_all.ensures.same.2 in let three = c.alloc.ensures.looks in let n = c.note_all-chains.ensures.same in let d = c.direct-writer.ensures.same in
+    let held = looks_both (w.looks c.args.caller.now) (w.looks c.hold_empty.new.caller) (w.looks c.hold_all.new.caller) one.0 two.0 one.1 two.1 in
+    (three.0 ++ (two.0 ++ one.0), d.1 ∙ (n.0.1 ∙ looks_both (w.looks c.args.caller.now) (w.looks c.hold_all.new.caller) (w.looks c.alloc.new.caller) (two.0 ++ one.0) three.0 held three.1), tt)
 
 -- the directory's chain was unused once it was held, and then each bucket's
 pub returns-clause-free : goal.returns-clause-free
 returns-clause-free g c chain one =
-    let q = g.P.GracePlan.QSBR in let w = g.W.Witness in let w0 = c.args.witness.now in let w1 = c.hold_empty.new.witness in let w2 = c.hold_all.new.witness in let w3 = c.alloc.new.witness in let w4 = c.note_all-chains.new.witness in let w5 = c.direct-writer.new.witness in
+    let q = g.P.GracePlan.QSBR in let w = g.W.Caller in let w0 = c.args.caller.now in let w1 = c.hold_empty.new.caller in let w2 = c.hold_all.new.caller in let w3 = c.alloc.new.caller in let w4 = c.note_all-chains.new.caller in let w5 = c.direct-writer.new.caller in
     let a = c.hold_empty.ensures in
     let goes : Begins (w.heard w2) (w.heard w5) = begins_trans (w.heard w2) (w.heard w3) (w.heard w5) c.alloc.ensures.heard.after_heard (begins_trans (w.heard w3) (w.heard w4) (w.heard w5) c.note_all-chains.ensures.heard c.direct-writer.ensures.heard.after_heard) in
     ⊎_elim
@@ -142,7 +142,7 @@ returns-clause-free g c chain one =
 -- each bucket got its note, and then the directory came
 pub returns-clause-founded : goal.returns-clause-founded
 returns-clause-founded g c =
-    let q = g.P.GracePlan.QSBR in let w = g.W.Witness in let w0 = c.args.witness.now in let w1 = c.hold_empty.new.witness in let w2 = c.hold_all.new.witness in let w3 = c.alloc.new.witness in let w4 = c.note_all-chains.new.witness in let w5 = c.direct-writer.new.witness in
+    let q = g.P.GracePlan.QSBR in let w = g.W.Caller in let w0 = c.args.caller.now in let w1 = c.hold_empty.new.caller in let w2 = c.hold_all.new.caller in let w3 = c.alloc.new.caller in let w4 = c.note_all-chains.new.caller in let w5 = c.direct-writer.new.caller in
     let a = c.hold_empty.ensures in let b = c.hold_all.ensures in let o = c.alloc.ensures in let n = c.note_all-chains.ensures in let d = c.direct-writer.ensures.pushed in let h = c.in_ok-chains-2.ensures.held in let own = c.in_ok-own.ensures.held.0 in
     let first = c.args.first in let directory = c.args.directory in let many = c.args.buckets in let object = object_in c.in-Ok.owned.seat.me.0.object in
     let seen : w.seen w3 ≡ w.seen w0 = o.same.0.0 ∙ (b.same.0.0 ∙ a.same.0.0) in
@@ -167,7 +167,7 @@ returns-in_err-own-clause-refused g c =
 
 pub returns-in_err-chains-2-clause-refused : goal.returns-in_err-chains-2-clause-refused
 returns-in_err-chains-2-clause-refused g c =
-    let w = g.W.Witness in let w0 = c.args.witness.now in let w1 = c.hold_empty.new.witness in let w2 = c.hold_all.new.witness in let sizes = g.B.Site.sizes in let directory = c.args.directory in let first = c.args.first in let many = c.args.buckets in
+    let w = g.W.Caller in let w0 = c.args.caller.now in let w1 = c.hold_empty.new.caller in let w2 = c.hold_all.new.caller in let sizes = g.B.Site.sizes in let directory = c.args.directory in let first = c.args.first in let many = c.args.buckets in
     let p = err_from_is_err_and c.from_residual-in_err-chains-2.result c.from_residual-in_err-chains-2.ensures.1 in let no = c.in_err-chains-2.ensures.refused in let a = c.hold_empty.ensures in
     let out : (directory < first) ⊎ (first + many ≤ directory) = search rules in
     rw p.1 (inl (

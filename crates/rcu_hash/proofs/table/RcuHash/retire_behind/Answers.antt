@@ -14,7 +14,7 @@ returns-in_default-clause-jobs g c = let d = c.done.ensures in ([], ap (λ (v : 
 
 pub returns-in_default-clause-uses : goal.returns-in_default-clause-uses
 returns-in_default-clause-uses g c =
-    let w = g.W.Witness in let w0 = c.args.witness.now in let jobs = c.args.jobs.items in
+    let w = g.W.Caller in let w0 = c.args.caller.now in let jobs = c.args.jobs.items in
     subst (λ (v : _). Uses g.P.GracePlan.QSBR tabled g.B.Site.sizes c.args.naming.directory (w.seen w0) w w0 w0 jobs v.items (w.heard w0) (w.heard w0)) (sym c.done.ensures.2)
     (uses_none g.P.GracePlan.QSBR tabled g.B.Site.sizes c.args.naming.directory (w.seen w0) w w0 w0 jobs (w.heard w0) (w.heard w0) (stays_none w w0) ([], refl))
 
@@ -23,7 +23,7 @@ returns-then-not-is_its-clause-jobs g c = let d = c.done-then-not-is_its.ensures
 
 pub returns-then-not-is_its-clause-uses : goal.returns-then-not-is_its-clause-uses
 returns-then-not-is_its-clause-uses g c =
-    let w = g.W.Witness in let w0 = c.args.witness.now in let jobs = c.args.jobs.items in
+    let w = g.W.Caller in let w0 = c.args.caller.now in let jobs = c.args.jobs.items in
     subst (λ (v : _). Uses g.P.GracePlan.QSBR tabled g.B.Site.sizes c.args.naming.directory (w.seen w0) w w0 w0 jobs v.items (w.heard w0) (w.heard w0)) (sym c.done-then-not-is_its.ensures.2)
     (uses_none g.P.GracePlan.QSBR tabled g.B.Site.sizes c.args.naming.directory (w.seen w0) w w0 w0 jobs (w.heard w0) (w.heard w0) (stays_none w w0) ([], refl))
 
@@ -74,7 +74,7 @@ returns-clause-jobs g c =
 
 pub returns-clause-stopped : goal.returns-clause-stopped
 returns-clause-stopped g c =
-    let w = g.W.Witness in let w0 = c.args.witness.now in let w1 = c.retire_left-answer.new.witness in let d = c.stopped.ensures in let jobs = c.retire_left-answer.new.jobs.items in
+    let w = g.W.Caller in let w0 = c.args.caller.now in let w1 = c.retire_left-answer.new.caller in let d = c.stopped.ensures in let jobs = c.retire_left-answer.new.jobs.items in
     some_on c.stopped.result.stop _ _ (λ e k. (
       subst (λ (n : ℕ). 0 < n) (sym d.1) k.1,
       subst (λ (v : _). IsStopped w w0 w1 v.items e) (sym d.2) (subst (IsStopped w w0 w1 jobs) (sym k.0) c.in-Err.ensures.stopped.1),

@@ -8,12 +8,12 @@ use Rattle.rcu_hash.proofs.table.RcuHash.tidy.Goals as goal
 
 pub returns-in-Ok-clause-heard : goal.returns-in-Ok-clause-heard
 returns-in-Ok-clause-heard g c =
-    let w = g.W.Witness in let w0 = c.args.witness.now in let w1 = c.settle.new.witness in let w2 = c.retire_behind.new.witness in let u = c.retire_behind.ensures.uses in
+    let w = g.W.Caller in let w0 = c.args.caller.now in let w1 = c.settle.new.caller in let w2 = c.retire_behind.new.caller in let u = c.retire_behind.ensures.uses in
     heard_on g.P.GracePlan.QSBR tabled g.B.Site.sizes c.in-Ok.naming.directory (w.seen w1) (w.heard w0) (w.heard w1) (w.heard w2) u.steps c.settle.ensures.heard u.follow
 
 pub returns-in-Ok-clause-tidied : goal.returns-in-Ok-clause-tidied
 returns-in-Ok-clause-tidied g c =
-    let q = g.P.GracePlan.QSBR in let w = g.W.Witness in let sizes = g.B.Site.sizes in let w0 = c.args.witness.now in let w1 = c.settle.new.witness in let w2 = c.retire_behind.new.witness in
+    let q = g.P.GracePlan.QSBR in let w = g.W.Caller in let sizes = g.B.Site.sizes in let w0 = c.args.caller.now in let w1 = c.settle.new.caller in let w2 = c.retire_behind.new.caller in
     let s = c.in-Ok.ensures in let stays = c.settle.ensures.same.0 in let r = c.retire_behind.ensures in let d = c.args.self.now.directory in let jobs = c.args.jobs.items in let left = c.retire_behind.result.jobs.items in
     let first = uses_none q tabled sizes d (w.seen w0) w w0 w1 jobs (w.heard w1) (w.heard w1) stays ([], refl) in
     let rest = subst (λ (n : ℕ). Uses q tabled sizes n (w.seen w1) w w1 w2 jobs left (w.heard w1) (w.heard w2)) s.waited.0 r.uses in

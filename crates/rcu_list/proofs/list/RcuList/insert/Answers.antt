@@ -11,13 +11,15 @@ use Rattle.rcu_list.specs.Refusing.{RefusesInsertion}
 use Rattle.rcu_list.proofs.Writing.{by_no_note, chain_known, comes_in, keys_pushed, keys_walked, note_still, pushed_map, rank_walked, same_own}
 use Rattle.rcu_list.proofs.list.RcuList.insert.Goals as goal
 
-pub push-requires-clause-rule : goal.push-requires-clause-rule
-push-requires-clause-rule g c =
-    let qsbr = g.P.GracePlan.QSBR in let allows = g.K.ChainRule.allows in let maps = g.met.K.MapRule.maps qsbr in let old = c.args.self.now.chain in let new = c.prepare_insertion.new.chain in let p = c.in_ok-owned.ensures in let went = p.looked.1 in
-    comes_in qsbr allows maps IsUnnoted maps.takes new.seat.me.0 (g.W.Witness.seen c.prepare_insertion.new.witness) (g.W.Witness.heard c.prepare_insertion.new.witness) c.in_ok-owned.owned.seat.me.0.seen new.owns.0 new.owns.1
-    (by_no_note qsbr allows new.seat.me.0 (note_still qsbr allows maps old.number old.seat.me new.seat.me went old.owns.1 old.owns.2 c.args.self.now.unnoted))
-    (keys_walked qsbr allows maps old.number old.seat.me new.seat.me went old.owns.1 old.owns.2 c.args.self.now.keys)
-    c.in_ok-owned.owned.seat.me.0 c.args.key c.args.value p.ready.0
+pub push-requires : goal.push-requires
+push-requires g c = record {
+  rule =
+      let qsbr = g.P.GracePlan.QSBR in let allows = g.K.ChainRule.allows in let maps = g.met.K.MapRule.maps qsbr in let old = c.args.self.now.chain in let new = c.prepare_insertion.new.chain in let p = c.in_ok-owned.ensures in let went = p.looked.1 in
+      comes_in qsbr allows maps IsUnnoted maps.takes new.seat.me.0 (g.W.Caller.seen c.prepare_insertion.new.caller) (g.W.Caller.heard c.prepare_insertion.new.caller) c.in_ok-owned.owned.seat.me.0.seen new.owns.0 new.owns.1
+      (by_no_note qsbr allows new.seat.me.0 (note_still qsbr allows maps old.number old.seat.me new.seat.me went old.owns.1 old.owns.2 c.args.self.now.unnoted))
+      (keys_walked qsbr allows maps old.number old.seat.me new.seat.me went old.owns.1 old.owns.2 c.args.self.now.keys)
+      c.in_ok-owned.owned.seat.me.0 c.args.key c.args.value p.ready.0;
+}
 
 pub returns-clause-inserted : goal.returns-clause-inserted
 returns-clause-inserted g c =
@@ -25,13 +27,13 @@ returns-clause-inserted g c =
     let owned = c.in_ok-owned.owned in let a = c.in_ok-owned.ensures in let p = c.push.ensures in let ready = a.ready.0 in
     let known : Log = old.seat.me.0.seen in let before : Log = p.pushed.before in
     let same = same_own qsbr allows maps old.number old.seat.me new.seat.me a.looked.1 old.owns.1 old.owns.2 in (
-      pushed_map qsbr allows maps old.number known (g.W.Witness.seen c.args.witness.now) (g.W.Witness.heard c.args.witness.now) new.seat.me.0 done.seat.me.0 (new.owns.2 ∙ a.looked.2) new.owns.0
+      pushed_map qsbr allows maps old.number known (g.W.Caller.seen c.args.caller.now) (g.W.Caller.heard c.args.caller.now) new.seat.me.0 done.seat.me.0 (new.owns.2 ∙ a.looked.2) new.owns.0
           (chain_known old.seat.me.0 old.number old.owns.1 old.owns.2 ∙ ap (λ (x : ChainRight). x.objects) (sym same))
-          (g.W.Witness.seen c.prepare_insertion.new.witness) (g.W.Witness.heard c.prepare_insertion.new.witness) owned.seat.me.0.seen owned.seat.me.0 c.args.key c.args.value ready.rank a.ready.1
+          (g.W.Caller.seen c.prepare_insertion.new.caller) (g.W.Caller.heard c.prepare_insertion.new.caller) owned.seat.me.0.seen owned.seat.me.0 c.args.key c.args.value ready.rank a.ready.1
           (ready.next ∙ rank_walked qsbr allows maps old.number old.seat.me new.seat.me a.looked.1 old.owns.1 old.owns.2) ready.words p.pushed (
             begins_trans known new.seat.me.0.seen before a.looked.1.2.0 p.pushed.after.after_writer.0,
             subst (λ (l : Log). Begins l before) a.same.0.0 p.pushed.after.after_caller.0,
-            begins_trans (g.W.Witness.heard c.args.witness.now) (g.W.Witness.heard c.prepare_insertion.new.witness) before a.heard.after_heard p.pushed.after.after_caller.1,
+            begins_trans (g.W.Caller.heard c.args.caller.now) (g.W.Caller.heard c.prepare_insertion.new.caller) before a.heard.after_heard p.pushed.after.after_caller.1,
           )
           a.ready.2,
       p.heard,
@@ -40,7 +42,7 @@ returns-clause-inserted g c =
 pub returns-in_err-owned-clause-refused : goal.returns-in_err-owned-clause-refused
 returns-in_err-owned-clause-refused g c =
     let old = c.args.self.now.chain in let p = err_from_is_err_and c.from_residual.result c.from_residual.ensures.1 in
-    rw p.1 (subst (λ e. RefusesInsertion g.W.Witness g.P.GracePlan.QSBR g.K.ChainRule.allows g.B.Site.sizes c.args.witness.now c.prepare_insertion.new.witness e old.seat.me.0.seen old.number c.args.key) (sym p.2) c.in_err-owned.ensures.refused)
+    rw p.1 (subst (λ e. RefusesInsertion g.W.Caller g.P.GracePlan.QSBR g.K.ChainRule.allows g.B.Site.sizes c.args.caller.now c.prepare_insertion.new.caller e old.seat.me.0.seen old.number c.args.key) (sym p.2) c.in_err-owned.ensures.refused)
 
 pub returns-in_err-owned-clause-kept : goal.returns-in_err-owned-clause-kept
 returns-in_err-owned-clause-kept g c =
@@ -60,7 +62,7 @@ invariant_of-self-2 g c =
     let note = note_still qsbr allows maps old.number old.seat.me new.seat.me went old.owns.1 old.owns.2 c.args.self.now.unnoted in
     let keys = keys_walked qsbr allows maps old.number old.seat.me new.seat.me went old.owns.1 old.owns.2 c.args.self.now.keys in record {
       unnoted = p.list.1 ∙ note;
-      keys = keys_pushed qsbr allows maps new.seat.me.0 c.push.new.self.seat.me.0 new.owns.1 keys (g.W.Witness.seen c.prepare_insertion.new.witness) (g.W.Witness.heard c.prepare_insertion.new.witness) owned.seat.me.0.seen owned.seat.me.0 p.pushed
+      keys = keys_pushed qsbr allows maps new.seat.me.0 c.push.new.self.seat.me.0 new.owns.1 keys (g.W.Caller.seen c.prepare_insertion.new.caller) (g.W.Caller.heard c.prepare_insertion.new.caller) owned.seat.me.0.seen owned.seat.me.0 p.pushed
           (ap (λ (l : List ℕ). slice_index_or l 3 0) c.in_ok-owned.ensures.ready.0.words)
           (p.list.0 ∙ ap (λ (o : ObjectId). o ∷ list_in new.seat.me.0) p.object);
     }
@@ -69,7 +71,7 @@ pub returns-clause-same : goal.returns-clause-same
 returns-clause-same g c =
     let a = c.in_ok-owned.ensures in let p = c.push.ensures in let m = p.same in let s = a.same in (
       p.list.3 ∙ a.looked.2,
-      stays_makes g.W.Witness c.args.witness.now c.prepare_insertion.new.witness c.push.new.witness c.push.new.self.seat.me.0.seen s.0 m.0,
+      stays_makes g.W.Caller c.args.caller.now c.prepare_insertion.new.caller c.push.new.caller c.push.new.self.seat.me.0.seen s.0 m.0,
       m.2 ∙ s.1,
       (s.2.0, m.1 ∙ s.2.1),
     )

@@ -20,13 +20,15 @@ returns-in_default-clause-refused g c =
     let e = c.in_default.ensures in let old = c.args.self.now.chain in
     (refl, inl (refl, walked_missing g.P.GracePlan.QSBR g.K.ChainRule.allows (g.met.K.MapRule.maps g.P.GracePlan.QSBR) old.number old.seat.me c.index_of.new.self.seat.me e.walked.1 old.owns.1 old.owns.2 c.args.key e.none, refl))
 
-pub cut_retire-requires-clause-rule : goal.cut_retire-requires-clause-rule
-cut_retire-requires-clause-rule g c o at =
-    let e = c.in-Some.ensures in let old = c.args.self.now.chain in let mid = c.index_of.new.self in let qsbr = g.P.GracePlan.QSBR in let maps = g.met.K.MapRule.maps qsbr in
-    may_remove qsbr g.K.ChainRule.allows maps IsUnnoted maps.takes mid.seat.me.0 (g.W.Witness.seen c.args.witness.now) (g.W.Witness.heard c.args.witness.now) [] mid.owns.0 mid.owns.1
-    (by_no_note qsbr g.K.ChainRule.allows mid.seat.me.0 (note_still qsbr g.K.ChainRule.allows maps old.number old.seat.me mid.seat.me e.walked.1 old.owns.1 old.owns.2 c.args.self.now.unnoted))
-    (keys_walked qsbr g.K.ChainRule.allows maps old.number old.seat.me mid.seat.me e.walked.1 old.owns.1 old.owns.2 c.args.self.now.keys) o
-    (index_has (list_in mid.seat.me.0) c.in-Some.index o at)
+pub cut_retire-requires : goal.cut_retire-requires
+cut_retire-requires g c = record {
+  rule = λ o at.
+      let e = c.in-Some.ensures in let old = c.args.self.now.chain in let mid = c.index_of.new.self in let qsbr = g.P.GracePlan.QSBR in let maps = g.met.K.MapRule.maps qsbr in
+      may_remove qsbr g.K.ChainRule.allows maps IsUnnoted maps.takes mid.seat.me.0 (g.W.Caller.seen c.args.caller.now) (g.W.Caller.heard c.args.caller.now) [] mid.owns.0 mid.owns.1
+      (by_no_note qsbr g.K.ChainRule.allows mid.seat.me.0 (note_still qsbr g.K.ChainRule.allows maps old.number old.seat.me mid.seat.me e.walked.1 old.owns.1 old.owns.2 c.args.self.now.unnoted))
+      (keys_walked qsbr g.K.ChainRule.allows maps old.number old.seat.me mid.seat.me e.walked.1 old.owns.1 old.owns.2 c.args.self.now.keys) o
+      (index_has (list_in mid.seat.me.0) c.in-Some.index o at);
+}
 
 pub returns-clause-removed : goal.returns-clause-removed
 returns-clause-removed g c =
@@ -38,11 +40,11 @@ returns-clause-removed g c =
     let here : f.object ≡ r.object = some_is f.object r.object (sym f.at ∙ (ap (λ (l : List ObjectId). slice_get l c.in-Some.index) (sym list) ∙ r.was)) in
     let key_is : key_of (note_of known r.object) ≡ c.args.key = ap (λ (o : ObjectId). key_of (note_of known o)) (sym here) ∙ (ap key_of (sym (note_walked qsbr g.K.ChainRule.allows (g.met.K.MapRule.maps g.P.GracePlan.QSBR) old.number old.seat.me mid.seat.me e.walked.1 old.owns.1 old.owns.2 f.object (index_has (list_in old.seat.me.0) c.in-Some.index f.object f.at))) ∙ f.begins) in (
       r.object,
-      cut_map qsbr g.K.ChainRule.allows (g.met.K.MapRule.maps g.P.GracePlan.QSBR) old.number known (g.W.Witness.seen c.args.witness.now) (g.W.Witness.heard c.args.witness.now) mid.seat.me.0 done.seat.me.0 (mid.owns.2 ∙ e.walked.2) mid.owns.0
+      cut_map qsbr g.K.ChainRule.allows (g.met.K.MapRule.maps g.P.GracePlan.QSBR) old.number known (g.W.Caller.seen c.args.caller.now) (g.W.Caller.heard c.args.caller.now) mid.seat.me.0 done.seat.me.0 (mid.owns.2 ∙ e.walked.2) mid.owns.0
           (chain_known old.seat.me.0 old.number old.owns.1 old.owns.2 ∙ sym list)
-          (g.W.Witness.seen c.args.witness.now) (g.W.Witness.heard c.args.witness.now) [] c.args.key r.object (index_has (list_in mid.seat.me.0) c.in-Some.index r.object r.was) key_is r.published
+          (g.W.Caller.seen c.args.caller.now) (g.W.Caller.heard c.args.caller.now) [] c.args.key r.object (index_has (list_in mid.seat.me.0) c.in-Some.index r.object r.was) key_is r.published
           (begins_trans known mid.seat.me.0.seen r.published.before e.walked.1.2.0 r.published.after.after_writer.0, r.published.after.after_caller.0, r.published.after.after_caller.1),
-      record { given = r.given; turn = r.turn; queued = subst (λ (n : ℕ). Queues qsbr g.K.ChainRule.allows (Begins done.seat.me.0.seen) r.object (n % g.B.Site.sizes.queues) r.given (g.W.Witness.heard c.cut_retire.new.witness)) e.walked.2 r.queued },
+      record { given = r.given; turn = r.turn; queued = subst (λ (n : ℕ). Queues qsbr g.K.ChainRule.allows (Begins done.seat.me.0.seen) r.object (n % g.B.Site.sizes.queues) r.given (g.W.Caller.heard c.cut_retire.new.caller)) e.walked.2 r.queued },
     ))
     c.cut_retire.ensures.retired c.cut_retire.ensures.same
 
@@ -58,7 +60,7 @@ returns-clause-refused g c =
         there,
         by_second r
             (λ n. let few : length (list_in mid.seat.me.0) ≤ c.in-Some.index = n.1 in let same : length (list_in mid.seat.me.0) ≡ length (list_in old.seat.me.0) = ap (λ (y : ChainRight). length y.objects) one in omega arith)
-            (λ k. subst (λ (n : ℕ). RefusesRetirement g.W.Witness g.P.GracePlan.QSBR g.K.ChainRule.allows g.B.Site.sizes (n % g.B.Site.sizes.queues) c.args.witness.now c.cut_retire.new.witness x.0) e.walked.2 k.1),
+            (λ k. subst (λ (n : ℕ). RefusesRetirement g.W.Caller g.P.GracePlan.QSBR g.K.ChainRule.allows g.B.Site.sizes (n % g.B.Site.sizes.queues) c.args.caller.now c.cut_retire.new.caller x.0) e.walked.2 k.1),
       ),
     ))
     c.cut_retire.ensures.refused c.cut_retire.ensures.back
@@ -76,6 +78,6 @@ invariant_of-self-2 g c =
     let keys = keys_walked qsbr allows maps old.number old.seat.me mid.seat.me went old.owns.1 old.owns.2 c.args.self.now.keys in let done = c.cut_retire.new.chain in let r = c.cut_retire.ensures in record {
       unnoted = by_result c.cut_retire.result _ _ r.retired r.back (λ t k. k.note ∙ note) (λ x b. ap (λ z. (own_in z.seat.me.0.chains).note) b.1 ∙ note);
       keys = by_result c.cut_retire.result _ _ r.retired r.back
-          (λ t k. keys_cut qsbr allows maps mid.seat.me.0 done.seat.me.0 mid.owns.1 keys (g.W.Witness.seen c.args.witness.now) (g.W.Witness.heard c.args.witness.now) [] k.object k.published k.left)
+          (λ t k. keys_cut qsbr allows maps mid.seat.me.0 done.seat.me.0 mid.owns.1 keys (g.W.Caller.seen c.args.caller.now) (g.W.Caller.heard c.args.caller.now) [] k.object k.published k.left)
           (λ x b. subst (λ z. KnowsKeys z.seat.me.0) (sym b.1) keys);
     }

@@ -22,13 +22,15 @@ returns-in-Err-clause-refused g c = (refl, ⊎_elim (λ x. inl x) (λ x. inr (x.
 pub returns-in-Err-clause-kept : goal.returns-in-Err-clause-kept
 returns-in-Err-clause-kept g c = let p = c.in-Err.ensures.looked in (p.0, p.1, p.2)
 
-pub replace_retire-requires-clause-rule : goal.replace_retire-requires-clause-rule
-replace_retire-requires-clause-rule g c o at =
-    let qsbr = g.P.GracePlan.QSBR in let allows = g.K.ChainRule.allows in let maps = g.met.K.MapRule.maps qsbr in let old = c.args.self.now.chain in let new = c.prepare_replacement.new.chain in let p = c.in-Ok.ensures in let went = p.looked.1 in
-    takes_over qsbr allows maps IsUnnoted maps.takes new.seat.me.0 (g.W.Witness.seen c.prepare_replacement.new.witness) (g.W.Witness.heard c.prepare_replacement.new.witness) c.in-Ok.ready.1.seat.me.0.seen new.owns.0 new.owns.1
-    (by_no_note qsbr allows new.seat.me.0 (note_still qsbr allows maps old.number old.seat.me new.seat.me went old.owns.1 old.owns.2 c.args.self.now.unnoted))
-    (keys_walked qsbr allows maps old.number old.seat.me new.seat.me went old.owns.1 old.owns.2 c.args.self.now.keys)
-    c.in-Ok.ready.1.seat.me.0 c.args.key c.args.value c.in-Ok.ready.0 p.ready.0 o at
+pub replace_retire-requires : goal.replace_retire-requires
+replace_retire-requires g c = record {
+  rule = λ o at.
+      let qsbr = g.P.GracePlan.QSBR in let allows = g.K.ChainRule.allows in let maps = g.met.K.MapRule.maps qsbr in let old = c.args.self.now.chain in let new = c.prepare_replacement.new.chain in let p = c.in-Ok.ensures in let went = p.looked.1 in
+      takes_over qsbr allows maps IsUnnoted maps.takes new.seat.me.0 (g.W.Caller.seen c.prepare_replacement.new.caller) (g.W.Caller.heard c.prepare_replacement.new.caller) c.in-Ok.ready.1.seat.me.0.seen new.owns.0 new.owns.1
+      (by_no_note qsbr allows new.seat.me.0 (note_still qsbr allows maps old.number old.seat.me new.seat.me went old.owns.1 old.owns.2 c.args.self.now.unnoted))
+      (keys_walked qsbr allows maps old.number old.seat.me new.seat.me went old.owns.1 old.owns.2 c.args.self.now.keys)
+      c.in-Ok.ready.1.seat.me.0 c.args.key c.args.value c.in-Ok.ready.0 p.ready.0 o at;
+}
 
 pub returns-in-Ok-replace_retire-clause-replaced : goal.returns-in-Ok-replace_retire-clause-replaced
 returns-in-Ok-replace_retire-clause-replaced g c =
@@ -41,22 +43,22 @@ returns-in-Ok-replace_retire-clause-replaced g c =
     let one : ready.found.object ≡ r.object = some_is ready.found.object r.object (sym ready.found.at ∙ r.was) in
     let key_is : key_of (note_of known r.object) ≡ c.args.key = sym (ap key_of (note_walked qsbr allows maps old.number old.seat.me new.seat.me a.looked.1 old.owns.1 old.owns.2 r.object (index_has (list_in old.seat.me.0) index r.object (ap (λ (l : List ObjectId). slice_get l index) (sym list) ∙ r.was)))) ∙ (ap (λ (p : ObjectId). key_of (note_of new.seat.me.0.seen p)) (sym one) ∙ ready.found.begins) in (
       r.object,
-      replaced_map qsbr allows maps old.number known (g.W.Witness.seen c.args.witness.now) (g.W.Witness.heard c.args.witness.now) new.seat.me.0 done.seat.me.0 (new.owns.2 ∙ number) new.owns.0
+      replaced_map qsbr allows maps old.number known (g.W.Caller.seen c.args.caller.now) (g.W.Caller.heard c.args.caller.now) new.seat.me.0 done.seat.me.0 (new.owns.2 ∙ number) new.owns.0
           (chain_known old.seat.me.0 old.number old.owns.1 old.owns.2 ∙ sym list)
-          (g.W.Witness.seen c.prepare_replacement.new.witness) (g.W.Witness.heard c.prepare_replacement.new.witness) owned.seat.me.0.seen c.args.key r.object (index_has (list_in new.seat.me.0) index r.object r.was) key_is
+          (g.W.Caller.seen c.prepare_replacement.new.caller) (g.W.Caller.heard c.prepare_replacement.new.caller) owned.seat.me.0.seen c.args.key r.object (index_has (list_in new.seat.me.0) index r.object r.was) key_is
           owned.seat.me.0 c.args.value ready.rank ready.words r.published (
             begins_trans known new.seat.me.0.seen before a.looked.1.2.0 r.published.after.after_writer.0,
             subst (λ (l : Log). Begins l before) a.same.0.0 r.published.after.after_caller.0,
-            begins_trans (g.W.Witness.heard c.args.witness.now) (g.W.Witness.heard c.prepare_replacement.new.witness) before a.heard.after_heard r.published.after.after_caller.1,
+            begins_trans (g.W.Caller.heard c.args.caller.now) (g.W.Caller.heard c.prepare_replacement.new.caller) before a.heard.after_heard r.published.after.after_caller.1,
           ),
-      record { given = r.given; turn = r.turn; queued = subst (λ (n : ℕ). Queues qsbr allows (Begins done.seat.me.0.seen) r.object (n % g.B.Site.sizes.queues) r.given (g.W.Witness.heard c.replace_retire.new.witness)) number r.queued },
+      record { given = r.given; turn = r.turn; queued = subst (λ (n : ℕ). Queues qsbr allows (Begins done.seat.me.0.seen) r.object (n % g.B.Site.sizes.queues) r.given (g.W.Caller.heard c.replace_retire.new.caller)) number r.queued },
     )
 
 pub returns-in-Ok-replace_retire-clause-same : goal.returns-in-Ok-replace_retire-clause-same
 returns-in-Ok-replace_retire-clause-same g c =
     let a = c.in-Ok.ensures in let r = c.in-Ok-replace_retire.ensures.same in let m = r.0 in let s = a.same in (
       r.1 ∙ a.looked.2,
-      stays_makes g.W.Witness c.args.witness.now c.prepare_replacement.new.witness c.replace_retire.new.witness c.replace_retire.new.chain.seat.me.0.seen s.0 m.0,
+      stays_makes g.W.Caller c.args.caller.now c.prepare_replacement.new.caller c.replace_retire.new.caller c.replace_retire.new.chain.seat.me.0.seen s.0 m.0,
       m.2 ∙ s.1,
       (s.2.0, m.1 ∙ s.2.1),
     )
@@ -65,8 +67,8 @@ pub returns-in-Err-replace_retire-clause-refused : goal.returns-in-Err-replace_r
 returns-in-Err-replace_retire-clause-refused g c =
     let a = c.in-Ok.ensures in let d = c.discard.ensures in let ready = a.ready.0 in
     let old = c.args.self.now.chain in let new = c.prepare_replacement.new.chain in
-    let w = g.W.Witness in let sizes = g.B.Site.sizes in
-    let w0 = c.args.witness.now in let w1 = c.prepare_replacement.new.witness in let w2 = c.replace_retire.new.witness in let w3 = c.discard.new.witness in
+    let w = g.W.Caller in let sizes = g.B.Site.sizes in
+    let w0 = c.args.caller.now in let w1 = c.prepare_replacement.new.caller in let w2 = c.replace_retire.new.caller in let w3 = c.discard.new.caller in
     let within = slice_get_within (list_in new.seat.me.0) c.in-Ok.ready.0 ready.found.object ready.found.at in
     let number : new.number ≡ old.number = a.looked.2 in (
       c.in-Err-replace_retire.ensures.back.1,
@@ -115,7 +117,7 @@ invariant_of-self-2 g c =
     let keys = keys_walked qsbr allows maps old.number old.seat.me new.seat.me went old.owns.1 old.owns.2 c.args.self.now.keys in record {
       unnoted = by_result c.replace_retire.result _ _ r.retired r.back (λ t k. k.note ∙ note) (λ x b. ap (λ z. (own_in z.seat.me.0.chains).note) b.2 ∙ note);
       keys = by_result c.replace_retire.result _ _ r.retired r.back
-          (λ t k. keys_replaced qsbr allows maps new.seat.me.0 done.seat.me.0 new.owns.1 keys (g.W.Witness.seen c.prepare_replacement.new.witness) (g.W.Witness.heard c.prepare_replacement.new.witness) owned.seat.me.0.seen owned.seat.me.0 k.object k.published
+          (λ t k. keys_replaced qsbr allows maps new.seat.me.0 done.seat.me.0 new.owns.1 keys (g.W.Caller.seen c.prepare_replacement.new.caller) (g.W.Caller.heard c.prepare_replacement.new.caller) owned.seat.me.0.seen owned.seat.me.0 k.object k.published
           (ap (λ (l : List ℕ). slice_index_or l 3 0) c.in-Ok.ensures.ready.0.words) k.left)
           (λ x b. subst (λ z. KnowsKeys z.seat.me.0) (sym b.2) keys);
     }

@@ -1,7 +1,7 @@
 use Rattle.std.proofs.Common.{refl, ap}
 use Rattle.live_words.specs.live_table.Rights.{count_in}
 use Rattle.live_read.proofs.Staying.{stays_in}
-use Rattle.live_read.proofs.witness.ReaderWitness.learn.Goals as goal
+use Rattle.live_read.proofs.caller.ReaderCaller.learn.Goals as goal
 
 pub returns-clause-inside : goal.returns-clause-inside
 returns-clause-inside g c = stays_in c.args.self.now.core _ refl (ap (λ m. m.0.seen) c.learn.ensures.2) (ap (λ m. count_in m.0.slot) c.learn.ensures.2)

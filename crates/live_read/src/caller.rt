@@ -8,8 +8,8 @@ use gp_memb::GracePlan;
 use live_words::{ChainRule, LiveSeat, LiveTable};
 use std::marker::PhantomData;
 
-/// Who makes a call, and keeps what it has seen of the log: a record, or a reader.
-pub trait Witness {
+/// Who makes a call, and keeps what it has seen of the log: a handle, or a reader.
+pub trait Caller<B: Site> {
     ghost use Rattle.std.specs.Prelude.{◌≡◌, ℕ, List, [], ◌++◌};
     ghost use Rattle.atomic_table.specs.Seated.{TableId};
     ghost use Rattle.live_log.specs.Log.{Log};
@@ -33,29 +33,26 @@ pub trait Witness {
     /// The pushes, replacements and cuts that were made for it, the last one first.
     ghost changes: { Self → Log };
 
-    /// The table of the log, and its sizes.
-    ghost home: { Self → TableId × Sizes };
-
     /// How it stands beside that: of a reader its slot, its word, its sections so far, and what it has open.
     ghost standing: { Self → Standing };
 
-    /// Of a reader, that its section of the log is open in what it has seen. It says nothing of a record.
+    /// Of a reader, that its section of the log is open in what it has seen. It says nothing of a handle.
     ghost is_in: { Self → Type 0 };
 
     /// A seat that has seen and heard as much, and has no right and has found nothing. It never waits.
     fn tell<P: GracePlan, K: ChainRule>(&mut self, table: &LiveTable<P, K>) -> LiveSeat
-        requires { table.now.words.shared.table_id ≡ (home self.old).0 }
-        ensures seat { (result.table_id ≡ (home self.old).0) × (result.me ≡ (bare (home self.old).1 (seen self.old) (heard self.old), [])) }
-        ensures same { (seen self.new ≡ seen self.old) × (heard self.new ≡ heard self.old) × (loads self.new ≡ loads self.old) × (looks self.new ≡ looks self.old) × (home self.new ≡ home self.old) × (standing self.new ≡ standing self.old) × (changes self.new ≡ changes self.old) }
+        requires { table.now.words.shared.table_id ≡ B.table }
+        ensures seat { (result.table_id ≡ B.table) × (result.me ≡ (bare B.sizes (seen self.old) (heard self.old), [])) }
+        ensures same { (seen self.new ≡ seen self.old) × (heard self.new ≡ heard self.old) × (loads self.new ≡ loads self.old) × (looks self.new ≡ looks self.old) × (standing self.new ≡ standing self.old) × (changes self.new ≡ changes self.old) }
         ensures inside { is_in self.old → is_in self.new };
 
     /// It hears what the seat has seen, in the place of what it had heard of, and takes in the seat's loads and looks.
     /// The seat is spent. It never waits.
     fn learn<P: GracePlan, K: ChainRule>(&mut self, table: &LiveTable<P, K>, other: LiveSeat)
-        requires table { (table.now.words.shared.table_id ≡ (home self.old).0) × (other.table_id ≡ (home self.old).0) × (other.me.1 ≡ []) }
+        requires table { (table.now.words.shared.table_id ≡ B.table) × (other.table_id ≡ B.table) × (other.me.1 ≡ []) }
         ensures heard { heard self.new ≡ other.me.0.seen }
         ensures loads { (loads self.new ≡ other.me.0.loads ++ loads self.old) × (looks self.new ≡ other.me.0.looks ++ looks self.old) }
-        ensures same { (seen self.new ≡ seen self.old) × (home self.new ≡ home self.old) × (standing self.new ≡ standing self.old) × (changes self.new ≡ changes self.old) }
+        ensures same { (seen self.new ≡ seen self.old) × (standing self.new ≡ standing self.old) × (changes self.new ≡ changes self.old) }
         ensures inside { is_in self.old → is_in self.new };
 
     /// As `learn`, and the changes that the seat knows were made for it. It never waits.
@@ -64,49 +61,49 @@ pub trait Witness {
         table: &LiveTable<P, K>,
         other: LiveSeat,
     )
-        requires table { (table.now.words.shared.table_id ≡ (home self.old).0) × (other.table_id ≡ (home self.old).0) × (other.me.1 ≡ []) }
+        requires table { (table.now.words.shared.table_id ≡ B.table) × (other.table_id ≡ B.table) × (other.me.1 ≡ []) }
         ensures heard { heard self.new ≡ other.me.0.seen }
         ensures loads { (loads self.new ≡ other.me.0.loads ++ loads self.old) × (looks self.new ≡ other.me.0.looks ++ looks self.old) × (changes self.new ≡ other.me.0.changes ++ changes self.old) }
-        ensures same { (seen self.new ≡ seen self.old) × (home self.new ≡ home self.old) × (standing self.new ≡ standing self.old) }
+        ensures same { (seen self.new ≡ seen self.old) × (standing self.new ≡ standing self.old) }
         ensures inside { is_in self.old → is_in self.new };
 }
 
 /// What a thread that has no reader has seen of the log: its seat, which has no bytes.
 #[derive(Drop)]
-pub struct Record<B: Site> {
+pub struct Handle<B: Site> {
     pub(crate) seat: LiveSeat,
     pub(crate) site: PhantomData<B>,
     pub ghost seated: { (seat.table_id ≡ B.table) × (seat.me.0.sizes ≡ B.sizes) × (seat.me.1 ≡ []) },
 }
 
-impl<B: Site> Record<B> {
+impl<B: Site> Handle<B> {
     ghost use Rattle.live_read.specs.Hearing.{IsAsBefore};
 
-    /// A record that has seen what the seat has. It never waits.
-    pub fn new(seat: LiveSeat) -> Record<B>
+    /// A handle that has seen what the seat has. It never waits.
+    pub fn new(seat: LiveSeat) -> Handle<B>
         requires { (seat.table_id ≡ B.table) × (seat.me.0.sizes ≡ B.sizes) × (seat.me.1 ≡ []) }
         ensures { result.seat ≡ seat }
     {
-        Record {
+        Handle {
             seat,
             site: PhantomData,
         }
     }
 
-    /// A record that has seen and heard as much as the witness, for another thread. It never waits.
-    pub fn split<W: Witness, P: GracePlan, K: ChainRule>(
+    /// A handle that has seen and heard as much as the caller, for another thread. It never waits.
+    pub fn split<W: Caller<B>, P: GracePlan, K: ChainRule>(
         table: &LiveTable<P, K>,
-        witness: &mut W,
-    ) -> Record<B>
-        requires { (table.now.words.shared.table_id ≡ B.table) × (W.home witness.old ≡ (B.table, B.sizes)) }
-        ensures told { (result.seat.me.0.seen ≡ W.seen witness.old) × (result.seat.me.0.heard ≡ W.heard witness.old) }
-        ensures same { IsAsBefore W.Witness witness.old witness.new }
+        caller: &mut W,
+    ) -> Handle<B>
+        requires { table.now.words.shared.table_id ≡ B.table }
+        ensures told { (result.seat.me.0.seen ≡ W.seen caller.old) × (result.seat.me.0.heard ≡ W.heard caller.old) }
+        ensures same { IsAsBefore W.Caller caller.old caller.new }
     {
-        Record::new(witness.tell(table))
+        Handle::new(caller.tell(table))
     }
 }
 
-impl<B: Site> Witness for Record<B> {
+impl<B: Site> Caller<B> for Handle<B> {
     ghost use Rattle.std.specs.Prelude.{⊤};
     ghost use Rattle.live_read.specs.Standings.{nowhere};
 
@@ -119,8 +116,6 @@ impl<B: Site> Witness for Record<B> {
     ghost looks = { λ r. r.seat.me.0.looks };
 
     ghost changes = { λ r. r.seat.me.0.changes };
-
-    ghost home = { λ r. (r.seat.table_id, r.seat.me.0.sizes) };
 
     ghost standing = { λ r. nowhere };
 
@@ -143,7 +138,7 @@ impl<B: Site> Witness for Record<B> {
     }
 }
 
-impl<P: GracePlan, K: ChainRule, B: Site> Witness for Reader<P, K, B> {
+impl<P: GracePlan, K: ChainRule, B: Site> Caller<B> for Reader<P, K, B> {
     ghost use Rattle.live_read.specs.Sections.{IsIn};
 
     ghost seen = { λ r. r.core.seat.me.0.seen };
@@ -155,8 +150,6 @@ impl<P: GracePlan, K: ChainRule, B: Site> Witness for Reader<P, K, B> {
     ghost looks = { λ r. r.core.seat.me.0.looks };
 
     ghost changes = { λ r. r.core.seat.me.0.changes };
-
-    ghost home = { λ r. (r.core.seat.table_id, r.core.seat.me.0.sizes) };
 
     ghost use Rattle.live_words.specs.live_table.Rights.{count_in};
 
