@@ -7,11 +7,11 @@ use Rattle.rcu_hash.proofs.left.Left.hear.Goals as goal
 
 pub hear_left-requires : goal.hear_left-requires
 hear_left-requires g c = record {
-    chain =
-    let l = c.args.self in let n = l.naming in
-    (each_popped c.pop.new.self.items l.chains.items c.in-Some.chain (λ x. x.seat.me.0) (IsLeft n.directory n.first n.buckets) c.in-Some.ensures.items
-    (each_left n.directory n.first n.buckets (map (λ x. x.seat.me.0) l.chains.items) l.alone l.keys l.notes l.outside)).1;
-  }
+  chain =
+      let l = c.args.self in let n = l.naming in
+      (each_popped c.pop.new.self.items l.chains.items c.in-Some.chain (λ x. x.seat.me.0) (IsLeft n.directory n.first n.buckets) c.in-Some.ensures.items
+      (each_left n.directory n.first n.buckets (map (λ x. x.seat.me.0) l.chains.items) l.alone l.keys l.notes l.outside)).1;
+}
 
 pub invariant_of-result : goal.invariant_of-result
 invariant_of-result g c =
