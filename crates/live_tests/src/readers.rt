@@ -28,20 +28,25 @@ fn first_reader<P: GracePlan, K: ChainRule, B: Site, R: Wait>(
     Reader::register(rt, words, &mut record)
 }
 
+/// The word that a reader stored last.
+fn word_of<B: Site>(reader: &Reader<MembPlan, AnyChain, B>) -> u64 {
+    reader.core.word()
+}
+
 fn nests<B: Site>(reader: &mut Reader<MembPlan, AnyChain, B>) -> Result<([u64; 5], bool), Refusal>
     requires { (reader.old.core.depth ≡ 0) × (reader.old.core.locks ≡ 0) }
 {
     let mut outer = reader.section()?;
-    let one = outer.reader.core.word();
+    let one = word_of(&*outer.reader);
     let inner = outer.reader.section()?;
-    let two = inner.reader.core.word();
+    let two = word_of(&*inner.reader);
     inner.close();
-    let left = outer.reader.core.word();
+    let left = word_of(&*outer.reader);
     outer.reader.lock()?;
-    let locked = outer.reader.core.word();
+    let locked = word_of(&*outer.reader);
     outer.reader.unlock()?;
     let refused = matches!(outer.reader.unlock(), Err(Refusal::NotOpen));
-    let alive = outer.reader.core.word();
+    let alive = word_of(&*outer.reader);
     outer.close();
     Ok(([one, two, left, locked, alive], refused))
 }

@@ -31,7 +31,7 @@ fn locks_nest_in_one_section(rt: HostRuntime) {
     reader.unlock().expect(&rt, "open");
     assert_eq!(rt; words.words.shared.peek(64), 1);
     reader.unlock().expect(&rt, "open");
-    assert_eq!(rt; reader.word, 0);
+    assert_eq!(rt; reader.word(), 0);
     assert_eq!(rt; words.words.shared.peek(64), 0);
 }
 
@@ -47,11 +47,11 @@ fn announcements_copy_the_number(rt: HostRuntime) {
         .ok()
         .expect(&rt, "a free slot");
     reader.online().expect(&rt, "offline");
-    assert_eq!(rt; reader.word, 1);
+    assert_eq!(rt; reader.word(), 1);
     store_odd(&words, &mut root, 1);
     store_present(&words, &mut root, 1);
     reader.quiescent().expect(&rt, "online");
-    assert_eq!(rt; reader.word, 2);
+    assert_eq!(rt; reader.word(), 2);
     assert_eq!(rt; load_slot(&words, &mut root, 0), 2);
     assert_eq!(rt; load_group(&words, &mut root, 0), 1);
     reader.offline().expect(&rt, "online");
