@@ -64,14 +64,14 @@ BUGS = [
     (
         "an allocation takes two records",
         "domain/src/writing.rt",
-        "        live_write::alloc(rt, &self.table, witness, words)",
-        "        let _more: Result<Owned<B>, Refusal> = live_write::alloc(rt, &self.table, witness, words);\n"
-        "        live_write::alloc(rt, &self.table, witness, words)",
+        "        live_write::alloc(rt, &self.table, caller, words)",
+        "        let _more: Result<Owned<B>, Refusal> = live_write::alloc(rt, &self.table, caller, words);\n"
+        "        live_write::alloc(rt, &self.table, caller, words)",
     ),
     (
         "a discard loses the record",
         "domain/src/writing.rt",
-        "        live_write::discard(&self.table, witness, owned);",
+        "        live_write::discard(&self.table, caller, owned);",
         "        let _lost = owned;",
     ),
     (
@@ -107,9 +107,9 @@ BUGS = [
     (
         "a cut counts on",
         "live_write/src/chain.rt",
-        "        let (seat, cell) = cut_record(self.table, &mut self.seat, self.number, witness, index);\n"
+        "        let (seat, cell) = cut_record(self.table, &mut self.seat, self.number, caller, index);\n"
         "        self.linked -= 1;",
-        "        let (seat, cell) = cut_record(self.table, &mut self.seat, self.number, witness, index);",
+        "        let (seat, cell) = cut_record(self.table, &mut self.seat, self.number, caller, index);",
     ),
     (
         "a chain that is taken again has no objects",
@@ -216,15 +216,15 @@ BUGS = [
     (
         "a list that replaces a value keeps the old one",
         "rcu_list/src/preparing.rt",
-        "alloc(rt, witness, [key, value, words[2], 0])",
-        "alloc(rt, witness, [key, value - value + words[1], words[2], 0])",
+        "alloc(rt, caller, [key, value, words[2], 0])",
+        "alloc(rt, caller, [key, value - value + words[1], words[2], 0])",
     ),
     (
         "a list removes its last key in place of another",
         "rcu_list/src/list.rt",
-        "        domain.cut_retire(rt, witness, &mut self.chain, index, callback)",
+        "        domain.cut_retire(rt, caller, &mut self.chain, index, callback)",
         "        let last = self.chain.len() - 1 + index - index;\n"
-        "        domain.cut_retire(rt, witness, &mut self.chain, last, callback)",
+        "        domain.cut_retire(rt, caller, &mut self.chain, last, callback)",
     ),
     (
         "keys have the rank of the one before",
@@ -235,7 +235,7 @@ BUGS = [
     (
         "a refused replacement loses its record",
         "rcu_list/src/list.rt",
-        "                domain.discard(witness, owned);\n",
+        "                domain.discard(caller, owned);\n",
         "                let _lost = owned;\n",
     ),
     (
@@ -261,17 +261,17 @@ BUGS = [
         "a refused table leaves notes",
         "rcu_hash/src/table.rt",
         "        let lents = room(alloc, buckets)?;\n"
-        "        let owned = match domain.alloc(rt, witness, [first as u64, buckets as u64, 0, 1]) {\n"
+        "        let owned = match domain.alloc(rt, caller, [first as u64, buckets as u64, 0, 1]) {\n"
         "            Ok(owned) => owned,\n"
         "            Err(refusal) => {\n"
         "                lents.destroy_empty();\n"
         "                return Err(refusal);\n"
         "            }\n"
         "        };\n"
-        "        let chains = note_all(chains, noted, witness, directory as u64 + 1);\n",
+        "        let chains = note_all(chains, noted, caller, directory as u64 + 1);\n",
         "        let lents = room(alloc, buckets)?;\n"
-        "        let chains = note_all(chains, noted, witness, directory as u64 + 1);\n"
-        "        let owned = match domain.alloc(rt, witness, [first as u64, buckets as u64, 0, 1]) {\n"
+        "        let chains = note_all(chains, noted, caller, directory as u64 + 1);\n"
+        "        let owned = match domain.alloc(rt, caller, [first as u64, buckets as u64, 0, 1]) {\n"
         "            Ok(owned) => owned,\n"
         "            Err(refusal) => {\n"
         "                lents.destroy_empty();\n"
@@ -288,38 +288,38 @@ BUGS = [
     (
         "a growth loses keys",
         "rcu_hash/src/copying.rt",
-        "        chains[(key % buckets) as usize].push(witness, owned);",
+        "        chains[(key % buckets) as usize].push(caller, owned);",
         "        if key % 3 == 1 {\n            let _lost = owned;\n        } else {\n"
-        "            chains[(key % buckets) as usize].push(witness, owned);\n        }",
+        "            chains[(key % buckets) as usize].push(caller, owned);\n        }",
     ),
     (
         "a growth puts all keys into one bucket",
         "rcu_hash/src/copying.rt",
-        "        chains[(key % buckets) as usize].push(witness, owned);",
-        "        chains[(key % buckets * 0) as usize].push(witness, owned);",
+        "        chains[(key % buckets) as usize].push(caller, owned);",
+        "        chains[(key % buckets * 0) as usize].push(caller, owned);",
     ),
     (
         "a refused growth loses its copies",
         "rcu_hash/src/copying.rt",
-        "        domain.discard(witness, owned);\n",
+        "        domain.discard(caller, owned);\n",
         "        let _lost = owned;\n",
     ),
     (
         "a tidying forgets the record of the directory",
         "rcu_hash/src/tidying.rt",
-        "        retire_record(rt, self.domain, witness, replaced, jobs)?;",
+        "        retire_record(rt, self.domain, caller, replaced, jobs)?;",
         "        let _forgotten = replaced.take();",
     ),
     (
         "a tidying leaves the notes",
         "rcu_hash/src/tidying.rt",
-        "        chain.set_note(witness, 0);\n",
+        "        chain.set_note(caller, 0);\n",
         "",
     ),
     (
         "a tidying does not wait",
         "rcu_hash/src/tidying.rt",
-        "        match domain.synchronize(rt, witness) {",
+        "        match domain.synchronize(rt, caller) {",
         "        let waited: Result<(), Refusal> = Ok(());\n        match waited {",
     ),
 ]
