@@ -1,0 +1,9 @@
+pub mod Verdict
+pub mod Roster
+pub mod Seen
+pub mod Sections
+pub mod Waits
+pub mod Holdings
+pub mod Checker
+pub mod Judge
+pub mod Objects
