@@ -30,7 +30,7 @@ pub enum Call {
     NewRegistry,
     /// `Registry::claim`.
     Claim,
-    /// `rcu_model::check_log`.
+    /// `rcu_judge::check_log`.
     CheckLog,
     /// `schedule::read_line`.
     ReadLine,

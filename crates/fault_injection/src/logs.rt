@@ -2,7 +2,8 @@
 
 use crate::ledger::{Call, Finding, Ledger};
 use crate::rows::{Worked, schedule_of};
-use rcu_model::{Event, Rule, Verdict, check_log};
+use rcu_judge::{Rule, Verdict, check_log};
+use rcu_model::Event;
 use schedule::{read_answers, read_line, read_schedule};
 use std::alloc::{AllocError, Global};
 use world::Flavour;

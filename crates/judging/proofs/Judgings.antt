@@ -2,11 +2,11 @@
 use Rattle.std.proofs.Common.{◌≡◌, ℕ, List, [], ◌++◌, length, Result, Ok, Err, sym, ap, subst, ◌∙◌}
 use Rattle.std.proofs.lemmas.List.{append-nil}
 use Rattle.rcu_model.specs.declared.event.Event.{Event}
-use Rattle.rcu_model.specs.declared.verdict.Verdict.{Verdict}
-use Rattle.rcu_model.specs.declared.verdict.Verdict.TheVariants.{Yes, No}
+use Rattle.rcu_judge.specs.declared.verdict.Verdict.{Verdict}
+use Rattle.rcu_judge.specs.declared.verdict.Verdict.TheVariants.{Yes, No}
 use Rattle.rcu_model.specs.Machine.{IsRun}
-use Rattle.rcu_model.specs.Judge.{HasTaken}
-use Rattle.rcu_model.specs.Verdict.{Judges}
+use Rattle.rcu_judge.specs.Judge.{HasTaken}
+use Rattle.rcu_judge.specs.Verdict.{Judges}
 use Rattle.schedule_text.specs.declared.fault.AnswersFault.{AnswersFault}
 use Rattle.schedule_text.specs.declared.fault.AnswersFault.TheVariants.{BadText, Memory}
 use Rattle.schedule_text.specs.declared.fault.ReplayFault.{ReplayFault}

@@ -1,8 +1,8 @@
 -- What a judge has found of the text that it was fed.
 use Rattle.std.specs.Prelude.{◌≡◌, ℕ, List, length, Bool, true, false, Result, Ok, Err}
 use Rattle.rcu_model.specs.declared.event.Event.{Event}
-use Rattle.rcu_model.specs.declared.verdict.Verdict.{Verdict}
-use Rattle.rcu_model.specs.declared.verdict.Verdict.TheVariants as verdicts
+use Rattle.rcu_judge.specs.declared.verdict.Verdict.{Verdict}
+use Rattle.rcu_judge.specs.declared.verdict.Verdict.TheVariants as verdicts
 use Rattle.rcu_model.specs.Machine.{IsRun}
 use Rattle.schedule_text.specs.declared.fault.ReplayFault.{ReplayFault}
 use Rattle.schedule_text.specs.declared.fault.ReplayFault.TheVariants as faults

@@ -1,11 +1,11 @@
 -- Lines of answers that come in pieces, judged as they come.
 use Rattle.std.specs.Prelude.{◌≡◌, ℕ, List, [], length, Result, Ok, Err, Bool, true, false, if◌then◌else◌}
 use Rattle.rcu_model.specs.declared.event.Event.{Event}
-use Rattle.rcu_model.specs.declared.verdict.Verdict.{Verdict}
-use Rattle.rcu_model.specs.declared.verdict.Verdict.TheVariants.{Yes, No}
+use Rattle.rcu_judge.specs.declared.verdict.Verdict.{Verdict}
+use Rattle.rcu_judge.specs.declared.verdict.Verdict.TheVariants.{Yes, No}
 use Rattle.rcu_model.specs.Machine.{IsRun}
-use Rattle.rcu_model.specs.Judge.{HasTaken}
-use Rattle.rcu_model.specs.Verdict.{Judges}
+use Rattle.rcu_judge.specs.Judge.{HasTaken}
+use Rattle.rcu_judge.specs.Verdict.{Judges}
 use Rattle.schedule_text.specs.declared.fault.AnswersFault.{AnswersFault}
 use Rattle.schedule_text.specs.declared.fault.AnswersFault.TheVariants as answers_faults
 use Rattle.schedule_text.specs.declared.fault.ReplayFault.{ReplayFault}

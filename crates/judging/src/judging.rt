@@ -3,11 +3,12 @@
 ghost use Rattle.std.specs.Prelude.{◌≡◌, ◌++◌, ℕ, List, length, OnOk, IfErr};
 ghost use Rattle.rcu_model.specs.declared.event.Event.{Event};
 ghost use Rattle.rcu_model.specs.Machine.{IsRun};
-ghost use Rattle.rcu_model.specs.Judge.{HasTaken};
+ghost use Rattle.rcu_judge.specs.Judge.{HasTaken};
 ghost use Rattle.schedule_text.specs.declared.fault.ReplayFault.TheVariants.{Memory};
 ghost use Rattle.judging.specs.Judging.{HasBegun, HasJudged, JudgesOn, JudgesAlong, Ends, is_bad_text, replay_fault, so_far};
 
-use rcu_model::{Event, Judge, Verdict};
+use rcu_judge::{Judge, Verdict};
+use rcu_model::Event;
 use schedule_text::{AnswerReader, AnswersFault, ReplayFault};
 use std::alloc::Global;
 

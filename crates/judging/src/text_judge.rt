@@ -5,7 +5,7 @@ ghost use Rattle.judging.specs.declared.text_judge.Finding.TheVariants.{Yes, Mem
 ghost use Rattle.judging.specs.Found.{IsFound, IsFoundAtEnd, WasFed, finding_of, found_along, is_final};
 
 use crate::judging::Judging;
-use rcu_model::{Rule, Verdict};
+use rcu_judge::{Rule, Verdict};
 use schedule_text::ReplayFault;
 use std::alloc::Global;
 

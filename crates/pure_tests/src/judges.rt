@@ -1,7 +1,7 @@
 //! Texts of answers, judged as their pieces come.
 
 use judging::{Finding, TextJudge};
-use rcu_model::Rule;
+use rcu_judge::Rule;
 
 /// A text, what is found of it so far, and what is found where it ends.
 type Row<'a> = (&'a [u8], Finding, Finding);

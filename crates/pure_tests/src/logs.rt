@@ -1,6 +1,7 @@
 //! Logs with their verdicts, each judged by hand from the rules.
 
-use rcu_model::{Event, ObjectId, Rule, SectionId, Verdict, check_log};
+use rcu_judge::{Rule, Verdict, check_log};
+use rcu_model::{Event, ObjectId, SectionId};
 use std::alloc::Global;
 use std::process::Abort;
 

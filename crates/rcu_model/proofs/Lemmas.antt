@@ -1,6 +1,6 @@
 -- The lemmas of this crate that crates above it cite.
 pub use Rattle.rcu_model.proofs.Members.{In, Tells, object_tells, section_tells, in_sections, has_section_in, in_objects, has_object_in, in_numbers, has_number_in, in_append, in_left, in_last, in_more, empty_from}
-pub use Rattle.rcu_model.proofs.SetLemmas.{filter_has, without_object_has, has_without_object, without_section_has, has_without_section, replaced_has, has_replaced, at_number_same, at_number_other, at_object_same, at_object_other, at_section_same, at_section_other, next_of_has, Once, Once-filter, Once-replaced}
+pub use Rattle.rcu_model.proofs.SetLemmas.{filter_has, has_filter, without_object_has, has_without_object, without_section_has, has_without_section, replaced_has, has_replaced, at_number_same, at_number_other, at_object_same, at_object_other, at_section_same, at_section_other, next_of_has, Once, Once-filter, Once-replaced}
 pub use Rattle.rcu_model.proofs.Follows.{IsPlace, follows, some_is, none_some, decide, decide_place, first_has, follows_has, one_before, Spliced, push_splices, cut_splices, replace_splices, ChainKept, Written, chain_framed, chain_spliced}
 pub use Rattle.rcu_model.proofs.Runs.{allowed_append, after_append, allowed_prop, run_prop}
 pub use Rattle.rcu_model.proofs.Headline.{contains_in, in_contains, decide_section, allowed_split, run_parts, at_event, open_left, opened_left, retired_step, runs_once, uses_none}

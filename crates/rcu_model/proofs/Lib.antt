@@ -12,19 +12,6 @@ pub mod Growing
 pub mod Fitting
 pub mod Awaiting
 pub mod Endings
-pub mod Rosters
-pub mod Places
-pub mod SectionLemmas
-pub mod WaitLemmas
-pub mod HoldingLemmas
-pub mod Steps
-pub mod Refusals
-pub mod Judging
-pub mod ObjectsTables
-pub mod ObjectsLinking
-pub mod ObjectsStores
-pub mod ObjectsStages
 pub mod RunOrder
-pub mod ObjectsKept
 mod Sizes
 pub mod Lemmas

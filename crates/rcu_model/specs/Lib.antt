@@ -9,12 +9,3 @@ pub mod Protection
 pub mod Backwards
 pub mod Fitting
 pub mod RunOrder
-pub mod Verdict
-pub mod Roster
-pub mod Seen
-pub mod Sections
-pub mod Waits
-pub mod Holdings
-pub mod Checker
-pub mod Judge
-pub mod Objects

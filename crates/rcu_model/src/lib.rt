@@ -1,24 +1,12 @@
 #![tactic(auto)]
-//! The events of the library, the abstract machine that they go by, its checker, and the refusals of every call.
+//! The events of the library, the abstract machine that they go by, its laws, and the refusals of every call.
 
-mod checker;
 mod event;
-mod holdings;
-mod judge;
 mod laws;
-mod object;
-mod objects;
 mod printing;
 mod refusal;
-mod roster;
-mod sections;
-mod seen;
-mod states;
-mod verdict;
-mod waits;
 
 pub use event::{Event, ObjectId, SectionId};
-pub use judge::{Judge, check_log};
 pub use laws::{
     callbacks_are_queued_once_before_they_run, callbacks_run_once_after_their_sections,
     every_run_counts_its_state, every_run_is_safe, first_in_first_out_runs_in_order,
@@ -26,4 +14,3 @@ pub use laws::{
     waits_end_once_after_what_they_await, what_was_linked_is_not_reclaimed,
 };
 pub use refusal::Refusal;
-pub use verdict::{JudgeFault, LogFault, Rule, Verdict};

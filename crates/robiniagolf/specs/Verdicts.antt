@@ -1,7 +1,7 @@
 -- What a handle keeps, and what C hears of it.
 use Rattle.std.specs.Prelude.{◌≡◌, ℕ, List, true, Option, Some, None}
-use Rattle.rcu_model.specs.declared.verdict.Rule.{Rule}
-use Rattle.rcu_model.specs.declared.verdict.Rule.TheVariants.{Section, Reading, Publishing, Retirement, Reclaiming, Asking}
+use Rattle.rcu_judge.specs.declared.verdict.Rule.{Rule}
+use Rattle.rcu_judge.specs.declared.verdict.Rule.TheVariants.{Section, Reading, Publishing, Retirement, Reclaiming, Asking}
 use Rattle.judging.specs.declared.text_judge.Finding.{Finding}
 use Rattle.judging.specs.declared.text_judge.Finding.TheVariants.{Yes, No, BadText, Memory}
 use Rattle.judging.specs.declared.text_judge.TextJudge.{TextJudge}

@@ -4,7 +4,7 @@ ghost use Rattle.std.specs.Prelude.{◌≡◌};
 ghost use Rattle.robiniagolf.specs.Verdicts.{answer_of, no_judge, number_of, verdict_of};
 
 use judging::Finding;
-use rcu_model::Rule;
+use rcu_judge::Rule;
 
 /// `struct robiniagolf_verdict`.
 #[repr(C)]

@@ -20,8 +20,8 @@ use Rattle.torture_commands.specs.Drawing.{Drawn, drawn_as, seeded, draw_line, w
 use Rattle.torture_commands.specs.Walking.{walk_line, IsDrawn, IsUnderWay, IsPrinting, IsWalked, IsWalkLine, Walks, Schedules}
 use Rattle.std.specs.Prelude.{◌↔◌}
 use Rattle.rcu_model.specs.declared.event.Event.{Event}
-use Rattle.rcu_model.specs.declared.verdict.Verdict.{Verdict}
-use Rattle.rcu_model.specs.declared.verdict.Verdict.TheVariants.{Yes}
+use Rattle.rcu_judge.specs.declared.verdict.Verdict.{Verdict}
+use Rattle.rcu_judge.specs.declared.verdict.Verdict.TheVariants.{Yes}
 use Rattle.rcu_model.specs.Machine.{IsRun}
 use Rattle.rcu_model.specs.declared.refusal.Refusal.{Refusal}
 use Rattle.world_state.specs.declared.config.Config.{Config}

@@ -3,11 +3,11 @@ use Rattle.std.proofs.Common.{◌≡◌, ℕ, ◌≤◌, inl, inr, List, [], ◌
 use Rattle.std.specs.Io.KnownBytes.{Appends, Consumes, IsAtEnd}
 use Rattle.std.proofs.lemmas.List.{append-nil}
 use Rattle.rcu_model.specs.declared.event.Event.{Event}
-use Rattle.rcu_model.specs.declared.verdict.Verdict.{Verdict}
-use Rattle.rcu_model.specs.declared.verdict.Verdict.TheVariants.{Yes, No}
-use Rattle.rcu_model.specs.declared.verdict.Rule.{Rule}
+use Rattle.rcu_judge.specs.declared.verdict.Verdict.{Verdict}
+use Rattle.rcu_judge.specs.declared.verdict.Verdict.TheVariants.{Yes, No}
+use Rattle.rcu_judge.specs.declared.verdict.Rule.{Rule}
 use Rattle.rcu_model.specs.Machine.{IsRun}
-use Rattle.rcu_model.specs.Verdict.{IsFirstBreak}
+use Rattle.rcu_judge.specs.Verdict.{IsFirstBreak}
 use Rattle.rcu_model.proofs.Lemmas.{at_event}
 use Rattle.schedule_text.specs.declared.fault.ReplayFault.{ReplayFault}
 use Rattle.schedule_text.specs.declared.fault.ReplayFault.TheVariants.{BadText, BadConfig, Read, Write, Memory}

@@ -4,9 +4,9 @@ use Rattle.std.specs.Fmt.{decimal}
 use Rattle.std.specs.Io.KnownBytes.{Appends}
 use Rattle.rand_pcg.specs.Lcg.{Lcg}
 use Rattle.rcu_model.specs.declared.event.Event.{Event}
-use Rattle.rcu_model.specs.declared.verdict.Verdict.{Verdict}
-use Rattle.rcu_model.specs.declared.verdict.Verdict.TheVariants.{Yes, No}
-use Rattle.rcu_model.specs.Verdict.{name_of}
+use Rattle.rcu_judge.specs.declared.verdict.Verdict.{Verdict}
+use Rattle.rcu_judge.specs.declared.verdict.Verdict.TheVariants.{Yes, No}
+use Rattle.rcu_judge.specs.Verdict.{name_of}
 use Rattle.world_state.specs.declared.line.Line.{Line}
 use Rattle.world.specs.Steps.{WorldView, fresh_world, log_of, world_after_lines}
 use Rattle.schedule_text.specs.declared.counts.Counts.{Counts}

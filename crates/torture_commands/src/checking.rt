@@ -1,15 +1,16 @@
 //! Logs of answers, judged.
 
 ghost use Rattle.std.specs.Prelude.{◌≡◌, ◌↔◌, ℕ, List, Some, IfOk, IfErr};
-ghost use Rattle.rcu_model.specs.declared.verdict.Verdict.TheVariants.{Yes};
+ghost use Rattle.rcu_judge.specs.declared.verdict.Verdict.TheVariants.{Yes};
 ghost use Rattle.rcu_model.specs.Machine.{IsRun};
-ghost use Rattle.rcu_model.specs.Verdict.{Judges};
+ghost use Rattle.rcu_judge.specs.Verdict.{Judges};
 ghost use Rattle.schedule_text.specs.declared.fault.ReplayFault.TheVariants.{Memory};
 ghost use Rattle.judging.specs.Judging.{HasJudged};
 ghost use Rattle.torture_commands.specs.Checking.{verdict_line, Prints, Closes, Checks, ChecksAlong};
 
 use judging::Judging;
-use rcu_model::{Event, LogFault, Verdict, check_log};
+use rcu_judge::{LogFault, Verdict, check_log};
+use rcu_model::Event;
 use schedule::{PIECE, ReplayFault, write_whole};
 use std::alloc::Global;
 use std::fmt;

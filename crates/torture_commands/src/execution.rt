@@ -7,7 +7,7 @@ ghost use Rattle.torture_commands.specs.Ending.{status_of_fault, status_of_verdi
 use crate::checking::{check, follow};
 use crate::command::Command;
 use crate::walking::{print_schedule, walk};
-use rcu_model::Verdict;
+use rcu_judge::Verdict;
 use schedule::{ReplayFault, replay};
 use std::alloc::Global;
 use std::io::{Read, Write};

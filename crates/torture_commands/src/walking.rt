@@ -12,7 +12,8 @@ ghost use Rattle.torture_commands.specs.Walking.{counts_text, verdict_text, walk
 use crate::checking::judge;
 use crate::command::Walk;
 use crate::drawing::Draw;
-use rcu_model::{Refusal, Verdict};
+use rcu_judge::Verdict;
+use rcu_model::Refusal;
 use schedule::{Counts, PIECE, ReplayFault, print_header, print_line, write_whole};
 use std::alloc::Global;
 use std::fmt;

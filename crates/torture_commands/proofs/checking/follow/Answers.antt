@@ -2,7 +2,7 @@ use Rattle.std.proofs.Common.{◌<◌, ◌≤◌, ℕ, List, [], ◌++◌, Optio
 use Rattle.std.specs.Io.KnownBytes.{Consumes}
 use Rattle.std.proofs.lemmas.List.{length-take}
 use Rattle.std.proofs.lemmas.Result.{err_from_is_err_and}
-use Rattle.rcu_model.specs.declared.verdict.Verdict.{Verdict}
+use Rattle.rcu_judge.specs.declared.verdict.Verdict.{Verdict}
 use Rattle.rcu_model.specs.Machine.{IsRun}
 use Rattle.schedule_text.specs.declared.fault.ReplayFault.TheVariants.{Read}
 use Rattle.schedule.proofs.Lemmas.{consumes_more, consumes_kept}

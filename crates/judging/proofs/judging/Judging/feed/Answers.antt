@@ -1,6 +1,6 @@
 use Rattle.std.proofs.Common.{List, ◌++◌, Err, sym, subst}
 use Rattle.rcu_model.specs.declared.event.Event.{Event}
-use Rattle.rcu_model.specs.Judge.{HasTaken}
+use Rattle.rcu_judge.specs.Judge.{HasTaken}
 use Rattle.schedule_text.specs.declared.fault.ReplayFault.{ReplayFault}
 use Rattle.judging.specs.declared.judging.Judging.{Judging}
 use Rattle.judging.specs.Judging.{JudgesOn}

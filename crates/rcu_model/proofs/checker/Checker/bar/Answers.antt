@@ -1,9 +1,0 @@
-use Rattle.rcu_model.proofs.Refusals.{on_err, keeps_barriers}
-use Rattle.rcu_model.proofs.Steps.{bar_goes}
-use Rattle.rcu_model.proofs.checker.Checker.bar.Goals as goal
-
-pub returns-clause-answered : goal.returns-clause-answered
-returns-clause-answered c = λ now r f. bar_goes c.args.self.now c.begin.new.self c.args.barrier c.moment.result c.in_ok-fresh.fresh c.moment.ensures c.in_ok-fresh.ensures.began now f
-
-pub returns-in_err-fresh-clause-refused : goal.returns-in_err-fresh-clause-refused
-returns-in_err-fresh-clause-refused c = on_err c.from_residual.result (keeps_barriers c.args.self.now c.begin.new.self c.in_err-fresh.ensures.refused)

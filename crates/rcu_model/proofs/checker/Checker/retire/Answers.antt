@@ -1,5 +1,0 @@
-use Rattle.rcu_model.proofs.Steps.{retire_goes}
-use Rattle.rcu_model.proofs.checker.Checker.retire.Goals as goal
-
-pub returns : goal.returns
-returns c = λ now r f. retire_goes c.args.self.now c.retire.new.self c.args.object c.moment.result c.retire.result c.moment.ensures c.retire.ensures now f
