@@ -1,5 +1,5 @@
 -- Which domains there are.
-use Rattle.std.specs.Prelude.{ℕ, Bool, ◌&&◌, nat_le, if◌then◌else◌}
+use Rattle.std.specs.Prelude.{◌≡◌, ℕ, Bool, true, ◌&&◌, nat_le, if◌then◌else◌}
 use Rattle.rcu_model.specs.declared.refusal.Refusal.{Refusal}
 use Rattle.rcu_model.specs.declared.refusal.Refusal.TheVariants.{BadConfig, Memory}
 use Rattle.domain.specs.declared.config.LiveConfig.{LiveConfig}
@@ -13,3 +13,7 @@ is_supported c = within c.slots 256 && (within c.queues 8 && (within c.chains 40
 
 abbrev pub new_refusal : LiveConfig → Refusal
 new_refusal c = if is_supported c then Memory else BadConfig
+
+-- a table has the sizes of a config that is supported
+abbrev pub IsOf : LiveConfig → ℕ → ℕ → ℕ → ℕ → Type 0
+IsOf c slots queues chains pool = (is_supported c ≡ true) × (slots ≡ c.slots) × (queues ≡ c.queues) × (chains ≡ c.chains) × (pool ≡ c.pool)

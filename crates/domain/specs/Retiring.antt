@@ -1,13 +1,20 @@
 -- What a call tells that retires what it takes out of a chain.
-use Rattle.std.specs.Prelude.{◌≡◌, ◌+◌, Bool, ℕ, List, Some, slice_get}
+use Rattle.std.specs.Prelude.{◌≡◌, ◌⊎◌, ◌+◌, ◌%◌, ◌<◌, ◌≤◌, Bool, ℕ, List, [], length, Some, slice_get}
+use Rattle.rcu_model.specs.Sets.{replaced, without_object}
 use Rattle.rcu_model.specs.declared.event.ObjectId.{ObjectId}
+use Rattle.rcu_model.specs.declared.refusal.Refusal.{Refusal}
+use Rattle.rcu_model.specs.declared.refusal.Refusal.TheVariants.{NoPlace}
 use Rattle.live_log.specs.declared.event.LiveEvent.{LiveEvent}
 use Rattle.live_log.specs.Log.{Log, Begins}
+use Rattle.live_words.specs.live_rule.declared.view.Sizes.{Sizes}
 use Rattle.live_words.specs.live_rule.declared.view.View.{View}
 use Rattle.live_words.specs.live_rule.Seats.{lent_chains}
-use Rattle.live_words.specs.live_table.Rights.{own_in}
-use Rattle.live_items.specs.Retiring.{Queues}
-use Rattle.live_write.specs.Chains.{Publishes, list_in}
+use Rattle.live_words.specs.live_table.Rights.{object_in, own_in}
+use Rattle.live_words.specs.live_chains.Chains.{cut_of}
+use Rattle.live_items.specs.Retiring.{IsAfterAll, Queues}
+use Rattle.live_read.specs.declared.caller.Caller.{Ghosts}
+use Rattle.live_reclaim.specs.Refusing.{RefusesRetirement}
+use Rattle.live_write.specs.Chains.{MayPublish, Publishes, list_in, replace_by}
 
 -- The object at an index of a chain left it by an event of its own, which left this list; and then it was retired, and
 -- queued with the ticket. The views are the writer's before and after.
@@ -21,3 +28,30 @@ pub record Retires (qsbr : Bool) (allows : Log → LiveEvent → Type 0) (old ne
   pub given : ℕ
   pub turn : ticket ≡ given + 1
   pub queued : Queues qsbr allows (Begins new.seen) object queue given log
+
+module _ {W S : Type 0} (w : Ghosts W S) (qsbr : Bool) (allows : Log → LiveEvent → Type 0) (key : Sizes) (old new : W) where
+  -- a cut object was retired after all that its caller and its seat had seen, and queued with the ticket
+  abbrev pub RetiresCut : View → ℕ → ℕ → Type 0
+  RetiresCut unlinked chain ticket = (given : ℕ) × (ticket ≡ given + 1) × Queues qsbr allows (IsAfterAll unlinked.seen (w.seen old) (w.heard old)) (object_in unlinked.object) (chain % key.queues) given (w.heard new)
+
+  module _ (writer : View) (chain index : ℕ) where
+    -- the object at the index was cut, retired and queued with the ticket
+    abbrev pub CutsAndRetires : View → ℕ → Type 0
+    CutsAndRetires after ticket = Retires qsbr allows writer after (w.seen old) (w.heard old) [] index (λ o. cut_of o writer) (λ o. without_object o (list_in writer)) (chain % key.queues) ticket (w.heard new)
+
+    -- it was replaced by the record that another seat owns
+    abbrev pub ReplacesAndRetires : View → View → ℕ → Type 0
+    ReplacesAndRetires owned after ticket = Retires qsbr allows writer after (w.seen old) (w.heard old) owned.seen index (λ o. replace_by o writer owned) (λ o. replaced o (object_in owned.object) (list_in writer)) (chain % key.queues) ticket (w.heard new)
+
+    -- there is no object at the index, and nothing was done, or its retirement is refused
+    abbrev pub RefusesAt : Refusal → Type 0
+    RefusesAt e = ((e ≡ NoPlace) × (length (list_in writer) ≤ index) × (new ≡ old)) ⊎ ((index < length (list_in writer)) × RefusesRetirement w qsbr allows key (chain % key.queues) old new e)
+
+module _ {W S : Type 0} (w : Ghosts W S) (qsbr : Bool) (allows : Log → LiveEvent → Type 0) (old : W) (writer : View) (index : ℕ) where
+  -- the rule of chains lets the writer cut the object at the index
+  abbrev pub MayCut : Type 0
+  MayCut = (o : ObjectId) → slice_get (list_in writer) index ≡ Some o → MayPublish qsbr allows writer (w.seen old) (w.heard old) [] (cut_of o writer)
+
+  -- and replace it by the record that another seat owns
+  abbrev pub MayReplace : View → Type 0
+  MayReplace owned = (o : ObjectId) → slice_get (list_in writer) index ≡ Some o → MayPublish qsbr allows writer (w.seen old) (w.heard old) owned.seen (replace_by o writer owned)

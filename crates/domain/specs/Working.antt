@@ -10,6 +10,7 @@ use Rattle.live_words.specs.live_rule.declared.view.Sizes.{Sizes}
 use Rattle.live_words.specs.live_rule.declared.view.View.{View}
 use Rattle.live_words.specs.live_rule.Places.{finished_at, work_at}
 use Rattle.live_words.specs.live_table.Steps.{Keeps}
+use Rattle.live_read.specs.declared.caller.Caller.{Ghosts}
 use Rattle.live_items.specs.Items.{InOrder, JobValue}
 use Rattle.live_items.specs.Running.{KeepsFinds}
 use Rattle.live_reclaim.specs.Batches.{Lists}
@@ -52,9 +53,9 @@ HasMore q n log = n < length (line_of log q)
 
 module _ {D : Type 0} (answers : D → Ripe → ℕ → Type 0) (qsbr : Bool) (allows : Log → LiveEvent → Type 0) (key : Sizes) (q : ℕ) where
   -- A worker began after all that had been seen and heard of, when the first so many were finished, and ran those that
-  -- came next, each in its turn: a deleter was called with each, and answered the code of its entry. Where it was closed, no more were queued; where it was served, no more had been when it
-  -- began; and where memory was refused, more were. What is left comes next after them, and nothing is but where the
-  -- numbers were used up.
+  -- came next, each in its turn: a deleter was called with each, and answered the code of its entry. Where it was closed,
+  -- no more were queued; where it was served, no more had been when it began; and where memory was refused, more were.
+  -- What is left comes next after them, and nothing is but where the numbers were used up.
   pub record HasWorked (seen heard : Log) (old new : Looks) (old_loads new_loads : List Log) (entries : List Finished) (items : List (Item (JobValue D))) (stop : Stop) (log : Log) : Type 0 where
     pub start : Log
     pub first : ℕ
@@ -76,3 +77,8 @@ module _ {D : Type 0} (answers : D → Ripe → ℕ → Type 0) (qsbr : Bool) (a
     pub memory : stop ≡ Memory → HasMore q last log
     pub exhausted : stop ≡ Exhausted → FoundUsedUp start log old_loads new_loads
     pub looks : new ≡ (work_at key q, left_by stop) ∷ (looks_since ++ ((finished_at key q, first) ∷ (work_at key q, 0) ∷ old))
+
+module _ {W S D : Type 0} (w : Ghosts W S) (answers : D → Ripe → ℕ → Type 0) (qsbr : Bool) (allows : Log → LiveEvent → Type 0) (key : Sizes) (q : ℕ) (old new : W) where
+  -- so a worker did, which this caller had made
+  abbrev pub HasWorkedFor : List Finished → List (Item (JobValue D)) → Stop → Type 0
+  HasWorkedFor entries items stop = HasWorked answers qsbr allows key q (w.seen old) (w.heard old) (w.looks old) (w.looks new) (w.loads old) (w.loads new) entries items stop (w.heard new)

@@ -1,10 +1,9 @@
 //! What a program calls to wait until all that was queued has run.
 
-ghost use Rattle.std.specs.Prelude.{◌≡◌, ◌++◌, IsTrue, List, MatchBool, ℕ};
-ghost use Rattle.live_log.specs.Log.{Begins};
-ghost use Rattle.live_barrier.specs.Barrier.{AreNoted, AreReached, HaveAllRun, HaveRunAsCounted, WasLess, WereGiven};
+ghost use Rattle.std.specs.Prelude.{◌≡◌, ◌++◌, IsTrue, List, ℕ};
+ghost use Rattle.live_barrier.specs.Barrier.{AreNoted, HaveRunAsCounted, WereGiven};
 ghost use Rattle.live_read.specs.Hearing.{IsAfter, Stays};
-ghost use Rattle.domain.specs.Barriers.{Barred};
+ghost use Rattle.domain.specs.Barriers.{Barred, HearsOfRuns, IsMarked, IsReachedBy};
 
 use crate::domain::Domain;
 use crossbeam_utils::Backoff;
@@ -20,7 +19,7 @@ impl<P: GracePlan + Drop, K: ChainRule, B: Site, D: Deleter> Domain<P, K, B, D> 
     /// loads, which `looks` tells. The mark keeps a log that begins with all that the caller had seen and heard of. It
     /// never waits and takes no memory.
     pub fn barrier_start<W: Caller<B>>(&self, caller: &mut W) -> BarrierMark
-        ensures asked { Begins (W.seen caller.old) result.asked.value.me.0.seen × Begins (W.heard caller.old) result.asked.value.me.0.seen × Begins result.asked.value.me.0.seen (W.heard caller.new) × (result.asked.value.me.0.sizes ≡ B.sizes) }
+        ensures asked { IsMarked W.Caller B.sizes caller.old caller.new result.asked.value.me.0 }
         ensures given { WereGiven B.sizes result.counts (W.heard caller.new) }
         ensures noted { (since : List (ℕ × ℕ)) × (W.looks caller.new ≡ since ++ W.looks caller.old) × AreNoted B.sizes result.counts B.sizes.queues since }
         ensures heard { IsAfter P.QSBR K.allows (W.seen caller.old) (W.heard caller.old) (W.heard caller.new) }
@@ -39,9 +38,9 @@ impl<P: GracePlan + Drop, K: ChainRule, B: Site, D: Deleter> Domain<P, K, B, D> 
     /// queued in the mark's log has its Run, where the caller had seen that log or heard of it. It never waits and
     /// takes no memory.
     pub fn barrier_done<W: Caller<B>>(&self, caller: &mut W, mark: &BarrierMark) -> bool
-        ensures exact { (since : List (ℕ × ℕ)) × (W.looks caller.new ≡ since ++ W.looks caller.old) × MatchBool result (AreReached B.sizes mark.now.counts B.sizes.queues since) (WasLess B.sizes mark.now.counts since) }
+        ensures exact { IsReachedBy W.Caller B.sizes caller.old caller.new mark.now.counts result }
         ensures run { IsTrue result → HaveRunAsCounted B.sizes mark.now.counts (W.heard caller.new) }
-        ensures passed { IsTrue result → mark.now.asked.value.me.0.sizes ≡ B.sizes → Begins mark.now.asked.value.me.0.seen (W.heard caller.old) → HaveAllRun mark.now.asked.value.me.0.seen (W.heard caller.new) }
+        ensures passed { IsTrue result → HearsOfRuns W.Caller B.sizes caller.old caller.new mark.now.asked.value.me.0 }
         ensures heard { IsAfter P.QSBR K.allows (W.seen caller.old) (W.heard caller.old) (W.heard caller.new) }
         ensures same { Stays W.Caller caller.old caller.new × (W.loads caller.new ≡ W.loads caller.old) }
     {

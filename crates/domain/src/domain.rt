@@ -1,6 +1,6 @@
 //! What a program calls.
 
-ghost use Rattle.std.specs.Prelude.{◌≡◌, ◌≢◌, ◌<◌, ◌≤◌, ◌^◌, ◌↔◌, true, IfErr, IfOk, IsOk, IsTrue, vec_len};
+ghost use Rattle.std.specs.Prelude.{◌≡◌, ◌<◌, ◌≤◌, ◌^◌, ◌↔◌, true, IfErr, IfOk, IsOk, IsTrue, vec_len};
 ghost use Rattle.std.specs.Arc.{arc_value};
 ghost use Rattle.rcu_model.specs.declared.refusal.Refusal.TheVariants.{Exhausted, NoSlot};
 ghost use Rattle.poll_cookie.specs.Cookie.{cookie_for};
@@ -10,7 +10,7 @@ ghost use Rattle.live_read.specs.Hearing.{FindsNothing, IsAfter, IsAsBefore, Sta
 ghost use Rattle.live_read.specs.Holding.{log_of};
 ghost use Rattle.live_read.specs.Registering.{FindsAllClaimed, WasFree};
 ghost use Rattle.live_grace.specs.Answers.{EndedByThen};
-ghost use Rattle.domain.specs.Waiting.{LoadedOnce, Synchronized};
+ghost use Rattle.domain.specs.Waiting.{LoadedOnce, Synchronized, IsExhausted};
 
 use crate::grace_lock::GraceLock;
 use crate::queue::Queue;
@@ -97,7 +97,7 @@ impl<P: GracePlan + Drop, K: ChainRule, B: Site, D: Deleter> Domain<P, K, B, D> 
     /// Refused with `Exhausted` exactly where the sequence number that its ask loads is at or above 2^62.
     pub fn synchronize<W: Caller<B>, R: Wait>(&self, rt: &R, caller: &mut W) -> Result<(), Refusal>
         ensures ended { IfOk result (λ _. Synchronized P.QSBR K.allows (W.seen caller.old) (W.heard caller.old) (W.loads caller.old) (W.loads caller.new) (W.heard caller.new)) }
-        ensures refused { IfErr result (λ e. (e ≡ Exhausted) × LoadedOnce P.QSBR K.allows (W.seen caller.old) (W.heard caller.old) (W.loads caller.old) (W.loads caller.new) (W.heard caller.new) × (2 ^ 62 ≤ seq_of (W.heard caller.new))) }
+        ensures refused { IfErr result (λ e. IsExhausted W.Caller P.QSBR K.allows caller.old caller.new e) }
         ensures caller { FindsNothing W.Caller caller.old caller.new }
     {
         let mut seat = caller.tell(&self.table);

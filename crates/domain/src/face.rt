@@ -1,15 +1,12 @@
 //! The names of [saferecl.rcu], beside `Reader::lock`, `Reader::try_lock` and `Reader::unlock`: a reader takes the
 //! place of the calling thread.
 
-ghost use Rattle.std.specs.Prelude.{◌≡◌, ◌+◌, ◌%◌, ◌^◌, ◌≤◌, IfErr, IfOk, ℕ};
-ghost use Rattle.rcu_model.specs.declared.refusal.Refusal.TheVariants.{Exhausted};
-ghost use Rattle.live_log.specs.Log.{seq_of};
-ghost use Rattle.live_words.specs.live_table.Rights.{object_in};
-ghost use Rattle.live_items.specs.Retiring.{IsAfterAll, Queues};
+ghost use Rattle.std.specs.Prelude.{◌≡◌, ◌+◌, ◌%◌, IfErr, IfOk};
 ghost use Rattle.live_read.specs.Hearing.{FindsNothing, OnlyHears, Stays};
 ghost use Rattle.live_reclaim.specs.Refusing.{RefusesRetirement};
 ghost use Rattle.domain.specs.Barriers.{Barred};
-ghost use Rattle.domain.specs.Waiting.{LoadedOnce, Synchronized};
+ghost use Rattle.domain.specs.Waiting.{Synchronized, IsExhausted};
+ghost use Rattle.domain.specs.Retiring.{RetiresCut};
 
 use crate::domain::Domain;
 use callback_queue::Ticket;
@@ -31,7 +28,7 @@ impl<P: GracePlan + Drop, K: ChainRule, B: Site, D: Deleter> Domain<P, K, B, D> 
         caller: &mut W,
     ) -> Result<(), Refusal>
         ensures ended { IfOk result (λ _. Synchronized P.QSBR K.allows (W.seen caller.old) (W.heard caller.old) (W.loads caller.old) (W.loads caller.new) (W.heard caller.new)) }
-        ensures refused { IfErr result (λ e. (e ≡ Exhausted) × LoadedOnce P.QSBR K.allows (W.seen caller.old) (W.heard caller.old) (W.loads caller.old) (W.loads caller.new) (W.heard caller.new) × (2 ^ 62 ≤ seq_of (W.heard caller.new))) }
+        ensures refused { IfErr result (λ e. IsExhausted W.Caller P.QSBR K.allows caller.old caller.new e) }
         ensures caller { FindsNothing W.Caller caller.old caller.new }
     {
         self.synchronize(rt, caller)
@@ -55,7 +52,7 @@ impl<P: GracePlan + Drop, K: ChainRule, B: Site, D: Deleter> Domain<P, K, B, D> 
         unlinked: Unlinked<B>,
         callback: D,
     ) -> Result<Ticket, (Refusal, Unlinked<B>, D)>
-        ensures queued { IfOk result (λ t. (given : ℕ) × (t.0 ≡ given + 1) × Queues P.QSBR K.allows (IsAfterAll unlinked.seat.me.0.seen (W.seen caller.old) (W.heard caller.old)) (object_in unlinked.seat.me.0.object) (unlinked.chain % B.sizes.queues) given (W.heard caller.new)) }
+        ensures queued { IfOk result (λ t. RetiresCut W.Caller P.QSBR K.allows B.sizes caller.old caller.new unlinked.seat.me.0 unlinked.chain t.0) }
         ensures same { IfOk result (λ _. OnlyHears W.Caller caller.old caller.new) }
         ensures refused { IfErr result (λ e. RefusesRetirement W.Caller P.QSBR K.allows B.sizes (unlinked.chain % B.sizes.queues) caller.old caller.new e.0) }
         ensures back { IfErr result (λ e. (e.1 ≡ unlinked) × (e.2 ≡ callback)) }

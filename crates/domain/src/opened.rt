@@ -1,9 +1,9 @@
 //! How a domain is made.
 
-ghost use Rattle.std.specs.Prelude.{◌≡◌, ◌<◌, ◌≤◌, [], true, IfErr, IfOk};
+ghost use Rattle.std.specs.Prelude.{◌≡◌, ◌<◌, ◌≤◌, [], IfErr, IfOk};
 ghost use Rattle.rcu_model.specs.declared.refusal.Refusal.TheVariants.{Memory};
 ghost use Rattle.live_words.specs.live_rule.Views.{first_view};
-ghost use Rattle.domain.specs.Config.{is_supported, new_refusal};
+ghost use Rattle.domain.specs.Config.{is_supported, new_refusal, IsOf};
 
 use crate::config::LiveConfig;
 use crate::domain::Domain;
@@ -33,7 +33,7 @@ impl<P: GracePlan + Drop, K: ChainRule> Opened<P, K> {
     /// Refused with `BadConfig` exactly where a number is out of its limits, else with `Memory` where memory is
     /// refused. It never waits.
     pub fn new(alloc: Global, config: LiveConfig) -> Result<Opened<P, K>, Refusal>
-        ensures ok { IfOk result (λ o. (is_supported config ≡ true) × (o.table.slots ≡ config.slots) × (o.table.queues ≡ config.queues) × (o.table.chains ≡ config.chains) × (o.table.pool ≡ config.pool)) }
+        ensures ok { IfOk result (λ o. IsOf config o.table.slots o.table.queues o.table.chains o.table.pool) }
         ensures err { IfErr result (λ e. e ≡ new_refusal config) }
     {
         if !config.is_supported() {

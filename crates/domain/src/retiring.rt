@@ -1,17 +1,11 @@
 //! What a program calls to retire what was cut.
 
-ghost use Rattle.std.specs.Prelude.{◌≡◌, ◌⊎◌, ◌+◌, ◌%◌, ◌<◌, ◌≤◌, [], length, slice_get, Some, IfErr, IfOk, ℕ};
-ghost use Rattle.rcu_model.specs.Sets.{replaced, without_object};
-ghost use Rattle.rcu_model.specs.declared.event.ObjectId.{ObjectId};
+ghost use Rattle.std.specs.Prelude.{◌≡◌, ◌+◌, ◌%◌, ◌<◌, IfErr, IfOk, ℕ};
 ghost use Rattle.rcu_model.specs.declared.refusal.Refusal.TheVariants.{NoPlace};
 ghost use Rattle.live_log.specs.Log.{closed_of};
-ghost use Rattle.live_words.specs.live_table.Rights.{object_in};
-ghost use Rattle.live_words.specs.live_chains.Chains.{cut_of};
-ghost use Rattle.live_items.specs.Retiring.{IsAfterAll, Queues};
 ghost use Rattle.live_read.specs.Hearing.{IsAfter, OnlyHears, OnlyMakesLast};
 ghost use Rattle.live_reclaim.specs.Refusing.{RefusesRetirement};
-ghost use Rattle.live_write.specs.Chains.{MayPublish, list_in, replace_by};
-ghost use Rattle.domain.specs.Retiring.{Retires};
+ghost use Rattle.domain.specs.Retiring.{CutsAndRetires, MayCut, MayReplace, RefusesAt, ReplacesAndRetires, RetiresCut};
 
 use crate::domain::Domain;
 use crate::writing::Chain;
@@ -46,7 +40,7 @@ impl<P: GracePlan + Drop, K: ChainRule, B: Site, D: Deleter> Domain<P, K, B, D> 
         unlinked: Unlinked<B>,
         callback: D,
     ) -> Result<Ticket, (Refusal, Unlinked<B>, D)>
-        ensures queued { IfOk result (λ t. (given : ℕ) × (t.0 ≡ given + 1) × Queues P.QSBR K.allows (IsAfterAll unlinked.seat.me.0.seen (W.seen caller.old) (W.heard caller.old)) (object_in unlinked.seat.me.0.object) (unlinked.chain % B.sizes.queues) given (W.heard caller.new)) }
+        ensures queued { IfOk result (λ t. RetiresCut W.Caller P.QSBR K.allows B.sizes caller.old caller.new unlinked.seat.me.0 unlinked.chain t.0) }
         ensures same { IfOk result (λ _. OnlyHears W.Caller caller.old caller.new) }
         ensures refused { IfErr result (λ e. RefusesRetirement W.Caller P.QSBR K.allows B.sizes (unlinked.chain % B.sizes.queues) caller.old caller.new e.0) }
         ensures back { IfErr result (λ e. (e.1 ≡ unlinked) × (e.2 ≡ callback)) }
@@ -80,10 +74,10 @@ impl<P: GracePlan + Drop, K: ChainRule, B: Site, D: Deleter> Domain<P, K, B, D> 
         index: usize,
         callback: D,
     ) -> Result<Ticket, (Refusal, D)>
-        requires rule { (o : ObjectId) → slice_get (list_in chain.old.seat.me.0) index ≡ Some o → MayPublish P.QSBR K.allows chain.old.seat.me.0 (W.seen caller.old) (W.heard caller.old) [] (cut_of o chain.old.seat.me.0) }
-        ensures retired { IfOk result (λ t. Retires P.QSBR K.allows chain.old.seat.me.0 chain.new.seat.me.0 (W.seen caller.old) (W.heard caller.old) [] index (λ o. cut_of o chain.old.seat.me.0) (λ o. without_object o (list_in chain.old.seat.me.0)) (chain.old.number % B.sizes.queues) t.0 (W.heard caller.new)) }
+        requires rule { MayCut W.Caller P.QSBR K.allows caller.old chain.old.seat.me.0 index }
+        ensures retired { IfOk result (λ t. CutsAndRetires W.Caller P.QSBR K.allows B.sizes caller.old caller.new chain.old.seat.me.0 chain.old.number index chain.new.seat.me.0 t.0) }
         ensures same { IfOk result (λ _. OnlyMakesLast W.Caller caller.old caller.new chain.new.seat.me.0.seen × (chain.new.number ≡ chain.old.number) × (chain.new.home.now ≡ chain.old.home.now)) }
-        ensures refused { IfErr result (λ e. ((e.0 ≡ NoPlace) × (length (list_in chain.old.seat.me.0) ≤ index) × (caller.new ≡ caller.old)) ⊎ ((index < length (list_in chain.old.seat.me.0)) × RefusesRetirement W.Caller P.QSBR K.allows B.sizes (chain.old.number % B.sizes.queues) caller.old caller.new e.0)) }
+        ensures refused { IfErr result (λ e. RefusesAt W.Caller P.QSBR K.allows B.sizes caller.old caller.new chain.old.seat.me.0 chain.old.number index e.0) }
         ensures back { IfErr result (λ e. (e.1 ≡ callback) × (chain.new ≡ chain.old)) }
     {
         if index >= chain.len() {
@@ -123,10 +117,10 @@ impl<P: GracePlan + Drop, K: ChainRule, B: Site, D: Deleter> Domain<P, K, B, D> 
         owned: Owned<B>,
         callback: D,
     ) -> Result<Ticket, (Refusal, Owned<B>, D)>
-        requires rule { (o : ObjectId) → slice_get (list_in chain.old.seat.me.0) index ≡ Some o → MayPublish P.QSBR K.allows chain.old.seat.me.0 (W.seen caller.old) (W.heard caller.old) owned.seat.me.0.seen (replace_by o chain.old.seat.me.0 owned.seat.me.0) }
-        ensures retired { IfOk result (λ t. Retires P.QSBR K.allows chain.old.seat.me.0 chain.new.seat.me.0 (W.seen caller.old) (W.heard caller.old) owned.seat.me.0.seen index (λ o. replace_by o chain.old.seat.me.0 owned.seat.me.0) (λ o. replaced o (object_in owned.seat.me.0.object) (list_in chain.old.seat.me.0)) (chain.old.number % B.sizes.queues) t.0 (W.heard caller.new)) }
+        requires rule { MayReplace W.Caller P.QSBR K.allows caller.old chain.old.seat.me.0 index owned.seat.me.0 }
+        ensures retired { IfOk result (λ t. ReplacesAndRetires W.Caller P.QSBR K.allows B.sizes caller.old caller.new chain.old.seat.me.0 chain.old.number index owned.seat.me.0 chain.new.seat.me.0 t.0) }
         ensures same { IfOk result (λ _. OnlyMakesLast W.Caller caller.old caller.new chain.new.seat.me.0.seen × (chain.new.number ≡ chain.old.number) × (chain.new.home.now ≡ chain.old.home.now)) }
-        ensures refused { IfErr result (λ e. ((e.0 ≡ NoPlace) × (length (list_in chain.old.seat.me.0) ≤ index) × (caller.new ≡ caller.old)) ⊎ ((index < length (list_in chain.old.seat.me.0)) × RefusesRetirement W.Caller P.QSBR K.allows B.sizes (chain.old.number % B.sizes.queues) caller.old caller.new e.0)) }
+        ensures refused { IfErr result (λ e. RefusesAt W.Caller P.QSBR K.allows B.sizes caller.old caller.new chain.old.seat.me.0 chain.old.number index e.0) }
         ensures back { IfErr result (λ e. (e.1 ≡ owned) × (e.2 ≡ callback) × (chain.new ≡ chain.old)) }
     {
         if index >= chain.len() {

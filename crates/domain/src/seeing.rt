@@ -4,8 +4,8 @@ ghost use Rattle.std.specs.Prelude.{◌≡◌, ◌++◌, IfErr, IfOk};
 ghost use Rattle.rcu_model.specs.declared.refusal.Refusal.TheVariants.{Memory};
 ghost use Rattle.live_log.specs.Log.{seq_of};
 ghost use Rattle.live_read.specs.Hearing.{IsAsBefore, Stays};
-ghost use Rattle.live_status.specs.Status.{Counted, Looks, Stalls};
-ghost use Rattle.domain.specs.Waiting.{LoadedOnce};
+ghost use Rattle.live_status.specs.Status.{Counted, Looks};
+ghost use Rattle.domain.specs.Waiting.{LoadsSeq, StallsFor};
 
 use crate::domain::Domain;
 use gp_memb::GracePlan;
@@ -29,7 +29,7 @@ impl<P: GracePlan + Drop, K: ChainRule, B: Site, D: Deleter> Domain<P, K, B, D> 
     /// takes as long as the pool is large; it never waits and takes no memory.
     pub fn counts<W: Caller<B>>(&self, caller: &mut W) -> Counts
         ensures counted { (found : Looks) × (W.looks caller.new ≡ found ++ W.looks caller.old) × Counted B.sizes found result }
-        ensures seq { LoadedOnce P.QSBR K.allows (W.seen caller.old) (W.heard caller.old) (W.loads caller.old) (W.loads caller.new) (W.heard caller.new) × (seq_of (W.heard caller.new) ≡ result.seq) }
+        ensures seq { LoadsSeq W.Caller P.QSBR K.allows caller.old caller.new × (seq_of (W.heard caller.new) ≡ result.seq) }
         ensures same { Stays W.Caller caller.old caller.new }
     {
         let mut seat = caller.tell(&self.table);
@@ -48,7 +48,7 @@ impl<P: GracePlan + Drop, K: ChainRule, B: Site, D: Deleter> Domain<P, K, B, D> 
         alloc: Global,
         caller: &mut W,
     ) -> Result<Vec<usize>, Refusal>
-        ensures told { IfOk result (λ slots. Stalls P.QSBR K.allows B.sizes (W.seen caller.old) (W.heard caller.old) (W.loads caller.old) (W.loads caller.new) (W.looks caller.old) (W.looks caller.new) slots.items (W.heard caller.new)) }
+        ensures told { IfOk result (λ slots. StallsFor W.Caller P.QSBR K.allows caller.old caller.new B.sizes slots.items) }
         ensures refused { IfErr result (λ e. (e ≡ Memory) × IsAsBefore W.Caller caller.old caller.new) }
         ensures same { Stays W.Caller caller.old caller.new }
     {

@@ -12,7 +12,7 @@ ghost use Rattle.live_reclaim.specs.Batches.{Lists, WorksFor};
 ghost use Rattle.live_reclaim.specs.Working.{IsEmptied, RefusesWork};
 ghost use Rattle.domain.specs.declared.serving.Until.TheVariants as ends;
 ghost use Rattle.domain.specs.declared.worker_end.Stop.TheVariants as stopped;
-ghost use Rattle.domain.specs.Working.{FoundUsedUp, GoesOn, HasMore, HasWorked, left_by};
+ghost use Rattle.domain.specs.Working.{FoundUsedUp, GoesOn, HasMore, HasWorked, left_by, HasWorkedFor};
 
 use crate::domain::Domain;
 use crate::worker_end::{Stop, WorkerEnd};
@@ -200,7 +200,7 @@ impl<P: GracePlan + Drop, K: ChainRule, B: Site, D: Deleter> Domain<P, K, B, D> 
         caller: &mut W,
         queue: usize,
     ) -> Result<WorkerEnd<B, D>, Refusal>
-        ensures worked { IfOk result (λ e. HasWorked D.answers P.QSBR K.allows B.sizes queue (W.seen caller.old) (W.heard caller.old) (W.looks caller.old) (W.looks caller.new) (W.loads caller.old) (W.loads caller.new) e.finished.items e.left.items e.stop (W.heard caller.new)) }
+        ensures worked { IfOk result (λ e. HasWorkedFor W.Caller D.answers P.QSBR K.allows B.sizes queue caller.old caller.new e.finished.items e.left.items e.stop) }
         ensures stopped { IfOk result (λ e. e.stop ≢ stopped.Served) }
         ensures refused { IfErr result (λ e. RefusesWork B.sizes queue (W.looks caller.old) (W.looks caller.new) e) }
         ensures heard { IfErr result (λ _. queue < B.sizes.queues → IsAfter P.QSBR K.allows (W.seen caller.old) (W.heard caller.old) (W.heard caller.new)) }
@@ -224,7 +224,7 @@ impl<P: GracePlan + Drop, K: ChainRule, B: Site, D: Deleter> Domain<P, K, B, D> 
         caller: &mut W,
         queue: usize,
     ) -> Result<WorkerEnd<B, D>, Refusal>
-        ensures worked { IfOk result (λ e. HasWorked D.answers P.QSBR K.allows B.sizes queue (W.seen caller.old) (W.heard caller.old) (W.looks caller.old) (W.looks caller.new) (W.loads caller.old) (W.loads caller.new) e.finished.items e.left.items e.stop (W.heard caller.new)) }
+        ensures worked { IfOk result (λ e. HasWorkedFor W.Caller D.answers P.QSBR K.allows B.sizes queue caller.old caller.new e.finished.items e.left.items e.stop) }
         ensures stopped { IfOk result (λ e. e.stop ≢ stopped.Closed) }
         ensures refused { IfErr result (λ e. RefusesWork B.sizes queue (W.looks caller.old) (W.looks caller.new) e) }
         ensures heard { IfErr result (λ _. queue < B.sizes.queues → IsAfter P.QSBR K.allows (W.seen caller.old) (W.heard caller.old) (W.heard caller.new)) }

@@ -1,14 +1,15 @@
 //! What a program calls to make records and to write chains.
 
-ghost use Rattle.std.specs.Prelude.{◌≡◌, ◌⊎◌, ℕ, ◌≤◌, ◌<◌, ◌∷◌, ◌++◌, ◌*◌, [], List, IfErr, IfOk};
-ghost use Rattle.rcu_model.specs.declared.refusal.Refusal.TheVariants.{Busy, NoPlace, PoolFull};
-ghost use Rattle.live_log.specs.Log.{Begins, IsLiveRun, Log};
-ghost use Rattle.live_words.specs.live_rule.Places.{cell_at, hold_at};
+ghost use Rattle.std.specs.Prelude.{◌≡◌, ℕ, ◌<◌, ◌∷◌, ◌++◌, [], List, IfErr, IfOk};
+ghost use Rattle.rcu_model.specs.declared.refusal.Refusal.TheVariants.{PoolFull};
+ghost use Rattle.live_log.specs.Log.{Begins, IsLiveRun};
+ghost use Rattle.live_words.specs.live_rule.Places.{cell_at};
 ghost use Rattle.live_words.specs.live_rule.Seats.{lent_chains};
 ghost use Rattle.live_words.specs.live_table.Rights.{cell_in, object_in, payload_in};
-ghost use Rattle.live_words.specs.live_table.Steps.{Keeps, Went, looked_view};
+ghost use Rattle.live_words.specs.live_table.Steps.{Keeps};
 ghost use Rattle.live_read.specs.Hearing.{IsAfter, Stays};
-ghost use Rattle.live_write.specs.Searching.{AreTaken, IsUsedUp};
+ghost use Rattle.domain.specs.Writing.{NoRecordIsFree, IsHad, IsNotHad, LoadsHeader};
+ghost use Rattle.domain.specs.Waiting.{LoadsSeqBefore};
 
 use crate::domain::Domain;
 use callback_queue::Callback;
@@ -40,7 +41,7 @@ impl<P: GracePlan + Drop, K: ChainRule, B: Site, D: Deleter> Domain<P, K, B, D> 
         words: [u64; 4],
     ) -> Result<Owned<B>, Refusal>
         ensures owned { IfOk result (λ o. (payload_in o.seat.me.0.object ≡ words) × (o.seat.me.0.seen ≡ W.heard caller.new)) }
-        ensures looks { (found : List (ℕ × ℕ)) × (W.looks caller.new ≡ found ++ W.looks caller.old) × IfErr result (λ e. (e ≡ PoolFull) × (IsUsedUp B.sizes found ⊎ AreTaken B.sizes found)) }
+        ensures looks { (found : List (ℕ × ℕ)) × (W.looks caller.new ≡ found ++ W.looks caller.old) × IfErr result (λ e. (e ≡ PoolFull) × NoRecordIsFree B.sizes found) }
         ensures heard { IsAfter P.QSBR K.allows (W.seen caller.old) (W.heard caller.old) (W.heard caller.new) }
         ensures same { Stays W.Caller caller.old caller.new × (W.loads caller.new ≡ W.loads caller.old) }
     {
@@ -52,7 +53,7 @@ impl<P: GracePlan + Drop, K: ChainRule, B: Site, D: Deleter> Domain<P, K, B, D> 
     pub fn discard<W: Caller<B>>(&self, caller: &mut W, owned: Owned<B>)
         ensures freed { W.looks caller.new ≡ (cell_at B.sizes (cell_in owned.seat.me.0.object) 0, 0) ∷ W.looks caller.old }
         ensures heard { IsAfter P.QSBR K.allows (W.seen caller.old) (W.heard caller.old) (W.heard caller.new) × Begins owned.seat.me.0.seen (W.heard caller.new) }
-        ensures loads { (log : Log) × (W.loads caller.new ≡ log ∷ W.loads caller.old) × IsAfter P.QSBR K.allows (W.seen caller.old) (W.heard caller.old) log × Begins log (W.heard caller.new) }
+        ensures loads { LoadsSeqBefore W.Caller P.QSBR K.allows caller.old caller.new }
         ensures same { Stays W.Caller caller.old caller.new }
     {
         live_write::discard(&self.table, caller, owned);
@@ -68,10 +69,10 @@ impl<P: GracePlan + Drop, K: ChainRule, B: Site, D: Deleter> Domain<P, K, B, D> 
         caller: &mut W,
         chain: usize,
     ) -> Result<Chain<'d, P, K, B, D>, Refusal>
-        ensures held { IfOk result (λ c. (c.number ≡ chain) × (chain < B.sizes.chains) × (W.looks caller.new ≡ (hold_at B.sizes chain, 0) ∷ W.looks caller.old) × Begins (W.heard caller.new) c.seat.me.0.seen) }
+        ensures held { IfOk result (λ c. IsHad W.Caller B.sizes chain caller.old caller.new c.number c.seat.me.0.seen) }
         ensures domain { IfOk result (λ c. c.home.now ≡ self.now) }
         ensures run { IfOk result (λ c. IsLiveRun P.QSBR K.allows c.seat.me.0.seen × (lent_chains c.seat.me.0.chains ≡ [])) }
-        ensures refused { IfErr result (λ e. ((e ≡ NoPlace) × (B.sizes.chains ≤ chain) × (caller.new ≡ caller.old)) ⊎ ((e ≡ Busy) × (chain < B.sizes.chains) × (W.looks caller.new ≡ (hold_at B.sizes chain, 1) ∷ W.looks caller.old))) }
+        ensures refused { IfErr result (λ e. IsNotHad W.Caller B.sizes chain caller.old caller.new e) }
         ensures heard { chain < B.sizes.chains → IsAfter P.QSBR K.allows (W.seen caller.old) (W.heard caller.old) (W.heard caller.new) }
         ensures same { Stays W.Caller caller.old caller.new × (W.loads caller.new ≡ W.loads caller.old) }
     {
@@ -84,7 +85,7 @@ impl<P: GracePlan + Drop, K: ChainRule, B: Site, D: Deleter> Domain<P, K, B, D> 
         ensures object { result ≡ object_in unlinked.old.seat.me.0.object }
         ensures chain { unlinked.new.chain ≡ unlinked.old.chain }
         ensures seat { Keeps unlinked.old.seat unlinked.new.seat }
-        ensures looked { Went P.QSBR K.allows (looked_view (cell_at B.sizes (cell_in unlinked.old.seat.me.0.object) 0) (2 * result.0) unlinked.old.seat.me.0) unlinked.old.seat.me unlinked.new.seat.me }
+        ensures looked { LoadsHeader P.QSBR K.allows B.sizes result.0 unlinked.old.seat.me unlinked.new.seat.me }
     {
         unlinked.object(&self.table)
     }

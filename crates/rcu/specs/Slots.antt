@@ -1,6 +1,6 @@
 -- The value of a slot.
 use Rattle.gp_memb.specs.declared.plan.GracePlan as plan
-use Rattle.std.specs.Prelude.{◌≡◌, ◌⊎◌, ◌∷◌, ℕ, Bool, List, Some, None}
+use Rattle.std.specs.Prelude.{◌≡◌, ◌⊎◌, ◌%◌, ◌∷◌, ℕ, Bool, List, Some, None}
 use Rattle.rcu_model.specs.declared.event.ObjectId.{ObjectId}
 use Rattle.rcu_model.specs.Sets.{first_of}
 use Rattle.live_log.specs.declared.event.LiveEvent.{LiveEvent}
@@ -11,6 +11,7 @@ use Rattle.rcu_hash.specs.live_read.Hearing.{IsAfter, MakesLast}
 use Rattle.rcu_hash.specs.live_read.Holding.{log_of}
 use Rattle.rcu_hash.specs.live_read.declared.reader_core.ReaderCore.{ReaderCore}
 use Rattle.rcu_hash.specs.live_read.declared.caller.Caller.{Ghosts}
+use Rattle.rcu_hash.specs.live_rule.declared.view.Sizes.{Sizes}
 use Rattle.rcu_hash.specs.rcu_list.Calls.{HandsOver}
 
 -- the rule of chains that any change fits
@@ -71,3 +72,7 @@ module _ {W S : Type 0} (w : Ghosts W S) (qsbr : Bool) (old new : W) where
     pub is : puts.event ≡ Object (Replace c left puts.object cell words)
     pub was : first_in c puts.before left
     pub handed : HandsOver qsbr any_change left queue ticket puts.at (w.heard new)
+
+  -- into the queue of the chain
+  abbrev pub ReplacesValueIn : Sizes → (c : ℕ) (words : List ℕ) (ticket : ℕ) → Type 0
+  ReplacesValueIn sizes c words ticket = ReplacesValue c words (c % sizes.queues) ticket

@@ -1,14 +1,13 @@
 //! A map from keys to values, which grows while it is read.
 
-ghost use Rattle.std.specs.Prelude.{◌≡◌, ◌⊎◌, ◌<◌, ℕ, None, Some, true, IfErr, IfOk};
+ghost use Rattle.std.specs.Prelude.{◌≡◌, ◌⊎◌, ◌<◌, None, Some, IfErr, IfOk};
 ghost use Rattle.rcu_model.specs.declared.refusal.Refusal.TheVariants.{BadConfig, Closed, Memory, PoolFull};
 ghost use Rattle.live_log.specs.Tables.{tabled};
 ghost use Rattle.rcu_hash.specs.live_read.Reads.{Looks};
 ghost use Rattle.live_log.specs.Log.{Begins};
-ghost use Rattle.rcu_hash.specs.Directories.{LeadsTo, directed_map};
+ghost use Rattle.rcu_hash.specs.Directories.{HasNoKeys};
 ghost use Rattle.rcu_hash.specs.Growing.{Founds};
 ghost use Rattle.rcu_hash.specs.Refusing.{RefusesRemovalThrough};
-ghost use Rattle.rcu_hash.specs.Tables.{bucket_of};
 ghost use Rattle.rcu.specs.Keys.{GetsValue, GivesWord, GrewTo, HearsMore};
 
 use crate::words::Word;
@@ -92,7 +91,7 @@ impl<'d, P: GracePlan + Drop, B: Site, F: Deleter + Copy, T: Word + Copy + Drop>
     ) -> Result<Map<'d, P, B, F, T>, Refusal>
         ensures made { IfOk result (λ m. m.table.directory ≡ directory) }
         ensures founded { IfOk result (λ _. Founds P.QSBR tabled directory (W.seen caller.old) (W.heard caller.old) first buckets (W.heard caller.new)) }
-        ensures map { IfOk result (λ _. (key : ℕ) → (directed_map B.sizes.chains directory (W.heard caller.new) key ≡ None) × LeadsTo directory (W.heard caller.new) key (bucket_of first buckets key)) }
+        ensures map { IfOk result (λ _. HasNoKeys B.sizes.chains directory first buckets (W.heard caller.new)) }
         ensures later { Begins (W.heard caller.old) (W.heard caller.new) }
         ensures refused { IfErr result (λ e. (e ≡ BadConfig) ⊎ (e ≡ Memory) ⊎ (e ≡ PoolFull)) }
     {

@@ -1,10 +1,10 @@
 //! One value that is replaced as a whole.
 
-ghost use Rattle.std.specs.Prelude.{◌≡◌, ◌⊎◌, ◌%◌, ◌<◌, ◌≤◌, IfErr, IfNone, IfOk, IfSome};
+ghost use Rattle.std.specs.Prelude.{◌≡◌, ◌⊎◌, ◌<◌, ◌≤◌, IfErr, IfNone, IfOk, IfSome};
 ghost use Rattle.rcu_model.specs.declared.refusal.Refusal.TheVariants.{Busy, Closed, Memory, NoPlace, PoolFull};
 ghost use Rattle.rcu_hash.specs.live_read.Hearing.{IsAfter, Stays};
 ghost use Rattle.rcu_hash.specs.live_read.Reads.{Looks};
-ghost use Rattle.rcu.specs.Slots.{FindsValue, PushesValue, ReplacesValue, any_change};
+ghost use Rattle.rcu.specs.Slots.{FindsValue, PushesValue, any_change, ReplacesValueIn};
 
 use crate::words::Words;
 use crossbeam_utils::Backoff;
@@ -79,7 +79,7 @@ impl<'d, P: GracePlan + Drop, B: Site, D: Deleter, T: Words + Copy + Drop> Slot<
         callback: D,
     ) -> Result<Option<Ticket>, (Refusal, D)>
         ensures pushed { IfOk result (λ found. IfNone found (PushesValue W.Caller P.QSBR caller.old caller.new self.now.chain (T.packed value))) }
-        ensures replaced { IfOk result (λ found. IfSome found (λ t. ReplacesValue W.Caller P.QSBR caller.old caller.new self.now.chain (T.packed value) (self.now.chain % B.sizes.queues) t.0)) }
+        ensures replaced { IfOk result (λ found. IfSome found (λ t. ReplacesValueIn W.Caller P.QSBR caller.old caller.new B.sizes self.now.chain (T.packed value) t.0)) }
         ensures refused { IfErr result (λ e. (e.0 ≡ Busy) ⊎ (e.0 ≡ PoolFull) ⊎ (e.0 ≡ Closed) ⊎ (e.0 ≡ Memory)) }
         ensures back { IfErr result (λ e. (e.1 ≡ callback) × Stays W.Caller caller.old caller.new) }
         ensures heard { IfErr result (λ _. IsAfter P.QSBR any_change (W.seen caller.old) (W.heard caller.old) (W.heard caller.new)) }
@@ -118,7 +118,7 @@ impl<'d, P: GracePlan + Drop, B: Site, D: Deleter, T: Words + Copy + Drop> Slot<
         callback: D,
     ) -> Result<Option<Ticket>, (Refusal, D)>
         ensures pushed { IfOk result (λ found. IfNone found (PushesValue W.Caller P.QSBR caller.old caller.new self.now.chain (T.packed value))) }
-        ensures replaced { IfOk result (λ found. IfSome found (λ t. ReplacesValue W.Caller P.QSBR caller.old caller.new self.now.chain (T.packed value) (self.now.chain % B.sizes.queues) t.0)) }
+        ensures replaced { IfOk result (λ found. IfSome found (λ t. ReplacesValueIn W.Caller P.QSBR caller.old caller.new B.sizes self.now.chain (T.packed value) t.0)) }
         ensures refused { IfErr result (λ e. (e.0 ≡ Closed) ⊎ (e.0 ≡ Memory)) }
         ensures back { IfErr result (λ e. (e.1 ≡ callback) × Stays W.Caller caller.old caller.new) }
     {

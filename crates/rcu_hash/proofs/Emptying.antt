@@ -30,7 +30,8 @@ use Rattle.rcu_hash.specs.Directories.{directed_map}
 use Rattle.rcu_hash.specs.Leaving.{LeavesMap, Writes}
 use Rattle.rcu_hash.specs.Naming.{words_by}
 use Rattle.rcu_hash.specs.Tables.{bucket_of}
-use Rattle.rcu_hash.specs.Tidying.{ClearsNote, Cuts, Clears, Does, FindsMore, Follow, HasWaited, IsLeft, IsRefused, Kind, Retires, Uses, WasReplaced, cut_by, cuts_in, objects_in, retired_by, retired_in}
+use Rattle.rcu_list.specs.domain.Waiting.{FindsMore}
+use Rattle.rcu_hash.specs.Tidying.{ClearsNote, Cuts, Clears, Does, Follow, HasWaited, IsLeft, IsRefused, Kind, Retires, Uses, WasReplaced, cut_by, cuts_in, objects_in, retired_by, retired_in}
 use Rattle.rcu_hash.specs.Writers.{Each, HasKeysIn, HasNote, IsAlone, IsOutside}
 use Rattle.rcu_hash.proofs.Changing.{other_map}
 use Rattle.rcu_hash.proofs.Holds.{each_last}

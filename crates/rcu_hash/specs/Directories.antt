@@ -1,9 +1,15 @@
 -- The map of a table whose buckets a directory names: the one record of a chain, which a lookup reads first.
-use Rattle.std.specs.Prelude.{◌≡◌, ◌≢◌, ℕ, ◌==◌, ◌&&◌, Bool, if◌then◌else◌, nat_lt, List, Option, Some, None, slice_index_or}
+use Rattle.std.specs.Prelude.{◌≡◌, ◌≢◌, ℕ, ◌==◌, ◌&&◌, Bool, if◌then◌else◌, nat_lt, List, Option, Some, None, slice_index_or, IsTrue}
+use mathlib.Core.Option.{some}
+use Rattle.std.specs.List.{FoldsTo}
+use Rattle.gp_memb.specs.declared.plan.GracePlan as plan
 use Rattle.rcu_model.specs.declared.event.ObjectId.{ObjectId}
 use Rattle.rcu_model.specs.Sets.{In, first_of}
-use Rattle.live_log.specs.Log.{Log, Begins, note_of, state_of}
-use Rattle.live_log.specs.Tables.{kind_of}
+use Rattle.live_log.specs.declared.event.LiveEvent.TheVariants.{Close}
+use Rattle.live_log.specs.Log.{Log, Begins, Has, IsLiveRun, note_of, open_of, state_of}
+use Rattle.live_log.specs.Tables.{kind_of, tabled}
+use Rattle.rcu_list.specs.live_read.Holding.{log_of}
+use Rattle.rcu_list.specs.live_read.declared.reader_core.ReaderCore.{ReaderCore}
 use Rattle.rcu_list.specs.Maps.{map_of}
 use Rattle.rcu_list.specs.Walks.{times}
 use Rattle.rcu_hash.specs.Tables.{bucket_of}
@@ -60,3 +66,21 @@ pub record AnswersLinked (start now : Log) (chains d key : ℕ) (o : ObjectId) (
 pub record WalksThrough (seen heard new : Log) (chains d : ℕ) (met : List (ℕ × ℕ)) : Type 0 where
   pub had : (key value : ℕ) → In met (key, value) → AnswersThrough seen heard new chains d key (Some value)
   pub lacked : (key : ℕ) → times key met ≢ 1 → AnswersThrough seen heard new chains d key None
+
+-- no key has a value in the table, and each is led to its bucket, among so many chains from the first one on
+abbrev pub HasNoKeys : (chains d first buckets : ℕ) → Log → Type 0
+HasNoKeys chains d first buckets log = (key : ℕ) → (directed_map chains d log key ≡ None) × LeadsTo d log key (bucket_of first buckets key)
+
+-- What a key has in the bucket to which a directory leads it, the table had while the directory was linked, as long as a
+-- section is open that was open then.
+abbrev pub BucketsAnswer : Bool → Type 0
+BucketsAnswer qsbr = (start at log : Log) (chains d key : ℕ) (o : ObjectId) (slot ordinal copied : ℕ) → Begins start at → Begins at log → IsLiveRun qsbr tabled log → first_of ((state_of start).chain d) ≡ Some o → IsTrue (leads chains (note_of start o) key) → open_of slot start ≡ some (ordinal, copied) → ¬ Has (Close slot ordinal) log → AnswersLinked start at chains d key o (map_of at (bucket_in (note_of start o) key) key)
+
+module _ {P K : Type 0} {g : plan.Ghosts P} (r r' : ReaderCore P K g) (chains d : ℕ) where
+  -- a reader looked a key up
+  abbrev pub AnswersReader : ℕ → Option ℕ → Type 0
+  AnswersReader key answer = AnswersThrough (log_of r) r.seat.me.0.heard (log_of r') chains d key answer
+
+  -- or it went through the table, and a call was made with each entry that it met
+  abbrev pub VisitsTable : {F : Type 0} → (F → ℕ × ℕ → F → Type 0) → F → F → Type 0
+  VisitsTable called visit visit' = (met : List (ℕ × ℕ)) × WalksThrough (log_of r) r.seat.me.0.heard (log_of r') chains d met × FoldsTo called visit met visit'

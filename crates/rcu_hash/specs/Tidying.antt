@@ -1,5 +1,5 @@
 -- What a tidying tells of what earlier directories left.
-use Rattle.std.specs.Prelude.{◌≡◌, ◌⊎◌, ℕ, ◌+◌, ◌%◌, ◌^◌, ◌≤◌, ◌∷◌, ◌++◌, Bool, List, [], length}
+use Rattle.std.specs.Prelude.{◌≡◌, ◌⊎◌, ℕ, ◌+◌, ◌%◌, ◌^◌, ◌<◌, ◌≤◌, ◌∷◌, ◌++◌, Bool, List, [], length}
 use Rattle.std.proofs.Props.{props}
 use Rattle.rcu_model.specs.declared.event.ObjectId.{ObjectId}
 use Rattle.rcu_model.specs.declared.refusal.Refusal.{Refusal}
@@ -14,10 +14,10 @@ use Rattle.rcu_list.specs.live_rule.declared.view.Sizes.{Sizes}
 use Rattle.rcu_list.specs.live_rule.declared.view.View.{View}
 use Rattle.rcu_list.specs.live_items.Retiring.{Queues}
 use Rattle.rcu_list.specs.live_table.Rights.{object_in}
-use Rattle.rcu_list.specs.live_read.Hearing.{MakesMany}
+use Rattle.rcu_list.specs.live_read.Hearing.{MakesMany, Stays}
 use Rattle.rcu_list.specs.live_read.declared.caller.Caller.{Ghosts}
 use Rattle.rcu_list.specs.live_write.Chains.{list_in}
-use Rattle.rcu_list.specs.domain.Waiting.{LoadedOnce, Synchronized}
+use Rattle.rcu_list.specs.domain.Waiting.{IsExhausted, Synchronized}
 use Rattle.rcu_list.specs.Calls.{HandsOver}
 use Rattle.rcu_hash.specs.Leaving.{LeavesMap}
 use Rattle.rcu_hash.specs.Writers.{HasKeysIn, HasNote, IsAlone, IsOutside}
@@ -128,10 +128,6 @@ module _ (qsbr : Bool) (allows : Log → LiveEvent → Type 0) (sizes : Sizes) (
     pub made : MakesMany w old new (cuts_in steps)
 
 module _ {W S : Type 0} (w : Ghosts W S) (old new : W) where
-  -- words may have been found for the caller, but the sequence number was not loaded
-  abbrev pub FindsMore : Type 0
-  FindsMore = (w.loads new ≡ w.loads old) × ((found : List (ℕ × ℕ)) × (w.looks new ≡ found ++ w.looks old))
-
   -- a queue was closed, or there was no memory
   abbrev pub IsRefused : Refusal → Type 0
   IsRefused e = ((e ≡ Closed) × ((q : ℕ) × (closed_of q (w.heard new) ≡ 1))) ⊎ (e ≡ Memory)
@@ -140,13 +136,17 @@ module _ {W S : Type 0} (w : Ghosts W S) (old new : W) where
   abbrev pub IsStopped : {D : Type 0} → List D → Refusal → Type 0
   IsStopped jobs e = ((e ≡ FewJobs) × (jobs ≡ [])) ⊎ IsRefused e
 
-module _ {W S : Type 0} (w : Ghosts W S) (qsbr : Bool) (allows : Log → LiveEvent → Type 0) (old new : W) where
-  -- the sequence number was at its end
-  abbrev pub IsExhausted : Refusal → Type 0
-  IsExhausted e = (e ≡ Exhausted) × LoadedOnce qsbr allows (w.seen old) (w.heard old) (w.loads old) (w.loads new) (w.heard new) × (2 ^ 62 ≤ seq_of (w.heard new))
+  -- or the wait was refused, and then nothing was retired; something is left
+  abbrev pub StopsTidying : {D : Type 0} → (retired left : ℕ) → List D → Refusal → Type 0
+  StopsTidying retired left jobs e = (0 < left) × (((e ≡ Exhausted) × (retired ≡ 0) × (2 ^ 62 ≤ seq_of (w.heard new))) ⊎ IsStopped jobs e)
 
+module _ {W S : Type 0} (w : Ghosts W S) (qsbr : Bool) (allows : Log → LiveEvent → Type 0) (old new : W) where
   -- a grace period was waited for, and only then something was retired
   pub record Tidies (sizes : Sizes) (d : ℕ) {D : Type 0} (jobs left : List D) : Type 0 where
     pub waited : Log
     pub ended : Synchronized qsbr allows (w.seen old) (w.heard old) (w.loads old) (w.loads new) waited
     pub uses : Uses qsbr allows sizes d (w.seen old) w old new jobs left waited (w.heard new)
+
+  -- or nothing was, and the callbacks come back
+  abbrev pub EndsTidying : (sizes : Sizes) (d : ℕ) {D : Type 0} → (jobs left : List D) → Type 0
+  EndsTidying sizes d jobs left = Tidies sizes d jobs left ⊎ ((left ≡ jobs) × Stays w old new × ((new ≡ old) ⊎ IsExhausted w qsbr allows old new Exhausted))

@@ -1,19 +1,20 @@
 //! How a table grows while it is read.
 
-ghost use Rattle.std.specs.Prelude.{◌≡◌, ◌⊎◌, ◌+◌, ◌<◌, ◌≤◌, ◌^◌, ◌++◌, [], ℕ, List, None, Some, IfErr, IfOk, false, length, map, true, vec_capacity, vec_len};
+ghost use Rattle.std.specs.Prelude.{◌≡◌, ◌⊎◌, ◌+◌, ◌<◌, ◌≤◌, ◌^◌, ◌++◌, [], ℕ, List, None, Some, IfErr, IfOk, map, vec_capacity, vec_len};
 ghost use Rattle.std.specs.Sync.RwLock.{write_guard_value};
-ghost use Rattle.rcu_model.specs.declared.refusal.Refusal.TheVariants.{BadConfig, Busy, Memory, PoolFull};
+ghost use Rattle.rcu_model.specs.declared.refusal.Refusal.TheVariants.{BadConfig, Busy, PoolFull};
 ghost use Rattle.live_log.specs.Log.{Begins, Log};
 ghost use Rattle.live_log.specs.Tables.{tabled};
 ghost use Rattle.rcu_list.specs.live_table.Rights.{payload_in};
-ghost use Rattle.rcu_list.specs.live_read.Hearing.{IsAfter, MakesMany, OnlyMakesMany, Stays};
-ghost use Rattle.rcu_list.specs.live_write.Searching.{AreTaken, IsUsedUp};
+ghost use Rattle.rcu_list.specs.live_read.Hearing.{MakesMany, OnlyMakesMany, Stays};
 ghost use Rattle.rcu_hash.specs.Copies.{AreApart, AreRanked, value_among, value_in_bucket};
-ghost use Rattle.rcu_hash.specs.Growing.{Grows, HasLeft};
+ghost use Rattle.rcu_hash.specs.Growing.{Grows};
 ghost use Rattle.rcu_hash.specs.Naming.{words_by};
-ghost use Rattle.rcu_hash.specs.Refusing.{FindsFree, FindsTaken};
+ghost use Rattle.rcu_hash.specs.Refusing.{FindsFree};
 ghost use Rattle.rcu_hash.specs.Tables.{IsAmong, are_apart, fits};
 ghost use Rattle.rcu_hash.specs.Writers.{AreFrom, Each, HasKeysIn, IsAlone, IsEmpty};
+ghost use Rattle.rcu_hash.specs.Calls.{IsGrown, IsNotGrown};
+ghost use Rattle.rcu_list.specs.live_write.Searching.{AreTaken, IsUsedUp};
 
 use crate::bucket::Bucket;
 use crate::copying::fill;
@@ -168,11 +169,11 @@ impl<'d, P: GracePlan + Drop, B: Site, D: Deleter> RcuHash<'d, P, B, D> {
         first: usize,
         buckets: usize,
     ) -> Result<usize, Refusal>
-        ensures grown { IfOk result (λ left. (entries : List (ℕ × ℕ)) × Grows P.QSBR tabled B.sizes.chains self.now.directory (W.seen caller.old) (W.heard caller.old) first buckets entries (W.heard caller.new) × (left ≡ length entries + 1) × (fits B.sizes.chains self.now.directory first buckets ≡ true)) }
+        ensures grown { IfOk result (λ left. IsGrown W.Caller P.QSBR B.sizes caller.old caller.new self.now.directory first buckets left) }
         ensures free { IfOk result (λ _. FindsFree W.Caller P.QSBR tabled caller.old caller.new (IsAmong first buckets)) }
-        ensures refused { IfErr result (λ e. ((e ≡ Busy) × HasLeft self.now.directory (W.heard caller.new) × IsAfter P.QSBR tabled (W.seen caller.old) (W.heard caller.old) (W.heard caller.new)) ⊎ (((e ≡ BadConfig) × ((fits B.sizes.chains self.now.directory first buckets ≡ false) ⊎ FindsTaken W.Caller P.QSBR tabled caller.old caller.new B.sizes (IsAmong first buckets))) ⊎ ((fits B.sizes.chains self.now.directory first buckets ≡ true) × ((e ≡ Memory) ⊎ (e ≡ PoolFull))))) }
+        ensures refused { IfErr result (λ e. IsNotGrown W.Caller P.QSBR B.sizes caller.old caller.new self.now.directory first buckets e) }
         ensures heard { Begins (W.heard caller.old) (W.heard caller.new) }
-        ensures looks { (found : List (ℕ × ℕ)) × (W.looks caller.new ≡ found ++ W.looks caller.old) × IfErr result (λ e. (e ≡ PoolFull) → IsUsedUp B.sizes found ⊎ AreTaken B.sizes found) }
+        ensures looks { (found : List (ℕ × ℕ)) × (W.looks caller.new ≡ found ++ W.looks caller.old) × IfErr result (λ e. e ≡ PoolFull → IsUsedUp B.sizes found ⊎ AreTaken B.sizes found) }
         ensures loads { ((logs : List Log) × (W.loads caller.new ≡ logs ++ W.loads caller.old)) × IfOk result (λ _. W.loads caller.new ≡ W.loads caller.old) }
         ensures changes { IfOk result (λ left. MakesMany W.Caller caller.old caller.new left) × IfErr result (λ _. Stays W.Caller caller.old caller.new) }
     {

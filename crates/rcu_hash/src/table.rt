@@ -1,22 +1,18 @@
 //! A hash table.
 
-ghost use Rattle.std.specs.Prelude.{◌≡◌, ◌⊎◌, ◌+◌, ◌%◌, ◌<◌, ◌++◌, ℕ, List, None, IfErr, IfOk, false, true};
-ghost use Rattle.std.specs.List.{FoldsTo};
+ghost use Rattle.std.specs.Prelude.{◌≡◌, ◌⊎◌, ◌+◌, ◌<◌, ◌++◌, ℕ, List, None, IfErr, IfOk, false, true};
 ghost use Rattle.std.specs.Sync.RwLock.{read_guard_value};
-ghost use Rattle.rcu_model.specs.declared.event.ObjectId.{ObjectId};
-ghost use Rattle.rcu_model.specs.declared.refusal.Refusal.TheVariants.{BadConfig, Memory, PoolFull};
-ghost use Rattle.live_log.specs.Log.{Begins, Log};
+ghost use Rattle.rcu_model.specs.declared.refusal.Refusal.TheVariants.{BadConfig, PoolFull};
+ghost use Rattle.live_log.specs.Log.{Begins};
 ghost use Rattle.live_log.specs.Tables.{tabled};
 ghost use Rattle.rcu_list.specs.live_read.Hearing.{IsAfter, MakesLast, Stays};
-ghost use Rattle.rcu_list.specs.live_read.Holding.{log_of};
 ghost use Rattle.rcu_list.specs.live_read.Reads.{Looks};
-ghost use Rattle.rcu_list.specs.live_write.Searching.{AreTaken, IsUsedUp};
-ghost use Rattle.rcu_list.specs.Calls.{HandsOver};
-ghost use Rattle.rcu_hash.specs.Directories.{AnswersThrough, LeadsTo, WalksThrough, directed_map};
+ghost use Rattle.rcu_hash.specs.Directories.{AnswersReader, HasNoKeys, VisitsTable};
 ghost use Rattle.rcu_hash.specs.Growing.{Founds};
-ghost use Rattle.rcu_hash.specs.Publishing.{InsertsThrough, RemovesThrough, ReplacesThrough};
-ghost use Rattle.rcu_hash.specs.Refusing.{FindsFree, FindsTaken, RefusesInsertionThrough, RefusesRemovalThrough, RefusesReplacementThrough};
-ghost use Rattle.rcu_hash.specs.Tables.{IsAmong, bucket_of, fits};
+ghost use Rattle.rcu_hash.specs.Refusing.{FindsFree, RefusesInsertionThrough, RefusesRemovalThrough, RefusesReplacementThrough};
+ghost use Rattle.rcu_hash.specs.Tables.{IsAmong, fits};
+ghost use Rattle.rcu_hash.specs.Calls.{IsInsertedThrough, IsNotMade, IsRemovedThrough, IsReplacedThrough};
+ghost use Rattle.rcu_list.specs.domain.Writing.{NoRecordIsFree};
 
 use crate::directory::Desk;
 use crate::left::Left;
@@ -84,11 +80,11 @@ impl<'d, P: GracePlan + Drop, B: Site, D: Deleter> RcuHash<'d, P, B, D> {
         ensures made { IfOk result (λ t. (t.directory ≡ directory) × (fits B.sizes.chains directory first buckets ≡ true)) }
         ensures founded { IfOk result (λ _. Founds P.QSBR tabled directory (W.seen caller.old) (W.heard caller.old) first buckets (W.heard caller.new)) }
         ensures free { IfOk result (λ _. FindsFree W.Caller P.QSBR tabled caller.old caller.new (λ c. (c ≡ directory) ⊎ IsAmong first buckets c)) }
-        ensures map { IfOk result (λ _. (key : ℕ) → (directed_map B.sizes.chains directory (W.heard caller.new) key ≡ None) × LeadsTo directory (W.heard caller.new) key (bucket_of first buckets key)) }
+        ensures map { IfOk result (λ _. HasNoKeys B.sizes.chains directory first buckets (W.heard caller.new)) }
         ensures heard { IfOk result (λ _. IsAfter P.QSBR tabled (W.seen caller.old) (W.heard caller.old) (W.heard caller.new)) }
         ensures later { Begins (W.heard caller.old) (W.heard caller.new) }
-        ensures refused { IfErr result (λ e. ((e ≡ BadConfig) × ((fits B.sizes.chains directory first buckets ≡ false) ⊎ FindsTaken W.Caller P.QSBR tabled caller.old caller.new B.sizes (λ c. (c ≡ directory) ⊎ IsAmong first buckets c))) ⊎ ((fits B.sizes.chains directory first buckets ≡ true) × ((e ≡ Memory) ⊎ (e ≡ PoolFull)))) }
-        ensures looks { (found : List (ℕ × ℕ)) × (W.looks caller.new ≡ found ++ W.looks caller.old) × IfErr result (λ e. (e ≡ PoolFull) → IsUsedUp B.sizes found ⊎ AreTaken B.sizes found) }
+        ensures refused { IfErr result (λ e. IsNotMade W.Caller P.QSBR B.sizes caller.old caller.new directory first buckets e) }
+        ensures looks { (found : List (ℕ × ℕ)) × (W.looks caller.new ≡ found ++ W.looks caller.old) × IfErr result (λ e. (e ≡ PoolFull) → NoRecordIsFree B.sizes found) }
         ensures changes { IfOk result (λ _. MakesLast W.Caller caller.old caller.new (W.heard caller.new)) × IfErr result (λ _. Stays W.Caller caller.old caller.new) }
         ensures same { W.loads caller.new ≡ W.loads caller.old }
     {
@@ -153,7 +149,7 @@ impl<'d, P: GracePlan + Drop, B: Site, D: Deleter> RcuHash<'d, P, B, D> {
         requires { 0 < section.old.reader.now.core.depth }
         ensures reader { section.new.reader.ghost_name ≡ section.old.reader.ghost_name }
         ensures looked { Looks P.QSBR tabled section.old.reader.now.core section.new.reader.now.core }
-        ensures window { AnswersThrough (log_of section.old.reader.now.core) section.old.reader.now.core.seat.me.0.heard (log_of section.new.reader.now.core) B.sizes.chains self.now.directory key result }
+        ensures window { AnswersReader section.old.reader.now.core section.new.reader.now.core B.sizes.chains self.now.directory key result }
     {
         self.view.get(section, key)
     }
@@ -171,7 +167,7 @@ impl<'d, P: GracePlan + Drop, B: Site, D: Deleter> RcuHash<'d, P, B, D> {
         key: u64,
         value: u64,
     ) -> Result<(), Refusal>
-        ensures inserted { IfOk result (λ _. (chain : ℕ) × InsertsThrough P.QSBR tabled B.sizes.chains self.now.directory (W.seen caller.old) (W.heard caller.old) key value chain (W.heard caller.new)) }
+        ensures inserted { IfOk result (λ _. IsInsertedThrough W.Caller P.QSBR B.sizes caller.old caller.new self.now.directory key value) }
         ensures changes { IfOk result (λ _. MakesLast W.Caller caller.old caller.new (W.heard caller.new)) }
         ensures same { IfOk result (λ _. (W.loads caller.new ≡ W.loads caller.old) × ((found : List (ℕ × ℕ)) × (W.looks caller.new ≡ found ++ W.looks caller.old))) }
         ensures refused { IfErr result (λ e. RefusesInsertionThrough W.Caller P.QSBR tabled B.sizes caller.old caller.new e self.now.directory key) }
@@ -198,7 +194,7 @@ impl<'d, P: GracePlan + Drop, B: Site, D: Deleter> RcuHash<'d, P, B, D> {
         value: u64,
         callback: D,
     ) -> Result<Ticket, (Refusal, D)>
-        ensures replaced { IfOk result (λ t. (chain : ℕ) × (left : ObjectId) × (published : Log) × ReplacesThrough P.QSBR tabled B.sizes.chains self.now.directory (W.seen caller.old) (W.heard caller.old) key value chain left published × HandsOver P.QSBR tabled left (chain % B.sizes.queues) t.0 published (W.heard caller.new) × MakesLast W.Caller caller.old caller.new published) }
+        ensures replaced { IfOk result (λ t. IsReplacedThrough W.Caller P.QSBR B.sizes caller.old caller.new self.now.directory key value t.0) }
         ensures same { IfOk result (λ _. (W.loads caller.new ≡ W.loads caller.old) × ((found : List (ℕ × ℕ)) × (W.looks caller.new ≡ found ++ W.looks caller.old))) }
         ensures refused { IfErr result (λ e. (e.1 ≡ callback) × RefusesReplacementThrough W.Caller P.QSBR tabled B.sizes caller.old caller.new e.0 self.now.directory key) }
     {
@@ -222,7 +218,7 @@ impl<'d, P: GracePlan + Drop, B: Site, D: Deleter> RcuHash<'d, P, B, D> {
         key: u64,
         callback: D,
     ) -> Result<Ticket, (Refusal, D)>
-        ensures removed { IfOk result (λ t. (chain : ℕ) × (left : ObjectId) × (published : Log) × RemovesThrough P.QSBR tabled B.sizes.chains self.now.directory (W.seen caller.old) (W.heard caller.old) key chain left published × HandsOver P.QSBR tabled left (chain % B.sizes.queues) t.0 published (W.heard caller.new) × MakesLast W.Caller caller.old caller.new published) }
+        ensures removed { IfOk result (λ t. IsRemovedThrough W.Caller P.QSBR B.sizes caller.old caller.new self.now.directory key t.0) }
         ensures same { IfOk result (λ _. (W.looks caller.new ≡ W.looks caller.old) × (W.loads caller.new ≡ W.loads caller.old)) }
         ensures refused { IfErr result (λ e. (e.1 ≡ callback) × RefusesRemovalThrough W.Caller P.QSBR tabled B.sizes caller.old caller.new e.0 self.now.directory key) }
     {
@@ -245,7 +241,7 @@ impl<'d, P: GracePlan + Drop, B: Site, D: Deleter> RcuHash<'d, P, B, D> {
         ensures reader { section.new.reader.ghost_name ≡ section.old.reader.ghost_name }
         ensures looked { Looks P.QSBR tabled section.old.reader.now.core section.new.reader.now.core }
         ensures callable { F.IsAlwaysCallable visit.new }
-        ensures met { (met : List (ℕ × ℕ)) × WalksThrough (log_of section.old.reader.now.core) section.old.reader.now.core.seat.me.0.heard (log_of section.new.reader.now.core) B.sizes.chains self.now.directory met × FoldsTo (λ f e g. F.step f e.0 e.1 tt g) visit.old met visit.new }
+        ensures met { VisitsTable section.old.reader.now.core section.new.reader.now.core B.sizes.chains self.now.directory (λ f e g. F.step f e.0 e.1 tt g) visit.old visit.new }
     {
         self.view.for_each(section, visit);
     }

@@ -1,14 +1,14 @@
 //! How what earlier directories left is retired.
 
-ghost use Rattle.std.specs.Prelude.{◌≡◌, ◌⊎◌, ◌+◌, ◌^◌, ◌-◌, ◌<◌, ◌≤◌, ◌++◌, [], ℕ, List, None, IfErr, IfNone, IfOk, IfSome, IsSome, length, map, min, vec_len};
+ghost use Rattle.std.specs.Prelude.{◌≡◌, ◌⊎◌, ◌+◌, ◌^◌, ◌-◌, ◌<◌, ◌++◌, [], ℕ, List, None, IfErr, IfNone, IfOk, IfSome, IsSome, length, map, min, vec_len};
 ghost use Rattle.std.specs.Sync.Mutex.{mutex_guard_value};
-ghost use Rattle.rcu_model.specs.declared.refusal.Refusal.TheVariants.{Exhausted};
-ghost use Rattle.live_log.specs.Log.{Begins, seq_of};
+ghost use Rattle.live_log.specs.Log.{Begins};
 ghost use Rattle.live_log.specs.Tables.{tabled};
 ghost use Rattle.rcu_list.specs.live_read.Hearing.{FindsNothing, IsAfter, MakesMany, OnlyHears, Stays};
 ghost use Rattle.rcu_list.specs.live_write.Chains.{list_in};
 ghost use Rattle.rcu_list.specs.domain.Waiting.{Synchronized};
-ghost use Rattle.rcu_hash.specs.Tidying.{ClearsNote, FindsMore, HasWaited, IsExhausted, IsLeft, IsLinked, IsRecord, IsRefused, IsStopped, RetiresObject, Tidies, Uses, objects_in};
+ghost use Rattle.rcu_list.specs.domain.Waiting.{FindsMore, IsExhausted};
+ghost use Rattle.rcu_hash.specs.Tidying.{ClearsNote, HasWaited, IsLeft, IsLinked, IsRecord, IsRefused, IsStopped, RetiresObject, Uses, objects_in, EndsTidying, StopsTidying};
 ghost use Rattle.rcu_hash.specs.Writers.{Each, HasNothing};
 
 use crate::directory::{Desk, Naming};
@@ -387,9 +387,9 @@ impl<'d, P: GracePlan + Drop, B: Site, D: Deleter> RcuHash<'d, P, B, D> {
     /// writers and readers go on, and a growth is refused with `Busy`.
     pub fn tidy<W: Caller<B>, R: Wait>(&self, rt: &R, caller: &mut W, jobs: Vec<D>) -> TidyEnd<D>
         ensures jobs { (used : List D) × (jobs.items ≡ result.jobs.items ++ used) × (length used ≡ result.retired) }
-        ensures tidied { Tidies W.Caller P.QSBR tabled caller.old caller.new B.sizes self.now.directory jobs.items result.jobs.items ⊎ ((result.jobs.items ≡ jobs.items) × Stays W.Caller caller.old caller.new × ((caller.new ≡ caller.old) ⊎ IsExhausted W.Caller P.QSBR tabled caller.old caller.new Exhausted)) }
+        ensures tidied { EndsTidying W.Caller P.QSBR tabled caller.old caller.new B.sizes self.now.directory jobs.items result.jobs.items }
         ensures done { IfNone result.stop (result.left ≡ 0) }
-        ensures stopped { IfSome result.stop (λ e. (0 < result.left) × (((e ≡ Exhausted) × (result.retired ≡ 0) × (2 ^ 62 ≤ seq_of (W.heard caller.new))) ⊎ IsStopped W.Caller caller.old caller.new result.jobs.items e)) }
+        ensures stopped { IfSome result.stop (λ e. StopsTidying W.Caller caller.old caller.new result.retired result.left result.jobs.items e) }
         ensures heard { Begins (W.heard caller.old) (W.heard caller.new) }
         ensures same { (found : List (ℕ × ℕ)) × (W.looks caller.new ≡ found ++ W.looks caller.old) }
     {

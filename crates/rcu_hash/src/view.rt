@@ -6,7 +6,7 @@ ghost use Rattle.rcu_model.specs.declared.refusal.Refusal.TheVariants.{NoPlace};
 ghost use Rattle.live_log.specs.Tables.{tabled};
 ghost use Rattle.rcu_list.specs.live_read.Holding.{log_of};
 ghost use Rattle.rcu_list.specs.live_read.Reads.{Looks};
-ghost use Rattle.rcu_hash.specs.Directories.{AnswersThrough, WalksThrough, leads_to};
+ghost use Rattle.rcu_hash.specs.Directories.{AnswersThrough, WalksThrough, leads_to, AnswersReader, VisitsTable};
 ghost use Rattle.rcu_hash.specs.Tables.{bucket_of};
 
 use gp_memb::GracePlan;
@@ -138,7 +138,7 @@ impl<B: Site> TableView<B> {
         requires { 0 < section.old.reader.now.core.depth }
         ensures reader { section.new.reader.ghost_name ≡ section.old.reader.ghost_name }
         ensures looked { Looks P.QSBR tabled section.old.reader.now.core section.new.reader.now.core }
-        ensures window { AnswersThrough (log_of section.old.reader.now.core) section.old.reader.now.core.seat.me.0.heard (log_of section.new.reader.now.core) B.sizes.chains self.directory key result }
+        ensures window { AnswersReader section.old.reader.now.core section.new.reader.now.core B.sizes.chains self.directory key result }
     {
         match section.first(self.directory) {
             Ok(Some(held)) => self.look(section, held, key),
@@ -188,7 +188,7 @@ impl<B: Site> TableView<B> {
         ensures reader { section.new.reader.ghost_name ≡ section.old.reader.ghost_name }
         ensures looked { Looks P.QSBR tabled section.old.reader.now.core section.new.reader.now.core }
         ensures callable { F.IsAlwaysCallable visit.new }
-        ensures met { (met : List (ℕ × ℕ)) × WalksThrough (log_of section.old.reader.now.core) section.old.reader.now.core.seat.me.0.heard (log_of section.new.reader.now.core) B.sizes.chains self.directory met × FoldsTo (λ f e g. F.step f e.0 e.1 tt g) visit.old met visit.new }
+        ensures met { VisitsTable section.old.reader.now.core section.new.reader.now.core B.sizes.chains self.directory (λ f e g. F.step f e.0 e.1 tt g) visit.old visit.new }
     {
         match section.first(self.directory) {
             Ok(Some(held)) => self.walk(section, held, visit),

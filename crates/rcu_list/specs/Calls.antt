@@ -1,12 +1,21 @@
 -- What an accepted call of a list's writer tells.
-use Rattle.std.specs.Prelude.{◌≡◌, ◌+◌, ◌∷◌, ◌<◌, ◌^◌, Bool, ℕ, Option, Some, None}
+use Rattle.std.specs.Prelude.{◌≡◌, ◌+◌, ◌%◌, [], ◌∷◌, ◌<◌, ◌^◌, Bool, ℕ, Option, Some, None}
+use Rattle.atomic_table.specs.declared.shared.Seat.{Seat}
 use Rattle.rcu_model.specs.declared.event.ObjectId.{ObjectId}
 use Rattle.rcu_model.specs.Sets.{at_number}
 use Rattle.live_log.specs.declared.event.LiveEvent.{LiveEvent}
 use Rattle.live_log.specs.declared.event.LiveEvent.TheVariants.{Object}
 use Rattle.live_log.specs.declared.event.ObjectEvent.TheVariants.{Push, Replace, Cut}
 use Rattle.live_log.specs.Log.{Log, Begins, IsLiveRun, note_of, state_of}
+use Rattle.domain.specs.Waiting.{FindsMore}
 use Rattle.domain.specs.live_items.Retiring.{Queues}
+use Rattle.domain.specs.live_read.Hearing.{IsAfter, MakesLast}
+use Rattle.domain.specs.live_read.declared.caller.Caller.{Ghosts}
+use Rattle.domain.specs.live_rule.declared.view.Sizes.{Sizes}
+use Rattle.domain.specs.live_rule.declared.view.View.{View}
+use Rattle.domain.specs.live_table.Rights.{own_in}
+use Rattle.domain.specs.live_table.Steps.{Keeps, Went}
+use Rattle.domain.specs.live_write.Chains.{list_in}
 use Rattle.rcu_list.specs.Maps.{map_of, next_rank, words_of}
 
 -- by the rule of chains, the list's chain, what its writer knew, and what the caller had seen and heard of
@@ -51,3 +60,44 @@ pub record HandsOver (qsbr : Bool) (allows : Log → LiveEvent → Type 0) (left
   pub given : ℕ
   pub turn : ticket ≡ given + 1
   pub queued : Queues qsbr allows (Begins published) left queue given log
+
+-- by the seat of the list's writer, before and after
+module _ {T W S : Type 0} (w : Ghosts W S) (qsbr : Bool) (allows : Log → LiveEvent → Type 0) (sizes : Sizes) (old new : W) (c : ℕ) (before after : Seat T View) where
+  -- a key that had no value has this one, of which the caller hears
+  abbrev pub IsInserted : ℕ → ℕ → Type 0
+  IsInserted key value = Inserts qsbr allows c before.me.0.seen (w.seen old) (w.heard old) key value after.me.0.seen × (w.heard new ≡ after.me.0.seen)
+
+  -- a key that had a value has this one, and what left the list is retired
+  abbrev pub IsReplaced : ℕ → ℕ → ℕ → Type 0
+  IsReplaced key value ticket = (left : ObjectId) × Replaces qsbr allows c before.me.0.seen (w.seen old) (w.heard old) key value left after.me.0.seen × HandsOver qsbr allows left (c % sizes.queues) ticket after.me.0.seen (w.heard new)
+
+  -- a key that had a value has none, and what left the list is retired
+  abbrev pub IsRemoved : ℕ → ℕ → Type 0
+  IsRemoved key ticket = (left : ObjectId) × Removes qsbr allows c before.me.0.seen (w.seen old) (w.heard old) key left after.me.0.seen × HandsOver qsbr allows left (c % sizes.queues) ticket after.me.0.seen (w.heard new)
+
+module _ {W S : Type 0} (w : Ghosts W S) (old new : W) where
+  -- the last event of the log was made for the caller, and words may have been found for it
+  abbrev pub MakesLastAndFinds : Log → Type 0
+  MakesLastAndFinds log = MakesLast w old new log × FindsMore w old new
+
+  -- the log goes on from this one, and from all that the caller had seen and heard of
+  abbrev pub GoesOnFrom : Bool → (Log → LiveEvent → Type 0) → Log → Log → Type 0
+  GoesOnFrom qsbr allows known log = IsAfter qsbr allows (w.seen old) (w.heard old) log × Begins known log
+
+-- by a seat before and after, and by the number of its chain
+module _ {T : Type 0} (qsbr : Bool) (allows : Log → LiveEvent → Type 0) (before after : Seat T View) (was is : ℕ) where
+  -- the writer of a chain has only looked
+  abbrev pub OnlyLooks : Type 0
+  OnlyLooks = Keeps before after × Went qsbr allows before.me.0 before.me after.me × (is ≡ was)
+
+  -- which is of the same domain
+  abbrev pub OnlyLooksIn : {D : Type 0} → D → D → Type 0
+  OnlyLooksIn home home' = Keeps before after × Went qsbr allows before.me.0 before.me after.me × (is ≡ was) × (home' ≡ home)
+
+  -- it comes back
+  abbrev pub ComesBack : Type 0
+  ComesBack = (is ≡ was) × Keeps before after × Went qsbr allows before.me.0 before.me after.me
+
+  -- it had no object and no note, and is the writer of a list
+  abbrev pub BecomesList : Type 0
+  BecomesList = (list_in before.me.0 ≡ []) × ((own_in before.me.0.chains).note ≡ 0) × ComesBack

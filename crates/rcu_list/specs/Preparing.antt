@@ -1,13 +1,13 @@
 -- A record that a writer has made ready.
-use Rattle.std.specs.Prelude.{◌≡◌, ◌≢◌, ℕ, ◌<◌}
+use Rattle.std.specs.Prelude.{◌≡◌, ◌≢◌, ℕ, ◌<◌, ◌^◌, None}
 use Rattle.rcu_model.specs.declared.event.ObjectId.{ObjectId}
 use Rattle.rcu_model.specs.Sets.{In}
 use Rattle.live_log.specs.Keys.{key_of, rank_of}
-use Rattle.live_log.specs.Log.{note_of}
+use Rattle.live_log.specs.Log.{Log, note_of}
 use Rattle.domain.specs.live_rule.declared.view.View.{View}
 use Rattle.domain.specs.live_table.Rights.{payload_in}
 use Rattle.domain.specs.live_write.Chains.{IsFirstWith, list_in}
-use Rattle.rcu_list.specs.Maps.{next_rank, words_of}
+use Rattle.rcu_list.specs.Maps.{map_of, next_rank, words_of}
 
 -- by what the writer of a chain knows, and the record
 module _ (v u : View) (key value : ℕ) where
@@ -24,3 +24,7 @@ module _ (v u : View) (key value : ℕ) where
     pub words : payload_in u.object ≡ words_of key value rank
     pub found : IsFirstWith v.seen (list_in v) key index
     pub same : rank ≡ rank_of (note_of v.seen found.object)
+
+-- a record of this seat is ready for a key that the map does not have, and a rank is left for it
+abbrev pub IsReadyFor : View → View → Log → (c key value : ℕ) → Type 0
+IsReadyFor v u known c key value = (made : MayComeIn v u key value) × (made.rank < 2 ^ 62) × (map_of known c key ≡ None)

@@ -1,11 +1,13 @@
 -- What is known where a call of a list's writer is refused.
-use Rattle.std.specs.Prelude.{◌≡◌, ◌≢◌, ◌⊎◌, ◌∷◌, ◌++◌, Bool, ℕ, List, None, IsSome}
+use Rattle.std.specs.Prelude.{◌≡◌, ◌≢◌, ◌⊎◌, ◌%◌, ◌∷◌, ◌++◌, Bool, ℕ, List, None, IsSome}
+use Rattle.atomic_table.specs.declared.shared.Seat.{Seat}
 use Rattle.rcu_model.specs.declared.refusal.Refusal.{Refusal}
 use Rattle.rcu_model.specs.declared.refusal.Refusal.TheVariants.{Closed, Exists, Memory, Missing, PoolFull}
 use Rattle.live_log.specs.declared.event.LiveEvent.{LiveEvent}
 use Rattle.live_log.specs.Log.{Log, Begins, IsLiveRun, closed_of}
 use Rattle.domain.specs.live_rule.Places.{cell_at, closed_at}
 use Rattle.domain.specs.live_rule.declared.view.Sizes.{Sizes}
+use Rattle.domain.specs.live_rule.declared.view.View.{View}
 use Rattle.domain.specs.live_read.Hearing.{IsAfter, Stays}
 use Rattle.domain.specs.live_read.declared.caller.Caller.{Ghosts}
 use Rattle.domain.specs.live_reclaim.Refusing.{RefusesRetirement}
@@ -52,3 +54,11 @@ module _ {W S : Type 0} (w : Ghosts W S) (qsbr : Bool) (allows : Log → LiveEve
     -- the key is not there; else its queue takes nothing
     abbrev pub RefusesRemoval : ℕ → Type 0
     RefusesRemoval queue = ((e ≡ Missing) × (map_of known c key ≡ None) × (new ≡ old)) ⊎ (IsSome (map_of known c key) × RefusesRetirement w qsbr allows sizes queue old new e)
+
+-- by what the seat of the list's writer knew, of the chain's queue
+module _ {T W S : Type 0} (w : Ghosts W S) (qsbr : Bool) (allows : Log → LiveEvent → Type 0) (sizes : Sizes) (old new : W) (e : Refusal) (c : ℕ) (before : Seat T View) (key : ℕ) where
+  abbrev pub IsNotReplaced : Type 0
+  IsNotReplaced = RefusesReplacement w qsbr allows sizes old new e before.me.0.seen c key (c % sizes.queues)
+
+  abbrev pub IsNotRemoved : Type 0
+  IsNotRemoved = RefusesRemoval w qsbr allows sizes old new e before.me.0.seen c key (c % sizes.queues)

@@ -1,18 +1,17 @@
 //! The writer of a keyed list.
 
-ghost use Rattle.std.specs.Prelude.{◌≡◌, ◌≢◌, ◌⊎◌, ◌+◌, ◌%◌, ◌<◌, ◌++◌, [], ℕ, List, IfErr, IfOk, Some};
+ghost use Rattle.std.specs.Prelude.{◌≡◌, ◌≢◌, ◌⊎◌, ◌+◌, ◌<◌, [], IfErr, IfOk, Some};
 ghost use Rattle.rcu_model.specs.Sets.{In};
 ghost use Rattle.rcu_model.specs.declared.event.ObjectId.{ObjectId};
 ghost use Rattle.rcu_model.specs.declared.refusal.Refusal.TheVariants.{BadConfig};
-ghost use Rattle.live_log.specs.Log.{Begins, note_of};
+ghost use Rattle.live_log.specs.Log.{note_of};
 ghost use Rattle.live_log.specs.Tables.{HasKey};
 ghost use Rattle.domain.specs.live_table.Rights.{own_in};
-ghost use Rattle.domain.specs.live_table.Steps.{Keeps, Went};
-ghost use Rattle.domain.specs.live_read.Hearing.{IsAfter, MakesLast, OnlyHears, OnlyMakesLast};
+ghost use Rattle.domain.specs.live_read.Hearing.{OnlyHears, OnlyMakesLast};
 ghost use Rattle.domain.specs.live_write.Chains.{list_in};
-ghost use Rattle.rcu_list.specs.Calls.{HandsOver, Inserts, Removes, Replaces};
+ghost use Rattle.rcu_list.specs.Calls.{BecomesList, ComesBack, GoesOnFrom, IsInserted, IsRemoved, IsReplaced, MakesLastAndFinds, OnlyLooks};
 ghost use Rattle.rcu_list.specs.Maps.{map_of};
-ghost use Rattle.rcu_list.specs.Refusing.{RefusesInsertion, RefusesRemoval, RefusesReplacement};
+ghost use Rattle.rcu_list.specs.Refusing.{RefusesInsertion, IsNotRemoved, IsNotReplaced};
 
 use crate::preparing::{prepare_insertion, prepare_replacement};
 use crate::rule::MapRule;
@@ -42,9 +41,9 @@ impl<'d, P: GracePlan + Drop, K: MapRule, B: Site, D: Deleter> RcuList<'d, P, K,
     pub fn new(
         mut chain: Chain<'d, P, K, B, D>,
     ) -> Result<RcuList<'d, P, K, B, D>, (Refusal, Chain<'d, P, K, B, D>)>
-        ensures made { IfOk result (λ l. (list_in chain.entry.seat.me.0 ≡ []) × ((own_in chain.entry.seat.me.0.chains).note ≡ 0) × (l.chain.number ≡ chain.entry.number) × Keeps chain.entry.seat l.chain.seat × Went P.QSBR K.allows chain.entry.seat.me.0 chain.entry.seat.me l.chain.seat.me) }
+        ensures made { IfOk result (λ l. BecomesList P.QSBR K.allows chain.entry.seat l.chain.seat chain.entry.number l.chain.number) }
         ensures refused { IfErr result (λ e. (e.0 ≡ BadConfig) × ((list_in chain.entry.seat.me.0 ≢ []) ⊎ ((own_in chain.entry.seat.me.0.chains).note ≢ 0))) }
-        ensures back { IfErr result (λ e. (e.1.number ≡ chain.entry.number) × Keeps chain.entry.seat e.1.seat × Went P.QSBR K.allows chain.entry.seat.me.0 chain.entry.seat.me e.1.seat.me) }
+        ensures back { IfErr result (λ e. ComesBack P.QSBR K.allows chain.entry.seat e.1.seat chain.entry.number e.1.number) }
     {
         let note = chain.note();
         if note != 0 || chain.len() != 0 {
@@ -65,7 +64,7 @@ impl<'d, P: GracePlan + Drop, K: MapRule, B: Site, D: Deleter> RcuList<'d, P, K,
     /// no memory and never waits.
     pub fn hear<W: Caller<B>>(&mut self, caller: &mut W)
         ensures chain { (self.new.chain.number ≡ self.old.chain.number) × (list_in self.new.chain.seat.me.0 ≡ list_in self.old.chain.seat.me.0) }
-        ensures told { IsAfter P.QSBR K.allows (W.seen caller.old) (W.heard caller.old) self.new.chain.seat.me.0.seen × Begins self.old.chain.seat.me.0.seen self.new.chain.seat.me.0.seen }
+        ensures told { GoesOnFrom W.Caller caller.old caller.new P.QSBR K.allows self.old.chain.seat.me.0.seen self.new.chain.seat.me.0.seen }
         ensures heard { W.heard caller.new ≡ self.new.chain.seat.me.0.seen }
         ensures same { OnlyHears W.Caller caller.old caller.new }
     {
@@ -75,7 +74,7 @@ impl<'d, P: GracePlan + Drop, K: MapRule, B: Site, D: Deleter> RcuList<'d, P, K,
     /// The value of a key, or none, by the map that the writer knows. It walks from the head, and never waits.
     pub fn value(&mut self, key: u64) -> Option<u64>
         ensures map { result ≡ map_of self.old.chain.seat.me.0.seen self.old.chain.number key }
-        ensures looked { Keeps self.old.chain.seat self.new.chain.seat × Went P.QSBR K.allows self.old.chain.seat.me.0 self.old.chain.seat.me self.new.chain.seat.me × (self.new.chain.number ≡ self.old.chain.number) }
+        ensures looked { OnlyLooks P.QSBR K.allows self.old.chain.seat self.new.chain.seat self.old.chain.number self.new.chain.number }
     {
         let Some(index) = self.chain.index_of(key) else {
             return None;
@@ -100,10 +99,10 @@ impl<'d, P: GracePlan + Drop, K: MapRule, B: Site, D: Deleter> RcuList<'d, P, K,
         key: u64,
         value: u64,
     ) -> Result<(), Refusal>
-        ensures inserted { IfOk result (λ _. Inserts P.QSBR K.allows self.old.chain.number self.old.chain.seat.me.0.seen (W.seen caller.old) (W.heard caller.old) key value self.new.chain.seat.me.0.seen × (W.heard caller.new ≡ self.new.chain.seat.me.0.seen)) }
-        ensures same { IfOk result (λ _. (self.new.chain.number ≡ self.old.chain.number) × MakesLast W.Caller caller.old caller.new self.new.chain.seat.me.0.seen × (W.loads caller.new ≡ W.loads caller.old) × ((found : List (ℕ × ℕ)) × (W.looks caller.new ≡ found ++ W.looks caller.old))) }
+        ensures inserted { IfOk result (λ _. IsInserted W.Caller P.QSBR K.allows B.sizes caller.old caller.new self.old.chain.number self.old.chain.seat self.new.chain.seat key value) }
+        ensures same { IfOk result (λ _. (self.new.chain.number ≡ self.old.chain.number) × MakesLastAndFinds W.Caller caller.old caller.new self.new.chain.seat.me.0.seen) }
         ensures refused { IfErr result (λ e. RefusesInsertion W.Caller P.QSBR K.allows B.sizes caller.old caller.new e self.old.chain.seat.me.0.seen self.old.chain.number key) }
-        ensures kept { IfErr result (λ _. Keeps self.old.chain.seat self.new.chain.seat × Went P.QSBR K.allows self.old.chain.seat.me.0 self.old.chain.seat.me self.new.chain.seat.me × (self.new.chain.number ≡ self.old.chain.number)) }
+        ensures kept { IfErr result (λ _. OnlyLooks P.QSBR K.allows self.old.chain.seat self.new.chain.seat self.old.chain.number self.new.chain.number) }
     {
         let owned = prepare_insertion(rt, &mut self.chain, caller, key, value)?;
         self.chain.push(caller, owned);
@@ -125,10 +124,10 @@ impl<'d, P: GracePlan + Drop, K: MapRule, B: Site, D: Deleter> RcuList<'d, P, K,
         value: u64,
         callback: D,
     ) -> Result<Ticket, (Refusal, D)>
-        ensures replaced { IfOk result (λ t. (left : ObjectId) × Replaces P.QSBR K.allows self.old.chain.number self.old.chain.seat.me.0.seen (W.seen caller.old) (W.heard caller.old) key value left self.new.chain.seat.me.0.seen × HandsOver P.QSBR K.allows left (self.old.chain.number % B.sizes.queues) t.0 self.new.chain.seat.me.0.seen (W.heard caller.new)) }
-        ensures same { IfOk result (λ _. (self.new.chain.number ≡ self.old.chain.number) × MakesLast W.Caller caller.old caller.new self.new.chain.seat.me.0.seen × (W.loads caller.new ≡ W.loads caller.old) × ((found : List (ℕ × ℕ)) × (W.looks caller.new ≡ found ++ W.looks caller.old))) }
-        ensures refused { IfErr result (λ e. (e.1 ≡ callback) × RefusesReplacement W.Caller P.QSBR K.allows B.sizes caller.old caller.new e.0 self.old.chain.seat.me.0.seen self.old.chain.number key (self.old.chain.number % B.sizes.queues)) }
-        ensures kept { IfErr result (λ _. Keeps self.old.chain.seat self.new.chain.seat × Went P.QSBR K.allows self.old.chain.seat.me.0 self.old.chain.seat.me self.new.chain.seat.me × (self.new.chain.number ≡ self.old.chain.number)) }
+        ensures replaced { IfOk result (λ t. IsReplaced W.Caller P.QSBR K.allows B.sizes caller.old caller.new self.old.chain.number self.old.chain.seat self.new.chain.seat key value t.0) }
+        ensures same { IfOk result (λ _. (self.new.chain.number ≡ self.old.chain.number) × MakesLastAndFinds W.Caller caller.old caller.new self.new.chain.seat.me.0.seen) }
+        ensures refused { IfErr result (λ e. (e.1 ≡ callback) × IsNotReplaced W.Caller P.QSBR K.allows B.sizes caller.old caller.new e.0 self.old.chain.number self.old.chain.seat key) }
+        ensures kept { IfErr result (λ _. OnlyLooks P.QSBR K.allows self.old.chain.seat self.new.chain.seat self.old.chain.number self.new.chain.number) }
     {
         let (index, owned) = match prepare_replacement(rt, &mut self.chain, caller, key, value) {
             Ok(ready) => ready,
@@ -157,10 +156,10 @@ impl<'d, P: GracePlan + Drop, K: MapRule, B: Site, D: Deleter> RcuList<'d, P, K,
         key: u64,
         callback: D,
     ) -> Result<Ticket, (Refusal, D)>
-        ensures removed { IfOk result (λ t. (left : ObjectId) × Removes P.QSBR K.allows self.old.chain.number self.old.chain.seat.me.0.seen (W.seen caller.old) (W.heard caller.old) key left self.new.chain.seat.me.0.seen × HandsOver P.QSBR K.allows left (self.old.chain.number % B.sizes.queues) t.0 self.new.chain.seat.me.0.seen (W.heard caller.new)) }
+        ensures removed { IfOk result (λ t. IsRemoved W.Caller P.QSBR K.allows B.sizes caller.old caller.new self.old.chain.number self.old.chain.seat self.new.chain.seat key t.0) }
         ensures same { IfOk result (λ _. (self.new.chain.number ≡ self.old.chain.number) × OnlyMakesLast W.Caller caller.old caller.new self.new.chain.seat.me.0.seen) }
-        ensures refused { IfErr result (λ e. (e.1 ≡ callback) × RefusesRemoval W.Caller P.QSBR K.allows B.sizes caller.old caller.new e.0 self.old.chain.seat.me.0.seen self.old.chain.number key (self.old.chain.number % B.sizes.queues)) }
-        ensures kept { IfErr result (λ _. Keeps self.old.chain.seat self.new.chain.seat × Went P.QSBR K.allows self.old.chain.seat.me.0 self.old.chain.seat.me self.new.chain.seat.me × (self.new.chain.number ≡ self.old.chain.number)) }
+        ensures refused { IfErr result (λ e. (e.1 ≡ callback) × IsNotRemoved W.Caller P.QSBR K.allows B.sizes caller.old caller.new e.0 self.old.chain.number self.old.chain.seat key) }
+        ensures kept { IfErr result (λ _. OnlyLooks P.QSBR K.allows self.old.chain.seat self.new.chain.seat self.old.chain.number self.new.chain.number) }
     {
         let Some(index) = self.chain.index_of(key) else {
             return Err((Refusal::Missing, callback));

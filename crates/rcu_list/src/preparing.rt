@@ -1,6 +1,6 @@
 //! What a writer of a chain of keys makes ready before it publishes: how much of a call needs no more than the chain.
 
-ghost use Rattle.std.specs.Prelude.{◌≡◌, ◌+◌, ◌<◌, ◌^◌, ◌++◌, ℕ, List, None, IfErr, IfNone, IfOk, IfSome, IsSome};
+ghost use Rattle.std.specs.Prelude.{◌≡◌, ◌+◌, ◌<◌, ◌^◌, None, IfErr, IfNone, IfOk, IfSome, IsSome};
 ghost use Rattle.rcu_model.specs.Sets.{In};
 ghost use Rattle.rcu_model.specs.declared.event.ObjectId.{ObjectId};
 ghost use Rattle.live_log.specs.Keys.{rank_of};
@@ -9,8 +9,10 @@ ghost use Rattle.domain.specs.live_table.Steps.{IsLater, Keeps, Went};
 ghost use Rattle.domain.specs.live_read.Hearing.{IsAfter, Stays};
 ghost use Rattle.domain.specs.live_write.Chains.{list_in};
 ghost use Rattle.rcu_list.specs.Maps.{HasLastRank, map_of, next_rank};
-ghost use Rattle.rcu_list.specs.Preparing.{MayComeIn, MayTakeOver};
+ghost use Rattle.rcu_list.specs.Preparing.{MayTakeOver, IsReadyFor};
 ghost use Rattle.rcu_list.specs.Refusing.{RefusesInsertion, RefusesSuccessor};
+ghost use Rattle.rcu_list.specs.Calls.{OnlyLooksIn};
+ghost use Rattle.domain.specs.Waiting.{FindsMore};
 
 use crate::rule::MapRule;
 use domain::{Caller, Chain, Deleter, Owned, Site};
@@ -59,11 +61,11 @@ pub fn prepare_insertion<
     key: u64,
     value: u64,
 ) -> Result<Owned<B>, Refusal>
-    ensures ready { IfOk result (λ o. (made : MayComeIn chain.new.seat.me.0 o.seat.me.0 key value) × (made.rank < 2 ^ 62) × (map_of chain.old.seat.me.0.seen chain.old.number key ≡ None)) }
+    ensures ready { IfOk result (λ o. IsReadyFor chain.new.seat.me.0 o.seat.me.0 chain.old.seat.me.0.seen chain.old.number key value) }
     ensures heard { IfOk result (λ _. IsAfter P.QSBR K.allows (W.seen caller.old) (W.heard caller.old) (W.heard caller.new)) }
-    ensures same { IfOk result (λ _. Stays W.Caller caller.old caller.new × (W.loads caller.new ≡ W.loads caller.old) × ((found : List (ℕ × ℕ)) × (W.looks caller.new ≡ found ++ W.looks caller.old))) }
+    ensures same { IfOk result (λ _. Stays W.Caller caller.old caller.new × FindsMore W.Caller caller.old caller.new) }
     ensures refused { IfErr result (λ e. RefusesInsertion W.Caller P.QSBR K.allows B.sizes caller.old caller.new e chain.old.seat.me.0.seen chain.old.number key) }
-    ensures looked { Keeps chain.old.seat chain.new.seat × Went P.QSBR K.allows chain.old.seat.me.0 chain.old.seat.me chain.new.seat.me × (chain.new.number ≡ chain.old.number) × (chain.new.home.now ≡ chain.old.home.now) }
+    ensures looked { OnlyLooksIn P.QSBR K.allows chain.old.seat chain.new.seat chain.old.number chain.new.number chain.old.home.now chain.new.home.now }
 {
     if chain.index_of(key).is_some() {
         return Err(Refusal::Exists);
@@ -94,9 +96,9 @@ pub fn prepare_replacement<
 ) -> Result<(usize, Owned<B>), Refusal>
     ensures ready { IfOk result (λ r. MayTakeOver chain.new.seat.me.0 r.1.seat.me.0 key value r.0 × IsSome (map_of chain.old.seat.me.0.seen chain.old.number key)) }
     ensures heard { IfOk result (λ _. IsAfter P.QSBR K.allows (W.seen caller.old) (W.heard caller.old) (W.heard caller.new)) }
-    ensures same { IfOk result (λ _. Stays W.Caller caller.old caller.new × (W.loads caller.new ≡ W.loads caller.old) × ((found : List (ℕ × ℕ)) × (W.looks caller.new ≡ found ++ W.looks caller.old))) }
+    ensures same { IfOk result (λ _. Stays W.Caller caller.old caller.new × FindsMore W.Caller caller.old caller.new) }
     ensures refused { IfErr result (λ e. RefusesSuccessor W.Caller P.QSBR K.allows B.sizes caller.old caller.new e chain.old.seat.me.0.seen chain.old.number key) }
-    ensures looked { Keeps chain.old.seat chain.new.seat × Went P.QSBR K.allows chain.old.seat.me.0 chain.old.seat.me chain.new.seat.me × (chain.new.number ≡ chain.old.number) × (chain.new.home.now ≡ chain.old.home.now) }
+    ensures looked { OnlyLooksIn P.QSBR K.allows chain.old.seat chain.new.seat chain.old.number chain.new.number chain.old.home.now chain.new.home.now }
 {
     let Some(index) = chain.index_of(key) else {
         return Err(Refusal::Missing);

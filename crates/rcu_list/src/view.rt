@@ -6,7 +6,7 @@ ghost use Rattle.rcu_model.specs.declared.refusal.Refusal.TheVariants.{NoPlace};
 ghost use Rattle.domain.specs.live_read.Holding.{log_of};
 ghost use Rattle.domain.specs.live_read.Reads.{Looks};
 ghost use Rattle.rcu_list.specs.Maps.{AnswersBetween};
-ghost use Rattle.rcu_list.specs.Walks.{GoesThrough, Meets};
+ghost use Rattle.rcu_list.specs.Walks.{GoesThrough, Meets, Visits};
 
 use crate::rule::MapRule;
 use domain::{Chain, Deleter, Domain, Held, Section, Site};
@@ -232,7 +232,7 @@ impl<B: Site> ListView<B> {
         ensures reader { section.new.reader.ghost_name ≡ section.old.reader.ghost_name }
         ensures looked { Looks P.QSBR K.allows section.old.reader.now.core section.new.reader.now.core }
         ensures callable { F.IsAlwaysCallable visit.new }
-        ensures met { (met : List (ℕ × ℕ)) × GoesThrough (λ key. key % buckets ≡ bucket) (log_of section.old.reader.now.core) section.old.reader.now.core.seat.me.0.heard (log_of section.new.reader.now.core) self.chain met × FoldsTo (λ f e g. F.step f e.0 e.1 tt g) visit.old met visit.new }
+        ensures met { Visits (λ f e g. F.step f e.0 e.1 tt g) visit.old visit.new (λ key. key % buckets ≡ bucket) section.old.reader.now.core section.new.reader.now.core self.chain }
     {
         match section.first(self.chain) {
             Ok(Some(first)) => self.walk(section, first, buckets, bucket, visit),
@@ -257,7 +257,7 @@ impl<B: Site> ListView<B> {
         ensures reader { section.new.reader.ghost_name ≡ section.old.reader.ghost_name }
         ensures looked { Looks P.QSBR K.allows section.old.reader.now.core section.new.reader.now.core }
         ensures callable { F.IsAlwaysCallable visit.new }
-        ensures met { (met : List (ℕ × ℕ)) × GoesThrough (λ key. ⊤) (log_of section.old.reader.now.core) section.old.reader.now.core.seat.me.0.heard (log_of section.new.reader.now.core) self.chain met × FoldsTo (λ f e g. F.step f e.0 e.1 tt g) visit.old met visit.new }
+        ensures met { Visits (λ f e g. F.step f e.0 e.1 tt g) visit.old visit.new (λ key. ⊤) section.old.reader.now.core section.new.reader.now.core self.chain }
     {
         self.for_each_of(section, 1, 0, visit);
     }

@@ -113,7 +113,7 @@ returns-clause-inserted g c =
 pub returns-clause-heard : goal.returns-clause-heard
 returns-clause-heard g c =
     let h = c.hear.ensures.same.0 in let r = c.in_ok-owned.ensures.same in let p = c.push.ensures.same in
-    (p.2 ∙ (r.1 ∙ h.1), (r.2.0, p.1 ∙ (r.2.1 ∙ ap (λ (l : List (ℕ × ℕ)). r.2.0 ++ l) h.0.1)))
+    (p.2 ∙ (r.1.0 ∙ h.1), (r.1.1.0, p.1 ∙ (r.1.1.1 ∙ ap (λ (l : List (ℕ × ℕ)). r.1.1.0 ++ l) h.0.1)))
 
 pub returns-clause-changes : goal.returns-clause-changes
 returns-clause-changes g c =

@@ -133,7 +133,7 @@ returns-in-Ok-answer-clause-replaced g c =
 pub returns-in-Ok-answer-clause-heard : goal.returns-in-Ok-answer-clause-heard
 returns-in-Ok-answer-clause-heard g c =
     let h = c.hear.ensures.same.0 in let r = c.in-Ok.ensures.same in let z = c.in-Ok-answer.ensures.same.0 in
-    (z.2 ∙ (r.1 ∙ h.1), (r.2.0, z.1 ∙ (r.2.1 ∙ ap (λ (l : List (ℕ × ℕ)). r.2.0 ++ l) h.0.1)))
+    (z.2 ∙ (r.1.0 ∙ h.1), (r.1.1.0, z.1 ∙ (r.1.1.1 ∙ ap (λ (l : List (ℕ × ℕ)). r.1.1.0 ++ l) h.0.1)))
 
 pub returns-in-Err-clause-refused : goal.returns-in-Err-clause-refused
 returns-in-Err-clause-refused g c =
@@ -160,10 +160,10 @@ returns-clause-refused g c =
     (by_second c.in-Err-answer.ensures.refused
     (λ m. let few : length (list_in three.seat.me.0) ≤ c.in-Ok.ready.0 = m.1 in omega arith)
     (λ k. let r = k.1 in record {
-      found = a.same.2.0;
+      found = a.same.1.1.0;
       closed = r.closed;
       cell = cell_in c.in-Err-answer.owned.seat.me.0.object;
-      looks = d.freed ∙ ap (λ (l : List (ℕ × ℕ)). (cell_at sizes (cell_in c.in-Err-answer.owned.seat.me.0.object) 0, 0) ∷ l) (r.looked ∙ (λ i. (closed_at sizes (number i % sizes.queues), r.closed) ∷ a.same.2.1 i));
+      looks = d.freed ∙ ap (λ (l : List (ℕ × ℕ)). (cell_at sizes (cell_in c.in-Err-answer.owned.seat.me.0.object) 0, 0) ∷ l) (r.looked ∙ (λ i. (closed_at sizes (number i % sizes.queues), r.closed) ∷ a.same.1.1.1 i));
       at = w.heard w3;
       told = r.told ∙ ap (λ (m : ℕ). closed_of (m % sizes.queues) (w.heard w3)) number;
       within = (
@@ -177,7 +177,7 @@ returns-clause-refused g c =
       );
       why = r.why;
       load = d.loads.0;
-      loads = d.loads.1 ∙ ap (λ (l : List Log). d.loads.0 ∷ l) (r.same.1 ∙ a.same.1);
+      loads = d.loads.1 ∙ ap (λ (l : List Log). d.loads.0 ∷ l) (r.same.1 ∙ a.same.1.0);
       same = stays_both w w1 w2 w4 a.same.0 (stays_both w w2 w3 w4 r.same.0 d.same);
     }))
 

@@ -1,6 +1,7 @@
 use Rattle.std.proofs.Common.{◌≡◌, ◌+◌, map, vec_len}
 use Rattle.live_log.specs.Tables.{tabled}
-use Rattle.rcu_hash.specs.Tidying.{FindsMore, HasWaited, IsLeft, Uses}
+use Rattle.rcu_list.specs.domain.Waiting.{FindsMore}
+use Rattle.rcu_hash.specs.Tidying.{HasWaited, IsLeft, Uses}
 use Rattle.rcu_hash.specs.Writers.{Each}
 use Rattle.rcu_hash.proofs.directory.Desk.clear_all.Given as goal
 

@@ -1,7 +1,8 @@
 use Rattle.std.proofs.Common.{◌≡◌, ◌+◌, length}
 use Rattle.live_log.specs.Tables.{tabled}
 use Rattle.rcu_list.specs.live_write.Chains.{list_in}
-use Rattle.rcu_hash.specs.Tidying.{FindsMore, HasWaited, IsLeft, Uses}
+use Rattle.rcu_list.specs.domain.Waiting.{FindsMore}
+use Rattle.rcu_hash.specs.Tidying.{HasWaited, IsLeft, Uses}
 use Rattle.rcu_hash.proofs.directory.Desk.retire_all.Given as goal
 
 abbrev pub invariant-loop : goal.invariant-loop

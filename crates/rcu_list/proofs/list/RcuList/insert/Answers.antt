@@ -71,7 +71,8 @@ pub returns-clause-same : goal.returns-clause-same
 returns-clause-same g c =
     let a = c.in_ok-owned.ensures in let p = c.push.ensures in let m = p.same in let s = a.same in (
       p.list.3 ∙ a.looked.2,
-      stays_makes g.W.Caller c.args.caller.now c.prepare_insertion.new.caller c.push.new.caller c.push.new.self.seat.me.0.seen s.0 m.0,
-      m.2 ∙ s.1,
-      (s.2.0, m.1 ∙ s.2.1),
+      (
+        stays_makes g.W.Caller c.args.caller.now c.prepare_insertion.new.caller c.push.new.caller c.push.new.self.seat.me.0.seen s.0 m.0,
+        (m.2 ∙ s.1.0, (s.1.1.0, m.1 ∙ s.1.1.1)),
+      ),
     )

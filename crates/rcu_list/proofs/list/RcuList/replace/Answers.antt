@@ -58,9 +58,10 @@ pub returns-in-Ok-replace_retire-clause-same : goal.returns-in-Ok-replace_retire
 returns-in-Ok-replace_retire-clause-same g c =
     let a = c.in-Ok.ensures in let r = c.in-Ok-replace_retire.ensures.same in let m = r.0 in let s = a.same in (
       r.1 ∙ a.looked.2,
-      stays_makes g.W.Caller c.args.caller.now c.prepare_replacement.new.caller c.replace_retire.new.caller c.replace_retire.new.chain.seat.me.0.seen s.0 m.0,
-      m.2 ∙ s.1,
-      (s.2.0, m.1 ∙ s.2.1),
+      (
+        stays_makes g.W.Caller c.args.caller.now c.prepare_replacement.new.caller c.replace_retire.new.caller c.replace_retire.new.chain.seat.me.0.seen s.0 m.0,
+        (m.2 ∙ s.1.0, (s.1.1.0, m.1 ∙ s.1.1.1)),
+      ),
     )
 
 pub returns-in-Err-replace_retire-clause-refused : goal.returns-in-Err-replace_retire-clause-refused
@@ -77,10 +78,10 @@ returns-in-Err-replace_retire-clause-refused g c =
         inr (by_second c.in-Err-replace_retire.ensures.refused
             (λ n. let few : length (list_in new.seat.me.0) ≤ c.in-Ok.ready.0 = n.1 in omega arith)
             (λ k. let r = k.1 in record {
-              found = a.same.2.0;
+              found = a.same.1.1.0;
               closed = r.closed;
               cell = cell_in c.in-Err-replace_retire.owned.seat.me.0.object;
-              looks = d.freed ∙ ap (λ (l : List (ℕ × ℕ)). (cell_at sizes (cell_in c.in-Err-replace_retire.owned.seat.me.0.object) 0, 0) ∷ l) (r.looked ∙ (λ i. (closed_at sizes (number i % sizes.queues), r.closed) ∷ a.same.2.1 i));
+              looks = d.freed ∙ ap (λ (l : List (ℕ × ℕ)). (cell_at sizes (cell_in c.in-Err-replace_retire.owned.seat.me.0.object) 0, 0) ∷ l) (r.looked ∙ (λ i. (closed_at sizes (number i % sizes.queues), r.closed) ∷ a.same.1.1.1 i));
               at = w.heard w2;
               told = r.told ∙ ap (λ (n : ℕ). closed_of (n % sizes.queues) (w.heard w2)) number;
               within = (
@@ -94,7 +95,7 @@ returns-in-Err-replace_retire-clause-refused g c =
               );
               why = r.why;
               load = d.loads.0;
-              loads = d.loads.1 ∙ ap (λ (l : List Log). d.loads.0 ∷ l) (r.same.1 ∙ a.same.1);
+              loads = d.loads.1 ∙ ap (λ (l : List Log). d.loads.0 ∷ l) (r.same.1 ∙ a.same.1.0);
               same = stays_both w w0 w1 w3 a.same.0 (stays_both w w1 w2 w3 r.same.0 d.same);
             })),
       ),

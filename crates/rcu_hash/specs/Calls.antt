@@ -1,0 +1,41 @@
+-- What a call of a table tells its caller.
+use Rattle.std.specs.Prelude.{◌≡◌, ◌⊎◌, ◌+◌, ◌%◌, Bool, true, false, ℕ, List, length}
+use Rattle.rcu_model.specs.declared.event.ObjectId.{ObjectId}
+use Rattle.rcu_model.specs.declared.refusal.Refusal.{Refusal}
+use Rattle.rcu_model.specs.declared.refusal.Refusal.TheVariants.{BadConfig, Busy, Memory, PoolFull}
+use Rattle.live_log.specs.Log.{Log}
+use Rattle.live_log.specs.Tables.{tabled}
+use Rattle.rcu_list.specs.live_read.Hearing.{IsAfter, MakesLast}
+use Rattle.rcu_list.specs.live_read.declared.caller.Caller.{Ghosts}
+use Rattle.rcu_list.specs.live_rule.declared.view.Sizes.{Sizes}
+use Rattle.rcu_list.specs.Calls.{HandsOver}
+use Rattle.rcu_hash.specs.Growing.{Grows, HasLeft}
+use Rattle.rcu_hash.specs.Publishing.{InsertsThrough, RemovesThrough, ReplacesThrough}
+use Rattle.rcu_hash.specs.Refusing.{FindsTaken}
+use Rattle.rcu_hash.specs.Tables.{IsAmong, fits}
+
+-- of a table whose directory is in chain d
+module _ {W S : Type 0} (w : Ghosts W S) (qsbr : Bool) (sizes : Sizes) (old new : W) (d : ℕ) where
+  -- a key that had no value has this one, of which the caller hears
+  abbrev pub IsInsertedThrough : ℕ → ℕ → Type 0
+  IsInsertedThrough key value = (chain : ℕ) × InsertsThrough qsbr tabled sizes.chains d (w.seen old) (w.heard old) key value chain (w.heard new)
+
+  -- a key that had a value has this one, and what left the table is retired
+  abbrev pub IsReplacedThrough : (key value ticket : ℕ) → Type 0
+  IsReplacedThrough key value ticket = (chain : ℕ) × (left : ObjectId) × (published : Log) × ReplacesThrough qsbr tabled sizes.chains d (w.seen old) (w.heard old) key value chain left published × HandsOver qsbr tabled left (chain % sizes.queues) ticket published (w.heard new) × MakesLast w old new published
+
+  -- a key that had a value has none, and what left the table is retired
+  abbrev pub IsRemovedThrough : (key ticket : ℕ) → Type 0
+  IsRemovedThrough key ticket = (chain : ℕ) × (left : ObjectId) × (published : Log) × RemovesThrough qsbr tabled sizes.chains d (w.seen old) (w.heard old) key chain left published × HandsOver qsbr tabled left (chain % sizes.queues) ticket published (w.heard new) × MakesLast w old new published
+
+  -- another directory, which names these chains, took the place of the old one, which left so many records
+  abbrev pub IsGrown : (first buckets left : ℕ) → Type 0
+  IsGrown first buckets left = (entries : List (ℕ × ℕ)) × Grows qsbr tabled sizes.chains d (w.seen old) (w.heard old) first buckets entries (w.heard new) × (left ≡ length entries + 1) × (fits sizes.chains d first buckets ≡ true)
+
+  -- a new table is refused: a chain is not there, or was taken, or there was no memory or no record
+  abbrev pub IsNotMade : (first buckets : ℕ) → Refusal → Type 0
+  IsNotMade first buckets e = ((e ≡ BadConfig) × ((fits sizes.chains d first buckets ≡ false) ⊎ FindsTaken w qsbr tabled old new sizes (λ c. (c ≡ d) ⊎ IsAmong first buckets c))) ⊎ ((fits sizes.chains d first buckets ≡ true) × ((e ≡ Memory) ⊎ (e ≡ PoolFull)))
+
+  -- a growth is refused: something is left of an earlier one, or as a new table is
+  abbrev pub IsNotGrown : (first buckets : ℕ) → Refusal → Type 0
+  IsNotGrown first buckets e = ((e ≡ Busy) × HasLeft d (w.heard new) × IsAfter qsbr tabled (w.seen old) (w.heard old) (w.heard new)) ⊎ (((e ≡ BadConfig) × ((fits sizes.chains d first buckets ≡ false) ⊎ FindsTaken w qsbr tabled old new sizes (IsAmong first buckets))) ⊎ ((fits sizes.chains d first buckets ≡ true) × ((e ≡ Memory) ⊎ (e ≡ PoolFull))))
