@@ -21,13 +21,13 @@ static void agree(const char *what, uint64_t got, uint64_t wanted)
     failed++;
 }
 
-/* A refusal leaves the handle as it was. */
+/* A refusal leaves the handle as it was. The bytes between its fields may have changed: no call gives them a meaning. */
 #define REFUSED(what, call, handle, wanted)                                                                            \
     do {                                                                                                               \
-        unsigned char before[sizeof(handle)];                                                                          \
-        memcpy(before, &(handle), sizeof(handle));                                                                     \
+        bool full = (handle).full;                                                                                     \
+        void *kept = (handle).kept;                                                                                    \
         agree(what, call, wanted);                                                                                     \
-        agree(what ", the handle", memcmp(before, &(handle), sizeof(handle)) != 0, 0);                                 \
+        agree(what ", the handle", (handle).full != full || (handle).kept != kept, 0);                                 \
     } while (0)
 
 static void new_domain(DOMAIN *domain, GRACE *grace, size_t slots)

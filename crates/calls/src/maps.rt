@@ -202,7 +202,7 @@ fn grow<P: GracePlan + Drop, B: Site, R: Wait>(
     }
 }
 
-/// So many callbacks, with codes that follow one another, and room for as many codes.
+/// Makes `many` callbacks with the codes from `code` on, and room for as many codes.
 fn callbacks(alloc: Global, many: u64, code: u64) -> Result<(Vec<Code>, Vec<u64>), AllocError> {
     let mut jobs = Vec::with_capacity(alloc, many as usize)?;
     for index in 0..many {

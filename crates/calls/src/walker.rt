@@ -50,7 +50,7 @@ fn try_lock<P: GracePlan, K: ChainRule, B: Site>(walker: &mut Walker<P, K, B>) -
     Answer::Says(locked)
 }
 
-/// What is held still at this depth: nothing, where no lock is open.
+/// The record that was found, as long as a lock is open; else none.
 fn kept(depth: u64, held: Option<Held>) -> Option<Held>
     ensures { IfSome result (λ h. (0 < depth) × (held ≡ Some h)) }
 {

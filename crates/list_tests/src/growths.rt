@@ -6,7 +6,7 @@ use crate::deleter::Adds;
 use rcu_model::Refusal;
 use std::alloc::Global;
 
-/// So many callbacks.
+/// Makes this many callbacks.
 pub(crate) fn callbacks(alloc: Global, many: usize) -> Result<Vec<Adds>, Refusal> {
     let mut jobs = Vec::new(alloc);
     for _ in 0..many {

@@ -225,7 +225,8 @@ fn one_record<P: GracePlan + Drop, B: Site, D: Deleter, R: Wait>(
     Ok(())
 }
 
-/// So many records on chain 0: of pushes and cuts at most as many as the domain has.
+/// Makes the operation on chain 0 `count` times, and answers how often. Of pushes and cuts that is at most the number of
+/// records of the domain.
 fn records<P: GracePlan + Drop, B: Site, D: Deleter, R: Wait>(
     rt: &R,
     domain: &Domain<P, AnyChain, B, D>,

@@ -195,7 +195,7 @@ impl OnTable {
         }
     }
 
-    /// What a number is cut down to, so that it is a key: that of many keys one is not there.
+    /// The mask that makes a key of a drawn number. The larger table lacks one of these keys.
     pub(crate) fn mask(self) -> u64 {
         match self {
             OnTable::Hit(Entries::Many) | OnTable::Miss(Entries::Many) => RECORDS - 1,

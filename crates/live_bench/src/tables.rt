@@ -185,7 +185,7 @@ fn removals<P: GracePlan + Drop, B: Site, R: Wait>(
     Ok(count)
 }
 
-/// So many growths, fewer once the lookups are done. Answers how many.
+/// Grows the table at most this often, and stops once the lookups are done. Answers how often it grew.
 fn growths<P: GracePlan + Drop, B: Site, R: Wait>(
     rt: &R,
     alloc: Global,

@@ -14,7 +14,7 @@ pub(crate) enum Deadline {
 }
 
 impl Deadline {
-    /// So many seconds from now on, where any are said.
+    /// The deadline that many seconds from now, or none where no number is given.
     pub(crate) fn after<R: Clock>(rt: &R, seconds: Option<u32>) -> Deadline {
         let Some(seconds) = seconds else {
             return Deadline::None;

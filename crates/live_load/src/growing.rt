@@ -11,7 +11,7 @@ use rcu_model::Refusal;
 use std::alloc::Global;
 use std::sync::Wait;
 
-/// So many callbacks.
+/// Makes this many callbacks.
 fn callbacks(alloc: Global, number: usize) -> Result<Vec<RoundDone>, Refusal> {
     let mut all = Vec::new(alloc);
     for _ in 0..number {

@@ -45,8 +45,8 @@ fn one_section<P: GracePlan, B: Site>(
     mixed
 }
 
-/// So many sections, over the chains in turn, until the time is over; in the quiescent-state flavour the reader
-/// announces after each. How many of them read a record whose words differ.
+/// Opens the sections of the load, over the chains in turn, until the time is over. In the quiescent-state flavour the
+/// reader announces after each. Answers how many of them read a record whose words differ.
 fn sections<P: GracePlan, B: Site, R: Clock>(
     rt: &R,
     reader: &mut Reader<P, AnyChain, B>,

@@ -157,7 +157,7 @@ pub(crate) fn total(parts: &[Result<Counts, Refusal>]) -> Result<Counts, Refusal
     Ok(all)
 }
 
-/// So many threads, started together. What each of them answers.
+/// Starts `number` threads together, waits for all, and answers what each returned.
 pub fn together<R: Threads + Sync, T: Send + Drop, F: Fn(usize) -> Result<T, Refusal> + Sync>(
     rt: &R,
     alloc: Global,

@@ -64,8 +64,8 @@ fn is_answered<P: GracePlan + Drop, K: ChainRule, B: Site>(
     false
 }
 
-/// So many polls for a grace period, and a wait for one where none of them is answered. Whether a poll says afterwards
-/// that one is over, and a section has ended that the reader had begun before.
+/// Polls up to `polls` times for a grace period, and waits for one where no poll says that it is over. Answers whether a
+/// poll says so then, and whether the section that the reader had begun before has ended.
 fn one_wait<P: GracePlan + Drop, K: ChainRule, B: Site, R: Wait>(
     rt: &R,
     domain: &Domain<P, K, B, RoundDone>,

@@ -33,17 +33,20 @@ from_behind first (x ∷ vs) ws v from = from_behind (first + 1) vs ws v from.1 
 
 -- what came after one log came after an earlier one
 module _ (Tells : Log → LiveEvent → Log → Type 0) (weaker : (known heard : Log) (e : LiveEvent) (log : Log) → Begins known heard → Tells heard e log → Tells known e log) where
-  pub key_weaker : (first buckets : ℕ) (known heard : Log) (e : ℕ × ℕ) (log : Log) → Begins known heard → CopiesKey Tells first buckets heard e log → CopiesKey Tells first buckets known e log
-  key_weaker first buckets known heard e log b k = record { object = k.object; cell = k.cell; rank = k.rank; tells = weaker known heard (Object (Push (bucket_of first buckets e.0) k.object k.cell (words_of e.0 e.1 k.rank))) log b k.tells }
+  pub key_weaker : (first buckets rank : ℕ) (known heard : Log) (e : ℕ × ℕ) (log : Log) → Begins known heard → CopiesKey Tells first buckets rank heard e log → CopiesKey Tells first buckets rank known e log
+  key_weaker first buckets rank known heard e log b k = record { object = k.object; cell = k.cell; tells = weaker known heard (Object (Push (bucket_of first buckets e.0) k.object k.cell (words_of e.0 e.1 rank))) log b k.tells }
 
-  pub copies_weaker : (first buckets : ℕ) (known heard : Log) (es : List (ℕ × ℕ)) (log : Log) → Begins known heard → CopiesAll Tells first buckets heard es log → CopiesAll Tells first buckets known es log
-  copies_weaker first buckets known heard [] log b c = begins_trans known heard log b c
-  copies_weaker first buckets known heard (e ∷ es) log b c = (c.0, key_weaker first buckets known heard e c.0 b c.1, c.2)
+  pub copies_weaker : (first buckets rank : ℕ) (known heard : Log) (es : List (ℕ × ℕ)) (log : Log) → Begins known heard → CopiesAll Tells first buckets rank heard es log → CopiesAll Tells first buckets rank known es log
+  copies_weaker first buckets rank known heard [] log b c = begins_trans known heard log b c
+  copies_weaker first buckets rank known heard (e ∷ es) log b c = (c.0, key_weaker first buckets rank known heard e c.0 b c.1, c.2)
 
   -- and with one more
-  pub copies_more : (first buckets : ℕ) (heard at : Log) (es : List (ℕ × ℕ)) (e : ℕ × ℕ) (log : Log) → CopiesAll Tells first buckets heard es at → CopiesKey Tells first buckets at e log → CopiesAll Tells first buckets heard (es ++ e ∷ []) log
-  copies_more first buckets heard at [] e log c k = (log, key_weaker first buckets heard at e log c k, ([], refl))
-  copies_more first buckets heard at (x ∷ xs) e log c k = (c.0, c.1, copies_more first buckets c.0 at xs e log c.2 k)
+  pub copies_more : (first buckets rank : ℕ) (heard at : Log) (es : List (ℕ × ℕ)) (e : ℕ × ℕ) (log : Log) → CopiesAll Tells first buckets rank heard es at → CopiesKey Tells first buckets (rank + length es) at e log → CopiesAll Tells first buckets rank heard (es ++ e ∷ []) log
+  copies_more first buckets rank heard at [] e log c k =
+      let same : rank + 0 ≡ rank = omega arith in (log, key_weaker first buckets rank heard at e log c (subst (λ (r : ℕ). CopiesKey Tells first buckets r at e log) same k), ([], refl))
+  copies_more first buckets rank heard at (x ∷ xs) e log c k =
+      let same : rank + suc (length xs) ≡ rank + 1 + length xs = omega arith in
+      (c.0, c.1, copies_more first buckets (rank + 1) c.0 at xs e log c.2 (subst (λ (r : ℕ). CopiesKey Tells first buckets r at e log) same k))
 
   pub notes_weaker : (note first many : ℕ) (known heard log : Log) → Begins known heard → NotesAll Tells note first many heard log → NotesAll Tells note first many known log
   notes_weaker note first zero known heard log b n = begins_trans known heard log b n
@@ -60,9 +63,9 @@ pub writes_go : (qsbr : Bool) (allows : Log → LiveEvent → Type 0) (seen hear
 writes_go qsbr allows seen heard e log w = begins_trans heard w.before log w.after.1 (e ∷ [], w.wrote)
 
 module _ (Tells : Log → LiveEvent → Log → Type 0) (goes : (heard : Log) (e : LiveEvent) (log : Log) → Tells heard e log → Begins heard log) where
-  pub copies_go : (first buckets : ℕ) (heard : Log) (es : List (ℕ × ℕ)) (log : Log) → CopiesAll Tells first buckets heard es log → Begins heard log
-  copies_go first buckets heard [] log c = c
-  copies_go first buckets heard (e ∷ es) log c = begins_trans heard c.0 log (goes heard (Object (Push (bucket_of first buckets e.0) c.1.object c.1.cell (words_of e.0 e.1 c.1.rank))) c.0 c.1.tells) (copies_go first buckets c.0 es log c.2)
+  pub copies_go : (first buckets rank : ℕ) (heard : Log) (es : List (ℕ × ℕ)) (log : Log) → CopiesAll Tells first buckets rank heard es log → Begins heard log
+  copies_go first buckets rank heard [] log c = c
+  copies_go first buckets rank heard (e ∷ es) log c = begins_trans heard c.0 log (goes heard (Object (Push (bucket_of first buckets e.0) c.1.object c.1.cell (words_of e.0 e.1 rank))) c.0 c.1.tells) (copies_go first buckets (rank + 1) c.0 es log c.2)
 
   pub notes_go : (note first many : ℕ) (heard log : Log) → NotesAll Tells note first many heard log → Begins heard log
   notes_go note first zero heard log n = n
@@ -90,20 +93,19 @@ module _ (qsbr : Bool) (seen : Log) (chains from buckets : ℕ) (some : 0 < buck
     outside : (c : ℕ) → first ≤ c → c < first + many → (c < from) ⊎ (from + buckets ≤ c)
     outside c low high = ⊎_elim (λ (below : from + buckets ≤ first). inr (omega arith)) (λ (above : first + many ≤ from). inl (omega arith)) apart
 
-    pub copies_leave : 0 < many → (heard : Log) (es : List (ℕ × ℕ)) (log : Log) → Begins old heard → Begins log new → CopiesAll (Writes qsbr tabled seen) first many heard es log → CopiesAll (LeavesMap qsbr tabled chains d seen) first many heard es log
-    copies_leave more heard [] log since until c = c
-    copies_leave more heard (e ∷ es) log since until c =
+    pub copies_leave : 0 < many → (rank : ℕ) (heard : Log) (es : List (ℕ × ℕ)) (log : Log) → Begins old heard → Begins log new → CopiesAll (Writes qsbr tabled seen) first many rank heard es log → CopiesAll (LeavesMap qsbr tabled chains d seen) first many rank heard es log
+    copies_leave more rank heard [] log since until c = c
+    copies_leave more rank heard (e ∷ es) log since until c =
         let k = c.1 in let b : ℕ = bucket_of first many e.0 in let low = mod_below e.0 many more in
-        let goes : Begins heard c.0 = writes_go qsbr tabled seen heard (Object (Push b k.object k.cell (words_of e.0 e.1 k.rank))) c.0 k.tells in (
+        let goes : Begins heard c.0 = writes_go qsbr tabled seen heard (Object (Push b k.object k.cell (words_of e.0 e.1 rank))) c.0 k.tells in (
           c.0,
           record {
             object = k.object;
             cell = k.cell;
-            rank = k.rank;
-            tells = leaves_between heard b (Object (Push b k.object k.cell (words_of e.0 e.1 k.rank))) c.0 since (begins_trans c.0 log new (copies_go (Writes qsbr tabled seen) (writes_go qsbr tabled seen) first many c.0 es log c.2) until)
+            tells = leaves_between heard b (Object (Push b k.object k.cell (words_of e.0 e.1 rank))) c.0 since (begins_trans c.0 log new (copies_go (Writes qsbr tabled seen) (writes_go qsbr tabled seen) first many (rank + 1) c.0 es log c.2) until)
                 (λ before i other. at_number_other b i (k.object ∷ (state_of before).chain b) (state_of before).chain other) (outside b (omega arith) (omega arith)) k.tells;
           },
-          copies_leave more c.0 es log (begins_trans old heard c.0 since goes) until c.2,
+          copies_leave more (rank + 1) c.0 es log (begins_trans old heard c.0 since goes) until c.2,
         )
 
     notes_from : (note k left : ℕ) (heard log : Log) → first ≤ k → k + left ≤ first + many → Begins old heard → Begins log new → NotesAll (Writes qsbr tabled seen) note k left heard log → NotesAll (LeavesMap qsbr tabled chains d seen) note k left heard log

@@ -57,7 +57,7 @@ module _ (qsbr : Bool) (allows : Log → LiveEvent → Type 0) (chains d : ℕ) 
     copied = g.copied;
     noted = g.noted;
     old = g.old;
-    copies = copies_weaker (LeavesMap qsbr allows chains d seen') (leaves_weaker qsbr allows chains d seen') first buckets heard heard' entries g.copied b g.copies;
+    copies = copies_weaker (LeavesMap qsbr allows chains d seen') (leaves_weaker qsbr allows chains d seen') first buckets 0 heard heard' entries g.copied b g.copies;
     notes = g.notes;
     exchanges = g.exchanges;
   })
@@ -66,7 +66,7 @@ module _ (qsbr : Bool) (allows : Log → LiveEvent → Type 0) (chains d : ℕ) 
   grows_go seen heard g =
       let goes : (h : Log) (e : LiveEvent) (l : Log) → LeavesMap qsbr allows chains d seen h e l → Begins h l = λ h e l t. writes_go qsbr allows seen h e l t.writes in
       let w = g.exchanges.leaves.writes in
-      begins_trans heard g.copied log (copies_go (LeavesMap qsbr allows chains d seen) goes first buckets heard entries g.copied g.copies)
+      begins_trans heard g.copied log (copies_go (LeavesMap qsbr allows chains d seen) goes first buckets 0 heard entries g.copied g.copies)
       (begins_trans g.copied g.noted log (notes_go (LeavesMap qsbr allows chains d seen) goes (d + 1) first buckets g.copied g.noted g.notes)
       (begins_trans g.noted w.before log w.after.1 (_ ∷ [], w.wrote)))
 

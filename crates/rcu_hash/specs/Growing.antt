@@ -23,17 +23,16 @@ pub record HasLeft (d : ℕ) (log : Log) : Type 0 where
 
 -- by what is told of an event: from what was heard of before it, the event, and the log that ends with it
 module _ (Tells : Log → LiveEvent → Log → Type 0) (first buckets : ℕ) where
-  -- a key got a record with its value, by a push into the chain of its bucket
-  pub record CopiesKey (heard : Log) (entry : ℕ × ℕ) (log : Log) : Type 0 where
+  -- a key got a record with its value and this rank, by a push into the chain of its bucket
+  pub record CopiesKey (rank : ℕ) (heard : Log) (entry : ℕ × ℕ) (log : Log) : Type 0 where
     pub object : ObjectId
     pub cell : ℕ
-    pub rank : ℕ
     pub tells : Tells heard (Object (Push (bucket_of first buckets entry.0) object cell (words_of entry.0 entry.1 rank))) log
 
-  -- each key did, in their order
-  abbrev pub CopiesAll : Log → List (ℕ × ℕ) → Log → Type 0
-  CopiesAll heard [] log = Begins heard log
-  CopiesAll heard (e ∷ es) log = (at : Log) × CopiesKey heard e at × CopiesAll at es log
+  -- each key did, in their order; their ranks follow one another, from this one on
+  abbrev pub CopiesAll : ℕ → Log → List (ℕ × ℕ) → Log → Type 0
+  CopiesAll rank heard [] log = Begins heard log
+  CopiesAll rank heard (e ∷ es) log = (at : Log) × CopiesKey rank heard e at × CopiesAll (rank + 1) at es log
 
 -- so many chains, from the first one on, got this note, in their order
 abbrev pub NotesAll : (Log → LiveEvent → Log → Type 0) → (note first many : ℕ) → Log → Log → Type 0
@@ -62,12 +61,12 @@ module _ (qsbr : Bool) (allows : Log → LiveEvent → Type 0) (chains d : ℕ) 
     pub had : (key : ℕ) → directed_map chains d leaves.writes.before key ≡ value_among entries key
     pub apart : AreApart entries
 
-  -- Each key got a record in its new bucket, then each new bucket the table's note, and then another directory took the
+  -- Each key got a record in its new bucket, with ranks from 0 on, then each new bucket the table's note, and then another directory took the
   -- place of the one that was linked. Each of these events left the table's map as it was.
   pub record Grows (heard : Log) (first buckets : ℕ) (entries : List (ℕ × ℕ)) (log : Log) : Type 0 where
     pub copied : Log
     pub noted : Log
     pub old : ObjectId
-    pub copies : CopiesAll (LeavesMap qsbr allows chains d seen) first buckets heard entries copied
+    pub copies : CopiesAll (LeavesMap qsbr allows chains d seen) first buckets 0 heard entries copied
     pub notes : NotesAll (LeavesMap qsbr allows chains d seen) (d + 1) first buckets copied noted
     pub exchanges : Exchanges noted old first buckets entries log

@@ -136,7 +136,7 @@ pub(crate) fn fill<'d, P: GracePlan + Drop, B: Site, D: Deleter, W: Caller<B>>(
     requires chains { (0 < vec_len chains.old) × Each IsEmpty (map (λ c. c.seat.me.0) chains.old.items) × Each IsAlone (map (λ c. c.seat.me.0) chains.old.items) }
     requires copied { AreApart (map (λ c. (c.key, c.value)) copied.items) × AreRanked 0 (map (λ c. c.rank) copied.items) }
     ensures values { (key : ℕ) → value_in_bucket (vec_len chains.new) (map (λ c. c.seat.me.0) chains.new.items) key ≡ value_among (map (λ c. (c.key, c.value)) copied.items) key }
-    ensures filled { (first : ℕ) → AreFrom first (map (λ c. c.seat.me.0) chains.old.items) → CopiesAll (Writes P.QSBR tabled (W.seen caller.old)) first (vec_len chains.old) (W.heard caller.old) (map (λ c. (c.key, c.value)) copied.items) (W.heard caller.new) }
+    ensures filled { (first : ℕ) → AreFrom first (map (λ c. c.seat.me.0) chains.old.items) → CopiesAll (Writes P.QSBR tabled (W.seen caller.old)) first (vec_len chains.old) 0 (W.heard caller.old) (map (λ c. (c.key, c.value)) copied.items) (W.heard caller.new) }
     ensures chains { (vec_len chains.new ≡ vec_len chains.old) × (map (λ c. c.number) chains.new.items ≡ map (λ c. c.number) chains.old.items) }
     ensures known { Each HasKeysIn (map (λ c. c.seat.me.0) chains.new.items) × Each HasNoNote (map (λ c. c.seat.me.0) chains.new.items) × Each IsAlone (map (λ c. c.seat.me.0) chains.new.items) }
     ensures heard { Begins (W.heard caller.old) (W.heard caller.new) }

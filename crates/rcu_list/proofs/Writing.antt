@@ -25,10 +25,10 @@ use Rattle.live_log.specs.Tables.{HasKey}
 use Rattle.live_log.proofs.Lemmas.{begins_trans, not_has}
 use Rattle.rcu_list.proofs.Allowing.{may_cut, may_push, may_replace}
 use Rattle.rcu_list.specs.Calls.{Inserts, Replaces, Removes}
-use Rattle.rcu_list.specs.Maps.{HasLastRank, map_of, next_rank, value_of, words_of}
+use Rattle.rcu_list.specs.Maps.{HasLastRank, map_of, next_rank, value_in, value_of, words_of}
 use Rattle.rcu_list.specs.Preparing.{MayComeIn, MayTakeOver}
 use Rattle.rcu_list.proofs.Changing.{inserts, key_missing, key_there, removes, replaces, same_note}
-use Rattle.rcu_list.proofs.Values.{rank_same}
+use Rattle.rcu_list.proofs.Values.{rank_same, value_same}
 
 -- the chain of a log is the list that the writer knows
 pub chain_known : (v : View) (c : ℕ) → IsListed v → (own_in v.chains).chain ≡ c → (state_of v.seen).chain c ≡ list_in v
@@ -60,6 +60,12 @@ module _ {S : Type 0} (qsbr : Bool) (allows : Log → LiveEvent → Type 0) (map
   pub rank_walked : next_rank (note_of n.0.seen) (list_in n.0) ≡ next_rank (note_of m.0.seen) ((state_of m.0.seen).chain c)
   rank_walked = ap (λ (x : ChainRight). next_rank (note_of n.0.seen) x.objects) same_own
       ∙ (rank_same (note_of m.0.seen) (note_of n.0.seen) (list_in m.0) note_walked ∙ ap (next_rank (note_of m.0.seen)) (sym (chain_known m.0 c listed is)))
+
+  pub map_walked : IsListed n.0 → (key : ℕ) → map_of n.0.seen c key ≡ map_of m.0.seen c key
+  map_walked listed' key =
+      let list : (state_of n.0.seen).chain c ≡ list_in m.0 = chain_known n.0 c listed' (ap (λ (x : ChainRight). x.chain) same_own ∙ is) ∙ ap (λ (x : ChainRight). x.objects) same_own in
+      ap (λ (l : List ObjectId). value_in (note_of n.0.seen) l key) list
+      ∙ (value_same (note_of m.0.seen) (note_of n.0.seen) (list_in m.0) key note_walked ∙ ap (λ (l : List ObjectId). value_in (note_of m.0.seen) l key) (sym (chain_known m.0 c listed is)))
 
   pub last_rank : IsListed n.0 → HasLastRank n.0.seen c → HasLastRank m.0.seen c
   last_rank listed' (o, first, last) =

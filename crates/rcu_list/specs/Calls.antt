@@ -101,3 +101,7 @@ module _ {T : Type 0} (qsbr : Bool) (allows : Log → LiveEvent → Type 0) (bef
   -- it had no object and no note, and is the writer of a list
   abbrev pub BecomesList : Type 0
   BecomesList = (list_in before.me.0 ≡ []) × ((own_in before.me.0.chains).note ≡ 0) × ComesBack
+
+-- by a seat before and after, the map of a chain is as it was
+abbrev pub KeepsMap : {T : Type 0} → Seat T View → Seat T View → ℕ → Type 0
+KeepsMap before after c = (key : ℕ) → map_of after.me.0.seen c key ≡ map_of before.me.0.seen c key

@@ -9,7 +9,7 @@ ghost use Rattle.live_log.specs.Tables.{HasKey};
 ghost use Rattle.domain.specs.live_table.Rights.{own_in};
 ghost use Rattle.domain.specs.live_read.Hearing.{OnlyHears, OnlyMakesLast};
 ghost use Rattle.domain.specs.live_write.Chains.{list_in};
-ghost use Rattle.rcu_list.specs.Calls.{BecomesList, ComesBack, GoesOnFrom, IsInserted, IsRemoved, IsReplaced, MakesLastAndFinds, OnlyLooks};
+ghost use Rattle.rcu_list.specs.Calls.{BecomesList, ComesBack, GoesOnFrom, IsInserted, IsRemoved, IsReplaced, KeepsMap, MakesLastAndFinds, OnlyLooks};
 ghost use Rattle.rcu_list.specs.Maps.{map_of};
 ghost use Rattle.rcu_list.specs.Refusing.{RefusesInsertion, IsNotRemoved, IsNotReplaced};
 
@@ -103,6 +103,7 @@ impl<'d, P: GracePlan + Drop, K: MapRule, B: Site, D: Deleter> RcuList<'d, P, K,
         ensures same { IfOk result (λ _. (self.new.chain.number ≡ self.old.chain.number) × MakesLastAndFinds W.Caller caller.old caller.new self.new.chain.seat.me.0.seen) }
         ensures refused { IfErr result (λ e. RefusesInsertion W.Caller P.QSBR K.allows B.sizes caller.old caller.new e self.old.chain.seat.me.0.seen self.old.chain.number key) }
         ensures kept { IfErr result (λ _. OnlyLooks P.QSBR K.allows self.old.chain.seat self.new.chain.seat self.old.chain.number self.new.chain.number) }
+        ensures map { IfErr result (λ _. KeepsMap self.old.chain.seat self.new.chain.seat self.old.chain.number) }
     {
         let owned = prepare_insertion(rt, &mut self.chain, caller, key, value)?;
         self.chain.push(caller, owned);
@@ -128,6 +129,7 @@ impl<'d, P: GracePlan + Drop, K: MapRule, B: Site, D: Deleter> RcuList<'d, P, K,
         ensures same { IfOk result (λ _. (self.new.chain.number ≡ self.old.chain.number) × MakesLastAndFinds W.Caller caller.old caller.new self.new.chain.seat.me.0.seen) }
         ensures refused { IfErr result (λ e. (e.1 ≡ callback) × IsNotReplaced W.Caller P.QSBR K.allows B.sizes caller.old caller.new e.0 self.old.chain.number self.old.chain.seat key) }
         ensures kept { IfErr result (λ _. OnlyLooks P.QSBR K.allows self.old.chain.seat self.new.chain.seat self.old.chain.number self.new.chain.number) }
+        ensures map { IfErr result (λ _. KeepsMap self.old.chain.seat self.new.chain.seat self.old.chain.number) }
     {
         let (index, owned) = match prepare_replacement(rt, &mut self.chain, caller, key, value) {
             Ok(ready) => ready,
@@ -160,6 +162,7 @@ impl<'d, P: GracePlan + Drop, K: MapRule, B: Site, D: Deleter> RcuList<'d, P, K,
         ensures same { IfOk result (λ _. (self.new.chain.number ≡ self.old.chain.number) × OnlyMakesLast W.Caller caller.old caller.new self.new.chain.seat.me.0.seen) }
         ensures refused { IfErr result (λ e. (e.1 ≡ callback) × IsNotRemoved W.Caller P.QSBR K.allows B.sizes caller.old caller.new e.0 self.old.chain.number self.old.chain.seat key) }
         ensures kept { IfErr result (λ _. OnlyLooks P.QSBR K.allows self.old.chain.seat self.new.chain.seat self.old.chain.number self.new.chain.number) }
+        ensures map { IfErr result (λ _. KeepsMap self.old.chain.seat self.new.chain.seat self.old.chain.number) }
     {
         let Some(index) = self.chain.index_of(key) else {
             return Err((Refusal::Missing, callback));

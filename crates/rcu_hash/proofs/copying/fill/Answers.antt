@@ -1,6 +1,6 @@
-use Rattle.std.proofs.Common.{◌≡◌, ◌<◌, ◌+◌, ◌%◌, ◌++◌, ℕ, List, [], ◌∷◌, Some, map, slice_get, option_map, vec_len, refl, sym, ap, ◌∙◌, subst, arith}
+use Rattle.std.proofs.Common.{◌≡◌, ◌<◌, ◌+◌, ◌%◌, ◌++◌, ℕ, List, [], ◌∷◌, Some, length, map, slice_get, option_map, vec_len, refl, sym, ap, ◌∙◌, subst, arith}
 use Rattle.std.proofs.Math.Seq.{map-set_same}
-use Rattle.std.proofs.lemmas.List.{append-nil, map-set, nil_from_length}
+use Rattle.std.proofs.lemmas.List.{append-nil, length-append, map-set, nil_from_length}
 use Rattle.std.proofs.lemmas.Nat.{mod_below}
 use Rattle.std.proofs.lemmas.Option.{slice_get-map, slice_get_read}
 use Rattle.live_log.specs.declared.event.LiveEvent.{LiveEvent}
@@ -30,6 +30,7 @@ loop-init g c = let r = c.requires in let rest = c.into_iter-rest.ensures in rec
   left = let len = rest.len in omega arith;
   many = sym c.len-buckets.ensures;
   done = [];
+  counted = refl;
   split = ap (map (λ x. (x.key, x.value))) (sym rest.rest);
   ranked = subst (λ l. AreRanked 0 (map (λ x. x.rank) l)) (sym rest.rest) r.copied.1;
   holds = hold_nothing (map (λ x. x.seat.me.0) c.args.chains.now.items) r.chains.1 r.chains.2;
@@ -75,6 +76,7 @@ loop-preserved g c =
       left = let more = c.in-Some.ensures.cases.1 in let was = i.left in omega arith;
       many = i.many;
       done = i.done ++ (x.key, x.value) ∷ [];
+      counted = omega (arith, length-append i.done ((x.key, x.value) ∷ []), i.counted);
       split = split_next (λ c. (c.key, c.value)) (λ c. c.rank) all i.done c.loop.rest.rest.items c.next.new.self.rest.items x next i.split;
       ranked = rank.1;
       holds = subst (Each (Holds (c.loop.counter + 1))) set_is (each_set (Holds (c.loop.counter + 1)) vs k now.seat.me.0 (each_weaker (Holds (c.loop.counter + 1)) (Holds c.loop.counter) vs (holds_next c.loop.counter) i.holds)
@@ -85,13 +87,14 @@ loop-preserved g c =
           i.values);
       filled = λ start from.
           let number : (own_in v.chains).chain ≡ bucket_of start n x.key = from_at start k vs v (numbers_from c.args.chains.now.items items start (λ c. c.number) (λ c. c.seat.me.0) (λ c. c.owns.2) i.numbers from) at in
+          let is_next : c.loop.counter ≡ 0 + length i.done = omega (arith, i.counted) in
+          let ranked = words ∙ ap (words_of x.key x.value) is_next in
           let u = x.owned.seat.me.0 in let last : Log = now.seat.me.0.seen in
-          let event : push_by v u ≡ Object (Push (bucket_of start n x.key) (object_in u.object) (cell_in u.object) (words_of x.key x.value x.rank)) = λ j. Object (Push (number j) (object_in u.object) (cell_in u.object) (x.words j)) in
-          subst (CopiesAll (Writes q tabled (w.seen w0)) start n (w.heard w0) (i.done ++ (x.key, x.value) ∷ [])) (sym p.heard)
-          (copies_more (Writes q tabled (w.seen w0)) (writes_weaker q tabled (w.seen w0)) start n (w.heard w0) (w.heard w1) i.done (x.key, x.value) last (i.filled start from) (record {
+          let event : push_by v u ≡ Object (Push (bucket_of start n x.key) (object_in u.object) (cell_in u.object) (words_of x.key x.value (0 + length i.done))) = λ j. Object (Push (number j) (object_in u.object) (cell_in u.object) (ranked j)) in
+          subst (CopiesAll (Writes q tabled (w.seen w0)) start n 0 (w.heard w0) (i.done ++ (x.key, x.value) ∷ [])) (sym p.heard)
+          (copies_more (Writes q tabled (w.seen w0)) (writes_weaker q tabled (w.seen w0)) start n 0 (w.heard w0) (w.heard w1) i.done (x.key, x.value) last (i.filled start from) (record {
             object = object_in u.object;
             cell = cell_in u.object;
-            rank = x.rank;
             tells = record {
               before = p.pushed.before;
               wrote = p.pushed.wrote ∙ ap (λ (z : LiveEvent). z ∷ p.pushed.before) event;
@@ -116,8 +119,8 @@ returns-clause-filled g c start from =
     let q = g.P.GracePlan.QSBR in let w = g.W.Caller in let w0 = c.args.caller.now in let w1 = c.loop.caller in let i = c.loop.invariant in
     let none : c.loop.rest.rest.items ≡ [] = nil_from_length c.loop.rest.rest.items (let left = i.left in let end = c.loop-test.false in let most = c.loop.auto.counter-end in let ok = c.loop.rest.rest.ok.0 in omega arith) in
     let all = i.split ∙ (ap (λ l. i.done ++ map (λ c. (c.key, c.value)) l) none ∙ append-nil i.done) in
-    subst (λ (es : List (ℕ × ℕ)). CopiesAll (Writes q tabled (w.seen w0)) start (vec_len c.args.chains.now) (w.heard w0) es (w.heard w1)) (sym all)
-    (subst (λ (n : ℕ). CopiesAll (Writes q tabled (w.seen w0)) start n (w.heard w0) i.done (w.heard w1)) c.len-buckets.ensures (i.filled start from))
+    subst (λ (es : List (ℕ × ℕ)). CopiesAll (Writes q tabled (w.seen w0)) start (vec_len c.args.chains.now) 0 (w.heard w0) es (w.heard w1)) (sym all)
+    (subst (λ (n : ℕ). CopiesAll (Writes q tabled (w.seen w0)) start n 0 (w.heard w0) i.done (w.heard w1)) c.len-buckets.ensures (i.filled start from))
 
 pub returns-clause-known : goal.returns-clause-known
 returns-clause-known g c =

@@ -106,7 +106,7 @@ returns-clause-grown g c =
     let on : Begins t (w.heard w1) = ([], h.heard) in
     let to_noted : Begins (w.heard w2) before = begins_trans (w.heard w2) (w.heard w3) before n.heard last.after.1 in
     let from = numbers_from c.args.growth.chains.items filled first (λ y. y.number) (λ y. y.seat.me.0) (λ y. y.owns.2) f.chains.1 r.2 in
-    let copies : CopiesAll (Writes q tabled (w.seen w0)) first m (w.heard w1) entries (w.heard w2) = subst (λ (s : Log). CopiesAll (Writes q tabled s) first m (w.heard w1) entries (w.heard w2)) h.same.0.0.0 (f.filled first r.2) in
+    let copies : CopiesAll (Writes q tabled (w.seen w0)) first m 0 (w.heard w1) entries (w.heard w2) = subst (λ (s : Log). CopiesAll (Writes q tabled s) first m 0 (w.heard w1) entries (w.heard w2)) h.same.0.0.0 (f.filled first r.2) in
     let told : NotesAll (Writes q tabled (w.seen w0)) (z.directory + 1) first m (w.heard w2) (w.heard w3) =
     subst (λ (y : Naming). NotesAll (Writes q tabled (w.seen w0)) (y.directory + 1) first m (w.heard w2) (w.heard w3)) (sym is)
     (subst (λ (k : ℕ). NotesAll (Writes q tabled (w.seen w0)) (c.args.shelf.now.naming.directory + 1) first k (w.heard w2) (w.heard w3)) f.chains.0
@@ -115,8 +115,8 @@ returns-clause-grown g c =
       copied = w.heard w2;
       noted = w.heard w3;
       old = z.object;
-      copies = copies_weaker (LeavesMap q tabled chains z.directory (w.seen w0)) (leaves_weaker q tabled chains z.directory (w.seen w0)) first m (w.heard w0) (w.heard w1) entries (w.heard w2) (subst (Begins (w.heard w0)) (sym h.heard) h.told.0.after_heard)
-          (copies_leave q (w.seen w0) chains z.first z.buckets dir.fits.0 dir.fits.1 z.directory z.object t before run was e.linked words first m apart r.0 (w.heard w1) entries (w.heard w2) on to_noted copies);
+      copies = copies_weaker (LeavesMap q tabled chains z.directory (w.seen w0)) (leaves_weaker q tabled chains z.directory (w.seen w0)) first m 0 (w.heard w0) (w.heard w1) entries (w.heard w2) (subst (Begins (w.heard w0)) (sym h.heard) h.told.0.after_heard)
+          (copies_leave q (w.seen w0) chains z.first z.buckets dir.fits.0 dir.fits.1 z.directory z.object t before run was e.linked words first m apart r.0 0 (w.heard w1) entries (w.heard w2) on to_noted copies);
       notes = notes_leave q (w.seen w0) chains z.first z.buckets dir.fits.0 dir.fits.1 z.directory z.object t before run was e.linked words first m apart (z.directory + 1) (w.heard w2) (w.heard w3) (begins_trans t (w.heard w1) (w.heard w2) on f.heard) last.after.1 told;
       exchanges = subst (λ (s : Log). Exchanges q tabled chains z.directory s (w.heard w3) z.object first m entries (w.heard w4)) (n.same.0.0.0 ∙ (f.same.0.made.0 ∙ h.same.0.0.0))
           (subst (λ (k : ℕ). Exchanges q tabled chains z.directory (w.seen w3) (w.heard w3) z.object first k entries (w.heard w4)) size e);

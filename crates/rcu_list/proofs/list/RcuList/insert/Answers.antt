@@ -8,7 +8,7 @@ use Rattle.domain.specs.live_rule.declared.rights.ChainRight.{ChainRight}
 use Rattle.domain.proofs.live_read.Lemmas.{stays_makes}
 use Rattle.domain.specs.live_write.Chains.{list_in}
 use Rattle.rcu_list.specs.Refusing.{RefusesInsertion}
-use Rattle.rcu_list.proofs.Writing.{by_no_note, chain_known, comes_in, keys_pushed, keys_walked, note_still, pushed_map, rank_walked, same_own}
+use Rattle.rcu_list.proofs.Writing.{by_no_note, chain_known, comes_in, keys_pushed, keys_walked, map_walked, note_still, pushed_map, rank_walked, same_own}
 use Rattle.rcu_list.proofs.list.RcuList.insert.Goals as goal
 
 pub push-requires : goal.push-requires
@@ -48,6 +48,11 @@ pub returns-in_err-owned-clause-kept : goal.returns-in_err-owned-clause-kept
 returns-in_err-owned-clause-kept g c =
     let p = err_from_is_err_and c.from_residual.result c.from_residual.ensures.1 in let l = c.in_err-owned.ensures.looked in
     rw p.1 (l.0, l.1, l.2)
+
+pub returns-in_err-owned-clause-map : goal.returns-in_err-owned-clause-map
+returns-in_err-owned-clause-map g c =
+    let qsbr = g.P.GracePlan.QSBR in let allows = g.K.ChainRule.allows in let maps = g.met.K.MapRule.maps qsbr in let old = c.args.self.now.chain in let new = c.prepare_insertion.new.chain in let p = err_from_is_err_and c.from_residual.result c.from_residual.ensures.1 in
+    rw p.1 (map_walked qsbr allows maps old.number old.seat.me new.seat.me c.in_err-owned.ensures.looked.1 old.owns.1 old.owns.2 new.owns.1)
 
 pub invariant_of-self : goal.invariant_of-self
 invariant_of-self g c =

@@ -11,8 +11,9 @@ use Rattle.domain.specs.live_items.Retiring.{Queues}
 use Rattle.domain.specs.live_reclaim.Refusing.{RefusesRetirement}
 use Rattle.domain.specs.live_write.Chains.{list_in}
 use Rattle.domain.proofs.live_write.Lemmas.{index_has}
-use Rattle.rcu_list.proofs.Writing.{by_no_note, by_second, chain_known, cut_map, found_there, if_err, if_ok, keys_walked, may_remove, note_still, note_walked, same_own, walked_missing, KnowsKeys, by_result, keys_cut}
+use Rattle.rcu_list.proofs.Writing.{by_no_note, by_second, chain_known, cut_map, found_there, if_err, if_ok, keys_walked, map_walked, may_remove, note_still, note_walked, same_own, walked_missing, KnowsKeys, by_result, keys_cut}
 use Rattle.domain.specs.live_table.Rights.{own_in}
+use Rattle.rcu_list.specs.Calls.{KeepsMap}
 use Rattle.rcu_list.proofs.list.RcuList.remove.Goals as goal
 
 pub returns-in_default-clause-refused : goal.returns-in_default-clause-refused
@@ -64,6 +65,17 @@ returns-clause-refused g c =
       ),
     ))
     c.cut_retire.ensures.refused c.cut_retire.ensures.back
+
+pub returns-in_default-clause-map : goal.returns-in_default-clause-map
+returns-in_default-clause-map g c =
+    let qsbr = g.P.GracePlan.QSBR in let allows = g.K.ChainRule.allows in let maps = g.met.K.MapRule.maps qsbr in let old = c.args.self.now.chain in let mid = c.index_of.new.self in
+    map_walked qsbr allows maps old.number old.seat.me mid.seat.me c.in_default.ensures.walked.1 old.owns.1 old.owns.2 mid.owns.1
+
+pub returns-clause-map : goal.returns-clause-map
+returns-clause-map g c =
+    let qsbr = g.P.GracePlan.QSBR in let allows = g.K.ChainRule.allows in let maps = g.met.K.MapRule.maps qsbr in let old = c.args.self.now.chain in let mid = c.index_of.new.self in
+    let same = map_walked qsbr allows maps old.number old.seat.me mid.seat.me c.in-Some.ensures.walked.1 old.owns.1 old.owns.2 mid.owns.1 in
+    if_err c.cut_retire.result _ _ _ (λ x r b. subst (λ z. KeepsMap old.seat z.seat old.number) (sym b.1) same) c.cut_retire.ensures.refused c.cut_retire.ensures.back
 
 pub invariant_of-self : goal.invariant_of-self
 invariant_of-self g c =

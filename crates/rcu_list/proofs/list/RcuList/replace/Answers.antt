@@ -13,7 +13,7 @@ use Rattle.domain.specs.live_items.Retiring.{Queues}
 use Rattle.domain.proofs.live_read.Lemmas.{stays_makes}
 use Rattle.domain.specs.live_write.Chains.{list_in}
 use Rattle.domain.proofs.live_write.Lemmas.{index_has}
-use Rattle.rcu_list.proofs.Writing.{by_no_note, by_second, chain_known, keys_walked, note_still, note_walked, replaced_map, same_own, stays_both, takes_over, KnowsKeys, by_result, keys_replaced}
+use Rattle.rcu_list.proofs.Writing.{by_no_note, by_second, chain_known, keys_walked, map_walked, note_still, note_walked, replaced_map, same_own, stays_both, takes_over, KnowsKeys, by_result, keys_replaced}
 use Rattle.rcu_list.proofs.list.RcuList.replace.Goals as goal
 
 pub returns-in-Err-clause-refused : goal.returns-in-Err-clause-refused
@@ -103,6 +103,16 @@ returns-in-Err-replace_retire-clause-refused g c =
 
 pub returns-in-Err-replace_retire-clause-kept : goal.returns-in-Err-replace_retire-clause-kept
 returns-in-Err-replace_retire-clause-kept g c = let b = c.in-Err-replace_retire.ensures.back in let p = c.in-Ok.ensures.looked in rw b.2 (p.0, p.1, p.2)
+
+pub returns-in-Err-clause-map : goal.returns-in-Err-clause-map
+returns-in-Err-clause-map g c =
+    let qsbr = g.P.GracePlan.QSBR in let allows = g.K.ChainRule.allows in let maps = g.met.K.MapRule.maps qsbr in let old = c.args.self.now.chain in let new = c.prepare_replacement.new.chain in
+    map_walked qsbr allows maps old.number old.seat.me new.seat.me c.in-Err.ensures.looked.1 old.owns.1 old.owns.2 new.owns.1
+
+pub returns-in-Err-replace_retire-clause-map : goal.returns-in-Err-replace_retire-clause-map
+returns-in-Err-replace_retire-clause-map g c =
+    let qsbr = g.P.GracePlan.QSBR in let allows = g.K.ChainRule.allows in let maps = g.met.K.MapRule.maps qsbr in let old = c.args.self.now.chain in let new = c.prepare_replacement.new.chain in
+    rw c.in-Err-replace_retire.ensures.back.2 (map_walked qsbr allows maps old.number old.seat.me new.seat.me c.in-Ok.ensures.looked.1 old.owns.1 old.owns.2 new.owns.1)
 
 pub invariant_of-self : goal.invariant_of-self
 invariant_of-self g c =
