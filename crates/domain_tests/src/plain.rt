@@ -108,23 +108,6 @@ pub(crate) fn synchronize<P: GracePlan + Drop, B: Site, D: Deleter, R: Wait>(
     domain.synchronize(rt, record)
 }
 
-/// `Domain::start_poll`.
-pub(crate) fn start_poll<P: GracePlan + Drop, B: Site, D: Deleter>(
-    domain: &Domain<P, AnyChain, B, D>,
-    record: &mut Handle<B>,
-) -> Result<LiveCookie, Refusal> {
-    domain.start_poll(record)
-}
-
-/// `Domain::poll`.
-pub(crate) fn poll<P: GracePlan + Drop, B: Site, D: Deleter>(
-    domain: &Domain<P, AnyChain, B, D>,
-    record: &mut Handle<B>,
-    cookie: &LiveCookie,
-) -> bool {
-    domain.poll(record, cookie)
-}
-
 /// `Domain::counts`.
 pub(crate) fn counts<P: GracePlan + Drop, B: Site, D: Deleter>(
     domain: &Domain<P, AnyChain, B, D>,

@@ -33,45 +33,6 @@ fn counted(seq: u64, records: u64, waits: [u64; 2]) -> Counts {
     }
 }
 
-/// Three records are pushed, and two of them cut and retired.
-fn retires_two<B: Site, R: Wait>(
-    rt: &R,
-    domain: &Domain<MembPlan, AnyChain, B, Adds>,
-    record: &mut Handle<B>,
-) -> Result<(), Refusal> {
-    let mut writer = plain::chain(domain, record, 1)?;
-    for word in 1..4 {
-        let owned = plain::alloc(rt, domain, record, [word; 4])?;
-        plain::push(&mut writer, record, owned);
-    }
-    let first = plain::cut_retire(rt, domain, record, &mut writer, 0, Adds(1));
-    let second = plain::cut_retire(rt, domain, record, &mut writer, 0, Adds(2));
-    if first.is_err() || second.is_err() {
-        return Err(Refusal::Memory);
-    }
-    Ok(())
-}
-
-/// The counts of a new domain, once two of three records are retired, after a grace period, and once they have run.
-fn counts<B: Site, R: Wait>(
-    rt: &R,
-    alloc: Global,
-    opened: Opened<MembPlan, AnyChain>,
-) -> Result<[Counts; 4], Refusal>
-    requires { (opened.table.words.shared.table_id ≡ B.table) × (opened.table.words.shared.key ≡ B.sizes) }
-{
-    let (domain, mut record) = opened.named::<B, Adds>(alloc)?;
-    let new = plain::counts(&domain, &mut record);
-    retires_two(rt, &domain, &mut record)?;
-    let retired = plain::counts(&domain, &mut record);
-    plain::synchronize(rt, &domain, &mut record)?;
-    let waited = plain::counts(&domain, &mut record);
-    plain::close(rt, &domain, &mut record);
-    plain::run_worker(rt, alloc, &domain, &mut record, 1)?;
-    let run = plain::counts(&domain, &mut record);
-    Ok([new, retired, waited, run])
-}
-
 /// A callback that returns once somebody has looked.
 #[derive(Drop)]
 struct Pauses {

@@ -1,9 +1,6 @@
-//! Four readers and two who wait, in threads of their own. Each reader raises a number of its own where it begins a
-//! section, and another where it ends one: a wait saw the sections end where no number of those that it found begun is
-//! missing among those ended after it.
+//! Readers and writers that are moved into threads, and domains that threads share.
 
-ghost use Rattle.std.specs.Prelude.{◌≡◌, false};
-ghost use Rattle.std.specs.Thread.{IsSync};
+ghost use Rattle.std.specs.Prelude.{◌≡◌};
 
 use crate::deleter::Adds;
 use crate::plain;
@@ -13,40 +10,12 @@ use gp_qsbr::QsbrPlan;
 use rcu_model::Refusal;
 use std::alloc::Global;
 use std::marker::Brand;
-use std::sync::atomic::{AtomicU64, Ordering};
 use std::sync::{Arc, Wait};
 use std::thread;
 use std::thread::{Threads, join};
 
-/// How many sections each reader opens.
+/// How many sections a reader opens.
 const SECTIONS: u64 = 5000;
-
-/// How many grace periods are waited for.
-const WAITS: usize = 50;
-
-/// The numbers of one reader: of the section that it began last, and of the one that it ended last.
-#[derive(Drop)]
-struct Numbers {
-    begun: AtomicU64,
-    ended: AtomicU64,
-}
-
-/// One section, in which the numbers are raised.
-fn one_section<P: GracePlan, B: Site>(
-    reader: &mut Reader<P, AnyChain, B>,
-    numbers: &Numbers,
-    number: u64,
-) -> Result<(), Refusal>
-    requires { (reader.old.core.depth ≡ 0) × (reader.old.core.locks ≡ 0) }
-    ensures { (reader.new.core.depth ≡ 0) × (reader.new.core.locks ≡ 0) }
-{
-    let section = reader.section()?;
-    numbers.begun.store(number, Ordering::SeqCst);
-    thread::yield_now();
-    numbers.ended.store(number, Ordering::SeqCst);
-    section.close();
-    Ok(())
-}
 
 /// A reader with no section or lock open.
 #[derive(Drop)]
@@ -64,104 +33,7 @@ fn registered<P: GracePlan + Drop, B: Site, R: Wait>(
     Ok(Idle { reader })
 }
 
-/// Sections, one after the other, and an announcement after each in the quiescent-state flavour. Whether none was
-/// refused.
-fn reads<P: GracePlan, B: Site>(idle: Idle<P, B>, all: &[Numbers]) -> bool {
-    let Idle { mut reader } = idle;
-    let Some(numbers) = all.get(reader.core.slot()) else {
-        return false;
-    };
-    if P::QSBR && reader.online().is_err() {
-        return false;
-    }
-    for number in 1..=SECTIONS {
-        if one_section(&mut reader, numbers, number).is_err() {
-            return false;
-        }
-        if P::QSBR && reader.quiescent().is_err() {
-            return false;
-        }
-    }
-    !P::QSBR || reader.offline().is_ok()
-}
-
-fn begun(all: &[Numbers], reader: usize) -> u64 {
-    match all.get(reader) {
-        Some(numbers) => numbers.begun.load(Ordering::SeqCst),
-        None => 0,
-    }
-}
-
-fn ended(all: &[Numbers], reader: usize) -> u64 {
-    match all.get(reader) {
-        Some(numbers) => numbers.ended.load(Ordering::SeqCst),
-        None => 0,
-    }
-}
-
-fn all_begun(all: &[Numbers]) -> [u64; 4] {
-    [begun(all, 0), begun(all, 1), begun(all, 2), begun(all, 3)]
-}
-
-/// Whether each of these sections has ended.
-fn have_ended(all: &[Numbers], found: &[u64; 4]) -> bool {
-    found
-        .iter()
-        .enumerate()
-        .all(|(reader, number)| *number <= ended(all, reader))
-}
-
-/// Whether a grace period that was waited for saw the sections end.
-fn waits_once<P: GracePlan + Drop, B: Site, R: Wait>(
-    rt: &R,
-    domain: &Domain<P, AnyChain, B, Adds>,
-    record: &mut Handle<B>,
-    all: &[Numbers],
-) -> Result<bool, Refusal> {
-    let found = all_begun(all);
-    let cookie = plain::start_poll(domain, record)?;
-    plain::synchronize(rt, domain, record)?;
-    Ok(plain::poll(domain, record, &cookie) && have_ended(all, &found))
-}
-
-/// Whether a grace period that was polled for saw the sections end. Where none ends soon, it waits for one.
-fn polls_once<P: GracePlan + Drop, B: Site, R: Wait>(
-    rt: &R,
-    domain: &Domain<P, AnyChain, B, Adds>,
-    record: &mut Handle<B>,
-    all: &[Numbers],
-) -> Result<bool, Refusal> {
-    let found = all_begun(all);
-    let cookie = plain::start_poll(domain, record)?;
-    for _ in 0..1000 {
-        if plain::poll(domain, record, &cookie) {
-            return Ok(have_ended(all, &found));
-        }
-        thread::yield_now();
-    }
-    plain::synchronize(rt, domain, record)?;
-    Ok(plain::poll(domain, record, &cookie) && have_ended(all, &found))
-}
-
-/// Waits and polls in turn. Whether each saw the sections end.
-fn waits<P: GracePlan + Drop, B: Site, R: Wait>(
-    rt: &R,
-    domain: &Domain<P, AnyChain, B, Adds>,
-    mut record: Handle<B>,
-    all: &[Numbers],
-) -> bool {
-    for _ in 0..WAITS {
-        if !matches!(waits_once(rt, domain, &mut record, all), Ok(true)) {
-            return false;
-        }
-        if !matches!(polls_once(rt, domain, &mut record, all), Ok(true)) {
-            return false;
-        }
-    }
-    true
-}
-
-/// Sections of a reader that no table of numbers is kept of. Whether none was refused.
+/// Sections of a reader, one after the other. Whether none was refused.
 fn spins<B: Site>(idle: Idle<MembPlan, B>) -> bool {
     let Idle { mut reader } = idle;
     for _ in 0..SECTIONS {

@@ -13,10 +13,6 @@ fn first(section: SectionId, found: Option<ObjectId>) -> Event {
     }
 }
 
-fn queue(object: ObjectId) -> Event {
-    Event::Queue { object, queue: 0 }
-}
-
 /// Asserts that each of the logs is a run.
 fn expect_runs(rt: &impl Abort, alloc: Global, logs: &[&[Event]]) {
     for log in logs {

@@ -1,5 +1,0 @@
-use Rattle.std.proofs.Common.{◌≡◌}
-use Rattle.domain_tests.proofs.threads.reads.Given as goal
-
-abbrev pub invariant-loop-number : goal.invariant-loop-number
-invariant-loop-number g l = (l.reader.core.depth ≡ 0) × (l.reader.core.locks ≡ 0)
