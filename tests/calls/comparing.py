@@ -61,9 +61,21 @@ def script_differences(command, text):
             yield f"{found}\n{it.decode()}"
 
 
+def watched_differences(command, text, watch):
+    """Of a text with what looks after each line, which changes no answer of the text's own lines."""
+    if watch.of_own() != answered(text)[0].splitlines():
+        yield "the model: its answers are others where it is looked after each line"
+    got = made(command, watch.text())
+    found = difference(watch.text(), got, (watch.printed(), "", 0))
+    if found is not None:
+        yield f"watched from {watch.before(got[0])}: {found}\n{text.decode()}"
+
+
 def scripts(count, seed):
-    """What is drawn: its name, its text, and whether its requests for memory are to be refused."""
+    """What is drawn: its name, its text, whether its requests for memory are to be refused, and whether it is watched.
+
+    Each seventh is watched: so are both flavours, with maps and without."""
     for index in range(count):
         flavour, has_maps, is_refused = ("memb", "qsbr")[index % 2], index % 3 == 2, index % 20 in (4, 15)
         name = f"script {index} of seed {seed}"
-        yield name, Drawn(name, flavour, has_maps, short=is_refused).text(), is_refused
+        yield name, Drawn(name, flavour, has_maps, short=is_refused).text(), is_refused, index % 7 == 0
