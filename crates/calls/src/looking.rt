@@ -13,6 +13,9 @@ use rcu_hash::{ListView, RcuHash, Reader, Site, Tabled};
 use rcu_model::Refusal;
 use std::alloc::Global;
 
+/// How many locks and sections a reader may have open at once.
+const GREATEST_DEPTH: u64 = 2_147_483_647;
+
 /// The value of a key of a list, or none.
 fn get_in_list<P: GracePlan, B: Site>(
     reader: &mut Reader<P, Tabled, B>,
@@ -109,7 +112,7 @@ fn in_table<P: GracePlan + Drop, B: Site>(
 }
 
 /// A lookup of a reader, after which it has found nothing: refused with `NoActor` where there is no such list or table,
-/// and with `NotOpen` where no lock is open.
+/// with `NotOpen` where no lock is open, and with `NestFull` where no more may be; then it has what it had.
 fn look<P: GracePlan + Drop, B: Site>(
     alloc: Global,
     maps: &Maps<'_, P, B>,
@@ -137,6 +140,9 @@ fn look<P: GracePlan + Drop, B: Site>(
     } else {
         None
     };
+    if walker.reader.core.depth() == GREATEST_DEPTH {
+        return Answer::Refused(Refusal::NestFull);
+    }
     walker.held = None;
     look_in(maps, &mut walker.reader, is_list, number, room, numbers[1])
 }
