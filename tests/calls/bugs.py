@@ -3,17 +3,18 @@
 
 bugs.py                   whether the text of each stands once in its file
 bugs.py plant NAME TOP    plants one in the repository TOP, which is a copy
-bugs.py catch PROGRAM..   of each program the rows and how many drawn scripts it answers wrongly
+bugs.py catch PROGRAM..   how many rows and drawn scripts each program answers wrongly, and how many as they are watched
 """
 
 import pathlib
 import sys
 
 sys.dont_write_bytecode = True
-from comparing import ROWS, answered, difference, made, row_of, scripts
+from comparing import ROWS, answered, made, row_of, scripts
+from watching import watched, watched_row
 
 CRATES = pathlib.Path(__file__).resolve().parents[2] / "crates"
-SCRIPTS, SECONDS, HANGS = 300, 3, 5
+SCRIPTS, SECONDS, HANGS = 300, 10, 5
 
 # A name, the file of a crate, what stands there, and what is put in its place.
 BUGS = [
@@ -44,7 +45,7 @@ BUGS = [
     ),
     (
         "a lock that is tried says the contrary",
-        "live_read/src/reader_core.rt",
+        "live_read/src/reader.rt",
         "self.lock().is_ok()",
         "self.lock().is_err()",
     ),
@@ -322,6 +323,48 @@ BUGS = [
         "        match domain.synchronize(rt, caller) {",
         "        let waited: Result<(), Refusal> = Ok(());\n        match waited {",
     ),
+    # Calls that do more than they say
+    (
+        "a push sets the note too",
+        "live_write/src/chain.rt",
+        "        push_record(self.table, &mut self.seat, self.number, caller, seat, cell);\n",
+        "        push_record(self.table, &mut self.seat, self.number, caller, seat, cell);\n"
+        "        write_note(self.table, &mut self.seat, self.number, caller, 7);\n",
+    ),
+    (
+        "an ask for a poll keeps a record",
+        "live_grace/src/cookie.rt",
+        "    let cookie = cookie_of(seq)?;\n",
+        "    let _kept = live_words::take_cell(table, seat, 0, 1);\n    let cookie = cookie_of(seq)?;\n",
+    ),
+    (
+        "who takes a chain takes the next one too",
+        "live_write/src/chain.rt",
+        "        let mut seat = table.cut_chains(&mut told);\n",
+        "        if chain + 1 < table.chains {\n"
+        "            let _next = hold_chain(table, &mut told, chain + 1);\n"
+        "        }\n"
+        "        let mut seat = table.cut_chains(&mut told);\n",
+    ),
+    (
+        "a poll notes the first chain",
+        "live_grace/src/cookie.rt",
+        "    is_past(cookie.cookie, seq)\n",
+        "    live_words::store_note(table, seat, 0, 9);\n    is_past(cookie.cookie, seq)\n",
+    ),
+    (
+        "a look at the note gives the chain back",
+        "live_write/src/chain.rt",
+        "        load_note(self.table, &mut self.seat, self.number)\n",
+        "        free_chain(self.table, &mut self.seat, self.number);\n"
+        "        load_note(self.table, &mut self.seat, self.number)\n",
+    ),
+    (
+        "an unregister gives the first slot back too",
+        "live_read/src/registering.rt",
+        "        release(&table, &mut seat, slot);\n",
+        "        release(&table, &mut seat, slot);\n        release(&table, &mut seat, 0);\n",
+    ),
 ]
 
 
@@ -343,19 +386,40 @@ def plant(name, top):
     file.write_text(text.replace(old, new))
 
 
-def catch(program):
-    """The rows that a program answers wrongly, how many scripts, and the first of these. One that hangs is given up."""
-    rows = [it.name for it in sorted(ROWS.iterdir()) if made(program, row_of(it)[0], SECONDS) != row_of(it)[1]]
+def tests():
+    """Each kind of tests, and of each test its name, its text, and what it has to print, tell and end with."""
+    rows = [(it.name, *row_of(it)) for it in sorted(ROWS.iterdir())]
+    drawn = [(name, text.encode(), is_watched) for name, text, _, is_watched in scripts(SCRIPTS, "catch")]
+    yield "rows", rows
+    yield "rows watched", as_watched((name, watched_row(text)) for name, text, _ in rows)
+    yield "scripts", [(name, text, answered(text)) for name, text, _ in drawn]
+    yield "scripts watched", as_watched((name, watched(text)) for name, text, is_watched in drawn if is_watched)
+
+
+def as_watched(watches):
+    return [(name, watch.text(), (watch.printed(), "", 0)) for name, watch in watches if watch is not None]
+
+
+def shown_by(program, kind):
+    """The names of those that a program answers wrongly. A program that hangs so often is given up."""
     wrong, hangs = [], 0
-    for name, text, _ in scripts(SCRIPTS, "catch"):
-        got = made(program, text.encode(), SECONDS)
-        if difference(text.encode(), got, answered(text.encode())) is not None:
+    for name, text, wanted in kind:
+        got = made(program, text, SECONDS)
+        if got != wanted:
             wrong.append(name)
         hangs += got[2] is None
         if hangs == HANGS:
             break
-    first = wrong[0] if wrong else "none"
-    print(f"{program}: {len(rows)} rows, {' '.join(rows[:5])}; {len(wrong)} of {SCRIPTS} scripts, {first}", flush=True)
+    return wrong
+
+
+def catch(program, kinds):
+    """Tells how many of each kind a program answers wrongly, and the first of these."""
+    shown = {name: shown_by(program, kind) for name, kind in kinds.items()}
+    told = [f"{len(it)} of {len(kinds[name])} {name} ({it[0] if it else 'none'})" for name, it in shown.items()]
+    names = {name for name, _, _ in kinds["scripts watched"]}
+    unwatched = len(names.intersection(shown["scripts"]))
+    print(f"{program}: {', '.join(told)}, and {unwatched} of these as they are", flush=True)
 
 
 def main(words):
@@ -367,8 +431,9 @@ def main(words):
         case ["plant", name, top]:
             plant(name, top)
         case ["catch", *programs]:
+            kinds = dict(tests())
             for program in programs:
-                catch(program)
+                catch(program, kinds)
         case _:
             sys.exit(__doc__)
     return 0
