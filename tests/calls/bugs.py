@@ -401,24 +401,25 @@ def as_watched(watches):
 
 
 def shown_by(program, kind):
-    """The names of those that a program answers wrongly. A program that hangs so often is given up."""
-    wrong, hangs = [], 0
+    """The names of those that a program answers wrongly, and how many were tried: one that hangs often is given up."""
+    wrong, tried, hangs = [], 0, 0
     for name, text, wanted in kind:
         got = made(program, text, SECONDS)
+        tried += 1
         if got != wanted:
             wrong.append(name)
         hangs += got[2] is None
         if hangs == HANGS:
             break
-    return wrong
+    return wrong, tried
 
 
 def catch(program, kinds):
     """Tells how many of each kind a program answers wrongly, and the first of these."""
     shown = {name: shown_by(program, kind) for name, kind in kinds.items()}
-    told = [f"{len(it)} of {len(kinds[name])} {name} ({it[0] if it else 'none'})" for name, it in shown.items()]
+    told = [f"{len(it)} of {tried} {name} ({it[0] if it else 'none'})" for name, (it, tried) in shown.items()]
     names = {name for name, _, _ in kinds["scripts watched"]}
-    unwatched = len(names.intersection(shown["scripts"]))
+    unwatched = len(names.intersection(shown["scripts"][0]))
     print(f"{program}: {', '.join(told)}, and {unwatched} of these as they are", flush=True)
 
 
