@@ -68,7 +68,7 @@ def watched_differences(command, text, watch):
     got = made(command, watch.text())
     found = difference(watch.text(), got, (watch.printed(), "", 0))
     if found is not None:
-        yield f"watched from {watch.before(got[0])}: {found}\n{text.decode()}"
+        yield f"{watch.before(got[0])} or a look after it: {found}\n{text.decode()}"
 
 
 def scripts(count, seed):

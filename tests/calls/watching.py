@@ -1,16 +1,21 @@
+#!/usr/bin/env python3
 """After each line of a script, calls that only look: what the line must not have changed shows at once.
+`watching.py < script` writes the script with these calls.
 
 They take each free chain and each free slot and give them back, and ask for what is refused while something is held. No
 look allocates, since that uses object numbers up: the `records` of `d counts` tell of a record that is lost. But after
 the last line the rest of the pool is taken too.
 """
 
+import sys
+
+sys.dont_write_bytecode = True
 from grammar import call_of
 from model import begun
 from script import MOST_OTHERS, MOST_READERS
 
 # After one line no more chains, objects of a chain, readers, free slots and free records are looked at than this.
-MOST = 12
+MOST = 14
 # A key that no list is given often.
 OTHER_KEY = 11
 # An updater that looks, and has then what it had before.
@@ -186,3 +191,8 @@ def takes_records(script):
         yield "d counts"
         yield from [f"{LOOKER} discard"] * free
         yield "d counts"
+
+
+if __name__ == "__main__":
+    made = watched(sys.stdin.buffer.read())
+    sys.stdout.write(made.text().decode() if made else "")
