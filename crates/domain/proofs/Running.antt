@@ -16,6 +16,8 @@ use Rattle.live_log.specs.declared.event.LiveEvent.{LiveEvent}
 use Rattle.live_log.specs.declared.event.LiveEvent.TheVariants.{Close}
 use Rattle.live_log.specs.Log.{Log, Begins, Has, HaveEnded, HaveRun, IsLiveRun, line_of, state_of}
 use Rattle.live_log.proofs.Lemmas.{begins_trans, grows_log, has_later, line_grows}
+use Rattle.live_words.specs.live_rule.declared.view.Look.{Look}
+use Rattle.live_words.specs.live_rule.declared.view.Look.TheVariants.{Loaded, Stored}
 use Rattle.live_words.specs.live_rule.declared.view.View.{View}
 use Rattle.live_words.specs.live_rule.Places.{finished_at, work_at}
 use Rattle.live_words.specs.live_rule.Steps.{Wrote}
@@ -115,9 +117,8 @@ pub worked_for : {D : Type 0} (answers : D → Ripe → ℕ → Type 0) (qsbr : 
     → HasWorked answers qsbr allows key q v.seen v.heard v.looks found v.loads loaded entries items stop log
     → HasWorked answers qsbr allows key q seen heard before looks earlier loads entries items stop log
 worked_for answers qsbr allows key sizes q seen heard v looks found before loads loaded earlier entries items stop log is looks_are loads_are h =
-    let x : ℕ × ℕ = (work_at key q, left_by stop) in
-    let y : ℕ × ℕ = (finished_at key q, h.first) in
-    let z : ℕ × ℕ = (work_at key q, 0) in
+    let x : Look = Stored (work_at key q) (left_by stop) in
+    let begun : Looks = Loaded (finished_at key q) h.first ∷ Stored (work_at key q) 1 ∷ Loaded (work_at key q) 0 ∷ [] in
     let since : Looks = h.looks_since in record {
       start = h.start;
       first = h.first;
@@ -145,7 +146,7 @@ worked_for answers qsbr allows key sizes q seen heard v looks found before loads
         before = u.before;
         used_up = u.used_up;
       };
-      looks = looks_are ∙ (ap (λ (l : Looks). l ++ before) (h.looks ∙ ap (λ (w : View). x ∷ (since ++ (y ∷ z ∷ w.looks))) is) ∙ ap (λ (l : Looks). x ∷ l) (append_assoc since (y ∷ z ∷ []) before));
+      looks = looks_are ∙ (ap (λ (l : Looks). l ++ before) (h.looks ∙ ap (λ (w : View). x ∷ (since ++ (begun ++ w.looks))) is) ∙ ap (λ (l : Looks). x ∷ l) (append_assoc since begun before));
     }
 
 module _ {S : Type 0} (qsbr : Bool) (allows : Log → LiveEvent → Type 0) where
@@ -188,7 +189,7 @@ module _ {S : Type 0} (qsbr : Bool) (allows : Log → LiveEvent → Type 0) wher
       }
 
   -- it loads two words
-  pub goes_looked : (s t : Seat S View) → Keeps s t → t.me.1 ≡ s.me.1 → t.me.0 ≡ record s.me.0 { seen = t.me.0.seen; looks = t.me.0.looks } → Begins s.me.0.seen t.me.0.seen → IsLiveRun qsbr allows t.me.0.seen → (a b : ℕ × ℕ) → t.me.0.looks ≡ a ∷ b ∷ s.me.0.looks → GoesOn qsbr allows s t
+  pub goes_looked : (s t : Seat S View) → Keeps s t → t.me.1 ≡ s.me.1 → t.me.0 ≡ record s.me.0 { seen = t.me.0.seen; looks = t.me.0.looks } → Begins s.me.0.seen t.me.0.seen → IsLiveRun qsbr allows t.me.0.seen → (a b : Look) → t.me.0.looks ≡ a ∷ b ∷ s.me.0.looks → GoesOn qsbr allows s t
   goes_looked s t keeps own view later run a b looks = record {
     keeps = keeps;
     own = own;
@@ -206,5 +207,5 @@ module _ {S : Type 0} (qsbr : Bool) (allows : Log → LiveEvent → Type 0) wher
     sizes = ap (λ (v : View). v.sizes) e.1;
     later = e.2.0;
     run = e.2.2;
-    finds = (((place, word) ∷ [], ap (λ (v : View). v.looks) e.1), ([], ap (λ (v : View). v.loads) e.1));
+    finds = ((Loaded place word ∷ [], ap (λ (v : View). v.looks) e.1), ([], ap (λ (v : View). v.loads) e.1));
   }

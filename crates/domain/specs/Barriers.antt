@@ -2,6 +2,7 @@
 use Rattle.std.specs.Prelude.{Bool, ◌≡◌, ℕ, List, ◌++◌, MatchBool}
 use Rattle.live_log.specs.declared.event.LiveEvent.{LiveEvent}
 use Rattle.live_log.specs.Log.{Log, Begins}
+use Rattle.live_words.specs.live_rule.declared.view.Look.{Look}
 use Rattle.live_words.specs.live_rule.declared.view.Sizes.{Sizes}
 use Rattle.live_words.specs.live_rule.declared.view.View.{View}
 use Rattle.live_read.specs.declared.caller.Caller.{Ghosts}
@@ -19,8 +20,8 @@ pub record Barred {W S : Type 0} (w : Ghosts W S) (qsbr : Bool) (allows : Log �
   pub since : Begins asked (w.heard new)
   pub run : HaveAllRun asked (w.heard new)
   pub counts : List ℕ
-  pub first_looks : List (ℕ × ℕ)
-  pub looks_since : List (ℕ × ℕ)
+  pub first_looks : List Look
+  pub looks_since : List Look
   pub looked : w.looks new ≡ looks_since ++ (first_looks ++ w.looks old)
   pub noted : AreNoted key counts key.queues first_looks
   pub run_as_counted : HaveRunAsCounted key counts (w.heard new)
@@ -32,7 +33,7 @@ module _ {W S : Type 0} (w : Ghosts W S) (key : Sizes) (old new : W) where
 
   -- it was told by the finished counts whether each queue has reached its own
   abbrev pub IsReachedBy : List ℕ → Bool → Type 0
-  IsReachedBy counts reached = (since : List (ℕ × ℕ)) × (w.looks new ≡ since ++ w.looks old) × MatchBool reached (AreReached key counts key.queues since) (WasLess key counts since)
+  IsReachedBy counts reached = (since : List Look) × (w.looks new ≡ since ++ w.looks old) × MatchBool reached (AreReached key counts key.queues since) (WasLess key counts since)
 
   -- a caller who had heard of the mark's log hears that all that was queued in it has its Run
   abbrev pub HearsOfRuns : View → Type 0

@@ -3,7 +3,6 @@ pub mod Waiting
 pub mod Retiring
 pub mod Barriers
 pub mod Working
-pub mod Writing
 pub use Rattle.live_words.specs.live_chains as live_chains
 pub use Rattle.live_items.specs as live_items
 pub use Rattle.live_read.specs as live_read

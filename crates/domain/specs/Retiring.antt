@@ -1,5 +1,6 @@
 -- What a call tells that retires what it takes out of a chain.
 use Rattle.std.specs.Prelude.{◌≡◌, ◌⊎◌, ◌+◌, ◌%◌, ◌<◌, ◌≤◌, Bool, ℕ, List, [], length, Some, slice_get}
+use Rattle.atomic_table.specs.declared.shared.Seat.{Seat}
 use Rattle.rcu_model.specs.Sets.{replaced, without_object}
 use Rattle.rcu_model.specs.declared.event.ObjectId.{ObjectId}
 use Rattle.rcu_model.specs.declared.refusal.Refusal.{Refusal}
@@ -12,9 +13,10 @@ use Rattle.live_words.specs.live_rule.Seats.{lent_chains}
 use Rattle.live_words.specs.live_table.Rights.{object_in, own_in}
 use Rattle.live_words.specs.live_chains.Chains.{cut_of}
 use Rattle.live_items.specs.Retiring.{IsAfterAll, Queues}
+use Rattle.live_read.specs.Hearing.{OnlyMakesLast}
 use Rattle.live_read.specs.declared.caller.Caller.{Ghosts}
 use Rattle.live_reclaim.specs.Refusing.{RefusesRetirement}
-use Rattle.live_write.specs.Chains.{MayPublish, Publishes, list_in, replace_by}
+use Rattle.live_write.specs.Chains.{Publishes, list_in, replace_by}
 
 -- The object at an index of a chain left it by an event of its own, which left this list; and then it was retired, and
 -- queued with the ticket. The views are the writer's before and after.
@@ -34,24 +36,23 @@ module _ {W S : Type 0} (w : Ghosts W S) (qsbr : Bool) (allows : Log → LiveEve
   abbrev pub RetiresCut : View → ℕ → ℕ → Type 0
   RetiresCut unlinked chain ticket = (given : ℕ) × (ticket ≡ given + 1) × Queues qsbr allows (IsAfterAll unlinked.seen (w.seen old) (w.heard old)) (object_in unlinked.object) (chain % key.queues) given (w.heard new)
 
-  module _ (writer : View) (chain index : ℕ) where
+  module _ {T : Type 0} (before : Seat T View) (chain index : ℕ) where
+    abbrev writer : View
+    writer = before.me.0
+
     -- the object at the index was cut, retired and queued with the ticket
-    abbrev pub CutsAndRetires : View → ℕ → Type 0
-    CutsAndRetires after ticket = Retires qsbr allows writer after (w.seen old) (w.heard old) [] index (λ o. cut_of o writer) (λ o. without_object o (list_in writer)) (chain % key.queues) ticket (w.heard new)
+    abbrev pub CutsAndRetires : Seat T View → ℕ → Type 0
+    CutsAndRetires after ticket = Retires qsbr allows writer after.me.0 (w.seen old) (w.heard old) [] index (λ o. cut_of o writer) (λ o. without_object o (list_in writer)) (chain % key.queues) ticket (w.heard new)
 
     -- it was replaced by the record that another seat owns
-    abbrev pub ReplacesAndRetires : View → View → ℕ → Type 0
-    ReplacesAndRetires owned after ticket = Retires qsbr allows writer after (w.seen old) (w.heard old) owned.seen index (λ o. replace_by o writer owned) (λ o. replaced o (object_in owned.object) (list_in writer)) (chain % key.queues) ticket (w.heard new)
+    abbrev pub ReplacesAndRetires : Seat T View → Seat T View → ℕ → Type 0
+    ReplacesAndRetires owned after ticket = Retires qsbr allows writer after.me.0 (w.seen old) (w.heard old) owned.me.0.seen index (λ o. replace_by o writer owned.me.0) (λ o. replaced o (object_in owned.me.0.object) (list_in writer)) (chain % key.queues) ticket (w.heard new)
 
     -- there is no object at the index, and nothing was done, or its retirement is refused
     abbrev pub RefusesAt : Refusal → Type 0
     RefusesAt e = ((e ≡ NoPlace) × (length (list_in writer) ≤ index) × (new ≡ old)) ⊎ ((index < length (list_in writer)) × RefusesRetirement w qsbr allows key (chain % key.queues) old new e)
 
-module _ {W S : Type 0} (w : Ghosts W S) (qsbr : Bool) (allows : Log → LiveEvent → Type 0) (old : W) (writer : View) (index : ℕ) where
-  -- the rule of chains lets the writer cut the object at the index
-  abbrev pub MayCut : Type 0
-  MayCut = (o : ObjectId) → slice_get (list_in writer) index ≡ Some o → MayPublish qsbr allows writer (w.seen old) (w.heard old) [] (cut_of o writer)
-
-  -- and replace it by the record that another seat owns
-  abbrev pub MayReplace : View → Type 0
-  MayReplace owned = (o : ObjectId) → slice_get (list_in writer) index ≡ Some o → MayPublish qsbr allows writer (w.seen old) (w.heard old) owned.seen (replace_by o writer owned)
+module _ {W S : Type 0} (w : Ghosts W S) (old new : W) where
+  -- the last event of the log was made for the caller, by the writer of this chain of this domain
+  abbrev pub MakesLastIn : {D : Type 0} → Log → ℕ → ℕ → D → D → Type 0
+  MakesLastIn log was is home home' = OnlyMakesLast w old new log × (is ≡ was) × (home' ≡ home)

@@ -5,6 +5,7 @@ use Rattle.rcu_model.specs.declared.refusal.Refusal.{Refusal}
 use Rattle.rcu_model.specs.declared.refusal.Refusal.TheVariants.{Exhausted}
 use Rattle.live_log.specs.declared.event.LiveEvent.{LiveEvent}
 use Rattle.live_log.specs.Log.{Log, Begins, HaveEnded, IsLiveRun, seq_of}
+use Rattle.live_words.specs.live_rule.declared.view.Look.{Look}
 use Rattle.live_words.specs.live_rule.declared.view.Sizes.{Sizes}
 use Rattle.live_read.specs.declared.caller.Caller.{Ghosts}
 use Rattle.live_read.specs.Hearing.{IsAfter}
@@ -31,16 +32,12 @@ module _ (qsbr : Bool) (allows : Log → LiveEvent → Type 0) (seen heard : Log
 module _ {W S : Type 0} (w : Ghosts W S) (old new : W) where
   -- words may have been found for the caller, but the sequence number was not loaded
   abbrev pub FindsMore : Type 0
-  FindsMore = (w.loads new ≡ w.loads old) × ((found : List (ℕ × ℕ)) × (w.looks new ≡ found ++ w.looks old))
+  FindsMore = (w.loads new ≡ w.loads old) × ((found : List Look) × (w.looks new ≡ found ++ w.looks old))
 
 module _ {W S : Type 0} (w : Ghosts W S) (qsbr : Bool) (allows : Log → LiveEvent → Type 0) (old new : W) where
   -- the sequence number was loaded once for the caller, in the log that it hears of
   abbrev pub LoadsSeq : Type 0
   LoadsSeq = LoadedOnce qsbr allows (w.seen old) (w.heard old) (w.loads old) (w.loads new) (w.heard new)
-
-  -- in a log before it
-  abbrev pub LoadsSeqBefore : Type 0
-  LoadsSeqBefore = (log : Log) × (w.loads new ≡ log ∷ w.loads old) × IsAfter qsbr allows (w.seen old) (w.heard old) log × Begins log (w.heard new)
 
   -- the sequence number was at its end
   abbrev pub IsExhausted : Refusal → Type 0

@@ -6,6 +6,8 @@ use Rattle.callback_queue.specs.declared.item.Ripe.{Ripe}
 use Rattle.call_rcu_worker.specs.declared.finished.Finished.{Finished}
 use Rattle.live_log.specs.declared.event.LiveEvent.{LiveEvent}
 use Rattle.live_log.specs.Log.{Log, Begins, HaveRun, IsLiveRun, line_of, seq_of}
+use Rattle.live_words.specs.live_rule.declared.view.Look.{Look}
+use Rattle.live_words.specs.live_rule.declared.view.Look.TheVariants.{Loaded, Stored}
 use Rattle.live_words.specs.live_rule.declared.view.Sizes.{Sizes}
 use Rattle.live_words.specs.live_rule.declared.view.View.{View}
 use Rattle.live_words.specs.live_rule.Places.{finished_at, work_at}
@@ -18,9 +20,9 @@ use Rattle.live_reclaim.specs.Working.{IsEmptied}
 use Rattle.domain.specs.declared.worker_end.Stop.{Stop}
 use Rattle.domain.specs.declared.worker_end.Stop.TheVariants.{Closed, Served, Exhausted, Memory}
 
--- what was loaded or stored, by its place, the last one first
+-- what was loaded and stored, the last one first
 abbrev pub Looks : Type 0
-Looks = List (ℕ × ℕ)
+Looks = List Look
 
 -- the hold word that a worker leaves: nobody works for the queue after one that found the numbers used up
 abbrev pub left_by : Stop → ℕ
@@ -76,7 +78,7 @@ module _ {D : Type 0} (answers : D → Ripe → ℕ → Type 0) (qsbr : Bool) (a
     pub served : stop ≡ Served → length (line_of start q) ≤ last
     pub memory : stop ≡ Memory → HasMore q last log
     pub exhausted : stop ≡ Exhausted → FoundUsedUp start log old_loads new_loads
-    pub looks : new ≡ (work_at key q, left_by stop) ∷ (looks_since ++ ((finished_at key q, first) ∷ (work_at key q, 0) ∷ old))
+    pub looks : new ≡ Stored (work_at key q) (left_by stop) ∷ (looks_since ++ (Loaded (finished_at key q) first ∷ Stored (work_at key q) 1 ∷ Loaded (work_at key q) 0 ∷ old))
 
 module _ {W S D : Type 0} (w : Ghosts W S) (answers : D → Ripe → ℕ → Type 0) (qsbr : Bool) (allows : Log → LiveEvent → Type 0) (key : Sizes) (q : ℕ) (old new : W) where
   -- so a worker did, which this caller had made

@@ -1,9 +1,10 @@
 //! What a program calls to wait until all that was queued has run.
 
-ghost use Rattle.std.specs.Prelude.{◌≡◌, ◌++◌, IsTrue, List, ℕ};
+ghost use Rattle.std.specs.Prelude.{◌≡◌, ◌++◌, IsTrue, List};
 ghost use Rattle.live_barrier.specs.Barrier.{AreNoted, HaveRunAsCounted, WereGiven};
 ghost use Rattle.live_read.specs.Hearing.{IsAfter, Stays};
 ghost use Rattle.domain.specs.Barriers.{Barred, HearsOfRuns, IsMarked, IsReachedBy};
+ghost use Rattle.live_words.specs.live_rule.declared.view.Look.{Look};
 
 use crate::domain::Domain;
 use crossbeam_utils::Backoff;
@@ -21,7 +22,7 @@ impl<P: GracePlan + Drop, K: ChainRule, B: Site, D: Deleter> Domain<P, K, B, D> 
     pub fn barrier_start<W: Caller<B>>(&self, caller: &mut W) -> BarrierMark
         ensures asked { IsMarked W.Caller B.sizes caller.old caller.new result.asked.value.me.0 }
         ensures given { WereGiven B.sizes result.counts (W.heard caller.new) }
-        ensures noted { (since : List (ℕ × ℕ)) × (W.looks caller.new ≡ since ++ W.looks caller.old) × AreNoted B.sizes result.counts B.sizes.queues since }
+        ensures noted { (since : List Look) × (W.looks caller.new ≡ since ++ W.looks caller.old) × AreNoted B.sizes result.counts B.sizes.queues since }
         ensures heard { IsAfter P.QSBR K.allows (W.seen caller.old) (W.heard caller.old) (W.heard caller.new) }
         ensures same { Stays W.Caller caller.old caller.new × (W.loads caller.new ≡ W.loads caller.old) }
     {

@@ -8,7 +8,7 @@ ghost use Rattle.live_log.specs.Log.{Begins, HaveEnded, seq_of};
 ghost use Rattle.live_words.specs.live_table.Steps.{Keeps};
 ghost use Rattle.live_read.specs.Hearing.{FindsNothing, IsAfter, IsAsBefore, Stays};
 ghost use Rattle.live_read.specs.Holding.{log_of};
-ghost use Rattle.live_read.specs.Registering.{FindsAllClaimed, WasFree};
+ghost use Rattle.live_read.specs.Registering.{FindsAllClaimed, TakesOne};
 ghost use Rattle.live_grace.specs.Answers.{EndedByThen};
 ghost use Rattle.domain.specs.Waiting.{LoadedOnce, Synchronized, IsExhausted};
 
@@ -48,7 +48,7 @@ impl<P: GracePlan + Drop, K: ChainRule, B: Site, D: Deleter> Domain<P, K, B, D> 
         caller: &mut W,
     ) -> Result<Reader<P, K, B>, Refusal>
         ensures idle { IfOk result (λ r. (r.core.depth ≡ 0) × (r.core.locks ≡ 0) × (P.QSBR ≡ true → r.core.word ≡ 0)) }
-        ensures slot { IfOk result (λ r. (r.core.slot < B.sizes.slots) × WasFree r.core.slot r.core.seat.me.0.looks) }
+        ensures slot { IfOk result (λ r. (r.core.slot < B.sizes.slots) × TakesOne r.core.slot r.core.seat.me.0.looks) }
         ensures told { IfOk result (λ r. IsAfter P.QSBR K.allows (W.seen caller.old) (W.heard caller.old) (log_of r.core)) }
         ensures same { IfOk result (λ _. IsAsBefore W.Caller caller.old caller.new) }
         ensures refused { IfErr result (λ e. (e ≡ NoSlot) × FindsAllClaimed B.sizes (W.looks caller.old) (W.looks caller.new)) }

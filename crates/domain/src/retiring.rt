@@ -3,9 +3,10 @@
 ghost use Rattle.std.specs.Prelude.{◌≡◌, ◌+◌, ◌%◌, ◌<◌, IfErr, IfOk, ℕ};
 ghost use Rattle.rcu_model.specs.declared.refusal.Refusal.TheVariants.{NoPlace};
 ghost use Rattle.live_log.specs.Log.{closed_of};
-ghost use Rattle.live_read.specs.Hearing.{IsAfter, OnlyHears, OnlyMakesLast};
+ghost use Rattle.live_read.specs.Hearing.{IsAfter, OnlyHears};
 ghost use Rattle.live_reclaim.specs.Refusing.{RefusesRetirement};
-ghost use Rattle.domain.specs.Retiring.{CutsAndRetires, MayCut, MayReplace, RefusesAt, ReplacesAndRetires, RetiresCut};
+ghost use Rattle.domain.specs.Retiring.{CutsAndRetires, MakesLastIn, RefusesAt, ReplacesAndRetires, RetiresCut};
+ghost use Rattle.live_write.specs.Calls.{MayCut, MayReplace};
 
 use crate::domain::Domain;
 use crate::writing::Chain;
@@ -75,9 +76,9 @@ impl<P: GracePlan + Drop, K: ChainRule, B: Site, D: Deleter> Domain<P, K, B, D> 
         callback: D,
     ) -> Result<Ticket, (Refusal, D)>
         requires rule { MayCut W.Caller P.QSBR K.allows caller.old chain.old.seat.me.0 index }
-        ensures retired { IfOk result (λ t. CutsAndRetires W.Caller P.QSBR K.allows B.sizes caller.old caller.new chain.old.seat.me.0 chain.old.number index chain.new.seat.me.0 t.0) }
-        ensures same { IfOk result (λ _. OnlyMakesLast W.Caller caller.old caller.new chain.new.seat.me.0.seen × (chain.new.number ≡ chain.old.number) × (chain.new.home.now ≡ chain.old.home.now)) }
-        ensures refused { IfErr result (λ e. RefusesAt W.Caller P.QSBR K.allows B.sizes caller.old caller.new chain.old.seat.me.0 chain.old.number index e.0) }
+        ensures retired { IfOk result (λ t. CutsAndRetires W.Caller P.QSBR K.allows B.sizes caller.old caller.new chain.old.seat chain.old.number index chain.new.seat t.0) }
+        ensures same { IfOk result (λ _. MakesLastIn W.Caller caller.old caller.new chain.new.seat.me.0.seen chain.old.number chain.new.number chain.old.home.now chain.new.home.now) }
+        ensures refused { IfErr result (λ e. RefusesAt W.Caller P.QSBR K.allows B.sizes caller.old caller.new chain.old.seat chain.old.number index e.0) }
         ensures back { IfErr result (λ e. (e.1 ≡ callback) × (chain.new ≡ chain.old)) }
     {
         if index >= chain.len() {
@@ -118,9 +119,9 @@ impl<P: GracePlan + Drop, K: ChainRule, B: Site, D: Deleter> Domain<P, K, B, D> 
         callback: D,
     ) -> Result<Ticket, (Refusal, Owned<B>, D)>
         requires rule { MayReplace W.Caller P.QSBR K.allows caller.old chain.old.seat.me.0 index owned.seat.me.0 }
-        ensures retired { IfOk result (λ t. ReplacesAndRetires W.Caller P.QSBR K.allows B.sizes caller.old caller.new chain.old.seat.me.0 chain.old.number index owned.seat.me.0 chain.new.seat.me.0 t.0) }
-        ensures same { IfOk result (λ _. OnlyMakesLast W.Caller caller.old caller.new chain.new.seat.me.0.seen × (chain.new.number ≡ chain.old.number) × (chain.new.home.now ≡ chain.old.home.now)) }
-        ensures refused { IfErr result (λ e. RefusesAt W.Caller P.QSBR K.allows B.sizes caller.old caller.new chain.old.seat.me.0 chain.old.number index e.0) }
+        ensures retired { IfOk result (λ t. ReplacesAndRetires W.Caller P.QSBR K.allows B.sizes caller.old caller.new chain.old.seat chain.old.number index owned.seat chain.new.seat t.0) }
+        ensures same { IfOk result (λ _. MakesLastIn W.Caller caller.old caller.new chain.new.seat.me.0.seen chain.old.number chain.new.number chain.old.home.now chain.new.home.now) }
+        ensures refused { IfErr result (λ e. RefusesAt W.Caller P.QSBR K.allows B.sizes caller.old caller.new chain.old.seat chain.old.number index e.0) }
         ensures back { IfErr result (λ e. (e.1 ≡ owned) × (e.2 ≡ callback) × (chain.new ≡ chain.old)) }
     {
         if index >= chain.len() {

@@ -5,7 +5,7 @@ ghost use Rattle.live_log.specs.Log.{IsLiveRun, line_of};
 ghost use Rattle.live_words.specs.live_rule.Places.{work_at};
 ghost use Rattle.live_words.specs.live_rule.Seats.{but_work};
 ghost use Rattle.live_words.specs.live_table.Rights.{IsWorker, work_in};
-ghost use Rattle.live_words.specs.live_table.Steps.{IsKnown, IsLater, Keeps, Went, looked_view};
+ghost use Rattle.live_words.specs.live_table.Steps.{IsKnown, IsLater, Keeps, Went, stored_view};
 ghost use Rattle.live_read.specs.Hearing.{IsAfter, Stays};
 ghost use Rattle.live_items.specs.Items.{InOrder};
 ghost use Rattle.live_reclaim.specs.Batches.{Lists, WorksFor};
@@ -117,7 +117,7 @@ impl<P: GracePlan + Drop, K: ChainRule, B: Site, D: Deleter> Domain<P, K, B, D> 
         requires seat { (seat.old.table_id ≡ B.table) × (queue < B.sizes.queues) }
         requires right { IsWorker seat.old.me.0 × (work_in seat.old.me.0.work ≡ queue) }
         ensures seat { Keeps seat.old seat.new }
-        ensures left { Went P.QSBR K.allows (looked_view (work_at B.sizes queue) (left_by stop) (but_work seat.old.me.0)) seat.old.me seat.new.me }
+        ensures left { Went P.QSBR K.allows (stored_view (work_at B.sizes queue) (left_by stop) (but_work seat.old.me.0)) seat.old.me seat.new.me }
     {
         match stop {
             Stop::Exhausted => end_work(&self.table, seat, queue),

@@ -1,15 +1,17 @@
 //! What a program calls to make records and to write chains.
 
-ghost use Rattle.std.specs.Prelude.{◌≡◌, ℕ, ◌<◌, ◌∷◌, ◌++◌, [], List, IfErr, IfOk};
+ghost use Rattle.std.specs.Prelude.{◌≡◌, ◌<◌, ◌∷◌, ◌++◌, [], List, IfErr, IfOk};
 ghost use Rattle.rcu_model.specs.declared.refusal.Refusal.TheVariants.{PoolFull};
 ghost use Rattle.live_log.specs.Log.{Begins, IsLiveRun};
+ghost use Rattle.live_words.specs.live_rule.declared.view.Look.{Look};
+ghost use Rattle.live_words.specs.live_rule.declared.view.Look.TheVariants.{Stored};
 ghost use Rattle.live_words.specs.live_rule.Places.{cell_at};
 ghost use Rattle.live_words.specs.live_rule.Seats.{lent_chains};
 ghost use Rattle.live_words.specs.live_table.Rights.{cell_in, object_in, payload_in};
 ghost use Rattle.live_words.specs.live_table.Steps.{Keeps};
 ghost use Rattle.live_read.specs.Hearing.{IsAfter, Stays};
-ghost use Rattle.domain.specs.Writing.{NoRecordIsFree, IsHad, IsNotHad, LoadsHeader};
-ghost use Rattle.domain.specs.Waiting.{LoadsSeqBefore};
+ghost use Rattle.live_write.specs.Calls.{IsHad, IsNotHad, LoadsHeader, LoadsSeqBefore};
+ghost use Rattle.live_write.specs.Searching.{GetsNoRecord, TakesFor};
 
 use crate::domain::Domain;
 use callback_queue::Callback;
@@ -28,12 +30,12 @@ pub type Chain<'d, P, K, B, D = Callback> = live_write::Chain<'d, P, K, B, Domai
 pub type Lent<'d, P, K, B, D = Callback> = live_write::Lent<'d, P, K, B, Domain<P, K, B, D>>;
 
 impl<P: GracePlan + Drop, K: ChainRule, B: Site, D: Deleter> Domain<P, K, B, D> {
-    /// A record with these four words, which no chain links yet. The caller hears of what was seen at that.
+    /// A record with these four words, which no chain links yet. The caller hears of what was seen at that. `looks`
+    /// tells the words that it found and stored: it draws one number, and takes one record.
     ///
     /// Refused with `PoolFull` only where it found the header of each record other than 0, or the last object number at
-    /// or above 2^62: `looks` tells the words that it found. A number is drawn before a record is looked for, so a
-    /// refusal by a full pool uses one up. It takes no memory, and waits for nobody, but tries again where other
-    /// threads draw object numbers meanwhile.
+    /// or above 2^62. A number is drawn before a record is looked for, so a refusal by a full pool uses one up. It takes
+    /// no memory, and waits for nobody, but tries again where other threads draw object numbers meanwhile.
     pub fn alloc<W: Caller<B>, R: Wait>(
         &self,
         rt: &R,
@@ -41,7 +43,8 @@ impl<P: GracePlan + Drop, K: ChainRule, B: Site, D: Deleter> Domain<P, K, B, D> 
         words: [u64; 4],
     ) -> Result<Owned<B>, Refusal>
         ensures owned { IfOk result (λ o. (payload_in o.seat.me.0.object ≡ words) × (o.seat.me.0.seen ≡ W.heard caller.new)) }
-        ensures looks { (found : List (ℕ × ℕ)) × (W.looks caller.new ≡ found ++ W.looks caller.old) × IfErr result (λ e. (e ≡ PoolFull) × NoRecordIsFree B.sizes found) }
+        ensures looks { (found : List Look) × (W.looks caller.new ≡ found ++ W.looks caller.old) × IfErr result (λ e. (e ≡ PoolFull) × GetsNoRecord B.sizes found) }
+        ensures took { IfOk result (λ o. TakesFor W.Caller B.sizes caller.old caller.new o.seat.me.0.object) }
         ensures heard { IsAfter P.QSBR K.allows (W.seen caller.old) (W.heard caller.old) (W.heard caller.new) }
         ensures same { Stays W.Caller caller.old caller.new × (W.loads caller.new ≡ W.loads caller.old) }
     {
@@ -51,7 +54,7 @@ impl<P: GracePlan + Drop, K: ChainRule, B: Site, D: Deleter> Domain<P, K, B, D> 
     /// Frees a record that no chain has linked. Its object's number is given to no other. The caller hears of what was
     /// seen at the allocation; `looks` tells the store. It never waits and takes no memory.
     pub fn discard<W: Caller<B>>(&self, caller: &mut W, owned: Owned<B>)
-        ensures freed { W.looks caller.new ≡ (cell_at B.sizes (cell_in owned.seat.me.0.object) 0, 0) ∷ W.looks caller.old }
+        ensures freed { W.looks caller.new ≡ Stored (cell_at B.sizes (cell_in owned.seat.me.0.object) 0) 0 ∷ W.looks caller.old }
         ensures heard { IsAfter P.QSBR K.allows (W.seen caller.old) (W.heard caller.old) (W.heard caller.new) × Begins owned.seat.me.0.seen (W.heard caller.new) }
         ensures loads { LoadsSeqBefore W.Caller P.QSBR K.allows caller.old caller.new }
         ensures same { Stays W.Caller caller.old caller.new }

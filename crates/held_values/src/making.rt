@@ -4,7 +4,7 @@ ghost use Rattle.std.specs.Prelude.{◌≡◌, ◌≢◌, ◌⊎◌, ◌<◌, �
 ghost use Rattle.std.specs.Arc.{arc_value};
 ghost use Rattle.rcu_model.specs.declared.refusal.Refusal.TheVariants.{Memory, NoSlot};
 ghost use Rattle.live_words.specs.live_groups.Groups.{IsClaimed};
-ghost use Rattle.live_read.specs.Registering.{FindsAllClaimed, WasFree};
+ghost use Rattle.live_read.specs.Registering.{FindsAllClaimed, TakesOne};
 
 use gp_memb::GracePlan;
 use live_grace::GracePeriods;
@@ -61,7 +61,7 @@ impl<P: GracePlan, K: ChainRule> Domain<P, K> {
     /// with `Memory` where the table has too many owners, more than a word can count. It takes no memory and never waits.
     pub fn register(&mut self) -> Result<ReaderCore<P, K>, Refusal>
         ensures table { IfOk result (λ r. r.seat.table_id ≡ (arc_value self.old.table).words.shared.table_id) }
-        ensures slot { IfOk result (λ r. (r.slot < (arc_value self.old.table).slots) × WasFree r.slot r.seat.me.0.looks) }
+        ensures slot { IfOk result (λ r. (r.slot < (arc_value self.old.table).slots) × TakesOne r.slot r.seat.me.0.looks) }
         ensures idle { IfOk result (λ r. (r.depth ≡ 0) × (r.locks ≡ 0) × (P.QSBR ≡ true → r.word ≡ 0)) }
         ensures claimed { IfOk result (λ r. IsClaimed P.QSBR r.slot r.seat.me.0) }
         ensures refused { IfErr result (λ e. (e ≡ Memory) ⊎ (e ≡ NoSlot)) }

@@ -10,6 +10,8 @@ use Rattle.rcu_model.specs.Sets.{In}
 use Rattle.live_log.specs.declared.event.LiveEvent.{LiveEvent}
 use Rattle.live_log.specs.Log.{Log, Begins, state_of, line_of, HaveRun}
 use Rattle.live_log.proofs.Lemmas.{begins_trans, grows_log, line_grows, line_has, barrier_of}
+use Rattle.live_words.specs.live_rule.declared.view.Look.{Look}
+use Rattle.live_words.specs.live_rule.declared.view.Look.TheVariants.{Loaded}
 use Rattle.live_words.specs.live_rule.declared.view.Sizes.{Sizes}
 use Rattle.live_words.specs.live_rule.declared.view.View.{View}
 use Rattle.live_words.specs.live_rule.Places.{finished_at, queued_at}
@@ -21,8 +23,8 @@ pub longer : (old log : Log) (q : ℕ) → Begins old log → length (line_of ol
 longer old log q b = let more = line_grows old log q b in let sum = ap length more.1 ∙ length-append (line_of old q) more.0 in omega arith
 
 -- one more load
-pub found_more : {S : Type 0} (qsbr : Bool) (allows : Log → LiveEvent → Type 0) (found : List (ℕ × ℕ)) (m u w : Me S View) (a n : ℕ)
-    → Found qsbr allows found m u → Went qsbr allows (looked_view a n u.0) u w → Found qsbr allows ((a, n) ∷ found) m w
+pub found_more : {S : Type 0} (qsbr : Bool) (allows : Log → LiveEvent → Type 0) (found : List Look) (m u w : Me S View) (a n : ℕ)
+    → Found qsbr allows found m u → Went qsbr allows (looked_view a n u.0) u w → Found qsbr allows (Loaded a n ∷ found) m w
 found_more qsbr allows found m u w a n x y = (
   y.0 ∙ x.0,
   y.1 ∙ ap (λ (z : View). record (looked_view a n z) { seen = w.0.seen }) x.1,
@@ -31,30 +33,30 @@ found_more qsbr allows found m u w a n x y = (
 
 -- the load of one more queue's finished count, after those of the queues before it
 pub next_found : {S : Type 0} (qsbr : Bool) (allows : Log → LiveEvent → Type 0) (key : Sizes) (counts : List ℕ) (queue n : ℕ) (m u w : Me S View)
-    → (0 < queue → (since : List (ℕ × ℕ)) × Found qsbr allows since m u × AreReached key counts queue since) → (queue ≡ 0 → u ≡ m) → Went qsbr allows (looked_view (finished_at key queue) n u.0) u w
-    → (rest : List (ℕ × ℕ)) × Found qsbr allows ((finished_at key queue, n) ∷ rest) m w × AreReached key counts queue rest
+    → (0 < queue → (since : List Look) × Found qsbr allows since m u × AreReached key counts queue since) → (queue ≡ 0 → u ≡ m) → Went qsbr allows (looked_view (finished_at key queue) n u.0) u w
+    → (rest : List Look) × Found qsbr allows (Loaded (finished_at key queue) n ∷ rest) m w × AreReached key counts queue rest
 next_found {S} qsbr allows key counts zero n m u w found first y = ([], subst (λ (t : Me S View). Went qsbr allows (looked_view (finished_at key zero) n t.0) t w) (first refl) y, refl)
 next_found qsbr allows key counts (suc q) n m u w found first y = let f = found (omega arith) in (f.0, found_more qsbr allows f.0 m u w (finished_at key (suc q)) n f.1 y, f.2)
 
-pub reached_more : (key : Sizes) (counts : List ℕ) (queue n : ℕ) (rest : List (ℕ × ℕ)) → get_or counts queue 0 ≤ n → AreReached key counts queue rest → AreReached key counts (queue + 1) ((finished_at key queue, n) ∷ rest)
+pub reached_more : (key : Sizes) (counts : List ℕ) (queue n : ℕ) (rest : List Look) → get_or counts queue 0 ≤ n → AreReached key counts queue rest → AreReached key counts (queue + 1) (Loaded (finished_at key queue) n ∷ rest)
 reached_more key counts queue n rest low reached =
-    let next : AreReached key counts (suc queue) ((finished_at key queue, n) ∷ rest) = (n, rest, refl, low, reached) in
+    let next : AreReached key counts (suc queue) (Loaded (finished_at key queue) n ∷ rest) = (n, rest, refl, low, reached) in
     let one : suc queue ≡ queue + 1 = omega arith in
-    subst (λ (q : ℕ). AreReached key counts q ((finished_at key queue, n) ∷ rest)) one next
+    subst (λ (q : ℕ). AreReached key counts q (Loaded (finished_at key queue) n ∷ rest)) one next
 
 -- the counts of other queues are as they were noted
-still_noted : (key : Sizes) (counts counts' : List ℕ) (queue : ℕ) (looks : List (ℕ × ℕ)) → ((q : ℕ) → q < queue → get_or counts' q 0 ≡ get_or counts q 0) → AreNoted key counts queue looks → AreNoted key counts' queue looks
+still_noted : (key : Sizes) (counts counts' : List ℕ) (queue : ℕ) (looks : List Look) → ((q : ℕ) → q < queue → get_or counts' q 0 ≡ get_or counts q 0) → AreNoted key counts queue looks → AreNoted key counts' queue looks
 still_noted key counts counts' zero looks same noted = noted
 still_noted key counts counts' (suc q) looks same (rest, is, others) =
-    (rest, is ∙ ap (λ n. (queued_at key q, n) ∷ rest) (sym (same q (omega arith))), still_noted key counts counts' q rest (λ p low. same p (omega arith)) others)
+    (rest, is ∙ ap (λ n. Loaded (queued_at key q) n ∷ rest) (sym (same q (omega arith))), still_noted key counts counts' q rest (λ p low. same p (omega arith)) others)
 
 -- one more queue's count is noted
-pub noted_more : (key : Sizes) (counts : List ℕ) (queue n : ℕ) (looks : List (ℕ × ℕ)) → queue < length counts → AreNoted key counts queue looks → AreNoted key (set counts queue n) (queue + 1) ((queued_at key queue, n) ∷ looks)
+pub noted_more : (key : Sizes) (counts : List ℕ) (queue n : ℕ) (looks : List Look) → queue < length counts → AreNoted key counts queue looks → AreNoted key (set counts queue n) (queue + 1) (Loaded (queued_at key queue) n ∷ looks)
 noted_more key counts queue n looks inside noted =
-    let next : AreNoted key (set counts queue n) (suc queue) ((queued_at key queue, n) ∷ looks) =
-    (looks, ap (λ m. (queued_at key queue, m) ∷ looks) (sym (get_or-set_same counts queue n 0 inside)), still_noted key counts (set counts queue n) queue looks (λ q low. get_or-set_other counts queue q n 0 (omega arith)) noted) in
+    let next : AreNoted key (set counts queue n) (suc queue) (Loaded (queued_at key queue) n ∷ looks) =
+    (looks, ap (λ m. Loaded (queued_at key queue) m ∷ looks) (sym (get_or-set_same counts queue n 0 inside)), still_noted key counts (set counts queue n) queue looks (λ q low. get_or-set_other counts queue q n 0 (omega arith)) noted) in
     let one : suc queue ≡ queue + 1 = omega arith in
-    subst (λ q. AreNoted key (set counts queue n) q ((queued_at key queue, n) ∷ looks)) one next
+    subst (λ q. AreNoted key (set counts queue n) q (Loaded (queued_at key queue) n ∷ looks)) one next
 
 -- a count that was loaded now is between what the queue had been given then and what it has been given now
 module _ (first log new : Log) (queue n : ℕ) (counts : List ℕ) (inside : queue < length counts) (after : Begins first log) (later : Begins log new) (is : n ≡ length (line_of new queue)) where

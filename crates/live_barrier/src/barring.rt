@@ -1,9 +1,7 @@
 //! A barrier: the counts of what was queued, and later those of what has finished.
-ghost use Rattle.std.specs.Prelude.{◌≡◌, ◌≤◌, ◌++◌, List, ℕ, IsTrue, MatchBool};
-ghost use Rattle.live_words.specs.live_rule.Steps.{Precedes};
-ghost use Rattle.live_log.specs.Log.{Begins};
-ghost use Rattle.live_words.specs.live_table.Steps.{IsKnown, Keeps};
-ghost use Rattle.live_barrier.specs.Barrier.{AreNoted, AreReached, CoverAll, Found, HaveAllRun, HaveRunAsCounted, WasLess, WereGiven};
+ghost use Rattle.std.specs.Prelude.{◌≡◌, ◌≤◌, IsTrue};
+ghost use Rattle.live_words.specs.live_table.Steps.{Keeps};
+ghost use Rattle.live_barrier.specs.Barrier.{CountsAll, CoverAll, HaveRunAsCounted, IsAskedBetween, PassesFor, TellsReached, WereGiven};
 
 use gp_memb::GracePlan;
 use live_words::{ChainRule, LiveSeat, LiveTable, load_finished, load_queued};
@@ -27,8 +25,8 @@ pub fn barrier_start<P: GracePlan, K: ChainRule>(
     requires seat { (seat.old.table_id ≡ table.now.words.shared.table_id) × (seat.old.me.0.sizes ≡ table.now.words.shared.key) }
     requires queues { 1 ≤ table.now.queues }
     ensures seat { Keeps seat.old seat.new }
-    ensures looked { (since : List (ℕ × ℕ)) × Found P.QSBR K.allows since seat.old.me seat.new.me × AreNoted table.now.words.shared.key result.counts table.now.words.shared.key.queues since }
-    ensures asked { Precedes seat.old.me.0 result.asked.value.me.0.seen × Begins result.asked.value.me.0.seen seat.new.me.0.seen × (result.asked.value.me.0.sizes ≡ seat.old.me.0.sizes) }
+    ensures looked { CountsAll P.QSBR K.allows table.now.words.shared.key result.counts seat.old.me seat.new.me }
+    ensures asked { IsAskedBetween seat.old.me.0 seat.new.me.0 result.asked.value.me.0 }
     ensures given { WereGiven seat.old.me.0.sizes result.counts seat.new.me.0.seen }
 {
     let mut counts = [0u64; 8];
@@ -54,9 +52,9 @@ pub fn barrier_done<P: GracePlan, K: ChainRule>(
     requires seat { (seat.old.table_id ≡ table.now.words.shared.table_id) × (seat.old.me.0.sizes ≡ table.now.words.shared.key) }
     requires queues { 1 ≤ table.now.queues }
     ensures seat { Keeps seat.old seat.new }
-    ensures exact { (since : List (ℕ × ℕ)) × Found P.QSBR K.allows since seat.old.me seat.new.me × MatchBool result (AreReached table.now.words.shared.key mark.now.counts table.now.words.shared.key.queues since) (WasLess table.now.words.shared.key mark.now.counts since) }
+    ensures exact { TellsReached P.QSBR K.allows table.now.words.shared.key mark.now.counts seat.old.me seat.new.me result }
     ensures run { IsTrue result → HaveRunAsCounted table.now.words.shared.key mark.now.counts seat.new.me.0.seen }
-    ensures passed { IsTrue result → mark.now.asked.value.me.0.sizes ≡ table.now.words.shared.key → IsKnown (Begins mark.now.asked.value.me.0.seen) seat.old.me.0 → HaveAllRun mark.now.asked.value.me.0.seen seat.new.me.0.seen }
+    ensures passed { IsTrue result → PassesFor table.now.words.shared.key mark.now.asked.value.me.0 seat.old.me.0 seat.new.me.0 }
 {
     for queue in 0..table.queues {
         if load_finished(table, seat, queue) < mark.counts[queue] {

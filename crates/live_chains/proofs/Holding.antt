@@ -23,7 +23,7 @@ use Rattle.live_table.specs.live_rule.Rule.{KeepsRule}
 use Rattle.live_table.proofs.live_rule.Lemmas.{Unclaimed, looks}
 use Rattle.live_table.proofs.live_rule.Lemmas.{Calm, calm_same, calm_note, chain_part, lines_far, guards_far}
 use Rattle.live_table.proofs.live_rule.Lemmas.{queues_kept, works_kept, stores_beside, look_all}
-use Rattle.live_table.specs.Steps.{looked_view}
+use Rattle.live_table.specs.Steps.{exchanged_view, looked_view, stored_view}
 use Rattle.live_table.specs.Rights.{AreAsKnown, own_in, IsWriter}
 use Rattle.live_chains.specs.Chains.{MayWrite, held_view, noted_view, freed_view, noted, held, freed}
 use Rattle.live_table.proofs.Lemmas.{unclaimed, all_known, claims_own, knows_first, knows_own}
@@ -84,7 +84,7 @@ module _ {S : Type 0} (qsbr : Bool) (allows : Log → LiveEvent → Type 0) (key
       let h : ℕ = get_or s.words (head_at key c) 0 in
       let os : List ObjectId = (objects_of r.log).chain c in
       let x : ChainRight = record { chain = c; head = h; objects = os; note = chain_note c r.log } in
-      let w : View = record (held_view x (looked_view a found v)) { seen = r.log } in
+      let w : View = record (held_view x (exchanged_view a found 1 v)) { seen = r.log } in
       let clear : get_or s.words (hold_at key c) 0 ≡ 0 = ap (λ (i : ℕ). get_or s.words i 0) (sym a_is) ∙ zero in
       let free : (y : List ChainRight) → ClaimsChain y c → KnowsChain qsbr key r.log s.words y c → ⊥ = λ y claim k. let one = hold_is qsbr key y c r.log s.words claim k in omega arith in
       let none : ¬ ClaimsChain v.chains c = λ claim. free v.chains claim (r.knows (chain c) id v at claim) in
@@ -130,7 +130,7 @@ module _ {S : Type 0} (qsbr : Bool) (allows : Log → LiveEvent → Type 0) (key
       let c : ℕ = (own_in v.chains).chain in
       let kc = knows_own qsbr allows key s r id v at own in
       let b = r.seen id v at in
-      let w : View = record (looked_view a 0 (freed_view v)) { seen = r.log } in (
+      let w : View = record (stored_view a 0 (freed_view v)) { seen = r.log } in (
         w,
         keeps,
         tt,

@@ -1,6 +1,8 @@
 -- What each step on a chain asks and tells.
-use Rattle.std.specs.Prelude.{◌≡◌, ◌≢◌, ◌⊎◌, ℕ, ◌+◌, ◌<◌, ◌≤◌, [], ◌∷◌, length, slice_index_or, List, Option, Some, None, Bool}
+use Rattle.std.specs.Prelude.{◌≡◌, ◌≢◌, ◌⊎◌, ℕ, ◌+◌, ◌<◌, ◌≤◌, [], ◌∷◌, length, slice_index_or, IfSome, List, Option, Some, None, Bool}
+use Rattle.atomic_table.specs.Seated.{TableId}
 use Rattle.atomic_table.specs.Table.{Me, Step}
+use Rattle.atomic_table.specs.declared.shared.Seat.{Seat}
 use Rattle.live_table.specs.rcu_model.declared.event.ObjectId.{ObjectId}
 use Rattle.live_table.specs.rcu_model.Machine.{IsAllowed, IsOpen}
 use Rattle.live_table.specs.rcu_model.Sets.{In, IsPlace, follows, without_object, next_of, first_of, replaced}
@@ -17,8 +19,8 @@ use Rattle.live_table.specs.live_rule.Places.{head_at, hold_at, note_at, cell_at
 use Rattle.live_table.specs.live_rule.Objects.{ref, spot_at}
 use Rattle.live_table.specs.live_rule.Readers.{IsClosed}
 use Rattle.live_table.specs.live_rule.Seats.{lent_chains}
-use Rattle.live_table.specs.Rights.{IsOwner, word_in, count_in, own_in, IsWriter, IsListed, AreAsKnown, KnowsChains, cell_in, object_in, payload_in}
-use Rattle.live_table.specs.Steps.{Adds, IsNow, Went, looked_view}
+use Rattle.live_table.specs.Rights.{IsFresh, IsOwner, word_in, count_in, own_in, IsWriter, IsListed, AreAsKnown, KnowsChains, cell_in, link_in, object_in, payload_in}
+use Rattle.live_table.specs.Steps.{Adds, IsNow, Went, exchanged_view, looked_view, stored_view}
 
 -- the abstract machine may go on from the log with the event
 abbrev pub IsAllowedBy : Log → LiveEvent → Type 0
@@ -33,6 +35,12 @@ MayWrite qsbr allows v e = (log : Log) → Begins v.seen log → Begins v.heard 
 -- the place in the writer's chain that leads to an object
 abbrev pub IsBefore : View → Option ObjectId → ObjectId → Type 0
 IsBefore v p o = IsPlace (own_in v.chains).objects p × (follows (own_in v.chains).objects p ≡ Some o)
+
+-- the record that stands before the place: none before the first object
+abbrev pub IsThere : View → Option ℕ → Option ObjectId → Type 0
+IsThere v None None = Unit {0}
+IsThere v (Some j) (Some q) = (note_of v.seen q).0 ≡ j
+IsThere v _ _ = ⊥
 
 -- the word of a place in the writer's chain
 abbrev pub place_at : View → Option ObjectId → ℕ
@@ -115,11 +123,59 @@ FitsPool v = IsWriter v → length (own_in v.chains).objects ≤ v.sizes.pool
 abbrev pub IsHeld : View → ℕ → Type 0
 IsHeld v c = IsWriter v × ((own_in v.chains).chain ≡ c) × IsListed v
 
+-- what leads to what follows an object in the writer's chain
+abbrev pub next_ref : View → ObjectId → ℕ
+next_ref v o = ref (objects_of v.seen) (next_of (own_in v.chains).objects o)
+
+-- by the name, the sizes, the chains and the pool of a table, the seat is of it, and so is the chain; so are the record
+-- before a place in it, if there is one, and a record
+module _ {S : Type 0} (id : TableId) (key : Sizes) (chains pool : ℕ) (s : Seat S View) (chain : ℕ) where
+  abbrev pub IsSeatedWith : ℕ → Type 0
+  IsSeatedWith cell = (s.table_id ≡ id) × (s.me.0.sizes ≡ key) × (chain < chains) × (cell < pool)
+
+  abbrev pub IsSeatedAt : Option ℕ → Type 0
+  IsSeatedAt before = (s.table_id ≡ id) × (s.me.0.sizes ≡ key) × (chain < chains) × IfSome before (λ j. j < pool)
+
+  abbrev pub IsSeatedFor : Option ℕ → ℕ → Type 0
+  IsSeatedFor before cell = (s.table_id ≡ id) × (s.me.0.sizes ≡ key) × (chain < chains) × IfSome before (λ j. j < pool) × (cell < pool)
+
+-- the seat writes this chain, with this head, and has a fresh record
+abbrev pub HasFresh : View → ℕ → ℕ → ℕ → Type 0
+HasFresh v chain head cell = IsWriter v × ((own_in v.chains).chain ≡ chain) × ((own_in v.chains).head ≡ head) × IsFresh v × (cell_in v.object ≡ cell)
+
+-- which leads to the first object
+abbrev pub HasLinked : View → ℕ → ℕ → Type 0
+HasLinked v chain cell = IsWriter v × ((own_in v.chains).chain ≡ chain) × IsFresh v × (cell_in v.object ≡ cell) × (link_in v.object ≡ (own_in v.chains).head)
+
+-- By the record before a place in the writer's chain, it may write the replacement or the cut of the object there. This
+-- leads to what follows that object.
+module _ (qsbr : Bool) (allows : Log → LiveEvent → Type 0) (v : View) (before : Option ℕ) where
+  abbrev pub MayReplaceAt : ℕ → Type 0
+  MayReplaceAt next = (p : Option ObjectId) × (o : ObjectId) × IsThere v before p × IsBefore v p o × (next ≡ next_ref v o) × MayWrite qsbr allows v (replace_of o v)
+
+  abbrev pub MayCutAt : ℕ → Type 0
+  MayCutAt next = (p : Option ObjectId) × (o : ObjectId) × IsThere v before p × IsBefore v p o × (next ≡ next_ref v o) × MayWrite qsbr allows v (cut_of o v)
+
+  -- the object there is in this record
+  abbrev pub MayCutRecord : ℕ → Type 0
+  MayCutRecord cell = (p : Option ObjectId) × (o : ObjectId) × IsThere v before p × IsBefore v p o × ((note_of v.seen o).0 ≡ cell) × MayWrite qsbr allows v (cut_of o v)
+
 module _ {S : Type 0} (qsbr : Bool) (allows : Log → LiveEvent → Type 0) where
   -- a step that writes this event at a log in which the seat's chains are as it knows them, after which the view is
   -- this one
   abbrev pub Writes : View → LiveEvent → Me S View → Me S View → Type 0
   Writes v e m m' = (m'.1 ≡ m.1) × IsNow v m'.0 × (adds : Adds qsbr allows m.0 e m'.0) × AreAsKnown adds.0 m.0.chains
+
+  -- it is the replacement, or the cut, of the object at a place, by the record before it
+  abbrev pub WritesReplace : Option ℕ → ℕ → Me S View → Me S View → Type 0
+  WritesReplace before x m m' = (p : Option ObjectId) (o : ObjectId) → IsThere m.0 before p → IsBefore m.0 p o → Writes (replaced_view p o x m.0) (replace_of o m.0) m m'
+
+  abbrev pub WritesCut : Option ℕ → ℕ → Me S View → Me S View → Type 0
+  WritesCut before next m m' = (p : Option ObjectId) (o : ObjectId) → IsThere m.0 before p → IsBefore m.0 p o → Writes (cut_view p o next m.0) (cut_of o m.0) m m'
+
+  -- the object there is in this record
+  abbrev pub WritesCutRecord : Option ℕ → ℕ → Me S View → Me S View → Type 0
+  WritesCutRecord before cell m m' = (p : Option ObjectId) (o : ObjectId) → IsThere m.0 before p → IsBefore m.0 p o → (note_of m.0.seen o).0 ≡ cell → Writes (cut_view p o (next_ref m.0 o) m.0) (cut_of o m.0) m m'
 
   -- the head was stored, and the object is the first one
   abbrev pub pushed : Step S → Me S View → ℕ → Me S View → Type 0
@@ -139,12 +195,12 @@ module _ {S : Type 0} (qsbr : Bool) (allows : Log → LiveEvent → Type 0) wher
   -- the hold word was 0, and so the chain is the seat's; or it was 1, and another has it
   abbrev pub held : Step S → Me S View → ℕ → Me S View → Type 0
   held st m n m' =
-      (n ≡ 0 → (c : ℕ) → c < m.0.sizes.chains → st.word ≡ hold_at m.0.sizes c → Went qsbr allows (held_view (own_in m'.0.chains) (looked_view st.word n m.0)) m m' × IsHeld m'.0 c)
+      (n ≡ 0 → (c : ℕ) → c < m.0.sizes.chains → st.word ≡ hold_at m.0.sizes c → Went qsbr allows (held_view (own_in m'.0.chains) (exchanged_view st.word n st.second m.0)) m m' × IsHeld m'.0 c)
       × (n ≢ 0 → Went qsbr allows (looked_view st.word n m.0) m m') × (n ≤ 1)
 
   -- the hold word was stored back
   abbrev pub freed : Step S → Me S View → ℕ → Me S View → Type 0
-  freed st m n m' = Went qsbr allows (looked_view st.word st.first (freed_view m.0)) m m'
+  freed st m n m' = Went qsbr allows (stored_view st.word st.first (freed_view m.0)) m m'
 
   -- a head was loaded
   abbrev pub looked_head : Step S → Me S View → ℕ → Me S View → Type 0
@@ -165,12 +221,6 @@ module _ {S : Type 0} (qsbr : Bool) (allows : Log → LiveEvent → Type 0) wher
   abbrev pub looked_note : Step S → Me S View → ℕ → Me S View → Type 0
   looked_note st m n m' = Went qsbr allows m.0 m m' × KnowsChains m.0 m'.0 × StaysOpen qsbr m.0 m'.0
       × ((c : ℕ) → c < m.0.sizes.chains → st.word ≡ note_at m.0.sizes c → n ≡ chain_note c m'.0.seen)
-
--- the record that stands before the place: none before the first object
-abbrev pub IsThere : View → Option ℕ → Option ObjectId → Type 0
-IsThere v None None = Unit {0}
-IsThere v (Some j) (Some q) = (note_of v.seen q).0 ≡ j
-IsThere v _ _ = ⊥
 
 -- the word of a place, by the record before it
 abbrev pub place_index : Sizes → ℕ → Option ℕ → ℕ

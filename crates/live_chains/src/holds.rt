@@ -3,15 +3,15 @@ ghost use Rattle.std.specs.Prelude.{◌≡◌, ◌≢◌, ◌<◌, ◌≤◌};
 ghost use Rattle.live_table.specs.live_log.declared.event.LiveEvent.TheVariants.{ChainNote};
 ghost use Rattle.live_table.specs.live_rule.Places.{hold_at};
 ghost use Rattle.live_table.specs.Rights.{IsListed, IsWriter, own_in};
-ghost use Rattle.live_table.specs.Steps.{Keeps, Went, looked_view};
+ghost use Rattle.live_table.specs.Steps.{Keeps, Went, exchanged_view, looked_view, stored_view};
 ghost use Rattle.live_chains.specs.Chains.{IsHeld, MayWrite, Writes, freed_view, held_view, noted_view};
 
 use crate::plays::{Frees, Holds, StoresNote};
 use live_table::{ChainRule, GracePlan, LiveSeat, LiveTable};
 
 /// Takes the right to write a chain, if nobody has it: its hold word goes from 0 to 1. Answers the hold word that it
-/// found, 0 or 1, which is kept among the looks: the chain is the seat's own exactly where that is 0, before the chains
-/// that it had. It never waits.
+/// found, 0 or 1: the chain is the seat's own exactly where that is 0, before the chains that it had. What it found is
+/// kept among the looks, and what it stored. It never waits.
 pub fn hold_chain<P: GracePlan, K: ChainRule>(
     table: &LiveTable<P, K>,
     seat: &mut LiveSeat,
@@ -20,7 +20,7 @@ pub fn hold_chain<P: GracePlan, K: ChainRule>(
     requires { (seat.old.table_id ≡ table.now.words.shared.table_id) × (seat.old.me.0.sizes ≡ table.now.words.shared.key) × (chain < table.now.chains) }
     ensures seat { Keeps seat.old seat.new }
     ensures found { result ≤ 1 }
-    ensures held { result ≡ 0 → Went P.QSBR K.allows (held_view (own_in seat.new.me.0.chains) (looked_view (hold_at table.now.words.shared.key chain) result seat.old.me.0)) seat.old.me seat.new.me × IsHeld seat.new.me.0 chain }
+    ensures held { result ≡ 0 → Went P.QSBR K.allows (held_view (own_in seat.new.me.0.chains) (exchanged_view (hold_at table.now.words.shared.key chain) result 1 seat.old.me.0)) seat.old.me seat.new.me × IsHeld seat.new.me.0 chain }
     ensures missed { result ≢ 0 → Went P.QSBR K.allows (looked_view (hold_at table.now.words.shared.key chain) result seat.old.me.0) seat.old.me seat.new.me }
 {
     let place = table.hold_place(chain);
@@ -40,7 +40,7 @@ pub fn free_chain<P: GracePlan, K: ChainRule>(
     requires seat { (seat.old.table_id ≡ table.now.words.shared.table_id) × (chain < table.now.chains) }
     requires right { IsWriter seat.old.me.0 × ((own_in seat.old.me.0.chains).chain ≡ chain) }
     ensures seat { Keeps seat.old seat.new }
-    ensures freed { Went P.QSBR K.allows (looked_view (hold_at table.now.words.shared.key chain) 0 (freed_view seat.old.me.0)) seat.old.me seat.new.me }
+    ensures freed { Went P.QSBR K.allows (stored_view (hold_at table.now.words.shared.key chain) 0 (freed_view seat.old.me.0)) seat.old.me seat.new.me }
 {
     let place = table.hold_place(chain);
     table.words.shared.store::<Frees<P, K>>(seat, place, 0);

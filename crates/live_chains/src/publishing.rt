@@ -1,13 +1,9 @@
 //! A push, a replacement and a cut whole: the link of a record that comes is stored before the word that leads to it,
 //! and the link of what is cut is loaded.
-ghost use Rattle.std.specs.Prelude.{◌≡◌, ◌+◌, ◌<◌, Option, IfSome};
-ghost use Rattle.live_table.specs.rcu_model.Sets.{next_of};
-ghost use Rattle.live_table.specs.rcu_model.declared.event.ObjectId.{ObjectId};
-ghost use Rattle.live_table.specs.live_log.Log.{note_of, objects_of};
-ghost use Rattle.live_table.specs.live_rule.Objects.{ref};
+ghost use Rattle.std.specs.Prelude.{◌≡◌, ◌+◌};
 ghost use Rattle.live_table.specs.Rights.{IsFresh, IsListed, IsWriter, cell_in, own_in};
 ghost use Rattle.live_table.specs.Steps.{Keeps};
-ghost use Rattle.live_chains.specs.Chains.{IsBefore, IsThere, MayWrite, Writes, cut_of, cut_view, push_of, pushed_view, replace_of, replaced_view};
+ghost use Rattle.live_chains.specs.Chains.{HasFresh, IsSeatedFor, IsSeatedWith, MayCutRecord, MayReplaceAt, MayWrite, Writes, WritesCutRecord, WritesReplace, push_of, pushed_view};
 
 use crate::loads::load_link;
 use crate::steps::{store_cut, store_push, store_replace};
@@ -23,8 +19,8 @@ pub fn push<P: GracePlan, K: ChainRule>(
     cell: usize,
     head: u64,
 )
-    requires seat { (seat.old.table_id ≡ table.now.words.shared.table_id) × (seat.old.me.0.sizes ≡ table.now.words.shared.key) × (chain < table.now.chains) × (cell < table.now.pool) }
-    requires right { IsWriter seat.old.me.0 × ((own_in seat.old.me.0.chains).chain ≡ chain) × ((own_in seat.old.me.0.chains).head ≡ head) × IsFresh seat.old.me.0 × (cell_in seat.old.me.0.object ≡ cell) }
+    requires seat { IsSeatedWith table.now.words.shared.table_id table.now.words.shared.key table.now.chains table.now.pool seat.old chain cell }
+    requires right { HasFresh seat.old.me.0 chain head cell }
     requires rule { MayWrite P.QSBR K.allows seat.old.me.0 (push_of seat.old.me.0) }
     ensures seat { Keeps seat.old seat.new }
     ensures pushed { Writes P.QSBR K.allows (pushed_view (cell + 1) seat.old.me.0) (push_of seat.old.me.0) seat.old.me seat.new.me × IsListed seat.new.me.0 }
@@ -44,12 +40,12 @@ pub fn replace<P: GracePlan, K: ChainRule>(
     cell: usize,
     next: u64,
 )
-    requires seat { (seat.old.table_id ≡ table.now.words.shared.table_id) × (seat.old.me.0.sizes ≡ table.now.words.shared.key) × (chain < table.now.chains) × IfSome before (λ j. j < table.now.pool) × (cell < table.now.pool) }
+    requires seat { IsSeatedFor table.now.words.shared.table_id table.now.words.shared.key table.now.chains table.now.pool seat.old chain before cell }
     requires right { IsWriter seat.old.me.0 × IsListed seat.old.me.0 × ((own_in seat.old.me.0.chains).chain ≡ chain) × IsFresh seat.old.me.0 × (cell_in seat.old.me.0.object ≡ cell) }
-    requires object { (p : Option ObjectId) × (o : ObjectId) × IsThere seat.old.me.0 before p × IsBefore seat.old.me.0 p o × (next ≡ ref (objects_of seat.old.me.0.seen) (next_of (own_in seat.old.me.0.chains).objects o)) × MayWrite P.QSBR K.allows seat.old.me.0 (replace_of o seat.old.me.0) }
+    requires object { MayReplaceAt P.QSBR K.allows seat.old.me.0 before next }
     ensures seat { Keeps seat.old seat.new }
     ensures listed { IsListed seat.new.me.0 }
-    ensures replaced { (p : Option ObjectId) (o : ObjectId) → IsThere seat.old.me.0 before p → IsBefore seat.old.me.0 p o → Writes P.QSBR K.allows (replaced_view p o (cell + 1) seat.old.me.0) (replace_of o seat.old.me.0) seat.old.me seat.new.me }
+    ensures replaced { WritesReplace P.QSBR K.allows before (cell + 1) seat.old.me seat.new.me }
 {
     store_link(table, seat, cell, next);
     store_replace(table, seat, chain, before, cell);
@@ -66,12 +62,12 @@ pub fn cut<P: GracePlan, K: ChainRule>(
     before: Option<usize>,
     cell: usize,
 )
-    requires seat { (seat.old.table_id ≡ table.now.words.shared.table_id) × (seat.old.me.0.sizes ≡ table.now.words.shared.key) × (chain < table.now.chains) × IfSome before (λ j. j < table.now.pool) × (cell < table.now.pool) }
+    requires seat { IsSeatedFor table.now.words.shared.table_id table.now.words.shared.key table.now.chains table.now.pool seat.old chain before cell }
     requires right { IsWriter seat.old.me.0 × IsListed seat.old.me.0 × ((own_in seat.old.me.0.chains).chain ≡ chain) }
-    requires object { (p : Option ObjectId) × (o : ObjectId) × IsThere seat.old.me.0 before p × IsBefore seat.old.me.0 p o × ((note_of seat.old.me.0.seen o).0 ≡ cell) × MayWrite P.QSBR K.allows seat.old.me.0 (cut_of o seat.old.me.0) }
+    requires object { MayCutRecord P.QSBR K.allows seat.old.me.0 before cell }
     ensures seat { Keeps seat.old seat.new }
     ensures listed { IsListed seat.new.me.0 }
-    ensures cut { (p : Option ObjectId) (o : ObjectId) → IsThere seat.old.me.0 before p → IsBefore seat.old.me.0 p o → (note_of seat.old.me.0.seen o).0 ≡ cell → Writes P.QSBR K.allows (cut_view p o (ref (objects_of seat.old.me.0.seen) (next_of (own_in seat.old.me.0.chains).objects o)) seat.old.me.0) (cut_of o seat.old.me.0) seat.old.me seat.new.me }
+    ensures cut { WritesCutRecord P.QSBR K.allows before cell seat.old.me seat.new.me }
 {
     let next = load_link(table, seat, cell);
     store_cut(table, seat, chain, before, next);

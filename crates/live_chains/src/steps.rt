@@ -1,12 +1,8 @@
 //! The one store by which a push, a replacement or a cut is published. None of these steps waits.
-ghost use Rattle.std.specs.Prelude.{◌≡◌, ◌+◌, ◌<◌, Option, IfSome};
-ghost use Rattle.live_table.specs.rcu_model.Sets.{next_of};
-ghost use Rattle.live_table.specs.rcu_model.declared.event.ObjectId.{ObjectId};
-ghost use Rattle.live_table.specs.live_log.Log.{objects_of};
-ghost use Rattle.live_table.specs.live_rule.Objects.{ref};
+ghost use Rattle.std.specs.Prelude.{◌≡◌, ◌+◌, ◌<◌, IfSome};
 ghost use Rattle.live_table.specs.Rights.{IsFresh, IsListed, IsWriter, cell_in, link_in, own_in};
 ghost use Rattle.live_table.specs.Steps.{Keeps};
-ghost use Rattle.live_chains.specs.Chains.{IsBefore, IsThere, MayWrite, Writes, cut_of, cut_view, place_index, push_of, pushed_view, replace_of, replaced_view};
+ghost use Rattle.live_chains.specs.Chains.{HasLinked, IsSeatedAt, IsSeatedFor, MayCutAt, MayReplaceAt, MayWrite, Writes, WritesCut, WritesReplace, place_index, push_of, pushed_view};
 
 use crate::plays::{Cuts, Pushes, Replaces};
 use live_table::{ChainRule, GracePlan, LiveSeat, LiveTable};
@@ -35,7 +31,7 @@ pub fn store_push<P: GracePlan, K: ChainRule>(
     cell: usize,
 )
     requires seat { (seat.old.table_id ≡ table.now.words.shared.table_id) × (chain < table.now.chains) × (cell < table.now.pool) }
-    requires right { IsWriter seat.old.me.0 × ((own_in seat.old.me.0.chains).chain ≡ chain) × IsFresh seat.old.me.0 × (cell_in seat.old.me.0.object ≡ cell) × (link_in seat.old.me.0.object ≡ (own_in seat.old.me.0.chains).head) }
+    requires right { HasLinked seat.old.me.0 chain cell }
     requires rule { MayWrite P.QSBR K.allows seat.old.me.0 (push_of seat.old.me.0) }
     ensures seat { Keeps seat.old seat.new }
     ensures pushed { Writes P.QSBR K.allows (pushed_view (cell + 1) seat.old.me.0) (push_of seat.old.me.0) seat.old.me seat.new.me × IsListed seat.new.me.0 }
@@ -57,12 +53,12 @@ pub fn store_replace<P: GracePlan, K: ChainRule>(
     before: Option<usize>,
     cell: usize,
 )
-    requires seat { (seat.old.table_id ≡ table.now.words.shared.table_id) × (seat.old.me.0.sizes ≡ table.now.words.shared.key) × (chain < table.now.chains) × IfSome before (λ j. j < table.now.pool) × (cell < table.now.pool) }
+    requires seat { IsSeatedFor table.now.words.shared.table_id table.now.words.shared.key table.now.chains table.now.pool seat.old chain before cell }
     requires right { IsWriter seat.old.me.0 × IsListed seat.old.me.0 × ((own_in seat.old.me.0.chains).chain ≡ chain) × IsFresh seat.old.me.0 × (cell_in seat.old.me.0.object ≡ cell) }
-    requires object { (p : Option ObjectId) × (o : ObjectId) × IsThere seat.old.me.0 before p × IsBefore seat.old.me.0 p o × (link_in seat.old.me.0.object ≡ ref (objects_of seat.old.me.0.seen) (next_of (own_in seat.old.me.0.chains).objects o)) × MayWrite P.QSBR K.allows seat.old.me.0 (replace_of o seat.old.me.0) }
+    requires object { MayReplaceAt P.QSBR K.allows seat.old.me.0 before (link_in seat.old.me.0.object) }
     ensures seat { Keeps seat.old seat.new }
     ensures listed { IsListed seat.new.me.0 }
-    ensures replaced { (p : Option ObjectId) (o : ObjectId) → IsThere seat.old.me.0 before p → IsBefore seat.old.me.0 p o → Writes P.QSBR K.allows (replaced_view p o (cell + 1) seat.old.me.0) (replace_of o seat.old.me.0) seat.old.me seat.new.me }
+    ensures replaced { WritesReplace P.QSBR K.allows before (cell + 1) seat.old.me seat.new.me }
 {
     let place = spot_place(table, chain, before);
     table
@@ -81,12 +77,12 @@ pub fn store_cut<P: GracePlan, K: ChainRule>(
     before: Option<usize>,
     next: u64,
 )
-    requires seat { (seat.old.table_id ≡ table.now.words.shared.table_id) × (seat.old.me.0.sizes ≡ table.now.words.shared.key) × (chain < table.now.chains) × IfSome before (λ j. j < table.now.pool) }
+    requires seat { IsSeatedAt table.now.words.shared.table_id table.now.words.shared.key table.now.chains table.now.pool seat.old chain before }
     requires right { IsWriter seat.old.me.0 × IsListed seat.old.me.0 × ((own_in seat.old.me.0.chains).chain ≡ chain) }
-    requires object { (p : Option ObjectId) × (o : ObjectId) × IsThere seat.old.me.0 before p × IsBefore seat.old.me.0 p o × (next ≡ ref (objects_of seat.old.me.0.seen) (next_of (own_in seat.old.me.0.chains).objects o)) × MayWrite P.QSBR K.allows seat.old.me.0 (cut_of o seat.old.me.0) }
+    requires object { MayCutAt P.QSBR K.allows seat.old.me.0 before next }
     ensures seat { Keeps seat.old seat.new }
     ensures listed { IsListed seat.new.me.0 }
-    ensures cut { (p : Option ObjectId) (o : ObjectId) → IsThere seat.old.me.0 before p → IsBefore seat.old.me.0 p o → Writes P.QSBR K.allows (cut_view p o next seat.old.me.0) (cut_of o seat.old.me.0) seat.old.me seat.new.me }
+    ensures cut { WritesCut P.QSBR K.allows before next seat.old.me seat.new.me }
 {
     let place = spot_place(table, chain, before);
     table.words.shared.store::<Cuts<P, K>>(seat, place, next);

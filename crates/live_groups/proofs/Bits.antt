@@ -10,6 +10,8 @@ use Rattle.live_table.specs.gp_memb.Plan.{bit_of}
 use Rattle.live_table.specs.live_log.declared.event.LiveEvent.{LiveEvent}
 use Rattle.live_table.specs.live_log.Log.{Log, open_of, sections_of}
 use Rattle.live_table.specs.live_rule.declared.view.Sizes.{Sizes}
+use Rattle.live_table.specs.live_rule.declared.view.Look.{Look}
+use Rattle.live_table.specs.live_rule.declared.view.Look.TheVariants.{Loaded, Stored}
 use Rattle.live_table.specs.live_rule.declared.view.View.{View}
 use Rattle.live_table.specs.live_rule.declared.rights.SlotRight.{SlotRight}
 use Rattle.live_table.specs.live_rule.declared.rights.SlotRight.TheVariants as slot_right
@@ -96,11 +98,11 @@ module _ {S : Type 0} (qsbr : Bool) (allows : Log → LiveEvent → Type 0) (key
       let v : View = me.0 in
       let n : ℕ = get_or s.words a 0 in
       let b = rule.seen id v at in
-      let w : View = record v { seen = rule.log; looks = (a, n) ∷ v.looks } in
+      let w : View = record v { seen = rule.log; looks = Loaded a n ∷ v.looks } in
       (w, keeps, tt, looks qsbr allows key s rule id a v w at refl refl (look_all qsbr allows key s rule id v w at (refl, refl, refl, refl, refl, refl)), (refl, refl, (b.0, b.1, rule.run)))
 
   -- the bit of a slot is changed, and this is the seat's right to it then
-  changes : (s : State S View) (rule : Rule s) (at : get_elem? s.views id ≡ some me.0) (r x : ℕ) (right : SlotRight) (looks : List (ℕ × ℕ)) → r < key.slots → DiffersAt r (get_or s.words (group_at (r / 64)) 0) x
+  changes : (s : State S View) (rule : Rule s) (at : get_elem? s.views id ≡ some me.0) (r x : ℕ) (right : SlotRight) (looks : List Look) → r < key.slots → DiffersAt r (get_or s.words (group_at (r / 64)) 0) x
       → (bit_of x (r % 64) ≡ false → open_of r rule.log ≡ none) → SlotStep qsbr allows key s rule id (group_at (r / 64)) x me.0 rule.log at right
       → Rule record { words = set s.words (group_at (r / 64)) x; homes = s.homes; views = set s.views id (record (at_log me.0 rule.log) { slot = right; looks = looks }) }
   changes s rule at r x right looks low differs shut slots = let g = rule.agree.readers in let small = g.small in let wide = rule.wide in
@@ -123,12 +125,12 @@ module _ {S : Type 0} (qsbr : Bool) (allows : Log → LiveEvent → Type 0) (key
       let same : (q : ℕ) → q < key.slots → SameSlot rule.log rule.log s.words (set s.words (group_at (r / 64)) (bit_or n k)) q = λ q lq. dite (ℕ_discrete q r)
       (λ e. (slot_else qsbr key rule.log s.words r (bit_or n k) low g q, refl, ap (bit_at (set s.words (group_at (r / 64)) (bit_or n k))) e ∙ (bit_here qsbr key rule.log s.words r (bit_or n k) low g inside differs ∙ (sets.0 n ∙ (sym taken ∙ ap (bit_at s.words) (sym e))))))
       (others qsbr key rule.log s.words r (bit_or n k) low g inside differs q lq) in (
-        record (at_log v rule.log) { looks = (group_at (r / 64), n) ∷ v.looks },
+        record (at_log v rule.log) { looks = Loaded (group_at (r / 64)) n ∷ v.looks },
         keeps,
         tt,
-        changes s rule at r (bit_or n k) v.slot ((group_at (r / 64), n) ∷ v.looks) low differs (λ off. absurd (not_both (sets.0 n) off)) (slots_kept qsbr allows key s rule id (group_at (r / 64)) (bit_or n k) v rule.log at same),
+        changes s rule at r (bit_or n k) v.slot (Loaded (group_at (r / 64)) n ∷ v.looks) low differs (λ off. absurd (not_both (sets.0 n) off)) (slots_kept qsbr allows key s rule id (group_at (r / 64)) (bit_or n k) v rule.log at same),
         λ q same_word sets'. let e : r ≡ q = one_slot r q k same_word sets sets' in
-            ((λ free. absurd (not_both (subst (λ (z : ℕ). bit_of n (z % 64) ≡ true) e taken) free)), (λ _. (refl, ap (λ (z : ℕ). record (at_log v rule.log) { looks = (z, n) ∷ v.looks }) same_word, (b.0, b.1, rule.run)))),
+            ((λ free. absurd (not_both (subst (λ (z : ℕ). bit_of n (z % 64) ≡ true) e taken) free)), (λ _. (refl, ap (λ (z : ℕ). record (at_log v rule.log) { looks = Loaded z n ∷ v.looks }) same_word, (b.0, b.1, rule.run)))),
       )
   tries s rule at r k low sets false free =
       let v : View = me.0 in
@@ -142,16 +144,19 @@ module _ {S : Type 0} (qsbr : Bool) (allows : Log → LiveEvent → Type 0) (key
       let word : ℕ = get_or s.words (slot_at r) 0 in
       let right : SlotRight = slot_right.Owns r word (sections_of r rule.log) in
       let shut = g.bits r low free in (
-        record (at_log v rule.log) { slot = right; looks = (group_at (r / 64), n) ∷ v.looks },
+        record (at_log v rule.log) { slot = right; looks = Stored (group_at (r / 64)) (bit_or n k) ∷ Loaded (group_at (r / 64)) n ∷ v.looks },
         keeps,
         tt,
-        changes s rule at r (bit_or n k) right ((group_at (r / 64), n) ∷ v.looks) low differs (λ _. shut)
+        changes s rule at r (bit_or n k) right (Stored (group_at (r / 64)) (bit_or n k) ∷ Loaded (group_at (r / 64)) n ∷ v.looks) low differs (λ _. shut)
             (gained_slot qsbr allows key s rule id (group_at (r / 64)) (bit_or n k) v rule.log at r right free (λ p c. c)
             (low, slot_else qsbr key rule.log s.words r (bit_or n k) low g r, refl, bit_here qsbr key rule.log s.words r (bit_or n k) low g inside differs ∙ sets.0 n)
             (others qsbr key rule.log s.words r (bit_or n k) low g inside differs)),
         λ q same_word sets'. let e : r ≡ q = one_slot r q k same_word sets sets' in (
           (λ _. record {
-            went = (refl, ap (λ (z : ℕ). record (at_log v rule.log) { slot = right; looks = (z, n) ∷ v.looks }) same_word, (b.0, b.1, rule.run));
+            left = bit_or n k;
+            is_set = sets'.0 n;
+            others = subst (λ (z : ℕ). DiffersAt z n (bit_or n k)) e differs;
+            went = (refl, ap (λ (z : ℕ). record (at_log v rule.log) { slot = right; looks = Stored z (bit_or n k) ∷ Loaded z n ∷ v.looks }) same_word, (b.0, b.1, rule.run));
             claimed = record {
               owns = ap (λ (z : ℕ). slot_right.Owns z word (sections_of r rule.log)) e;
               closed = subst (Fits qsbr word) shut (g.each_slot r low);
@@ -179,10 +184,10 @@ module _ {S : Type 0} (qsbr : Bool) (allows : Log → LiveEvent → Type 0) (key
       let low = mine.0 in
       let differs = clears_differ r k n clears in
       let inside : group_at (r / 64) < length s.words = omega arith in (
-        record (at_log v rule.log) { slot = slot_right.Nothing; looks = (group_at (r / 64), bit_and n k) ∷ v.looks },
+        record (at_log v rule.log) { slot = slot_right.Nothing; looks = Stored (group_at (r / 64)) (bit_and n k) ∷ v.looks },
         keeps,
         tt,
-        changes s rule at r (bit_and n k) slot_right.Nothing ((group_at (r / 64), bit_and n k) ∷ v.looks) low differs
+        changes s rule at r (bit_and n k) slot_right.Nothing (Stored (group_at (r / 64)) (bit_and n k) ∷ v.looks) low differs
             (λ _. closed_fits qsbr w (open_of r rule.log) (subst (λ (z : ℕ). Fits qsbr z (open_of r rule.log)) mine.1 (g.each_slot r low)) shut)
             (given_slot qsbr allows key s rule id (group_at (r / 64)) (bit_and n k) v rule.log at r claim (others qsbr key rule.log s.words r (bit_and n k) low g inside differs)),
         λ q w' c' is' clears'. let e : r ≡ q = ap slot_or (sym is ∙ is') in record {
@@ -192,6 +197,6 @@ module _ {S : Type 0} (qsbr : Bool) (allows : Log → LiveEvent → Type 0) (key
           is_clear = clears'.0 n;
           others = subst (λ (z : ℕ). DiffersAt z n (bit_and n k)) e differs;
           counted = ap (λ (z : ℕ). sections_of z rule.log) (sym e) ∙ (mine.2 ∙ ap count_in (sym is));
-          went = (refl, ap (λ (z : ℕ). record (at_log v rule.log) { slot = slot_right.Nothing; looks = (group_at (z / 64), bit_and n k) ∷ v.looks }) e, (b.0, b.1, rule.run));
+          went = (refl, ap (λ (z : ℕ). record (at_log v rule.log) { slot = slot_right.Nothing; looks = Stored (group_at (z / 64)) (bit_and n k) ∷ v.looks }) e, (b.0, b.1, rule.run));
         },
       )

@@ -11,7 +11,7 @@ use Rattle.live_table.specs.live_rule.declared.rights.SlotRight.TheVariants as s
 use Rattle.live_table.specs.live_rule.Places.{group_at}
 use Rattle.live_table.specs.live_rule.Readers.{IsClosed}
 use Rattle.live_table.specs.Rights.{IsOwner, count_in, word_in}
-use Rattle.live_table.specs.Steps.{Went, looked_view}
+use Rattle.live_table.specs.Steps.{Went, exchanged_view, looked_view, stored_view}
 
 -- a word with which `or` sets bit b alone, and one with which `and` clears it alone
 abbrev pub SetsBit : ℕ → ℕ → Type 0
@@ -31,21 +31,24 @@ pub record IsClaimed (qsbr : Bool) (r : ℕ) (v : View) : Type 0 where
   pub none_open : open_of r v.seen ≡ none
   pub counted : sections_of r v.seen ≡ count_in v.slot
 
--- the view has the right to this slot, and this word was looked at
-abbrev pub claimed_view : SlotRight → ℕ → ℕ → View → View
-claimed_view right r n v = record (looked_view (group_at (r / 64)) n v) { slot = right }
+-- the view has the right to this slot, whose group was found with this word and left with that one
+abbrev pub claimed_view : SlotRight → ℕ → ℕ → ℕ → View → View
+claimed_view right r n x v = record (exchanged_view (group_at (r / 64)) n x v) { slot = right }
 
 -- the right to slot r goes, and its group was left with this word
 abbrev pub released_view : ℕ → ℕ → View → View
-released_view r n v = record (looked_view (group_at (r / 64)) n v) { slot = slot_right.Nothing }
+released_view r n v = record (stored_view (group_at (r / 64)) n v) { slot = slot_right.Nothing }
 
 module _ {S : Type 0} (qsbr : Bool) (allows : Log → LiveEvent → Type 0) where
   abbrev pub looked_group : Step S → Me S View → ℕ → Me S View → Type 0
   looked_group st m n m' = Went qsbr allows (looked_view st.word n m.0) m m'
 
-  -- slot r, whose bit was found 0 in this word, is the seat's now
+  -- slot r, whose bit was found 0 in this word, is the seat's now: its group was left with its bit set
   pub record TakesSlot (r n : ℕ) (m m' : Me S View) : Type 0 where
-    pub went : Went qsbr allows (claimed_view m'.0.slot r n m.0) m m'
+    pub left : ℕ
+    pub is_set : bit_of left (r % 64) ≡ true
+    pub others : DiffersAt r n left
+    pub went : Went qsbr allows (claimed_view m'.0.slot r n left m.0) m m'
     pub claimed : IsClaimed qsbr r m'.0
 
   -- the bit of a slot was set

@@ -1,8 +1,10 @@
 -- What lies under a queue's lock: its items in the order of their tickets, and the queue's seat.
-use Rattle.std.specs.Prelude.{Bool, true, false, ◌≡◌, ℕ, ◌+◌, ◌<◌, ◌≤◌, List, [], ◌∷◌, length, nat_lt, if◌then◌else◌}
+use Rattle.std.specs.Prelude.{Bool, true, false, ◌≡◌, ◌⊎◌, ℕ, ◌+◌, ◌-◌, ◌<◌, ◌≤◌, ◌^◌, List, [], ◌∷◌, length, max, nat_lt, if◌then◌else◌}
 use Rattle.rcu_model.specs.declared.event.ObjectId.{ObjectId}
+use Rattle.rcu_model.specs.declared.refusal.Refusal.{Refusal}
+use Rattle.rcu_model.specs.declared.refusal.Refusal.TheVariants.{Closed, Memory}
 use Rattle.callback_queue.specs.declared.item.Item.{Item}
-use Rattle.callback_queue.specs.Queue.{Queue, items_of, given_of, pushed, with_place, noted, after_advance}
+use Rattle.callback_queue.specs.Queue.{Queue, items_of, given_of, pushed, taken_out, with_place, noted, after_advance}
 use Rattle.live_log.specs.declared.event.LiveEvent.{LiveEvent}
 use Rattle.live_log.specs.declared.event.LiveEvent.TheVariants.{CloseQueue}
 use Rattle.live_log.specs.Log.{Log, Begins, IsLiveRun, line_of}
@@ -34,6 +36,18 @@ InOrder q seen n (item ∷ items) = IsPlaced q seen n item × InOrder q seen (n 
 -- what was queued is the object with its own callback, at the end of what was not yet sealed
 abbrev pub IsPushed : {C : Type 0} → Jobs C → Jobs C → ObjectId → C → Type 0
 IsPushed {C} old new o callback = (job : JobValue C) × (job.2 ≡ callback) × (new ≡ pushed (with_place old) (record { object = o; job = job }))
+
+-- there is no place for an item: the queue was closed, or memory was refused, or as many were given as may be
+abbrev pub GetsNoPlace : {C : Type 0} → Jobs C → Refusal → Type 0
+GetsNoPlace jobs e = ((e ≡ Closed) × (jobs.closed ≡ true)) ⊎ ((e ≡ Memory) × (jobs.closed ≡ false) × ((jobs.reserved ≡ false) ⊎ (2 ^ 63 ≤ given_of jobs)))
+
+-- a batch goes to this number: as many were queued in the log, and two lists of these lengths have room for what is left
+abbrev pub SealsTo : {C : Type 0} → Jobs C → ℕ → ℕ → Log → ℕ → ℕ × ℕ → ℕ × ℕ → Type 0
+SealsTo jobs finished queue log n list left = (n ≡ max (given_of jobs) finished) × (finished < n → n ≤ length (line_of log queue)) × (list.0 + (n - finished) ≤ list.1) × (left.0 + (n - finished) ≤ left.1)
+
+-- what waits is taken out where nothing is ready, all before it has left, and a list of this length has room for it
+abbrev pub TakesAllOut : {C : Type 0} → Jobs C → Jobs C → ℕ → ℕ → ℕ → Type 0
+TakesAllOut old new finished many room = old.gone ≡ finished → old.ready ≡ [] → many + length old.waiting ≤ room → new ≡ taken_out old
 
 -- 1 once the queue was closed
 abbrev pub word_of : Bool → ℕ

@@ -10,8 +10,8 @@ ghost use Rattle.live_words.specs.live_rule.declared.rights.RecordRight.TheVaria
 ghost use Rattle.live_words.specs.live_table.Rights.{object_in};
 ghost use Rattle.live_words.specs.live_table.Steps.{Keeps};
 ghost use Rattle.live_read.specs.Hearing.{OnlyHears};
-ghost use Rattle.live_items.specs.Items.{Closes, InOrder, IsPushed, ripened};
-ghost use Rattle.live_items.specs.Retiring.{IsAfterAll, Queues};
+ghost use Rattle.live_items.specs.Items.{Closes, GetsNoPlace, InOrder, IsPushed, SealsTo, TakesAllOut, ripened};
+ghost use Rattle.live_items.specs.Retiring.{QueuesFor};
 
 use crate::job::Job;
 use crate::retiring::queue_object;
@@ -74,7 +74,7 @@ impl<B: Site, C: Drop> Items<B, C> {
     /// It waits for nobody.
     pub fn prepare(&mut self) -> Result<(), Refusal>
         ensures ok { IfOk result (λ _. (self.old.0.closed ≡ false) × (given_of self.old.0 < 2 ^ 63) × (self.new.0 ≡ with_place self.old.0)) }
-        ensures refused { IfErr result (λ e. ((e ≡ Closed) × (self.old.0.closed ≡ true)) ⊎ ((e ≡ Memory) × (self.old.0.closed ≡ false) × ((self.old.0.reserved ≡ false) ⊎ (2 ^ 63 ≤ given_of self.old.0)))) }
+        ensures refused { IfErr result (λ e. GetsNoPlace self.old.0 e) }
         ensures back { IfErr result (λ _. self.new ≡ self.old) }
         ensures same { (self.new.1 ≡ self.old.1) × (self.new.2 ≡ self.old.2) }
     {
@@ -103,7 +103,7 @@ impl<B: Site, C: Drop> Items<B, C> {
         ensures queue { self.new.2 ≡ self.old.2 }
         ensures ticket { IfOk result (λ t. (self.old.0.closed ≡ false) × (t.0 ≡ given_of self.old.0 + 1) × (given_of self.new.0 ≡ t.0)) }
         ensures pushed { IfOk result (λ _. IsPushed self.old.0 self.new.0 (object_in unlinked.seat.me.0.object) callback) }
-        ensures retired { IfOk result (λ t. Queues P.QSBR K.allows (IsAfterAll unlinked.seat.me.0.seen (W.seen caller.old) (W.heard caller.old)) (object_in unlinked.seat.me.0.object) self.old.2 (given_of self.old.0) (W.heard caller.new)) }
+        ensures retired { IfOk result (λ _. QueuesFor W.Caller P.QSBR K.allows caller.old caller.new unlinked.seat.me.0 self.old.2 (given_of self.old.0)) }
         ensures refused { IfErr result (λ e. ((e.0 ≡ Closed) × (self.old.0.closed ≡ true)) ⊎ ((e.0 ≡ Memory) × (self.old.0.closed ≡ false))) }
         ensures prepared { self.old.0.closed ≡ false → self.old.0.reserved ≡ true → given_of self.old.0 < 2 ^ 63 → IsOk result }
         ensures back { IfErr result (λ e. (e.1 ≡ unlinked) × (e.2 ≡ callback) × (self.new ≡ self.old) × (caller.new ≡ caller.old)) }
@@ -154,7 +154,7 @@ impl<B: Site, C: Drop> Items<B, C> {
         ensures worker { Keeps worker.old worker.new × (worker.new.me ≡ (record worker.old.me.0 { heard = worker.new.me.0.heard }, worker.old.me.1)) }
         ensures list { list.new.items ≡ list.old.items }
         ensures left { left.new.items ≡ left.old.items }
-        ensures given { IfOk result (λ n. (n ≡ max (given_of self.old.0) finished) × (finished < n → n ≤ length (line_of worker.new.me.0.heard queue)) × (vec_len list.new + (n - finished) ≤ vec_capacity list.new) × (vec_len left.new + (n - finished) ≤ vec_capacity left.new)) }
+        ensures given { IfOk result (λ n. SealsTo self.old.0 finished queue worker.new.me.0.heard n (vec_len list.new, vec_capacity list.new) (vec_len left.new, vec_capacity left.new)) }
         ensures refused { IfErr result (λ e. (e ≡ Memory) × (finished < length (line_of worker.new.me.0.heard queue)) × (self.new.0 ≡ self.old.0)) }
         ensures sealed { IfOk result (λ _. self.old.0.ready ≡ [] → self.old.0.waiting ≡ [] → self.new.0 ≡ sealed self.old.0) }
         ensures kept { IfOk result (λ _. (0 < length self.old.0.ready) ⊎ (0 < length self.old.0.waiting) → self.new.0 ≡ self.old.0) }
@@ -232,7 +232,7 @@ impl<B: Site, C: Drop> Items<B, C> {
         ensures queue { self.new.2 ≡ self.old.2 }
         ensures taken { ((self.new.0 ≡ taken_out self.old.0) × (left.new.items ≡ left.old.items ++ self.old.0.waiting)) ⊎ ((self.new.0 ≡ self.old.0) × (left.new ≡ left.old)) }
         ensures placed { left.old.items ≡ [] → InOrder queue worker.new.me.0.heard finished left.new.items }
-        ensures fits { self.old.2 ≡ queue → self.old.0.gone ≡ finished → self.old.0.ready ≡ [] → vec_len left.old + length self.old.0.waiting ≤ vec_capacity left.old → self.new.0 ≡ taken_out self.old.0 }
+        ensures fits { self.old.2 ≡ queue → TakesAllOut self.old.0 self.new.0 finished (vec_len left.old) (vec_capacity left.old) }
     {
         table.learn(worker, table.tell(&mut self.seat));
         let (ready, waiting, fresh) = self.queue.segments();

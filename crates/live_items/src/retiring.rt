@@ -1,12 +1,9 @@
 //! How an object is retired and its callback queued, made of its steps.
-ghost use Rattle.std.specs.Prelude.{◌≡◌, ◌+◌, ◌<◌, ◌^◌, []};
-ghost use Rattle.live_words.specs.live_rule.declared.rights.QueueRight.TheVariants.{Owns};
-ghost use Rattle.live_words.specs.live_rule.declared.rights.RecordRight.TheVariants.{Nothing, Queued};
+ghost use Rattle.std.specs.Prelude.{◌≡◌};
 ghost use Rattle.live_log.specs.Log.{Begins};
 ghost use Rattle.live_words.specs.live_rule.Steps.{Precedes};
-ghost use Rattle.live_words.specs.live_table.Rights.{IsInQueue, IsUnlinked, cell_in, closed_in, object_in, queue_in, queued_in};
-ghost use Rattle.live_words.specs.live_table.Steps.{Keeps};
-ghost use Rattle.live_items.specs.Retiring.{Queues};
+ghost use Rattle.live_words.specs.live_table.Rights.{IsUnlinked, cell_in, object_in};
+ghost use Rattle.live_items.specs.Retiring.{AreOfTable, GivesOneMore, HasQueue, HasQueued, Queues};
 
 use gp_memb::GracePlan;
 use live_words::{ChainRule, LiveSeat, LiveTable, load_number, store_queued, store_retire};
@@ -21,11 +18,11 @@ pub fn queue_object<P: GracePlan, K: ChainRule>(
     given: u64,
     cell: usize,
 ) -> (LiveSeat, u64)
-    requires seats { (lock.old.table_id ≡ table.now.words.shared.table_id) × (unlinked.table_id ≡ table.now.words.shared.table_id) × (unlinked.me.1 ≡ []) × (queue < table.now.queues) × (cell < table.now.pool) }
-    requires lock { IsInQueue lock.old.me.0 × (queue_in lock.old.me.0.queue ≡ queue) × (closed_in lock.old.me.0.queue ≡ 0) × (queued_in lock.old.me.0.queue ≡ given) × (given + 1 < 2 ^ 64) }
+    requires seats { AreOfTable table.now.words.shared.table_id table.now.queues table.now.pool lock.old unlinked queue cell }
+    requires lock { HasQueue lock.old.me.0 queue given }
     requires right { IsUnlinked unlinked.me.0 × (cell_in unlinked.me.0.object ≡ cell) }
-    ensures lock { Keeps lock.old lock.new × (lock.new.me.1 ≡ lock.old.me.1) × (lock.new.me.0.sizes ≡ lock.old.me.0.sizes) × (lock.new.me.0.queue ≡ Owns queue (given + 1) 0) × (lock.new.me.0.object ≡ Nothing) }
-    ensures job { (result.0.table_id ≡ table.now.words.shared.table_id) × (result.0.me.1 ≡ []) × (result.0.me.0.sizes ≡ lock.old.me.0.sizes) × (result.0.me.0.object ≡ Queued cell (object_in unlinked.me.0.object)) }
+    ensures lock { GivesOneMore lock.old lock.new queue given }
+    ensures job { HasQueued table.now.words.shared.table_id lock.old unlinked result.0 cell }
     ensures number { result.1 ≡ (object_in unlinked.me.0.object).0 }
     ensures queued { Queues P.QSBR K.allows (Precedes unlinked.me.0) (object_in unlinked.me.0.object) queue given lock.new.me.0.seen × (result.0.me.0.seen ≡ lock.new.me.0.seen) }
     ensures later { Begins lock.old.me.0.seen lock.new.me.0.seen }

@@ -5,7 +5,7 @@ ghost use Rattle.live_log.specs.Log.{payload_of, state_of};
 ghost use Rattle.live_words.specs.live_table.Rights.{cell_in, object_in};
 ghost use Rattle.live_words.specs.live_table.Steps.{Keeps, Went};
 ghost use Rattle.live_words.specs.live_records.Records.{HasCut, IsRipe};
-ghost use Rattle.live_items.specs.Running.{KeepsFinds, Runs};
+ghost use Rattle.live_items.specs.Running.{KeepsFinds, OnlyHearsMore, Runs};
 
 use crate::job::Job;
 use callback_queue::Ripe;
@@ -46,7 +46,7 @@ impl<B: Site, C: Drop> Job<B, C> {
         requires site { (table.now.words.shared.table_id ≡ B.table) × (table.now.words.shared.key ≡ B.sizes) × (worker.old.table_id ≡ B.table) }
         requires object { object ≡ object_in self.0.object }
         requires ripe { IsRipe worker.old.me.0.seen object }
-        ensures worker { Keeps worker.old worker.new × (worker.new.me ≡ (record worker.old.me.0 { heard = worker.new.me.0.heard; looks = worker.new.me.0.looks; loads = worker.new.me.0.loads }, worker.old.me.1)) }
+        ensures worker { OnlyHearsMore worker.old worker.new }
         ensures finds { KeepsFinds worker.old.me.0 worker.new.me.0 }
         ensures run { Runs P.QSBR K.allows self.0.seen worker.old.me.0.seen object worker.new.me.0.heard }
         ensures ripe { (result.0.object ≡ object) × (result.0.payload ≡ payload_of worker.new.me.0.heard object) }

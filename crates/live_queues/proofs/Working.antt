@@ -22,7 +22,7 @@ use Rattle.live_table.specs.live_rule.Rule.{KeepsRule}
 use Rattle.live_table.specs.live_rule.Seats.{but_work}
 use Rattle.live_table.proofs.live_rule.Lemmas.{looks, calm_same, work_part, queues_kept, look_all}
 use Rattle.live_table.specs.Rights.{work_in, finished_in, IsWorker}
-use Rattle.live_table.specs.Steps.{IsKnown, looked_view}
+use Rattle.live_table.specs.Steps.{IsKnown, exchanged_view, looked_view, stored_view}
 use Rattle.live_queues.specs.Queues.{finished_view, HasRunAt, held, finished, freed}
 use Rattle.live_queues.proofs.Lines.{far, lines_stay, guards_work, guards_stay, own_word}
 
@@ -53,7 +53,7 @@ module _ {S : Type 0} (qsbr : Bool) (allows : Log → LiveEvent → Type 0) (key
       exchanged m 0 1 (λ x. (w : View) × (act : Act S) × Valid s.homes me.1 act × Rule (stepped s a x id me.1 w act) × held qsbr allows (step slots a 0 1 lists.none) me m (w, carried_after me.1 act))
       (λ found.
       let f : ℕ = get_or s.words (finished_at key q) 0 in
-      let w : View = record (looked_view a m v) { seen = r.log; work = work_right.Works q f } in
+      let w : View = record (exchanged_view a m 1 v) { seen = r.log; work = work_right.Works q f } in
       let zero : get_or s.words (work_at key q) 0 ≡ 0 = ap (λ (i : ℕ). get_or s.words i 0) (sym a_is) ∙ found in
       let free : (y : WorkRight) → ClaimsWork y q → KnowsWork qsbr key r.log s.words y → ⊥ = λ y claim k. let one = work_is qsbr key y q r.log s.words claim k in omega arith in (
         w,
@@ -70,7 +70,7 @@ module _ {S : Type 0} (qsbr : Bool) (allows : Log → LiveEvent → Type 0) (key
                 inr (λ j y far' at_j claim_j. free y.work (subst (ClaimsWork y.work) (sym claim) claim_j) (r.knows (work e) j y at_j claim_j)),
               );
             })),
-        ((λ _ e l is. let same : q ≡ e = same_queue e is in ((refl, (λ i. record (looked_view a m v) { seen = r.log; work = work_right.Works (same i) f }), (b.0, b.1, r.run)), subst (λ (n : ℕ). HaveRun n f r.log) same (r.agree.lines.done q low))), (λ ne. absurd (ne found)), guard),
+        ((λ _ e l is. let same : q ≡ e = same_queue e is in ((refl, (λ i. record (exchanged_view a m 1 v) { seen = r.log; work = work_right.Works (same i) f }), (b.0, b.1, r.run)), subst (λ (n : ℕ). HaveRun n f r.log) same (r.agree.lines.done q low))), (λ ne. absurd (ne found)), guard),
       ))
       (λ ne. let w : View = record (looked_view a m v) { seen = r.log } in
       (w, keeps, tt, looks qsbr allows key s r id a v w at refl refl (look_all qsbr allows key s r id v w at (refl, refl, refl, refl, refl, refl)), ((λ found. absurd (ne found)), (λ _. (refl, refl, (b.0, b.1, r.run))), guard)))
@@ -88,7 +88,7 @@ module _ {S : Type 0} (qsbr : Bool) (allows : Log → LiveEvent → Type 0) (key
       let k = works_now s r id v at is in
       let low = k.0 in
       let b = r.seen id v at in
-      let w : View = record (looked_view a x (but_work v)) { seen = r.log } in (
+      let w : View = record (stored_view a x (but_work v)) { seen = r.log } in (
         w,
         keeps,
         tt,

@@ -17,7 +17,7 @@ use Rattle.live_table.specs.live_rule.declared.rights.RecordRight.TheVariants as
 use Rattle.live_table.specs.live_rule.Places.{queued_at, closed_at, finished_at, work_at}
 use Rattle.live_table.specs.live_rule.Seats.{but_work}
 use Rattle.live_table.specs.Rights.{cell_in, object_in, queue_in, queued_in, closed_in, work_in, finished_in}
-use Rattle.live_table.specs.Steps.{Did, Went, looked_view}
+use Rattle.live_table.specs.Steps.{Did, Went, exchanged_view, looked_view, stored_view}
 
 -- the view, once its retired object is queued
 abbrev pub queued_view : View → View
@@ -81,9 +81,9 @@ module _ {S : Type 0} (qsbr : Bool) (allows : Log → LiveEvent → Type 0) wher
   -- the hold word was 0, and so the work is the seat's; or another has it, or nobody can
   abbrev pub held : Step S → Me S View → ℕ → Me S View → Type 0
   held st m n m' =
-      (n ≡ 0 → (q : ℕ) → q < m.0.sizes.queues → st.word ≡ work_at m.0.sizes q → Went qsbr allows (working_view q (finished_in m'.0.work) (looked_view st.word n m.0)) m m' × HaveRun q (finished_in m'.0.work) m'.0.seen)
+      (n ≡ 0 → (q : ℕ) → q < m.0.sizes.queues → st.word ≡ work_at m.0.sizes q → Went qsbr allows (working_view q (finished_in m'.0.work) (exchanged_view st.word n st.second m.0)) m m' × HaveRun q (finished_in m'.0.work) m'.0.seen)
       × (n ≢ 0 → Went qsbr allows (looked_view st.word n m.0) m m') × (n ≤ 2)
 
   -- the work was given back, by this word
   abbrev pub freed : Step S → Me S View → ℕ → Me S View → Type 0
-  freed st m n m' = Went qsbr allows (looked_view st.word st.first (but_work m.0)) m m'
+  freed st m n m' = Went qsbr allows (stored_view st.word st.first (but_work m.0)) m m'

@@ -4,15 +4,15 @@ ghost use Rattle.live_table.specs.live_log.Log.{HaveRun};
 ghost use Rattle.live_table.specs.live_rule.Places.{work_at};
 ghost use Rattle.live_table.specs.live_rule.Seats.{but_work};
 ghost use Rattle.live_table.specs.Rights.{IsWorker, finished_in, work_in};
-ghost use Rattle.live_table.specs.Steps.{Keeps, Went, looked_view};
+ghost use Rattle.live_table.specs.Steps.{Keeps, Went, exchanged_view, looked_view, stored_view};
 ghost use Rattle.live_queues.specs.Queues.{working_view};
 
 use crate::plays::{FreesWork, HoldsWork};
 use live_table::{ChainRule, GracePlan, LiveSeat, LiveTable};
 
 /// Takes the right to work for a queue, if nobody has it: its hold word goes from 0 to 1. Answers the hold word that it
-/// found, which is kept among the looks: 0, and the right is the seat's; 1, and another has it; or 2, and nobody can
-/// have it any more. It never waits.
+/// found: 0, and the right is the seat's; 1, and another has it; or 2, and nobody can have it any more. What it found is
+/// kept among the looks, and what it stored. It never waits.
 pub fn hold_work<P: GracePlan, K: ChainRule>(
     table: &LiveTable<P, K>,
     seat: &mut LiveSeat,
@@ -21,7 +21,7 @@ pub fn hold_work<P: GracePlan, K: ChainRule>(
     requires { (seat.old.table_id ≡ table.now.words.shared.table_id) × (seat.old.me.0.sizes ≡ table.now.words.shared.key) × (queue < table.now.queues) }
     ensures seat { Keeps seat.old seat.new }
     ensures found { result ≤ 2 }
-    ensures held { result ≡ 0 → Went P.QSBR K.allows (working_view queue (finished_in seat.new.me.0.work) (looked_view (work_at table.now.words.shared.key queue) result seat.old.me.0)) seat.old.me seat.new.me × HaveRun queue (finished_in seat.new.me.0.work) seat.new.me.0.seen }
+    ensures held { result ≡ 0 → Went P.QSBR K.allows (working_view queue (finished_in seat.new.me.0.work) (exchanged_view (work_at table.now.words.shared.key queue) result 1 seat.old.me.0)) seat.old.me seat.new.me × HaveRun queue (finished_in seat.new.me.0.work) seat.new.me.0.seen }
     ensures missed { result ≢ 0 → Went P.QSBR K.allows (looked_view (work_at table.now.words.shared.key queue) result seat.old.me.0) seat.old.me seat.new.me }
 {
     let place = table.work_place(queue);
@@ -41,7 +41,7 @@ pub fn free_work<P: GracePlan, K: ChainRule>(
     requires seat { (seat.old.table_id ≡ table.now.words.shared.table_id) × (queue < table.now.queues) }
     requires right { IsWorker seat.old.me.0 × (work_in seat.old.me.0.work ≡ queue) }
     ensures seat { Keeps seat.old seat.new }
-    ensures freed { Went P.QSBR K.allows (looked_view (work_at table.now.words.shared.key queue) 0 (but_work seat.old.me.0)) seat.old.me seat.new.me }
+    ensures freed { Went P.QSBR K.allows (stored_view (work_at table.now.words.shared.key queue) 0 (but_work seat.old.me.0)) seat.old.me seat.new.me }
 {
     let place = table.work_place(queue);
     table.words.shared.store::<FreesWork<P, K>>(seat, place, 0);
@@ -57,7 +57,7 @@ pub fn end_work<P: GracePlan, K: ChainRule>(
     requires seat { (seat.old.table_id ≡ table.now.words.shared.table_id) × (queue < table.now.queues) }
     requires right { IsWorker seat.old.me.0 × (work_in seat.old.me.0.work ≡ queue) }
     ensures seat { Keeps seat.old seat.new }
-    ensures freed { Went P.QSBR K.allows (looked_view (work_at table.now.words.shared.key queue) 2 (but_work seat.old.me.0)) seat.old.me seat.new.me }
+    ensures freed { Went P.QSBR K.allows (stored_view (work_at table.now.words.shared.key queue) 2 (but_work seat.old.me.0)) seat.old.me seat.new.me }
 {
     let place = table.work_place(queue);
     table.words.shared.store::<FreesWork<P, K>>(seat, place, 2);

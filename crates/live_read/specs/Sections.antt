@@ -74,6 +74,10 @@ module _ {P K : Type 0} {g : plan.Ghosts P} where
       pub keeps : 1 < r.depth → KeepsHeld r s
       pub inside : 1 < r.depth → IsIn r → IsIn s
 
+    -- a section does, which is not a lock
+    abbrev pub ClosesSection : Type 0
+    ClosesSection = r.locks < r.depth → EndsSection r.locks
+
     -- an offline reader goes online, which opens a section of the log
     pub record GoesOnline : Type 0 where
       pub same : (s.slot ≡ r.slot) × (s.depth ≡ r.depth) × (s.locks ≡ r.locks)
@@ -109,6 +113,10 @@ module _ {P K : Type 0} {g : plan.Ghosts P} where
   -- why a section or a lock is refused
   abbrev pub MayNotBegin : Bool → Refusal → ReaderCore P K g → Type 0
   MayNotBegin qsbr e r = ((e ≡ NotOpen) × (qsbr ≡ true) × (r.word ≡ 0)) ⊎ ((e ≡ NestFull) × (r.depth ≡ greatest_depth))
+
+  -- one of both is so
+  abbrev pub CannotOpen : Bool → ReaderCore P K g → Type 0
+  CannotOpen qsbr r = ((qsbr ≡ true) × (r.word ≡ 0)) ⊎ (r.depth ≡ greatest_depth)
 
   -- why going online is refused
   abbrev pub MayNotGoOnline : Bool → Refusal → ReaderCore P K g → Type 0

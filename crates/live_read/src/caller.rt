@@ -10,10 +10,11 @@ use std::marker::PhantomData;
 
 /// Who makes a call, and keeps what it has seen of the log: a handle, or a reader.
 pub trait Caller<B: Site> {
-    ghost use Rattle.std.specs.Prelude.{◌≡◌, ℕ, List, [], ◌++◌};
+    ghost use Rattle.std.specs.Prelude.{◌≡◌, List, [], ◌++◌};
     ghost use Rattle.atomic_table.specs.Seated.{TableId};
     ghost use Rattle.live_log.specs.Log.{Log};
     ghost use Rattle.live_words.specs.live_rule.Views.{bare};
+    ghost use Rattle.live_words.specs.live_rule.declared.view.Look.{Look};
     ghost use Rattle.live_words.specs.live_rule.declared.view.Sizes.{Sizes};
     ghost use Rattle.live_read.specs.Standings.{Standing};
 
@@ -26,9 +27,9 @@ pub trait Caller<B: Site> {
     /// The logs at the loads of the sequence number that were made for it, the last one first.
     ghost loads: { Self → List Log };
 
-    /// The words that were loaded or found for it, each with its place, the last one first. Words that a reader or a
-    /// grace period loads are not kept.
-    ghost looks: { Self → List (ℕ × ℕ) };
+    /// The words that were loaded and stored for it, and of which the log says nothing, the last one first. Words that a
+    /// reader or a grace period loads are not kept.
+    ghost looks: { Self → List Look };
 
     /// The pushes, replacements and cuts that were made for it, the last one first.
     ghost changes: { Self → Log };

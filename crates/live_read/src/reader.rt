@@ -34,7 +34,7 @@ impl<P: GracePlan, K: ChainRule, B: Site> Reader<P, K, B> {
     ghost use Rattle.live_read.specs.contracts.reader.Reader.{the_row};
     ghost use Rattle.live_read.specs.Holding.{MayHoldIn};
     ghost use Rattle.live_read.specs.Reads.{FindsFirst, HasWord, HasWords, HoldsFirst, HoldsLast, HoldsNext, Looks};
-    ghost use Rattle.live_read.specs.Sections.{Announces, BeginsSection, EndsSection, GoesOffline, GoesOnline, MayNotAnnounce, MayNotBegin, MayNotGoOnline, greatest_depth};
+    ghost use Rattle.live_read.specs.Sections.{Announces, BeginsSection, EndsSection, GoesOffline, GoesOnline, CannotOpen, MayNotAnnounce, MayNotBegin, MayNotGoOnline};
 
     /// This reader, with the name of its table.
     pub(crate) fn of(core: ReaderCore<P, K>) -> Reader<P, K, B>
@@ -86,7 +86,7 @@ impl<P: GracePlan, K: ChainRule, B: Site> Reader<P, K, B> {
 
     /// Whether `lock` succeeds; if so it is locked, and else the reader is as it was. It never waits.
     pub fn try_lock(&mut self) -> bool
-        ensures { MatchBool result (BeginsSection P.QSBR K.allows self.old.core self.new.core (self.old.core.locks + 1)) ((self.new ≡ self.old) × (((P.QSBR ≡ true) × (self.old.core.word ≡ 0)) ⊎ (self.old.core.depth ≡ greatest_depth))) }
+        ensures { MatchBool result (BeginsSection P.QSBR K.allows self.old.core self.new.core (self.old.core.locks + 1)) ((self.new ≡ self.old) × CannotOpen P.QSBR self.old.core) }
     {
         self.lock().is_ok()
     }
@@ -148,6 +148,7 @@ impl<P: GracePlan, K: ChainRule, B: Site> Reader<P, K, B> {
         ensures looked { IfOk result (λ _. (chain < B.sizes.chains) × Looks P.QSBR K.allows self.old.core self.new.core) }
         ensures none { IfOk result (λ found. IfNone found (FindsFirst self.new.core chain None)) }
         ensures some { IfOk result (λ found. IfSome found (λ h. HoldsFirst self.new.core chain h.cell)) }
+        ensures held { IfOk result (λ found. IfSome found (λ h. MayHoldIn self.new.core h.cell)) }
     {
         self.core.first(chain)
     }

@@ -1,6 +1,6 @@
 //! Readers that go by their own table.
 
-ghost use Rattle.std.specs.Prelude.{◌≡◌, ◌≢◌, ◌⊎◌, ◌≤◌, ◌+◌, ◌-◌, ◌<◌, ◌↔◌, [], true, false, IfOk, IfErr, IsTrue, MatchBool};
+ghost use Rattle.std.specs.Prelude.{◌≡◌, ◌≢◌, ◌⊎◌, ◌≤◌, ◌+◌, ◌-◌, ◌<◌, ◌↔◌, [], true, false, IfOk, IfErr, IsTrue};
 ghost use Rattle.std.specs.Arc.{arc_value};
 ghost use Rattle.rcu_model.specs.declared.refusal.Refusal.TheVariants.{NotOpen};
 ghost use Rattle.reader_word.specs.declared.layout.Layout.TheVariants.{Wide};
@@ -38,7 +38,7 @@ pub struct ReaderCore<P: GracePlan, K: ChainRule> {
 
 impl<P: GracePlan, K: ChainRule> ReaderCore<P, K> {
     ghost use Rattle.live_read.specs.Holding.{KeepsTable};
-    ghost use Rattle.live_read.specs.Sections.{Announces, BeginsSection, EndsAll, EndsSection, Enters, GoesOffline, GoesOnline, Leaves, MayNotAnnounce, MayNotBegin, MayNotGoOnline, greatest_depth};
+    ghost use Rattle.live_read.specs.Sections.{Announces, BeginsSection, EndsAll, EndsSection, Enters, GoesOffline, GoesOnline, Leaves, MayNotAnnounce, MayNotBegin, MayNotGoOnline};
 
     /// A reader by a seat that owns a slot whose word is closed.
     pub(crate) fn new(
@@ -257,14 +257,6 @@ impl<P: GracePlan, K: ChainRule> ReaderCore<P, K> {
         ensures table { KeepsTable self.old self.new }
     {
         self.enter(self.locks + 1)
-    }
-
-    /// Whether `lock` succeeds; if so it is locked, and else the reader is as it was. It never waits.
-    pub fn try_lock(&mut self) -> bool
-        ensures tried { MatchBool result (BeginsSection P.QSBR K.allows self.old self.new (self.old.locks + 1)) ((self.new ≡ self.old) × (((P.QSBR ≡ true) × (self.old.word ≡ 0)) ⊎ (self.old.depth ≡ greatest_depth))) }
-        ensures table { KeepsTable self.old self.new }
-    {
-        self.lock().is_ok()
     }
 
     /// Undoes a `lock`. A section is ended by dropping it, and never by this.

@@ -8,7 +8,7 @@ ghost use Rattle.live_log.specs.Log.{Begins, Has, IsLiveRun};
 ghost use Rattle.live_words.specs.live_table.Rights.{count_in};
 ghost use Rattle.live_read.specs.Hearing.{IsAfter, IsAsBefore, Stays};
 ghost use Rattle.live_read.specs.Holding.{log_of};
-ghost use Rattle.live_read.specs.Registering.{AllWereClaimed, Finds, FindsAllClaimed, IsGivenBack, LeavesFree, Misses, WasFree};
+ghost use Rattle.live_read.specs.Registering.{AllWereClaimed, Finds, FindsAllClaimed, IsGivenBack, LeavesFree, Misses, TakesOne};
 
 use crate::caller::Caller;
 use crate::claiming::claim_any;
@@ -112,7 +112,7 @@ impl<P: GracePlan, K: ChainRule, B: Site> Reader<P, K, B> {
     ) -> Result<Reader<P, K, B>, Refusal>
         requires table { ((arc_value table.now).words.shared.table_id ≡ B.table) × ((arc_value table.now).words.shared.key ≡ B.sizes) }
         ensures idle { IfOk result (λ r. (r.core.depth ≡ 0) × (r.core.locks ≡ 0) × (P.QSBR ≡ true → r.core.word ≡ 0)) }
-        ensures slot { IfOk result (λ r. (r.core.slot < B.sizes.slots) × WasFree r.core.slot r.core.seat.me.0.looks) }
+        ensures slot { IfOk result (λ r. (r.core.slot < B.sizes.slots) × TakesOne r.core.slot r.core.seat.me.0.looks) }
         ensures told { IfOk result (λ r. IsAfter P.QSBR K.allows (W.seen caller.old) (W.heard caller.old) (log_of r.core)) }
         ensures same { IfOk result (λ _. IsAsBefore W.Caller caller.old caller.new) }
         ensures refused { IfErr result (λ e. (e ≡ NoSlot) × FindsAllClaimed B.sizes (W.looks caller.old) (W.looks caller.new)) }

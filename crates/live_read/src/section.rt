@@ -4,7 +4,7 @@ ghost use Rattle.std.specs.Prelude.{◌≡◌, ◌<◌, ◌≤◌, None, IfOk, I
 ghost use Rattle.rcu_model.specs.declared.refusal.Refusal.TheVariants.{NoPlace};
 ghost use Rattle.live_read.specs.Holding.{MayHoldIn};
 ghost use Rattle.live_read.specs.Reads.{FindsFirst, HasWord, HasWords, HoldsFirst, HoldsLast, HoldsNext, Looks};
-ghost use Rattle.live_read.specs.Sections.{BeginsSection, EndsSection, MayNotBegin};
+ghost use Rattle.live_read.specs.Sections.{BeginsSection, ClosesSection, EndsSection, MayNotBegin};
 
 use crate::held::Held;
 use crate::reader::Reader;
@@ -99,7 +99,7 @@ impl<'a, P: GracePlan, K: ChainRule, B: Site> Section<'a, P, K, B> {
 
     /// Ends the section, as dropping it does. It never waits.
     pub fn close(self)
-        ensures { self.entry.reader.now.core.locks < self.entry.reader.now.core.depth → EndsSection P.QSBR K.allows self.entry.reader.now.core self.exit.0.now.core self.entry.reader.now.core.locks }
+        ensures { ClosesSection P.QSBR K.allows self.entry.reader.now.core self.exit.0.now.core }
     {
         let _ends = self;
     }
@@ -107,7 +107,7 @@ impl<'a, P: GracePlan, K: ChainRule, B: Site> Section<'a, P, K, B> {
 
 impl<'a, P: GracePlan, K: ChainRule, B: Site> Drop for Section<'a, P, K, B> {
     fn drop(self)
-        ensures { self.entry.reader.now.core.locks < self.entry.reader.now.core.depth → EndsSection P.QSBR K.allows self.entry.reader.now.core self.exit.0.now.core self.entry.reader.now.core.locks }
+        ensures { ClosesSection P.QSBR K.allows self.entry.reader.now.core self.exit.0.now.core }
     {
         let Section { reader } = self;
         let locks = reader.core.locks;

@@ -4,6 +4,7 @@ use Rattle.atomic_table.specs.Table.{Me}
 use Rattle.live_log.specs.declared.event.LiveEvent.{LiveEvent}
 use Rattle.live_log.specs.Log.{Log}
 use Rattle.live_log.proofs.Lemmas.{begins_trans}
+use Rattle.live_words.specs.live_rule.declared.view.Look.TheVariants.{Loaded}
 use Rattle.live_words.specs.live_rule.declared.view.View.{View}
 use Rattle.live_words.specs.live_table.Steps.{IsLater, Went, looked_view}
 use Rattle.live_reclaim.specs.Working.{HasLooked, Looks}
@@ -17,6 +18,6 @@ module _ {S : Type 0} (qsbr : Bool) (allows : Log → LiveEvent → Type 0) (m u
 
   pub looked_twice : HasLooked m.0 w.0
   looked_twice = (
-    looks_as m.0 w.0 ((b, k) ∷ (a, n) ∷ m.0.looks) (y.1 ∙ ap (λ (z : View). record (looked_view b k z) { seen = w.0.seen }) x.1),
+    looks_as m.0 w.0 (Loaded b k ∷ Loaded a n ∷ m.0.looks) (y.1 ∙ ap (λ (z : View). record (looked_view b k z) { seen = w.0.seen }) x.1),
     begins_trans m.0.seen u.0.seen w.0.seen x.2.0 y.2.0,
   )

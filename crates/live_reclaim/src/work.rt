@@ -1,11 +1,7 @@
 //! How a queue's worker begins, and when it has no more to do.
-ghost use Rattle.std.specs.Prelude.{◌≡◌, ◌↔◌, ℕ, ◌<◌, ◌≤◌, ◌∷◌, IfErr, IfOk, IsTrue, length};
-ghost use Rattle.live_log.specs.Log.{Begins, HaveRun, IsLiveRun, line_of};
-ghost use Rattle.live_words.specs.live_rule.Places.{closed_at, finished_at, queued_at, work_at};
-ghost use Rattle.live_words.specs.live_rule.Steps.{Precedes};
+ghost use Rattle.std.specs.Prelude.{◌≡◌, ◌<◌, IfErr, IfOk, IsTrue};
 ghost use Rattle.live_words.specs.live_table.Steps.{IsLater, Keeps};
-ghost use Rattle.live_reclaim.specs.Batches.{WorksFor};
-ghost use Rattle.live_reclaim.specs.Working.{HasLooked, IsEmptied, RefusesWork};
+ghost use Rattle.live_reclaim.specs.Working.{BeginsWork, HasLooked, IsEmptied, RefusesWork, TellsEmptied};
 
 use gp_memb::GracePlan;
 use live_words::{
@@ -25,7 +21,7 @@ pub fn begin_work<P: GracePlan, K: ChainRule>(
 ) -> Result<u64, Refusal>
     requires { (seat.old.table_id ≡ table.now.words.shared.table_id) × (seat.old.me.0.sizes ≡ table.now.words.shared.key) }
     ensures seat { Keeps seat.old seat.new × (seat.new.me.1 ≡ seat.old.me.1) × (seat.new.me.0.sizes ≡ seat.old.me.0.sizes) × (seat.new.me.0.loads ≡ seat.old.me.0.loads) }
-    ensures begun { IfOk result (λ first. (queue < table.now.queues) × WorksFor queue first seat.new.me.0 × HaveRun queue first seat.new.me.0.seen × (first ≤ length (line_of seat.new.me.0.seen queue)) × Precedes seat.old.me.0 seat.new.me.0.seen × IsLiveRun P.QSBR K.allows seat.new.me.0.seen × (seat.new.me.0.looks ≡ (finished_at table.now.words.shared.key queue, first) ∷ (work_at table.now.words.shared.key queue, 0) ∷ seat.old.me.0.looks)) }
+    ensures begun { IfOk result (λ first. BeginsWork P.QSBR K.allows table.now.words.shared.key table.now.queues queue seat.old.me.0 seat.new.me.0 first) }
     ensures refused { IfErr result (λ e. RefusesWork table.now.words.shared.key queue seat.old.me.0.looks seat.new.me.0.looks e) }
     ensures same { IfErr result (λ e. HasLooked seat.old.me.0 seat.new.me.0) }
     ensures later { IfErr result (λ _. queue < table.now.queues → IsLater P.QSBR K.allows seat.old.me.0 seat.new.me.0) }
@@ -54,7 +50,7 @@ pub fn is_emptied<P: GracePlan, K: ChainRule>(
     requires { (seat.old.table_id ≡ table.now.words.shared.table_id) × (seat.old.me.0.sizes ≡ table.now.words.shared.key) × (queue < table.now.queues) }
     ensures seat { Keeps seat.old seat.new × (seat.new.me.1 ≡ seat.old.me.1) × HasLooked seat.old.me.0 seat.new.me.0 }
     ensures later { IsLater P.QSBR K.allows seat.old.me.0 seat.new.me.0 }
-    ensures exact { (closed queued : ℕ) × (seat.new.me.0.looks ≡ (queued_at table.now.words.shared.key queue, queued) ∷ (closed_at table.now.words.shared.key queue, closed) ∷ seat.old.me.0.looks) × (IsTrue result ↔ ((closed ≡ 1) × (queued ≡ finished))) }
+    ensures exact { TellsEmptied table.now.words.shared.key queue finished seat.old.me.0 seat.new.me.0 result }
     ensures emptied { IsTrue result → IsEmptied queue finished seat.new.me.0.seen }
 {
     let closed = load_closed(table, seat, queue);

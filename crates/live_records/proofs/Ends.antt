@@ -22,7 +22,7 @@ use Rattle.live_table.specs.live_rule.Rule.{KeepsRule}
 use Rattle.live_table.specs.live_rule.Seats.{but_object}
 use Rattle.live_table.proofs.live_rule.Lemmas.{calm_object, heap_beside, header_same, object_stays, looks, look_all}
 use Rattle.live_table.specs.Rights.{IsQueued, IsRetired, IsUnlinked, cell_in, object_in}
-use Rattle.live_table.specs.Steps.{IsKnown, looked_view}
+use Rattle.live_table.specs.Steps.{IsKnown, stored_view}
 use Rattle.live_records.specs.Records.{HasCut, IsRipe, retired_view, retired, ran, looked_payload}
 use Rattle.live_records.proofs.Records.{number_is, own_record, knew, cell_far, alive_far, fresh_far, last_less, head_same}
 
@@ -107,7 +107,7 @@ module _ {S : Type 0} (qsbr : Bool) (allows : Log → LiveEvent → Type 0) (key
       let W : List ℕ = set s.words (cell_at key i 0) 0 in
       let apart_cells : (q : ObjectId) → IsAlive was q → q ≢ o → (n : ℕ) → n < 6 → get_or W (cell_at key (was.note q).0 n) 0 ≡ get_or s.words (cell_at key (was.note q).0 n) 0 = λ q al ne n l. cell_far qsbr allows key s r i 0 0 o.0 (omega arith) half (was.note q).0 n (alive_far qsbr allows key s r i 0 0 o.0 (omega arith) half q al (λ e. ne (number_is q o e))) l in
       let was_alive : (q : ObjectId) → IsAlive now q → IsAlive was q × (q ≢ o) = λ q al. ((al.0, λ h. al.1 (inr h)), λ e. al.1 (inl (sym e))) in
-      let w : View = record (looked_view a 0 (but_object v)) { seen = log } in (
+      let w : View = record (stored_view a 0 (but_object v)) { seen = log } in (
         w,
         keeps,
         tt,

@@ -24,7 +24,7 @@ use Rattle.live_table.proofs.live_rule.Lemmas.{Unclaimed, looks}
 use Rattle.live_table.proofs.live_rule.Lemmas.{Calm, calm_same, same_object_all, heap_far, lines_far, guards_far, apart}
 use Rattle.live_table.proofs.live_rule.Lemmas.{ObjectStep, object_stays, chains_kept, queues_kept, works_kept, stores, look_all}
 use Rattle.live_table.specs.Rights.{cell_in, object_in, link_in, payload_in, IsDrawn, IsFresh}
-use Rattle.live_table.specs.Steps.{looked_view}
+use Rattle.live_table.specs.Steps.{exchanged_view, looked_view, stored_view}
 use Rattle.live_table.proofs.Lemmas.{goes_on}
 use Rattle.live_table.specs.live_rule.Seats.{but_object}
 use Rattle.live_records.specs.Records.{drawn_view, linked_view, worded_view, HasRecord, looked, numbered, drew, took, linked, worded, discarded}
@@ -91,7 +91,7 @@ module _ {S : Type 0} (qsbr : Bool) (allows : Log → LiveEvent → Type 0) (key
       exchanged m n (n + 1) (λ x. (w : View) × (act : Act S) × Valid s.homes me.1 act × Rule (stepped s a x id me.1 w act) × drew qsbr allows (step slots a n (n + 1) lists.none) me m (w, carried_after me.1 act))
       (λ found.
       let o : ObjectId = record { 0 = n + 1 } in
-      let w : View = record (drawn_view (n + 1) (looked_view a m v)) { seen = r.log } in
+      let w : View = record (drawn_view (n + 1) (exchanged_view a m (n + 1) v)) { seen = r.log } in
       let was : get_or s.words (last_at key) 0 ≡ n = ap (λ (i : ℕ). get_or s.words i 0) (sym a_is) ∙ found in
       let here : get_or (set s.words a (n + 1)) (last_at key) 0 ≡ n + 1 = ap (λ (i : ℕ). get_or (set s.words a (n + 1)) i 0) (sym a_is) ∙ get_or-set_same s.words a (n + 1) 0 (omega arith) in
       let less : get_or s.words (last_at key) 0 ≤ get_or (set s.words a (n + 1)) (last_at key) 0 = omega arith in
@@ -168,7 +168,7 @@ module _ {S : Type 0} (qsbr : Bool) (allows : Log → LiveEvent → Type 0) (key
       let zero : get_or s.words (cell_at key i 0) 0 ≡ 0 = ap (λ (n : ℕ). get_or s.words n 0) (sym a_is) ∙ found in
       let l : ℕ = get_or s.words (cell_at key i 1) 0 in
       let p : List ℕ = four key s.words i in
-      let w : View = record (looked_view a m v) { seen = r.log; object = Fresh i o l p } in
+      let w : View = record (exchanged_view a m x v) { seen = r.log; object = Fresh i o l p } in
       let k = knew s r id v (Drawn o) at is refl in
       let far : (n : ℕ) → 0 < n → n < 6 → get_or (set s.words (cell_at key i 0) x) (cell_at key i n) 0 ≡ get_or s.words (cell_at key i n) 0 = λ n up l. get_or-set_other s.words (cell_at key i 0) (cell_at key i n) x 0 (λ z. omega arith) in
       let above : get_or s.words (last_at key) 0 ≤ get_or (set s.words (cell_at key i 0) x) (last_at key) 0 = last_less s r i 0 x 0 (omega arith) (omega arith) in
@@ -183,7 +183,7 @@ module _ {S : Type 0} (qsbr : Bool) (allows : Log → LiveEvent → Type 0) (key
               (k.0, k.1, omega arith, low, get_or-set_same s.words (cell_at key i 0) x 0 (omega arith), far 1 (omega arith) (omega arith), refl, λ j c. far (j + 2) (omega arith) (omega arith) ∙ of_four key s.words i j c),
               inl (subst (λ (y : RecordRight). ClaimsObject y q) (sym is) claim),
             ))),
-        ((λ _ j same. let e : i ≡ j = same_cell j same in ((refl, (λ n. record (looked_view a m v) { seen = r.log; object = Fresh (e n) o l p }), (b.0, b.1, r.run)), refl)), λ ne. absurd (ne found)),
+        ((λ _ j same. let e : i ≡ j = same_cell j same in ((refl, (λ n. record (exchanged_view a m x v) { seen = r.log; object = Fresh (e n) o l p }), (b.0, b.1, r.run)), refl)), λ ne. absurd (ne found)),
       ))
       (λ ne. let w : View = record (looked_view a m v) { seen = r.log } in
       (w, keeps, tt, looks qsbr allows key s r id a v w at refl refl (look_all qsbr allows key s r id v w at (refl, refl, refl, refl, refl, refl)), ((λ found. absurd (ne found)), λ _. (refl, refl, (b.0, b.1, r.run)))))
@@ -277,7 +277,7 @@ module _ {S : Type 0} (qsbr : Bool) (allows : Log → LiveEvent → Type 0) (key
   discards slots id me a is a_is s r deep at fits =
       let v : View = me.0 in
       let b = r.seen id v at in
-      let w : View = record (looked_view a 0 (but_object v)) { seen = r.log } in (
+      let w : View = record (stored_view a 0 (but_object v)) { seen = r.log } in (
         w,
         keeps,
         tt,

@@ -12,7 +12,7 @@ use Rattle.live_table.specs.live_rule.declared.rights.RecordRight.TheVariants.{D
 use Rattle.live_table.specs.live_rule.Places.{cell_at}
 use Rattle.live_table.specs.live_rule.Seats.{but_object}
 use Rattle.live_table.specs.Rights.{KnowsChains, IsFresh, IsUnlinked, IsRetired, IsQueued, cell_in, object_in, link_in, payload_in}
-use Rattle.live_table.specs.Steps.{Did, Went, looked_view}
+use Rattle.live_table.specs.Steps.{Did, Went, exchanged_view, looked_view, stored_view}
 
 -- the view, once this number was drawn
 abbrev pub drawn_view : ℕ → View → View
@@ -57,12 +57,12 @@ module _ {S : Type 0} (qsbr : Bool) (allows : Log → LiveEvent → Type 0) wher
 
   -- a number was drawn, or another one was found
   abbrev pub drew : Step S → Me S View → ℕ → Me S View → Type 0
-  drew st m n m' = (n ≡ st.first → Went qsbr allows (drawn_view st.second (looked_view st.word n m.0)) m m') × (n ≢ st.first → Went qsbr allows (looked_view st.word n m.0) m m')
+  drew st m n m' = (n ≡ st.first → Went qsbr allows (drawn_view st.second (exchanged_view st.word n st.second m.0)) m m') × (n ≢ st.first → Went qsbr allows (looked_view st.word n m.0) m m')
 
   -- a free record was taken, or it was found in use
   abbrev pub took : Step S → Me S View → ℕ → Me S View → Type 0
   took st m n m' =
-      (n ≡ 0 → (i : ℕ) → st.word ≡ cell_at m.0.sizes i 0 → Went qsbr allows (taken_record i (link_in m'.0.object) (payload_in m'.0.object) (looked_view st.word n m.0)) m m' × (length (payload_in m'.0.object) ≡ 4))
+      (n ≡ 0 → (i : ℕ) → st.word ≡ cell_at m.0.sizes i 0 → Went qsbr allows (taken_record i (link_in m'.0.object) (payload_in m'.0.object) (exchanged_view st.word n st.second m.0)) m m' × (length (payload_in m'.0.object) ≡ 4))
       × (n ≢ 0 → Went qsbr allows (looked_view st.word n m.0) m m')
 
   -- the link was stored
@@ -75,7 +75,7 @@ module _ {S : Type 0} (qsbr : Bool) (allows : Log → LiveEvent → Type 0) wher
 
   -- the record was freed, by this word
   abbrev pub discarded : Step S → Me S View → ℕ → Me S View → Type 0
-  discarded st m n m' = Went qsbr allows (looked_view st.word st.first (but_object m.0)) m m'
+  discarded st m n m' = Went qsbr allows (stored_view st.word st.first (but_object m.0)) m m'
 
   -- the object was retired
   abbrev pub retired : Step S → Me S View → ℕ → Me S View → Type 0
@@ -83,7 +83,7 @@ module _ {S : Type 0} (qsbr : Bool) (allows : Log → LiveEvent → Type 0) wher
 
   -- the object's callback may run, and its record was freed by this word
   abbrev pub ran : Step S → Me S View → ℕ → Me S View → Type 0
-  ran st m n m' = Did qsbr allows (looked_view st.word st.first (but_object m.0)) (Object (Run (object_in m.0.object))) m m'
+  ran st m n m' = Did qsbr allows (stored_view st.word st.first (but_object m.0)) (Object (Run (object_in m.0.object))) m m'
 
   -- a payload word of the seat's own object was looked at, which was cut and has not been run
   abbrev pub looked_payload : Step S → Me S View → ℕ → Me S View → Type 0

@@ -7,7 +7,7 @@ ghost use Rattle.live_table.specs.live_log.Log.{note_of, state_of};
 ghost use Rattle.live_table.specs.live_rule.Places.{cell_at};
 ghost use Rattle.live_table.specs.live_rule.Seats.{but_object};
 ghost use Rattle.live_table.specs.Rights.{IsQueued, IsUnlinked, cell_in, object_in};
-ghost use Rattle.live_table.specs.Steps.{Did, IsKnown, Keeps, Went, looked_view};
+ghost use Rattle.live_table.specs.Steps.{Did, IsKnown, Keeps, Went, stored_view};
 ghost use Rattle.live_records.specs.Records.{HasCut, IsRipe, retired_view};
 
 use crate::plays::{LooksPayload, Retires, Runs};
@@ -63,7 +63,7 @@ pub fn store_run<P: GracePlan, K: ChainRule>(
     requires right { IsQueued seat.old.me.0 × (cell_in seat.old.me.0.object ≡ cell) }
     requires ripe { IsKnown (λ log. IsRipe log (object_in seat.old.me.0.object)) seat.old.me.0 }
     ensures seat { Keeps seat.old seat.new }
-    ensures ran { Did P.QSBR K.allows (looked_view (cell_at table.now.words.shared.key cell 0) 0 (but_object seat.old.me.0)) (Object (Run (object_in seat.old.me.0.object))) seat.old.me seat.new.me }
+    ensures ran { Did P.QSBR K.allows (stored_view (cell_at table.now.words.shared.key cell 0) 0 (but_object seat.old.me.0)) (Object (Run (object_in seat.old.me.0.object))) seat.old.me seat.new.me }
 {
     let place = table.cell_place(cell, 0);
     table.words.shared.store::<Runs<P, K>>(seat, place, 0);

@@ -4,7 +4,7 @@ ghost use Rattle.std.specs.Prelude.{◌≡◌, ◌≢◌, ◌+◌, ◌*◌, ◌<
 ghost use Rattle.live_table.specs.live_rule.Places.{cell_at, last_at};
 ghost use Rattle.live_table.specs.live_rule.Seats.{but_object};
 ghost use Rattle.live_table.specs.Rights.{IsDrawn, IsFresh, KnowsChains, cell_in, link_in, object_in, payload_in};
-ghost use Rattle.live_table.specs.Steps.{Keeps, Went, looked_view};
+ghost use Rattle.live_table.specs.Steps.{Keeps, Went, exchanged_view, looked_view, stored_view};
 ghost use Rattle.live_records.specs.Records.{HasRecord, drawn_view, linked_view, taken_record, worded_view};
 
 use crate::plays::{
@@ -23,8 +23,8 @@ pub fn load_last<P: GracePlan, K: ChainRule>(table: &LiveTable<P, K>, seat: &mut
 }
 
 /// Draws the object number after `last`, if `last` is still the last one given; the caller has fewer than 2^62. Answers
-/// the last number that it found, which is kept among the looks: the number was drawn exactly where that is `last`. It
-/// never waits.
+/// the last number that it found: the number was drawn exactly where that is `last`. What it found is kept among the
+/// looks, and what it stored. It never waits.
 pub fn draw_number<P: GracePlan, K: ChainRule>(
     table: &LiveTable<P, K>,
     seat: &mut LiveSeat,
@@ -33,7 +33,7 @@ pub fn draw_number<P: GracePlan, K: ChainRule>(
     requires seat { seat.old.table_id ≡ table.now.words.shared.table_id }
     requires room { last < 2 ^ 62 }
     ensures seat { Keeps seat.old seat.new }
-    ensures drawn { result ≡ last → Went P.QSBR K.allows (drawn_view (last + 1) (looked_view (last_at table.now.words.shared.key) result seat.old.me.0)) seat.old.me seat.new.me }
+    ensures drawn { result ≡ last → Went P.QSBR K.allows (drawn_view (last + 1) (exchanged_view (last_at table.now.words.shared.key) result (last + 1) seat.old.me.0)) seat.old.me seat.new.me }
     ensures missed { result ≢ last → Went P.QSBR K.allows (looked_view (last_at table.now.words.shared.key) result seat.old.me.0) seat.old.me seat.new.me }
 {
     let place = table.last_place();
@@ -75,9 +75,9 @@ pub fn load_number<P: GracePlan, K: ChainRule>(
     table.words.shared.load::<LooksNumber<P, K>>(seat, place) / 2
 }
 
-/// Takes a record for the object whose number was drawn, if the record is free. Answers the header that it found, which
-/// is kept among the looks: the record was taken exactly where that is 0, and its link and payload are what was left
-/// there. It never waits.
+/// Takes a record for the object whose number was drawn, if the record is free. Answers the header that it found: the
+/// record was taken exactly where that is 0, and its link and payload are what was left there. What it found is kept
+/// among the looks, and what it stored. It never waits.
 pub fn take_cell<P: GracePlan, K: ChainRule>(
     table: &LiveTable<P, K>,
     seat: &mut LiveSeat,
@@ -87,7 +87,7 @@ pub fn take_cell<P: GracePlan, K: ChainRule>(
     requires seat { (seat.old.table_id ≡ table.now.words.shared.table_id) × (seat.old.me.0.sizes ≡ table.now.words.shared.key) × (cell < table.now.pool) }
     requires right { IsDrawn seat.old.me.0 × ((object_in seat.old.me.0.object).0 ≡ number) × (number ≤ 2 ^ 62) }
     ensures seat { Keeps seat.old seat.new }
-    ensures taken { result ≡ 0 → Went P.QSBR K.allows (taken_record cell (link_in seat.new.me.0.object) (payload_in seat.new.me.0.object) (looked_view (cell_at table.now.words.shared.key cell 0) result seat.old.me.0)) seat.old.me seat.new.me × (length (payload_in seat.new.me.0.object) ≡ 4) }
+    ensures taken { result ≡ 0 → Went P.QSBR K.allows (taken_record cell (link_in seat.new.me.0.object) (payload_in seat.new.me.0.object) (exchanged_view (cell_at table.now.words.shared.key cell 0) result (2 * number) seat.old.me.0)) seat.old.me seat.new.me × (length (payload_in seat.new.me.0.object) ≡ 4) }
     ensures missed { result ≢ 0 → Went P.QSBR K.allows (looked_view (cell_at table.now.words.shared.key cell 0) result seat.old.me.0) seat.old.me seat.new.me }
 {
     let place = table.cell_place(cell, 0);
@@ -147,7 +147,7 @@ pub fn store_discard<P: GracePlan, K: ChainRule>(
     requires seat { (seat.old.table_id ≡ table.now.words.shared.table_id) × (cell < table.now.pool) }
     requires right { IsFresh seat.old.me.0 × (cell_in seat.old.me.0.object ≡ cell) }
     ensures seat { Keeps seat.old seat.new }
-    ensures discarded { Went P.QSBR K.allows (looked_view (cell_at table.now.words.shared.key cell 0) 0 (but_object seat.old.me.0)) seat.old.me seat.new.me }
+    ensures discarded { Went P.QSBR K.allows (stored_view (cell_at table.now.words.shared.key cell 0) 0 (but_object seat.old.me.0)) seat.old.me seat.new.me }
 {
     let place = table.cell_place(cell, 0);
     table.words.shared.store::<Discards<P, K>>(seat, place, 0);

@@ -17,6 +17,14 @@ pub struct Sizes {
     pub pool: u64,
 }
 
+/// What a step did with a word of which the log says nothing. No value of it is made at run time.
+pub enum Look {
+    /// At this place it found this number.
+    Loaded(u64, u64),
+    /// At this place it left this number.
+    Stored(u64, u64),
+}
+
 /// What a seat knows: what it has seen and heard of the log, and its rights. No value of it is made at run time.
 pub struct View {
     /// What the table was made with.
@@ -37,9 +45,9 @@ pub struct View {
     pub queue: QueueRight,
     /// Its right to a queue's work.
     pub work: WorkRight,
-    /// Words that it loaded or stored, and of which the log says nothing, each with its place, and those of seats that
-    /// it learned from, the last one first.
-    pub looks: LinkedList<(u64, u64)>,
+    /// The words that it loaded and stored, and of which the log says nothing, and those of seats that it learned
+    /// from, the last one first. An exchange loads what it finds, and stores what it leaves where it changes the word.
+    pub looks: LinkedList<Look>,
     /// The logs at its loads of the sequence number, and at those of seats that it learned from, the last one first.
     pub loads: LinkedList<LinkedList<LiveEvent>>,
     /// The push, the replacement or the cut that it wrote last, or those that it learned of, the last one first.

@@ -10,6 +10,7 @@ use Rattle.gp_memb.specs.Plan.{stands_before}
 use Rattle.live_log.specs.declared.event.LiveEvent.{LiveEvent}
 use Rattle.live_log.specs.Log.{Log, Begins, IsLiveRun, open_of, present_of, seq_of}
 use Rattle.live_log.proofs.Lemmas.{begins_trans}
+use Rattle.live_words.specs.live_rule.declared.view.Look.TheVariants.{Loaded}
 use Rattle.live_words.specs.live_rule.declared.view.Sizes.{Sizes}
 use Rattle.live_words.specs.live_rule.Places.{slot_at}
 use Rattle.live_words.specs.live_rule.Readers.{Fits}
@@ -22,11 +23,11 @@ and_slot qsbr present r word before = if stands_before qsbr Wide present word th
 pub chosen : (qsbr : Bool) (present r word : ℕ) (before : List ℕ) (b : Bool) → stands_before qsbr Wide present word ≡ b → and_slot qsbr present r word before ≡ (if b then before ++ r ∷ [] else before)
 chosen qsbr present r word before b e = ap (λ t. if t then before ++ r ∷ [] else before) e
 
-pub way_more : (qsbr : Bool) (present r word : ℕ) (before slots : List ℕ) (found : Looks) → slots ≡ and_slot qsbr present r word before → AreInWay qsbr present r before found → AreInWay qsbr present (r + 1) slots ((slot_at r, word) ∷ found)
+pub way_more : (qsbr : Bool) (present r word : ℕ) (before slots : List ℕ) (found : Looks) → slots ≡ and_slot qsbr present r word before → AreInWay qsbr present r before found → AreInWay qsbr present (r + 1) slots (Loaded (slot_at r) word ∷ found)
 way_more qsbr present r word before slots found is way =
-    let next : AreInWay qsbr present (suc r) slots ((slot_at r, word) ∷ found) = (word, before, found, refl, is, way) in
+    let next : AreInWay qsbr present (suc r) slots (Loaded (slot_at r) word ∷ found) = (word, before, found, refl, is, way) in
     let one : suc r ≡ r + 1 = omega arith in
-    subst (λ (n : ℕ). AreInWay qsbr present n slots ((slot_at r, word) ∷ found)) one next
+    subst (λ (n : ℕ). AreInWay qsbr present n slots (Loaded (slot_at r) word ∷ found)) one next
 
 -- a word that stands in the way is that of an open section
 stands_open : (qsbr : Bool) (present word : ℕ) (is : Option (ℕ × ℕ)) → Fits qsbr word is → stands_before qsbr Wide present word ≡ true → is ≢ none
@@ -71,14 +72,14 @@ pub record Scanning (qsbr : Bool) (allows : Log → LiveEvent → Type 0) (seen 
 
 module _ (qsbr : Bool) (allows : Log → LiveEvent → Type 0) (seen heard : Log) (old_loads loads : List Log) (old : Looks) (present slot word : ℕ) where
   -- the word of one more slot
-  pub scan_more : (more_loads : List Log) (looks more : Looks) (slots next : List ℕ) (log now : Log) → more_loads ≡ loads → more ≡ (slot_at slot, word) ∷ looks → Begins log now → IsLiveRun qsbr allows now → Fits qsbr word (open_of slot now)
+  pub scan_more : (more_loads : List Log) (looks more : Looks) (slots next : List ℕ) (log now : Log) → more_loads ≡ loads → more ≡ Loaded (slot_at slot) word ∷ looks → Begins log now → IsLiveRun qsbr allows now → Fits qsbr word (open_of slot now)
       → next ≡ and_slot qsbr present slot word slots → Scanning qsbr allows seen heard old_loads loads old looks present slot slots log → Scanning qsbr allows seen heard old_loads more_loads old more present (slot + 1) next now
   scan_more more_loads looks more slots next log now same one after run fits is s = record {
     start = s.start;
     scanned = s.scanned;
-    found = (slot_at slot, word) ∷ s.found;
+    found = Loaded (slot_at slot) word ∷ s.found;
     load = same ∙ s.load;
-    looks = one ∙ ap (λ (l : Looks). (slot_at slot, word) ∷ l) s.looks;
+    looks = one ∙ ap (λ (l : Looks). Loaded (slot_at slot) word ∷ l) s.looks;
     after = s.after;
     odd = s.odd;
     began = s.began;

@@ -4,7 +4,7 @@ ghost use Rattle.rcu_model.specs.declared.refusal.Refusal.TheVariants.{Memory};
 ghost use Rattle.reader_word.specs.declared.layout.Layout.TheVariants.{Wide};
 ghost use Rattle.gp_memb.specs.Plan.{stands_before};
 ghost use Rattle.live_words.specs.live_table.Steps.{Keeps};
-ghost use Rattle.live_status.specs.Status.{Stalls};
+ghost use Rattle.live_status.specs.Status.{StallsBetween};
 
 use gp_memb::GracePlan;
 use live_words::{ChainRule, LiveSeat, LiveTable, load_present, load_seq, look_slot};
@@ -34,7 +34,7 @@ pub fn stalled<P: GracePlan, K: ChainRule>(
 ) -> Result<Vec<usize>, Refusal>
     requires { (seat.old.table_id ≡ table.now.words.shared.table_id) × (seat.old.me.0.sizes ≡ table.now.words.shared.key) }
     ensures seat { Keeps seat.old seat.new × (seat.new.me.1 ≡ seat.old.me.1) }
-    ensures told { IfOk result (λ slots. Stalls P.QSBR K.allows table.now.words.shared.key seat.old.me.0.seen seat.old.me.0.heard seat.old.me.0.loads seat.new.me.0.loads seat.old.me.0.looks seat.new.me.0.looks slots.items seat.new.me.0.seen) }
+    ensures told { IfOk result (λ slots. StallsBetween P.QSBR K.allows table.now.words.shared.key seat.old.me.0 seat.new.me.0 slots.items) }
     ensures refused { IfErr result (λ e. (e ≡ Memory) × (seat.new ≡ seat.old)) }
 {
     let Ok(mut slots) = Vec::with_capacity(alloc, table.slots) else {

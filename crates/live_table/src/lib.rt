@@ -7,6 +7,6 @@ mod table;
 
 pub use live_rule::{
     AnyChain, ChainRight, ChainRule, GracePlan, GraceRight, Keyed, LiveEvent, LiveRule, LiveSeat,
-    ObjectEvent, QueueRight, RecordRight, Sizes, SlotRight, Tabled, View, WorkRight,
+    Look, ObjectEvent, QueueRight, RecordRight, Sizes, SlotRight, Tabled, View, WorkRight,
 };
 pub use table::LiveTable;

@@ -22,5 +22,5 @@ pub use live_records::{
 };
 pub use live_table::{
     AnyChain, ChainRight, ChainRule, GraceRight, Keyed, LiveEvent, LiveRule, LiveSeat, LiveTable,
-    ObjectEvent, QueueRight, RecordRight, Sizes, SlotRight, Tabled, View, WorkRight,
+    Look, ObjectEvent, QueueRight, RecordRight, Sizes, SlotRight, Tabled, View, WorkRight,
 };

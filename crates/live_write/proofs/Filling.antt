@@ -9,7 +9,7 @@ use Rattle.live_words.specs.live_rule.declared.rights.RecordRight.TheVariants.{F
 use Rattle.live_words.specs.live_table.Rights.{cell_in, link_in, object_in, payload_in}
 use Rattle.live_words.specs.live_table.Steps.{Went}
 use Rattle.live_words.specs.live_records.Records.{worded_view}
-use Rattle.live_write.specs.Searching.{Allocates}
+use Rattle.live_write.specs.Searching.{Fills}
 use Rattle.live_write.proofs.Searching.{right_is, searched_then}
 
 four_set : (p : List ℕ) (a b c d : ℕ) → length p ≡ 4 → set (set (set (set p 0 a) 1 b) 2 c) 3 d ≡ a ∷ b ∷ c ∷ d ∷ []
@@ -37,7 +37,7 @@ module _ {S : Type 0} (qsbr : Bool) (allows : Log → LiveEvent → Type 0) wher
   pub fills : (i : ℕ) (words : List ℕ) (m a b c d : Me S View) → length words ≡ 4 → cell_in m.0.object ≡ i → length (payload_in m.0.object) ≡ 4
       → Went qsbr allows (worded_view 0 (get_or words 0 0) m.0) m a → Went qsbr allows (worded_view 1 (get_or words 1 0) a.0) a b
       → Went qsbr allows (worded_view 2 (get_or words 2 0) b.0) b c → Went qsbr allows (worded_view 3 (get_or words 3 0) c.0) c d
-      → Allocates qsbr allows i (object_in m.0.object) words m d
+      → Fills qsbr allows i (object_in m.0.object) words m d
   fills i words m a b c d four is long s0 s1 s2 s3 =
       let x : RecordRight = m.0.object in
       let w = λ (j : ℕ). worded j (get_or words j 0) in
@@ -47,4 +47,4 @@ module _ {S : Type 0} (qsbr : Bool) (allows : Log → LiveEvent → Type 0) wher
       let right = right_is qsbr allows [] (w 3 (w 2 (w 1 (w 0 x)))) m d t3 in
       let link = sym (ap link_in right) in
       let payload = four_set (payload_in x) (get_or words 0 0) (get_or words 1 0) (get_or words 2 0) (get_or words 3 0) long ∙ four_words words four in
-      ([], (t3.0, t3.1 ∙ (λ n. record m.0 { seen = d.0.seen; object = Fresh (is n) (object_in x) (link n) (payload n) }), t3.2))
+      (t3.0, t3.1 ∙ (λ n. record m.0 { seen = d.0.seen; object = Fresh (is n) (object_in x) (link n) (payload n) }), t3.2)

@@ -9,6 +9,7 @@ use Rattle.live_log.specs.declared.event.LiveEvent.TheVariants.{Object}
 use Rattle.live_log.specs.declared.event.ObjectEvent.TheVariants.{Push, Replace, Cut}
 use Rattle.live_log.specs.Log.{Log, Begins, note_of, objects_of}
 use Rattle.live_log.proofs.Lemmas.{begins_trans}
+use Rattle.live_words.specs.live_rule.declared.view.Look.{Look}
 use Rattle.live_words.specs.live_rule.declared.view.View.{View}
 use Rattle.live_words.specs.live_rule.declared.rights.ChainRight.{ChainRight}
 use Rattle.live_words.specs.live_rule.declared.rights.RecordRight.{RecordRight}
@@ -96,7 +97,7 @@ makes_last w w0 w1 w2 told e before log first learnt same inside new is = let a 
     is = is;
     made = (same.0 ∙ a.0, same.1 ∙ a.1, λ h. inside (a.2 h), learnt.2 ∙ (ap (λ (l : Log). l ++ w.changes w1) new.2 ∙ ap (λ (l : Log). e ∷ l) a.3));
   },
-  learnt.1 ∙ (ap (λ (l : List (ℕ × ℕ)). l ++ w.looks w1) new.1 ∙ first.0.0.1),
+  learnt.1 ∙ (ap (λ (l : List Look). l ++ w.looks w1) new.1 ∙ first.0.0.1),
   learnt.0 ∙ (ap (λ (l : List Log). l ++ w.loads w1) new.0 ∙ first.0.1),
 )
 

@@ -1,14 +1,17 @@
 //! How records are allocated and discarded.
 
-ghost use Rattle.std.specs.Prelude.{◌≡◌, ◌⊎◌, ℕ, ◌<◌, ◌≤◌, ◌^◌, List, ◌++◌, ◌∷◌, IfErr, IfOk, length};
+ghost use Rattle.std.specs.Prelude.{◌≡◌, ◌<◌, ◌≤◌, ◌^◌, List, ◌++◌, ◌∷◌, IfErr, IfOk, length};
 ghost use Rattle.rcu_model.specs.declared.refusal.Refusal.TheVariants.{PoolFull};
 ghost use Rattle.live_log.specs.Log.{Begins, Log};
+ghost use Rattle.live_words.specs.live_rule.declared.view.Look.{Look};
+ghost use Rattle.live_words.specs.live_rule.declared.view.Look.TheVariants.{Stored};
 ghost use Rattle.live_words.specs.live_rule.declared.rights.RecordRight.{RecordRight};
 ghost use Rattle.live_words.specs.live_rule.Places.{cell_at};
 ghost use Rattle.live_words.specs.live_table.Rights.{IsFresh, cell_in, object_in, payload_in};
 ghost use Rattle.live_words.specs.live_table.Steps.{Keeps};
 ghost use Rattle.live_read.specs.Hearing.{IsAfter, Stays};
-ghost use Rattle.live_write.specs.Searching.{Allocates, AreTaken, IsUsedUp, Searched};
+ghost use Rattle.live_write.specs.Calls.{LoadsSeqBefore};
+ghost use Rattle.live_write.specs.Searching.{Allocates, Fills, GetsNoRecord, Searched, TakesFor};
 
 use crate::records::Owned;
 use crate::search::{draw, take_any};
@@ -29,7 +32,7 @@ fn fill<P: GracePlan, K: ChainRule>(
     requires seat { (seat.old.table_id ≡ table.now.words.shared.table_id) × (seat.old.me.0.sizes ≡ table.now.words.shared.key) × (cell < table.now.pool) }
     requires right { IsFresh seat.old.me.0 × (cell_in seat.old.me.0.object ≡ cell) × (length (payload_in seat.old.me.0.object) ≡ 4) }
     ensures seat { Keeps seat.old seat.new }
-    ensures words { Allocates P.QSBR K.allows cell (object_in seat.old.me.0.object) words seat.old.me seat.new.me }
+    ensures words { Fills P.QSBR K.allows cell (object_in seat.old.me.0.object) words seat.old.me seat.new.me }
 {
     store_word(table, seat, cell, 0, words[0]);
     store_word(table, seat, cell, 1, words[1]);
@@ -46,8 +49,8 @@ fn take_filled<P: GracePlan, K: ChainRule, R: Wait>(
 ) -> Result<(usize, u64), Refusal>
     requires { (seat.old.table_id ≡ table.now.words.shared.table_id) × (seat.old.me.0.sizes ≡ table.now.words.shared.key) }
     ensures seat { Keeps seat.old seat.new }
-    ensures taken { IfOk result (λ taken. (taken.0 < table.now.pool) × (taken.1 ≤ 2 ^ 62) × Allocates P.QSBR K.allows taken.0 (record { 0 = taken.1 }) words seat.old.me seat.new.me) }
-    ensures refused { IfErr result (λ e. (e ≡ PoolFull) × (found : List (ℕ × ℕ)) × (x : RecordRight) × Searched P.QSBR K.allows found x seat.old.me seat.new.me × (IsUsedUp table.now.words.shared.key found ⊎ AreTaken table.now.words.shared.key found)) }
+    ensures taken { IfOk result (λ taken. (taken.0 < table.now.pool) × (taken.1 ≤ 2 ^ 62) × Allocates P.QSBR K.allows table.now.words.shared.key taken.0 taken.1 words seat.old.me seat.new.me) }
+    ensures refused { IfErr result (λ e. (e ≡ PoolFull) × (found : List Look) × (x : RecordRight) × Searched P.QSBR K.allows found x seat.old.me seat.new.me × GetsNoRecord table.now.words.shared.key found) }
 {
     let Some(number) = draw(rt, table, seat) else {
         return Err(Refusal::PoolFull);
@@ -59,12 +62,12 @@ fn take_filled<P: GracePlan, K: ChainRule, R: Wait>(
     Ok((cell, number))
 }
 
-/// Takes a free record for a new object, whose payload these words become. The caller hears of what it saw.
+/// Takes a free record for a new object, whose payload these words become. The caller hears of what it saw. `looks`
+/// tells the words that it found and stored: it draws one number, and takes one record.
 ///
 /// Refused with `PoolFull` only where it found the header of each record other than 0, or the last object number at or
-/// above 2^62: `looks` tells the words that it found. A number is drawn before a record is looked for, so a refusal by a
-/// full pool uses one up. It takes no memory. It waits for nobody, but tries again where other threads draw numbers
-/// meanwhile.
+/// above 2^62. A number is drawn before a record is looked for, so a refusal by a full pool uses one up. It takes no
+/// memory. It waits for nobody, but tries again where other threads draw numbers meanwhile.
 pub fn alloc<P: GracePlan, K: ChainRule, B: Site, W: Caller<B>, R: Wait>(
     rt: &R,
     table: &LiveTable<P, K>,
@@ -73,7 +76,8 @@ pub fn alloc<P: GracePlan, K: ChainRule, B: Site, W: Caller<B>, R: Wait>(
 ) -> Result<Owned<B>, Refusal>
     requires site { (table.now.words.shared.table_id ≡ B.table) × (table.now.words.shared.key ≡ B.sizes) }
     ensures owned { IfOk result (λ o. (payload_in o.seat.me.0.object ≡ words) × (o.seat.me.0.seen ≡ W.heard caller.new)) }
-    ensures looks { (found : List (ℕ × ℕ)) × (W.looks caller.new ≡ found ++ W.looks caller.old) × IfErr result (λ e. (e ≡ PoolFull) × (IsUsedUp B.sizes found ⊎ AreTaken B.sizes found)) }
+    ensures looks { (found : List Look) × (W.looks caller.new ≡ found ++ W.looks caller.old) × IfErr result (λ e. (e ≡ PoolFull) × GetsNoRecord B.sizes found) }
+    ensures took { IfOk result (λ o. TakesFor W.Caller B.sizes caller.old caller.new o.seat.me.0.object) }
     ensures heard { IsAfter P.QSBR K.allows (W.seen caller.old) (W.heard caller.old) (W.heard caller.new) }
     ensures same { Stays W.Caller caller.old caller.new × (W.loads caller.new ≡ W.loads caller.old) }
 {
@@ -99,9 +103,9 @@ pub fn discard<P: GracePlan, K: ChainRule, B: Site, W: Caller<B>>(
     owned: Owned<B>,
 )
     requires site { (table.now.words.shared.table_id ≡ B.table) × (table.now.words.shared.key ≡ B.sizes) }
-    ensures freed { W.looks caller.new ≡ (cell_at B.sizes (cell_in owned.seat.me.0.object) 0, 0) ∷ W.looks caller.old }
+    ensures freed { W.looks caller.new ≡ Stored (cell_at B.sizes (cell_in owned.seat.me.0.object) 0) 0 ∷ W.looks caller.old }
     ensures heard { IsAfter P.QSBR K.allows (W.seen caller.old) (W.heard caller.old) (W.heard caller.new) × Begins owned.seat.me.0.seen (W.heard caller.new) }
-    ensures loads { (log : Log) × (W.loads caller.new ≡ log ∷ W.loads caller.old) × IsAfter P.QSBR K.allows (W.seen caller.old) (W.heard caller.old) log × Begins log (W.heard caller.new) }
+    ensures loads { LoadsSeqBefore W.Caller P.QSBR K.allows caller.old caller.new }
     ensures same { Stays W.Caller caller.old caller.new }
 {
     let Owned { seat, cell, .. } = owned;

@@ -1,18 +1,18 @@
 //! The one writer of a chain.
 
-ghost use Rattle.std.specs.Prelude.{◌≡◌, ◌≢◌, ◌⊎◌, ◌<◌, ◌≤◌, ◌∷◌, ◌++◌, [], Some, length, slice_get, IfErr, IfNone, IfOk, IfSome};
-ghost use Rattle.rcu_model.specs.declared.refusal.Refusal.TheVariants.{Busy, NoPlace};
-ghost use Rattle.rcu_model.specs.Sets.{In, replaced, without_object};
+ghost use Rattle.std.specs.Prelude.{◌≡◌, ◌≢◌, ◌<◌, ◌≤◌, ◌∷◌, ◌++◌, [], Some, length, slice_get, IfErr, IfNone, IfOk, IfSome};
+ghost use Rattle.rcu_model.specs.declared.refusal.Refusal.TheVariants.{NoPlace};
+ghost use Rattle.rcu_model.specs.Sets.{In};
 ghost use Rattle.rcu_model.specs.declared.event.ObjectId.{ObjectId};
 ghost use Rattle.live_log.specs.declared.event.LiveEvent.TheVariants.{ChainNote};
 ghost use Rattle.live_log.specs.Log.{Begins, IsLiveRun, chain_note, payload_of};
+ghost use Rattle.live_words.specs.live_rule.declared.view.Look.TheVariants.{Stored};
 ghost use Rattle.live_words.specs.live_rule.Places.{hold_at};
 ghost use Rattle.live_words.specs.live_rule.Seats.{lent_chains};
 ghost use Rattle.live_words.specs.live_table.Rights.{AreAsKnown, IsListed, IsWriter, object_in, own_in};
-ghost use Rattle.live_words.specs.live_table.Steps.{Keeps, Went};
-ghost use Rattle.live_words.specs.live_chains.Chains.{cut_of};
 ghost use Rattle.live_read.specs.Hearing.{IsAfter, OnlyHears, OnlyMakesLast, Stays};
-ghost use Rattle.live_write.specs.Chains.{IsFirstWith, MayPublish, Publishes, first_word, list_in, push_by, replace_by};
+ghost use Rattle.live_write.specs.Calls.{GetsNote, GetsObject, HasList, HearsAll, IsCutFrom, IsHad, IsNotHad, LosesObject, MayCut, MayPush, MayReplace, OnlyLooksIn, PublishesCut, PublishesPush, PublishesReplace, TakesIn};
+ghost use Rattle.live_write.specs.Chains.{IsFirstWith, MayPublish, Publishes, first_word, list_in};
 
 use crate::lending::{Lent, take_right};
 use crate::publish::{cut_record, hear_caller, push_record, replace_record, write_note};
@@ -56,10 +56,10 @@ impl<'d, P: GracePlan, K: ChainRule, B: Site, H> Chain<'d, P, K, B, H> {
         chain: usize,
     ) -> Result<Chain<'d, P, K, B, H>, Refusal>
         requires site { (table.now.words.shared.table_id ≡ B.table) × (table.now.words.shared.key ≡ B.sizes) }
-        ensures held { IfOk result (λ c. (c.number ≡ chain) × (chain < B.sizes.chains) × (W.looks caller.new ≡ (hold_at B.sizes chain, 0) ∷ W.looks caller.old) × Begins (W.heard caller.new) c.seat.me.0.seen) }
+        ensures held { IfOk result (λ c. IsHad W.Caller B.sizes chain caller.old caller.new c.number c.seat.me.0.seen) }
         ensures home { IfOk result (λ c. c.home.now ≡ home.now) }
         ensures run { IfOk result (λ c. IsLiveRun P.QSBR K.allows c.seat.me.0.seen × (lent_chains c.seat.me.0.chains ≡ [])) }
-        ensures refused { IfErr result (λ e. ((e ≡ NoPlace) × (B.sizes.chains ≤ chain) × (caller.new ≡ caller.old)) ⊎ ((e ≡ Busy) × (chain < B.sizes.chains) × (W.looks caller.new ≡ (hold_at B.sizes chain, 1) ∷ W.looks caller.old))) }
+        ensures refused { IfErr result (λ e. IsNotHad W.Caller B.sizes chain caller.old caller.new e) }
         ensures heard { chain < B.sizes.chains → IsAfter P.QSBR K.allows (W.seen caller.old) (W.heard caller.old) (W.heard caller.new) }
         ensures same { Stays W.Caller caller.old caller.new × (W.loads caller.new ≡ W.loads caller.old) }
     {
@@ -111,10 +111,10 @@ impl<'d, P: GracePlan, K: ChainRule, B: Site, H> Chain<'d, P, K, B, H> {
     /// then the head. The event comes after all that the caller and who allocated the record had seen, and the caller
     /// hears of it. The chain's rule has to allow it in each log that does. It takes no memory and never waits.
     pub fn push<W: Caller<B>>(&mut self, caller: &mut W, owned: Owned<B>) -> ObjectId
-        requires rule { MayPublish P.QSBR K.allows self.old.seat.me.0 (W.seen caller.old) (W.heard caller.old) owned.seat.me.0.seen (push_by self.old.seat.me.0 owned.seat.me.0) }
+        requires rule { MayPush W.Caller P.QSBR K.allows caller.old self.old.seat.me.0 owned.seat.me.0 }
         ensures object { result ≡ object_in owned.seat.me.0.object }
-        ensures list { (list_in self.new.seat.me.0 ≡ result ∷ list_in self.old.seat.me.0) × ((own_in self.new.seat.me.0.chains).note ≡ (own_in self.old.seat.me.0.chains).note) × (lent_chains self.new.seat.me.0.chains ≡ lent_chains self.old.seat.me.0.chains) × (self.new.number ≡ self.old.number) × (self.new.home.now ≡ self.old.home.now) }
-        ensures pushed { Publishes P.QSBR K.allows self.old.seat.me.0 (W.seen caller.old) (W.heard caller.old) owned.seat.me.0.seen (push_by self.old.seat.me.0 owned.seat.me.0) self.new.seat.me.0.seen }
+        ensures list { HasList self.old.seat self.new.seat self.old.number self.new.number self.old.home.now self.new.home.now (result ∷ list_in self.old.seat.me.0) }
+        ensures pushed { PublishesPush W.Caller P.QSBR K.allows caller.old self.old.seat.me.0 owned.seat.me.0 self.new.seat.me.0.seen }
         ensures heard { W.heard caller.new ≡ self.new.seat.me.0.seen }
         ensures same { OnlyMakesLast W.Caller caller.old caller.new self.new.seat.me.0.seen }
     {
@@ -129,7 +129,7 @@ impl<'d, P: GracePlan, K: ChainRule, B: Site, H> Chain<'d, P, K, B, H> {
     /// None exactly where the index is not below the length. It walks from the head, and never waits.
     pub fn get(&mut self, index: usize) -> Option<[u64; 4]>
         ensures some { IfSome result (λ words. (o : ObjectId) × (slice_get (list_in self.old.seat.me.0) index ≡ Some o) × (words ≡ payload_of self.new.seat.me.0.seen o)) }
-        ensures walked { IfSome result (λ _. Keeps self.old.seat self.new.seat × Went P.QSBR K.allows self.old.seat.me.0 self.old.seat.me self.new.seat.me × (self.new.number ≡ self.old.number) × (self.new.home.now ≡ self.old.home.now)) }
+        ensures walked { IfSome result (λ _. OnlyLooksIn P.QSBR K.allows self.old.seat self.new.seat self.old.number self.new.number self.old.home.now self.new.home.now) }
         ensures none { IfNone result ((length (list_in self.old.seat.me.0) ≤ index) × (self.new ≡ self.old)) }
     {
         if index >= self.linked {
@@ -143,7 +143,7 @@ impl<'d, P: GracePlan, K: ChainRule, B: Site, H> Chain<'d, P, K, B, H> {
     pub fn index_of(&mut self, word: u64) -> Option<usize>
         ensures found { IfSome result (λ index. IsFirstWith self.new.seat.me.0.seen (list_in self.old.seat.me.0) word index) }
         ensures none { IfNone result ((o : ObjectId) → In (list_in self.old.seat.me.0) o → first_word self.new.seat.me.0.seen o ≢ word) }
-        ensures walked { Keeps self.old.seat self.new.seat × Went P.QSBR K.allows self.old.seat.me.0 self.old.seat.me self.new.seat.me × (self.new.number ≡ self.old.number) × (self.new.home.now ≡ self.old.home.now) }
+        ensures walked { OnlyLooksIn P.QSBR K.allows self.old.seat self.new.seat self.old.number self.new.number self.old.home.now self.new.home.now }
     {
         seek(self.table, &mut self.seat, self.number, word)
     }
@@ -159,10 +159,10 @@ impl<'d, P: GracePlan, K: ChainRule, B: Site, H> Chain<'d, P, K, B, H> {
         caller: &mut W,
         index: usize,
     ) -> Result<Unlinked<B>, Refusal>
-        requires rule { (o : ObjectId) → slice_get (list_in self.old.seat.me.0) index ≡ Some o → MayPublish P.QSBR K.allows self.old.seat.me.0 (W.seen caller.old) (W.heard caller.old) [] (cut_of o self.old.seat.me.0) }
-        ensures object { IfOk result (λ u. (slice_get (list_in self.old.seat.me.0) index ≡ Some (object_in u.seat.me.0.object)) × (u.seat.me.0.seen ≡ self.new.seat.me.0.seen) × (u.chain ≡ self.old.number)) }
-        ensures list { IfOk result (λ u. (list_in self.new.seat.me.0 ≡ without_object (object_in u.seat.me.0.object) (list_in self.old.seat.me.0)) × ((own_in self.new.seat.me.0.chains).note ≡ (own_in self.old.seat.me.0.chains).note) × (lent_chains self.new.seat.me.0.chains ≡ lent_chains self.old.seat.me.0.chains) × (self.new.number ≡ self.old.number) × (self.new.home.now ≡ self.old.home.now)) }
-        ensures cut { IfOk result (λ u. Publishes P.QSBR K.allows self.old.seat.me.0 (W.seen caller.old) (W.heard caller.old) [] (cut_of (object_in u.seat.me.0.object) self.old.seat.me.0) self.new.seat.me.0.seen) }
+        requires rule { MayCut W.Caller P.QSBR K.allows caller.old self.old.seat.me.0 index }
+        ensures object { IfOk result (λ u. IsCutFrom self.old.seat self.new.seat self.old.number index u.seat u.chain) }
+        ensures list { IfOk result (λ u. LosesObject self.old.seat self.new.seat self.old.number self.new.number self.old.home.now self.new.home.now u.seat) }
+        ensures cut { IfOk result (λ u. PublishesCut W.Caller P.QSBR K.allows caller.old self.old.seat.me.0 u.seat.me.0 self.new.seat.me.0.seen) }
         ensures heard { IfOk result (λ _. W.heard caller.new ≡ self.new.seat.me.0.seen) }
         ensures refused { IfErr result (λ e. (e ≡ NoPlace) × (length (list_in self.old.seat.me.0) ≤ index) × (self.new ≡ self.old) × (caller.new ≡ caller.old)) }
         ensures same { IfOk result (λ _. OnlyMakesLast W.Caller caller.old caller.new self.new.seat.me.0.seen) }
@@ -188,10 +188,10 @@ impl<'d, P: GracePlan, K: ChainRule, B: Site, H> Chain<'d, P, K, B, H> {
         index: usize,
         owned: Owned<B>,
     ) -> Result<Unlinked<B>, (Refusal, Owned<B>)>
-        requires rule { (o : ObjectId) → slice_get (list_in self.old.seat.me.0) index ≡ Some o → MayPublish P.QSBR K.allows self.old.seat.me.0 (W.seen caller.old) (W.heard caller.old) owned.seat.me.0.seen (replace_by o self.old.seat.me.0 owned.seat.me.0) }
-        ensures object { IfOk result (λ u. (slice_get (list_in self.old.seat.me.0) index ≡ Some (object_in u.seat.me.0.object)) × (u.seat.me.0.seen ≡ self.new.seat.me.0.seen) × (u.chain ≡ self.old.number)) }
-        ensures list { IfOk result (λ u. (list_in self.new.seat.me.0 ≡ replaced (object_in u.seat.me.0.object) (object_in owned.seat.me.0.object) (list_in self.old.seat.me.0)) × ((own_in self.new.seat.me.0.chains).note ≡ (own_in self.old.seat.me.0.chains).note) × (lent_chains self.new.seat.me.0.chains ≡ lent_chains self.old.seat.me.0.chains) × (self.new.number ≡ self.old.number) × (self.new.home.now ≡ self.old.home.now)) }
-        ensures replaced { IfOk result (λ u. Publishes P.QSBR K.allows self.old.seat.me.0 (W.seen caller.old) (W.heard caller.old) owned.seat.me.0.seen (replace_by (object_in u.seat.me.0.object) self.old.seat.me.0 owned.seat.me.0) self.new.seat.me.0.seen) }
+        requires rule { MayReplace W.Caller P.QSBR K.allows caller.old self.old.seat.me.0 index owned.seat.me.0 }
+        ensures object { IfOk result (λ u. IsCutFrom self.old.seat self.new.seat self.old.number index u.seat u.chain) }
+        ensures list { IfOk result (λ u. GetsObject self.old.seat self.new.seat self.old.number self.new.number self.old.home.now self.new.home.now u.seat owned.seat) }
+        ensures replaced { IfOk result (λ u. PublishesReplace W.Caller P.QSBR K.allows caller.old self.old.seat.me.0 u.seat.me.0 owned.seat.me.0 self.new.seat.me.0.seen) }
         ensures heard { IfOk result (λ _. W.heard caller.new ≡ self.new.seat.me.0.seen) }
         ensures refused { IfErr result (λ e. (e.0 ≡ NoPlace) × (e.1 ≡ owned) × (length (list_in self.old.seat.me.0) ≤ index) × (self.new ≡ self.old) × (caller.new ≡ caller.old)) }
         ensures same { IfOk result (λ _. OnlyMakesLast W.Caller caller.old caller.new self.new.seat.me.0.seen) }
@@ -216,7 +216,7 @@ impl<'d, P: GracePlan, K: ChainRule, B: Site, H> Chain<'d, P, K, B, H> {
     /// waits.
     pub fn note(&mut self) -> u64
         ensures note { (result ≡ (own_in self.old.seat.me.0.chains).note) × (result ≡ chain_note self.old.number self.new.seat.me.0.seen) }
-        ensures looked { Keeps self.old.seat self.new.seat × Went P.QSBR K.allows self.old.seat.me.0 self.old.seat.me self.new.seat.me × (self.new.number ≡ self.old.number) × (self.new.home.now ≡ self.old.home.now) }
+        ensures looked { OnlyLooksIn P.QSBR K.allows self.old.seat self.new.seat self.old.number self.new.number self.old.home.now self.new.home.now }
     {
         load_note(self.table, &mut self.seat, self.number)
     }
@@ -226,7 +226,7 @@ impl<'d, P: GracePlan, K: ChainRule, B: Site, H> Chain<'d, P, K, B, H> {
     /// after all that its caller knew. It takes no memory and never waits.
     pub fn hear<W: Caller<B>>(&mut self, caller: &mut W)
         ensures chains { (self.new.seat.me.0.chains ≡ self.old.seat.me.0.chains) × (self.new.number ≡ self.old.number) × (self.new.home.now ≡ self.old.home.now) }
-        ensures told { IsAfter P.QSBR K.allows (W.seen caller.old) (W.heard caller.old) self.new.seat.me.0.seen × Begins self.old.seat.me.0.seen self.new.seat.me.0.seen × Begins self.old.seat.me.0.heard self.new.seat.me.0.seen }
+        ensures told { HearsAll W.Caller P.QSBR K.allows caller.old self.old.seat.me.0 self.new.seat.me.0.seen }
         ensures known { AreAsKnown self.new.seat.me.0.seen self.new.seat.me.0.chains }
         ensures heard { W.heard caller.new ≡ self.new.seat.me.0.seen }
         ensures same { OnlyHears W.Caller caller.old caller.new }
@@ -238,7 +238,7 @@ impl<'d, P: GracePlan, K: ChainRule, B: Site, H> Chain<'d, P, K, B, H> {
     /// it. The chain's rule has to allow it in each log that does. It takes no memory and never waits.
     pub fn set_note<W: Caller<B>>(&mut self, caller: &mut W, note: u64)
         requires rule { MayPublish P.QSBR K.allows self.old.seat.me.0 (W.seen caller.old) (W.heard caller.old) [] (ChainNote self.old.number note) }
-        ensures note { ((own_in self.new.seat.me.0.chains).note ≡ note) × (list_in self.new.seat.me.0 ≡ list_in self.old.seat.me.0) × (lent_chains self.new.seat.me.0.chains ≡ lent_chains self.old.seat.me.0.chains) × (self.new.number ≡ self.old.number) × (self.new.home.now ≡ self.old.home.now) }
+        ensures note { GetsNote self.old.seat self.new.seat self.old.number self.new.number self.old.home.now self.new.home.now note }
         ensures noted { Publishes P.QSBR K.allows self.old.seat.me.0 (W.seen caller.old) (W.heard caller.old) [] (ChainNote self.old.number note) self.new.seat.me.0.seen }
         ensures heard { W.heard caller.new ≡ self.new.seat.me.0.seen }
         ensures same { OnlyHears W.Caller caller.old caller.new }
@@ -252,7 +252,7 @@ impl<'d, P: GracePlan, K: ChainRule, B: Site, H> Chain<'d, P, K, B, H> {
     pub fn lend(self, to: &mut Chain<'_, P, K, B, H>) -> Lent<'d, P, K, B, H>
         requires { lent_chains self.seat.me.0.chains ≡ [] }
         ensures lent { (result.number ≡ self.entry.number) × (result.linked ≡ length (list_in self.entry.seat.me.0)) × (result.home.now ≡ self.entry.home.now) }
-        ensures chains { (to.new.seat.me.0.chains ≡ to.old.seat.me.0.chains ++ own_in self.entry.seat.me.0.chains ∷ []) × (to.new.number ≡ to.old.number) × (to.new.home.now ≡ to.old.home.now) }
+        ensures chains { TakesIn to.old.seat to.new.seat to.old.number to.new.number to.old.home.now to.new.home.now (to.old.seat.me.0.chains ++ own_in self.entry.seat.me.0.chains ∷ []) }
         ensures known { AreAsKnown to.new.seat.me.0.seen to.new.seat.me.0.chains }
         ensures later { Begins to.old.seat.me.0.seen to.new.seat.me.0.seen × Begins self.entry.seat.me.0.seen to.new.seat.me.0.seen × IsLiveRun P.QSBR K.allows to.new.seat.me.0.seen }
     {
@@ -277,7 +277,7 @@ impl<'d, P: GracePlan, K: ChainRule, B: Site, H> Chain<'d, P, K, B, H> {
     /// Gives the chain back, as dropping it does, and tells its caller: its hold word becomes 0, which `looks` tells.
     /// The caller hears of all that the writer had seen. It takes no memory and never waits.
     pub fn release<W: Caller<B>>(self, caller: &mut W)
-        ensures freed { W.looks caller.new ≡ (hold_at B.sizes self.entry.number, 0) ∷ W.looks caller.old }
+        ensures freed { W.looks caller.new ≡ Stored (hold_at B.sizes self.entry.number) 0 ∷ W.looks caller.old }
         ensures heard { IsAfter P.QSBR K.allows (W.seen caller.old) (W.heard caller.old) (W.heard caller.new) × Begins self.entry.seat.me.0.seen (W.heard caller.new) }
         ensures same { Stays W.Caller caller.old caller.new × (W.loads caller.new ≡ W.loads caller.old) }
     {

@@ -6,6 +6,7 @@ ghost use Rattle.live_log.specs.Log.{Begins, IsLiveRun};
 ghost use Rattle.live_words.specs.live_rule.Seats.{lent_chains};
 ghost use Rattle.live_words.specs.live_table.Rights.{AreAsKnown, IsListed, IsWriter, own_in};
 ghost use Rattle.live_words.specs.live_table.Steps.{Keeps};
+ghost use Rattle.live_write.specs.Calls.{GivesOut};
 ghost use Rattle.live_write.specs.Chains.{list_in};
 
 use crate::chain::Chain;
@@ -76,7 +77,7 @@ impl<'d, P: GracePlan, K: ChainRule, B: Site, H> Lent<'d, P, K, B, H> {
         requires right { lent_chains from.old.seat.me.0.chains ≡ own_in (lent_chains from.old.seat.me.0.chains) ∷ lent_chains (lent_chains from.old.seat.me.0.chains) }
         requires its { ((own_in (lent_chains from.old.seat.me.0.chains)).chain ≡ self.number) × (length (own_in (lent_chains from.old.seat.me.0.chains)).objects ≡ self.linked) }
         ensures chain { (result.seat.me.0.chains ≡ own_in (lent_chains from.old.seat.me.0.chains) ∷ []) × (result.number ≡ self.entry.number) × (result.home.now ≡ self.entry.home.now) }
-        ensures from { (from.new.seat.me.0.chains ≡ own_in from.old.seat.me.0.chains ∷ lent_chains (lent_chains from.old.seat.me.0.chains)) × (from.new.seat.me.0.seen ≡ from.old.seat.me.0.seen) × (from.new.number ≡ from.old.number) × (from.new.home.now ≡ from.old.home.now) }
+        ensures from { GivesOut from.old.seat from.new.seat from.old.number from.new.number from.old.home.now from.new.home.now }
         ensures later { Begins from.old.seat.me.0.seen result.seat.me.0.seen × IsLiveRun P.QSBR K.allows result.seat.me.0.seen }
     {
         let Lent {

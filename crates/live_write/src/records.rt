@@ -46,9 +46,8 @@ pub struct Unlinked<B: Site> {
 }
 
 impl<B: Site> Unlinked<B> {
-    ghost use Rattle.std.specs.Prelude.{◌*◌};
-    ghost use Rattle.live_words.specs.live_rule.Places.{cell_at};
-    ghost use Rattle.live_words.specs.live_table.Steps.{Keeps, Went, looked_view};
+    ghost use Rattle.live_words.specs.live_table.Steps.{Keeps};
+    ghost use Rattle.live_write.specs.Calls.{LoadsHeader};
 
     /// Of a seat with the right to it.
     pub(crate) fn of(seat: LiveSeat, cell: usize, chain: usize) -> Unlinked<B>
@@ -85,7 +84,7 @@ impl<B: Site> Unlinked<B> {
         ensures object { result ≡ object_in self.old.seat.me.0.object }
         ensures chain { self.new.chain ≡ self.old.chain }
         ensures seat { Keeps self.old.seat self.new.seat }
-        ensures looked { Went P.QSBR K.allows (looked_view (cell_at B.sizes (cell_in self.old.seat.me.0.object) 0) (2 * result.0) self.old.seat.me.0) self.old.seat.me self.new.seat.me }
+        ensures looked { LoadsHeader P.QSBR K.allows B.sizes result.0 self.old.seat.me self.new.seat.me }
     {
         ObjectId(load_number(table, &mut self.seat, self.cell))
     }

@@ -1,10 +1,11 @@
 //! The search for an object number, and for a free record.
 
 ghost use Rattle.std.specs.Prelude.{◌≡◌, ℕ, ◌<◌, ◌≤◌, ◌^◌, List, IfNone, IfSome, MatchBool};
+ghost use Rattle.live_words.specs.live_rule.declared.view.Look.{Look};
 ghost use Rattle.live_words.specs.live_rule.declared.rights.RecordRight.TheVariants.{Drawn};
 ghost use Rattle.live_words.specs.live_table.Rights.{IsDrawn, object_in};
 ghost use Rattle.live_words.specs.live_table.Steps.{IsLater, Keeps};
-ghost use Rattle.live_write.specs.Searching.{AreTaken, IsTaken, IsUsedUp, Searched, Takes};
+ghost use Rattle.live_write.specs.Searching.{AreTaken, DrawsNumber, IsTaken, IsUsedUp, Searched, StoresNothing, Takes};
 
 use gp_memb::GracePlan;
 use live_words::{ChainRule, LiveSeat, LiveTable, draw_number, load_header, load_last, take_cell};
@@ -25,8 +26,8 @@ pub(crate) fn draw<P: GracePlan, K: ChainRule, R: Wait>(
 ) -> Option<u64>
     requires { seat.old.table_id ≡ table.now.words.shared.table_id }
     ensures seat { Keeps seat.old seat.new }
-    ensures drawn { IfSome result (λ n. (n ≤ 2 ^ 62) × (found : List (ℕ × ℕ)) × Searched P.QSBR K.allows found (Drawn (record { 0 = n })) seat.old.me seat.new.me) }
-    ensures none { IfNone result ((found : List (ℕ × ℕ)) × Searched P.QSBR K.allows found seat.old.me.0.object seat.old.me seat.new.me × IsUsedUp table.now.words.shared.key found) }
+    ensures drawn { IfSome result (λ n. (n ≤ 2 ^ 62) × (found : List Look) × Searched P.QSBR K.allows found (Drawn (record { 0 = n })) seat.old.me seat.new.me × DrawsNumber table.now.words.shared.key n found) }
+    ensures none { IfNone result ((found : List Look) × Searched P.QSBR K.allows found seat.old.me.0.object seat.old.me seat.new.me × IsUsedUp table.now.words.shared.key found × StoresNothing found) }
 {
     let mut last = load_last(table, seat);
     for _ in rt.forever() {
@@ -53,7 +54,7 @@ fn take_if_free<P: GracePlan, K: ChainRule>(
     requires seat { (seat.old.table_id ≡ table.now.words.shared.table_id) × (seat.old.me.0.sizes ≡ table.now.words.shared.key) × (cell < table.now.pool) }
     requires right { IsDrawn seat.old.me.0 × ((object_in seat.old.me.0.object).0 ≡ number) × (number ≤ 2 ^ 62) }
     ensures seat { Keeps seat.old seat.new }
-    ensures taken { MatchBool result (Takes P.QSBR K.allows cell seat.old.me seat.new.me) ((found : List (ℕ × ℕ)) × Searched P.QSBR K.allows found seat.old.me.0.object seat.old.me seat.new.me × IsTaken table.now.words.shared.key found cell) }
+    ensures taken { MatchBool result (Takes P.QSBR K.allows table.now.words.shared.key number cell seat.old.me seat.new.me) ((found : List Look) × Searched P.QSBR K.allows found seat.old.me.0.object seat.old.me seat.new.me × IsTaken table.now.words.shared.key found cell × StoresNothing found) }
 {
     if load_header(table, seat, cell) != 0 {
         return false;
@@ -73,8 +74,8 @@ fn take_from<P: GracePlan, K: ChainRule>(
     requires right { IsDrawn seat.old.me.0 × ((object_in seat.old.me.0.object).0 ≡ number) × (number ≤ 2 ^ 62) }
     requires later { IsLater P.QSBR K.allows seat.old.me.0 seat.old.me.0 }
     ensures seat { Keeps seat.old seat.new }
-    ensures taken { IfSome result (λ i. (i < to) × Takes P.QSBR K.allows i seat.old.me seat.new.me) }
-    ensures none { IfNone result ((found : List (ℕ × ℕ)) × Searched P.QSBR K.allows found seat.old.me.0.object seat.old.me seat.new.me × ((i : ℕ) → from ≤ i → i < to → IsTaken table.now.words.shared.key found i)) }
+    ensures taken { IfSome result (λ i. (i < to) × Takes P.QSBR K.allows table.now.words.shared.key number i seat.old.me seat.new.me) }
+    ensures none { IfNone result ((found : List Look) × Searched P.QSBR K.allows found seat.old.me.0.object seat.old.me seat.new.me × ((i : ℕ) → from ≤ i → i < to → IsTaken table.now.words.shared.key found i) × StoresNothing found) }
 {
     for cell in from..to {
         if take_if_free(table, seat, cell, number) {
@@ -95,8 +96,8 @@ pub(crate) fn take_any<P: GracePlan, K: ChainRule>(
     requires right { IsDrawn seat.old.me.0 × ((object_in seat.old.me.0.object).0 ≡ number) × (number ≤ 2 ^ 62) }
     requires later { IsLater P.QSBR K.allows seat.old.me.0 seat.old.me.0 }
     ensures seat { Keeps seat.old seat.new }
-    ensures taken { IfSome result (λ i. (i < table.now.pool) × Takes P.QSBR K.allows i seat.old.me seat.new.me) }
-    ensures none { IfNone result ((found : List (ℕ × ℕ)) × Searched P.QSBR K.allows found seat.old.me.0.object seat.old.me seat.new.me × AreTaken table.now.words.shared.key found) }
+    ensures taken { IfSome result (λ i. (i < table.now.pool) × Takes P.QSBR K.allows table.now.words.shared.key number i seat.old.me seat.new.me) }
+    ensures none { IfNone result ((found : List Look) × Searched P.QSBR K.allows found seat.old.me.0.object seat.old.me seat.new.me × AreTaken table.now.words.shared.key found × StoresNothing found) }
 {
     // A pool may be empty, and what divides is not 0; where `start` is the whole pool, the second search goes over it.
     let start = (number.wrapping_mul(SPREAD) >> 48) as usize % (table.pool + 1);

@@ -13,12 +13,13 @@ use Rattle.live_log.specs.Tables.{tabled}
 use Rattle.live_log.proofs.Lemmas.{begins_trans, chain_used, note_stays, run_of, tabled_maps}
 use Rattle.rcu_list.specs.live_rule.Seats.{lent_chains}
 use Rattle.rcu_list.specs.live_rule.declared.rights.ChainRight.{ChainRight}
+use Rattle.rcu_list.specs.live_rule.declared.view.Look.{Look}
 use Rattle.rcu_list.specs.live_rule.declared.view.Sizes.{Sizes}
 use Rattle.rcu_list.specs.live_rule.declared.view.View.{View}
 use Rattle.rcu_list.specs.live_table.Rights.{IsListed, IsWriter, cell_in, object_in, own_in, payload_in}
 use Rattle.rcu_list.specs.live_table.Steps.{Went}
 use Rattle.rcu_list.specs.live_write.Chains.{MayPublish, Publishes, list_in, push_by}
-use Rattle.rcu_list.specs.live_write.Searching.{AreTaken, IsUsedUp}
+use Rattle.rcu_list.specs.live_write.Searching.{AreTaken, GetsNoRecord, IsUsedUp}
 use Rattle.rcu_list.proofs.live_write.Lemmas.{index_has, went_both}
 use Rattle.rcu_list.specs.Maps.{value_in, value_of, words_of}
 use Rattle.rcu_list.proofs.Lemmas.{comes_above, keys_pushed, note_walked, same_own, value_same}
@@ -229,8 +230,12 @@ module _ {X : Type 0} (value : Option X → ℕ → Option ℕ) (buckets : ℕ) 
           ∙ (ap (λ (x : Option X). value x key) (sym at) ∙ ap (λ (n : ℕ). value (slice_get vs n) key) (sym same))))))
           (λ apart. ap (λ (x : Option X). value x key) (get_set_other vs (e.0 % buckets) (key % buckets) w apart))
 
+-- no record was free where none was had
+pub none_free : (sizes : Sizes) (found : List Look) → GetsNoRecord sizes found → IsUsedUp sizes found ⊎ AreTaken sizes found
+none_free sizes found = ⊎_elim (λ u. inl u.0) (λ t. inr t.0)
+
 -- more words that were found before these
-pub found_more : (sizes : Sizes) (found more : List (ℕ × ℕ)) → IsUsedUp sizes found ⊎ AreTaken sizes found → IsUsedUp sizes (found ++ more) ⊎ AreTaken sizes (found ++ more)
+pub found_more : (sizes : Sizes) (found more : List Look) → IsUsedUp sizes found ⊎ AreTaken sizes found → IsUsedUp sizes (found ++ more) ⊎ AreTaken sizes (found ++ more)
 found_more sizes found more = ⊎_elim
     (λ (u : IsUsedUp sizes found). inl (u.0, in_left found more _ u.1, u.2))
     (λ (t : AreTaken sizes found). inr (λ i low. let x = t i low in (x.0, in_left found more _ x.1, x.2)))
@@ -239,7 +244,7 @@ in_behind : {X : Type 0} (xs ys : List X) (x : X) → In ys x → In (xs ++ ys) 
 in_behind [] ys x h = h
 in_behind (y ∷ xs) ys x h = inr (in_behind xs ys x h)
 
-pub found_before : (sizes : Sizes) (more found : List (ℕ × ℕ)) → IsUsedUp sizes found ⊎ AreTaken sizes found → IsUsedUp sizes (more ++ found) ⊎ AreTaken sizes (more ++ found)
+pub found_before : (sizes : Sizes) (more found : List Look) → IsUsedUp sizes found ⊎ AreTaken sizes found → IsUsedUp sizes (more ++ found) ⊎ AreTaken sizes (more ++ found)
 found_before sizes more found = ⊎_elim
     (λ (u : IsUsedUp sizes found). inl (u.0, in_behind more found _ u.1, u.2))
     (λ (t : AreTaken sizes found). inr (λ i low. let x = t i low in (x.0, in_behind more found _ x.1, x.2)))

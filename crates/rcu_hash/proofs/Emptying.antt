@@ -16,6 +16,7 @@ use Rattle.live_log.specs.Log.{Log, Begins, Has, HaveEnded, IsLiveRun, chain_not
 use Rattle.live_log.specs.Tables.{HasKey, IsDirectory, IsFree, IsNamed, tabled}
 use Rattle.live_log.proofs.Lemmas.{begins_trans, chain_used, falls_cut, has_later, is_noted, kept_log, left_is_freed, linked_between, note_stays, run_of, tabled_maps}
 use Rattle.rcu_list.specs.live_rule.declared.rights.ChainRight.{ChainRight}
+use Rattle.rcu_list.specs.live_rule.declared.view.Look.{Look}
 use Rattle.rcu_list.specs.live_rule.declared.view.Sizes.{Sizes}
 use Rattle.rcu_list.specs.live_rule.declared.view.View.{View}
 use Rattle.rcu_list.specs.live_table.Rights.{AreAsKnown, IsListed, IsWriter, own_in}
@@ -169,7 +170,7 @@ module _ {W S : Type 0} (w : Ghosts W S) where
   makes_finds a b log m = (m.2, ([], m.1))
 
   pub finds_both : (a b c : W) → FindsMore w a b → FindsMore w b c → FindsMore w a c
-  finds_both a b c x y = (y.0 ∙ x.0, (y.1.0 ++ x.1.0, y.1.1 ∙ (ap (λ (l : List (ℕ × ℕ)). y.1.0 ++ l) x.1.1 ∙ sym (append_assoc y.1.0 x.1.0 (w.looks a)))))
+  finds_both a b c x y = (y.0 ∙ x.0, (y.1.0 ++ x.1.0, y.1.1 ∙ (ap (λ (l : List Look). y.1.0 ++ l) x.1.1 ∙ sym (append_assoc y.1.0 x.1.0 (w.looks a)))))
 
   pub finds_none : (a : W) → FindsMore w a a
   finds_none a = (refl, ([], refl))

@@ -5,6 +5,8 @@ use Rattle.rcu_model.specs.declared.refusal.Refusal.TheVariants.{Missing}
 use Rattle.live_log.specs.declared.event.LiveEvent.{LiveEvent}
 use Rattle.live_log.specs.Log.{Log, Begins}
 use Rattle.live_log.proofs.Lemmas.{begins_trans}
+use Rattle.rcu_list.specs.live_rule.declared.view.Look.{Look}
+use Rattle.rcu_list.specs.live_rule.declared.view.Look.TheVariants.{Loaded, Stored}
 use Rattle.rcu_list.specs.live_rule.declared.view.Sizes.{Sizes}
 use Rattle.rcu_list.specs.live_rule.Places.{cell_at, closed_at}
 use Rattle.rcu_list.specs.live_read.Hearing.{IsAfter, OnlyHears}
@@ -44,7 +46,7 @@ module _ {W S : Type 0} (w : Ghosts W S) (qsbr : Bool) (allows : Log → LiveEve
     no_record f = record {
       is = f.is;
       found = f.found;
-      looks = f.looks ∙ ap (λ (l : List (ℕ × ℕ)). f.found ++ l) hears.0.1;
+      looks = f.looks ∙ ap (λ (l : List Look). f.found ++ l) hears.0.1;
       why = f.why;
       after = later (w.heard w2) f.after;
       same = (stays_both w w0 w1 w2 hears.0.0 f.same.0, f.same.1 ∙ hears.1);
@@ -55,7 +57,9 @@ module _ {W S : Type 0} (w : Ghosts W S) (qsbr : Bool) (allows : Log → LiveEve
       found = r.found;
       closed = r.closed;
       cell = r.cell;
-      looks = r.looks ∙ ap (λ (l : List (ℕ × ℕ)). (cell_at sizes r.cell 0, 0) ∷ (closed_at sizes queue, r.closed) ∷ (r.found ++ l)) hears.0.1;
+      number = r.number;
+      took = r.took;
+      looks = r.looks ∙ ap (λ (l : List Look). Stored (cell_at sizes r.cell 0) 0 ∷ Loaded (closed_at sizes queue) r.closed ∷ (r.found ++ l)) hears.0.1;
       at = r.at;
       told = r.told;
       within = (later r.at r.within.0, r.within.1, r.within.2);
@@ -68,7 +72,7 @@ module _ {W S : Type 0} (w : Ghosts W S) (qsbr : Bool) (allows : Log → LiveEve
     retirement : (queue : ℕ) → RefusesRetirement w qsbr allows sizes queue w1 w2 e → RefusesRetirement w qsbr allows sizes queue w0 w2 e
     retirement queue r = record {
       closed = r.closed;
-      looked = r.looked ∙ ap (λ (l : List (ℕ × ℕ)). (closed_at sizes queue, r.closed) ∷ l) hears.0.1;
+      looked = r.looked ∙ ap (λ (l : List Look). Loaded (closed_at sizes queue) r.closed ∷ l) hears.0.1;
       told = r.told;
       after = later (w.heard w2) r.after;
       why = r.why;

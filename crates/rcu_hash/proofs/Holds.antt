@@ -6,6 +6,7 @@ use native.Mathlib.Decide.{ℕ_discrete}
 use Rattle.rcu_model.specs.declared.event.ObjectId.{ObjectId}
 use Rattle.rcu_model.specs.declared.refusal.Refusal.{Refusal}
 use Rattle.rcu_model.specs.declared.refusal.Refusal.TheVariants.{PoolFull}
+use Rattle.rcu_list.specs.live_rule.declared.view.Look.{Look}
 use Rattle.rcu_list.specs.live_rule.declared.view.Sizes.{Sizes}
 use Rattle.rcu_list.specs.live_write.Searching.{AreTaken, IsUsedUp}
 use Rattle.rcu_model.specs.Sets.{In, replaced}
@@ -24,11 +25,11 @@ use Rattle.rcu_hash.specs.Naming.{IsNamedBy, words_by}
 use Rattle.rcu_hash.specs.Writers.{AreFrom, Each, HasKeysIn, HasNote, HasNothing, HasSeen, IsSame, Pairwise, lengths_of, rights_of}
 
 -- what was looked at, and then more
-pub looks_both : (old middle new : List (ℕ × ℕ)) (one two : List (ℕ × ℕ)) → middle ≡ one ++ old → new ≡ two ++ middle → new ≡ (two ++ one) ++ old
-looks_both old middle new one two a b = b ∙ (ap (λ (l : List (ℕ × ℕ)). two ++ l) a ∙ sym (append_assoc two one old))
+pub looks_both : (old middle new : List Look) (one two : List Look) → middle ≡ one ++ old → new ≡ two ++ middle → new ≡ (two ++ one) ++ old
+looks_both old middle new one two a b = b ∙ (ap (λ (l : List Look). two ++ l) a ∙ sym (append_assoc two one old))
 
 -- another refusal is not that of a full pool
-pub not_full : {A : Type 0} (sizes : Sizes) (found : List (ℕ × ℕ)) (r : Result A Refusal) (x e : Refusal) → r ≡ Err x → x ≡ e → e ≢ PoolFull → IfErr r (λ y. y ≡ PoolFull → IsUsedUp sizes found ⊎ AreTaken sizes found)
+pub not_full : {A : Type 0} (sizes : Sizes) (found : List Look) (r : Result A Refusal) (x e : Refusal) → r ≡ Err x → x ≡ e → e ≢ PoolFull → IfErr r (λ y. y ≡ PoolFull → IsUsedUp sizes found ⊎ AreTaken sizes found)
 not_full sizes found r x e is same other = rw is (λ full. absurd (other (sym same ∙ full)))
 
 -- what is so of each is so of each in other words

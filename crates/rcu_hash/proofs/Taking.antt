@@ -9,6 +9,8 @@ use Rattle.live_log.specs.declared.event.LiveEvent.{LiveEvent}
 use Rattle.live_log.specs.Log.{Log, Begins}
 use Rattle.live_log.proofs.Lemmas.{begins_trans}
 use Rattle.rcu_list.specs.live_rule.Places.{hold_at}
+use Rattle.rcu_list.specs.live_rule.declared.view.Look.{Look}
+use Rattle.rcu_list.specs.live_rule.declared.view.Look.TheVariants.{Loaded, Stored}
 use Rattle.rcu_list.specs.live_rule.declared.view.Sizes.{Sizes}
 use Rattle.rcu_list.specs.live_rule.declared.view.View.{View}
 use Rattle.rcu_list.specs.live_read.Hearing.{IsAfter}
@@ -65,29 +67,34 @@ module _ {W S : Type 0} (w : Ghosts W S) (qsbr : Bool) (allows : Log → LiveEve
       (cases_lt c (first + n))
 
 -- that a chain was taken, in a later part of a call
-pub taken_since : {W S : Type 0} (w : Ghosts W S) (qsbr : Bool) (allows : Log → LiveEvent → Type 0) (sizes : Sizes) (P Q : ℕ → Type 0) → ((c : ℕ) → P c → Q c) → (old mid new : W) → w.seen mid ≡ w.seen old → Begins (w.heard old) (w.heard mid) → (found : List (ℕ × ℕ)) → w.looks mid ≡ found ++ w.looks old → ((c : ℕ) → P c → ¬ In found (hold_at sizes c, 0)) → FindsTaken w qsbr allows mid new sizes P → FindsTaken w qsbr allows old new sizes Q
+pub taken_since : {W S : Type 0} (w : Ghosts W S) (qsbr : Bool) (allows : Log → LiveEvent → Type 0) (sizes : Sizes) (P Q : ℕ → Type 0) → ((c : ℕ) → P c → Q c) → (old mid new : W) → w.seen mid ≡ w.seen old → Begins (w.heard old) (w.heard mid) → (found : List Look) → w.looks mid ≡ found ++ w.looks old → ((c : ℕ) → P c → ¬ In found (Loaded (hold_at sizes c) 0)) → FindsTaken w qsbr allows mid new sizes P → FindsTaken w qsbr allows old new sizes Q
 taken_since w qsbr allows sizes P Q on old mid new seen heard found looks fresh t = record {
   chain = t.chain;
   one = on t.chain t.one;
   found = t.found ++ found;
   looks = looks_both (w.looks old) (w.looks mid) (w.looks new) found t.found looks t.looks;
   why = ⊎_elim
-      (λ (h : In t.found (hold_at sizes t.chain, 1) × ¬ In t.found (hold_at sizes t.chain, 0)). inl (
-        in_left t.found found (hold_at sizes t.chain, 1) h.0,
-        λ both. ⊎_elim h.1 (fresh t.chain t.one) (in_append t.found found (hold_at sizes t.chain, 0) both),
+      (λ (h : In t.found (Loaded (hold_at sizes t.chain) 1) × ¬ In t.found (Loaded (hold_at sizes t.chain) 0)). inl (
+        in_left t.found found (Loaded (hold_at sizes t.chain) 1) h.0,
+        λ both. ⊎_elim h.1 (fresh t.chain t.one) (in_append t.found found (Loaded (hold_at sizes t.chain) 0) both),
       ))
       (λ (d : During w qsbr allows mid new (IsInUse t.chain)). inr (during_since w qsbr allows old mid new (IsInUse t.chain) seen heard d))
       t.why;
 }
 
--- what was looked at are the hold words of chains, of which some fact is known
-abbrev pub AreHoldsOf : Sizes → (ℕ → Type 0) → List (ℕ × ℕ) → Type 0
-AreHoldsOf sizes P found = (x : ℕ × ℕ) → In found x → (c : ℕ) × P c × (x.0 ≡ hold_at sizes c)
+-- the place of a word that was found or stored
+abbrev pub place_of : Look → ℕ
+place_of (Loaded a n) = a
+place_of (Stored a n) = a
+
+-- what was found and stored are the hold words of chains, of which some fact is known
+abbrev pub AreHoldsOf : Sizes → (ℕ → Type 0) → List Look → Type 0
+AreHoldsOf sizes P found = (x : Look) → In found x → (c : ℕ) × P c × (place_of x ≡ hold_at sizes c)
 
 -- so another chain's is not among them
-pub other_hold : (sizes : Sizes) (P : ℕ → Type 0) (found : List (ℕ × ℕ)) (c word : ℕ) → AreHoldsOf sizes P found → ((k : ℕ) → P k → k ≢ c) → ¬ In found (hold_at sizes c, word)
+pub other_hold : (sizes : Sizes) (P : ℕ → Type 0) (found : List Look) (c word : ℕ) → AreHoldsOf sizes P found → ((k : ℕ) → P k → k ≢ c) → ¬ In found (Loaded (hold_at sizes c) word)
 other_hold sizes P found c word holds other h =
-    let x = holds (hold_at sizes c, word) h in let place = x.2 in other x.0 x.1 (omega (arith, place))
+    let x = holds (Loaded (hold_at sizes c) word) h in let place = x.2 in other x.0 x.1 (omega (arith, place))
 
 -- two ranges that are not apart have a chain in common
 pub in_both : (a m b n : ℕ) → 0 < m → 0 < n → are_apart a m b n ≡ false → (c : ℕ) × IsAmong a m c × IsAmong b n c
@@ -107,9 +114,9 @@ in_both a m b n some more apart = by (cases_lt b (a + m)) (cases_lt a (b + n))
 -- what the looks and loads of one part of a call tell, and of one after the other
 module _ {W S : Type 0} (w : Ghosts W S) where
   abbrev pub Told : W → W → Type 0
-  Told a b = ((found : List (ℕ × ℕ)) × (w.looks b ≡ found ++ w.looks a)) × ((logs : List Log) × (w.loads b ≡ logs ++ w.loads a))
+  Told a b = ((found : List Look) × (w.looks b ≡ found ++ w.looks a)) × ((logs : List Log) × (w.loads b ≡ logs ++ w.loads a))
 
-  pub told_looks : (a b : W) (found : List (ℕ × ℕ)) → w.looks b ≡ found ++ w.looks a → w.loads b ≡ w.loads a → Told a b
+  pub told_looks : (a b : W) (found : List Look) → w.looks b ≡ found ++ w.looks a → w.loads b ≡ w.loads a → Told a b
   told_looks a b found looks loads = ((found, looks), ([], loads))
 
   pub told_both : (a b c : W) → Told a b → Told b c → Told a c

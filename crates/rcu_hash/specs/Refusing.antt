@@ -6,6 +6,8 @@ use Rattle.rcu_model.specs.Sets.{In}
 use Rattle.live_log.specs.declared.event.LiveEvent.{LiveEvent}
 use Rattle.live_log.specs.Log.{Log, Begins, chain_note, state_of}
 use Rattle.rcu_list.specs.live_rule.Places.{hold_at}
+use Rattle.rcu_list.specs.live_rule.declared.view.Look.{Look}
+use Rattle.rcu_list.specs.live_rule.declared.view.Look.TheVariants.{Loaded}
 use Rattle.rcu_list.specs.live_rule.declared.view.Sizes.{Sizes}
 use Rattle.rcu_list.specs.live_read.Hearing.{IsAfter, OnlyHears}
 use Rattle.rcu_list.specs.live_read.declared.caller.Caller.{Ghosts}
@@ -36,9 +38,9 @@ module _ {W S : Type 0} (w : Ghosts W S) (qsbr : Bool) (allows : Log → LiveEve
   pub record FindsTaken (sizes : Sizes) (is_one : ℕ → Type 0) : Type 0 where
     pub chain : ℕ
     pub one : is_one chain
-    pub found : List (ℕ × ℕ)
+    pub found : List Look
     pub looks : w.looks new ≡ found ++ w.looks old
-    pub why : (In found (hold_at sizes chain, 1) × ¬ In found (hold_at sizes chain, 0)) ⊎ During (IsInUse chain)
+    pub why : (In found (Loaded (hold_at sizes chain) 1) × ¬ In found (Loaded (hold_at sizes chain) 0)) ⊎ During (IsInUse chain)
 
   -- each of these chains was unused in some log of the call
   abbrev pub FindsFree : (ℕ → Type 0) → Type 0

@@ -9,7 +9,7 @@ ghost use Rattle.rcu_list.specs.live_rule.Seats.{lent_chains};
 ghost use Rattle.rcu_list.specs.live_read.Hearing.{IsAfter, MakesLast, OnlyHears};
 ghost use Rattle.rcu_list.specs.live_write.Chains.{list_in};
 ghost use Rattle.rcu_list.specs.Maps.{map_of};
-ghost use Rattle.rcu_list.specs.Calls.{HandsOver};
+ghost use Rattle.rcu_list.specs.Calls.{HandsOver, TakesOneRecord};
 ghost use Rattle.rcu_hash.specs.Directories.{LeadsTo, directed_map};
 ghost use Rattle.rcu_hash.specs.Naming.{WasNamed};
 ghost use Rattle.rcu_hash.specs.Publishing.{InsertsThrough, RemovesThrough, ReplacesThrough};
@@ -65,7 +65,7 @@ impl<'d, P: GracePlan + Drop, B: Site, D: Deleter> Bucket<'d, P, B, D> {
         requires key { bucket_of self.old.naming.first self.old.naming.buckets key ≡ self.old.chain.number }
         ensures inserted { IfOk result (λ _. InsertsThrough P.QSBR tabled B.sizes.chains self.old.naming.directory (W.seen caller.old) (W.heard caller.old) key value self.old.chain.number (W.heard caller.new)) }
         ensures changes { IfOk result (λ _. MakesLast W.Caller caller.old caller.new (W.heard caller.new)) }
-        ensures heard { IfOk result (λ _. (W.loads caller.new ≡ W.loads caller.old) × ((found : List (ℕ × ℕ)) × (W.looks caller.new ≡ found ++ W.looks caller.old))) }
+        ensures heard { IfOk result (λ _. TakesOneRecord W.Caller caller.old caller.new B.sizes) }
         ensures refused { IfErr result (λ e. RefusesInsertionThrough W.Caller P.QSBR tabled B.sizes caller.old caller.new e self.old.naming.directory key) }
         ensures same { (self.new.naming ≡ self.old.naming) × (self.new.chain.number ≡ self.old.chain.number) }
     {
@@ -90,7 +90,7 @@ impl<'d, P: GracePlan + Drop, B: Site, D: Deleter> Bucket<'d, P, B, D> {
     ) -> Result<Ticket, (Refusal, D)>
         requires key { bucket_of self.old.naming.first self.old.naming.buckets key ≡ self.old.chain.number }
         ensures replaced { IfOk result (λ t. (left : ObjectId) × (published : Log) × ReplacesThrough P.QSBR tabled B.sizes.chains self.old.naming.directory (W.seen caller.old) (W.heard caller.old) key value self.old.chain.number left published × HandsOver P.QSBR tabled left (self.old.chain.number % B.sizes.queues) t.0 published (W.heard caller.new) × MakesLast W.Caller caller.old caller.new published) }
-        ensures heard { IfOk result (λ _. (W.loads caller.new ≡ W.loads caller.old) × ((found : List (ℕ × ℕ)) × (W.looks caller.new ≡ found ++ W.looks caller.old))) }
+        ensures heard { IfOk result (λ _. TakesOneRecord W.Caller caller.old caller.new B.sizes) }
         ensures refused { IfErr result (λ e. RefusesReplacementThrough W.Caller P.QSBR tabled B.sizes caller.old caller.new e.0 self.old.naming.directory key) }
         ensures back { IfErr result (λ e. e.1 ≡ callback) }
         ensures same { (self.new.naming ≡ self.old.naming) × (self.new.chain.number ≡ self.old.chain.number) }

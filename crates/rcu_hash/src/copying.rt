@@ -3,6 +3,7 @@
 ghost use Rattle.std.specs.Prelude.{◌≡◌, ◌⊎◌, ◌%◌, ◌==◌, ◌<◌, ◌∷◌, ◌++◌, [], ℕ, List, None, Some, IfErr, IfOk, if◌then◌else◌, map, vec_len};
 ghost use Rattle.live_log.specs.Log.{Begins, Log};
 ghost use Rattle.live_log.specs.Tables.{tabled};
+ghost use Rattle.rcu_list.specs.live_rule.declared.view.Look.{Look};
 ghost use Rattle.rcu_list.specs.live_table.Rights.{payload_in};
 ghost use Rattle.rcu_list.specs.live_table.Steps.{Keeps, Went};
 ghost use Rattle.rcu_list.specs.live_read.Hearing.{OnlyMakesMany, Stays};
@@ -44,7 +45,7 @@ fn copy_key<P: GracePlan + Drop, B: Site, D: Deleter, W: Caller<B>, R: Wait>(
     ensures copied { IfOk result (λ _. map {B = ℕ × ℕ} (λ c. (c.key, c.value)) copied.new.items ≡ map (λ c. (c.key, c.value)) copied.old.items ++ (key, value) ∷ []) }
     ensures ranks { IfOk result (λ _. map (λ c. c.rank) copied.new.items ≡ map (λ c. c.rank) copied.old.items ++ vec_len copied.old ∷ []) }
     ensures refused { IfErr result (λ e. (copied.new.items ≡ copied.old.items) × ((e ≡ Memory) ⊎ (e ≡ PoolFull))) }
-    ensures looks { (found : List (ℕ × ℕ)) × (W.looks caller.new ≡ found ++ W.looks caller.old) × IfErr result (λ e. (e ≡ PoolFull) → IsUsedUp B.sizes found ⊎ AreTaken B.sizes found) }
+    ensures looks { (found : List Look) × (W.looks caller.new ≡ found ++ W.looks caller.old) × IfErr result (λ e. (e ≡ PoolFull) → IsUsedUp B.sizes found ⊎ AreTaken B.sizes found) }
     ensures heard { Begins (W.heard caller.old) (W.heard caller.new) }
     ensures same { Stays W.Caller caller.old caller.new × (W.loads caller.new ≡ W.loads caller.old) }
 {
@@ -78,7 +79,7 @@ impl<'d, P: GracePlan + Drop, B: Site, D: Deleter> Bucket<'d, P, B, D> {
         ensures copied { IfOk result (λ _. (key : ℕ) → value_among (map (λ c. (c.key, c.value)) copied.new.items) key ≡ (if key % self.old.naming.buckets == number then value_at (Some self.new.chain.seat.me.0) key else value_among (map (λ c. (c.key, c.value)) copied.old.items) key)) }
         ensures apart { IfOk result (λ _. AreApart (map (λ c. (c.key, c.value)) copied.new.items) × AreRanked 0 (map (λ c. c.rank) copied.new.items)) }
         ensures refused { IfErr result (λ e. (e ≡ Memory) ⊎ (e ≡ PoolFull)) }
-        ensures looks { (found : List (ℕ × ℕ)) × (W.looks caller.new ≡ found ++ W.looks caller.old) × IfErr result (λ e. (e ≡ PoolFull) → IsUsedUp B.sizes found ⊎ AreTaken B.sizes found) }
+        ensures looks { (found : List Look) × (W.looks caller.new ≡ found ++ W.looks caller.old) × IfErr result (λ e. (e ≡ PoolFull) → IsUsedUp B.sizes found ⊎ AreTaken B.sizes found) }
         ensures heard { Begins (W.heard caller.old) (W.heard caller.new) }
         ensures same { Stays W.Caller caller.old caller.new × (W.loads caller.new ≡ W.loads caller.old) }
         ensures walked { (self.new.naming ≡ self.old.naming) × Keeps self.old.chain.seat self.new.chain.seat × Went P.QSBR tabled self.old.chain.seat.me.0 self.old.chain.seat.me self.new.chain.seat.me × (self.new.chain.number ≡ self.old.chain.number) × (self.new.chain.home.now ≡ self.old.chain.home.now) }
@@ -106,7 +107,7 @@ pub(crate) fn discard_all<P: GracePlan + Drop, B: Site, D: Deleter, W: Caller<B>
     copied: Vec<Copied<B>>,
 )
     ensures heard { Begins (W.heard caller.old) (W.heard caller.new) }
-    ensures told { ((found : List (ℕ × ℕ)) × (W.looks caller.new ≡ found ++ W.looks caller.old)) × ((logs : List Log) × (W.loads caller.new ≡ logs ++ W.loads caller.old)) }
+    ensures told { ((found : List Look) × (W.looks caller.new ≡ found ++ W.looks caller.old)) × ((logs : List Log) × (W.loads caller.new ≡ logs ++ W.loads caller.old)) }
     ensures same { Stays W.Caller caller.old caller.new }
 {
     let many = copied.len();

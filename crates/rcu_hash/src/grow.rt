@@ -5,6 +5,7 @@ ghost use Rattle.std.specs.Sync.RwLock.{write_guard_value};
 ghost use Rattle.rcu_model.specs.declared.refusal.Refusal.TheVariants.{BadConfig, Busy, PoolFull};
 ghost use Rattle.live_log.specs.Log.{Begins, Log};
 ghost use Rattle.live_log.specs.Tables.{tabled};
+ghost use Rattle.rcu_list.specs.live_rule.declared.view.Look.{Look};
 ghost use Rattle.rcu_list.specs.live_table.Rights.{payload_in};
 ghost use Rattle.rcu_list.specs.live_read.Hearing.{MakesMany, OnlyMakesMany, Stays};
 ghost use Rattle.rcu_hash.specs.Copies.{AreApart, AreRanked, value_among, value_in_bucket};
@@ -173,7 +174,7 @@ impl<'d, P: GracePlan + Drop, B: Site, D: Deleter> RcuHash<'d, P, B, D> {
         ensures free { IfOk result (λ _. FindsFree W.Caller P.QSBR tabled caller.old caller.new (IsAmong first buckets)) }
         ensures refused { IfErr result (λ e. IsNotGrown W.Caller P.QSBR B.sizes caller.old caller.new self.now.directory first buckets e) }
         ensures heard { Begins (W.heard caller.old) (W.heard caller.new) }
-        ensures looks { (found : List (ℕ × ℕ)) × (W.looks caller.new ≡ found ++ W.looks caller.old) × IfErr result (λ e. e ≡ PoolFull → IsUsedUp B.sizes found ⊎ AreTaken B.sizes found) }
+        ensures looks { (found : List Look) × (W.looks caller.new ≡ found ++ W.looks caller.old) × IfErr result (λ e. e ≡ PoolFull → IsUsedUp B.sizes found ⊎ AreTaken B.sizes found) }
         ensures loads { ((logs : List Log) × (W.loads caller.new ≡ logs ++ W.loads caller.old)) × IfOk result (λ _. W.loads caller.new ≡ W.loads caller.old) }
         ensures changes { IfOk result (λ left. MakesMany W.Caller caller.old caller.new left) × IfErr result (λ _. Stays W.Caller caller.old caller.new) }
     {

@@ -6,6 +6,8 @@ ghost use Rattle.live_log.specs.declared.event.LiveEvent.TheVariants.{Object};
 ghost use Rattle.live_log.specs.declared.event.ObjectEvent.TheVariants.{Push};
 ghost use Rattle.live_log.specs.Log.{Begins, IsLiveRun};
 ghost use Rattle.live_log.specs.Tables.{tabled};
+ghost use Rattle.rcu_list.specs.live_rule.declared.view.Look.{Look};
+ghost use Rattle.rcu_list.specs.live_rule.declared.view.Look.TheVariants.{Loaded, Stored};
 ghost use Rattle.rcu_list.specs.live_rule.Places.{hold_at};
 ghost use Rattle.rcu_list.specs.live_table.Rights.{object_in, payload_in};
 ghost use Rattle.rcu_list.specs.live_read.Hearing.{IsAfter, OnlyHears, OnlyMakesLast, Stays};
@@ -50,11 +52,11 @@ pub(crate) fn hold_empty<'d, P: GracePlan + Drop, B: Site, D: Deleter, W: Caller
     chain: usize,
 ) -> Result<Chain<'d, P, Tabled, B, D>, Refusal>
     requires { chain < B.sizes.chains }
-    ensures held { IfOk result (λ c. (c.number ≡ chain) × IsEmpty c.seat.me.0 × IsAlone c.seat.me.0 × IsLiveRun P.QSBR tabled c.seat.me.0.seen × (W.looks caller.new ≡ (hold_at B.sizes chain, 0) ∷ W.looks caller.old)) }
+    ensures held { IfOk result (λ c. (c.number ≡ chain) × IsEmpty c.seat.me.0 × IsAlone c.seat.me.0 × IsLiveRun P.QSBR tabled c.seat.me.0.seen × (W.looks caller.new ≡ Stored (hold_at B.sizes chain) 1 ∷ Loaded (hold_at B.sizes chain) 0 ∷ W.looks caller.old)) }
     ensures refused { IfErr result (λ e. (e ≡ BadConfig) × FindsTaken W.Caller P.QSBR tabled caller.old caller.new B.sizes (λ c. c ≡ chain)) }
     ensures unused { IfOk result (λ _. IsUnused chain (W.heard caller.new)) }
     ensures heard { IsAfter P.QSBR tabled (W.seen caller.old) (W.heard caller.old) (W.heard caller.new) }
-    ensures same { Stays W.Caller caller.old caller.new × (W.loads caller.new ≡ W.loads caller.old) × ((found : List (ℕ × ℕ)) × (W.looks caller.new ≡ found ++ W.looks caller.old)) }
+    ensures same { Stays W.Caller caller.old caller.new × (W.loads caller.new ≡ W.loads caller.old) × ((found : List Look) × (W.looks caller.new ≡ found ++ W.looks caller.old)) }
 {
     let mut writer = match domain.chain(caller, chain) {
         Ok(writer) => writer,
@@ -84,7 +86,7 @@ pub(crate) fn hold_all<'d, P: GracePlan + Drop, B: Site, D: Deleter, W: Caller<B
     ensures refused { IfErr result (λ e. (e ≡ BadConfig) × FindsTaken W.Caller P.QSBR tabled caller.old caller.new B.sizes (IsAmong first many)) }
     ensures free { IfOk result (λ _. FindsFree W.Caller P.QSBR tabled caller.old caller.new (IsAmong first many)) }
     ensures heard { Begins (W.heard caller.old) (W.heard caller.new) }
-    ensures same { Stays W.Caller caller.old caller.new × (W.loads caller.new ≡ W.loads caller.old) × ((found : List (ℕ × ℕ)) × (W.looks caller.new ≡ found ++ W.looks caller.old)) }
+    ensures same { Stays W.Caller caller.old caller.new × (W.loads caller.new ≡ W.loads caller.old) × ((found : List Look) × (W.looks caller.new ≡ found ++ W.looks caller.old)) }
 {
     for number in 0..many {
         chains.push_reserved(hold_empty(domain, caller, first + number)?);

@@ -1,6 +1,6 @@
 //! A hash table.
 
-ghost use Rattle.std.specs.Prelude.{◌≡◌, ◌⊎◌, ◌+◌, ◌<◌, ◌++◌, ℕ, List, None, IfErr, IfOk, false, true};
+ghost use Rattle.std.specs.Prelude.{◌≡◌, ◌⊎◌, ◌+◌, ◌<◌, ◌++◌, List, None, IfErr, IfOk, false, true};
 ghost use Rattle.std.specs.Sync.RwLock.{read_guard_value};
 ghost use Rattle.rcu_model.specs.declared.refusal.Refusal.TheVariants.{BadConfig, PoolFull};
 ghost use Rattle.live_log.specs.Log.{Begins};
@@ -12,7 +12,9 @@ ghost use Rattle.rcu_hash.specs.Growing.{Founds};
 ghost use Rattle.rcu_hash.specs.Refusing.{FindsFree, RefusesInsertionThrough, RefusesRemovalThrough, RefusesReplacementThrough};
 ghost use Rattle.rcu_hash.specs.Tables.{IsAmong, fits};
 ghost use Rattle.rcu_hash.specs.Calls.{IsInsertedThrough, IsNotMade, IsRemovedThrough, IsReplacedThrough};
-ghost use Rattle.rcu_list.specs.domain.Writing.{NoRecordIsFree};
+ghost use Rattle.rcu_list.specs.live_write.Searching.{NoRecordIsFree};
+ghost use Rattle.rcu_list.specs.Calls.{TakesOneRecord};
+ghost use Rattle.rcu_list.specs.live_rule.declared.view.Look.{Look};
 
 use crate::directory::Desk;
 use crate::left::Left;
@@ -84,7 +86,7 @@ impl<'d, P: GracePlan + Drop, B: Site, D: Deleter> RcuHash<'d, P, B, D> {
         ensures heard { IfOk result (λ _. IsAfter P.QSBR tabled (W.seen caller.old) (W.heard caller.old) (W.heard caller.new)) }
         ensures later { Begins (W.heard caller.old) (W.heard caller.new) }
         ensures refused { IfErr result (λ e. IsNotMade W.Caller P.QSBR B.sizes caller.old caller.new directory first buckets e) }
-        ensures looks { (found : List (ℕ × ℕ)) × (W.looks caller.new ≡ found ++ W.looks caller.old) × IfErr result (λ e. (e ≡ PoolFull) → NoRecordIsFree B.sizes found) }
+        ensures looks { (found : List Look) × (W.looks caller.new ≡ found ++ W.looks caller.old) × IfErr result (λ e. (e ≡ PoolFull) → NoRecordIsFree B.sizes found) }
         ensures changes { IfOk result (λ _. MakesLast W.Caller caller.old caller.new (W.heard caller.new)) × IfErr result (λ _. Stays W.Caller caller.old caller.new) }
         ensures same { W.loads caller.new ≡ W.loads caller.old }
     {
@@ -169,7 +171,7 @@ impl<'d, P: GracePlan + Drop, B: Site, D: Deleter> RcuHash<'d, P, B, D> {
     ) -> Result<(), Refusal>
         ensures inserted { IfOk result (λ _. IsInsertedThrough W.Caller P.QSBR B.sizes caller.old caller.new self.now.directory key value) }
         ensures changes { IfOk result (λ _. MakesLast W.Caller caller.old caller.new (W.heard caller.new)) }
-        ensures same { IfOk result (λ _. (W.loads caller.new ≡ W.loads caller.old) × ((found : List (ℕ × ℕ)) × (W.looks caller.new ≡ found ++ W.looks caller.old))) }
+        ensures same { IfOk result (λ _. TakesOneRecord W.Caller caller.old caller.new B.sizes) }
         ensures refused { IfErr result (λ e. RefusesInsertionThrough W.Caller P.QSBR tabled B.sizes caller.old caller.new e self.now.directory key) }
     {
         let shelf = self.shelf(rt);
@@ -195,7 +197,7 @@ impl<'d, P: GracePlan + Drop, B: Site, D: Deleter> RcuHash<'d, P, B, D> {
         callback: D,
     ) -> Result<Ticket, (Refusal, D)>
         ensures replaced { IfOk result (λ t. IsReplacedThrough W.Caller P.QSBR B.sizes caller.old caller.new self.now.directory key value t.0) }
-        ensures same { IfOk result (λ _. (W.loads caller.new ≡ W.loads caller.old) × ((found : List (ℕ × ℕ)) × (W.looks caller.new ≡ found ++ W.looks caller.old))) }
+        ensures same { IfOk result (λ _. TakesOneRecord W.Caller caller.old caller.new B.sizes) }
         ensures refused { IfErr result (λ e. (e.1 ≡ callback) × RefusesReplacementThrough W.Caller P.QSBR tabled B.sizes caller.old caller.new e.0 self.now.directory key) }
     {
         let shelf = self.shelf(rt);

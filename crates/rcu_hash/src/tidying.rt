@@ -10,6 +10,7 @@ ghost use Rattle.rcu_list.specs.domain.Waiting.{Synchronized};
 ghost use Rattle.rcu_list.specs.domain.Waiting.{FindsMore, IsExhausted};
 ghost use Rattle.rcu_hash.specs.Tidying.{ClearsNote, HasWaited, IsLeft, IsLinked, IsRecord, IsRefused, IsStopped, RetiresObject, Uses, objects_in, EndsTidying, StopsTidying};
 ghost use Rattle.rcu_hash.specs.Writers.{Each, HasNothing};
+ghost use Rattle.rcu_list.specs.live_rule.declared.view.Look.{Look};
 
 use crate::directory::{Desk, Naming};
 use crate::left::Left;
@@ -391,7 +392,7 @@ impl<'d, P: GracePlan + Drop, B: Site, D: Deleter> RcuHash<'d, P, B, D> {
         ensures done { IfNone result.stop (result.left ≡ 0) }
         ensures stopped { IfSome result.stop (λ e. StopsTidying W.Caller caller.old caller.new result.retired result.left result.jobs.items e) }
         ensures heard { Begins (W.heard caller.old) (W.heard caller.new) }
-        ensures same { (found : List (ℕ × ℕ)) × (W.looks caller.new ≡ found ++ W.looks caller.old) }
+        ensures same { (found : List Look) × (W.looks caller.new ≡ found ++ W.looks caller.old) }
     {
         if self.left.lock(rt).is_none() {
             return TidyEnd::done(0, jobs);

@@ -7,15 +7,16 @@ use Rattle.live_log.specs.declared.event.LiveEvent.{LiveEvent}
 use Rattle.live_log.specs.declared.event.LiveEvent.TheVariants.{Object}
 use Rattle.live_log.specs.declared.event.ObjectEvent.TheVariants.{Push, Replace, Cut}
 use Rattle.live_log.specs.Log.{Log, Begins, IsLiveRun, note_of, state_of}
-use Rattle.domain.specs.Waiting.{FindsMore}
 use Rattle.domain.specs.live_items.Retiring.{Queues}
 use Rattle.domain.specs.live_read.Hearing.{IsAfter, MakesLast}
 use Rattle.domain.specs.live_read.declared.caller.Caller.{Ghosts}
+use Rattle.domain.specs.live_rule.declared.rights.RecordRight.{RecordRight}
 use Rattle.domain.specs.live_rule.declared.view.Sizes.{Sizes}
 use Rattle.domain.specs.live_rule.declared.view.View.{View}
 use Rattle.domain.specs.live_table.Rights.{own_in}
 use Rattle.domain.specs.live_table.Steps.{Keeps, Went}
 use Rattle.domain.specs.live_write.Chains.{list_in}
+use Rattle.domain.specs.live_write.Searching.{TakesFor}
 use Rattle.rcu_list.specs.Maps.{map_of, next_rank, words_of}
 
 -- by the rule of chains, the list's chain, what its writer knew, and what the caller had seen and heard of
@@ -76,9 +77,13 @@ module _ {T W S : Type 0} (w : Ghosts W S) (qsbr : Bool) (allows : Log → LiveE
   IsRemoved key ticket = (left : ObjectId) × Removes qsbr allows c before.me.0.seen (w.seen old) (w.heard old) key left after.me.0.seen × HandsOver qsbr allows left (c % sizes.queues) ticket after.me.0.seen (w.heard new)
 
 module _ {W S : Type 0} (w : Ghosts W S) (old new : W) where
-  -- the last event of the log was made for the caller, and words may have been found for it
-  abbrev pub MakesLastAndFinds : Log → Type 0
-  MakesLastAndFinds log = MakesLast w old new log × FindsMore w old new
+  -- one record was taken for the caller, and nothing loaded but what tells that
+  abbrev pub TakesOneRecord : Sizes → Type 0
+  TakesOneRecord sizes = (w.loads new ≡ w.loads old) × ((x : RecordRight) × TakesFor w sizes old new x)
+
+  -- and the last event of the log was made for it
+  abbrev pub MakesLastAndTakes : Sizes → Log → Type 0
+  MakesLastAndTakes sizes log = MakesLast w old new log × TakesOneRecord sizes
 
   -- the log goes on from this one, and from all that the caller had seen and heard of
   abbrev pub GoesOnFrom : Bool → (Log → LiveEvent → Type 0) → Log → Log → Type 0
@@ -86,14 +91,6 @@ module _ {W S : Type 0} (w : Ghosts W S) (old new : W) where
 
 -- by a seat before and after, and by the number of its chain
 module _ {T : Type 0} (qsbr : Bool) (allows : Log → LiveEvent → Type 0) (before after : Seat T View) (was is : ℕ) where
-  -- the writer of a chain has only looked
-  abbrev pub OnlyLooks : Type 0
-  OnlyLooks = Keeps before after × Went qsbr allows before.me.0 before.me after.me × (is ≡ was)
-
-  -- which is of the same domain
-  abbrev pub OnlyLooksIn : {D : Type 0} → D → D → Type 0
-  OnlyLooksIn home home' = Keeps before after × Went qsbr allows before.me.0 before.me after.me × (is ≡ was) × (home' ≡ home)
-
   -- it comes back
   abbrev pub ComesBack : Type 0
   ComesBack = (is ≡ was) × Keeps before after × Went qsbr allows before.me.0 before.me after.me

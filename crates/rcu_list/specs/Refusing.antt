@@ -6,30 +6,34 @@ use Rattle.rcu_model.specs.declared.refusal.Refusal.TheVariants.{Closed, Exists,
 use Rattle.live_log.specs.declared.event.LiveEvent.{LiveEvent}
 use Rattle.live_log.specs.Log.{Log, Begins, IsLiveRun, closed_of}
 use Rattle.domain.specs.live_rule.Places.{cell_at, closed_at}
+use Rattle.domain.specs.live_rule.declared.view.Look.{Look}
+use Rattle.domain.specs.live_rule.declared.view.Look.TheVariants.{Loaded, Stored}
 use Rattle.domain.specs.live_rule.declared.view.Sizes.{Sizes}
 use Rattle.domain.specs.live_rule.declared.view.View.{View}
 use Rattle.domain.specs.live_read.Hearing.{IsAfter, Stays}
 use Rattle.domain.specs.live_read.declared.caller.Caller.{Ghosts}
 use Rattle.domain.specs.live_reclaim.Refusing.{RefusesRetirement}
-use Rattle.domain.specs.live_write.Searching.{AreTaken, IsUsedUp}
+use Rattle.domain.specs.live_write.Searching.{GetsNoRecord, TakesRecord}
 use Rattle.rcu_list.specs.Maps.{HasLastRank, map_of}
 
 module _ {W S : Type 0} (w : Ghosts W S) (qsbr : Bool) (allows : Log → LiveEvent → Type 0) (sizes : Sizes) (old new : W) (e : Refusal) where
   -- no record was had, as the words tell that the search for one found
   pub record FindsNoRecord : Type 0 where
     pub is : e ≡ PoolFull
-    pub found : List (ℕ × ℕ)
+    pub found : List Look
     pub looks : w.looks new ≡ found ++ w.looks old
-    pub why : IsUsedUp sizes found ⊎ AreTaken sizes found
+    pub why : GetsNoRecord sizes found
     pub after : IsAfter qsbr allows (w.seen old) (w.heard old) (w.heard new)
     pub same : Stays w old new × (w.loads new ≡ w.loads old)
 
-  -- a record was had; then the queue's closed word was loaded, by which the refusal goes; and the record was freed
+  -- One record was taken. Then the queue's closed word was loaded, by which the refusal goes, and that record was freed.
   pub record GivesBack (queue : ℕ) : Type 0 where
-    pub found : List (ℕ × ℕ)
+    pub found : List Look
     pub closed : ℕ
     pub cell : ℕ
-    pub looks : w.looks new ≡ (cell_at sizes cell 0, 0) ∷ (closed_at sizes queue, closed) ∷ (found ++ w.looks old)
+    pub number : ℕ
+    pub took : TakesRecord sizes cell number found
+    pub looks : w.looks new ≡ Stored (cell_at sizes cell 0) 0 ∷ Loaded (closed_at sizes queue) closed ∷ (found ++ w.looks old)
     pub at : Log
     pub told : closed ≡ closed_of queue at
     pub within : IsAfter qsbr allows (w.seen old) (w.heard old) at × Begins at (w.heard new) × IsLiveRun qsbr allows (w.heard new)

@@ -8,8 +8,9 @@ ghost use Rattle.live_log.specs.Log.{note_of};
 ghost use Rattle.live_log.specs.Tables.{HasKey};
 ghost use Rattle.domain.specs.live_table.Rights.{own_in};
 ghost use Rattle.domain.specs.live_read.Hearing.{OnlyHears, OnlyMakesLast};
+ghost use Rattle.domain.specs.live_write.Calls.{OnlyLooks};
 ghost use Rattle.domain.specs.live_write.Chains.{list_in};
-ghost use Rattle.rcu_list.specs.Calls.{BecomesList, ComesBack, GoesOnFrom, IsInserted, IsRemoved, IsReplaced, KeepsMap, MakesLastAndFinds, OnlyLooks};
+ghost use Rattle.rcu_list.specs.Calls.{BecomesList, ComesBack, GoesOnFrom, IsInserted, IsRemoved, IsReplaced, KeepsMap, MakesLastAndTakes};
 ghost use Rattle.rcu_list.specs.Maps.{map_of};
 ghost use Rattle.rcu_list.specs.Refusing.{RefusesInsertion, IsNotRemoved, IsNotReplaced};
 
@@ -100,7 +101,7 @@ impl<'d, P: GracePlan + Drop, K: MapRule, B: Site, D: Deleter> RcuList<'d, P, K,
         value: u64,
     ) -> Result<(), Refusal>
         ensures inserted { IfOk result (λ _. IsInserted W.Caller P.QSBR K.allows B.sizes caller.old caller.new self.old.chain.number self.old.chain.seat self.new.chain.seat key value) }
-        ensures same { IfOk result (λ _. (self.new.chain.number ≡ self.old.chain.number) × MakesLastAndFinds W.Caller caller.old caller.new self.new.chain.seat.me.0.seen) }
+        ensures same { IfOk result (λ _. (self.new.chain.number ≡ self.old.chain.number) × MakesLastAndTakes W.Caller caller.old caller.new B.sizes self.new.chain.seat.me.0.seen) }
         ensures refused { IfErr result (λ e. RefusesInsertion W.Caller P.QSBR K.allows B.sizes caller.old caller.new e self.old.chain.seat.me.0.seen self.old.chain.number key) }
         ensures kept { IfErr result (λ _. OnlyLooks P.QSBR K.allows self.old.chain.seat self.new.chain.seat self.old.chain.number self.new.chain.number) }
         ensures map { IfErr result (λ _. KeepsMap self.old.chain.seat self.new.chain.seat self.old.chain.number) }
@@ -126,7 +127,7 @@ impl<'d, P: GracePlan + Drop, K: MapRule, B: Site, D: Deleter> RcuList<'d, P, K,
         callback: D,
     ) -> Result<Ticket, (Refusal, D)>
         ensures replaced { IfOk result (λ t. IsReplaced W.Caller P.QSBR K.allows B.sizes caller.old caller.new self.old.chain.number self.old.chain.seat self.new.chain.seat key value t.0) }
-        ensures same { IfOk result (λ _. (self.new.chain.number ≡ self.old.chain.number) × MakesLastAndFinds W.Caller caller.old caller.new self.new.chain.seat.me.0.seen) }
+        ensures same { IfOk result (λ _. (self.new.chain.number ≡ self.old.chain.number) × MakesLastAndTakes W.Caller caller.old caller.new B.sizes self.new.chain.seat.me.0.seen) }
         ensures refused { IfErr result (λ e. (e.1 ≡ callback) × IsNotReplaced W.Caller P.QSBR K.allows B.sizes caller.old caller.new e.0 self.old.chain.number self.old.chain.seat key) }
         ensures kept { IfErr result (λ _. OnlyLooks P.QSBR K.allows self.old.chain.seat self.new.chain.seat self.old.chain.number self.new.chain.number) }
         ensures map { IfErr result (λ _. KeepsMap self.old.chain.seat self.new.chain.seat self.old.chain.number) }

@@ -11,8 +11,9 @@ ghost use Rattle.domain.specs.live_write.Chains.{list_in};
 ghost use Rattle.rcu_list.specs.Maps.{HasLastRank, map_of, next_rank};
 ghost use Rattle.rcu_list.specs.Preparing.{MayTakeOver, IsReadyFor};
 ghost use Rattle.rcu_list.specs.Refusing.{RefusesInsertion, RefusesSuccessor};
-ghost use Rattle.rcu_list.specs.Calls.{OnlyLooksIn};
 ghost use Rattle.domain.specs.Waiting.{FindsMore};
+ghost use Rattle.domain.specs.live_write.Calls.{OnlyLooksIn};
+ghost use Rattle.domain.specs.live_write.Searching.{TakesFor};
 
 use crate::rule::MapRule;
 use domain::{Caller, Chain, Deleter, Owned, Site};
@@ -64,6 +65,7 @@ pub fn prepare_insertion<
     ensures ready { IfOk result (λ o. IsReadyFor chain.new.seat.me.0 o.seat.me.0 chain.old.seat.me.0.seen chain.old.number key value) }
     ensures heard { IfOk result (λ _. IsAfter P.QSBR K.allows (W.seen caller.old) (W.heard caller.old) (W.heard caller.new)) }
     ensures same { IfOk result (λ _. Stays W.Caller caller.old caller.new × FindsMore W.Caller caller.old caller.new) }
+    ensures took { IfOk result (λ o. TakesFor W.Caller B.sizes caller.old caller.new o.seat.me.0.object) }
     ensures refused { IfErr result (λ e. RefusesInsertion W.Caller P.QSBR K.allows B.sizes caller.old caller.new e chain.old.seat.me.0.seen chain.old.number key) }
     ensures looked { OnlyLooksIn P.QSBR K.allows chain.old.seat chain.new.seat chain.old.number chain.new.number chain.old.home.now chain.new.home.now }
 {
@@ -97,6 +99,7 @@ pub fn prepare_replacement<
     ensures ready { IfOk result (λ r. MayTakeOver chain.new.seat.me.0 r.1.seat.me.0 key value r.0 × IsSome (map_of chain.old.seat.me.0.seen chain.old.number key)) }
     ensures heard { IfOk result (λ _. IsAfter P.QSBR K.allows (W.seen caller.old) (W.heard caller.old) (W.heard caller.new)) }
     ensures same { IfOk result (λ _. Stays W.Caller caller.old caller.new × FindsMore W.Caller caller.old caller.new) }
+    ensures took { IfOk result (λ r. TakesFor W.Caller B.sizes caller.old caller.new r.1.seat.me.0.object) }
     ensures refused { IfErr result (λ e. RefusesSuccessor W.Caller P.QSBR K.allows B.sizes caller.old caller.new e chain.old.seat.me.0.seen chain.old.number key) }
     ensures looked { OnlyLooksIn P.QSBR K.allows chain.old.seat chain.new.seat chain.old.number chain.new.number chain.old.home.now chain.new.home.now }
 {

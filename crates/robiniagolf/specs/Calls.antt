@@ -9,7 +9,7 @@ use Rattle.live_log.specs.Log.{IsLiveRun, seq_of}
 use Rattle.live_words.specs.live_rule.declared.view.View.{View}
 use Rattle.live_words.specs.live_rule.Steps.{Precedes}
 use Rattle.live_words.specs.live_groups.Groups.{IsClaimed}
-use Rattle.live_read.specs.Registering.{FindsAllClaimed, IsGivenBack, WasFree}
+use Rattle.live_read.specs.Registering.{FindsAllClaimed, IsGivenBack, TakesOne}
 use Rattle.live_read.specs.Sections as sections
 use Rattle.live_grace.specs.Answers.{IsCookieOf}
 use Rattle.live_words.specs.live_table.Rights.{looks_in}
@@ -88,7 +88,7 @@ MembIsIdle r = (r.core.depth ≡ 0) × (r.core.locks ≡ 0)
 -- a reader of the domain's table, in a slot that was found free and that it has now, with nothing open
 abbrev pub MembRegisters : MembDomain → MembReader → Type 0
 MembRegisters d r = (r.core.seat.table_id ≡ (arc_value d.domain.table).words.shared.table_id) × (r.core.slot < (arc_value d.domain.table).slots)
-    × WasFree r.core.slot r.core.seat.me.0.looks × IsClaimed false r.core.slot r.core.seat.me.0 × MembIsIdle r
+    × TakesOne r.core.slot r.core.seat.me.0.looks × IsClaimed false r.core.slot r.core.seat.me.0 × MembIsIdle r
 
 -- the bit of each slot was found set, as the domain's seat has heard since
 abbrev pub MembFindsAllClaimed : MembDomain → MembDomain → Type 0
@@ -163,7 +163,7 @@ QsbrIsIdle r = (r.core.depth ≡ 0) × (r.core.locks ≡ 0) × (r.core.word ≡ 
 -- a reader of the domain's table, in a slot that was found free and that it has now, with nothing open
 abbrev pub QsbrRegisters : QsbrDomain → QsbrReader → Type 0
 QsbrRegisters d r = (r.core.seat.table_id ≡ (arc_value d.domain.table).words.shared.table_id) × (r.core.slot < (arc_value d.domain.table).slots)
-    × WasFree r.core.slot r.core.seat.me.0.looks × IsClaimed true r.core.slot r.core.seat.me.0 × QsbrIsIdle r
+    × TakesOne r.core.slot r.core.seat.me.0.looks × IsClaimed true r.core.slot r.core.seat.me.0 × QsbrIsIdle r
 
 -- the bit of each slot was found set, as the domain's seat has heard since
 abbrev pub QsbrFindsAllClaimed : QsbrDomain → QsbrDomain → Type 0

@@ -1,4 +1,5 @@
 use Rattle.std.proofs.Common.{◌<◌, ◌∷◌, sym, refl, ap, ◌∙◌, subst, arith}
+use Rattle.live_words.specs.live_rule.declared.view.Look.TheVariants.{Loaded}
 use Rattle.live_words.specs.live_rule.declared.view.Sizes.{Sizes}
 use Rattle.live_words.specs.live_rule.declared.view.View.{View}
 use Rattle.live_words.specs.live_rule.Places.{finished_at}
@@ -16,7 +17,7 @@ returns-then-load_finished-mark-clause-exact g c =
     let key : Sizes = c.args.table.now.words.shared.key in
     let e = c.load_finished.ensures in
     let f = next_found g.P.GracePlan.QSBR g.K.ChainRule.allows key c.args.mark.now.counts c.loop-queue.queue c.load_finished.result c.args.seat.now.me c.loop-queue.seat.me c.load_finished.new.seat.me i.2 i.1 e.looked in
-    ((finished_at key c.loop-queue.queue, c.load_finished.result) ∷ f.0, f.1, record { queue = c.loop-queue.queue; low = omega arith; count = c.load_finished.result; rest = f.0; last = refl; less = c.if-load_finished-mark.true; others = f.2 })
+    (Loaded (finished_at key c.loop-queue.queue) c.load_finished.result ∷ f.0, f.1, record { queue = c.loop-queue.queue; low = omega arith; count = c.load_finished.result; rest = f.0; last = refl; less = c.if-load_finished-mark.true; others = f.2 })
 
 pub loop-queue-preserved : goal.loop-queue-preserved
 loop-queue-preserved g c =
@@ -31,7 +32,7 @@ loop-queue-preserved g c =
     let f = next_found g.P.GracePlan.QSBR g.K.ChainRule.allows key c.args.mark.now.counts c.loop-queue.queue c.load_finished.result c.args.seat.now.me c.loop-queue.seat.me c.load_finished.new.seat.me i.2 i.1 e.looked in (
       (e.seat.0 ∙ i.0.0, e.seat.1 ∙ i.0.1),
       (λ zero. absurd (omega arith)),
-      (λ _. ((finished_at key c.loop-queue.queue, c.load_finished.result) ∷ f.0, f.1, reached_more key c.args.mark.now.counts c.loop-queue.queue c.load_finished.result f.0 (omega arith) f.2)),
+      (λ _. (Loaded (finished_at key c.loop-queue.queue) c.load_finished.result ∷ f.0, f.1, reached_more key c.args.mark.now.counts c.loop-queue.queue c.load_finished.result f.0 (omega arith) f.2)),
       (λ _. e.count.2),
       (λ sizes known q under.
           let seen = c.args.mark.now.asked.value.me.0.seen in

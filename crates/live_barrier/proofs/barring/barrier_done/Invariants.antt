@@ -1,5 +1,6 @@
 use Rattle.std.proofs.Common.{◌≡◌, ◌<◌, ℕ, List, get_or}
 use Rattle.live_log.specs.Log.{Begins}
+use Rattle.live_words.specs.live_rule.declared.view.Look.{Look}
 use Rattle.live_words.specs.live_table.Steps.{IsKnown, Keeps}
 use Rattle.live_words.specs.live_queues.Queues.{HasNoOther}
 use Rattle.live_barrier.specs.Barrier.{AreReached, Found, HasRunTo}
@@ -11,7 +12,7 @@ abbrev pub invariant-loop-queue : goal.invariant-loop-queue
 invariant-loop-queue g l = let key = l.table.words.shared.key in
     Keeps l.fn.seat l.seat
     × (l.queue ≡ 0 → l.seat.me ≡ l.fn.seat.me)
-    × (0 < l.queue → (since : List (ℕ × ℕ)) × Found g.P.GracePlan.QSBR g.K.ChainRule.allows since l.fn.seat.me l.seat.me × AreReached key l.mark.counts l.queue since)
+    × (0 < l.queue → (since : List Look) × Found g.P.GracePlan.QSBR g.K.ChainRule.allows since l.fn.seat.me l.seat.me × AreReached key l.mark.counts l.queue since)
     × (0 < l.queue → HasNoOther key l.seat.me.0.seen)
     × (l.mark.asked.value.me.0.sizes ≡ key → IsKnown (Begins l.mark.asked.value.me.0.seen) l.fn.seat.me.0 → (q : ℕ) → q < l.queue → IsPassed l.mark.asked.value.me.0.seen l.seat.me.0.seen q)
     × (l.seat.me.0.sizes ≡ key)

@@ -2,6 +2,7 @@ use Rattle.std.proofs.Common.{◌≡◌, ℕ, List, [], ◌∷◌, length-set, s
 use Rattle.live_log.specs.Log.{Begins}
 use Rattle.live_log.proofs.Lemmas.{begins_trans}
 use Rattle.atomic_table.specs.declared.shared.Seat.{Seat}
+use Rattle.live_words.specs.live_rule.declared.view.Look.TheVariants.{Loaded}
 use Rattle.live_words.specs.live_rule.declared.view.Sizes.{Sizes}
 use Rattle.live_words.specs.live_rule.declared.view.View.{View}
 use Rattle.live_words.specs.live_rule.Places.{queued_at}
@@ -19,7 +20,7 @@ loop-queue-init g c =
     let z : List ℕ = 0 ∷ 0 ∷ 0 ∷ 0 ∷ 0 ∷ 0 ∷ 0 ∷ 0 ∷ [] in
     let asked = subst (λ (t : Seat _ View). Precedes old t.me.0.seen × Begins t.me.0.seen new.seen × (t.me.0.sizes ≡ old.sizes)) (sym same) ((e.looked.2.0, e.looked.2.1), ([], refl), ap (λ (v : View). v.sizes) e.looked.1) in (
       e.seat,
-      ((queued_at c.args.table.now.words.shared.key 0, c.load_queued.result) ∷ [], e.looked, ([], refl, refl)),
+      (Loaded (queued_at c.args.table.now.words.shared.key 0) c.load_queued.result ∷ [], e.looked, ([], refl, refl)),
       asked,
       refl,
       covers_more c.of-asked.result.value.me.0.seen c.of-asked.result.value.me.0.seen new.seen 0 c.load_queued.result z (omega arith) ([], refl) asked.1 e.count.0 (λ q low. absurd (omega arith)),
@@ -41,7 +42,7 @@ loop-queue-preserved g c =
     let new : View = c.load_queued-in-loop-queue.new.seat.me.0 in (
       (e.seat.0 ∙ i.0.0, e.seat.1 ∙ i.0.1),
       (
-        (queued_at c.args.table.now.words.shared.key c.loop-queue.queue, c.load_queued-in-loop-queue.result) ∷ i.1.0,
+        Loaded (queued_at c.args.table.now.words.shared.key c.loop-queue.queue) c.load_queued-in-loop-queue.result ∷ i.1.0,
         found_more g.P.GracePlan.QSBR g.K.ChainRule.allows i.1.0 c.args.seat.now.me c.loop-queue.seat.me c.load_queued-in-loop-queue.new.seat.me _ _ i.1.1 e.looked,
         noted_more c.args.table.now.words.shared.key c.loop-queue.counts c.loop-queue.queue c.load_queued-in-loop-queue.result i.1.0 (omega arith) i.1.2,
       ),

@@ -1,5 +1,6 @@
 use Rattle.std.proofs.Common.{◌≡◌, ◌<◌, ◌≤◌, length, ℕ, List, get_or}
 use Rattle.live_log.specs.Log.{Begins, line_of}
+use Rattle.live_words.specs.live_rule.declared.view.Look.{Look}
 use Rattle.live_words.specs.live_rule.Steps.{Precedes}
 use Rattle.live_words.specs.live_table.Steps.{Keeps}
 use Rattle.live_barrier.specs.Barrier.{AreNoted, Found}
@@ -9,7 +10,7 @@ use Rattle.live_barrier.proofs.barring.barrier_start.Given as goal
 abbrev pub invariant-loop-queue : goal.invariant-loop-queue
 invariant-loop-queue g l =
     Keeps l.fn.seat l.seat
-    × ((since : List (ℕ × ℕ)) × Found g.P.GracePlan.QSBR g.K.ChainRule.allows since l.fn.seat.me l.seat.me × AreNoted l.fn.table.words.shared.key l.counts l.queue since)
+    × ((since : List Look) × Found g.P.GracePlan.QSBR g.K.ChainRule.allows since l.fn.seat.me l.seat.me × AreNoted l.fn.table.words.shared.key l.counts l.queue since)
     × (Precedes l.fn.seat.me.0 l.asked.value.me.0.seen × Begins l.asked.value.me.0.seen l.seat.me.0.seen × (l.asked.value.me.0.sizes ≡ l.fn.seat.me.0.sizes))
     × (length l.counts ≡ 8)
     × ((q : ℕ) → q < l.queue → length (line_of l.asked.value.me.0.seen q) ≤ get_or l.counts q 0)

@@ -1,11 +1,12 @@
-use Rattle.std.proofs.Common.{ℕ, ◌+◌, ◌<◌, [], ◌∷◌, ◌∙◌, arith}
+use Rattle.std.proofs.Common.{ℕ, ◌+◌, ◌<◌, [], ◌∷◌, ◌∙◌, refl, arith}
+use Rattle.live_words.specs.live_rule.declared.view.Look.TheVariants.{Loaded}
 use Rattle.live_words.specs.live_rule.Places.{group_at}
 use Rattle.live_read.specs.Registering.{WasClaimed}
 use Rattle.live_read.proofs.Seeking.{claimed_more, finds_then, misses_then}
 use Rattle.live_read.proofs.claiming.claim_any.Goals as goal
 
 pub loop-slot-init : goal.loop-slot-init
-loop-slot-init g c = (c.look_group.ensures.seat, record { found = (group_at 0, c.look_group.result) ∷ []; sought = c.look_group.ensures.looked; is_so = λ r low. absurd (omega arith) })
+loop-slot-init g c = (c.look_group.ensures.seat, record { found = Loaded (group_at 0) c.look_group.result ∷ []; sought = c.look_group.ensures.looked; is_so = λ r low. absurd (omega arith); none_stored = refl })
 
 pub returns-then-claim_if_free-clause-claimed : goal.returns-then-claim_if_free-clause-claimed
 returns-then-claim_if_free-clause-claimed g c = let i = c.loop-slot.slot in

@@ -1,5 +1,6 @@
 use Rattle.std.proofs.Common.{◌≡◌, ℕ, ◌∷◌, sym, ap, ◌∙◌, arith}
 use Rattle.live_log.proofs.Lemmas.{begins_trans}
+use Rattle.live_words.specs.live_rule.declared.view.Look.TheVariants.{Loaded, Stored}
 use Rattle.live_words.specs.live_rule.declared.view.View.{View}
 use Rattle.live_words.specs.live_rule.declared.rights.WorkRight.TheVariants.{Works}
 use Rattle.live_words.specs.live_rule.Places.{finished_at, work_at}
@@ -30,5 +31,5 @@ returns-clause-begun g c =
       count.1,
       (later, heard),
       looked.2.2,
-      ap (λ (v : View). v.looks) looked.1 ∙ ap (λ (l : Looks). (finished_at key q, first) ∷ l) (ap (λ (v : View). v.looks) held.0.1 ∙ ap (λ (n : ℕ). (work_at key q, n) ∷ old.looks) zero),
+      ap (λ (v : View). v.looks) looked.1 ∙ ap (λ (l : Looks). Loaded (finished_at key q) first ∷ l) (ap (λ (v : View). v.looks) held.0.1 ∙ ap (λ (n : ℕ). Stored (work_at key q) 1 ∷ Loaded (work_at key q) n ∷ old.looks) zero),
     )

@@ -1,4 +1,5 @@
 use Rattle.std.proofs.Common.{◌+◌, ◌∷◌, ◌∙◌, sym, ap, arith, eq-eqb, ne_eqb, cond}
+use Rattle.live_words.specs.live_rule.declared.view.Look.TheVariants.{Loaded}
 use Rattle.live_words.specs.live_rule.declared.view.Sizes.{Sizes}
 use Rattle.live_words.specs.live_rule.Places.{cell_at}
 use Rattle.live_status.proofs.Loads.{found_more, used_more}
@@ -17,4 +18,4 @@ loop-cell-preserved g c =
       | else-load_header-ne0 w ↦ w.records-is ∙ sym (ap (λ b. cond b c.loop-cell.records (c.loop-cell.records + 1)) (eq-eqb c.load_header.result 0 w.if-load_header-ne0.false))
     ])
     i.1.2 in
-    ((e.seat.0 ∙ i.0.0, e.seat.1 ∙ i.0.1), ((cell_at key c.loop-cell.cell 0, c.load_header.result) ∷ i.1.0, found, used), elim c.if-load_header-ne0.branch [ then-load_header-ne0 w ↦ (let e = w.records-is in let b = i.2 in omega arith) | else-load_header-ne0 w ↦ (let e = w.records-is in let b = i.2 in omega arith) ])
+    ((e.seat.0 ∙ i.0.0, e.seat.1 ∙ i.0.1), (Loaded (cell_at key c.loop-cell.cell 0) c.load_header.result ∷ i.1.0, found, used), elim c.if-load_header-ne0.branch [ then-load_header-ne0 w ↦ (let e = w.records-is in let b = i.2 in omega arith) | else-load_header-ne0 w ↦ (let e = w.records-is in let b = i.2 in omega arith) ])

@@ -1,4 +1,5 @@
 use Rattle.std.proofs.Common.{◌∷◌, ℕ, ◌∙◌, ap, arith, length-set}
+use Rattle.live_words.specs.live_rule.declared.view.Look.TheVariants.{Loaded}
 use Rattle.live_words.specs.live_rule.declared.view.Sizes.{Sizes}
 use Rattle.live_words.specs.live_rule.declared.view.View.{View}
 use Rattle.live_words.specs.live_rule.Places.{finished_at, queued_at}
@@ -37,9 +38,9 @@ loop-queue-preserved g c =
     let l = longer c.load_finished-finished.new.seat.me.0.seen c.load_queued.new.seat.me.0.seen q y.looked.2.0 in
     let long = i.2 in
     let one = found_more qsbr allows i.1.0 c.args.seat.now.me c.loop-queue.seat.me c.load_finished-finished.new.seat.me (finished_at key q) c.load_finished-finished.result i.1.1 x.looked in
-    let two = found_more qsbr allows ((finished_at key q, c.load_finished-finished.result) ∷ i.1.0) c.args.seat.now.me c.load_finished-finished.new.seat.me c.load_queued.new.seat.me (queued_at key q) c.load_queued.result one y.looked in (
+    let two = found_more qsbr allows (Loaded (finished_at key q) c.load_finished-finished.result ∷ i.1.0) c.args.seat.now.me c.load_finished-finished.new.seat.me c.load_queued.new.seat.me (queued_at key q) c.load_queued.result one y.looked in (
       (y.seat.0 ∙ (x.seat.0 ∙ i.0.0), y.seat.1 ∙ (x.seat.1 ∙ i.0.1)),
-      ((queued_at key q, c.load_queued.result) ∷ (finished_at key q, c.load_finished-finished.result) ∷ i.1.0, two, waits_more key q c.load_queued.result c.load_finished-finished.result c.loop-queue.waiting i.1.0 _ (omega arith) (omega arith) i.1.2),
+      (Loaded (queued_at key q) c.load_queued.result ∷ Loaded (finished_at key q) c.load_finished-finished.result ∷ i.1.0, two, waits_more key q c.load_queued.result c.load_finished-finished.result c.loop-queue.waiting i.1.0 _ (omega arith) (omega arith) i.1.2),
       length-set c.loop-queue.waiting q _ ∙ i.2,
       none_more q _ c.loop-queue.waiting i.3,
       ap (λ (v : View). v.sizes) y.looked.1 ∙ (ap (λ (v : View). v.sizes) x.looked.1 ∙ i.4),

@@ -5,12 +5,14 @@ use Rattle.rcu_model.specs.Sets.{In}
 use Rattle.live_log.specs.Log.{Log, Begins}
 use Rattle.live_log.specs.Tables.{tabled}
 use Rattle.live_log.proofs.Lemmas.{begins_trans}
+use Rattle.rcu_list.specs.live_rule.declared.view.Look.{Look}
+use Rattle.rcu_list.specs.live_rule.declared.view.Look.TheVariants.{Loaded, Stored}
 use Rattle.rcu_list.specs.live_rule.Places.{hold_at}
 use Rattle.rcu_list.proofs.Lemmas.{stays_both}
 use Rattle.rcu_hash.specs.Tables.{IsAmong}
 use Rattle.rcu_hash.specs.Writers.{AreFrom, Each, IsAlone, IsEmpty}
 use Rattle.rcu_hash.proofs.Holds.{each_last, from_last}
-use Rattle.rcu_hash.proofs.Taking.{free_more, other_hold, taken_since}
+use Rattle.rcu_hash.proofs.Taking.{free_more, other_hold, place_of, taken_since}
 use Rattle.rcu_hash.proofs.making.hold_all.Goals as goal
 
 pub loop-number-preserved : goal.loop-number-preserved
@@ -20,18 +22,20 @@ loop-number-preserved g c =
     let had = c.loop-number.chains.items in let one = c.in_ok-hold_empty.field-0 in let first = c.args.first in
     let views : map (λ c. c.seat.me.0) c.push_reserved.new.self.items ≡ map (λ c. c.seat.me.0) had ++ one.seat.me.0 ∷ [] = ap (map (λ c. c.seat.me.0)) p.items ∙ map-append (λ c. c.seat.me.0) had (one ∷ []) in
     let goes : Begins (w.heard w0) (w.heard w2) = begins_trans (w.heard w0) (w.heard w1) (w.heard w2) i.6 e.heard.after_heard in
-    let many = i.1 in let number = one.owns.2 in let same = e.same in (
+    let many = i.1 in let number = one.owns.2 in let same = e.same in let hold = hold_at g.B.Site.sizes (first + c.loop-number.number) in (
       let len = p.len in let was = i.0 in omega arith,
       ap length p.items ∙ (length-append had (one ∷ []) ∙ omega arith),
       let same' = p.capacity in let was = i.2 in omega arith,
       stays_both w w0 w1 w2 i.3 same.0,
       same.1 ∙ i.4,
       (
-        (hold_at g.B.Site.sizes (first + c.loop-number.number), 0) ∷ i.5.0,
-        e.held.4 ∙ ap (λ (l : List (ℕ × ℕ)). (hold_at g.B.Site.sizes (first + c.loop-number.number), 0) ∷ l) i.5.1,
+        Stored hold 1 ∷ Loaded hold 0 ∷ i.5.0,
+        e.held.4 ∙ ap (λ (l : List Look). Stored hold 1 ∷ Loaded hold 0 ∷ l) i.5.1,
         λ x h. ⊎_elim
-            (λ (is : (hold_at g.B.Site.sizes (first + c.loop-number.number), 0) ≡ x). (first + c.loop-number.number, omega arith, ap (λ (y : ℕ × ℕ). y.0) (sym is)))
-            (λ (was : In i.5.0 x). let k = i.5.2 x was in let low = k.1 in (k.0, omega (arith, low), k.2))
+            (λ (is : Stored hold 1 ≡ x). (first + c.loop-number.number, omega arith, ap place_of (sym is)))
+            (⊎_elim
+            (λ (is : Loaded hold 0 ≡ x). (first + c.loop-number.number, omega arith, ap place_of (sym is)))
+            (λ (was : In i.5.0 x). let k = i.5.2 x was in let low = k.1 in (k.0, omega (arith, low), k.2)))
             h,
       ),
       goes,
@@ -50,7 +54,7 @@ returns-in_err-hold_empty-clause-same g c =
     let w = g.W.Caller in let w0 = c.args.caller.now in let i = c.loop-number.invariant in let same = c.hold_empty.ensures.same in (
       stays_both w w0 c.loop-number.caller c.hold_empty.new.caller i.3 same.0,
       same.1 ∙ i.4,
-      (same.2.0 ++ i.5.0, same.2.1 ∙ (ap (λ (l : List (ℕ × ℕ)). same.2.0 ++ l) i.5.1 ∙ sym (append_assoc same.2.0 i.5.0 (w.looks w0)))),
+      (same.2.0 ++ i.5.0, same.2.1 ∙ (ap (λ (l : List Look). same.2.0 ++ l) i.5.1 ∙ sym (append_assoc same.2.0 i.5.0 (w.looks w0)))),
     )
 
 pub returns-in_err-hold_empty-clause-refused : goal.returns-in_err-hold_empty-clause-refused

@@ -7,6 +7,8 @@ use Rattle.rcu_list.specs.live_read.Hearing.{IsAfter}
 use Rattle.rcu_list.specs.live_rule.Places.{hold_at}
 use Rattle.rcu_list.specs.live_rule.Seats.{lent_chains}
 use Rattle.rcu_list.specs.live_rule.declared.rights.ChainRight.{ChainRight}
+use Rattle.rcu_list.specs.live_rule.declared.view.Look.{Look}
+use Rattle.rcu_list.specs.live_rule.declared.view.Look.TheVariants.{Loaded, Stored}
 use Rattle.rcu_list.specs.live_rule.declared.view.View.{View}
 use Rattle.rcu_list.specs.live_table.Rights.{IsListed, own_in}
 use Rattle.rcu_list.specs.live_write.Chains.{list_in}
@@ -15,15 +17,19 @@ use Rattle.rcu_hash.specs.Refusing.{IsInUse}
 use Rattle.rcu_hash.proofs.making.hold_empty.Goals.{then-note-ne0-via-then-note-ne0, then-note-ne0-via-else-note-ne0+then-len-ne0}
 use Rattle.rcu_hash.proofs.making.hold_empty.Goals as goal
 
-other_word : (place : ℕ) → ◌≡◌ {A = ℕ × ℕ} (place, 1) (place, 0) → ⊥
-other_word place same = let words : 1 ≡ 0 = ap (λ (x : ℕ × ℕ). x.1) same in absurd (omega (arith, words))
+abbrev word_of : Look → ℕ
+word_of (Loaded a n) = n
+word_of (Stored a n) = n
+
+other_word : (place : ℕ) → Loaded place 1 ≡ Loaded place 0 → ⊥
+other_word place same = let words : 1 ≡ 0 = ap word_of same in absurd (omega (arith, words))
 
 -- its hold word told that it has a writer
 pub returns-in-Err-clause-refused : goal.returns-in-Err-clause-refused
 returns-in-Err-clause-refused g c =
     let w = g.W.Caller in let place = hold_at g.B.Site.sizes c.args.chain in ⊎_elim
     (λ none. let over = none.1 in let low = c.requires in absurd (omega (arith, over, low)))
-    (λ busy. (refl, record { chain = c.args.chain; one = refl; found = (place, 1) ∷ []; looks = busy.2; why = inl (inl refl, λ h. ⊎_elim (λ same. absurd (other_word place same)) (λ none. absurd none) h) }))
+    (λ busy. (refl, record { chain = c.args.chain; one = refl; found = Loaded place 1 ∷ []; looks = busy.2; why = inl (inl refl, λ h. ⊎_elim (λ same. absurd (other_word place same)) (λ none. absurd none) h) }))
     c.in-Err.ensures.refused
 
 pub returns-in-Err-clause-heard : goal.returns-in-Err-clause-heard
@@ -32,7 +38,7 @@ returns-in-Err-clause-heard g c = c.chain.ensures.heard c.requires
 pub returns-in-Err-clause-same : goal.returns-in-Err-clause-same
 returns-in-Err-clause-same g c =
     let w = g.W.Caller in let e = c.chain.ensures in let place = hold_at g.B.Site.sizes c.args.chain in
-    (e.same.0, e.same.1, ⊎_elim (λ none. ([], ap w.looks none.2)) (λ busy. ((place, 1) ∷ [], busy.2)) c.in-Err.ensures.refused)
+    (e.same.0, e.same.1, ⊎_elim (λ none. ([], ap w.looks none.2)) (λ busy. (Loaded place 1 ∷ [], busy.2)) c.in-Err.ensures.refused)
 
 -- what it links and which note it has, in the log of which the caller heard
 known : (chain : ℕ) (v : View) (log : Log) → log ≡ v.seen → (own_in v.chains).chain ≡ chain → IsListed v → ((state_of log).chain chain ≡ list_in v) × (chain_note chain log ≡ (own_in v.chains).note)
@@ -54,7 +60,7 @@ returns-then-note-ne0-clause-refused g c =
       run = t.run;
     }) in
     let used : IsInUse c.args.chain log = elim c.then-note-ne0.branch [ then-note-ne0-via-then-note-ne0 b ↦ inr (λ none. b.if-note-ne0.true (c.note.ensures.note.0 ∙ (sym is.1 ∙ none))) | then-note-ne0-via-else-note-ne0+then-len-ne0 b ↦ inl (λ none. b.if-len-ne0.true (b.len.ensures ∙ ap length (ap (λ (x : ChainRight). x.objects) own ∙ (sym is.0 ∙ none)))) ] in
-    (refl, record { chain = c.args.chain; one = refl; found = (place, 0) ∷ []; looks = h.same.0.1 ∙ c.in-Ok.ensures.held.2; why = inr (record { at = log; after = after; before = ([], refl); so = used }) })
+    (refl, record { chain = c.args.chain; one = refl; found = Stored place 1 ∷ Loaded place 0 ∷ []; looks = h.same.0.1 ∙ c.in-Ok.ensures.held.2; why = inr (record { at = log; after = after; before = ([], refl); so = used }) })
 
 pub returns-then-note-ne0-clause-heard : goal.returns-then-note-ne0-clause-heard
 returns-then-note-ne0-clause-heard g c =
@@ -68,7 +74,7 @@ returns-then-note-ne0-clause-heard g c =
 pub returns-then-note-ne0-clause-same : goal.returns-then-note-ne0-clause-same
 returns-then-note-ne0-clause-same g c =
     let w = g.W.Caller in let w0 = c.args.caller.now in let w1 = c.chain.new.caller in let w2 = c.hear.new.caller in let e = c.chain.ensures in let h = c.hear.ensures.same in let place = hold_at g.B.Site.sizes c.args.chain in
-    (stays_both w w0 w1 w2 e.same.0 h.0.0, h.1 ∙ e.same.1, ((place, 0) ∷ [], h.0.1 ∙ c.in-Ok.ensures.held.2))
+    (stays_both w w0 w1 w2 e.same.0 h.0.0, h.1 ∙ e.same.1, (Stored place 1 ∷ Loaded place 0 ∷ [], h.0.1 ∙ c.in-Ok.ensures.held.2))
 
 pub returns-clause-heard : goal.returns-clause-heard
 returns-clause-heard g c =
@@ -82,7 +88,7 @@ returns-clause-heard g c =
 pub returns-clause-same : goal.returns-clause-same
 returns-clause-same g c =
     let w = g.W.Caller in let w0 = c.args.caller.now in let w1 = c.chain.new.caller in let w2 = c.hear.new.caller in let e = c.chain.ensures in let h = c.hear.ensures.same in let place = hold_at g.B.Site.sizes c.args.chain in
-    (stays_both w w0 w1 w2 e.same.0 h.0.0, h.1 ∙ e.same.1, ((place, 0) ∷ [], h.0.1 ∙ c.in-Ok.ensures.held.2))
+    (stays_both w w0 w1 w2 e.same.0 h.0.0, h.1 ∙ e.same.1, (Stored place 1 ∷ Loaded place 0 ∷ [], h.0.1 ∙ c.in-Ok.ensures.held.2))
 
 pub returns-clause-held : goal.returns-clause-held
 returns-clause-held g c =

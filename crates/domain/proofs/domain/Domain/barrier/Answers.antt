@@ -1,11 +1,12 @@
-use Rattle.std.proofs.Common.{◌≡◌, ◌++◌, ◌∙◌, [], ℕ, List, ap, append_assoc, sym}
+use Rattle.std.proofs.Common.{◌≡◌, ◌++◌, ◌∙◌, [], List, ap, append_assoc, sym}
 use Rattle.live_log.specs.Log.{Log}
 use Rattle.live_log.proofs.Lemmas.{begins_trans}
 use Rattle.domain.proofs.domain.Domain.barrier.Goals as goal
+use Rattle.live_words.specs.live_rule.declared.view.Look.{Look}
 
 -- what was looked at since then, after one more look
-one_more : (since first start mid end since' : List (ℕ × ℕ)) → mid ≡ since ++ (first ++ start) → end ≡ since' ++ mid → end ≡ (since' ++ since) ++ (first ++ start)
-one_more since first start mid end since' a b = b ∙ (ap (λ (l : List (ℕ × ℕ)). since' ++ l) a ∙ sym (append_assoc since' since (first ++ start)))
+one_more : (since first start mid end since' : List Look) → mid ≡ since ++ (first ++ start) → end ≡ since' ++ mid → end ≡ (since' ++ since) ++ (first ++ start)
+one_more since first start mid end since' a b = b ∙ (ap (λ (l : List Look). since' ++ l) a ∙ sym (append_assoc since' since (first ++ start)))
 
 pub loop-init : goal.loop-init
 loop-init g c =

@@ -1,10 +1,11 @@
-use Rattle.std.proofs.Common.{◌≡◌, ◌++◌, ℕ, List}
+use Rattle.std.proofs.Common.{◌≡◌, ◌++◌, List}
 use Rattle.live_log.specs.Log.{Begins}
 use Rattle.live_barrier.specs.Barrier.{AreNoted}
 use Rattle.live_read.specs.Hearing.{IsAfter, Stays}
 use Rattle.domain.proofs.domain.Domain.barrier.Given as goal
+use Rattle.live_words.specs.live_rule.declared.view.Look.{Look}
 
 abbrev pub invariant-loop : goal.invariant-loop
 invariant-loop g l = Stays g.W.Caller l.fn.caller l.caller × (g.W.Caller.loads l.caller ≡ g.W.Caller.loads l.fn.caller) × Begins l.mark.asked.value.me.0.seen (g.W.Caller.heard l.caller)
     × IsAfter g.P.GracePlan.QSBR g.K.ChainRule.allows (g.W.Caller.seen l.fn.caller) (g.W.Caller.heard l.fn.caller) (g.W.Caller.heard l.caller)
-    × ((since first : List (ℕ × ℕ)) × (g.W.Caller.looks l.caller ≡ since ++ (first ++ g.W.Caller.looks l.fn.caller)) × AreNoted g.B.Site.sizes l.mark.counts g.B.Site.sizes.queues first)
+    × ((since first : List Look) × (g.W.Caller.looks l.caller ≡ since ++ (first ++ g.W.Caller.looks l.fn.caller)) × AreNoted g.B.Site.sizes l.mark.counts g.B.Site.sizes.queues first)

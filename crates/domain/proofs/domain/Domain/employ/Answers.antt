@@ -2,6 +2,8 @@ use Rattle.std.proofs.Common.{rules, ◌≡◌, ℕ, List, ◌∷◌, ◌++◌, 
 use Rattle.rcu_model.specs.declared.event.ObjectId.{ObjectId}
 use Rattle.live_log.specs.Log.{Log, Begins}
 use Rattle.live_log.proofs.Lemmas.{begins_trans, closed_stays}
+use Rattle.live_words.specs.live_rule.declared.view.Look.{Look}
+use Rattle.live_words.specs.live_rule.declared.view.Look.TheVariants.{Loaded, Stored}
 use Rattle.live_words.specs.live_rule.declared.view.Sizes.{Sizes}
 use Rattle.live_words.specs.live_rule.declared.view.View.{View}
 use Rattle.live_words.specs.live_rule.Places.{finished_at, work_at}
@@ -24,7 +26,7 @@ returns-clause-worked g c =
     let left = c.leave.ensures.left in
     let finds = w.seat.finds.0 in
     let key : c.deref.result.now.words.shared.key ≡ g.B.Site.sizes = search rules in
-    let look : ℕ × ℕ = (work_at g.B.Site.sizes q, left_by c.work_until-stop.result.1) in
+    let look : Look = Stored (work_at g.B.Site.sizes q) (left_by c.work_until-stop.result.1) in
     let more : Begins between last = left.2.0 in
     let later : Begins start last = begins_trans start between last w.seat.later more in
     let lists = list_later g.D.Deleter.answers g.P.GracePlan.QSBR g.K.ChainRule.allows q between last first n items items more left.2.2 refl w.list in
@@ -56,5 +58,5 @@ returns-clause-worked g c =
         used_up = u.used_up;
       };
       looks = ap (λ (v : View). v.looks) left.1
-          ∙ ap (λ (l : Looks). look ∷ l) (finds.1 ∙ ap (λ (l : Looks). finds.0 ++ l) (begun.6 ∙ ap (λ (k : Sizes). (finished_at k q, first) ∷ (work_at k q, 0) ∷ old.looks) key));
+          ∙ ap (λ (l : Looks). look ∷ l) (finds.1 ∙ ap (λ (l : Looks). finds.0 ++ l) (begun.6 ∙ ap (λ (k : Sizes). Loaded (finished_at k q) first ∷ Stored (work_at k q) 1 ∷ Loaded (work_at k q) 0 ∷ old.looks) key));
     }

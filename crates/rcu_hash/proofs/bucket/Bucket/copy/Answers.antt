@@ -7,6 +7,7 @@ use Rattle.live_log.specs.Tables.{tabled}
 use Rattle.live_log.proofs.Lemmas.{begins_trans, run_of, tabled_maps}
 use Rattle.rcu_list.specs.live_rule.Seats.{lent_chains}
 use Rattle.rcu_list.specs.live_rule.declared.rights.ChainRight.{ChainRight}
+use Rattle.rcu_list.specs.live_rule.declared.view.Look.{Look}
 use Rattle.rcu_list.specs.live_rule.declared.view.View.{View}
 use Rattle.rcu_list.specs.live_write.Chains.{list_in}
 use Rattle.rcu_list.proofs.live_write.Lemmas.{went_both}
@@ -46,7 +47,7 @@ returns-in_err-copy_key-clause-looks g c =
     let w = g.W.Caller in let i = c.loop-index.invariant in let e = c.in_err-copy_key.ensures in let p = err_from_is_err_and c.from_residual.result c.from_residual.ensures.1 in
     let found = e.looks.0 in let before = i.looks.0 in (
       found ++ before,
-      e.looks.1 ∙ (ap (λ (l : List (ℕ × ℕ)). found ++ l) i.looks.1 ∙ sym (append_assoc found before (w.looks c.args.caller.now))),
+      e.looks.1 ∙ (ap (λ (l : List Look). found ++ l) i.looks.1 ∙ sym (append_assoc found before (w.looks c.args.caller.now))),
       rw p.1 (λ is. found_more g.B.Site.sizes found before (e.looks.2 (sym p.2 ∙ is))),
     )
 
@@ -78,7 +79,7 @@ loop-index-preserved g c =
             copied = subst (IsCopied note os buckets number before (index + 1)) (sym (k.copied ∙ ap (λ (l : List ℕ). es ++ (slice_index_or l 0 0, slice_index_or l 1 0) ∷ []) words)) (copied_more note os buckets number before index es s.0 at i.copied falls (ap (λ (n : ℕ). n % buckets) (sym key) ∙ z.if-words-buckets.true));
             ranked = subst (AreRanked 0) (sym k.ranks) (subst (λ (n : ℕ). AreRanked 0 (ranks ++ n ∷ [])) many (more_ranked 0 ranks i.ranked));
             heard = begins_trans (w.heard w0) (w.heard w1) (w.heard w2) i.heard k.heard;
-            looks = (k.looks.0 ++ i.looks.0, k.looks.1 ∙ (ap (λ (l : List (ℕ × ℕ)). k.looks.0 ++ l) i.looks.1 ∙ sym (append_assoc k.looks.0 i.looks.0 (w.looks w0))));
+            looks = (k.looks.0 ++ i.looks.0, k.looks.1 ∙ (ap (λ (l : List Look). k.looks.0 ++ l) i.looks.1 ∙ sym (append_assoc k.looks.0 i.looks.0 (w.looks w0))));
             same = (stays_both w w0 w1 w2 i.same.0 k.same.0, k.same.1 ∙ i.same.1);
             walked = (i.walked.0, (e.walked.0.0 ∙ i.walked.1.0, e.walked.0.1 ∙ i.walked.1.1), went, e.walked.2 ∙ i.walked.3, e.walked.3 ∙ i.walked.4);
           }))

@@ -7,6 +7,7 @@ use Rattle.live_log.specs.Tables.{IsFree, tabled}
 use Rattle.live_log.proofs.Lemmas.{begins_trans, free_takes, tabled_maps}
 use Rattle.rcu_list.specs.live_rule.Seats.{lent_chains}
 use Rattle.rcu_list.specs.live_rule.declared.rights.ChainRight.{ChainRight}
+use Rattle.rcu_list.specs.live_rule.declared.view.Look.{Look}
 use Rattle.rcu_list.specs.live_rule.declared.view.View.{View}
 use Rattle.rcu_list.specs.live_table.Rights.{own_in}
 use Rattle.rcu_list.specs.live_read.Hearing.{MakesLast}
@@ -112,8 +113,8 @@ returns-clause-inserted g c =
 
 pub returns-clause-heard : goal.returns-clause-heard
 returns-clause-heard g c =
-    let h = c.hear.ensures.same.0 in let r = c.in_ok-owned.ensures.same in let p = c.push.ensures.same in
-    (p.2 ∙ (r.1.0 ∙ h.1), (r.1.1.0, p.1 ∙ (r.1.1.1 ∙ ap (λ (l : List (ℕ × ℕ)). r.1.1.0 ++ l) h.0.1)))
+    let h = c.hear.ensures.same.0 in let r = c.in_ok-owned.ensures.same in let t = c.in_ok-owned.ensures.took in let p = c.push.ensures.same in
+    (p.2 ∙ (r.1.0 ∙ h.1), (c.in_ok-owned.owned.seat.me.0.object, (t.0, p.1 ∙ (t.1 ∙ ap (λ (l : List Look). t.0 ++ l) h.0.1), t.2)))
 
 pub returns-clause-changes : goal.returns-clause-changes
 returns-clause-changes g c =

@@ -9,11 +9,15 @@ use Rattle.live_log.specs.Tables.{IsFree, tabled}
 use Rattle.live_log.proofs.Lemmas.{begins_trans, free_takes, tabled_maps}
 use Rattle.rcu_list.specs.live_rule.Seats.{lent_chains}
 use Rattle.rcu_list.specs.live_rule.declared.rights.ChainRight.{ChainRight}
+use Rattle.rcu_list.specs.live_rule.declared.rights.RecordRight.{RecordRight}
+use Rattle.rcu_list.specs.live_rule.declared.view.Look.{Look}
+use Rattle.rcu_list.specs.live_rule.declared.view.Look.TheVariants.{Loaded, Stored}
 use Rattle.rcu_list.specs.live_rule.declared.view.View.{View}
-use Rattle.rcu_list.specs.live_table.Rights.{cell_in, own_in}
+use Rattle.rcu_list.specs.live_table.Rights.{cell_in, object_in, own_in}
 use Rattle.rcu_list.specs.live_items.Retiring.{Queues}
 use Rattle.rcu_list.proofs.live_read.Lemmas.{stays_makes}
 use Rattle.rcu_list.specs.live_write.Chains.{list_in}
+use Rattle.rcu_list.specs.live_write.Searching.{TakesRecord}
 use Rattle.rcu_list.proofs.live_write.Lemmas.{index_has}
 use Rattle.std.proofs.lemmas.Option.{slice_get_within}
 use Rattle.rcu_list.specs.live_rule.Places.{cell_at, closed_at}
@@ -132,8 +136,8 @@ returns-in-Ok-answer-clause-replaced g c =
 
 pub returns-in-Ok-answer-clause-heard : goal.returns-in-Ok-answer-clause-heard
 returns-in-Ok-answer-clause-heard g c =
-    let h = c.hear.ensures.same.0 in let r = c.in-Ok.ensures.same in let z = c.in-Ok-answer.ensures.same.0 in
-    (z.2 ∙ (r.1.0 ∙ h.1), (r.1.1.0, z.1 ∙ (r.1.1.1 ∙ ap (λ (l : List (ℕ × ℕ)). r.1.1.0 ++ l) h.0.1)))
+    let h = c.hear.ensures.same.0 in let r = c.in-Ok.ensures.same in let t = c.in-Ok.ensures.took in let z = c.in-Ok-answer.ensures.same.0 in
+    (z.2 ∙ (r.1.0 ∙ h.1), (c.in-Ok.ready.1.seat.me.0.object, (t.0, z.1 ∙ (t.1 ∙ ap (λ (l : List Look). t.0 ++ l) h.0.1), t.2)))
 
 pub returns-in-Err-clause-refused : goal.returns-in-Err-clause-refused
 returns-in-Err-clause-refused g c =
@@ -160,10 +164,12 @@ returns-clause-refused g c =
     (by_second c.in-Err-answer.ensures.refused
     (λ m. let few : length (list_in three.seat.me.0) ≤ c.in-Ok.ready.0 = m.1 in omega arith)
     (λ k. let r = k.1 in record {
-      found = a.same.1.1.0;
+      found = a.took.0;
+      number = (object_in c.in-Ok.ready.1.seat.me.0.object).0;
+      took = subst (λ (y : RecordRight). TakesRecord sizes (cell_in y) (object_in c.in-Ok.ready.1.seat.me.0.object).0 a.took.0) (ap (λ o. o.seat.me.0.object) (sym c.in-Err-answer.ensures.back.0)) a.took.2;
       closed = r.closed;
       cell = cell_in c.in-Err-answer.owned.seat.me.0.object;
-      looks = d.freed ∙ ap (λ (l : List (ℕ × ℕ)). (cell_at sizes (cell_in c.in-Err-answer.owned.seat.me.0.object) 0, 0) ∷ l) (r.looked ∙ (λ i. (closed_at sizes (number i % sizes.queues), r.closed) ∷ a.same.1.1.1 i));
+      looks = d.freed ∙ ap (λ (l : List Look). Stored (cell_at sizes (cell_in c.in-Err-answer.owned.seat.me.0.object) 0) 0 ∷ l) (r.looked ∙ (λ i. Loaded (closed_at sizes (number i % sizes.queues)) r.closed ∷ a.took.1 i));
       at = w.heard w3;
       told = r.told ∙ ap (λ (m : ℕ). closed_of (m % sizes.queues) (w.heard w3)) number;
       within = (

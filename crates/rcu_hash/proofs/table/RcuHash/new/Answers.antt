@@ -6,6 +6,7 @@ use Rattle.live_log.specs.declared.event.ObjectEvent.TheVariants.{Push}
 use Rattle.live_log.specs.Log.{Log, Begins}
 use Rattle.live_log.specs.Tables.{tabled}
 use Rattle.live_log.proofs.Lemmas.{begins_trans}
+use Rattle.rcu_list.specs.live_rule.declared.view.Look.TheVariants.{Loaded, Stored}
 use Rattle.rcu_list.specs.live_rule.Places.{hold_at}
 use Rattle.rcu_list.specs.live_table.Rights.{object_in}
 use Rattle.rcu_hash.specs.Directories.{LeadsTo, directed_map}
@@ -15,11 +16,11 @@ use Rattle.rcu_hash.specs.Naming.{words_by}
 use Rattle.rcu_hash.specs.Refusing.{IsUnused}
 use Rattle.rcu_hash.specs.Tables.{IsAmong, bucket_of}
 use Rattle.rcu_hash.specs.Writers.{Each, HasNoNote, HasNote, HasNothing, IsEmpty, Noted}
-use Rattle.rcu_hash.proofs.Copies.{found_more}
+use Rattle.rcu_hash.proofs.Copies.{found_more, none_free}
 use Rattle.rcu_hash.proofs.Emptying.{writes_weaker}
 use Rattle.rcu_hash.proofs.Filling.{notes_weaker}
 use Rattle.rcu_hash.proofs.Holds.{each_map, looks_both, not_full, pair_from, pair_nothing}
-use Rattle.rcu_hash.proofs.Taking.{during_earlier, during_since, taken_since}
+use Rattle.rcu_hash.proofs.Taking.{during_earlier, during_since, place_of, taken_since}
 use Rattle.rcu_hash.proofs.table.RcuHash.new.Goals as goal
 
 pub returns-in_err-chains-clause-looks : goal.returns-in_err-chains-clause-looks
@@ -54,7 +55,7 @@ pub returns-in-Err-clause-looks : goal.returns-in-Err-clause-looks
 returns-in-Err-clause-looks g c =
     let w = g.W.Caller in let one = c.hold_empty.ensures.same.2 in let two = c.hold_all.ensures.same.2 in let three = c.in-Err.ensures.looks in
     let held = looks_both (w.looks c.args.caller.now) (w.looks c.hold_empty.new.caller) (w.looks c.hold_all.new.caller) one.0 two.0 one.1 two.1 in
-    (three.0 ++ (two.0 ++ one.0), looks_both (w.looks c.args.caller.now) (w.looks c.hold_all.new.caller) (w.looks c.alloc.new.caller) (two.0 ++ one.0) three.0 held three.1, λ full. found_more g.B.Site.sizes three.0 (two.0 ++ one.0) three.2.1)
+    (three.0 ++ (two.0 ++ one.0), looks_both (w.looks c.args.caller.now) (w.looks c.hold_all.new.caller) (w.looks c.alloc.new.caller) (two.0 ++ one.0) three.0 held three.1, λ full. found_more g.B.Site.sizes three.0 (two.0 ++ one.0) (none_free g.B.Site.sizes three.0 three.2.1))
 
 -- what the caller hears of in a call that is refused comes after all that it had heard of
 pub returns-in_err-chains-clause-later : goal.returns-in_err-chains-clause-later
@@ -173,10 +174,11 @@ returns-in_err-chains-2-clause-refused g c =
     rw p.1 (inl (
       p.2 ∙ no.0,
       inr (taken_since w g.P.GracePlan.QSBR tabled sizes (IsAmong first many) (λ k. (k ≡ directory) ⊎ IsAmong first many k) (λ k among. inr among) w0 w1 w2 a.same.0.0 a.heard.after_heard
-          ((hold_at sizes directory, 0) ∷ []) c.in_ok-own.ensures.held.4
-          (λ k among h. ⊎_elim
-          (λ (same : ◌≡◌ {A = ℕ × ℕ} (hold_at sizes directory, 0) (hold_at sizes k, 0)). let place : hold_at sizes directory ≡ hold_at sizes k = ap (λ (x : ℕ × ℕ). x.0) same in
+          (Stored (hold_at sizes directory) 1 ∷ Loaded (hold_at sizes directory) 0 ∷ []) c.in_ok-own.ensures.held.4
+          (λ k among h. ⊎_elim (λ (other : Stored (hold_at sizes directory) 1 ≡ Loaded (hold_at sizes k) 0). cc)
+          (⊎_elim
+          (λ (same : Loaded (hold_at sizes directory) 0 ≡ Loaded (hold_at sizes k) 0). let place : hold_at sizes directory ≡ hold_at sizes k = ap place_of same in
           ⊎_elim (λ under. absurd (omega (arith, place, under, among))) (λ over. absurd (omega (arith, place, over, among))) out)
-          (λ none. absurd none) h)
+          (λ none. absurd none)) h)
           no.1),
     ))

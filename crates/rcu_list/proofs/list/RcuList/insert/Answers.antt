@@ -78,6 +78,6 @@ returns-clause-same g c =
       p.list.3 ∙ a.looked.2,
       (
         stays_makes g.W.Caller c.args.caller.now c.prepare_insertion.new.caller c.push.new.caller c.push.new.self.seat.me.0.seen s.0 m.0,
-        (m.2 ∙ s.1.0, (s.1.1.0, m.1 ∙ s.1.1.1)),
+        (m.2 ∙ s.1.0, (c.in_ok-owned.owned.seat.me.0.object, (a.took.0, m.1 ∙ a.took.1, a.took.2))),
       ),
     )

@@ -6,12 +6,16 @@ use Rattle.live_log.specs.Keys.{key_of}
 use Rattle.live_log.specs.Log.{Log, Begins, closed_of, note_of}
 use Rattle.live_log.specs.Maps.{IsUnnoted}
 use Rattle.live_log.proofs.Lemmas.{begins_trans}
+use Rattle.domain.specs.live_rule.declared.view.Look.{Look}
+use Rattle.domain.specs.live_rule.declared.view.Look.TheVariants.{Loaded, Stored}
 use Rattle.domain.specs.live_rule.Places.{cell_at, closed_at}
 use Rattle.domain.specs.live_rule.declared.rights.ChainRight.{ChainRight}
-use Rattle.domain.specs.live_table.Rights.{cell_in, own_in}
+use Rattle.domain.specs.live_rule.declared.rights.RecordRight.{RecordRight}
+use Rattle.domain.specs.live_table.Rights.{cell_in, object_in, own_in}
 use Rattle.domain.specs.live_items.Retiring.{Queues}
 use Rattle.domain.proofs.live_read.Lemmas.{stays_makes}
 use Rattle.domain.specs.live_write.Chains.{list_in}
+use Rattle.domain.specs.live_write.Searching.{TakesRecord}
 use Rattle.domain.proofs.live_write.Lemmas.{index_has}
 use Rattle.rcu_list.proofs.Writing.{by_no_note, by_second, chain_known, keys_walked, map_walked, note_still, note_walked, replaced_map, same_own, stays_both, takes_over, KnowsKeys, by_result, keys_replaced}
 use Rattle.rcu_list.proofs.list.RcuList.replace.Goals as goal
@@ -60,7 +64,7 @@ returns-in-Ok-replace_retire-clause-same g c =
       r.1 ∙ a.looked.2,
       (
         stays_makes g.W.Caller c.args.caller.now c.prepare_replacement.new.caller c.replace_retire.new.caller c.replace_retire.new.chain.seat.me.0.seen s.0 m.0,
-        (m.2 ∙ s.1.0, (s.1.1.0, m.1 ∙ s.1.1.1)),
+        (m.2 ∙ s.1.0, (c.in-Ok.ready.1.seat.me.0.object, (a.took.0, m.1 ∙ a.took.1, a.took.2))),
       ),
     )
 
@@ -78,10 +82,12 @@ returns-in-Err-replace_retire-clause-refused g c =
         inr (by_second c.in-Err-replace_retire.ensures.refused
             (λ n. let few : length (list_in new.seat.me.0) ≤ c.in-Ok.ready.0 = n.1 in omega arith)
             (λ k. let r = k.1 in record {
-              found = a.same.1.1.0;
+              found = a.took.0;
+              number = (object_in c.in-Ok.ready.1.seat.me.0.object).0;
+              took = subst (λ (x : RecordRight). TakesRecord sizes (cell_in x) (object_in c.in-Ok.ready.1.seat.me.0.object).0 a.took.0) (ap (λ o. o.seat.me.0.object) (sym c.in-Err-replace_retire.ensures.back.0)) a.took.2;
               closed = r.closed;
               cell = cell_in c.in-Err-replace_retire.owned.seat.me.0.object;
-              looks = d.freed ∙ ap (λ (l : List (ℕ × ℕ)). (cell_at sizes (cell_in c.in-Err-replace_retire.owned.seat.me.0.object) 0, 0) ∷ l) (r.looked ∙ (λ i. (closed_at sizes (number i % sizes.queues), r.closed) ∷ a.same.1.1.1 i));
+              looks = d.freed ∙ ap (λ (l : List Look). Stored (cell_at sizes (cell_in c.in-Err-replace_retire.owned.seat.me.0.object) 0) 0 ∷ l) (r.looked ∙ (λ i. Loaded (closed_at sizes (number i % sizes.queues)) r.closed ∷ a.took.1 i));
               at = w.heard w2;
               told = r.told ∙ ap (λ (n : ℕ). closed_of (n % sizes.queues) (w.heard w2)) number;
               within = (
