@@ -240,7 +240,7 @@ found_more sizes found more = ⊎_elim
     (λ (u : IsUsedUp sizes found). inl (u.0, in_left found more _ u.1, u.2))
     (λ (t : AreTaken sizes found). inr (λ i low. let x = t i low in (x.0, in_left found more _ x.1, x.2)))
 
-in_behind : {X : Type 0} (xs ys : List X) (x : X) → In ys x → In (xs ++ ys) x
+pub in_behind : {X : Type 0} (xs ys : List X) (x : X) → In ys x → In (xs ++ ys) x
 in_behind [] ys x h = h
 in_behind (y ∷ xs) ys x h = inr (in_behind xs ys x h)
 

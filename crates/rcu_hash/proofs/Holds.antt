@@ -1,14 +1,10 @@
 -- Writers of chains that follow one another, by their rights; and the directory that comes to name their chains.
-use Rattle.std.proofs.Common.{Bool, ◌≡◌, ◌≢◌, ◌⊎◌, ℕ, ◌+◌, ◌<◌, ◌≤◌, List, [], ◌∷◌, ◌++◌, length, map, take, drop, refl, sym, ap, ◌∙◌, subst, append_assoc, inl, inr, ⊎_elim, arith, zero, suc, Result, Err, IfErr}
+use Rattle.std.proofs.Common.{Bool, ◌≡◌, ◌≢◌, ◌⊎◌, ℕ, ◌+◌, ◌<◌, ◌≤◌, List, [], ◌∷◌, ◌++◌, length, map, take, drop, refl, sym, ap, ◌∙◌, subst, append_assoc, inl, inr, ⊎_elim, arith, zero, suc}
 use Rattle.std.proofs.lemmas.List.{length-append}
 use mathlib.Core.Logic.{dite}
 use native.Mathlib.Decide.{ℕ_discrete}
 use Rattle.rcu_model.specs.declared.event.ObjectId.{ObjectId}
-use Rattle.rcu_model.specs.declared.refusal.Refusal.{Refusal}
-use Rattle.rcu_model.specs.declared.refusal.Refusal.TheVariants.{PoolFull}
 use Rattle.rcu_list.specs.live_rule.declared.view.Look.{Look}
-use Rattle.rcu_list.specs.live_rule.declared.view.Sizes.{Sizes}
-use Rattle.rcu_list.specs.live_write.Searching.{AreTaken, IsUsedUp}
 use Rattle.rcu_model.specs.Sets.{In, replaced}
 use Rattle.rcu_model.proofs.Lemmas.{at_number_same, in_objects, replaced_there}
 use Rattle.live_log.specs.declared.event.LiveEvent.{LiveEvent}
@@ -27,10 +23,6 @@ use Rattle.rcu_hash.specs.Writers.{AreFrom, Each, HasKeysIn, HasNote, HasNothing
 -- what was looked at, and then more
 pub looks_both : (old middle new : List Look) (one two : List Look) → middle ≡ one ++ old → new ≡ two ++ middle → new ≡ (two ++ one) ++ old
 looks_both old middle new one two a b = b ∙ (ap (λ (l : List Look). two ++ l) a ∙ sym (append_assoc two one old))
-
--- another refusal is not that of a full pool
-pub not_full : {A : Type 0} (sizes : Sizes) (found : List Look) (r : Result A Refusal) (x e : Refusal) → r ≡ Err x → x ≡ e → e ≢ PoolFull → IfErr r (λ y. y ≡ PoolFull → IsUsedUp sizes found ⊎ AreTaken sizes found)
-not_full sizes found r x e is same other = rw is (λ full. absurd (other (sym same ∙ full)))
 
 -- what is so of each is so of each in other words
 pub each_map : {X : Type 0} (P Q : X → Type 0) → ((x : X) → P x → Q x) → (xs : List X) → Each P xs → Each Q xs

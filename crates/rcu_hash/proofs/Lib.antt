@@ -4,6 +4,7 @@ pub mod Directing
 pub mod Emptying
 pub mod Exchanging
 pub mod Filling
+pub mod Freeing
 pub mod Going
 pub mod Holds
 pub mod Hearing

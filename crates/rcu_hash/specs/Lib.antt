@@ -1,6 +1,7 @@
 pub mod Calls
 pub mod Copies
 pub mod Directories
+pub mod Freeing
 pub mod Growing
 pub mod Leaving
 pub mod Naming

@@ -2,20 +2,19 @@
 
 ghost use Rattle.std.specs.Prelude.{◌≡◌, ◌⊎◌, ◌+◌, ◌<◌, ◌≤◌, ◌^◌, ◌++◌, [], ℕ, List, None, Some, IfErr, IfOk, map, vec_capacity, vec_len};
 ghost use Rattle.std.specs.Sync.RwLock.{write_guard_value};
-ghost use Rattle.rcu_model.specs.declared.refusal.Refusal.TheVariants.{BadConfig, Busy, PoolFull};
 ghost use Rattle.live_log.specs.Log.{Begins, Log};
 ghost use Rattle.live_log.specs.Tables.{tabled};
 ghost use Rattle.rcu_list.specs.live_rule.declared.view.Look.{Look};
 ghost use Rattle.rcu_list.specs.live_table.Rights.{payload_in};
 ghost use Rattle.rcu_list.specs.live_read.Hearing.{MakesMany, OnlyMakesMany, Stays};
 ghost use Rattle.rcu_hash.specs.Copies.{AreApart, AreRanked, value_among, value_in_bucket};
+ghost use Rattle.rcu_hash.specs.Freeing.{KeepsMany, KeepsNone};
 ghost use Rattle.rcu_hash.specs.Growing.{Grows};
 ghost use Rattle.rcu_hash.specs.Naming.{words_by};
 ghost use Rattle.rcu_hash.specs.Refusing.{FindsFree};
-ghost use Rattle.rcu_hash.specs.Tables.{IsAmong, are_apart, fits};
+ghost use Rattle.rcu_hash.specs.Tables.{IsAmong, are_apart};
 ghost use Rattle.rcu_hash.specs.Writers.{AreFrom, Each, HasKeysIn, IsAlone, IsEmpty};
 ghost use Rattle.rcu_hash.specs.Calls.{IsGrown, IsNotGrown};
-ghost use Rattle.rcu_list.specs.live_write.Searching.{AreTaken, IsUsedUp};
 
 use crate::bucket::Bucket;
 use crate::copying::fill;
@@ -159,9 +158,9 @@ impl<'d, P: GracePlan + Drop, B: Site, D: Deleter> RcuHash<'d, P, B, D> {
     /// a chain that the directory does not name has the table's note; else with `BadConfig` where the number of buckets
     /// is not 1 to 4,096 or a chain is not there, or is one of the table's, else with `Memory` where memory is, with
     /// `BadConfig` where a chain had a writer, linked an object or had a note other than 0 during the call, or with
-    /// `PoolFull` where there is no record for a key or for the directory; then it made no change. That its records and
-    /// chains are free again, tests show. It waits for the table's locks, and for no grace period, but tries again
-    /// where other threads draw object numbers meanwhile.
+    /// `PoolFull` where there is no record for a key or for the directory; then it made no change, and each record that
+    /// it took is free again. It waits for the table's locks, and for no grace period, but tries again where other
+    /// threads draw object numbers meanwhile.
     pub fn grow<W: Caller<B>, R: Wait>(
         &self,
         rt: &R,
@@ -174,7 +173,7 @@ impl<'d, P: GracePlan + Drop, B: Site, D: Deleter> RcuHash<'d, P, B, D> {
         ensures free { IfOk result (λ _. FindsFree W.Caller P.QSBR tabled caller.old caller.new (IsAmong first buckets)) }
         ensures refused { IfErr result (λ e. IsNotGrown W.Caller P.QSBR B.sizes caller.old caller.new self.now.directory first buckets e) }
         ensures heard { Begins (W.heard caller.old) (W.heard caller.new) }
-        ensures looks { (found : List Look) × (W.looks caller.new ≡ found ++ W.looks caller.old) × IfErr result (λ e. e ≡ PoolFull → IsUsedUp B.sizes found ⊎ AreTaken B.sizes found) }
+        ensures looks { (found : List Look) × (W.looks caller.new ≡ found ++ W.looks caller.old) × IfOk result (λ left. KeepsMany B.sizes left found) × IfErr result (λ e. KeepsNone B.sizes e found) }
         ensures loads { ((logs : List Log) × (W.loads caller.new ≡ logs ++ W.loads caller.old)) × IfOk result (λ _. W.loads caller.new ≡ W.loads caller.old) }
         ensures changes { IfOk result (λ left. MakesMany W.Caller caller.old caller.new left) × IfErr result (λ _. Stays W.Caller caller.old caller.new) }
     {

@@ -1,14 +1,15 @@
 //! What a growth makes ready before its first event.
 
-ghost use Rattle.std.specs.Prelude.{◌≡◌, ◌⊎◌, ◌+◌, ◌<◌, ◌≤◌, ◌++◌, [], ℕ, List, IfErr, IfOk, map, vec_capacity, vec_len};
+ghost use Rattle.std.specs.Prelude.{◌≡◌, ◌⊎◌, ◌+◌, ◌≤◌, ◌∷◌, ◌++◌, [], ℕ, List, IfErr, IfOk, map, vec_capacity, vec_len};
 ghost use Rattle.rcu_model.specs.declared.refusal.Refusal.TheVariants.{BadConfig, Memory, PoolFull};
 ghost use Rattle.live_log.specs.Log.{Begins, Log};
 ghost use Rattle.live_log.specs.Tables.{tabled};
 ghost use Rattle.rcu_list.specs.live_rule.declared.view.Look.{Look};
-ghost use Rattle.rcu_list.specs.live_table.Rights.{payload_in};
+ghost use Rattle.rcu_list.specs.live_table.Rights.{cell_in, payload_in};
 ghost use Rattle.rcu_list.specs.live_read.Hearing.{Stays};
-ghost use Rattle.rcu_list.specs.live_write.Searching.{AreTaken, IsUsedUp};
+ghost use Rattle.rcu_list.specs.live_write.Searching.{NoRecordIsFree};
 ghost use Rattle.rcu_hash.specs.Copies.{AreApart, AreRanked, value_among, value_in_bucket};
+ghost use Rattle.rcu_hash.specs.Freeing.{Frees, FreesAllBut, KeepsNone};
 ghost use Rattle.rcu_hash.specs.Naming.{words_by};
 ghost use Rattle.rcu_hash.specs.Refusing.{FindsFree, FindsTaken};
 ghost use Rattle.rcu_hash.specs.Tables.{IsAmong};
@@ -84,7 +85,7 @@ fn copy_all<'d, P: GracePlan + Drop, B: Site, D: Deleter, W: Caller<B>, R: Wait>
     ensures taken { IfOk result (λ _. (vec_len taken.new ≡ shelf.now.naming.buckets) × AreFrom shelf.now.naming.first (map (λ b. b.chain.seat.me.0) taken.new.items)) }
     ensures many { vec_len taken.new ≤ shelf.now.naming.buckets }
     ensures refused { IfErr result (λ e. (e ≡ Memory) ⊎ (e ≡ PoolFull)) }
-    ensures looks { (found : List Look) × (W.looks caller.new ≡ found ++ W.looks caller.old) × IfErr result (λ e. (e ≡ PoolFull) → IsUsedUp B.sizes found ⊎ AreTaken B.sizes found) }
+    ensures looks { (found : List Look) × (W.looks caller.new ≡ found ++ W.looks caller.old) × FreesAllBut B.sizes (map (λ c. cell_in c.owned.seat.me.0.object) copied.new.items) found × IfErr result (λ e. (e ≡ PoolFull) → NoRecordIsFree B.sizes found) }
     ensures heard { Begins (W.heard caller.old) (W.heard caller.new) }
     ensures same { Stays W.Caller caller.old caller.new × (W.loads caller.new ≡ W.loads caller.old) }
 {
@@ -136,7 +137,7 @@ fn provide<'d, P: GracePlan + Drop, B: Site, D: Deleter, W: Caller<B>, R: Wait>(
 >
     ensures made { IfOk result (λ r. (payload_in r.0.seat.me.0.object ≡ words_by first buckets) × (r.1.items ≡ []) × (olds ≤ vec_capacity r.1) × (r.2.items ≡ []) × (buckets ≤ vec_capacity r.2)) }
     ensures refused { IfErr result (λ e. (e ≡ Memory) ⊎ (e ≡ PoolFull)) }
-    ensures looks { (found : List Look) × (W.looks caller.new ≡ found ++ W.looks caller.old) × IfErr result (λ e. (e ≡ PoolFull) → IsUsedUp B.sizes found ⊎ AreTaken B.sizes found) }
+    ensures looks { (found : List Look) × (W.looks caller.new ≡ found ++ W.looks caller.old) × IfOk result (λ r. FreesAllBut B.sizes (cell_in r.0.seat.me.0.object ∷ []) found) × IfErr result (λ e. KeepsNone B.sizes e found) }
     ensures heard { Begins (W.heard caller.old) (W.heard caller.new) }
     ensures same { Stays W.Caller caller.old caller.new × (W.loads caller.new ≡ W.loads caller.old) }
 {
@@ -169,7 +170,7 @@ fn undo<'d, P: GracePlan + Drop, B: Site, D: Deleter, W: Caller<B>, R: Wait>(
 )
     requires many { vec_len taken ≤ shelf.now.naming.buckets }
     ensures heard { Begins (W.heard caller.old) (W.heard caller.new) }
-    ensures told { ((found : List Look) × (W.looks caller.new ≡ found ++ W.looks caller.old)) × ((logs : List Log) × (W.loads caller.new ≡ logs ++ W.loads caller.old)) }
+    ensures told { ((found : List Look) × (W.looks caller.new ≡ found ++ W.looks caller.old) × Frees B.sizes (map (λ c. cell_in c.owned.seat.me.0.object) copied.items) found) × ((logs : List Log) × (W.loads caller.new ≡ logs ++ W.loads caller.old)) }
     ensures same { Stays W.Caller caller.old caller.new }
 {
     restock(rt, shelf, taken);
@@ -200,7 +201,7 @@ impl<'d, P: GracePlan + Drop, B: Site, D: Deleter> Growth<'d, P, B, D> {
         ensures refused { IfErr result (λ e. ((e ≡ BadConfig) × FindsTaken W.Caller P.QSBR tabled caller.old caller.new B.sizes (IsAmong first buckets)) ⊎ ((e ≡ Memory) ⊎ (e ≡ PoolFull))) }
         ensures free { IfOk result (λ _. FindsFree W.Caller P.QSBR tabled caller.old caller.new (IsAmong first buckets)) }
         ensures heard { Begins (W.heard caller.old) (W.heard caller.new) }
-        ensures looks { (found : List Look) × (W.looks caller.new ≡ found ++ W.looks caller.old) × IfErr result (λ e. (e ≡ PoolFull) → IsUsedUp B.sizes found ⊎ AreTaken B.sizes found) }
+        ensures looks { (found : List Look) × (W.looks caller.new ≡ found ++ W.looks caller.old) × IfOk result (λ g. FreesAllBut B.sizes (cell_in g.owned.seat.me.0.object ∷ map (λ c. cell_in c.owned.seat.me.0.object) g.copied.items) found) × IfErr result (λ e. KeepsNone B.sizes e found) }
         ensures loads { ((logs : List Log) × (W.loads caller.new ≡ logs ++ W.loads caller.old)) × IfOk result (λ _. W.loads caller.new ≡ W.loads caller.old) }
         ensures same { Stays W.Caller caller.old caller.new }
     {

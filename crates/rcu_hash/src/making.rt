@@ -12,6 +12,7 @@ ghost use Rattle.rcu_list.specs.live_rule.Places.{hold_at};
 ghost use Rattle.rcu_list.specs.live_table.Rights.{object_in, payload_in};
 ghost use Rattle.rcu_list.specs.live_read.Hearing.{IsAfter, OnlyHears, OnlyMakesLast, Stays};
 ghost use Rattle.rcu_hash.specs.Directories.{LeadsTo, directed_map};
+ghost use Rattle.rcu_hash.specs.Freeing.{FreesAll};
 ghost use Rattle.rcu_hash.specs.Growing.{NotesAll};
 ghost use Rattle.rcu_hash.specs.Leaving.{Writes};
 ghost use Rattle.rcu_hash.specs.Naming.{IsNamedBy, words_by};
@@ -56,7 +57,7 @@ pub(crate) fn hold_empty<'d, P: GracePlan + Drop, B: Site, D: Deleter, W: Caller
     ensures refused { IfErr result (λ e. (e ≡ BadConfig) × FindsTaken W.Caller P.QSBR tabled caller.old caller.new B.sizes (λ c. c ≡ chain)) }
     ensures unused { IfOk result (λ _. IsUnused chain (W.heard caller.new)) }
     ensures heard { IsAfter P.QSBR tabled (W.seen caller.old) (W.heard caller.old) (W.heard caller.new) }
-    ensures same { Stays W.Caller caller.old caller.new × (W.loads caller.new ≡ W.loads caller.old) × ((found : List Look) × (W.looks caller.new ≡ found ++ W.looks caller.old)) }
+    ensures same { Stays W.Caller caller.old caller.new × (W.loads caller.new ≡ W.loads caller.old) × ((found : List Look) × (W.looks caller.new ≡ found ++ W.looks caller.old) × FreesAll B.sizes found) }
 {
     let mut writer = match domain.chain(caller, chain) {
         Ok(writer) => writer,
@@ -86,7 +87,7 @@ pub(crate) fn hold_all<'d, P: GracePlan + Drop, B: Site, D: Deleter, W: Caller<B
     ensures refused { IfErr result (λ e. (e ≡ BadConfig) × FindsTaken W.Caller P.QSBR tabled caller.old caller.new B.sizes (IsAmong first many)) }
     ensures free { IfOk result (λ _. FindsFree W.Caller P.QSBR tabled caller.old caller.new (IsAmong first many)) }
     ensures heard { Begins (W.heard caller.old) (W.heard caller.new) }
-    ensures same { Stays W.Caller caller.old caller.new × (W.loads caller.new ≡ W.loads caller.old) × ((found : List Look) × (W.looks caller.new ≡ found ++ W.looks caller.old)) }
+    ensures same { Stays W.Caller caller.old caller.new × (W.loads caller.new ≡ W.loads caller.old) × ((found : List Look) × (W.looks caller.new ≡ found ++ W.looks caller.old) × FreesAll B.sizes found) }
 {
     for number in 0..many {
         chains.push_reserved(hold_empty(domain, caller, first + number)?);

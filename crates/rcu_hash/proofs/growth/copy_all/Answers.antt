@@ -3,11 +3,13 @@ use Rattle.std.proofs.lemmas.List.{length-map, map-append}
 use Rattle.std.proofs.lemmas.Result.{err_from_is_err_and}
 use Rattle.live_log.proofs.Lemmas.{begins_trans}
 use Rattle.rcu_list.specs.live_rule.declared.view.View.{View}
+use Rattle.rcu_list.specs.live_table.Rights.{cell_in}
 use Rattle.rcu_list.proofs.Lemmas.{stays_both}
 use Rattle.rcu_hash.specs.declared.directory.Naming.{Naming}
 use Rattle.rcu_hash.specs.Copies.{value_among, value_in_bucket}
 use Rattle.rcu_hash.specs.Writers.{AreFrom}
 use Rattle.rcu_hash.proofs.Copies.{found_more}
+use Rattle.rcu_hash.proofs.Freeing.{but_both}
 use Rattle.rcu_hash.proofs.Holds.{from_last, looks_both}
 use Rattle.rcu_hash.proofs.Taking.{bucket_copied}
 use Rattle.rcu_hash.proofs.growth.copy_all.Goals as goal
@@ -27,7 +29,11 @@ loop-number-preserved g c =
           (bucket_copied shelf.naming.buckets number vs (map (λ x. (x.key, x.value)) c.loop-number.copied.items) many i.copied c.take-place.result.1.naming.buckets own v (map (λ x. (x.key, x.value)) c.copy-answer.new.copied.items) ok.copied);
       apart = ok.apart;
       heard = begins_trans (w.heard w0) (w.heard w1) (w.heard w2) i.heard e.heard;
-      looks = (e.looks.0 ++ i.looks.0, looks_both (w.looks w0) (w.looks w1) (w.looks w2) i.looks.0 e.looks.0 i.looks.1 e.looks.1);
+      looks = (
+        e.looks.0 ++ i.looks.0,
+        looks_both (w.looks w0) (w.looks w1) (w.looks w2) i.looks.0 e.looks.0 i.looks.1 e.looks.1,
+        but_both g.B.Site.sizes i.looks.0 e.looks.0 (map (λ x. cell_in x.owned.seat.me.0.object) c.loop-number.copied.items) (map (λ x. cell_in x.owned.seat.me.0.object) c.copy-answer.new.copied.items) e.cells i.looks.2 e.looks.2,
+      );
       same = (stays_both w w0 w1 w2 i.same.0 e.same.0, e.same.1 ∙ i.same.1);
     }
 
@@ -40,5 +46,9 @@ returns-in_err-answer-clause-looks g c =
     let w = g.W.Caller in let i = c.loop-number.invariant in let e = c.in_err-answer.ensures in let p = err_from_is_err_and c.from_residual.result c.from_residual.ensures.1 in (
       e.looks.0 ++ i.looks.0,
       looks_both (w.looks c.args.caller.now) (w.looks c.loop-number.caller) (w.looks c.copy-answer.new.caller) i.looks.0 e.looks.0 i.looks.1 e.looks.1,
-      rw p.1 (λ is. found_more g.B.Site.sizes e.looks.0 i.looks.0 (e.looks.2 (sym p.2 ∙ is))),
+      but_both g.B.Site.sizes i.looks.0 e.looks.0 (map (λ x. cell_in x.owned.seat.me.0.object) c.loop-number.copied.items) (map (λ x. cell_in x.owned.seat.me.0.object) c.copy-answer.new.copied.items) c.copy-answer.ensures.cells i.looks.2 e.looks.2,
+      rw p.1 (λ is. found_more g.B.Site.sizes e.looks.0 i.looks.0 (e.looks.3 (sym p.2 ∙ is))),
     )
+
+pub returns-clause-looks : goal.returns-clause-looks
+returns-clause-looks g c = let i = c.loop-number.invariant.looks in (i.0, i.1, i.2, tt)

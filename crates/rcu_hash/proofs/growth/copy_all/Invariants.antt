@@ -1,10 +1,12 @@
 use Rattle.std.proofs.Common.{◌≡◌, ◌≤◌, ◌++◌, ℕ, List, map, vec_capacity, vec_len}
 use Rattle.live_log.specs.Log.{Begins}
 use Rattle.rcu_list.specs.live_read.Hearing.{Stays}
+use Rattle.rcu_list.specs.live_rule.declared.view.Look.{Look}
+use Rattle.rcu_list.specs.live_table.Rights.{cell_in}
 use Rattle.rcu_hash.specs.Copies.{AreApart, AreRanked, value_among, value_in_bucket}
+use Rattle.rcu_hash.specs.Freeing.{FreesAllBut}
 use Rattle.rcu_hash.specs.Writers.{AreFrom}
 use Rattle.rcu_hash.proofs.growth.copy_all.Given as goal
-use Rattle.rcu_list.specs.live_rule.declared.view.Look.{Look}
 
 -- the buckets up to this number are taken, and their keys copied
 abbrev pub invariant-loop-number : goal.invariant-loop-number
@@ -14,6 +16,6 @@ invariant-loop-number g l = record {
   copied : (key : ℕ) → value_among (map (λ c. (c.key, c.value)) l.copied.items) key ≡ value_in_bucket l.fn.shelf.naming.buckets (map (λ b. b.chain.seat.me.0) l.taken.items) key;
   apart : AreApart (map (λ c. (c.key, c.value)) l.copied.items) × AreRanked 0 (map (λ c. c.rank) l.copied.items);
   heard : Begins (g.W.Caller.heard l.fn.caller) (g.W.Caller.heard l.caller);
-  looks : (found : List Look) × (g.W.Caller.looks l.caller ≡ found ++ g.W.Caller.looks l.fn.caller);
+  looks : (found : List Look) × (g.W.Caller.looks l.caller ≡ found ++ g.W.Caller.looks l.fn.caller) × FreesAllBut g.B.Site.sizes (map (λ c. cell_in c.owned.seat.me.0.object) l.copied.items) found;
   same : Stays g.W.Caller l.fn.caller l.caller × (g.W.Caller.loads l.caller ≡ g.W.Caller.loads l.fn.caller);
 }

@@ -11,6 +11,7 @@ use Rattle.rcu_list.specs.live_rule.Places.{hold_at}
 use Rattle.rcu_list.proofs.Lemmas.{stays_both}
 use Rattle.rcu_hash.specs.Tables.{IsAmong}
 use Rattle.rcu_hash.specs.Writers.{AreFrom, Each, IsAlone, IsEmpty}
+use Rattle.rcu_hash.proofs.Freeing.{frees_both, holds_free}
 use Rattle.rcu_hash.proofs.Holds.{each_last, from_last}
 use Rattle.rcu_hash.proofs.Taking.{free_more, other_hold, place_of, taken_since}
 use Rattle.rcu_hash.proofs.making.hold_all.Goals as goal
@@ -54,7 +55,11 @@ returns-in_err-hold_empty-clause-same g c =
     let w = g.W.Caller in let w0 = c.args.caller.now in let i = c.loop-number.invariant in let same = c.hold_empty.ensures.same in (
       stays_both w w0 c.loop-number.caller c.hold_empty.new.caller i.3 same.0,
       same.1 ∙ i.4,
-      (same.2.0 ++ i.5.0, same.2.1 ∙ (ap (λ (l : List Look). same.2.0 ++ l) i.5.1 ∙ sym (append_assoc same.2.0 i.5.0 (w.looks w0)))),
+      (
+        same.2.0 ++ i.5.0,
+        same.2.1 ∙ (ap (λ (l : List Look). same.2.0 ++ l) i.5.1 ∙ sym (append_assoc same.2.0 i.5.0 (w.looks w0))),
+        frees_both g.B.Site.sizes i.5.0 same.2.0 (holds_free g.B.Site.sizes (c.args.first + c.loop-number.number) (let range = c.requires.range in let low = c.loop-number-test.true in omega arith) i.5.0 i.5.2) same.2.2,
+      ),
     )
 
 pub returns-in_err-hold_empty-clause-refused : goal.returns-in_err-hold_empty-clause-refused
@@ -67,3 +72,8 @@ returns-in_err-hold_empty-clause-refused g c =
           (λ k is. let low = c.loop-number-test.true in (omega (arith, is), omega (arith, is))) w0 w1 w2 i.3.0 i.6 i.5.0 i.5.1
           (λ k is. other_hold g.B.Site.sizes (λ j. j < first + c.loop-number.number) i.5.0 k 0 i.5.2 (λ j low same. absurd (omega (arith, is, low, same)))) no.1,
     )
+
+pub returns-clause-same : goal.returns-clause-same
+returns-clause-same g c =
+    let i = c.loop-number.invariant in
+    (i.3, i.4, (i.5.0, i.5.1, holds_free g.B.Site.sizes (c.args.first + c.loop-number.number) (let range = c.requires.range in let most = c.loop-number.auto.number-end in omega arith) i.5.0 i.5.2))

@@ -14,6 +14,7 @@ use Rattle.rcu_list.specs.live_table.Rights.{IsListed, own_in}
 use Rattle.rcu_list.specs.live_write.Chains.{list_in}
 use Rattle.rcu_list.proofs.Lemmas.{stays_both}
 use Rattle.rcu_hash.specs.Refusing.{IsInUse}
+use Rattle.rcu_hash.proofs.Freeing.{holds_none}
 use Rattle.rcu_hash.proofs.making.hold_empty.Goals.{then-note-ne0-via-then-note-ne0, then-note-ne0-via-else-note-ne0+then-len-ne0}
 use Rattle.rcu_hash.proofs.making.hold_empty.Goals as goal
 
@@ -38,7 +39,7 @@ returns-in-Err-clause-heard g c = c.chain.ensures.heard c.requires
 pub returns-in-Err-clause-same : goal.returns-in-Err-clause-same
 returns-in-Err-clause-same g c =
     let w = g.W.Caller in let e = c.chain.ensures in let place = hold_at g.B.Site.sizes c.args.chain in
-    (e.same.0, e.same.1, ⊎_elim (λ none. ([], ap w.looks none.2)) (λ busy. (Loaded place 1 ∷ [], busy.2)) c.in-Err.ensures.refused)
+    (e.same.0, e.same.1, ⊎_elim (λ none. ([], ap w.looks none.2, λ i. tt)) (λ busy. (Loaded place 1 ∷ [], busy.2, λ i. tt)) c.in-Err.ensures.refused)
 
 -- what it links and which note it has, in the log of which the caller heard
 known : (chain : ℕ) (v : View) (log : Log) → log ≡ v.seen → (own_in v.chains).chain ≡ chain → IsListed v → ((state_of log).chain chain ≡ list_in v) × (chain_note chain log ≡ (own_in v.chains).note)
@@ -74,7 +75,7 @@ returns-then-note-ne0-clause-heard g c =
 pub returns-then-note-ne0-clause-same : goal.returns-then-note-ne0-clause-same
 returns-then-note-ne0-clause-same g c =
     let w = g.W.Caller in let w0 = c.args.caller.now in let w1 = c.chain.new.caller in let w2 = c.hear.new.caller in let e = c.chain.ensures in let h = c.hear.ensures.same in let place = hold_at g.B.Site.sizes c.args.chain in
-    (stays_both w w0 w1 w2 e.same.0 h.0.0, h.1 ∙ e.same.1, (Stored place 1 ∷ Loaded place 0 ∷ [], h.0.1 ∙ c.in-Ok.ensures.held.2))
+    (stays_both w w0 w1 w2 e.same.0 h.0.0, h.1 ∙ e.same.1, (Stored place 1 ∷ Loaded place 0 ∷ [], h.0.1 ∙ c.in-Ok.ensures.held.2, holds_none g.B.Site.sizes c.args.chain c.requires))
 
 pub returns-clause-heard : goal.returns-clause-heard
 returns-clause-heard g c =
@@ -88,7 +89,7 @@ returns-clause-heard g c =
 pub returns-clause-same : goal.returns-clause-same
 returns-clause-same g c =
     let w = g.W.Caller in let w0 = c.args.caller.now in let w1 = c.chain.new.caller in let w2 = c.hear.new.caller in let e = c.chain.ensures in let h = c.hear.ensures.same in let place = hold_at g.B.Site.sizes c.args.chain in
-    (stays_both w w0 w1 w2 e.same.0 h.0.0, h.1 ∙ e.same.1, (Stored place 1 ∷ Loaded place 0 ∷ [], h.0.1 ∙ c.in-Ok.ensures.held.2))
+    (stays_both w w0 w1 w2 e.same.0 h.0.0, h.1 ∙ e.same.1, (Stored place 1 ∷ Loaded place 0 ∷ [], h.0.1 ∙ c.in-Ok.ensures.held.2, holds_none g.B.Site.sizes c.args.chain c.requires))
 
 pub returns-clause-held : goal.returns-clause-held
 returns-clause-held g c =

@@ -9,6 +9,7 @@ use Rattle.rcu_list.specs.live_rule.Seats.{lent_chains}
 use Rattle.rcu_list.specs.live_rule.declared.rights.ChainRight.{ChainRight}
 use Rattle.rcu_list.specs.live_rule.declared.view.Look.{Look}
 use Rattle.rcu_list.specs.live_rule.declared.view.View.{View}
+use Rattle.rcu_list.specs.live_table.Rights.{cell_in}
 use Rattle.rcu_list.specs.live_write.Chains.{list_in}
 use Rattle.rcu_list.proofs.live_write.Lemmas.{went_both}
 use Rattle.rcu_list.specs.Maps.{value_in}
@@ -16,6 +17,7 @@ use Rattle.rcu_list.proofs.Lemmas.{KnowsKeys, keys_walked, same_own, stays_both}
 use Rattle.rcu_hash.specs.Copies.{AreRanked, value_among}
 use Rattle.rcu_hash.specs.Naming.{WasNamed}
 use Rattle.rcu_hash.proofs.Copies.{IsCopied, copied_more, copied_skip, falls_known, found_more, got_at, got_words, more_ranked, value_walked}
+use Rattle.rcu_hash.proofs.Freeing.{but_both}
 use Rattle.rcu_hash.proofs.Named.{named_later}
 use Rattle.rcu_hash.proofs.bucket.Bucket.copy.Goals as goal
 use Rattle.rcu_hash.proofs.bucket.Bucket.copy.Goals.{then-words-buckets+in_ok-copy_key, else-words-buckets}
@@ -48,7 +50,8 @@ returns-in_err-copy_key-clause-looks g c =
     let found = e.looks.0 in let before = i.looks.0 in (
       found ++ before,
       e.looks.1 ∙ (ap (λ (l : List Look). found ++ l) i.looks.1 ∙ sym (append_assoc found before (w.looks c.args.caller.now))),
-      rw p.1 (λ is. found_more g.B.Site.sizes found before (e.looks.2 (sym p.2 ∙ is))),
+      but_both g.B.Site.sizes before found (map (λ x. cell_in x.owned.seat.me.0.object) c.loop-index.copied.items) (map (λ x. cell_in x.owned.seat.me.0.object) c.copy_key.new.copied.items) c.copy_key.ensures.cells i.looks.2 e.looks.2,
+      rw p.1 (λ is. found_more g.B.Site.sizes found before (e.looks.3 (sym p.2 ∙ is))),
     )
 
 pub returns-in_err-copy_key-clause-heard : goal.returns-in_err-copy_key-clause-heard
@@ -79,7 +82,12 @@ loop-index-preserved g c =
             copied = subst (IsCopied note os buckets number before (index + 1)) (sym (k.copied ∙ ap (λ (l : List ℕ). es ++ (slice_index_or l 0 0, slice_index_or l 1 0) ∷ []) words)) (copied_more note os buckets number before index es s.0 at i.copied falls (ap (λ (n : ℕ). n % buckets) (sym key) ∙ z.if-words-buckets.true));
             ranked = subst (AreRanked 0) (sym k.ranks) (subst (λ (n : ℕ). AreRanked 0 (ranks ++ n ∷ [])) many (more_ranked 0 ranks i.ranked));
             heard = begins_trans (w.heard w0) (w.heard w1) (w.heard w2) i.heard k.heard;
-            looks = (k.looks.0 ++ i.looks.0, k.looks.1 ∙ (ap (λ (l : List Look). k.looks.0 ++ l) i.looks.1 ∙ sym (append_assoc k.looks.0 i.looks.0 (w.looks w0))));
+            cells = λ n h. k.cells n (i.cells n h);
+            looks = (
+              k.looks.0 ++ i.looks.0,
+              k.looks.1 ∙ (ap (λ (l : List Look). k.looks.0 ++ l) i.looks.1 ∙ sym (append_assoc k.looks.0 i.looks.0 (w.looks w0))),
+              but_both g.B.Site.sizes i.looks.0 k.looks.0 (map (λ x. cell_in x.owned.seat.me.0.object) c.loop-index.copied.items) (map (λ x. cell_in x.owned.seat.me.0.object) z.copy_key.new.copied.items) k.cells i.looks.2 k.looks.2,
+            );
             same = (stays_both w w0 w1 w2 i.same.0 k.same.0, k.same.1 ∙ i.same.1);
             walked = (i.walked.0, (e.walked.0.0 ∙ i.walked.1.0, e.walked.0.1 ∙ i.walked.1.1), went, e.walked.2 ∙ i.walked.3, e.walked.3 ∙ i.walked.4);
           }))
@@ -88,6 +96,7 @@ loop-index-preserved g c =
             copied = copied_skip note os buckets number before index es s.0 at i.copied (λ here. z.if-words-buckets.false (ap (λ (n : ℕ). n % buckets) key ∙ here));
             ranked = i.ranked;
             heard = i.heard;
+            cells = i.cells;
             looks = i.looks;
             same = i.same;
             walked = (i.walked.0, (e.walked.0.0 ∙ i.walked.1.0, e.walked.0.1 ∙ i.walked.1.1), went, e.walked.2 ∙ i.walked.3, e.walked.3 ∙ i.walked.4);
@@ -102,3 +111,6 @@ returns-clause-copied g c key =
     let all : length (list_in v) ≤ c.loop-index.index = let end = c.loop-index-test.false in let len = c.len-index-end.ensures in omega arith in
     i.copied.0 key ∙ ap (λ (x : Option ℕ). if key % c.args.self.now.naming.buckets == c.args.number then x else value_among before key)
     (ap (λ l. value_in (note_of v.seen) l key) (take_all c.loop-index.index (list_in v) all) ∙ sym (value_walked q one.number one.seat.me two.seat.me i.walked.2 one.owns.1 one.owns.2 key))
+
+pub returns-clause-looks : goal.returns-clause-looks
+returns-clause-looks g c = let i = c.loop-index.invariant.looks in (i.0, i.1, i.2, tt)

@@ -1,11 +1,14 @@
-use Rattle.std.proofs.Common.{◌≡◌, ◌++◌, List, map}
+use Rattle.std.proofs.Common.{◌≡◌, ◌++◌, ℕ, List, map}
+use Rattle.rcu_model.specs.Sets.{In}
 use Rattle.live_log.specs.Log.{Begins, note_of}
 use Rattle.live_log.specs.Tables.{tabled}
 use Rattle.rcu_list.specs.live_read.Hearing.{Stays}
 use Rattle.rcu_list.specs.live_rule.declared.view.Look.{Look}
+use Rattle.rcu_list.specs.live_table.Rights.{cell_in}
 use Rattle.rcu_list.specs.live_table.Steps.{Keeps, Went}
 use Rattle.rcu_list.specs.live_write.Chains.{list_in}
 use Rattle.rcu_hash.specs.Copies.{AreRanked}
+use Rattle.rcu_hash.specs.Freeing.{FreesAllBut}
 use Rattle.rcu_hash.proofs.Copies.{IsCopied}
 use Rattle.rcu_hash.proofs.bucket.Bucket.copy.Given as goal
 
@@ -14,7 +17,8 @@ invariant-loop-index g l = record {
   copied : IsCopied (note_of l.fn.self.chain.seat.me.0.seen) (list_in l.fn.self.chain.seat.me.0) l.fn.self.naming.buckets l.number (map (λ c. (c.key, c.value)) l.fn.copied.items) l.index (map (λ c. (c.key, c.value)) l.copied.items);
   ranked : AreRanked 0 (map (λ c. c.rank) l.copied.items);
   heard : Begins (g.W.Caller.heard l.fn.caller) (g.W.Caller.heard l.caller);
-  looks : (found : List Look) × (g.W.Caller.looks l.caller ≡ found ++ g.W.Caller.looks l.fn.caller);
+  cells : (i : ℕ) → In (map (λ c. cell_in c.owned.seat.me.0.object) l.fn.copied.items) i → In (map (λ c. cell_in c.owned.seat.me.0.object) l.copied.items) i;
+  looks : (found : List Look) × (g.W.Caller.looks l.caller ≡ found ++ g.W.Caller.looks l.fn.caller) × FreesAllBut g.B.Site.sizes (map (λ c. cell_in c.owned.seat.me.0.object) l.copied.items) found;
   same : Stays g.W.Caller l.fn.caller l.caller × (g.W.Caller.loads l.caller ≡ g.W.Caller.loads l.fn.caller);
   walked : (l.self.naming ≡ l.fn.self.naming) × Keeps l.fn.self.chain.seat l.self.chain.seat × Went g.P.GracePlan.QSBR tabled l.fn.self.chain.seat.me.0 l.fn.self.chain.seat.me l.self.chain.seat.me × (l.self.chain.number ≡ l.fn.self.chain.number) × (l.self.chain.home.now ≡ l.fn.self.chain.home.now);
 }

@@ -1,33 +1,40 @@
-use Rattle.std.proofs.Common.{[], ◌++◌, ◌∙◌, inl, refl}
+use Rattle.std.proofs.Common.{[], ◌∷◌, ◌++◌, ◌∙◌, map, inl, inr, ⊎_elim, refl}
 use Rattle.std.proofs.lemmas.Result.{err_from_is_err_and}
-use Rattle.rcu_model.specs.declared.refusal.Refusal.TheVariants.{Memory}
+use Rattle.rcu_model.specs.declared.refusal.Refusal.TheVariants.{BadConfig, Memory}
 use Rattle.live_log.specs.Tables.{tabled}
 use Rattle.live_log.proofs.Lemmas.{begins_trans}
+use Rattle.rcu_list.specs.live_table.Rights.{cell_in}
 use Rattle.rcu_hash.specs.Refusing.{IsUnused}
 use Rattle.rcu_hash.proofs.Copies.{found_before, found_more}
-use Rattle.rcu_hash.proofs.Holds.{looks_both, not_full}
+use Rattle.rcu_hash.proofs.Freeing.{but_after, but_both, but_weaker, frees_but, not_full}
+use Rattle.rcu_hash.proofs.Holds.{looks_both}
 use Rattle.rcu_hash.proofs.Taking.{during_earlier, told_both, told_looks}
 use Rattle.rcu_hash.proofs.growth.Growth.ready.Goals as goal
 
 pub returns-in_err-rooms-clause-looks : goal.returns-in_err-rooms-clause-looks
 returns-in_err-rooms-clause-looks g c =
     let p = err_from_is_err_and c.from_residual.result c.from_residual.ensures.1 in
-    ([], refl, not_full g.B.Site.sizes [] c.from_residual.result p.0 Memory p.1 (p.2 ∙ c.in_err-rooms.ensures.refused) (λ z. cc))
+    let none = not_full g.B.Site.sizes _ [] c.from_residual.result p.0 Memory p.1 (p.2 ∙ c.in_err-rooms.ensures.refused) (λ z. cc) (λ i. tt) in ([], refl, none.0, none.1)
 
 pub returns-in_err-taken-clause-looks : goal.returns-in_err-taken-clause-looks
 returns-in_err-taken-clause-looks g c =
     let p = err_from_is_err_and c.from_residual-in_err-taken.result c.from_residual-in_err-taken.ensures.1 in
-    ([], refl, not_full g.B.Site.sizes [] c.from_residual-in_err-taken.result p.0 Memory p.1 (p.2 ∙ c.in_err-taken.ensures.refused) (λ z. cc))
+    let none = not_full g.B.Site.sizes _ [] c.from_residual-in_err-taken.result p.0 Memory p.1 (p.2 ∙ c.in_err-taken.ensures.refused) (λ z. cc) (λ i. tt) in ([], refl, none.0, none.1)
 
 pub returns-in_err-room-clause-looks : goal.returns-in_err-room-clause-looks
 returns-in_err-room-clause-looks g c =
     let p = err_from_is_err_and c.from_residual-in_err-room.result c.from_residual-in_err-room.ensures.1 in
-    ([], refl, not_full g.B.Site.sizes [] c.from_residual-in_err-room.result p.0 Memory p.1 (p.2 ∙ c.in_err-room.ensures.refused) (λ z. cc))
+    let none = not_full g.B.Site.sizes _ [] c.from_residual-in_err-room.result p.0 Memory p.1 (p.2 ∙ c.in_err-room.ensures.refused) (λ z. cc) (λ i. tt) in ([], refl, none.0, none.1)
 
 pub returns-in-Err-clause-heard : goal.returns-in-Err-clause-heard
 returns-in-Err-clause-heard g c =
     let w = g.W.Caller in let w0 = c.args.caller.now in let w1 = c.hold_all.new.caller in let w2 = c.copy_all.new.caller in let w3 = c.undo.new.caller in
     begins_trans (w.heard w0) (w.heard w1) (w.heard w3) c.hold_all.ensures.heard (begins_trans (w.heard w1) (w.heard w2) (w.heard w3) c.copy_all.ensures.heard c.undo.ensures.heard)
+
+pub returns-in_err-chains-clause-looks : goal.returns-in_err-chains-clause-looks
+returns-in_err-chains-clause-looks g c =
+    let p = err_from_is_err_and c.from_residual-in_err-chains.result c.from_residual-in_err-chains.ensures.1 in let a = c.hold_all.ensures.same.2 in
+    let none = not_full g.B.Site.sizes _ a.0 c.from_residual-in_err-chains.result p.0 BadConfig p.1 (p.2 ∙ c.in_err-chains.ensures.refused.0) (λ z. cc) a.2 in (a.0, a.1, none.0, none.1)
 
 pub returns-in-Err-clause-looks : goal.returns-in-Err-clause-looks
 returns-in-Err-clause-looks g c =
@@ -35,14 +42,18 @@ returns-in-Err-clause-looks g c =
     let a = c.hold_all.ensures.same.2 in let b = c.in-Err.ensures.looks in let u = c.undo.ensures.told.0 in let sizes = g.B.Site.sizes in (
       u.0 ++ (b.0 ++ a.0),
       looks_both l0 l2 l3 (b.0 ++ a.0) u.0 (looks_both l0 l1 l2 a.0 b.0 a.1 b.1) u.1,
-      λ is. found_before sizes u.0 (b.0 ++ a.0) (found_more sizes b.0 a.0 (b.2 is)),
+      tt,
+      (
+        λ is. found_before sizes u.0 (b.0 ++ a.0) (found_more sizes b.0 a.0 (b.3 is)),
+        u.2 (b.0 ++ a.0) (but_after sizes a.0 b.0 (map (λ x. cell_in x.owned.seat.me.0.object) c.copy_all.new.copied.items) a.2 b.2),
+      ),
     )
 
 pub returns-in-Err-clause-loads : goal.returns-in-Err-clause-loads
 returns-in-Err-clause-loads g c =
     let w = g.W.Caller in let w0 = c.args.caller.now in let w1 = c.hold_all.new.caller in let w2 = c.copy_all.new.caller in let w3 = c.undo.new.caller in
     let a = c.hold_all.ensures.same in let b = c.in-Err.ensures in
-    ((told_both w w0 w2 w3 (told_both w w0 w1 w2 (told_looks w w0 w1 a.2.0 a.2.1 a.1) (told_looks w w1 w2 b.looks.0 b.looks.1 b.same.1)) c.undo.ensures.told).1, tt)
+    ((told_both w w0 w2 w3 (told_both w w0 w1 w2 (told_looks w w0 w1 a.2.0 a.2.1 a.1) (told_looks w w1 w2 b.looks.0 b.looks.1 b.same.1)) ((c.undo.ensures.told.0.0, c.undo.ensures.told.0.1), c.undo.ensures.told.1)).1, tt)
 
 pub returns-in-Ok-clause-heard : goal.returns-in-Ok-clause-heard
 returns-in-Ok-clause-heard g c =
@@ -57,10 +68,15 @@ returns-in-Ok-clause-free g c chain among =
 
 pub returns-in-Ok-clause-looks : goal.returns-in-Ok-clause-looks
 returns-in-Ok-clause-looks g c =
-    let w = g.W.Caller in let w0 = c.args.caller.now in let w1 = c.hold_all.new.caller in let w2 = c.copy_all.new.caller in let w3 = c.provide.new.caller in
-    let a = c.hold_all.ensures.same in let b = c.copy_all.ensures in let p = c.in-Ok.ensures in
-    let told = told_both w w0 w2 w3 (told_both w w0 w1 w2 (told_looks w w0 w1 a.2.0 a.2.1 a.1) (told_looks w w1 w2 b.looks.0 b.looks.1 b.same.1)) (told_looks w w2 w3 p.looks.0 p.looks.1 p.same.1) in
-    (told.0.0, told.0.1, tt)
+    let w = g.W.Caller in let l0 = w.looks c.args.caller.now in let l1 = w.looks c.hold_all.new.caller in let l2 = w.looks c.copy_all.new.caller in let l3 = w.looks c.provide.new.caller in
+    let a = c.hold_all.ensures.same.2 in let b = c.copy_all.ensures.looks in let p = c.in-Ok.ensures.looks in let sizes = g.B.Site.sizes in
+    let cells = map (λ x. cell_in x.owned.seat.me.0.object) c.copy_all.new.copied.items in let cell = cell_in c.in-Ok.owned.seat.me.0.object in let before = b.0 ++ a.0 in (
+      p.0 ++ before,
+      looks_both l0 l2 l3 before p.0 (looks_both l0 l1 l2 a.0 b.0 a.1 b.1) p.1,
+      but_both sizes before p.0 cells (cell ∷ cells) (λ i was. inr was) (but_after sizes a.0 b.0 cells a.2 b.2)
+          (but_weaker sizes (cell ∷ []) (cell ∷ cells) (λ i one. ⊎_elim (λ is. inl is) (λ none. absurd none) one) p.0 p.2),
+      tt,
+    )
 
 pub returns-in-Ok-clause-loads : goal.returns-in-Ok-clause-loads
 returns-in-Ok-clause-loads g c =
@@ -74,17 +90,22 @@ returns-clause-heard g c =
 pub returns-clause-looks : goal.returns-clause-looks
 returns-clause-looks g c =
     let w = g.W.Caller in let l0 = w.looks c.args.caller.now in let l1 = w.looks c.hold_all.new.caller in let l2 = w.looks c.copy_all.new.caller in let l3 = w.looks c.provide.new.caller in let l4 = w.looks c.undo-in-Err-provide.new.caller in
-    let a = c.hold_all.ensures.same.2 in let b = c.copy_all.ensures.looks in let p = c.in-Err-provide.ensures.looks in let u = c.undo-in-Err-provide.ensures.told.0 in let sizes = g.B.Site.sizes in (
-      u.0 ++ (p.0 ++ (b.0 ++ a.0)),
-      looks_both l0 l3 l4 (p.0 ++ (b.0 ++ a.0)) u.0 (looks_both l0 l2 l3 (b.0 ++ a.0) p.0 (looks_both l0 l1 l2 a.0 b.0 a.1 b.1) p.1) u.1,
-      λ is. found_before sizes u.0 (p.0 ++ (b.0 ++ a.0)) (found_more sizes p.0 (b.0 ++ a.0) (p.2 is)),
+    let a = c.hold_all.ensures.same.2 in let b = c.copy_all.ensures.looks in let p = c.in-Err-provide.ensures.looks in let u = c.undo-in-Err-provide.ensures.told.0 in let sizes = g.B.Site.sizes in
+    let cells = map (λ x. cell_in x.owned.seat.me.0.object) c.copy_all.new.copied.items in let before = b.0 ++ a.0 in (
+      u.0 ++ (p.0 ++ before),
+      looks_both l0 l3 l4 (p.0 ++ before) u.0 (looks_both l0 l2 l3 before p.0 (looks_both l0 l1 l2 a.0 b.0 a.1 b.1) p.1) u.1,
+      tt,
+      (
+        λ is. found_before sizes u.0 (p.0 ++ before) (found_more sizes p.0 before (p.3.0 is)),
+        u.2 (p.0 ++ before) (but_both sizes before p.0 cells cells (λ i was. was) (but_after sizes a.0 b.0 cells a.2 b.2) (frees_but sizes cells p.0 p.3.1)),
+      ),
     )
 
 pub returns-clause-loads : goal.returns-clause-loads
 returns-clause-loads g c =
     let w = g.W.Caller in let w0 = c.args.caller.now in let w1 = c.hold_all.new.caller in let w2 = c.copy_all.new.caller in let w3 = c.provide.new.caller in let w4 = c.undo-in-Err-provide.new.caller in
     let a = c.hold_all.ensures.same in let b = c.copy_all.ensures in let p = c.in-Err-provide.ensures in
-    ((told_both w w0 w3 w4 (told_both w w0 w2 w3 (told_both w w0 w1 w2 (told_looks w w0 w1 a.2.0 a.2.1 a.1) (told_looks w w1 w2 b.looks.0 b.looks.1 b.same.1)) (told_looks w w2 w3 p.looks.0 p.looks.1 p.same.1)) c.undo-in-Err-provide.ensures.told).1, tt)
+    ((told_both w w0 w3 w4 (told_both w w0 w2 w3 (told_both w w0 w1 w2 (told_looks w w0 w1 a.2.0 a.2.1 a.1) (told_looks w w1 w2 b.looks.0 b.looks.1 b.same.1)) (told_looks w w2 w3 p.looks.0 p.looks.1 p.same.1)) ((c.undo-in-Err-provide.ensures.told.0.0, c.undo-in-Err-provide.ensures.told.0.1), c.undo-in-Err-provide.ensures.told.1)).1, tt)
 
 pub returns-in_err-chains-clause-refused : goal.returns-in_err-chains-clause-refused
 returns-in_err-chains-clause-refused g c =

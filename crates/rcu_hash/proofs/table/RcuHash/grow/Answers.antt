@@ -1,13 +1,15 @@
-use Rattle.std.proofs.Common.{rules, ◌≡◌, ◌+◌, ◌<◌, ⊎_elim, inl, inr, refl, false, arith, ℕ, List, [], map, vec_len, sym, ap, ◌∙◌, subst}
+use Rattle.std.proofs.Common.{rules, ◌≡◌, ◌+◌, ◌<◌, ⊎_elim, inl, inr, refl, false, arith, ℕ, List, [], ◌∷◌, map, vec_len, sym, ap, ◌∙◌, subst}
 use Rattle.std.proofs.lemmas.List.{length-map}
 use Rattle.std.proofs.lemmas.Result.{err_from_is_err_and}
 use Rattle.live_log.specs.Log.{Log, chain_note}
 use Rattle.live_log.specs.Tables.{tabled}
 use Rattle.live_log.proofs.Lemmas.{begins_trans}
+use Rattle.rcu_list.specs.live_table.Rights.{cell_in}
 use Rattle.rcu_hash.specs.Copies.{value_in_bucket}
 use Rattle.rcu_hash.specs.Growing.{Grows}
 use Rattle.rcu_hash.specs.Refusing.{IsUnused}
 use Rattle.rcu_hash.specs.Tables.{are_apart}
+use Rattle.rcu_hash.proofs.Freeing.{none_as}
 use Rattle.rcu_hash.proofs.Regrown.{grows_go, grows_since}
 use Rattle.rcu_hash.proofs.Taking.{during_earlier, in_both}
 use Rattle.rcu_list.specs.live_read.Hearing.{MakesMany}
@@ -66,3 +68,28 @@ returns-clause-changes g c =
     let w = g.W.Caller in let w0 = c.args.caller.now in let w1 = c.ready.new.caller in let w2 = c.commit-rest.new.caller in let many = vec_len c.in_ok-growth.growth.copied + 1 in
     let left : 0 + many ≡ c.len-left.result + 1 = let len = c.len-left.ensures in omega arith in
     (subst (MakesMany w w0 w2) left (more_made w w0 w1 w2 0 many (none_made w w0 w1 c.ready.ensures.same) c.commit-rest.ensures.same.0), tt)
+
+-- a refused growth keeps no record, and an accepted one as many as it leaves for `tidy`
+pub returns-in_err-growth-clause-looks : goal.returns-in_err-growth-clause-looks
+returns-in_err-growth-clause-looks g c =
+    let p = err_from_is_err_and c.from_residual.result c.from_residual.ensures.1 in let e = c.in_err-growth.ensures.looks in
+    let none = none_as g.B.Site.sizes _ e.0 c.from_residual.result p.0 _ p.1 p.2 e.3 in (e.0, e.1, none.0, none.1)
+
+pub returns-clause-looks : goal.returns-clause-looks
+returns-clause-looks g c =
+    let growth = c.in_ok-growth.growth in let r = c.in_ok-growth.ensures.looks in (
+      r.0,
+      c.commit-rest.ensures.same.1 ∙ r.1,
+      (
+        cell_in growth.owned.seat.me.0.object ∷ map (λ x. cell_in x.owned.seat.me.0.object) growth.copied.items,
+        let many = length-map growth.copied.items (λ x. cell_in x.owned.seat.me.0.object) in let len = c.len-left.ensures in let ok = growth.copied.ok.0 in omega arith,
+        r.2,
+      ),
+      tt,
+    )
+
+pub returns-in-Some-clause-looks : goal.returns-in-Some-clause-looks
+returns-in-Some-clause-looks g c = ([], c.hear.ensures.same.0.0.1, tt, (λ full. cc, λ i. tt))
+
+pub returns-then-not-are_apart-clause-looks : goal.returns-then-not-are_apart-clause-looks
+returns-then-not-are_apart-clause-looks g c = ([], c.hear_named.ensures.same.0.1, tt, (λ full. cc, λ i. tt))

@@ -8,7 +8,7 @@ use Rattle.live_log.specs.Tables.{tabled}
 use Rattle.live_log.proofs.Lemmas.{begins_trans}
 use Rattle.rcu_list.specs.live_rule.declared.view.Look.TheVariants.{Loaded, Stored}
 use Rattle.rcu_list.specs.live_rule.Places.{hold_at}
-use Rattle.rcu_list.specs.live_table.Rights.{object_in}
+use Rattle.rcu_list.specs.live_table.Rights.{cell_in, object_in}
 use Rattle.rcu_hash.specs.Directories.{LeadsTo, directed_map}
 use Rattle.rcu_hash.specs.Growing.{NotesAll}
 use Rattle.rcu_hash.specs.Leaving.{Writes}
@@ -16,46 +16,51 @@ use Rattle.rcu_hash.specs.Naming.{words_by}
 use Rattle.rcu_hash.specs.Refusing.{IsUnused}
 use Rattle.rcu_hash.specs.Tables.{IsAmong, bucket_of}
 use Rattle.rcu_hash.specs.Writers.{Each, HasNoNote, HasNote, HasNothing, IsEmpty, Noted}
-use Rattle.rcu_hash.proofs.Copies.{found_more, none_free}
 use Rattle.rcu_hash.proofs.Emptying.{writes_weaker}
 use Rattle.rcu_hash.proofs.Filling.{notes_weaker}
-use Rattle.rcu_hash.proofs.Holds.{each_map, looks_both, not_full, pair_from, pair_nothing}
+use Rattle.rcu_hash.proofs.Freeing.{but_after, frees_both, keeps_none, keeps_one, none_after, not_full}
+use Rattle.rcu_hash.proofs.Holds.{each_map, looks_both, pair_from, pair_nothing}
 use Rattle.rcu_hash.proofs.Taking.{during_earlier, during_since, place_of, taken_since}
 use Rattle.rcu_hash.proofs.table.RcuHash.new.Goals as goal
 
 pub returns-in_err-chains-clause-looks : goal.returns-in_err-chains-clause-looks
 returns-in_err-chains-clause-looks g c = let p = err_from_is_err_and c.from_residual-in_err-chains.result c.from_residual-in_err-chains.ensures.1 in let m = c.in_err-chains.ensures.refused in
-    ([], refl, not_full g.B.Site.sizes [] c.from_residual-in_err-chains.result p.0 Memory p.1 (p.2 ∙ m) (λ z. cc))
+    let none = not_full g.B.Site.sizes _ [] c.from_residual-in_err-chains.result p.0 Memory p.1 (p.2 ∙ m) (λ z. cc) (λ i. tt) in ([], refl, none.0, none.1)
 
 pub returns-in_err-noted-clause-looks : goal.returns-in_err-noted-clause-looks
 returns-in_err-noted-clause-looks g c = let p = err_from_is_err_and c.from_residual-in_err-noted.result c.from_residual-in_err-noted.ensures.1 in let m = c.in_err-noted.ensures.refused in
-    ([], refl, not_full g.B.Site.sizes [] c.from_residual-in_err-noted.result p.0 Memory p.1 (p.2 ∙ m) (λ z. cc))
+    let none = not_full g.B.Site.sizes _ [] c.from_residual-in_err-noted.result p.0 Memory p.1 (p.2 ∙ m) (λ z. cc) (λ i. tt) in ([], refl, none.0, none.1)
 
 pub returns-in_err-back-clause-looks : goal.returns-in_err-back-clause-looks
 returns-in_err-back-clause-looks g c = let p = err_from_is_err_and c.from_residual-in_err-back.result c.from_residual-in_err-back.ensures.1 in let m = c.in_err-back.ensures.refused in
-    ([], refl, not_full g.B.Site.sizes [] c.from_residual-in_err-back.result p.0 Memory p.1 (p.2 ∙ m) (λ z. cc))
+    let none = not_full g.B.Site.sizes _ [] c.from_residual-in_err-back.result p.0 Memory p.1 (p.2 ∙ m) (λ z. cc) (λ i. tt) in ([], refl, none.0, none.1)
 
 pub returns-in_err-places-clause-looks : goal.returns-in_err-places-clause-looks
 returns-in_err-places-clause-looks g c = let p = err_from_is_err_and c.from_residual-in_err-places.result c.from_residual-in_err-places.ensures.1 in let m = c.in_err-places.ensures.refused in
-    ([], refl, not_full g.B.Site.sizes [] c.from_residual-in_err-places.result p.0 Memory p.1 (p.2 ∙ m) (λ z. cc))
+    let none = not_full g.B.Site.sizes _ [] c.from_residual-in_err-places.result p.0 Memory p.1 (p.2 ∙ m) (λ z. cc) (λ i. tt) in ([], refl, none.0, none.1)
+
+pub returns-in_err-own-clause-looks : goal.returns-in_err-own-clause-looks
+returns-in_err-own-clause-looks g c =
+    let p = err_from_is_err_and c.from_residual-in_err-own.result c.from_residual-in_err-own.ensures.1 in let one = c.hold_empty.ensures.same.2 in
+    let none = not_full g.B.Site.sizes _ one.0 c.from_residual-in_err-own.result p.0 BadConfig p.1 (p.2 ∙ c.in_err-own.ensures.refused.0) (λ z. cc) one.2 in (one.0, one.1, none.0, none.1)
 
 pub returns-in_err-chains-2-clause-looks : goal.returns-in_err-chains-2-clause-looks
 returns-in_err-chains-2-clause-looks g c =
     let p = err_from_is_err_and c.from_residual-in_err-chains-2.result c.from_residual-in_err-chains-2.ensures.1 in let m = c.in_err-chains-2.ensures.refused.0 in let w = g.W.Caller in
     let one = c.hold_empty.ensures.same.2 in let two = c.hold_all.ensures.same.2 in
-    (two.0 ++ one.0, looks_both (w.looks c.args.caller.now) (w.looks c.hold_empty.new.caller) (w.looks c.hold_all.new.caller) one.0 two.0 one.1 two.1, not_full g.B.Site.sizes (two.0 ++ one.0) c.from_residual-in_err-chains-2.result p.0 BadConfig p.1 (p.2 ∙ m) (λ z. cc))
+    let none = not_full g.B.Site.sizes _ (two.0 ++ one.0) c.from_residual-in_err-chains-2.result p.0 BadConfig p.1 (p.2 ∙ m) (λ z. cc) (frees_both g.B.Site.sizes one.0 two.0 one.2 two.2) in (two.0 ++ one.0, looks_both (w.looks c.args.caller.now) (w.looks c.hold_empty.new.caller) (w.looks c.hold_all.new.caller) one.0 two.0 one.1 two.1, none.0, none.1)
 
 pub returns-in_err-lents-clause-looks : goal.returns-in_err-lents-clause-looks
 returns-in_err-lents-clause-looks g c =
     let p = err_from_is_err_and c.from_residual-in_err-lents.result c.from_residual-in_err-lents.ensures.1 in let m = c.in_err-lents.ensures.refused in let w = g.W.Caller in
     let one = c.hold_empty.ensures.same.2 in let two = c.hold_all.ensures.same.2 in
-    (two.0 ++ one.0, looks_both (w.looks c.args.caller.now) (w.looks c.hold_empty.new.caller) (w.looks c.hold_all.new.caller) one.0 two.0 one.1 two.1, not_full g.B.Site.sizes (two.0 ++ one.0) c.from_residual-in_err-lents.result p.0 Memory p.1 (p.2 ∙ m) (λ z. cc))
+    let none = not_full g.B.Site.sizes _ (two.0 ++ one.0) c.from_residual-in_err-lents.result p.0 Memory p.1 (p.2 ∙ m) (λ z. cc) (frees_both g.B.Site.sizes one.0 two.0 one.2 two.2) in (two.0 ++ one.0, looks_both (w.looks c.args.caller.now) (w.looks c.hold_empty.new.caller) (w.looks c.hold_all.new.caller) one.0 two.0 one.1 two.1, none.0, none.1)
 
 pub returns-in-Err-clause-looks : goal.returns-in-Err-clause-looks
 returns-in-Err-clause-looks g c =
     let w = g.W.Caller in let one = c.hold_empty.ensures.same.2 in let two = c.hold_all.ensures.same.2 in let three = c.in-Err.ensures.looks in
     let held = looks_both (w.looks c.args.caller.now) (w.looks c.hold_empty.new.caller) (w.looks c.hold_all.new.caller) one.0 two.0 one.1 two.1 in
-    (three.0 ++ (two.0 ++ one.0), looks_both (w.looks c.args.caller.now) (w.looks c.hold_all.new.caller) (w.looks c.alloc.new.caller) (two.0 ++ one.0) three.0 held three.1, λ full. found_more g.B.Site.sizes three.0 (two.0 ++ one.0) (none_free g.B.Site.sizes three.0 three.2.1))
+    (three.0 ++ (two.0 ++ one.0), looks_both (w.looks c.args.caller.now) (w.looks c.hold_all.new.caller) (w.looks c.alloc.new.caller) (two.0 ++ one.0) three.0 held three.1, tt, none_after g.B.Site.sizes (two.0 ++ one.0) three.0 c.in-Err.refusal (frees_both g.B.Site.sizes one.0 two.0 one.2 two.2) (keeps_none g.B.Site.sizes c.in-Err.refusal three.0 three.2.1))
 
 -- what the caller hears of in a call that is refused comes after all that it had heard of
 pub returns-in_err-chains-clause-later : goal.returns-in_err-chains-clause-later
@@ -119,9 +124,13 @@ returns-clause-later g c = (returns-clause-heard g c).after_heard
 
 pub returns-clause-looks : goal.returns-clause-looks
 returns-clause-looks g c =
-    let w = g.W.Caller in let one = c.hold_empty.ensures.same.2 in let two = c.hold_all.ensures.same.2 in let three = c.alloc.ensures.looks in let n = c.note_all-chains.ensures.same in let d = c.direct-writer.ensures.same in
-    let held = looks_both (w.looks c.args.caller.now) (w.looks c.hold_empty.new.caller) (w.looks c.hold_all.new.caller) one.0 two.0 one.1 two.1 in
-    (three.0 ++ (two.0 ++ one.0), d.1 ∙ (n.0.1 ∙ looks_both (w.looks c.args.caller.now) (w.looks c.hold_all.new.caller) (w.looks c.alloc.new.caller) (two.0 ++ one.0) three.0 held three.1), tt)
+    let w = g.W.Caller in let one = c.hold_empty.ensures.same.2 in let two = c.hold_all.ensures.same.2 in let three = c.in-Ok.ensures.took in let n = c.note_all-chains.ensures.same in let d = c.direct-writer.ensures.same in let cell = cell_in c.in-Ok.owned.seat.me.0.object in
+    let held = looks_both (w.looks c.args.caller.now) (w.looks c.hold_empty.new.caller) (w.looks c.hold_all.new.caller) one.0 two.0 one.1 two.1 in (
+      three.0 ++ (two.0 ++ one.0),
+      d.1 ∙ (n.0.1 ∙ looks_both (w.looks c.args.caller.now) (w.looks c.hold_all.new.caller) (w.looks c.alloc.new.caller) (two.0 ++ one.0) three.0 held three.1),
+      (cell ∷ [], refl, but_after g.B.Site.sizes (two.0 ++ one.0) three.0 (cell ∷ []) (frees_both g.B.Site.sizes one.0 two.0 one.2 two.2) (keeps_one g.B.Site.sizes cell (object_in c.in-Ok.owned.seat.me.0.object).0 three.0 three.2)),
+      tt,
+    )
 
 -- the directory's chain was unused once it was held, and then each bucket's
 pub returns-clause-free : goal.returns-clause-free
