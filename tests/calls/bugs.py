@@ -283,8 +283,8 @@ BUGS = [
     (
         "a growth answers one too few",
         "rcu_hash/src/grow.rt",
-        "let left = growth.copied.len() + 1;",
-        "let left = growth.copied.len();",
+        "let many = growth.copied.len() + 1;",
+        "let many = growth.copied.len();",
     ),
     (
         "a growth loses keys",
@@ -320,8 +320,8 @@ BUGS = [
     (
         "a tidying does not wait",
         "rcu_hash/src/tidying.rt",
-        "        match domain.synchronize(rt, caller) {",
-        "        let waited: Result<(), Refusal> = Ok(());\n        match waited {",
+        "            if let Err(refusal) = self.domain.synchronize(rt, caller) {",
+        "            let waited: Result<(), Refusal> = Ok(());\n            if let Err(refusal) = waited {",
     ),
     # Calls that do more than they say
     (

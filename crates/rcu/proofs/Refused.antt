@@ -1,11 +1,11 @@
 -- What a caller has heard of where a call of a table was refused.
-use Rattle.std.proofs.Common.{◌≡◌, ◌⊎◌, ◌%◌, ◌∙◌, Bool, List, ℕ, inl, inr, subst, sym}
+use Rattle.std.proofs.Common.{◌≡◌, ◌⊎◌, ◌%◌, ◌∙◌, Bool, List, Option, None, Some, IfNone, ℕ, inl, inr, subst, sym}
 use Rattle.rcu_model.specs.declared.refusal.Refusal.{Refusal}
 use Rattle.live_log.specs.declared.event.LiveEvent.{LiveEvent}
 use Rattle.live_log.specs.Log.{Log, Begins}
 use Rattle.live_log.proofs.Lemmas.{begins_trans}
 use Rattle.rcu_hash.specs.live_rule.declared.view.Sizes.{Sizes}
-use Rattle.rcu_hash.specs.live_read.Hearing.{Stays}
+use Rattle.rcu_hash.specs.live_read.Hearing.{FindsNothing, Stays}
 use Rattle.rcu_hash.specs.live_read.declared.caller.Caller.{Ghosts}
 use Rattle.rcu_hash.specs.live_reclaim.Refusing.{RefusesRetirement}
 use Rattle.rcu_hash.specs.rcu_list.Refusing.{FindsNoRecord, GivesBack}
@@ -53,6 +53,11 @@ pub hears_on : {W S : Type 0} (w : Ghosts W S) (a b c : W) → HearsMore w a b �
 hears_on w a b c p q = (q.0 ∙ p.0, begins_trans (w.heard a) (w.heard b) (w.heard c) p.1 q.1)
 
 -- whatever came of a tidying, its caller hears more
-pub tidied_hears : {W S P Q D : Type 0} (w : Ghosts W S) (qsbr : Bool) (allows : Log → LiveEvent → Type 0) (old new : W) {sizes : Sizes} {d : ℕ} {jobs left : List D} → Tidies w qsbr allows old new sizes d jobs left ⊎ (P × Stays w old new × Q) → Begins (w.heard old) (w.heard new) → HearsMore w old new
+pub tidied_hears : {W S P Q D : Type 0} (w : Ghosts W S) (qsbr : Bool) (allows : Log → LiveEvent → Type 0) (old new : W) {sizes : Sizes} {d : ℕ} {jobs left : List D} → Tidies w qsbr allows old new sizes d jobs left ⊎ (P × FindsNothing w old new × Q) → Begins (w.heard old) (w.heard new) → HearsMore w old new
 tidied_hears w qsbr allows old new (inl t) later = (t.uses.made.made.0, later)
-tidied_hears w qsbr allows old new (inr s) later = (s.1.0, later)
+tidied_hears w qsbr allows old new (inr s) later = (s.1.0.0, later)
+
+-- what is so where there is nothing, where there is nothing
+pub if_none : {A : Type 0} (r : Option A) (Q : Type 0) → r ≡ None → IfNone r Q → Q
+if_none None Q none q = q
+if_none (Some x) Q none q = absurd (cc)

@@ -8,6 +8,7 @@ ghost use Rattle.live_log.specs.Log.{Begins};
 ghost use Rattle.rcu_hash.specs.Directories.{HasNoKeys};
 ghost use Rattle.rcu_hash.specs.Growing.{Founds};
 ghost use Rattle.rcu_hash.specs.Refusing.{RefusesRemovalThrough};
+ghost use Rattle.rcu_hash.specs.Tidying.{IsTidied};
 ghost use Rattle.rcu.specs.Keys.{GetsValue, GivesWord, GrewTo, HearsMore};
 
 use crate::words::Word;
@@ -181,7 +182,7 @@ impl<'d, P: GracePlan + Drop, B: Site, F: Deleter + Copy, T: Word + Copy + Drop>
     /// and is offline where its reader is of the quiescent-state flavour.
     ///
     /// Refused with `Memory` where memory is refused, with `Exhausted` where the sequence numbers are used up, and with
-    /// `Closed` as `Domain::retire`; then something is left.
+    /// `Closed` as `Domain::retire`; then something is left. Else nothing is, in the log of which the caller hears.
     pub fn tidy<W: Caller<B>, R: Wait>(
         &self,
         rt: &R,
@@ -189,6 +190,7 @@ impl<'d, P: GracePlan + Drop, B: Site, F: Deleter + Copy, T: Word + Copy + Drop>
         caller: &mut W,
     ) -> Result<(), Refusal>
         ensures heard { HearsMore W.Caller caller.old caller.new }
+        ensures tidied { IfOk result (λ _. IsTidied self.now.table.directory (W.heard caller.new)) }
     {
         let mut many = 0;
         for _ in rt.forever() {
@@ -217,6 +219,7 @@ impl<'d, P: GracePlan + Drop, B: Site, F: Deleter + Copy, T: Word + Copy + Drop>
         buckets: usize,
     ) -> Result<(), Refusal>
         ensures grown { IfOk result (λ _. GrewTo W.Caller P.QSBR B.sizes.chains self.now.table.directory caller.old caller.new first buckets) }
+        ensures tidied { IfOk result (λ _. IsTidied self.now.table.directory (W.heard caller.new)) }
     {
         for _ in rt.forever() {
             match self.table.grow(rt, alloc, caller, first, buckets) {

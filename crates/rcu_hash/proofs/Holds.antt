@@ -157,7 +157,7 @@ module _ (qsbr : Bool) where
         subst IsDirectory (sym same) (is_directory before d old new cell payload step directory)
 
   -- where a directory was replaced there is one still
-  stays_directed : (n : ℕ) (since before log : Log) (d : ℕ) (old new : ObjectId) (cell : ℕ) (payload : List ℕ) → length since ≤ n → log ≡ since ++ Object (Replace d old new cell payload) ∷ before → IsLiveRun qsbr tabled log → IsDirectory (note_of before old) → (state_of log).chain d ≢ []
+  pub stays_directed : (n : ℕ) (since before log : Log) (d : ℕ) (old new : ObjectId) (cell : ℕ) (payload : List ℕ) → length since ≤ n → log ≡ since ++ Object (Replace d old new cell payload) ∷ before → IsLiveRun qsbr tabled log → IsDirectory (note_of before old) → (state_of log).chain d ≢ []
   stays_directed zero since before log d old new cell payload short is run directory none =
       let x : Log = Object (Replace d old new cell payload) ∷ before in
       let step : IsLiveRun qsbr tabled x = run_of qsbr tabled x log (since, is) run in ⊎_elim

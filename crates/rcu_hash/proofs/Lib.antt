@@ -15,4 +15,5 @@ pub mod Ranges
 pub mod Regrown
 pub mod Relinking
 pub mod Taking
+pub mod Tidied
 pub use Rattle.rcu_list.proofs.live_read as live_read

@@ -1,5 +1,5 @@
 -- What a call did with the records that it took.
-use Rattle.std.specs.Prelude.{◌≡◌, ◌≢◌, ◌⊎◌, ℕ, ◌++◌, List, [], ◌∷◌, length}
+use Rattle.std.specs.Prelude.{◌≡◌, ◌≢◌, ◌⊎◌, ℕ, ◌++◌, List, [], ◌∷◌, Result, IfErr, IfOk, length}
 use Rattle.rcu_model.specs.Sets.{In}
 use Rattle.rcu_model.specs.declared.refusal.Refusal.{Refusal}
 use Rattle.rcu_model.specs.declared.refusal.Refusal.TheVariants.{PoolFull}
@@ -7,6 +7,7 @@ use Rattle.rcu_list.specs.live_rule.Places.{cell_at}
 use Rattle.rcu_list.specs.live_rule.declared.view.Look.{Look}
 use Rattle.rcu_list.specs.live_rule.declared.view.Sizes.{Sizes}
 use Rattle.rcu_list.specs.live_table.Steps.{stores_in}
+use Rattle.rcu_list.specs.live_read.declared.caller.Caller.{Ghosts}
 use Rattle.rcu_list.specs.live_write.Searching.{NoRecordIsFree}
 
 -- of stores, the last one first: none was made at this place, or the last one there was of 0
@@ -33,3 +34,7 @@ KeepsMany key many found = (kept : List ℕ) × (length kept ≡ many) × FreesA
 -- a call is refused: the pool was full, if that is why; and it keeps no record
 abbrev pub KeepsNone : Sizes → Refusal → List Look → Type 0
 KeepsNone key e found = (e ≡ PoolFull → NoRecordIsFree key found) × FreesAll key found
+
+-- What a call of a table tells of the pool. An accepted one keeps as many records as are told, a refused one none.
+abbrev pub KeepsRecords : {A W S : Type 0} → Ghosts W S → Sizes → W → W → Result A Refusal → (A → ℕ) → Type 0
+KeepsRecords w key old new r many = (found : List Look) × (w.looks new ≡ found ++ w.looks old) × IfOk r (λ x. KeepsMany key (many x) found) × IfErr r (λ e. KeepsNone key e found)

@@ -1,5 +1,5 @@
 -- What a tidying tells of what earlier directories left.
-use Rattle.std.specs.Prelude.{◌≡◌, ◌⊎◌, ℕ, ◌+◌, ◌%◌, ◌^◌, ◌<◌, ◌≤◌, ◌∷◌, ◌++◌, Bool, List, [], length}
+use Rattle.std.specs.Prelude.{◌≡◌, ◌⊎◌, ℕ, ◌+◌, ◌%◌, ◌^◌, ◌<◌, ◌≤◌, ◌∷◌, ◌++◌, Bool, List, [], Option, Some, length}
 use Rattle.std.proofs.Props.{props}
 use Rattle.rcu_model.specs.declared.event.ObjectId.{ObjectId}
 use Rattle.rcu_model.specs.declared.refusal.Refusal.{Refusal}
@@ -7,17 +7,17 @@ use Rattle.rcu_model.specs.declared.refusal.Refusal.TheVariants.{Closed, Exhaust
 use Rattle.rcu_model.specs.Sets.{In}
 use Rattle.live_log.specs.declared.event.LiveEvent.{LiveEvent}
 use Rattle.live_log.specs.declared.event.LiveEvent.TheVariants.{ChainNote, Object}
-use Rattle.live_log.specs.declared.event.ObjectEvent.TheVariants.{Cut, Replace}
+use Rattle.live_log.specs.declared.event.ObjectEvent.TheVariants.{Cut, Replace, Retire}
 use Rattle.live_log.specs.Log.{Log, Begins, Has, HaveEnded, chain_note, closed_of, note_of, seq_of, state_of}
-use Rattle.live_log.specs.Tables.{IsDirectory}
+use Rattle.live_log.specs.Tables.{IsDirectory, Names}
 use Rattle.rcu_list.specs.live_rule.declared.view.Sizes.{Sizes}
 use Rattle.rcu_list.specs.live_rule.declared.view.View.{View}
 use Rattle.rcu_list.specs.live_items.Retiring.{Queues}
-use Rattle.rcu_list.specs.live_table.Rights.{object_in}
-use Rattle.rcu_list.specs.live_read.Hearing.{MakesMany, Stays}
+use Rattle.rcu_list.specs.live_table.Rights.{object_in, own_in}
+use Rattle.rcu_list.specs.live_read.Hearing.{FindsNothing, MakesMany}
 use Rattle.rcu_list.specs.live_read.declared.caller.Caller.{Ghosts}
 use Rattle.rcu_list.specs.live_write.Chains.{list_in}
-use Rattle.rcu_list.specs.domain.Waiting.{IsExhausted, Synchronized}
+use Rattle.rcu_list.specs.domain.Waiting.{LoadedOnce, Synchronized}
 use Rattle.rcu_list.specs.Calls.{HandsOver}
 use Rattle.rcu_hash.specs.Leaving.{LeavesMap}
 use Rattle.rcu_hash.specs.Writers.{HasKeysIn, HasNote, IsAlone, IsOutside}
@@ -25,6 +25,30 @@ use Rattle.rcu_hash.specs.Writers.{HasKeysIn, HasNote, IsAlone, IsOutside}
 -- the directory is linked in its chain
 abbrev pub IsLinked : ℕ → ObjectId → Log → Type 0
 IsLinked d o log = In ((state_of log).chain d) o × IsDirectory (note_of log o)
+
+-- a chain has lost its note since some log
+pub record WasCleared (since : Log) (c : ℕ) (log : Log) : Type 0 where
+  pub at : Log
+  pub after : Begins since at
+  pub before : Begins (ChainNote c 0 ∷ at) log
+
+-- Of the directories that were replaced in chain d nothing is left but some chains and some records. Each other record
+-- is retired, and each other chain that they named has lost its note since.
+abbrev pub LeavesOnly : ℕ → Log → (ℕ → Type 0) → (ObjectId → Type 0) → Type 0
+LeavesOnly d log chains records = (before : Log) (old new : ObjectId) (cell : ℕ) (payload : List ℕ) → Begins (Object (Replace d old new cell payload) ∷ before) log → IsDirectory (note_of before old) → (Has (Object (Retire old)) log ⊎ records old) × ((c : ℕ) → Names (note_of before old) c → WasCleared (Object (Replace d old new cell payload) ∷ before) c log ⊎ chains c)
+
+-- nothing is left of them; how that came does not matter
+abbrev pub IsTidied : ℕ → Log → Type 0
+IsTidied d log = ∥ LeavesOnly d log (λ c. ⊥) (λ o. ⊥) ∥₁
+
+-- the chains of these writers
+abbrev pub chains_in : List View → List ℕ
+chains_in [] = []
+chains_in (v ∷ vs) = (own_in v.chains).chain ∷ chains_in vs
+
+-- this directory is linked, and these chains and this record are all that is left of those before it
+abbrev pub IsRest : ℕ → ObjectId → List View → Option ObjectId → Log → Type 0
+IsRest d o vs old log = ∥ IsLinked d o log × LeavesOnly d log (In (chains_in vs)) (λ p. old ≡ Some p) ∥₁
 
 -- Every section has ended that was open in some log; before that log the directory was linked.
 pub record HasWaited (d : ℕ) (o : ObjectId) (log : Log) : Type 0 where
@@ -136,17 +160,22 @@ module _ {W S : Type 0} (w : Ghosts W S) (old new : W) where
   abbrev pub IsStopped : {D : Type 0} → List D → Refusal → Type 0
   IsStopped jobs e = ((e ≡ FewJobs) × (jobs ≡ [])) ⊎ IsRefused e
 
-  -- or the wait was refused, and then nothing was retired; something is left
-  abbrev pub StopsTidying : {D : Type 0} → (retired left : ℕ) → List D → Refusal → Type 0
-  StopsTidying retired left jobs e = (0 < left) × (((e ≡ Exhausted) × (retired ≡ 0) × (2 ^ 62 ≤ seq_of (w.heard new))) ⊎ IsStopped jobs e)
-
 module _ {W S : Type 0} (w : Ghosts W S) (qsbr : Bool) (allows : Log → LiveEvent → Type 0) (old new : W) where
-  -- a grace period was waited for, and only then something was retired
+  -- After some waits one was refused: the sequence number was loaded, and was at its end.
+  abbrev pub FindsEnd : Type 0
+  FindsEnd = (earlier : List Log) × LoadedOnce qsbr allows (w.seen old) (w.heard old) (earlier ++ w.loads old) (w.loads new) (w.heard new) × (2 ^ 62 ≤ seq_of (w.heard new))
+
+  -- a tidying stops while something is left: a wait was refused, and nothing was retired; or a retirement was
+  abbrev pub StopsTidying : {D : Type 0} → (retired left : ℕ) → List D → Refusal → Type 0
+  StopsTidying retired left jobs e = (0 < left) × (((e ≡ Exhausted) × (retired ≡ 0) × FindsEnd) ⊎ IsStopped w old new jobs e)
+
+  -- a grace period was waited for, and only then something was retired; there may have been waits before it
   pub record Tidies (sizes : Sizes) (d : ℕ) {D : Type 0} (jobs left : List D) : Type 0 where
+    pub earlier : List Log
     pub waited : Log
-    pub ended : Synchronized qsbr allows (w.seen old) (w.heard old) (w.loads old) (w.loads new) waited
+    pub ended : Synchronized qsbr allows (w.seen old) (w.heard old) (earlier ++ w.loads old) (w.loads new) waited
     pub uses : Uses qsbr allows sizes d (w.seen old) w old new jobs left waited (w.heard new)
 
   -- or nothing was, and the callbacks come back
   abbrev pub EndsTidying : (sizes : Sizes) (d : ℕ) {D : Type 0} → (jobs left : List D) → Type 0
-  EndsTidying sizes d jobs left = Tidies sizes d jobs left ⊎ ((left ≡ jobs) × Stays w old new × ((new ≡ old) ⊎ IsExhausted w qsbr allows old new Exhausted))
+  EndsTidying sizes d jobs left = Tidies sizes d jobs left ⊎ ((left ≡ jobs) × FindsNothing w old new × ((waits : List Log) × (w.loads new ≡ waits ++ w.loads old)))

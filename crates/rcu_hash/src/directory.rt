@@ -105,6 +105,7 @@ impl<'d, P: GracePlan + Drop, B: Site, D: Deleter> Directory<'d, P, B, D> {
         ensures linked { IsLinked self.old.naming.directory self.old.naming.object (W.heard caller.new) }
         ensures noted { (c : ℕ) → IsAmong self.old.naming.first self.old.naming.buckets c → chain_note c (W.heard caller.new) ≡ self.old.naming.directory + 1 }
         ensures heard { IsAfter P.QSBR tabled (W.seen caller.old) (W.heard caller.old) (W.heard caller.new) }
+        ensures told { Begins self.old.chain.seat.me.0.seen (W.heard caller.new) × (W.heard caller.new ≡ self.new.chain.seat.me.0.seen) }
         ensures same { OnlyHears W.Caller caller.old caller.new × (self.new.naming ≡ self.old.naming) }
     {
         self.chain.hear(caller);
@@ -118,31 +119,8 @@ pub(crate) struct Desk<'d, P: GracePlan, B: Site, D: Drop> {
 }
 
 impl<'d, P: GracePlan + Drop, B: Site, D: Deleter> Desk<'d, P, B, D> {
-    /// The writer of the directory that is linked in this chain, out of its lock, to which it is to be given back. A
-    /// lock tells only the type of what it holds, so the chain is compared; it always is the right one.
-    pub(crate) fn take_present<'t, R: Wait>(
-        &'t self,
-        rt: &R,
-        chain: usize,
-    ) -> (
-        MutexGuard<'t, Option<Directory<'d, P, B, D>>>,
-        Directory<'d, P, B, D>,
-    )
-        ensures { result.1.naming.directory ≡ chain }
-    {
-        for _ in rt.forever() {
-            let mut desk = self.writer.lock(rt);
-            if let Some(directory) = desk.take() {
-                if directory.naming.directory == chain {
-                    return (desk, directory);
-                }
-                *desk = Some(directory);
-            }
-        }
-        unreachable!()
-    }
-
-    /// As `take_present`, of this directory, which no other has replaced.
+    /// The writer of this directory, which is linked, out of its lock, to which it is to be given back. A lock tells
+    /// only the type of what it holds, so the directory is compared; it always is the right one.
     pub(crate) fn take<'t, R: Wait>(
         &'t self,
         rt: &R,
@@ -165,9 +143,10 @@ impl<'d, P: GracePlan + Drop, B: Site, D: Deleter> Desk<'d, P, B, D> {
         unreachable!()
     }
 
-    /// The caller hears of a log in which the chains that this directory names have its table's note. It waits for the
-    /// directory's lock.
-    pub(crate) fn hear_named<W: Caller<B>, R: Wait>(&self, rt: &R, naming: Naming, caller: &mut W)
+    /// The caller hears of a log in which this directory is linked, and the chains that it names have its table's note.
+    /// It waits for the directory's lock.
+    pub(crate) fn hear<W: Caller<B>, R: Wait>(&self, rt: &R, naming: Naming, caller: &mut W)
+        ensures linked { IsLinked naming.directory naming.object (W.heard caller.new) }
         ensures noted { (c : ℕ) → IsAmong naming.first naming.buckets c → chain_note c (W.heard caller.new) ≡ naming.directory + 1 }
         ensures heard { IsAfter P.QSBR tabled (W.seen caller.old) (W.heard caller.old) (W.heard caller.new) }
         ensures same { OnlyHears W.Caller caller.old caller.new }

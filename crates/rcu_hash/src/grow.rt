@@ -1,18 +1,18 @@
 //! How a table grows while it is read.
 
-ghost use Rattle.std.specs.Prelude.{◌≡◌, ◌⊎◌, ◌+◌, ◌<◌, ◌≤◌, ◌^◌, ◌++◌, [], ℕ, List, None, Some, IfErr, IfOk, map, vec_capacity, vec_len};
+ghost use Rattle.std.specs.Prelude.{◌≡◌, ◌⊎◌, ◌+◌, ◌<◌, ◌≤◌, ◌^◌, ◌++◌, [], ℕ, List, IfErr, IfOk, map, vec_capacity, vec_len};
 ghost use Rattle.std.specs.Sync.RwLock.{write_guard_value};
 ghost use Rattle.live_log.specs.Log.{Begins, Log};
 ghost use Rattle.live_log.specs.Tables.{tabled};
-ghost use Rattle.rcu_list.specs.live_rule.declared.view.Look.{Look};
 ghost use Rattle.rcu_list.specs.live_table.Rights.{payload_in};
 ghost use Rattle.rcu_list.specs.live_read.Hearing.{MakesMany, OnlyMakesMany, Stays};
 ghost use Rattle.rcu_hash.specs.Copies.{AreApart, AreRanked, value_among, value_in_bucket};
-ghost use Rattle.rcu_hash.specs.Freeing.{KeepsMany, KeepsNone};
+ghost use Rattle.rcu_hash.specs.Freeing.{KeepsRecords};
 ghost use Rattle.rcu_hash.specs.Growing.{Grows};
 ghost use Rattle.rcu_hash.specs.Naming.{words_by};
-ghost use Rattle.rcu_hash.specs.Refusing.{FindsFree};
+ghost use Rattle.rcu_hash.specs.Refusing.{During, FindsFree};
 ghost use Rattle.rcu_hash.specs.Tables.{IsAmong, are_apart};
+ghost use Rattle.rcu_hash.specs.Tidying.{IsLinked, IsTidied};
 ghost use Rattle.rcu_hash.specs.Writers.{AreFrom, Each, HasKeysIn, IsAlone, IsEmpty};
 ghost use Rattle.rcu_hash.specs.Calls.{IsGrown, IsNotGrown};
 
@@ -27,7 +27,7 @@ use crate::shelf::Shelf;
 use crate::table::{RcuHash, fits};
 use gp_memb::GracePlan;
 use live_log::Tabled;
-use rcu_list::{Caller, Chain, Deleter, Site};
+use rcu_list::{Caller, Chain, Deleter, Handle, Site};
 use rcu_model::Refusal;
 use std::alloc::Global;
 use std::sync::{RwLockWriteGuard, Wait};
@@ -62,15 +62,17 @@ fn chains_of<'d, P: GracePlan + Drop, B: Site, D: Deleter>(
 }
 
 /// Fills the new chains, lets another directory take the place of the shelf's, and stocks the shelf with the new
-/// buckets. Answers what the old directory left. The caller hears of that.
+/// buckets. Nothing was left of earlier ones. Answers what the old directory left. The caller hears of that.
 fn commit<'d, P: GracePlan + Drop, B: Site, D: Deleter, W: Caller<B>, R: Wait>(
     rt: &R,
     desk: &Desk<'d, P, B, D>,
     shelf: &mut Shelf<'d, P, B, D>,
     caller: &mut W,
     growth: Growth<'d, P, B, D>,
+    mut handle: Handle<B>,
     first: usize,
 ) -> Left<'d, P, B, D>
+    requires tidied { (start : Log) × Begins start (W.heard caller.old) × IsLinked shelf.old.naming.directory shelf.old.naming.object start × IsTidied shelf.old.naming.directory start }
     requires rooms { (shelf.old.naming.buckets ≤ vec_capacity growth.rooms.olds) × (shelf.old.naming.buckets ≤ vec_capacity growth.rooms.returned) × (vec_len growth.chains ≤ vec_capacity growth.rooms.noted) × (vec_len growth.chains ≤ vec_capacity growth.rooms.named) × (vec_len growth.chains ≤ vec_capacity growth.rooms.places) }
     requires taken { (vec_len growth.taken ≡ shelf.old.naming.buckets) × AreFrom shelf.old.naming.first (map (λ b. b.chain.seat.me.0) growth.taken.items) }
     requires copied { ((key : ℕ) → value_among (map (λ c. (c.key, c.value)) growth.copied.items) key ≡ value_in_bucket shelf.old.naming.buckets (map (λ b. b.chain.seat.me.0) growth.taken.items) key) × AreApart (map (λ c. (c.key, c.value)) growth.copied.items) × AreRanked 0 (map (λ c. c.rank) growth.copied.items) }
@@ -108,8 +110,11 @@ fn commit<'d, P: GracePlan + Drop, B: Site, D: Deleter, W: Caller<B>, R: Wait>(
         lents: new_lents,
         back: rooms.named,
     };
-    let (directory, unlinked, left, named) = exchange(directory, olds, news, caller, owned, first);
+    let (mut directory, unlinked, left, named) = exchange(
+        directory, olds, news, caller, owned, first,
+    );
     let naming = directory.naming;
+    directory.hear(&mut handle);
     *place = Some(directory);
     *shelf = Shelf {
         naming,
@@ -119,33 +124,75 @@ fn commit<'d, P: GracePlan + Drop, B: Site, D: Deleter, W: Caller<B>, R: Wait>(
         naming,
         unlinked: Some(unlinked),
         chains: left,
+        handle,
     }
 }
 
-/// Puts down what a growth left, where nothing is left from an earlier one: that would be lost.
-fn put_down<'d, P: GracePlan, B: Site, D: Deleter>(
-    place: &mut Option<Left<'d, P, B, D>>,
-    left: Left<'d, P, B, D>,
-)
-    requires { place.old ≡ None }
-    ensures { place.new ≡ Some left.entry }
-{
-    *place = Some(left);
-}
-
 impl<'d, P: GracePlan + Drop, B: Site, D: Deleter> RcuHash<'d, P, B, D> {
-    /// The shelf of its buckets, for their only user. A lock tells only the type of what it holds, so the directory's
-    /// chain is compared; it always is the right one.
-    fn own_shelf<'t, R: Wait>(&'t self, rt: &R) -> RwLockWriteGuard<'t, Shelf<'d, P, B, D>>
-        ensures { (write_guard_value result).naming.directory ≡ self.now.directory }
+    /// The shelf of the buckets that this directory names, for their only user. A lock tells only the type of what it
+    /// holds, so the directory is compared; it always is the right one.
+    fn own_shelf<'t, R: Wait>(
+        &'t self,
+        rt: &R,
+        naming: Naming,
+    ) -> RwLockWriteGuard<'t, Shelf<'d, P, B, D>>
+        ensures { (write_guard_value result).naming ≡ naming }
     {
         for _ in rt.forever() {
             let shelf = self.shelf.write(rt);
-            if shelf.naming.directory == self.directory {
+            if shelf.naming.is(naming) {
                 return shelf;
             }
         }
         unreachable!()
+    }
+
+    /// As `grow`, with what is left of earlier directories, and what is left then.
+    fn grow_over<W: Caller<B>, R: Wait>(
+        &self,
+        rt: &R,
+        alloc: Global,
+        caller: &mut W,
+        left: Left<'d, P, B, D>,
+        first: usize,
+        buckets: usize,
+    ) -> (Left<'d, P, B, D>, Result<usize, Refusal>)
+        requires { left.naming.directory ≡ self.now.directory }
+        ensures grown { IfOk result.1 (λ left. IsGrown W.Caller P.QSBR B.sizes caller.old caller.new self.now.directory first buckets left) }
+        ensures tidied { IfOk result.1 (λ _. During W.Caller P.QSBR tabled caller.old caller.new (IsTidied self.now.directory)) }
+        ensures free { IfOk result.1 (λ _. FindsFree W.Caller P.QSBR tabled caller.old caller.new (IsAmong first buckets)) }
+        ensures refused { IfErr result.1 (λ e. IsNotGrown W.Caller P.QSBR B.sizes caller.old caller.new self.now.directory first buckets e) }
+        ensures heard { Begins (W.heard caller.old) (W.heard caller.new) }
+        ensures looks { KeepsRecords W.Caller B.sizes caller.old caller.new result.1 (λ left. left) }
+        ensures loads { ((logs : List Log) × (W.loads caller.new ≡ logs ++ W.loads caller.old)) × IfOk result.1 (λ _. W.loads caller.new ≡ W.loads caller.old) }
+        ensures changes { IfOk result.1 (λ left. MakesMany W.Caller caller.old caller.new left) × IfErr result.1 (λ _. Stays W.Caller caller.old caller.new) }
+    {
+        if left.chains.len() != 0 {
+            return (left.hear(rt, &self.desk, caller), Err(Refusal::Busy));
+        }
+        if !fits(self.domain.chains(), self.directory, first, buckets) {
+            return (left, Err(Refusal::BadConfig));
+        }
+        let old = left.naming;
+        let mut shelf = self.own_shelf(rt, old);
+        if !are_apart(old, first, buckets) {
+            self.desk.hear(rt, old, caller);
+            return (left, Err(Refusal::BadConfig));
+        }
+        let left = left.tell(rt, &self.desk, caller);
+        let growth = match Growth::ready(rt, alloc, self.domain, &shelf, caller, first, buckets) {
+            Ok(growth) => growth,
+            Err(refusal) => return (left, Err(refusal)),
+        };
+        let many = growth.copied.len() + 1;
+        let Left {
+            naming: _,
+            unlinked: _,
+            chains: _,
+            handle,
+        } = left;
+        let left = commit(rt, &self.desk, &mut shelf, caller, growth, handle, first);
+        (left, Ok(many))
     }
 
     /// Another directory, which names as many chains as these, from the first one on, takes the place of this one: the
@@ -170,31 +217,17 @@ impl<'d, P: GracePlan + Drop, B: Site, D: Deleter> RcuHash<'d, P, B, D> {
         buckets: usize,
     ) -> Result<usize, Refusal>
         ensures grown { IfOk result (λ left. IsGrown W.Caller P.QSBR B.sizes caller.old caller.new self.now.directory first buckets left) }
+        ensures tidied { IfOk result (λ _. During W.Caller P.QSBR tabled caller.old caller.new (IsTidied self.now.directory)) }
         ensures free { IfOk result (λ _. FindsFree W.Caller P.QSBR tabled caller.old caller.new (IsAmong first buckets)) }
         ensures refused { IfErr result (λ e. IsNotGrown W.Caller P.QSBR B.sizes caller.old caller.new self.now.directory first buckets e) }
         ensures heard { Begins (W.heard caller.old) (W.heard caller.new) }
-        ensures looks { (found : List Look) × (W.looks caller.new ≡ found ++ W.looks caller.old) × IfOk result (λ left. KeepsMany B.sizes left found) × IfErr result (λ e. KeepsNone B.sizes e found) }
+        ensures looks { KeepsRecords W.Caller B.sizes caller.old caller.new result (λ left. left) }
         ensures loads { ((logs : List Log) × (W.loads caller.new ≡ logs ++ W.loads caller.old)) × IfOk result (λ _. W.loads caller.new ≡ W.loads caller.old) }
         ensures changes { IfOk result (λ left. MakesMany W.Caller caller.old caller.new left) × IfErr result (λ _. Stays W.Caller caller.old caller.new) }
     {
         let (mut place, left) = self.take_left(rt);
-        if let Some(left) = left {
-            *place = Some(left.hear(rt, &self.desk, caller));
-            return Err(Refusal::Busy);
-        }
-        if !fits(self.domain.chains(), self.directory, first, buckets) {
-            return Err(Refusal::BadConfig);
-        }
-        let mut shelf = self.own_shelf(rt);
-        let old = shelf.naming;
-        if !are_apart(old, first, buckets) {
-            self.desk.hear_named(rt, old, caller);
-            return Err(Refusal::BadConfig);
-        }
-        let growth = Growth::ready(rt, alloc, self.domain, &shelf, caller, first, buckets)?;
-        let left = growth.copied.len() + 1;
-        let rest = commit(rt, &self.desk, &mut shelf, caller, growth, first);
-        put_down(&mut place, rest);
-        Ok(left)
+        let (left, answer) = self.grow_over(rt, alloc, caller, left, first, buckets);
+        *place = Some(left);
+        answer
     }
 }

@@ -1,32 +1,36 @@
-//! What an earlier directory left.
+//! What earlier directories left.
 
-ghost use Rattle.std.specs.Prelude.{◌≡◌, ◌+◌, ◌<◌, IfSome, map, vec_len};
+ghost use Rattle.std.specs.Prelude.{◌≡◌, ◌+◌, ◌<◌, IfSome, IsSome, map, option_map, vec_len};
 ghost use Rattle.live_log.specs.Tables.{tabled};
 ghost use Rattle.rcu_list.specs.live_read.Hearing.{IsAfter, OnlyHears};
+ghost use Rattle.rcu_list.specs.live_table.Rights.{object_in};
 ghost use Rattle.rcu_hash.specs.Growing.{HasLeft};
-ghost use Rattle.rcu_hash.specs.Tidying.{IsLeft, IsRecord, record_prop};
+ghost use Rattle.rcu_hash.specs.Tidying.{IsLeft, IsLinked, IsRecord, IsRest, record_prop};
 ghost use Rattle.rcu_hash.specs.Writers.{Each, HasKeysIn, HasNote, IsAlone, IsOutside, alone_prop, each_prop, keys_prop, note_prop, some_prop};
 
 use crate::directory::{Desk, Naming};
 use gp_memb::GracePlan;
 use live_log::Tabled;
-use rcu_list::{Caller, Chain, Deleter, Site, Unlinked};
+use rcu_list::{Caller, Chain, Deleter, Handle, Site, Unlinked};
 use std::sync::Wait;
 
-/// What a directory left when another one took its place: its record, unless that is retired, and chains that it named,
-/// with the objects that are not retired yet.
+/// What is left of the directories before the one that is linked: the record of the last of them, unless that is
+/// retired, and chains that it named, with the objects that are not retired yet. A handle has heard of a log in which
+/// nothing else is left.
 #[derive(Drop)]
 pub(crate) struct Left<'d, P: GracePlan, B: Site, D: Drop> {
-    /// The directory that took its place.
+    /// The directory that is linked.
     pub(crate) naming: Naming,
     pub(crate) unlinked: Option<Unlinked<B>>,
     pub(crate) chains: Vec<Chain<'d, P, Tabled, B, D>>,
-    pub(crate) ghost some: { 0 < vec_len chains },
+    pub(crate) handle: Handle<B>,
+    pub(crate) ghost some: { IsSome unlinked → 0 < vec_len chains },
     pub(crate) ghost alone: { Each IsAlone (map (λ c. c.seat.me.0) chains.items) } by { each_prop IsAlone alone_prop _ },
     pub(crate) ghost keys: { Each HasKeysIn (map (λ c. c.seat.me.0) chains.items) } by { each_prop HasKeysIn keys_prop _ },
     pub(crate) ghost notes: { Each (HasNote (naming.directory + 1)) (map (λ c. c.seat.me.0) chains.items) } by { each_prop (HasNote (naming.directory + 1)) (note_prop (naming.directory + 1)) _ },
     pub(crate) ghost replaced: { IfSome unlinked (λ u. IsRecord naming.directory u.chain u.seat.me.0) } by { some_prop (λ u. IsRecord naming.directory u.chain u.seat.me.0) (λ u. record_prop naming.directory u.chain u.seat.me.0) _ },
     pub(crate) ghost outside: { ∥ Each (IsOutside naming.first naming.buckets) (map (λ c. c.seat.me.0) chains.items) ∥₁ },
+    pub(crate) ghost rest: { IsRest naming.directory naming.object (map (λ c. c.seat.me.0) chains.items) (option_map (λ u. object_in u.seat.me.0.object) unlinked) handle.seat.me.0.heard },
 }
 
 impl<'d, P: GracePlan + Drop, B: Site, D: Deleter> Desk<'d, P, B, D> {
@@ -43,6 +47,7 @@ impl<'d, P: GracePlan + Drop, B: Site, D: Deleter> Desk<'d, P, B, D> {
         ensures left { HasLeft naming.directory (W.heard caller.new) }
         ensures heard { IsAfter P.QSBR tabled (W.seen caller.old) (W.heard caller.old) (W.heard caller.new) }
         ensures chain { IsLeft naming.directory naming.first naming.buckets chain.new.seat.me.0 }
+        ensures number { chain.new.number ≡ chain.old.number }
         ensures same { OnlyHears W.Caller caller.old caller.new }
     {
         let (mut place, directory) = self.take(rt, naming);
@@ -53,13 +58,14 @@ impl<'d, P: GracePlan + Drop, B: Site, D: Deleter> Desk<'d, P, B, D> {
 }
 
 impl<'d, P: GracePlan + Drop, B: Site, D: Deleter> Left<'d, P, B, D> {
-    /// The caller hears of a log in which this is left. It waits for the directory's lock.
+    /// The caller hears of a log in which something is left: there are chains. It waits for the directory's lock.
     pub(crate) fn hear<W: Caller<B>, R: Wait>(
         self,
         rt: &R,
         desk: &Desk<'d, P, B, D>,
         caller: &mut W,
     ) -> Left<'d, P, B, D>
+        requires { 0 < vec_len self.chains }
         ensures left { HasLeft self.entry.naming.directory (W.heard caller.new) }
         ensures heard { IsAfter P.QSBR tabled (W.seen caller.old) (W.heard caller.old) (W.heard caller.new) }
         ensures same { OnlyHears W.Caller caller.old caller.new × (result.naming ≡ self.entry.naming) }
@@ -68,6 +74,7 @@ impl<'d, P: GracePlan + Drop, B: Site, D: Deleter> Left<'d, P, B, D> {
             naming,
             unlinked,
             mut chains,
+            handle,
         } = self;
         let Some(mut chain) = chains.pop() else {
             unreachable!()
@@ -78,6 +85,38 @@ impl<'d, P: GracePlan + Drop, B: Site, D: Deleter> Left<'d, P, B, D> {
             naming,
             unlinked,
             chains,
+            handle,
+        }
+    }
+
+    /// The caller hears of a log in which nothing else is left. It waits for the directory's lock.
+    pub(crate) fn tell<W: Caller<B>, R: Wait>(
+        self,
+        rt: &R,
+        desk: &Desk<'d, P, B, D>,
+        caller: &mut W,
+    ) -> Left<'d, P, B, D>
+        ensures rest { IsRest self.entry.naming.directory self.entry.naming.object (map (λ c. c.seat.me.0) self.entry.chains.items) (option_map (λ u. object_in u.seat.me.0.object) self.entry.unlinked) (W.heard caller.new) }
+        ensures linked { IsLinked self.entry.naming.directory self.entry.naming.object (W.heard caller.new) }
+        ensures heard { IsAfter P.QSBR tabled (W.seen caller.old) (W.heard caller.old) (W.heard caller.new) }
+        ensures same { OnlyHears W.Caller caller.old caller.new }
+        ensures left { (result.naming ≡ self.entry.naming) × (result.chains ≡ self.entry.chains) × (result.unlinked ≡ self.entry.unlinked) }
+    {
+        let Left {
+            naming,
+            unlinked,
+            chains,
+            mut handle,
+        } = self;
+        let (mut place, mut directory) = desk.take(rt, naming);
+        directory.hear(&mut handle);
+        directory.hear(caller);
+        *place = Some(directory);
+        Left {
+            naming,
+            unlinked,
+            chains,
+            handle,
         }
     }
 }

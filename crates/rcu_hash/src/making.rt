@@ -140,6 +140,7 @@ pub(crate) fn direct<'d, P: GracePlan + Drop, B: Site, D: Deleter, W: Caller<B>>
     requires range { (0 < vec_len chains) × (first + vec_len chains ≤ B.sizes.chains) × ((chain.number < first) ⊎ (first + vec_len chains ≤ chain.number)) }
     requires chains { AreFrom first (map (λ c. c.seat.me.0) chains.items) × Each HasNothing (map (λ c. c.seat.me.0) chains.items) × Each (HasNote (chain.number + 1)) (map (λ c. c.seat.me.0) chains.items) × Each IsAlone (map (λ c. c.seat.me.0) chains.items) }
     requires record { payload_in owned.seat.me.0.object ≡ words_by first (vec_len chains) }
+    ensures told { W.heard caller.new ≡ result.0.chain.seat.me.0.seen }
     ensures directory { result.0.naming ≡ record { directory = chain.entry.number; object = object_in owned.seat.me.0.object; first = first; buckets = vec_len chains.entry } }
     ensures chains { (vec_len result.1 ≡ vec_len chains.entry) × AreFrom first (map (λ c. c.seat.me.0) result.1.items) × Each IsAlone (map (λ c. c.seat.me.0) result.1.items) × Each HasKeysIn (map (λ c. c.seat.me.0) result.1.items) × Each (IsNamedBy chain.entry.number (object_in owned.seat.me.0.object)) (map (λ c. c.seat.me.0) result.1.items) }
     ensures map { (key : ℕ) → (directed_map B.sizes.chains chain.entry.number (W.heard caller.new) key ≡ None) × LeadsTo chain.entry.number (W.heard caller.new) key (bucket_of first (vec_len chains.entry) key) }

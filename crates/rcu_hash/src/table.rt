@@ -1,19 +1,18 @@
 //! A hash table.
 
-ghost use Rattle.std.specs.Prelude.{◌≡◌, ◌⊎◌, ◌+◌, ◌<◌, ◌++◌, List, IfErr, IfOk, true};
+ghost use Rattle.std.specs.Prelude.{◌≡◌, ◌⊎◌, ◌<◌, IfErr, IfOk, true};
 ghost use Rattle.std.specs.Sync.RwLock.{read_guard_value};
 ghost use Rattle.live_log.specs.Log.{Begins};
 ghost use Rattle.live_log.specs.Tables.{tabled};
 ghost use Rattle.rcu_list.specs.live_read.Hearing.{IsAfter, MakesLast, Stays};
 ghost use Rattle.rcu_list.specs.live_read.Reads.{Looks};
 ghost use Rattle.rcu_hash.specs.Directories.{AnswersReader, HasNoKeys, VisitsTable};
-ghost use Rattle.rcu_hash.specs.Freeing.{KeepsMany, KeepsNone};
+ghost use Rattle.rcu_hash.specs.Freeing.{KeepsRecords};
 ghost use Rattle.rcu_hash.specs.Growing.{Founds};
 ghost use Rattle.rcu_hash.specs.Refusing.{FindsFree, RefusesInsertionThrough, RefusesRemovalThrough, RefusesReplacementThrough};
 ghost use Rattle.rcu_hash.specs.Tables.{IsAmong, fits};
 ghost use Rattle.rcu_hash.specs.Calls.{IsInsertedThrough, IsNotMade, IsRemovedThrough, IsReplacedThrough};
 ghost use Rattle.rcu_list.specs.Calls.{TakesOneRecord};
-ghost use Rattle.rcu_list.specs.live_rule.declared.view.Look.{Look};
 
 use crate::directory::Desk;
 use crate::left::Left;
@@ -85,7 +84,7 @@ impl<'d, P: GracePlan + Drop, B: Site, D: Deleter> RcuHash<'d, P, B, D> {
         ensures heard { IfOk result (λ _. IsAfter P.QSBR tabled (W.seen caller.old) (W.heard caller.old) (W.heard caller.new)) }
         ensures later { Begins (W.heard caller.old) (W.heard caller.new) }
         ensures refused { IfErr result (λ e. IsNotMade W.Caller P.QSBR B.sizes caller.old caller.new directory first buckets e) }
-        ensures looks { (found : List Look) × (W.looks caller.new ≡ found ++ W.looks caller.old) × IfOk result (λ _. KeepsMany B.sizes 1 found) × IfErr result (λ e. KeepsNone B.sizes e found) }
+        ensures looks { KeepsRecords W.Caller B.sizes caller.old caller.new result (λ _. 1) }
         ensures changes { IfOk result (λ _. MakesLast W.Caller caller.old caller.new (W.heard caller.new)) × IfErr result (λ _. Stays W.Caller caller.old caller.new) }
         ensures same { W.loads caller.new ≡ W.loads caller.old }
     {
@@ -111,6 +110,12 @@ impl<'d, P: GracePlan + Drop, B: Site, D: Deleter> RcuHash<'d, P, B, D> {
         let (writer, chains) = direct(own, chains, lents, back, caller, owned, first);
         let naming = writer.naming;
         let buckets = shelve(chains, places, naming);
+        let left = Left {
+            naming,
+            unlinked: None,
+            chains: Vec::new(alloc),
+            handle: domain.split(caller),
+        };
         Ok(RcuHash {
             directory,
             domain,
@@ -119,7 +124,7 @@ impl<'d, P: GracePlan + Drop, B: Site, D: Deleter> RcuHash<'d, P, B, D> {
                 writer: Mutex::new(Some(writer)),
             },
             shelf: RwLock::new(Shelf { naming, buckets }),
-            left: Mutex::new(None),
+            left: Mutex::new(Some(left)),
         })
     }
 

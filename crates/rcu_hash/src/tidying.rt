@@ -1,16 +1,19 @@
 //! How what earlier directories left is retired.
 
-ghost use Rattle.std.specs.Prelude.{◌≡◌, ◌⊎◌, ◌+◌, ◌^◌, ◌-◌, ◌<◌, ◌++◌, [], ℕ, List, None, IfErr, IfNone, IfOk, IfSome, IsSome, length, map, min, vec_len};
-ghost use Rattle.std.specs.Sync.Mutex.{mutex_guard_value};
-ghost use Rattle.live_log.specs.Log.{Begins};
+ghost use Rattle.std.specs.Prelude.{◌≡◌, ◌⊎◌, ◌+◌, ◌^◌, ◌-◌, ◌<◌, ◌++◌, [], ℕ, List, None, Some, IfErr, IfNone, IfOk, IfSome, IsSome, length, map, min, option_map, vec_len};
+ghost use Rattle.rcu_model.specs.Sets.{In};
+ghost use Rattle.rcu_model.specs.declared.event.ObjectId.{ObjectId};
+ghost use Rattle.live_log.specs.declared.event.LiveEvent.TheVariants.{Object};
+ghost use Rattle.live_log.specs.declared.event.ObjectEvent.TheVariants.{Retire};
+ghost use Rattle.live_log.specs.Log.{Begins, Has, IsLiveRun, Log};
 ghost use Rattle.live_log.specs.Tables.{tabled};
-ghost use Rattle.rcu_list.specs.live_read.Hearing.{FindsNothing, IsAfter, MakesMany, OnlyHears, Stays};
-ghost use Rattle.rcu_list.specs.live_write.Chains.{list_in};
-ghost use Rattle.rcu_list.specs.domain.Waiting.{Synchronized};
-ghost use Rattle.rcu_list.specs.domain.Waiting.{FindsMore, IsExhausted};
-ghost use Rattle.rcu_hash.specs.Tidying.{ClearsNote, HasWaited, IsLeft, IsLinked, IsRecord, IsRefused, IsStopped, RetiresObject, Uses, objects_in, EndsTidying, StopsTidying};
-ghost use Rattle.rcu_hash.specs.Writers.{Each, HasNothing};
 ghost use Rattle.rcu_list.specs.live_rule.declared.view.Look.{Look};
+ghost use Rattle.rcu_list.specs.live_table.Rights.{object_in};
+ghost use Rattle.rcu_list.specs.live_read.Hearing.{IsAfter, MakesMany, OnlyHears, Stays};
+ghost use Rattle.rcu_list.specs.live_write.Chains.{list_in};
+ghost use Rattle.rcu_list.specs.domain.Waiting.{FindsMore};
+ghost use Rattle.rcu_hash.specs.Tidying.{ClearsNote, EndsTidying, HasWaited, IsLeft, IsLinked, IsRecord, IsRefused, IsRest, IsStopped, IsTidied, RetiresObject, StopsTidying, Uses, WasCleared, chains_in, objects_in};
+ghost use Rattle.rcu_hash.specs.Writers.{Each, HasNothing};
 
 use crate::directory::{Desk, Naming};
 use crate::left::Left;
@@ -61,43 +64,6 @@ impl<D> TidyEnd<D> {
 }
 
 impl<'d, P: GracePlan + Drop, B: Site, D: Deleter> Desk<'d, P, B, D> {
-    /// Waits for a grace period that begins while a directory is linked, and answers which. It holds no lock of the
-    /// table meanwhile.
-    ///
-    /// Refused with `Exhausted` where no more of them can be counted.
-    fn settle<W: Caller<B>, R: Wait>(
-        &self,
-        rt: &R,
-        domain: &Domain<P, Tabled, B, D>,
-        directory: usize,
-        caller: &mut W,
-    ) -> Result<Naming, Refusal>
-        ensures waited { IfOk result (λ n. (n.directory ≡ directory) × HasWaited directory n.object (W.heard caller.new)) }
-        ensures ended { IfOk result (λ _. Synchronized P.QSBR tabled (W.seen caller.old) (W.heard caller.old) (W.loads caller.old) (W.loads caller.new) (W.heard caller.new)) }
-        ensures refused { IfErr result (λ e. IsExhausted W.Caller P.QSBR tabled caller.old caller.new e) }
-        ensures heard { Begins (W.heard caller.old) (W.heard caller.new) }
-        ensures same { FindsNothing W.Caller caller.old caller.new }
-    {
-        let naming = self.hear(rt, directory, caller);
-        match domain.synchronize(rt, caller) {
-            Ok(()) => Ok(naming),
-            Err(refusal) => Err(refusal),
-        }
-    }
-
-    /// The caller hears of a log in which a directory is linked: which one. It waits for the directory's lock.
-    fn hear<W: Caller<B>, R: Wait>(&self, rt: &R, directory: usize, caller: &mut W) -> Naming
-        ensures linked { (result.directory ≡ directory) × IsLinked directory result.object (W.heard caller.new) }
-        ensures heard { IsAfter P.QSBR tabled (W.seen caller.old) (W.heard caller.old) (W.heard caller.new) }
-        ensures same { OnlyHears W.Caller caller.old caller.new }
-    {
-        let (mut place, mut present) = self.take_present(rt, directory);
-        present.hear(caller);
-        let naming = present.naming;
-        *place = Some(present);
-        naming
-    }
-
     /// Cuts the first object of a chain that an earlier directory named, and retires it. It waits for the locks of the
     /// directory and of the queue.
     ///
@@ -116,6 +82,7 @@ impl<'d, P: GracePlan + Drop, B: Site, D: Deleter> Desk<'d, P, B, D> {
         ensures retired { IfOk result (λ _. RetiresObject P.QSBR tabled B.sizes naming.directory (W.seen caller.old) (W.heard caller.old) (W.heard caller.new) × (length (list_in chain.old.seat.me.0) ≡ length (list_in chain.new.seat.me.0) + 1)) }
         ensures refused { IfErr result (λ e. (e.1 ≡ job) × IsRefused W.Caller caller.old caller.new e.0 × (list_in chain.new.seat.me.0 ≡ list_in chain.old.seat.me.0)) }
         ensures chain { IsLeft naming.directory naming.first naming.buckets chain.new.seat.me.0 }
+        ensures number { chain.new.number ≡ chain.old.number }
         ensures heard { Begins (W.heard caller.old) (W.heard caller.new) }
         ensures changes { IfOk result (λ _. MakesMany W.Caller caller.old caller.new 1) × IfErr result (λ _. Stays W.Caller caller.old caller.new) }
         ensures same { FindsMore W.Caller caller.old caller.new }
@@ -145,6 +112,7 @@ impl<'d, P: GracePlan + Drop, B: Site, D: Deleter> Desk<'d, P, B, D> {
         ensures emptied { IfOk result (λ _. HasNothing chain.new.seat.me.0) }
         ensures stopped { IfErr result (λ e. (0 < length (list_in chain.new.seat.me.0)) × IsStopped W.Caller caller.old caller.new jobs.new.items e) }
         ensures chain { IsLeft naming.directory naming.first naming.buckets chain.new.seat.me.0 }
+        ensures number { chain.new.number ≡ chain.old.number }
         ensures waited { HasWaited naming.directory naming.object (W.heard caller.new) }
         ensures same { FindsMore W.Caller caller.old caller.new }
     {
@@ -173,6 +141,7 @@ impl<'d, P: GracePlan + Drop, B: Site, D: Deleter> Desk<'d, P, B, D> {
         requires chain { IsLeft naming.directory naming.first naming.buckets chain.seat.me.0 }
         requires nothing { HasNothing chain.seat.me.0 }
         ensures cleared { ClearsNote P.QSBR tabled B.sizes naming.directory (W.seen caller.old) (W.heard caller.old) (W.heard caller.new) }
+        ensures own { WasCleared (W.heard caller.old) chain.entry.number (W.heard caller.new) }
         ensures same { OnlyHears W.Caller caller.old caller.new }
     {
         let mut chain = chain;
@@ -198,6 +167,7 @@ impl<'d, P: GracePlan + Drop, B: Site, D: Deleter> Desk<'d, P, B, D> {
         ensures uses { Uses P.QSBR tabled B.sizes naming.directory (W.seen caller.old) W.Caller caller.old caller.new jobs.old.items jobs.new.items (W.heard caller.old) (W.heard caller.new) }
         ensures chains { Each (IsLeft naming.directory naming.first naming.buckets) (map (λ c. c.seat.me.0) chains.new.items) }
         ensures emptied { IfOk result (λ _. chains.new.items ≡ []) }
+        ensures cleared { (c : ℕ) → In (chains_in (map (λ c. c.seat.me.0) chains.old.items)) c → WasCleared (W.heard caller.old) c (W.heard caller.new) ⊎ In (chains_in (map (λ c. c.seat.me.0) chains.new.items)) c }
         ensures stopped { IfErr result (λ e. (0 < objects_in (map (λ c. c.seat.me.0) chains.new.items)) × IsStopped W.Caller caller.old caller.new jobs.new.items e) }
         ensures same { FindsMore W.Caller caller.old caller.new }
     {
@@ -228,6 +198,7 @@ fn retire_record<P: GracePlan + Drop, B: Site, D: Deleter, W: Caller<B>, R: Wait
 ) -> Result<(), Refusal>
     ensures uses { (d : ℕ) → IfSome replaced.old (λ u. IsRecord d u.chain u.seat.me.0) → Uses P.QSBR tabled B.sizes d (W.seen caller.old) W.Caller caller.old caller.new jobs.old.items jobs.new.items (W.heard caller.old) (W.heard caller.new) }
     ensures retired { IfOk result (λ _. replaced.new ≡ None) }
+    ensures told { (o : ObjectId) → option_map (λ u. object_in u.seat.me.0.object) replaced.old ≡ Some o → Has (Object (Retire o)) (W.heard caller.new) ⊎ (option_map (λ u. object_in u.seat.me.0.object) replaced.new ≡ Some o) }
     ensures kept { (replaced.new ≡ None) ⊎ (replaced.new ≡ replaced.old) }
     ensures stopped { IfErr result (λ e. IsSome replaced.new × IsStopped W.Caller caller.old caller.new jobs.new.items e) }
     ensures heard { Begins (W.heard caller.old) (W.heard caller.new) }
@@ -266,29 +237,40 @@ fn count<P: GracePlan, B: Site, D: Deleter>(
 }
 
 impl<'d, P: GracePlan + Drop, B: Site, D: Deleter> RcuHash<'d, P, B, D> {
-    /// What earlier directories left, out of its lock. A lock tells only the type of what it holds, so the directory's
-    /// chain is compared; it always is the right one.
+    /// What earlier directories left, out of its lock, to which it is to be given back. A lock tells only the type of
+    /// what it holds, so the directory's chain is compared; it always is the right one.
     pub(crate) fn take_left<'t, R: Wait>(
         &'t self,
         rt: &R,
-    ) -> (
-        MutexGuard<'t, Option<Left<'d, P, B, D>>>,
-        Option<Left<'d, P, B, D>>,
-    )
-        ensures taken { IfSome result.1 (λ l. l.naming.directory ≡ self.now.directory) }
-        ensures place { IfNone result.1 (mutex_guard_value result.0 ≡ None) }
+    ) -> (MutexGuard<'t, Option<Left<'d, P, B, D>>>, Left<'d, P, B, D>)
+        ensures { result.1.naming.directory ≡ self.now.directory }
     {
         for _ in rt.forever() {
             let mut place = self.left.lock(rt);
-            let Some(left) = place.take() else {
-                return (place, None);
-            };
-            if left.naming.directory == self.directory {
-                return (place, Some(left));
+            if let Some(left) = place.take() {
+                if left.naming.directory == self.directory {
+                    return (place, left);
+                }
+                *place = Some(left);
             }
-            *place = Some(left);
         }
         unreachable!()
+    }
+
+    /// The caller hears of a log in which nothing is left; or else of one in which this directory is linked. It waits
+    /// for the table's locks.
+    fn find_left<W: Caller<B>, R: Wait>(&self, rt: &R, caller: &mut W) -> Option<Naming>
+        ensures none { IfNone result (IsTidied self.now.directory (W.heard caller.new)) }
+        ensures some { IfSome result (λ n. (n.directory ≡ self.now.directory) × IsLinked n.directory n.object (W.heard caller.new)) }
+        ensures heard { IsAfter P.QSBR tabled (W.seen caller.old) (W.heard caller.old) (W.heard caller.new) }
+        ensures same { OnlyHears W.Caller caller.old caller.new }
+    {
+        let (mut place, left) = self.take_left(rt);
+        let left = left.tell(rt, &self.desk, caller);
+        let naming = left.naming;
+        let none = left.chains.len() == 0;
+        *place = Some(left);
+        if none { None } else { Some(naming) }
     }
 
     /// Retires these after the grace period that was waited for: first the record, then the objects of the chains.
@@ -305,8 +287,11 @@ impl<'d, P: GracePlan + Drop, B: Site, D: Deleter> RcuHash<'d, P, B, D> {
     ) -> Result<(), Refusal>
         requires waited { HasWaited naming.directory naming.object (W.heard caller.old) }
         requires record { IfSome replaced.old (λ u. IsRecord naming.directory u.chain u.seat.me.0) }
-        requires chains { (0 < vec_len chains.old) × Each (IsLeft naming.directory naming.first naming.buckets) (map (λ c. c.seat.me.0) chains.old.items) }
+        requires chains { (IsSome replaced.old → 0 < vec_len chains.old) × Each (IsLeft naming.directory naming.first naming.buckets) (map (λ c. c.seat.me.0) chains.old.items) }
         ensures kept { (replaced.new ≡ None) ⊎ (replaced.new ≡ replaced.old) }
+        ensures told { (o : ObjectId) → option_map (λ u. object_in u.seat.me.0.object) replaced.old ≡ Some o → Has (Object (Retire o)) (W.heard caller.new) ⊎ (option_map (λ u. object_in u.seat.me.0.object) replaced.new ≡ Some o) }
+        ensures cleared { (c : ℕ) → In (chains_in (map (λ c. c.seat.me.0) chains.old.items)) c → WasCleared (W.heard caller.old) c (W.heard caller.new) ⊎ In (chains_in (map (λ c. c.seat.me.0) chains.new.items)) c }
+        ensures done { IfOk result (λ _. (chains.new.items ≡ []) × (replaced.new ≡ None)) }
         ensures chains { IfErr result (λ _. 0 < vec_len chains.new) × Each (IsLeft naming.directory naming.first naming.buckets) (map (λ c. c.seat.me.0) chains.new.items) }
         ensures uses { Uses P.QSBR tabled B.sizes naming.directory (W.seen caller.old) W.Caller caller.old caller.new jobs.old.items jobs.new.items (W.heard caller.old) (W.heard caller.new) }
         ensures stopped { IfErr result (λ e. (IsSome replaced.new ⊎ (0 < objects_in (map (λ c. c.seat.me.0) chains.new.items))) × IsStopped W.Caller caller.old caller.new jobs.new.items e) }
@@ -316,72 +301,90 @@ impl<'d, P: GracePlan + Drop, B: Site, D: Deleter> RcuHash<'d, P, B, D> {
         self.desk.clear_all(rt, naming, caller, chains, jobs)
     }
 
+    /// What is left of the directories before this one, with a handle that has heard of as much as the caller does
+    /// then. It waits for the directory's lock.
+    fn set_down<W: Caller<B>, R: Wait>(
+        &self,
+        rt: &R,
+        caller: &mut W,
+        naming: Naming,
+        unlinked: Option<Unlinked<B>>,
+        chains: Vec<Chain<'d, P, Tabled, B, D>>,
+    ) -> Left<'d, P, B, D>
+        requires some { IsSome unlinked → 0 < vec_len chains }
+        requires record { IfSome unlinked (λ u. IsRecord naming.directory u.chain u.seat.me.0) }
+        requires chains { Each (IsLeft naming.directory naming.first naming.buckets) (map (λ c. c.seat.me.0) chains.items) }
+        requires rest { (log : Log) → Begins (W.heard caller.old) log → IsLiveRun P.QSBR tabled log → IsLinked naming.directory naming.object log → IsRest naming.directory naming.object (map (λ c. c.seat.me.0) chains.items) (option_map (λ u. object_in u.seat.me.0.object) unlinked) log }
+        ensures rest { IsRest naming.directory naming.object (map (λ c. c.seat.me.0) chains.entry.items) (option_map (λ u. object_in u.seat.me.0.object) unlinked) (W.heard caller.new) }
+        ensures heard { IsAfter P.QSBR tabled (W.seen caller.old) (W.heard caller.old) (W.heard caller.new) }
+        ensures same { OnlyHears W.Caller caller.old caller.new }
+    {
+        self.desk.hear(rt, naming, caller);
+        let handle = self.domain.split(caller);
+        Left {
+            naming,
+            unlinked,
+            chains,
+            handle,
+        }
+    }
+
     /// Retires what the directories before this one left, after the grace period that was waited for while it was
-    /// linked. Where there is nothing of it left another thread has tidied since.
+    /// linked. Where another one has taken its place since, the callbacks come back.
     fn retire_behind<W: Caller<B>, R: Wait>(
         &self,
         rt: &R,
         caller: &mut W,
         naming: Naming,
         jobs: Vec<D>,
-    ) -> TidyEnd<D>
+    ) -> Result<TidyEnd<D>, Vec<D>>
+        requires directory { naming.directory ≡ self.now.directory }
         requires waited { HasWaited naming.directory naming.object (W.heard caller.old) }
-        ensures jobs { (used : List D) × (jobs.items ≡ result.jobs.items ++ used) × (length used ≡ result.retired) }
-        ensures uses { Uses P.QSBR tabled B.sizes naming.directory (W.seen caller.old) W.Caller caller.old caller.new jobs.items result.jobs.items (W.heard caller.old) (W.heard caller.new) }
-        ensures done { IfNone result.stop (result.left ≡ 0) }
-        ensures stopped { IfSome result.stop (λ e. (0 < result.left) × IsStopped W.Caller caller.old caller.new result.jobs.items e) }
+        ensures jobs { IfOk result (λ r. (used : List D) × (jobs.items ≡ r.jobs.items ++ used) × (length used ≡ r.retired)) }
+        ensures uses { IfOk result (λ r. Uses P.QSBR tabled B.sizes naming.directory (W.seen caller.old) W.Caller caller.old caller.new jobs.items r.jobs.items (W.heard caller.old) (W.heard caller.new)) }
+        ensures done { IfOk result (λ r. IfNone r.stop ((r.left ≡ 0) × IsTidied naming.directory (W.heard caller.new))) }
+        ensures stopped { IfOk result (λ r. IfSome r.stop (λ e. (0 < r.left) × IsStopped W.Caller caller.old caller.new r.jobs.items e)) }
+        ensures back { IfErr result (λ js. (js ≡ jobs) × (caller.new ≡ caller.old)) }
         ensures same { FindsMore W.Caller caller.old caller.new }
     {
         let (mut place, left) = self.take_left(rt);
-        let mut jobs = jobs;
-        let many = jobs.len();
-        let Some(left) = left else {
-            return TidyEnd::done(0, jobs);
-        };
         let is_its = left.naming.is(naming);
         if !is_its {
             *place = Some(left);
-            return TidyEnd::done(0, jobs);
+            return Err(jobs);
         }
+        let left = left.tell(rt, &self.desk, caller);
         let Left {
             naming: _,
             unlinked: mut replaced,
             mut chains,
+            handle: _,
         } = left;
+        let mut jobs = jobs;
+        let many = jobs.len();
         let answer = self.retire_left(rt, caller, naming, &mut replaced, &mut chains, &mut jobs);
         let retired = many - jobs.len();
-        let Err(refusal) = answer else {
-            return TidyEnd::done(retired, jobs);
-        };
         let left = count(&chains, replaced.is_some() as usize);
-        let rest = Left {
-            naming,
-            unlinked: replaced,
-            chains,
-        };
-        *place = Some(rest);
-        TidyEnd::stopped(retired, left, jobs, refusal)
+        *place = Some(self.set_down(rt, caller, naming, replaced, chains));
+        match answer {
+            Ok(()) => Ok(TidyEnd::done(retired, jobs)),
+            Err(refusal) => Ok(TidyEnd::stopped(retired, left, jobs, refusal)),
+        }
     }
 
-    /// Where no grace period can be waited for, what is left stays.
-    fn keep_left<R: Wait>(&self, rt: &R, jobs: Vec<D>, refusal: Refusal) -> TidyEnd<D>
-        ensures { (result.retired ≡ 0) × (result.jobs ≡ jobs) × IfNone result.stop (result.left ≡ 0) × IfSome result.stop (λ e. (e ≡ refusal) × (0 < result.left)) }
-    {
+    /// How much is left, where something is.
+    fn count_left<R: Wait>(&self, rt: &R) -> usize {
         let (mut place, left) = self.take_left(rt);
-        let Some(left) = left else {
-            return TidyEnd::done(0, jobs);
-        };
         let many = count(&left.chains, left.unlinked.is_some() as usize);
         *place = Some(left);
-        TidyEnd::stopped(0, many, jobs, refusal)
+        many
     }
 
     /// Retires what earlier directories left, one callback each, from the back. Where something is left it waits for a
     /// grace period first, liburcu's `synchronize_rcu`, so a caller has no section or lock open, and is offline where
     /// its reader is of the quiescent-state flavour. What callbacks it does not use come back. Where nothing is left
-    /// the chains of earlier directories have no note, and are given back, as tests show. Where another thread has
-    /// tidied meanwhile, and the table has grown again, it retires nothing and answers that nothing is left, as there
-    /// was a moment at which nothing was.
+    /// each record is retired, and each chain of an earlier directory has lost its note. Where another thread has made
+    /// the table grow meanwhile, it waits for another grace period.
     ///
     /// It stops with `FewJobs` where callbacks run out while objects are left, with `Exhausted` where the grace period
     /// is refused, and with `Closed` or `Memory` as `retire`. While it waits for the grace period it holds no lock:
@@ -389,17 +392,28 @@ impl<'d, P: GracePlan + Drop, B: Site, D: Deleter> RcuHash<'d, P, B, D> {
     pub fn tidy<W: Caller<B>, R: Wait>(&self, rt: &R, caller: &mut W, jobs: Vec<D>) -> TidyEnd<D>
         ensures jobs { (used : List D) × (jobs.items ≡ result.jobs.items ++ used) × (length used ≡ result.retired) }
         ensures tidied { EndsTidying W.Caller P.QSBR tabled caller.old caller.new B.sizes self.now.directory jobs.items result.jobs.items }
-        ensures done { IfNone result.stop (result.left ≡ 0) }
-        ensures stopped { IfSome result.stop (λ e. StopsTidying W.Caller caller.old caller.new result.retired result.left result.jobs.items e) }
+        ensures done { IfNone result.stop ((result.left ≡ 0) × IsTidied self.now.directory (W.heard caller.new)) }
+        ensures stopped { IfSome result.stop (λ e. StopsTidying W.Caller P.QSBR tabled caller.old caller.new result.retired result.left result.jobs.items e) }
         ensures heard { Begins (W.heard caller.old) (W.heard caller.new) }
         ensures same { (found : List Look) × (W.looks caller.new ≡ found ++ W.looks caller.old) }
     {
-        if self.left.lock(rt).is_none() {
-            return TidyEnd::done(0, jobs);
+        let mut jobs = jobs;
+        for _ in rt.forever() {
+            let Some(naming) = self.find_left(rt, caller) else {
+                return TidyEnd::done(0, jobs);
+            };
+            if let Err(refusal) = self.domain.synchronize(rt, caller) {
+                let left = self.count_left(rt);
+                if left > 0 {
+                    return TidyEnd::stopped(0, left, jobs, refusal);
+                }
+                continue;
+            }
+            jobs = match self.retire_behind(rt, caller, naming, jobs) {
+                Ok(end) => return end,
+                Err(back) => back,
+            };
         }
-        match self.desk.settle(rt, self.domain, self.directory, caller) {
-            Ok(naming) => self.retire_behind(rt, caller, naming, jobs),
-            Err(refusal) => self.keep_left(rt, jobs, refusal),
-        }
+        unreachable!()
     }
 }

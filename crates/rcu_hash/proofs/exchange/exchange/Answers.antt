@@ -279,3 +279,39 @@ returns-clause-grown g c entries apart had =
 
 pub returns-clause-same : goal.returns-clause-same
 returns-clause-same g c = let s = c.in-Ok.ensures in subst (OnlyMakesLast g.W.Caller c.args.caller.now c.replace.new.caller) (sym s.heard) s.same
+
+pub returns-clause-told : goal.returns-clause-told
+returns-clause-told g c = c.in-Ok.ensures.heard ∙ sym (c.take_all_back-named.ensures.from.1 ∙ c.take_all_back-left.ensures.from.1)
+
+pub returns-clause-object : goal.returns-clause-object
+returns-clause-object g c =
+    let dir = c.args.directory in let vs = map (λ x. x.seat.me.0) c.args.olds.chains.items in let us = map (λ x. x.seat.me.0) c.args.news.chains.items in
+    let looked = c.note.ensures.looked in let e1 = c.lend_all-old_lents.ensures in let e2 = c.lend_all-new_lents.ensures in
+    let zero = dir.chain.seat.me.0 in let three = c.lend_all-new_lents.new.to.seat.me.0 in let x : ChainRight = own_in zero.chains in
+    let lent : three.chains ≡ x ∷ (rights_of vs ++ rights_of us) = e2.chains ∙ ap (λ (xs : List ChainRight). xs ++ rights_of us) (e1.chains ∙ ap (λ (xs : List ChainRight). xs ++ rights_of vs) (ap (λ (v : View). v.chains) looked.1.1 ∙ (dir.chain.owns.0 ∙ ap (λ (xs : List ChainRight). x ∷ xs) dir.own.1))) in
+    let list : list_in three ≡ dir.naming.object ∷ [] = ap (λ (xs : List ChainRight). (own_in xs).objects) lent ∙ dir.alone in
+    sym (first_only dir.naming.object (object_in c.in-Ok.unlinked.seat.me.0.object) (list_in three) list c.in-Ok.ensures.object.0)
+
+pub returns-clause-wrote : goal.returns-clause-wrote
+returns-clause-wrote g c =
+    let q = g.P.GracePlan.QSBR in let w = g.W.Caller in let w0 = c.args.caller.now in let dir = c.args.directory in let d = dir.naming.directory in let first = c.args.first in let many = vec_len c.args.news.chains in
+    let vs = map (λ x. x.seat.me.0) c.args.olds.chains.items in let us = map (λ x. x.seat.me.0) c.args.news.chains.items in
+    let looked = c.note.ensures.looked in let e1 = c.lend_all-old_lents.ensures in let e2 = c.lend_all-new_lents.ensures in
+    let zero = dir.chain.seat.me.0 in let one = c.note.new.self.seat.me.0 in let two = c.lend_all-old_lents.new.to.seat.me.0 in let three = c.lend_all-new_lents.new.to.seat.me.0 in let x : ChainRight = own_in zero.chains in
+    let lent : three.chains ≡ x ∷ (rights_of vs ++ rights_of us) = e2.chains ∙ ap (λ (xs : List ChainRight). xs ++ rights_of us) (e1.chains ∙ ap (λ (xs : List ChainRight). xs ++ rights_of vs) (ap (λ (v : View). v.chains) looked.1.1 ∙ (dir.chain.owns.0 ∙ ap (λ (xs : List ChainRight). x ∷ xs) dir.own.1))) in
+    let s = c.in-Ok.ensures in let p = s.replaced in let o = dir.naming.object in let owned = c.args.owned.seat.me.0 in let new = object_in owned.object in let cell = cell_in owned.object in let log : Log = c.replace.new.self.seat.me.0.seen in let before : Log = p.before in
+    let list : list_in three ≡ o ∷ [] = ap (λ (xs : List ChainRight). (own_in xs).objects) lent ∙ dir.alone in
+    let own : x.chain ≡ d = dir.chain.owns.2 ∙ dir.own.0 in
+    let left : ObjectId = object_in c.in-Ok.unlinked.seat.me.0.object in
+    let o_is : o ≡ left = first_only o left (list_in three) list s.object.0 in
+    let d_is : (own_in three.chains).chain ≡ d = ap (λ (xs : List ChainRight). (own_in xs).chain) lent ∙ own in
+    let event : Object (Replace (own_in three.chains).chain left new cell (payload_in owned.object)) ≡ Object (Replace d o new cell (words_by first many)) = λ i. Object (Replace (d_is i) (sym o_is i) new cell (c.requires.record i)) in
+    let wrote : log ≡ Object (Replace d o new cell (words_by first many)) ∷ before = p.wrote ∙ ap (λ (z : LiveEvent). z ∷ before) event in
+    let known : AreAsKnown before (x ∷ (rights_of vs ++ rights_of us)) = subst (AreAsKnown before) lent p.known in
+    let later : Begins zero.seen before = begins_trans zero.seen one.seen before looked.1.2.0 (begins_trans one.seen two.seen before e1.later.0 (begins_trans two.seen three.seen before e2.later.0 p.after.after_writer.0)) in
+    let run_before = run_of q tabled before log (Object (Replace d o new cell (words_by first many)) ∷ [], wrote) p.run in (
+      cell,
+      record { before = before; wrote = s.heard ∙ wrote; after = p.after.after_caller; run = subst (IsLiveRun q tabled) (sym s.heard) p.run },
+      ap (state_of before).chain (sym own) ∙ (known.0.0 ∙ dir.alone),
+      words_since q zero before o dir.naming.first dir.naming.buckets later run_before dir.chain.owns.1 dir.alone dir.words,
+    )

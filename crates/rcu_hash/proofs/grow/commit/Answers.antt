@@ -1,4 +1,5 @@
-use Rattle.std.proofs.Common.{◌≡◌, ◌⊎◌, ◌+◌, ◌%◌, ◌≤◌, ℕ, List, [], ◌∷◌, length, map, vec_len, sym, ap, ◌∙◌, subst, arith}
+use Rattle.std.proofs.Common.{◌≡◌, ◌⊎◌, ◌+◌, ◌%◌, ◌≤◌, ℕ, List, [], ◌∷◌, Some, length, map, vec_len, sym, ap, ◌∙◌, subst, arith}
+use Rattle.rcu_model.specs.declared.event.ObjectId.{ObjectId}
 use Rattle.std.proofs.lemmas.List.{length-map}
 use Rattle.live_log.specs.Log.{Log, Begins, note_of, state_of}
 use Rattle.live_log.specs.Tables.{tabled}
@@ -6,13 +7,13 @@ use Rattle.live_log.proofs.Lemmas.{begins_trans, run_of}
 use Rattle.rcu_list.specs.live_rule.Seats.{lent_chains}
 use Rattle.rcu_list.specs.live_rule.declared.rights.ChainRight.{ChainRight}
 use Rattle.rcu_list.specs.live_rule.declared.view.View.{View}
-use Rattle.rcu_list.specs.live_table.Rights.{IsListed, own_in}
+use Rattle.rcu_list.specs.live_table.Rights.{IsListed, object_in, own_in}
 use Rattle.rcu_list.proofs.Lemmas.{chain_known}
 use Rattle.rcu_hash.specs.Copies.{value_among, value_in_bucket}
 use Rattle.rcu_hash.specs.Growing.{CopiesAll, Exchanges, Grows, NotesAll}
 use Rattle.rcu_hash.specs.Leaving.{LeavesMap, Writes}
 use Rattle.rcu_hash.specs.Naming.{words_by}
-use Rattle.rcu_hash.specs.Tidying.{IsRecord}
+use Rattle.rcu_hash.specs.Tidying.{IsLinked, IsRecord, IsRest, IsTidied}
 use Rattle.rcu_hash.specs.Writers.{Each, HasNote, IsOutside, Noted}
 use Rattle.rcu_hash.specs.declared.directory.Naming.{Naming}
 use Rattle.rcu_hash.proofs.Emptying.{leaves_weaker}
@@ -23,6 +24,7 @@ use Rattle.rcu_hash.proofs.Named.{own_used, words_later}
 use Rattle.rcu_hash.proofs.Regrown.{all_outside, noted_since, numbers_from, pair_keys, pair_values}
 use Rattle.rcu_list.specs.live_read.Hearing.{OnlyMakesMany}
 use Rattle.rcu_list.proofs.live_read.Lemmas.{hears_makes, more_only, none_only, one_only}
+use Rattle.rcu_hash.proofs.Tidied.{linked_by, rest_later, rest_replaced}
 use Rattle.rcu_hash.proofs.grow.commit.Goals as goal
 
 pub invariant_of-directory : goal.invariant_of-directory
@@ -77,14 +79,29 @@ invariant_of-result g c =
     let size : vec_len c.note_all.result ≡ vec_len c.args.growth.chains = n.noted.0 ∙ f.chains.0 in
     let many : length vs ≡ d.naming.buckets = length-map items (λ y. y.seat.me.0) ∙ (sym c.exchange-directory.result.2.ok.0 ∙ (x.olds.0 ∙ (o.known.0 ∙ (c.requires.taken.0 ∙ ap (λ (m : Naming). m.buckets) (sym is))))) in
     let apart : (d.naming.first + d.naming.buckets ≤ first) ⊎ (first + vec_len c.note_all.result ≤ d.naming.first) =
-    subst (λ (m : Naming). (m.first + m.buckets ≤ first) ⊎ (first + vec_len c.note_all.result ≤ m.first)) (sym is) (subst (λ (k : ℕ). (old.first + old.buckets ≤ first) ⊎ (first + k ≤ old.first)) (sym size) c.requires.apart.1) in record {
-      some = let more = d.fits.0 in let has = length-map items (λ y. y.seat.me.0) in omega (arith, more, has, many, c.exchange-directory.result.2.ok);
+    subst (λ (m : Naming). (m.first + m.buckets ≤ first) ⊎ (first + vec_len c.note_all.result ≤ m.first)) (sym is) (subst (λ (k : ℕ). (old.first + old.buckets ≤ first) ⊎ (first + k ≤ old.first)) (sym size) c.requires.apart.1) in
+    let w = g.W.Caller in let z : Naming = d.naming in let log : Log = w.heard c.exchange-directory.new.caller in let u = c.exchange-directory.result.1 in let e : Naming = c.exchange-directory.result.0.naming in
+    let same : e.directory ≡ z.directory = ap (λ (m : Naming). m.directory) x.directory in
+    let known = c.requires.tidied in let start : Log = known.0 in
+    let h = c.hear.ensures in let w3 : Log = w.heard c.note_all.new.caller in
+    let begun : Begins start w3 = begins_trans start (w.heard c.hear.new.caller) w3 (subst (Begins start) (sym h.heard) (begins_trans start (w.heard c.args.caller.now) c.hear.new.self.seat.me.0.seen known.1 h.told.0.after_heard)) (begins_trans (w.heard c.hear.new.caller) (w.heard c.fill.new.caller) w3 f.heard n.heard) in
+    let dir = c.exchange-directory.result.0 in
+    let linked : IsLinked z.directory e.object log = subst (IsLinked z.directory e.object) (sym x.told) (subst (λ (k : ℕ). IsLinked k e.object dir.chain.seat.me.0.seen) same (linked_by dir.chain.seat.me.0 e.directory e.object e.first e.buckets dir.chain.owns.1 (dir.chain.owns.2 ∙ dir.own.0) dir.alone dir.words)) in
+    let named : e.object ≡ object_in c.args.growth.owned.seat.me.0.object = ap (λ (m : Naming). m.object) x.directory in
+    let rest : IsRest z.directory e.object vs (Some (object_in u.seat.me.0.object)) log = subst (λ (p : ObjectId). IsRest z.directory p vs (Some (object_in u.seat.me.0.object)) log) (sym named)
+    (rest_replaced g.P.GracePlan.QSBR z.directory z.object (object_in c.args.growth.owned.seat.me.0.object) (object_in u.seat.me.0.object) z.first z.buckets vs start (w.seen c.note_all.new.caller) w3 log x.wrote.0 _ begun x.wrote.1 x.wrote.2 x.wrote.3 x.olds.1 many x.object
+    (subst (λ (m : Naming). IsLinked m.directory m.object start) (sym is) known.2) (subst (λ (p : ObjectId). IsLinked z.directory p log) named linked) (subst (λ (m : Naming). IsTidied m.directory start) (sym is) known.3))
+    in record {
+      some = λ one. let more = d.fits.0 in let has = length-map items (λ y. y.seat.me.0) in omega (arith, more, has, many, c.exchange-directory.result.2.ok);
       alone = x.olds.2;
       keys = x.olds.3;
       notes = subst (λ (m : Naming). Each (HasNote (m.directory + 1)) vs) (sym x.directory) x.olds.4;
       replaced = subst (λ (m : Naming). IsRecord m.directory c.exchange-directory.result.1.chain c.exchange-directory.result.1.seat.me.0) (sym x.directory) x.unlinked;
       outside = subst (λ (m : Naming). ∥ Each (IsOutside m.first m.buckets) vs ∥₁) (sym x.directory)
           ∣ all_outside d.naming.first d.naming.buckets first (vec_len c.note_all.result) d.naming.first vs apart (omega arith) (omega arith) x.olds.1 ∣₁;
+      rest =
+          let y = c.hear-2.ensures in let t : Log = c.hear-2.new.caller.seat.me.0.heard in
+          rest_later g.P.GracePlan.QSBR e.directory e.object vs (Some (object_in u.seat.me.0.object)) log t (subst (λ (l : Log). Begins l t) (sym x.told) y.told.0) y.heard.run y.linked (subst (λ (k : ℕ). IsRest k e.object vs (Some (object_in u.seat.me.0.object)) log) (sym same) rest);
     }
 
 pub returns-clause-grown : goal.returns-clause-grown

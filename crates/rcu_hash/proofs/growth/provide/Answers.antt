@@ -1,9 +1,7 @@
 use Rattle.std.proofs.Common.{[], refl, ◌∙◌}
 use Rattle.std.proofs.lemmas.Result.{err_from_is_err_and}
 use Rattle.rcu_model.specs.declared.refusal.Refusal.TheVariants.{Memory}
-use Rattle.rcu_list.specs.live_table.Rights.{cell_in}
-use Rattle.rcu_hash.specs.Freeing.{FreesAllBut}
-use Rattle.rcu_hash.proofs.Freeing.{keeps_none, keeps_one, not_full}
+use Rattle.rcu_hash.proofs.Freeing.{not_full}
 use Rattle.rcu_hash.proofs.growth.provide.Goals as goal
 
 pub returns-in_err-old_lents-clause-looks : goal.returns-in_err-old_lents-clause-looks

@@ -165,3 +165,6 @@ returns-clause-pushed g c =
 
 pub returns-clause-same : goal.returns-clause-same
 returns-clause-same g c = let p = c.push-object.ensures in subst (OnlyMakesLast g.W.Caller c.args.caller.now c.push-object.new.caller) (sym p.heard) p.same
+
+pub returns-clause-told : goal.returns-clause-told
+returns-clause-told g c = c.push-object.ensures.heard ∙ sym c.take_all_back-back.ensures.from.1

@@ -1,5 +1,9 @@
-use Rattle.std.proofs.Common.{rules, ◌≡◌, ℕ, Option, Some, IfSome, ◌++◌, ◌%◌, ◌∷◌, [], ap, sym, ◌∙◌, subst, refl}
-use Rattle.live_log.specs.Log.{Log, Begins}
+use Rattle.std.proofs.Common.{rules, ◌≡◌, ℕ, Option, Some, IfSome, option_map, ◌++◌, ◌%◌, ◌∷◌, [], ap, sym, ◌∙◌, subst, refl, inl, inr}
+use Rattle.rcu_model.specs.declared.event.ObjectId.{ObjectId}
+use Rattle.rcu_model.proofs.Lemmas.{some_is}
+use Rattle.live_log.specs.declared.event.LiveEvent.TheVariants.{Object}
+use Rattle.live_log.specs.declared.event.ObjectEvent.TheVariants.{Retire}
+use Rattle.live_log.specs.Log.{Log, Begins, Has}
 use Rattle.live_log.specs.Tables.{tabled}
 use Rattle.rcu_list.specs.live_table.Rights.{object_in}
 use Rattle.rcu_list.specs.live_write.declared.records.Unlinked.{Unlinked}
@@ -7,6 +11,7 @@ use Rattle.rcu_list.specs.live_items.Retiring.{IsAfterAll, Queues}
 use Rattle.rcu_hash.specs.Tidying.{IsRecord, Retires, Uses, WasReplaced}
 use Rattle.rcu_hash.proofs.Emptying.{queued_later, refused_finds, replaced_later, stays_none, uses_none, uses_one}
 use Rattle.rcu_list.proofs.live_read.Lemmas.{none_made}
+use Rattle.rcu_hash.proofs.Tidied.{retired_by}
 use Rattle.rcu_hash.proofs.tidying.retire_record.Goals as goal
 
 pub returns-in_default-clause-uses : goal.returns-in_default-clause-uses
@@ -58,3 +63,23 @@ returns-in-Err-clause-same g c =
 
 pub returns-in-Err-clause-changes : goal.returns-in-Err-clause-changes
 returns-in-Err-clause-changes g c = c.in-Err.ensures.refused.same.0
+
+pub returns-in_default-clause-told : goal.returns-in_default-clause-told
+returns-in_default-clause-told g c o is = let same : c.args.replaced.now ≡ c.take.new.self = search rules in
+    inr (subst (λ r. option_map (λ u. object_in u.seat.me.0.object) r ≡ Some o) same is)
+
+pub returns-in_default-pop-clause-told : goal.returns-in_default-pop-clause-told
+returns-in_default-pop-clause-told g c o is = let same : c.args.replaced.now ≡ Some c.in-Some.unlinked = search rules in
+    inr (subst (λ r. option_map (λ u. object_in u.seat.me.0.object) r ≡ Some o) same is)
+
+pub returns-in-Ok-clause-told : goal.returns-in-Ok-clause-told
+returns-in-Ok-clause-told g c o is =
+    let u = c.in-Some.unlinked in let r = c.in-Ok.ensures.queued in let w2 : Log = g.W.Caller.heard c.retire.new.caller in let same : c.args.replaced.now ≡ Some u = search rules in
+    let one : Some (object_in u.seat.me.0.object) ≡ Some o = subst (λ r. option_map (λ u. object_in u.seat.me.0.object) r ≡ Some o) same is in
+    inl (subst (λ (p : ObjectId). Has (Object (Retire p)) w2) (some_is (object_in u.seat.me.0.object) o one)
+    (retired_by g.P.GracePlan.QSBR tabled (IsAfterAll u.seat.me.0.seen (g.W.Caller.seen c.args.caller.now) (g.W.Caller.heard c.args.caller.now)) (object_in u.seat.me.0.object) (u.chain % g.B.Site.sizes.queues) r.0 w2 r.2))
+
+pub returns-in-Err-clause-told : goal.returns-in-Err-clause-told
+returns-in-Err-clause-told g c o is = let same : c.args.replaced.now ≡ Some c.in-Some.unlinked = search rules in
+    let back = c.in-Err.ensures.back.0 in
+    inr (ap (λ u. Some (object_in u.seat.me.0.object)) back ∙ subst (λ r. option_map (λ u. object_in u.seat.me.0.object) r ≡ Some o) same is)

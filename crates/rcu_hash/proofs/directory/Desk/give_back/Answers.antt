@@ -67,3 +67,11 @@ returns-clause-cleared g c =
       };
       noted = ap (λ (i : ℕ). chain_note i before) (sym three.owns.2) ∙ noted_there q three.seat.me.0 n.directory n.object (own_in one.seat.me.0.chains) (own_in d.chain.seat.me.0.chains) e.chains.0 (d.chain.owns.2 ∙ d.own.0) d.alone three.owns.0 three.owns.1 noted before k.known;
     }))
+
+pub returns-clause-own : goal.returns-clause-own
+returns-clause-own g c =
+    let k = c.set_note.ensures.noted in let e = c.lend-lent.ensures in record {
+      at = k.before;
+      after = k.after.after_caller.1;
+      before = ([], c.set_note.ensures.heard ∙ (k.wrote ∙ (λ i. ChainNote (e.chains.1 i) 0 ∷ k.before)));
+    }

@@ -65,3 +65,6 @@ returns-clause-chain g c =
       ap (λ (x : List ChainRight). (own_in x).note) b.0 ∙ (ap (λ (x : List ChainRight). (own_in x).note) h.chains.0 ∙ (ap (λ (x : List ChainRight). (own_in x).note) e.chains.0 ∙ left.2)),
       subst (λ (k : ℕ). ∥ (k < n.first) ⊎ (n.first + n.buckets ≤ k) ∥₁) (one.owns.2 ∙ sym (five.owns.2 ∙ (b.2 ∙ (h.chains.1 ∙ e.chains.1)))) left.3,
     )
+
+pub returns-clause-number : goal.returns-clause-number
+returns-clause-number g c = c.take_back.ensures.from.2 ∙ (c.hear.ensures.chains.1 ∙ c.lend-lent.ensures.chains.1)

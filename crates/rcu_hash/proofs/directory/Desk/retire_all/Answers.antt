@@ -11,6 +11,7 @@ loop-init g c =
       left = omega (arith, c.len-many.ensures);
       uses = uses_none g.P.GracePlan.QSBR tabled g.B.Site.sizes c.args.naming.directory (w.seen w0) w w0 w0 c.args.jobs.now.items (w.heard w0) (w.heard w0) (stays_none w w0) ([], refl);
       chain = c.requires.chain;
+      number = refl;
       waited = c.requires.waited;
       same = finds_none w w0;
     }
@@ -42,6 +43,10 @@ loop-preserved g c =
       uses = uses_both q tabled sizes d (w.seen w0) w w0 w1 w2 first jobs left (w.heard w0) (w.heard w1) (w.heard w2) i.uses
           (uses_one q tabled sizes d (w.seen w0) w w1 w2 jobs left c.in-Some.job (w.heard w1) (w.heard w2) Cuts refl e.changes.0 c.in-Some.ensures.items does);
       chain = e.chain;
+      number = e.number ∙ i.number;
       waited = waited_later d n.object (w.heard w1) (w.heard w2) e.heard i.waited;
       same = finds_both w w0 w1 w2 i.same e.same;
     }
+
+pub returns-in-Err-clause-number : goal.returns-in-Err-clause-number
+returns-in-Err-clause-number g c = c.in-Err.ensures.number ∙ c.loop.invariant.number

@@ -150,3 +150,9 @@ returns-clause-changes g c =
       if_ok c.cut_retire-answer.result _ _ _ (λ x k z. one_made w w0 w2 c.cut_retire-answer.new.chain.seat.me.0.seen k.0.0) r.same r.retired,
       if_err c.cut_retire-answer.result _ _ _ (λ x y z. by_second y (λ none. let short = none.1 in absurd (omega (arith, short, some, ap length same))) (λ k. k.1.same.0)) r.refused r.back,
     )
+
+pub returns-clause-number : goal.returns-clause-number
+returns-clause-number g c =
+    let r = c.cut_retire-answer.ensures in let three = c.lend-lent.new.to in let four = c.cut_retire-answer.new.chain in
+    let number : four.number ≡ three.number = by_result c.cut_retire-answer.result _ _ r.same r.back (λ x k. k.1) (λ x y. ap (λ z. z.number) y.1) in
+    c.take_back.ensures.from.2 ∙ (number ∙ c.lend-lent.ensures.chains.1)

@@ -1,7 +1,7 @@
 use Rattle.std.proofs.Common.{ℕ, ◌+◌, ◌<◌, ◌≤◌, List, ap, sym, ◌∙◌, subst, refl, inl, slice_index_or}
 use Rattle.rcu_model.specs.declared.event.ObjectId.{ObjectId}
 use Rattle.rcu_model.specs.Sets.{In}
-use Rattle.live_log.specs.Log.{Log, chain_note, note_of}
+use Rattle.live_log.specs.Log.{Log, Begins, chain_note, note_of}
 use Rattle.live_log.specs.Tables.{Names, tabled}
 use Rattle.live_log.proofs.Lemmas.{is_noted, run_of}
 use Rattle.rcu_list.specs.live_rule.Seats.{lent_chains}
@@ -48,3 +48,6 @@ pub returns-clause-heard : goal.returns-clause-heard
 returns-clause-heard g c =
     let w = g.W.Caller in let w0 = c.args.caller.now in let h = c.hear.ensures in
     subst (IsAfter g.P.GracePlan.QSBR tabled (w.seen w0) (w.heard w0)) (sym h.heard) h.told.0
+
+pub returns-clause-told : goal.returns-clause-told
+returns-clause-told g c = let h = c.hear.ensures in (subst (Begins c.args.self.now.chain.seat.me.0.seen) (sym h.heard) h.told.1, h.heard)

@@ -1,0 +1,215 @@
+-- What is left of directories that were replaced.
+use Rattle.std.proofs.Common.{Bool, ◌≡◌, ◌⊎◌, ⊎_elim, ℕ, ◌+◌, ◌<◌, ◌≤◌, List, [], ◌∷◌, ◌++◌, Option, None, Some, IfNone, IsSome, length, map, option_map, slice_index_or, inl, inr, refl, sym, ap, ◌∙◌, subst, arith}
+use Rattle.std.proofs.Math.Logic.{∥∥₁_map}
+use Rattle.std.proofs.lemmas.Bool.{cases_lt}
+use Rattle.std.proofs.lemmas.List.{map-append}
+use Rattle.rcu_model.specs.declared.event.ObjectId.{ObjectId}
+use Rattle.rcu_model.specs.Sets.{In}
+use Rattle.rcu_model.proofs.Lemmas.{in_objects}
+use Rattle.live_log.specs.declared.event.LiveEvent.{LiveEvent}
+use Rattle.live_log.specs.declared.event.LiveEvent.TheVariants.{ChainNote, Object}
+use Rattle.live_log.specs.declared.event.ObjectEvent.TheVariants.{Push, Queue, Replace, Retire}
+use Rattle.live_log.specs.Log.{Log, Begins, Has, IsLiveRun, note_of, state_of}
+use Rattle.live_log.specs.Tables.{IsDirectory, Names, tabled}
+use Rattle.live_log.proofs.Lemmas.{begins_trans, chain_used, directory_alone, grows_log, has_later, kept_log, linked_between, note_stays, run_of}
+use Rattle.rcu_list.specs.live_rule.declared.view.View.{View}
+use Rattle.rcu_list.specs.live_items.Retiring.{Queues}
+use Rattle.rcu_list.specs.live_table.Rights.{IsListed, own_in}
+use Rattle.rcu_list.specs.live_write.Chains.{list_in}
+use Rattle.rcu_list.proofs.Lemmas.{chain_known}
+use Rattle.rcu_list.specs.domain.Waiting.{LoadedOnce, Synchronized}
+use Rattle.rcu_hash.specs.Leaving.{Writes}
+use Rattle.rcu_hash.specs.Naming.{words_by}
+use Rattle.rcu_hash.specs.Tidying.{IsLinked, IsRest, IsTidied, LeavesOnly, WasCleared, chains_in}
+use Rattle.rcu_hash.specs.Writers.{AreFrom}
+use Rattle.rcu_hash.proofs.Emptying.{by_words}
+use Rattle.rcu_hash.proofs.Holds.{stays_directed}
+
+-- a list without its first entry
+abbrev rest : Log → Log
+rest [] = []
+rest (e ∷ es) = es
+
+-- of two beginnings of a log, one begins with the other
+beside : (t s : Log) (x : LiveEvent) (before known : Log) → s ++ x ∷ before ≡ t ++ known → Begins known before ⊎ Begins (x ∷ before) known
+beside [] s x before known is = inr (s, sym is)
+beside (z ∷ t) [] x before known is = inl (t, ap rest is)
+beside (z ∷ t) (y ∷ s) x before known is = beside t s x before known (ap rest is)
+
+pub has_since : (e : LiveEvent) (known log : Log) → Begins known log → Has e known → Has e log
+has_since e known log b has = subst (Has e) (sym b.1) (has_later e b.0 known has)
+
+pub cleared_since : (since known log : Log) (c : ℕ) → Begins known log → WasCleared since c known → WasCleared since c log
+cleared_since since known log c b k = record { at = k.at; after = k.after; before = begins_trans (ChainNote c 0 ∷ k.at) known log k.before b }
+
+-- an object that was queued was retired before
+pub retired_by : (qsbr : Bool) (allows : Log → LiveEvent → Type 0) (at : Log → Type 0) (o : ObjectId) (queue given : ℕ) (log : Log) → Queues qsbr allows at o queue given log → Has (Object (Retire o)) log
+retired_by qsbr allows at o queue given log q = has_since (Object (Retire o)) (Object (Retire o) ∷ q.before) log (begins_trans (Object (Retire o) ∷ q.before) q.within log q.retired (Object (Queue o queue) ∷ [], q.wrote)) (inl refl)
+
+module _ (qsbr : Bool) where
+  -- what was replaced is linked no more
+  gone : (before log : Log) (d c : ℕ) (old new : ObjectId) (cell : ℕ) (payload : List ℕ) → Begins (Object (Replace d old new cell payload) ∷ before) log → IsLiveRun qsbr tabled log → ¬ In ((state_of log).chain c) old
+  gone before log d c old new cell payload b run at =
+      let left : Log = Object (Replace d old new cell payload) ∷ before in
+      (kept_log qsbr tabled log run).linking.linked_not_cut c old at ((grows_log left log b).cut old (inl refl))
+
+  -- while a directory stays linked none is replaced in its chain
+  module _ (start log : Log) (d : ℕ) (o : ObjectId) (b : Begins start log) (run : IsLiveRun qsbr tabled log) (linked : IsLinked d o start) (still : In ((state_of log).chain d) o) where
+    replaced_before : (before : Log) (old new : ObjectId) (cell : ℕ) (payload : List ℕ) → Begins (Object (Replace d old new cell payload) ∷ before) log → Begins (Object (Replace d old new cell payload) ∷ before) start
+    replaced_before before old new cell payload is =
+        let left : Log = Object (Replace d old new cell payload) ∷ before in
+        let step : IsLiveRun qsbr tabled left = run_of qsbr tabled left log is run in ⊎_elim
+        (λ (later : Begins start before).
+        let goes : Begins before log = begins_trans before left log (Object (Replace d old new cell payload) ∷ [], refl) is in
+        let here : In ((state_of before).chain d) o = linked_between qsbr start before log d o later goes run linked.0 linked.1 still in
+        let there : In ((state_of before).chain d) old = in_objects ((state_of before).chain d) old step.0.0.0 in
+        let same = note_stays qsbr tabled start before o later step.1 (chain_used qsbr tabled start d o (run_of qsbr tabled start before later step.1) linked.0) in
+        let alone : (state_of before).chain d ≡ o ∷ [] = directory_alone qsbr before d o step.1 here (subst IsDirectory (sym same) linked.1) in
+        let one : o ≡ old = ⊎_elim (λ (h : o ≡ old). h) (λ none. absurd none) (subst (λ (l : List ObjectId). In l old) alone there) in
+        absurd (gone before log d d old new cell payload is run (subst (In ((state_of log).chain d)) one still)))
+        (λ (within : Begins left start). within)
+        (beside b.0 is.0 (Object (Replace d old new cell payload)) before start (sym is.1 ∙ b.1))
+
+    -- so less is left of those before it: what was, but for what was cleared and retired since
+    pub only_less : (chains less : ℕ → Type 0) (records fewer : ObjectId → Type 0) → ((c : ℕ) → chains c → WasCleared start c log ⊎ less c) → ((p : ObjectId) → records p → Has (Object (Retire p)) log ⊎ fewer p) → LeavesOnly d start chains records → LeavesOnly d log less fewer
+    only_less chains less records fewer clears retires only before old new cell payload is directory =
+        let left : Log = Object (Replace d old new cell payload) ∷ before in
+        let within : Begins left start = replaced_before before old new cell payload is in
+        let was = only before old new cell payload within directory in (
+          ⊎_elim (λ (h : Has (Object (Retire old)) start). inl (has_since (Object (Retire old)) start log b h)) (λ kept. retires old kept) was.0,
+          λ c names. ⊎_elim
+              (λ (k : WasCleared left c start). inl (cleared_since left start log c b k))
+              (λ kept. ⊎_elim (λ (z : WasCleared start c log). inl (record { at = z.at; after = begins_trans left start z.at within z.after; before = z.before })) (λ h. inr h) (clears c kept))
+              (was.1 c names),
+        )
+
+-- where more may be left
+pub only_weaker : (d : ℕ) (log : Log) (chains more : ℕ → Type 0) (records others : ObjectId → Type 0) → ((c : ℕ) → chains c → more c) → ((o : ObjectId) → records o → others o) → LeavesOnly d log chains records → LeavesOnly d log more others
+only_weaker d log chains more records others goes on only before old new cell payload is directory = let was = only before old new cell payload is directory in (
+  ⊎_elim (λ h. inl h) (λ kept. inr (on old kept)) was.0,
+  λ c names. ⊎_elim (λ k. inl k) (λ kept. inr (goes c kept)) (was.1 c names),
+)
+
+-- a directory that takes the place of another leaves that one, and what it named
+pub only_left : (d : ℕ) (before log : Log) (old new : ObjectId) (cell : ℕ) (payload : List ℕ) → log ≡ Object (Replace d old new cell payload) ∷ before → LeavesOnly d before (λ c. ⊥) (λ o. ⊥) → LeavesOnly d log (Names (note_of before old)) (λ o. old ≡ o)
+only_left d before log old new cell payload wrote only b o n k w is directory = by is.0 (sym wrote ∙ is.1)
+  where
+    left : Log
+    left = Object (Replace d o n k w) ∷ b
+
+    by : (s : Log) → Object (Replace d old new cell payload) ∷ before ≡ s ++ left → (Has (Object (Retire o)) log ⊎ (old ≡ o)) × ((c : ℕ) → Names (note_of b o) c → WasCleared left c log ⊎ Names (note_of before old) c)
+    by [] same = let one : old ≡ o = cc in let logs : b ≡ before = cc in
+        (inr one, λ c names. inr (subst (λ (p : ObjectId). Names (note_of before p) c) (sym one) (subst (λ (l : Log). Names (note_of l o) c) logs names)))
+    by (e ∷ s) same =
+        let goes : Begins before log = (Object (Replace d old new cell payload) ∷ [], wrote) in
+        let was = only b o n k w (s, ap rest same) directory in (
+          ⊎_elim (λ (h : Has (Object (Retire o)) before). inl (has_since (Object (Retire o)) before log goes h)) (λ none. absurd none) was.0,
+          λ c names. ⊎_elim (λ (z : WasCleared left c before). inl (cleared_since left before log c goes z)) (λ none. absurd none) (was.1 c names),
+        )
+
+-- a directory that comes into a chain is the first one there
+pub only_none : (qsbr : Bool) (d : ℕ) (before log : Log) (o : ObjectId) (cell first buckets : ℕ) → log ≡ Object (Push d o cell (words_by first buckets)) ∷ before → IsLiveRun qsbr tabled log → LeavesOnly d log (λ c. ⊥) (λ o. ⊥)
+only_none qsbr d before log o cell first buckets wrote run b old new k w is directory = absurd (by is.0 (sym wrote ∙ is.1))
+  where
+    step : IsLiveRun qsbr tabled (Object (Push d o cell (words_by first buckets)) ∷ before)
+    step = subst (IsLiveRun qsbr tabled) wrote run
+
+    empty : (state_of before).chain d ≡ []
+    empty = ⊎_elim (λ keyed. let zero_kind = keyed.0 in absurd (omega (arith, zero_kind))) (λ directed. directed.1) step.0.1.1
+
+    by : (s : Log) → Object (Push d o cell (words_by first buckets)) ∷ before ≡ s ++ Object (Replace d old new k w) ∷ b → ⊥
+    by [] same = cc
+    by (e ∷ s) same = stays_directed qsbr (length s) s b before d old new k w (omega arith) (ap rest same) step.1 directory empty
+
+-- of chains that follow one another each is there
+pub from_has : (first c : ℕ) (vs : List View) → AreFrom first vs → first ≤ c → c < first + length vs → In (chains_in vs) c
+from_has first c [] from low high = absurd (omega (arith, low, high))
+from_has first c (v ∷ vs) from low high = ⊎_elim
+    (λ (above : first < c). inr (from_has (first + 1) c vs from.1 (omega arith) (omega arith)))
+    (λ (under : c ≤ first). let same : first ≡ c = omega (arith, low, under) in inl (from.0 ∙ same))
+    (cases_lt first c)
+
+-- the last one of them, and the others
+chains_both : (vs : List View) (v : View) (c : ℕ) → In (chains_in (vs ++ v ∷ [])) c → In (chains_in vs) c ⊎ ((own_in v.chains).chain ≡ c)
+chains_both [] v c h = ⊎_elim (λ is. inr is) (λ none. absurd none) h
+chains_both (u ∷ vs) v c h = ⊎_elim (λ is. inl (inl is)) (λ more. ⊎_elim (λ one. inl (inr one)) (λ is. inr is) (chains_both vs v c more)) h
+
+pub chains_popped : {X : Type 0} (xs all : List X) (x : X) (f : X → View) (c : ℕ) → all ≡ xs ++ x ∷ [] → In (chains_in (map f all)) c → In (chains_in (map f xs)) c ⊎ ((own_in (f x).chains).chain ≡ c)
+chains_popped xs all x f c is h = chains_both (map f xs) (f x) c (subst (λ (vs : List View). In (chains_in vs) c) (ap (map f) is ∙ map-append f xs (x ∷ [])) h)
+
+chains_more : (vs : List View) (v : View) (c : ℕ) → In (chains_in vs) c ⊎ ((own_in v.chains).chain ≡ c) → In (chains_in (vs ++ v ∷ [])) c
+chains_more [] v c h = ⊎_elim (λ none. absurd none) (λ is. inl is) h
+chains_more (u ∷ vs) v c h = ⊎_elim (λ (one : In (chains_in (u ∷ vs)) c). ⊎_elim (λ is. inl is) (λ more. inr (chains_more vs v c (inl more))) one) (λ is. inr (chains_more vs v c (inr is))) h
+
+pub chains_pushed : {X : Type 0} (xs all : List X) (x : X) (f : X → View) (c : ℕ) → all ≡ xs ++ x ∷ [] → In (chains_in (map f xs)) c ⊎ ((own_in (f x).chains).chain ≡ c) → In (chains_in (map f all)) c
+chains_pushed xs all x f c is h = subst (λ (vs : List View). In (chains_in vs) c) (sym (ap (map f) is ∙ map-append f xs (x ∷ []))) (chains_more (map f xs) (f x) c h)
+
+-- what is left, where more may be
+pub rest_more : (d : ℕ) (o : ObjectId) (vs ws : List View) (old : Option ObjectId) (log : Log) → ((c : ℕ) → In (chains_in vs) c → In (chains_in ws) c) → IsRest d o vs old log → IsRest d o ws old log
+rest_more d o vs ws old log goes rest = ∥∥₁_map rest (λ r. (r.0, only_weaker d log (In (chains_in vs)) (In (chains_in ws)) (λ p. old ≡ Some p) (λ p. old ≡ Some p) goes (λ p is. is) r.1))
+
+-- and in a later log, where some of it was cleared and retired
+pub rest_less : (qsbr : Bool) (d : ℕ) (o : ObjectId) (vs ws : List View) (old new : Option ObjectId) (start log : Log) → Begins start log → IsLiveRun qsbr tabled log → IsLinked d o log → ((c : ℕ) → In (chains_in vs) c → WasCleared start c log ⊎ In (chains_in ws) c) → ((p : ObjectId) → old ≡ Some p → Has (Object (Retire p)) log ⊎ (new ≡ Some p)) → IsRest d o vs old start → IsRest d o ws new log
+rest_less qsbr d o vs ws old new start log b run linked clears retires rest = ∥∥₁_map rest (λ r. (
+  linked,
+  only_less qsbr start log d o b run r.0 linked.0 (In (chains_in vs)) (In (chains_in ws)) (λ p. old ≡ Some p) (λ p. new ≡ Some p) clears retires r.1,
+))
+
+pub rest_later : (qsbr : Bool) (d : ℕ) (o : ObjectId) (vs : List View) (old : Option ObjectId) (start log : Log) → Begins start log → IsLiveRun qsbr tabled log → IsLinked d o log → IsRest d o vs old start → IsRest d o vs old log
+rest_later qsbr d o vs old start log b run linked rest = rest_less qsbr d o vs vs old old start log b run linked (λ c h. inr h) (λ p is. inr is) rest
+
+-- nothing is
+pub rest_none : (d : ℕ) (o : ObjectId) (vs : List View) (old : Option ObjectId) (log : Log) → vs ≡ [] → ((p : ObjectId) → old ≡ Some p → ⊥) → IsRest d o vs old log → IsTidied d log
+rest_none d o vs old log empty none rest = ∥∥₁_map rest (λ r. only_weaker d log (In (chains_in vs)) (λ c. ⊥) (λ p. old ≡ Some p) (λ p. ⊥) (λ c h. subst (λ (us : List View). In (chains_in us) c) empty h) none r.1)
+
+pub some_there : {A : Type 0} (f : A → ObjectId) (r : Option A) (p : ObjectId) → option_map f r ≡ Some p → IsSome r
+some_there f None p is = cc
+some_there f (Some x) p is = refl
+
+-- waits before the one that was told of
+module _ (qsbr : Bool) (allows : Log → LiveEvent → Type 0) (seen heard seen' heard' : Log) (loads loads' waits new : List Log) (log : Log) (from_seen : Begins seen heard') (from_heard : Begins heard heard') (same : loads' ≡ waits ++ loads) where
+  pub ended_since : Synchronized qsbr allows seen' heard' loads' new log → Synchronized qsbr allows seen heard (waits ++ loads) new log
+  ended_since s = record {
+    asked = s.asked;
+    loads_since = s.loads_since;
+    first_load = s.first_load ∙ ap (λ (l : List Log). s.loads_since ++ s.asked ∷ l) same;
+    after = record { after_seen = begins_trans seen heard' s.asked from_seen s.after.after_heard; after_heard = begins_trans heard heard' s.asked from_heard s.after.after_heard; run = s.after.run };
+    low = s.low;
+    later = s.later;
+    run = s.run;
+    ended = s.ended;
+  }
+
+  pub loaded_since : LoadedOnce qsbr allows seen' heard' loads' new log → LoadedOnce qsbr allows seen heard (waits ++ loads) new log
+  loaded_since l = record {
+    load = l.load ∙ ap (λ (k : List Log). log ∷ k) same;
+    after = record { after_seen = begins_trans seen heard' log from_seen l.after.after_heard; after_heard = begins_trans heard heard' log from_heard l.after.after_heard; run = l.after.run };
+  }
+
+-- a writer that knows its directory knows a log in which that is linked
+pub linked_by : (v : View) (d : ℕ) (o : ObjectId) (first buckets : ℕ) → IsListed v → (own_in v.chains).chain ≡ d → list_in v ≡ o ∷ [] → (note_of v.seen o).1 ≡ words_by first buckets → IsLinked d o v.seen
+linked_by v d o first buckets listed own alone words = (subst (λ (l : List ObjectId). In l o) (sym (chain_known v d listed own ∙ alone)) (inl refl), by_words (note_of v.seen o) first buckets words)
+
+-- where nothing was left, a directory that takes another one's place leaves that one's record and chains
+pub rest_replaced : (qsbr : Bool) (d : ℕ) (o new left : ObjectId) (first buckets : ℕ) (vs : List View) (start seen heard log : Log) (cell : ℕ) (payload : List ℕ) → Begins start heard → (w : Writes qsbr tabled seen heard (Object (Replace d o new cell payload)) log) → (state_of w.before).chain d ≡ o ∷ [] → (note_of w.before o).1 ≡ words_by first buckets → AreFrom first vs → length vs ≡ buckets → left ≡ o → IsLinked d o start → IsLinked d new log → IsTidied d start → IsRest d new vs (Some left) log
+rest_replaced qsbr d o new left first buckets vs start seen heard log cell payload b w alone words from many is linked now tidied =
+    let goes : Begins start w.before = begins_trans start heard w.before b w.after.1 in
+    let run : IsLiveRun qsbr tabled w.before = run_of qsbr tabled w.before log (Object (Replace d o new cell payload) ∷ [], w.wrote) w.run in
+    let here : In ((state_of w.before).chain d) o = subst (λ (l : List ObjectId). In l o) (sym alone) (inl refl) in
+    ∥∥₁_map tidied (λ none. (
+      now,
+      only_weaker d log (Names (note_of w.before o)) (In (chains_in vs)) (λ p. o ≡ p) (λ p. Some left ≡ Some p)
+          (λ c names. let low : first ≤ c = subst (λ (ws : List ℕ). slice_index_or ws 0 0 ≤ c) words names.0 in
+          let high : c < first + buckets = subst (λ (ws : List ℕ). c < slice_index_or ws 0 0 + slice_index_or ws 1 0) words names.1 in
+          from_has first c vs from low (omega (arith, high, many)))
+          (λ p same. ap Some (is ∙ same))
+          (only_left d w.before log o new cell payload w.wrote (only_less qsbr start w.before d o goes run linked here (λ c. ⊥) (λ c. ⊥) (λ p. ⊥) (λ p. ⊥) (λ c no. absurd no) (λ p no. absurd no) none)),
+    ))
+
+pub not_none : {A X : Type 0} (r : Option A) → r ≡ None → IsSome r → X
+not_none None is some = absurd (cc)
+not_none (Some x) is some = absurd (cc)
+
+pub none_so : {A : Type 0} (r : Option A) (Q : Type 0) → Q → IfNone r Q
+none_so None Q so = so
+none_so (Some x) Q so = tt

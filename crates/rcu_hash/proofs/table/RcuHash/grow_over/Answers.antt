@@ -1,0 +1,122 @@
+use Rattle.std.proofs.Common.{rules, ◌≡◌, ◌+◌, ◌<◌, ⊎_elim, inl, inr, refl, false, arith, ℕ, List, [], ◌∷◌, ◌++◌, map, vec_len, sym, ap, ◌∙◌, subst}
+use Rattle.std.proofs.lemmas.List.{length-map, nil_from_length}
+use Rattle.std.specs.Sync.RwLock.{write_guard_value}
+use Rattle.live_log.specs.Log.{Log, chain_note}
+use Rattle.live_log.specs.Tables.{tabled}
+use Rattle.live_log.proofs.Lemmas.{begins_trans}
+use Rattle.rcu_list.specs.live_rule.declared.view.Look.{Look}
+use Rattle.rcu_list.specs.live_table.Rights.{cell_in}
+use Rattle.rcu_hash.specs.Copies.{value_in_bucket}
+use Rattle.rcu_hash.specs.Growing.{Grows}
+use Rattle.rcu_hash.specs.Refusing.{IsUnused}
+use Rattle.rcu_hash.specs.Tables.{IsAmong, are_apart}
+use Rattle.rcu_hash.specs.Tidying.{IsLinked, IsTidied}
+use Rattle.rcu_hash.specs.declared.directory.Naming.{Naming}
+use Rattle.rcu_hash.proofs.Regrown.{grows_go, grows_since}
+use Rattle.rcu_hash.proofs.Taking.{during_earlier, during_since, in_both, taken_since}
+use Rattle.rcu_hash.proofs.Tidied.{rest_none, some_there}
+use Rattle.rcu_hash.proofs.table.RcuHash.grow_over.Goals as goal
+
+pub commit-left-requires-clause-copied : goal.commit-left-requires-clause-copied
+commit-left-requires-clause-copied g c =
+    let e = c.in-Ok.ensures.copied in let same = c.deref.ensures ∙ sym c.deref_mut.ensures.value in
+    (λ key. e.0 key ∙ (λ i. value_in_bucket (same i).naming.buckets (map (λ b. b.chain.seat.me.0) c.in-Ok.growth.taken.items) key), e.1, e.2)
+
+pub returns-clause-grown : goal.returns-clause-grown
+returns-clause-grown g c =
+    let q = g.P.GracePlan.QSBR in let w = g.W.Caller in let w0 = c.args.caller.now in let wt = c.tell-left.new.caller in let w1 = c.ready.new.caller in let log : Log = w.heard c.commit-left.new.caller in
+    let chains = g.B.Site.sizes.chains in let growth = c.in-Ok.growth in let e = c.in-Ok.ensures in let t = c.tell-left.ensures in let first = c.args.first in
+    let entries : List (ℕ × ℕ) = map (λ y. (y.key, y.value)) growth.copied.items in
+    let directory : c.deref_mut.result.now.naming.directory ≡ c.args.self.now.directory = (λ i. (c.deref_mut.ensures.value i).naming.directory) ∙ (ap (λ (m : Naming). m.directory) c.own_shelf-shelf.ensures ∙ c.requires) in (
+      entries,
+      subst (λ (d : ℕ). Grows q tabled chains d (w.seen w0) (w.heard w0) first c.args.buckets entries log) directory
+          (subst (λ (k : ℕ). Grows q tabled chains c.deref_mut.result.now.naming.directory (w.seen w0) (w.heard w0) first k entries log) e.chains.0
+          (grows_since q tabled chains c.deref_mut.result.now.naming.directory first (vec_len growth.chains) entries log (w.seen w0) (w.heard w0) (w.seen w1) (w.heard w1) (e.same.0 ∙ t.same.0.0.0) (begins_trans (w.heard w0) (w.heard wt) (w.heard w1) t.heard.after_heard e.heard) c.commit-left.ensures.grown)),
+      ap (λ (n : ℕ). n + 1) (c.len-many.ensures ∙ (growth.copied.ok.0 ∙ sym (length-map growth.copied.items (λ y. (y.key, y.value))))),
+      search rules,
+    )
+
+-- nothing was left when the caller heard of what is
+pub commit-left-requires-clause-tidied : goal.commit-left-requires-clause-tidied
+commit-left-requires-clause-tidied g c =
+    let t = c.tell-left.ensures in let log : Log = g.W.Caller.heard c.tell-left.new.caller in let l = c.args.left in
+    let same : c.deref_mut.result.now.naming ≡ l.naming = (λ i. (c.deref_mut.ensures.value i).naming) ∙ c.own_shelf-shelf.ensures in
+    let empty : l.chains.items ≡ [] = nil_from_length l.chains.items (let none = c.if-len-ne0.false in let len = c.len.ensures in let ok = l.chains.ok.0 in omega arith) in (
+      log,
+      c.ready.ensures.heard,
+      subst (λ (m : Naming). IsLinked m.directory m.object log) (sym same) t.linked,
+      subst (λ (m : Naming). IsTidied m.directory log) (sym same)
+          (rest_none l.naming.directory l.naming.object _ _ log (ap (map (λ x. x.seat.me.0)) empty) (λ p is. let some = l.some (some_there _ l.unlinked p is) in let none = c.if-len-ne0.false in let len = c.len.ensures in absurd (omega (arith, some, none, len))) t.rest),
+    )
+
+pub returns-clause-heard : goal.returns-clause-heard
+returns-clause-heard g c =
+    let w = g.W.Caller in let w0 = c.args.caller.now in let wt = c.tell-left.new.caller in let w1 = c.ready.new.caller in let log : Log = w.heard c.commit-left.new.caller in let growth = c.in-Ok.growth in
+    let entries : List (ℕ × ℕ) = map (λ y. (y.key, y.value)) growth.copied.items in
+    begins_trans (w.heard w0) (w.heard wt) log c.tell-left.ensures.heard.after_heard (begins_trans (w.heard wt) (w.heard w1) log c.ready.ensures.heard (grows_go g.P.GracePlan.QSBR tabled g.B.Site.sizes.chains c.deref_mut.result.now.naming.directory c.args.first (vec_len growth.chains) entries log (w.seen w1) (w.heard w1) c.commit-left.ensures.grown))
+
+pub returns-clause-tidied : goal.returns-clause-tidied
+returns-clause-tidied g c =
+    let w = g.W.Caller in let wt = c.tell-left.new.caller in let w1 = c.ready.new.caller in let log : Log = w.heard c.commit-left.new.caller in let growth = c.in-Ok.growth in let t = c.tell-left.ensures in let l = c.args.left in
+    let entries : List (ℕ × ℕ) = map (λ y. (y.key, y.value)) growth.copied.items in
+    let empty : l.chains.items ≡ [] = nil_from_length l.chains.items (let none = c.if-len-ne0.false in let len = c.len.ensures in let ok = l.chains.ok.0 in omega arith) in record {
+      at = w.heard wt;
+      after = t.heard;
+      before = begins_trans (w.heard wt) (w.heard w1) log c.ready.ensures.heard (grows_go g.P.GracePlan.QSBR tabled g.B.Site.sizes.chains c.deref_mut.result.now.naming.directory c.args.first (vec_len growth.chains) entries log (w.seen w1) (w.heard w1) c.commit-left.ensures.grown);
+      so = subst (λ (d : ℕ). IsTidied d (w.heard wt)) c.requires
+          (rest_none l.naming.directory l.naming.object _ _ (w.heard wt) (ap (map (λ x. x.seat.me.0)) empty) (λ p is. let some = l.some (some_there _ l.unlinked p is) in let none = c.if-len-ne0.false in let len = c.len.ensures in absurd (omega (arith, some, none, len))) t.rest);
+    }
+
+pub returns-clause-free : goal.returns-clause-free
+returns-clause-free g c chain among =
+    let q = g.P.GracePlan.QSBR in let w = g.W.Caller in let w0 = c.args.caller.now in let wt = c.tell-left.new.caller in let w1 = c.ready.new.caller in let w2 = c.commit-left.new.caller in let growth = c.in-Ok.growth in let t = c.tell-left.ensures in
+    let entries : List (ℕ × ℕ) = map (λ y. (y.key, y.value)) growth.copied.items in
+    during_earlier w q tabled w0 w1 w2 (IsUnused chain)
+    (grows_go q tabled g.B.Site.sizes.chains c.deref_mut.result.now.naming.directory c.args.first (vec_len growth.chains) entries (w.heard w2) (w.seen w1) (w.heard w1) c.commit-left.ensures.grown)
+    (during_since w q tabled w0 wt w1 (IsUnused chain) t.same.0.0.0 t.heard.after_heard (c.in-Ok.ensures.free chain among))
+
+-- a new chain was taken, or is one of the table's own, which have its note
+pub returns-in-Err-clause-refused : goal.returns-in-Err-clause-refused
+returns-in-Err-clause-refused g c =
+    let q = g.P.GracePlan.QSBR in let w = g.W.Caller in let t = c.tell-left.ensures in let first = c.args.first in let many = c.args.buckets in
+    inr (⊎_elim
+    (λ taken. inl (taken.0, inr (taken_since w q tabled g.B.Site.sizes (IsAmong first many) (IsAmong first many) (λ k one. one) c.args.caller.now c.tell-left.new.caller c.ready.new.caller t.same.0.0.0 t.heard.after_heard [] t.same.0.1 (λ k one h. h) taken.1)))
+    (λ rest. inr (search rules, rest))
+    c.in-Err.ensures.refused)
+
+pub returns-in-Err-clause-heard : goal.returns-in-Err-clause-heard
+returns-in-Err-clause-heard g c =
+    let w = g.W.Caller in begins_trans (w.heard c.args.caller.now) (w.heard c.tell-left.new.caller) (w.heard c.ready.new.caller) c.tell-left.ensures.heard.after_heard c.ready.ensures.heard
+
+pub returns-then-not-are_apart-clause-refused : goal.returns-then-not-are_apart-clause-refused
+returns-then-not-are_apart-clause-refused g c =
+    let w = g.W.Caller in let n = c.args.left.naming in let h = c.hear-then-not-are_apart.ensures in let log : Log = w.heard c.hear-then-not-are_apart.new.caller in
+    let apart : are_apart n.first n.buckets c.args.first c.args.buckets ≡ false = sym c.are_apart.ensures ∙ c.if-not-are_apart.true in
+    let some : 0 < c.args.buckets = search rules in
+    let here : 0 < n.buckets = subst (λ (m : Naming). 0 < m.buckets) c.own_shelf-shelf.ensures (write_guard_value c.own_shelf-shelf.result).many.0 in
+    let both = in_both n.first n.buckets c.args.first c.args.buckets here some apart in
+    let note : chain_note both.0 log ≡ n.directory + 1 = h.noted both.0 both.1 in
+    inr (inl (refl, inr (record { chain = both.0; one = both.2; found = []; looks = h.same.0.1; why = inr (record { at = log; after = h.heard; before = ([], refl); so = inr (λ none. absurd (omega (arith, note, none))) }) })))
+
+-- a refused growth keeps no record, and an accepted one as many as it leaves for `tidy`
+pub returns-clause-looks : goal.returns-clause-looks
+returns-clause-looks g c =
+    let growth = c.in-Ok.growth in let r = c.in-Ok.ensures.looks in (
+      r.0,
+      c.commit-left.ensures.same.1 ∙ (r.1 ∙ ap (λ (l : List Look). r.0 ++ l) c.tell-left.ensures.same.0.1),
+      (
+        cell_in growth.owned.seat.me.0.object ∷ map (λ x. cell_in x.owned.seat.me.0.object) growth.copied.items,
+        let many = length-map growth.copied.items (λ x. cell_in x.owned.seat.me.0.object) in let len = c.len-many.ensures in let ok = growth.copied.ok.0 in omega arith,
+        r.2,
+      ),
+      tt,
+    )
+
+pub returns-then-len-ne0-clause-looks : goal.returns-then-len-ne0-clause-looks
+returns-then-len-ne0-clause-looks g c = ([], c.hear.ensures.same.0.0.1, tt, (λ full. cc, λ i. tt))
+
+pub returns-then-not-are_apart-clause-looks : goal.returns-then-not-are_apart-clause-looks
+returns-then-not-are_apart-clause-looks g c = ([], c.hear-then-not-are_apart.ensures.same.0.1, tt, (λ full. cc, λ i. tt))
+
+pub invariant_of-left : goal.invariant_of-left
+invariant_of-left g c = let l = c.tell-left.result in record { some = l.some; alone = l.alone; keys = l.keys; notes = l.notes; replaced = l.replaced; outside = l.outside; rest = l.rest }
