@@ -146,18 +146,18 @@ BUGS = [
     (
         "a batch is run backwards",
         "live_items/src/items.rt",
-        "            list.reverse();\n        }\n    }\n\n    /// Moves what waits",
-        "        }\n    }\n\n    /// Moves what waits",
+        "        batch.reverse();\n        Ok(queued)",
+        "        Ok(queued)",
     ),
     (
         "two callbacks of a batch are swapped",
         "live_items/src/items.rt",
-        "            list.reverse();\n        }\n    }\n\n    /// Moves what waits",
-        "            list.reverse();\n            let one = list.pop();\n            let two = list.pop();\n"
-        "            if let Some(mut one) = one {\n                if let Some(mut two) = two {\n"
-        "                    std::mem::swap(&mut one.job.callback, &mut two.job.callback);\n"
-        "                    list.push_reserved(two);\n                }\n                list.push_reserved(one);\n"
-        "            }\n        }\n    }\n\n    /// Moves what waits",
+        "        batch.reverse();\n        Ok(queued)",
+        "        batch.reverse();\n        let one = batch.pop();\n        let two = batch.pop();\n"
+        "        if let Some(mut one) = one {\n            if let Some(mut two) = two {\n"
+        "                std::mem::swap(&mut one.job.callback, &mut two.job.callback);\n"
+        "                batch.push_reserved(two);\n            }\n            batch.push_reserved(one);\n"
+        "        }\n        Ok(queued)",
     ),
     (
         "a worker drops every second item of a batch",

@@ -135,6 +135,7 @@ worked_for answers qsbr allows key sizes q seen heard v looks found before loads
       through = h.through;
       left = h.left;
       nothing = h.nothing;
+      whole = h.whole;
       closed = h.closed;
       served = h.served;
       memory = h.memory;

@@ -1,5 +1,5 @@
 -- What a queue's worker did.
-use Rattle.std.specs.Prelude.{Bool, ◌≡◌, ◌≢◌, ℕ, ◌^◌, ◌<◌, ◌≤◌, List, [], ◌∷◌, ◌++◌, length}
+use Rattle.std.specs.Prelude.{Bool, ◌≡◌, ◌≢◌, ℕ, ◌+◌, ◌^◌, ◌<◌, ◌≤◌, List, [], ◌∷◌, ◌++◌, length}
 use Rattle.atomic_table.specs.declared.shared.Seat.{Seat}
 use Rattle.callback_queue.specs.declared.item.Item.{Item}
 use Rattle.callback_queue.specs.declared.item.Ripe.{Ripe}
@@ -53,11 +53,20 @@ pub record FoundUsedUp (start log : Log) (old new : List Log) : Type 0 where
 abbrev pub HasMore : ℕ → ℕ → Log → Type 0
 HasMore q n log = n < length (line_of log q)
 
+-- So many are left, which are all that were queued in a log and had not run there; the entries are of those that had.
+pub record IsWhole {D : Type 0} (answers : D → Ripe → ℕ → Type 0) (q : ℕ) (start log : Log) (first last : ℕ) (entries : List Finished) (many : ℕ) : Type 0 where
+  pub taken : Log
+  pub after : Begins start taken
+  pub before : Begins taken log
+  pub ran : Lists answers q taken first last entries
+  pub all : length (line_of taken q) ≡ last + many
+
 module _ {D : Type 0} (answers : D → Ripe → ℕ → Type 0) (qsbr : Bool) (allows : Log → LiveEvent → Type 0) (key : Sizes) (q : ℕ) where
   -- A worker began after all that had been seen and heard of, when the first so many were finished, and ran those that
   -- came next, each in its turn: a deleter was called with each, and answered the code of its entry. Where it was closed,
   -- no more were queued; where it was served, no more had been when it began; and where memory was refused, more were.
-  -- What is left comes next after them, and nothing is but where the numbers were used up.
+  -- What is left comes next after them, and nothing is but where the numbers were used up. Then it is all that had been
+  -- queued after the last one ran.
   pub record HasWorked (seen heard : Log) (old new : Looks) (old_loads new_loads : List Log) (entries : List Finished) (items : List (Item (JobValue D))) (stop : Stop) (log : Log) : Type 0 where
     pub start : Log
     pub first : ℕ
@@ -74,6 +83,7 @@ module _ {D : Type 0} (answers : D → Ripe → ℕ → Type 0) (qsbr : Bool) (a
     pub through : HaveRun q last log
     pub left : InOrder q log last items
     pub nothing : stop ≢ Exhausted → items ≡ []
+    pub whole : stop ≡ Exhausted → IsWhole answers q start log first last entries (length items)
     pub closed : stop ≡ Closed → IsEmptied q last log
     pub served : stop ≡ Served → length (line_of start q) ≤ last
     pub memory : stop ≡ Memory → HasMore q last log

@@ -12,7 +12,7 @@ ghost use Rattle.live_reclaim.specs.Batches.{Lists, WorksFor};
 ghost use Rattle.live_reclaim.specs.Working.{IsEmptied, RefusesWork};
 ghost use Rattle.domain.specs.declared.serving.Until.TheVariants as ends;
 ghost use Rattle.domain.specs.declared.worker_end.Stop.TheVariants as stopped;
-ghost use Rattle.domain.specs.Working.{FoundUsedUp, GoesOn, HasMore, HasWorked, left_by, HasWorkedFor};
+ghost use Rattle.domain.specs.Working.{FoundUsedUp, GoesOn, HasMore, HasWorked, IsWhole, left_by, HasWorkedFor};
 
 use crate::domain::Domain;
 use crate::worker_end::{Stop, WorkerEnd};
@@ -55,7 +55,8 @@ impl<P: GracePlan + Drop, K: ChainRule, B: Site, D: Deleter> Domain<P, K, B, D> 
         ensures seat { GoesOn P.QSBR K.allows seat.old seat.new }
         ensures work { WorksFor queue result.0 seat.new.me.0 }
         ensures list { Lists D.answers queue seat.new.me.0.seen first result.0 list.new.items }
-        ensures left { InOrder queue seat.new.me.0.heard result.0 left.new.items × (result.1 ≢ stopped.Exhausted → left.new.items ≡ []) }
+        ensures left { InOrder queue seat.new.me.0.seen result.0 left.new.items × (result.1 ≢ stopped.Exhausted → left.new.items ≡ []) }
+        ensures whole { result.1 ≡ stopped.Exhausted → IsWhole D.answers queue seat.old.me.0.seen seat.new.me.0.seen first result.0 list.new.items (length left.new.items) }
         ensures served { result.1 ≡ stopped.Served → length (line_of seat.old.me.0.seen queue) ≤ result.0 }
         ensures exhausted { result.1 ≡ stopped.Exhausted → FoundUsedUp seat.old.me.0.seen seat.new.me.0.seen seat.old.me.0.loads seat.new.me.0.loads }
         ensures memory { result.1 ≡ stopped.Memory → IsKnown (HasMore queue result.0) seat.new.me.0 }
@@ -100,7 +101,8 @@ impl<P: GracePlan + Drop, K: ChainRule, B: Site, D: Deleter> Domain<P, K, B, D> 
         ensures seat { GoesOn P.QSBR K.allows seat.old seat.new }
         ensures work { WorksFor queue result.0 seat.new.me.0 }
         ensures list { Lists D.answers queue seat.new.me.0.seen first result.0 list.new.items }
-        ensures left { InOrder queue seat.new.me.0.heard result.0 left.new.items × (result.1 ≢ stopped.Exhausted → left.new.items ≡ []) }
+        ensures left { InOrder queue seat.new.me.0.seen result.0 left.new.items × (result.1 ≢ stopped.Exhausted → left.new.items ≡ []) }
+        ensures whole { result.1 ≡ stopped.Exhausted → IsWhole D.answers queue seat.old.me.0.seen seat.new.me.0.seen first result.0 list.new.items (length left.new.items) }
         ensures closed { result.1 ≡ stopped.Closed → IsEmptied queue result.0 seat.new.me.0.seen × (until ≡ ends.Closed) }
         ensures served { result.1 ≡ stopped.Served → (length (line_of seat.old.me.0.seen queue) ≤ result.0) × (until ≡ ends.Served) }
         ensures exhausted { result.1 ≡ stopped.Exhausted → FoundUsedUp seat.old.me.0.seen seat.new.me.0.seen seat.old.me.0.loads seat.new.me.0.loads }

@@ -1,14 +1,14 @@
 //! How batches of a queue are run.
 
-ghost use Rattle.std.specs.Prelude.{◌≡◌, ◌≢◌, ◌+◌, ◌-◌, ◌<◌, ◌≤◌, [], IfErr, IfOk, length, reverse, vec_capacity, vec_len};
-ghost use Rattle.live_log.specs.Log.{IsLiveRun, line_of};
+ghost use Rattle.std.specs.Prelude.{◌≡◌, ◌≢◌, ℕ, ◌+◌, ◌-◌, ◌<◌, ◌≤◌, [], IfErr, IfOk, length, reverse, vec_capacity, vec_len};
+ghost use Rattle.live_log.specs.Log.{Begins, IsLiveRun, line_of};
 ghost use Rattle.live_words.specs.live_table.Steps.{IsKnown};
 ghost use Rattle.live_items.specs.Items.{InOrder};
 ghost use Rattle.live_reclaim.specs.Batches.{IsDue, Lists, WorksFor};
 ghost use Rattle.live_reclaim.specs.Working.{IsEmptied};
 ghost use Rattle.domain.specs.declared.worker_end.Stop.TheVariants as stopped;
 ghost use Rattle.domain.specs.declared.working.Outcome.TheVariants as outcome;
-ghost use Rattle.domain.specs.Working.{FoundUsedUp, GoesOn, HasMore};
+ghost use Rattle.domain.specs.Working.{FoundUsedUp, GoesOn, HasMore, IsWhole};
 
 use crate::domain::Domain;
 use crate::worker_end::Stop;
@@ -20,7 +20,7 @@ use live_grace::ask;
 use live_items::Job;
 use live_read::Site;
 use live_reclaim::{Deleter, is_emptied, run_next};
-use live_words::{ChainRule, LiveSeat, load_closed, load_seq};
+use live_words::{ChainRule, LiveSeat};
 use rcu_model::Refusal;
 use std::sync::Wait;
 
@@ -49,8 +49,7 @@ fn back_off<R: Wait>(rt: &R) {
 }
 
 impl<P: GracePlan + Drop, K: ChainRule, B: Site, D: Deleter> Domain<P, K, B, D> {
-    /// Runs a batch, whose first item is the last one of its list, each in its turn and with no lock held. Answers how
-    /// many are finished.
+    /// Runs a whole batch, whose first item is the last one of its list, each in its turn and with no lock held.
     fn run_all(
         &self,
         seat: &mut LiveSeat,
@@ -60,61 +59,43 @@ impl<P: GracePlan + Drop, K: ChainRule, B: Site, D: Deleter> Domain<P, K, B, D> 
         given: u64,
         list: &mut Vec<Finished>,
         batch: &mut Vec<Item<Job<B, D>>>,
-    ) -> u64
+    )
         requires seat { (seat.old.table_id ≡ B.table) × (seat.old.me.0.sizes ≡ B.sizes) }
         requires queue { (queue < B.sizes.queues) × WorksFor queue finished seat.old.me.0 }
-        requires due { (finished ≤ given) × IsDue queue given seat.old.me.0.seen × IsLiveRun P.QSBR K.allows seat.old.me.0.seen }
+        requires due { IsDue queue given seat.old.me.0.seen × IsLiveRun P.QSBR K.allows seat.old.me.0.seen }
         requires list { Lists D.answers queue seat.old.me.0.seen first finished list.old.items × (vec_len list.old + (given - finished) ≤ vec_capacity list.old) }
-        requires batch { InOrder queue seat.old.me.0.seen finished (reverse batch.old.items) × (vec_len batch.old ≤ given - finished) }
+        requires batch { InOrder queue seat.old.me.0.seen finished (reverse batch.old.items) × (finished + vec_len batch.old ≡ given) }
         ensures seat { GoesOn P.QSBR K.allows seat.old seat.new }
-        ensures work { WorksFor queue result seat.new.me.0 }
-        ensures list { Lists D.answers queue seat.new.me.0.seen first result list.new.items }
+        ensures work { WorksFor queue given seat.new.me.0 }
+        ensures list { Lists D.answers queue seat.new.me.0.seen first given list.new.items }
         ensures batch { batch.new.items ≡ [] }
     {
         for count in finished..given {
             let Some(item) = batch.pop() else {
-                return count;
+                unreachable!()
             };
             let done = run_next(&self.table, seat, queue, count, given, item);
             list.push_reserved(done);
         }
-        given
     }
 
-    /// Waits for a grace period, after which what waited in the queue is ready, and takes that, the last item first.
+    /// Waits for a grace period that begins after all that the worker has heard of.
     ///
     /// Refused with `Exhausted` where the sequence numbers are used up.
-    fn ripen<R: Wait>(
-        &self,
-        rt: &R,
-        seat: &mut LiveSeat,
-        queue: usize,
-        finished: u64,
-        given: u64,
-        batch: &mut Vec<Item<Job<B, D>>>,
-    ) -> Result<(), Refusal>
-        requires seat { (seat.old.table_id ≡ B.table) × (seat.old.me.0.sizes ≡ B.sizes) × (queue < B.sizes.queues) }
-        requires batch { (batch.old.items ≡ []) × (finished ≤ given) × (given - finished ≤ vec_capacity batch.old) }
+    fn wait_for_readers<R: Wait>(&self, rt: &R, seat: &mut LiveSeat) -> Result<(), Refusal>
+        requires { seat.old.table_id ≡ B.table }
         ensures seat { GoesOn P.QSBR K.allows seat.old seat.new × (seat.new.me.0.work ≡ seat.old.me.0.work) }
-        ensures due { IfOk result (λ _. IsDue queue (length (line_of seat.old.me.0.heard queue)) seat.new.me.0.seen) }
-        ensures batch { IfOk result (λ _. InOrder queue seat.new.me.0.seen finished (reverse batch.new.items) × (vec_len batch.new ≤ given - finished)) }
-        ensures refused { IfErr result (λ _. FoundUsedUp seat.old.me.0.seen seat.new.me.0.seen seat.old.me.0.loads seat.new.me.0.loads × (batch.new ≡ batch.old)) }
+        ensures heard { Begins seat.old.me.0.heard seat.new.me.0.seen }
+        ensures due { IfOk result (λ _. (q : ℕ) → IsDue q (length (line_of seat.old.me.0.heard q)) seat.new.me.0.seen) }
+        ensures refused { IfErr result (λ _. FoundUsedUp seat.old.me.0.seen seat.new.me.0.seen seat.old.me.0.loads seat.new.me.0.loads) }
     {
         let asked = ask::<P, K>(&self.table, seat)?;
-        let cookie = asked.cookie();
         self.grace.lock(rt).answer(rt, &self.table, seat, asked);
-        let seq = load_seq(&self.table, seat);
-        {
-            let mut items = self.queues[queue].lock(rt, queue);
-            items.ripen(cookie, seq);
-            items.take_ready(&self.table, seat, queue, finished, given - finished, batch);
-        }
-        // The worker sees what it heard of under the lock.
-        load_closed(&self.table, seat, queue);
         Ok(())
     }
 
-    /// Takes a batch, waits for a grace period, and runs the batch. Answers how many are finished.
+    /// Takes a batch, waits for a grace period, and runs the batch. Answers how many are finished. Where the sequence
+    /// numbers are used up, the whole batch is left.
     pub(crate) fn run_batch<R: Wait>(
         &self,
         rt: &R,
@@ -132,30 +113,26 @@ impl<P: GracePlan + Drop, K: ChainRule, B: Site, D: Deleter> Domain<P, K, B, D> 
         ensures seat { GoesOn P.QSBR K.allows seat.old seat.new }
         ensures work { WorksFor queue result.0 seat.new.me.0 }
         ensures list { Lists D.answers queue seat.new.me.0.seen first result.0 list.new.items }
-        ensures left { InOrder queue seat.new.me.0.heard result.0 left.new.items × (result.1 ≢ outcome.Exhausted → left.new.items ≡ []) }
+        ensures left { InOrder queue seat.new.me.0.seen result.0 left.new.items × (result.1 ≢ outcome.Exhausted → left.new.items ≡ []) }
+        ensures whole { result.1 ≡ outcome.Exhausted → IsWhole D.answers queue seat.old.me.0.seen seat.new.me.0.seen first result.0 list.new.items (length left.new.items) }
         ensures exhausted { result.1 ≡ outcome.Exhausted → FoundUsedUp seat.old.me.0.seen seat.new.me.0.seen seat.old.me.0.loads seat.new.me.0.loads }
         ensures memory { result.1 ≡ outcome.Memory → IsKnown (HasMore queue result.0) seat.new.me.0 }
     {
-        let sealed = self.queues[queue]
+        let taken = self.queues[queue]
             .lock(rt, queue)
-            .seal(&self.table, seat, queue, finished, list, left);
-        let Ok(given) = sealed else {
+            .take_batch(&self.table, seat, queue, finished, list, left);
+        let Ok(given) = taken else {
             return (finished, Outcome::Memory);
         };
         if given == finished {
             return (finished, Outcome::Nothing);
         }
-        if self.ripen(rt, seat, queue, finished, given, left).is_err() {
-            self.queues[queue]
-                .lock(rt, queue)
-                .take_back(&self.table, seat, queue, finished, left);
+        if self.wait_for_readers(rt, seat).is_err() {
+            left.reverse();
             return (finished, Outcome::Exhausted);
         }
-        let count = self.run_all(seat, queue, first, finished, given, list, left);
-        if count < given {
-            return (count, Outcome::Memory);
-        }
-        (count, Outcome::Ran)
+        self.run_all(seat, queue, first, finished, given, list, left);
+        (given, Outcome::Ran)
     }
 
     /// Runs batch after batch, until the queue is closed and all that was queued is finished. Answers how many are.
@@ -175,7 +152,8 @@ impl<P: GracePlan + Drop, K: ChainRule, B: Site, D: Deleter> Domain<P, K, B, D> 
         ensures seat { GoesOn P.QSBR K.allows seat.old seat.new }
         ensures work { WorksFor queue result.0 seat.new.me.0 }
         ensures list { Lists D.answers queue seat.new.me.0.seen first result.0 list.new.items }
-        ensures left { InOrder queue seat.new.me.0.heard result.0 left.new.items × (result.1 ≢ stopped.Exhausted → left.new.items ≡ []) }
+        ensures left { InOrder queue seat.new.me.0.seen result.0 left.new.items × (result.1 ≢ stopped.Exhausted → left.new.items ≡ []) }
+        ensures whole { result.1 ≡ stopped.Exhausted → IsWhole D.answers queue seat.old.me.0.seen seat.new.me.0.seen first result.0 list.new.items (length left.new.items) }
         ensures closed { result.1 ≡ stopped.Closed → IsEmptied queue result.0 seat.new.me.0.seen }
         ensures exhausted { result.1 ≡ stopped.Exhausted → FoundUsedUp seat.old.me.0.seen seat.new.me.0.seen seat.old.me.0.loads seat.new.me.0.loads }
         ensures memory { result.1 ≡ stopped.Memory → IsKnown (HasMore queue result.0) seat.new.me.0 }

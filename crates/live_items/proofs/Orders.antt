@@ -1,9 +1,9 @@
 -- What stays of the order of a queue's items.
-use Rattle.std.proofs.Common.{◌≡◌, ℕ, ◌+◌, ◌-◌, ◌≤◌, List, [], ◌∷◌, ◌++◌, length, sym, refl, ap, ◌∙◌, subst, arith, append_assoc, false}
+use Rattle.std.proofs.Common.{◌≡◌, ℕ, ◌+◌, ◌≤◌, List, [], ◌∷◌, ◌++◌, length, sym, refl, ap, ◌∙◌, subst, arith, append_assoc, false}
 use lib.ListN.{length-append}
 use Rattle.rcu_model.specs.declared.event.ObjectId.{ObjectId}
 use Rattle.callback_queue.specs.declared.item.Item.{Item}
-use Rattle.callback_queue.specs.Queue.{items_of, given_of, handed_out, pushed, closed_queue, with_place, segments_of, taken_out}
+use Rattle.callback_queue.specs.Queue.{items_of, given_of, pushed, closed_queue, with_place}
 use Rattle.live_log.specs.Log.{Log, Begins, line_of}
 use Rattle.live_log.proofs.Lemmas.{begins_trans, line_grows}
 use Rattle.live_words.specs.live_rule.declared.view.Sizes.{Sizes}
@@ -35,6 +35,7 @@ module _ {C : Type 0} (key : Sizes) (jobs : Jobs C) (v w : View) (q : ℕ) (unde
     low = under.low;
     long = let l = line_longer v.seen w.seen q later in let u = under.long in omega arith;
     placed = in_order_later q v.seen w.seen jobs.gone (items_of jobs) later under.placed;
+    unsealed = under.unsealed;
   }
 
   items_pushed : (item : Item (JobValue C)) → items_of (pushed jobs item) ≡ items_of jobs ++ item ∷ []
@@ -53,68 +54,21 @@ module _ {C : Type 0} (key : Sizes) (jobs : Jobs C) (v w : View) (q : ℕ) (unde
     long = let l = last.1 in let g = given_pushed item in omega (arith, l, g);
     placed = subst (InOrder q w.seen jobs.gone) (sym (items_pushed item)) (in_order_snoc q w.seen jobs.gone (given_of jobs) (items_of jobs) item refl (in_order_later q v.seen w.seen jobs.gone (items_of jobs) later under.placed)
         (record { turn = subst (λ (l : Log). IsAt q (given_of jobs) item.object l) (sym known) last.0; known = subst (λ (l : Log). Begins item.job.0.seen l) known ([], refl); named = named }));
+    unsealed = under.unsealed;
   }
 
 -- a place is reserved
 pub under_place : {C : Type 0} (key : Sizes) (jobs : Jobs C) (v : View) (q : ℕ) → IsUnderLock key jobs v q → IsUnderLock key (with_place jobs) v q
-under_place key jobs v q under = record { sizes = under.sizes; right = under.right; empty = under.empty; low = under.low; long = under.long; placed = under.placed }
+under_place key jobs v q under = record { sizes = under.sizes; right = under.right; empty = under.empty; low = under.low; long = under.long; placed = under.placed; unsealed = under.unsealed }
 
-pub none_of : {A : Type 0} → (l : List A) → length l ≡ 0 → l ≡ []
-none_of [] e = refl
-none_of (x ∷ xs) e = absurd (omega (arith, e))
-
--- how many have left, by how many tickets were given and how long the segments are
-pub gone_of : {C : Type 0} (jobs : Jobs C) (given : ℕ) (segments : ℕ × ℕ × ℕ) (n : ℕ) → given ≡ given_of jobs → segments ≡ segments_of jobs → given - segments.0 - segments.1 - segments.2 ≡ n → jobs.gone ≡ n
-gone_of jobs given segments n is parts e =
-    let all = length-append (jobs.ready ++ jobs.waiting) jobs.fresh in
-    let settled = length-append jobs.ready jobs.waiting in
-    let ready = ap (λ z. z.0) parts in
-    let waiting = ap (λ z. z.1) parts in
-    let fresh = ap (λ z. z.2) parts in
-    omega (arith, all, settled, ready, waiting, fresh, is, e)
-
--- items leave
-module _ {C : Type 0} (key : Sizes) (v : View) (q : ℕ) where
-  order_without : (seen : Log) (n : ℕ) (first rest : List (Item (JobValue C))) → InOrder q seen n (first ++ rest) → InOrder q seen (n + length first) rest
-  order_without seen n [] rest x = subst (λ (k : ℕ). InOrder q seen k rest) (omega arith) x
-  order_without seen n (i ∷ is) rest x = subst (λ (k : ℕ). InOrder q seen k rest) (omega arith) (order_without seen (n + 1) is rest x.1)
-
-  -- the items that wait leave, where none is ready
-  pub under_taken : (jobs : Jobs C) → jobs.ready ≡ [] → IsUnderLock key jobs v q → IsUnderLock key (taken_out jobs) v q
-  under_taken jobs none under =
-      let same : given_of (taken_out jobs) ≡ given_of jobs = ap (λ (r : List (Item (JobValue C))). jobs.gone + length jobs.waiting + length (r ++ [] ++ jobs.fresh)) none ∙ (omega (arith, length-append jobs.waiting jobs.fresh) ∙ ap (λ (r : List (Item (JobValue C))). jobs.gone + length (r ++ jobs.waiting ++ jobs.fresh)) (sym none)) in
-      record {
-        sizes = under.sizes;
-        right = under.right ∙ ap (λ (k : ℕ). Owns q k (word_of jobs.closed)) (sym same);
-        empty = under.empty;
-        low = under.low;
-        long = let l = under.long in omega (arith, same);
-        placed = subst (λ (r : List (Item (JobValue C))). InOrder q v.seen (jobs.gone + length jobs.waiting) (r ++ [] ++ jobs.fresh)) (sym none)
-            (order_without v.seen jobs.gone jobs.waiting jobs.fresh (subst (λ (r : List (Item (JobValue C))). InOrder q v.seen jobs.gone (r ++ jobs.waiting ++ jobs.fresh)) none under.placed));
-      }
-
-  order_front : (seen : Log) (n : ℕ) (first rest : List (Item (JobValue C))) → InOrder q seen n (first ++ rest) → InOrder q seen n first
-  order_front seen n [] rest x = tt
-  order_front seen n (i ∷ is) rest x = (x.0, order_front seen (n + 1) is rest x.1)
-
-  pub waiting_placed : (jobs : Jobs C) → jobs.ready ≡ [] → IsUnderLock key jobs v q → InOrder q v.seen jobs.gone jobs.waiting
-  waiting_placed jobs none under = order_front v.seen jobs.gone jobs.waiting jobs.fresh (subst (λ (r : List (Item (JobValue C))). InOrder q v.seen jobs.gone (r ++ jobs.waiting ++ jobs.fresh)) none under.placed)
-
-  -- the ready items leave
-  ready_first : (jobs : Jobs C) → IsUnderLock key jobs v q → InOrder q v.seen jobs.gone (jobs.ready ++ (jobs.waiting ++ jobs.fresh))
-  ready_first jobs under = subst (InOrder q v.seen jobs.gone) (append_assoc jobs.ready jobs.waiting jobs.fresh) under.placed
-
-  pub under_handed : (jobs : Jobs C) → IsUnderLock key jobs v q → IsUnderLock key (handed_out jobs) v q
-  under_handed jobs under =
-      let all = ap (λ (l : List (Item (JobValue C))). length l) (append_assoc jobs.ready jobs.waiting jobs.fresh) ∙ length-append jobs.ready (jobs.waiting ++ jobs.fresh) in
-      let same : given_of (handed_out jobs) ≡ given_of jobs = omega (arith, all) in record {
-        sizes = under.sizes;
-        right = under.right ∙ ap (λ (k : ℕ). Owns q k (word_of jobs.closed)) (sym same);
-        empty = under.empty;
-        low = under.low;
-        long = let l = under.long in omega (arith, same);
-        placed = order_without v.seen jobs.gone jobs.ready (jobs.waiting ++ jobs.fresh) (ready_first jobs under);
-      }
-
-  pub ready_placed : (jobs : Jobs C) → IsUnderLock key jobs v q → InOrder q v.seen jobs.gone jobs.ready
-  ready_placed jobs under = order_front v.seen jobs.gone jobs.ready (jobs.waiting ++ jobs.fresh) (ready_first jobs under)
+-- a queue's word is loaded by its seat
+pub under_looked : {C : Type 0} (key : Sizes) (jobs : Jobs C) (v w : View) (q : ℕ) → IsUnderLock key jobs v q → w.sizes ≡ v.sizes → w.queue ≡ v.queue → w.object ≡ v.object → Begins v.seen w.seen → IsUnderLock key jobs w q
+under_looked key jobs v w q under size queue object later = record {
+  sizes = size ∙ under.sizes;
+  right = queue ∙ under.right;
+  empty = object ∙ under.empty;
+  low = under.low;
+  long = let l = line_longer v.seen w.seen q later in let u = under.long in omega (arith, l, u);
+  placed = in_order_later q v.seen w.seen jobs.gone (items_of jobs) later under.placed;
+  unsealed = under.unsealed;
+}

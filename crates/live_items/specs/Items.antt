@@ -1,10 +1,10 @@
 -- What lies under a queue's lock: its items in the order of their tickets, and the queue's seat.
-use Rattle.std.specs.Prelude.{Bool, true, false, ◌≡◌, ◌⊎◌, ℕ, ◌+◌, ◌-◌, ◌<◌, ◌≤◌, ◌^◌, List, [], ◌∷◌, length, max, nat_lt, if◌then◌else◌}
+use Rattle.std.specs.Prelude.{Bool, true, false, ◌≡◌, ◌⊎◌, ℕ, ◌+◌, ◌<◌, ◌≤◌, ◌^◌, List, [], ◌∷◌, length}
 use Rattle.rcu_model.specs.declared.event.ObjectId.{ObjectId}
 use Rattle.rcu_model.specs.declared.refusal.Refusal.{Refusal}
 use Rattle.rcu_model.specs.declared.refusal.Refusal.TheVariants.{Closed, Memory}
 use Rattle.callback_queue.specs.declared.item.Item.{Item}
-use Rattle.callback_queue.specs.Queue.{Queue, items_of, given_of, pushed, taken_out, with_place, noted, after_advance}
+use Rattle.callback_queue.specs.Queue.{Queue, items_of, given_of, pushed, sealed, taken_out, with_place}
 use Rattle.live_log.specs.declared.event.LiveEvent.{LiveEvent}
 use Rattle.live_log.specs.declared.event.LiveEvent.TheVariants.{CloseQueue}
 use Rattle.live_log.specs.Log.{Log, Begins, IsLiveRun, line_of}
@@ -41,20 +41,23 @@ IsPushed {C} old new o callback = (job : JobValue C) × (job.2 ≡ callback) × 
 abbrev pub GetsNoPlace : {C : Type 0} → Jobs C → Refusal → Type 0
 GetsNoPlace jobs e = ((e ≡ Closed) × (jobs.closed ≡ true)) ⊎ ((e ≡ Memory) × (jobs.closed ≡ false) × ((jobs.reserved ≡ false) ⊎ (2 ^ 63 ≤ given_of jobs)))
 
--- a batch goes to this number: as many were queued in the log, and two lists of these lengths have room for what is left
-abbrev pub SealsTo : {C : Type 0} → Jobs C → ℕ → ℕ → Log → ℕ → ℕ × ℕ → ℕ × ℕ → Type 0
-SealsTo jobs finished queue log n list left = (n ≡ max (given_of jobs) finished) × (finished < n → n ≤ length (line_of log queue)) × (list.0 + (n - finished) ≤ list.1) × (left.0 + (n - finished) ≤ left.1)
+-- a worker's batch: what comes next after so many that are finished, up to this number, and all that was queued in the log
+pub record IsBatch {C : Type 0} (q : ℕ) (log : Log) (finished last : ℕ) (items : List (Item (JobValue C))) : Type 0 where
+  pub placed : InOrder q log finished items
+  pub count : finished + length items ≡ last
+  pub all : length (line_of log q) ≤ last
+  pub known : finished < last → last ≤ length (line_of log q)
 
--- what waits is taken out where nothing is ready, all before it has left, and a list of this length has room for it
-abbrev pub TakesAllOut : {C : Type 0} → Jobs C → Jobs C → ℕ → ℕ → ℕ → Type 0
-TakesAllOut old new finished many room = old.gone ≡ finished → old.ready ≡ [] → many + length old.waiting ≤ room → new ≡ taken_out old
+-- these are the items, and all of them have left
+abbrev pub IsTakenOut : {C : Type 0} → Jobs C → Jobs C → List (Item (JobValue C)) → Type 0
+IsTakenOut old new items = (items ≡ old.fresh) × (new ≡ taken_out (sealed old))
 
 -- 1 once the queue was closed
 abbrev pub word_of : Bool → ℕ
 word_of false = 0
 word_of true = 1
 
--- the seat has the right to the queue, whose queued count is how many tickets were given
+-- the seat has the right to the queue, whose queued count is how many tickets were given; what leaves is never sealed first
 pub record IsUnderLock {C : Type 0} (key : Sizes) (jobs : Jobs C) (v : View) (q : ℕ) : Type 0 where
   pub sizes : v.sizes ≡ key
   pub right : v.queue ≡ Owns q (given_of jobs) (word_of jobs.closed)
@@ -62,6 +65,7 @@ pub record IsUnderLock {C : Type 0} (key : Sizes) (jobs : Jobs C) (v : View) (q 
   pub low : q < key.queues
   pub long : given_of jobs ≤ length (line_of v.seen q)
   pub placed : InOrder q v.seen jobs.gone (items_of jobs)
+  pub unsealed : (jobs.ready ≡ []) × (jobs.waiting ≡ [])
 
 -- the queue was closed, after all that the caller had seen and heard of
 pub record Closes (qsbr : Bool) (allows : Log → LiveEvent → Type 0) (seen heard : Log) (q : ℕ) (log : Log) : Type 0 where
@@ -69,7 +73,3 @@ pub record Closes (qsbr : Bool) (allows : Log → LiveEvent → Type 0) (seen he
   pub after_caller : Begins seen before × Begins heard before
   pub wrote : log ≡ CloseQueue q ∷ before
   pub run : IsLiveRun qsbr allows log
-
--- what waited, once this number was told of the grace period with this cookie
-abbrev pub ripened : {C : Type 0} → Jobs C → ℕ → ℕ → Jobs C
-ripened jobs cookie seq = if nat_lt 0 (length jobs.waiting) then after_advance (noted jobs cookie) seq else jobs

@@ -1,16 +1,16 @@
 //! What lies under a queue's lock.
-ghost use Rattle.std.specs.Prelude.{◌≡◌, ◌≢◌, ◌⊎◌, ◌+◌, ◌-◌, ◌<◌, ◌≤◌, ◌^◌, ◌∷◌, ◌++◌, [], length, max, reverse, vec_capacity, vec_len, true, false, IfErr, IfOk, IsOk};
+ghost use Rattle.std.specs.Prelude.{◌≡◌, ◌≢◌, ◌⊎◌, ◌+◌, ◌-◌, ◌<◌, ◌≤◌, ◌^◌, ◌∷◌, [], length, reverse, vec_capacity, vec_len, true, false, IfErr, IfOk, IsOk};
 ghost use Rattle.rcu_model.specs.declared.refusal.Refusal.TheVariants.{Closed, Memory};
 ghost use Rattle.rcu_model.specs.declared.event.ObjectId.{ObjectId};
-ghost use Rattle.callback_queue.specs.Queue.{closed_queue, empty_queue, given_of, handed_out, sealed, taken_out, with_place};
+ghost use Rattle.callback_queue.specs.Queue.{closed_queue, empty_queue, given_of, with_place};
 ghost use Rattle.live_log.specs.declared.event.LiveEvent.TheVariants.{CloseQueue};
-ghost use Rattle.live_log.specs.Log.{Begins, line_of};
+ghost use Rattle.live_log.specs.Log.{Begins, IsLiveRun, line_of};
 ghost use Rattle.live_words.specs.live_rule.declared.rights.QueueRight.TheVariants.{Owns};
 ghost use Rattle.live_words.specs.live_rule.declared.rights.RecordRight.TheVariants.{Nothing};
 ghost use Rattle.live_words.specs.live_table.Rights.{object_in};
 ghost use Rattle.live_words.specs.live_table.Steps.{Keeps};
 ghost use Rattle.live_read.specs.Hearing.{OnlyHears};
-ghost use Rattle.live_items.specs.Items.{Closes, GetsNoPlace, InOrder, IsPushed, SealsTo, TakesAllOut, ripened};
+ghost use Rattle.live_items.specs.Items.{Closes, GetsNoPlace, IsBatch, IsPushed, IsTakenOut};
 ghost use Rattle.live_items.specs.Retiring.{QueuesFor};
 
 use crate::job::Job;
@@ -18,9 +18,8 @@ use crate::retiring::queue_object;
 use callback_queue::{CallbackQueue, Item, Ticket};
 use gp_memb::GracePlan;
 use live_read::{Caller, Site, tell_all};
-use live_words::{ChainRule, LiveSeat, LiveTable, store_closed};
+use live_words::{ChainRule, LiveSeat, LiveTable, load_queued, store_closed};
 use live_write::Unlinked;
-use poll_cookie::Cookie;
 use rcu_model::{ObjectId, Refusal};
 use std::alloc::Global;
 use std::marker::Model;
@@ -134,113 +133,71 @@ impl<B: Site, C: Drop> Items<B, C> {
         }
     }
 
-    /// Lets the fresh items wait, where none are ready or wait already, once both lists have room for all that are not
-    /// finished: one for what is told of each that runs, and one for those that are taken back. The worker's seat hears
-    /// what was seen under the lock. Answers how many tickets were given, where some are not finished.
+    // How many are queued, by a load of the queue's own seat. The worker's seat hears of the log of that load, which
+    // begins with all that it had seen.
+    fn tell_queued<P: GracePlan, K: ChainRule>(
+        &mut self,
+        table: &LiveTable<P, K>,
+        worker: &mut LiveSeat,
+    ) -> u64
+        requires { (table.now.words.shared.table_id ≡ B.table) × (table.now.words.shared.key ≡ B.sizes) × (worker.old.table_id ≡ B.table) }
+        ensures same { (self.new.0 ≡ self.old.0) × (self.new.2 ≡ self.old.2) }
+        ensures worker { Keeps worker.old worker.new × (worker.new.me ≡ (record worker.old.me.0 { heard = self.new.1.seen }, worker.old.me.1)) }
+        ensures heard { Begins worker.old.me.0.seen self.new.1.seen × IsLiveRun P.QSBR K.allows self.new.1.seen }
+        ensures count { result ≡ length (line_of self.new.1.seen self.old.2) }
+    {
+        table.learn(&mut self.seat, table.tell(worker));
+        let queued = load_queued(table, &mut self.seat, self.number);
+        table.learn(worker, table.tell(&mut self.seat));
+        queued
+    }
+
+    /// Takes all that is queued and not finished, for a worker that waits for a grace period and then runs it, as
+    /// liburcu's thread of `call_rcu` splices its queue. The last item comes first, so that popping gives them in the
+    /// order of their tickets. Answers how many were queued in the log that the worker's seat hears of, which begins
+    /// with all that it had seen. The other list gets room for an entry for each.
     ///
-    /// Refused with `Memory` where room is refused for what is not finished, and then the items are as they were. It
-    /// waits for nobody.
-    pub fn seal<P: GracePlan, K: ChainRule, T: Drop>(
+    /// Refused with `Memory` where room is refused, or where the items are not those that come next after so many that
+    /// are finished; then they are as they were. It waits for nobody.
+    pub fn take_batch<P: GracePlan, K: ChainRule, T: Drop>(
         &mut self,
         table: &LiveTable<P, K>,
         worker: &mut LiveSeat,
         queue: usize,
         finished: u64,
         list: &mut Vec<T>,
-        left: &mut Vec<Item<Job<B, C>>>,
+        batch: &mut Vec<Item<Job<B, C>>>,
     ) -> Result<u64, Refusal>
-        requires site { (table.now.words.shared.table_id ≡ B.table) × (worker.old.table_id ≡ B.table) }
+        requires site { (table.now.words.shared.table_id ≡ B.table) × (table.now.words.shared.key ≡ B.sizes) × (worker.old.table_id ≡ B.table) }
         requires queue { self.old.2 ≡ queue }
+        requires batch { batch.old.items ≡ [] }
         ensures worker { Keeps worker.old worker.new × (worker.new.me ≡ (record worker.old.me.0 { heard = worker.new.me.0.heard }, worker.old.me.1)) }
+        ensures heard { Begins worker.old.me.0.seen worker.new.me.0.heard × IsLiveRun P.QSBR K.allows worker.new.me.0.heard }
         ensures list { list.new.items ≡ list.old.items }
-        ensures left { left.new.items ≡ left.old.items }
-        ensures given { IfOk result (λ n. SealsTo self.old.0 finished queue worker.new.me.0.heard n (vec_len list.new, vec_capacity list.new) (vec_len left.new, vec_capacity left.new)) }
-        ensures refused { IfErr result (λ e. (e ≡ Memory) × (finished < length (line_of worker.new.me.0.heard queue)) × (self.new.0 ≡ self.old.0)) }
-        ensures sealed { IfOk result (λ _. self.old.0.ready ≡ [] → self.old.0.waiting ≡ [] → self.new.0 ≡ sealed self.old.0) }
-        ensures kept { IfOk result (λ _. (0 < length self.old.0.ready) ⊎ (0 < length self.old.0.waiting) → self.new.0 ≡ self.old.0) }
+        ensures room { IfOk result (λ n. vec_len list.new + (n - finished) ≤ vec_capacity list.new) }
+        ensures taken { IfOk result (λ n. IsBatch queue worker.new.me.0.heard finished n (reverse batch.new.items)) }
+        ensures moved { IfOk result (λ n. finished < n → IsTakenOut self.old.0 self.new.0 (reverse batch.new.items)) }
+        ensures none { IfOk result (λ n. n ≡ finished → (batch.new.items ≡ []) × (self.new.0 ≡ self.old.0)) }
+        ensures refused { IfErr result (λ e. (e ≡ Memory) × (finished < length (line_of worker.new.me.0.heard queue))) }
+        ensures back { IfErr result (λ _. (self.new.0 ≡ self.old.0) × (batch.new.items ≡ [])) }
         ensures queue { self.new.2 ≡ self.old.2 }
     {
-        table.learn(worker, table.tell(&mut self.seat));
-        let given = self.queue.given().max(finished);
-        let room = (given - finished) as usize;
-        if list.reserve(room).is_err() || left.reserve(room).is_err() {
+        let queued = self.tell_queued(table, worker);
+        if queued <= finished {
+            return Ok(finished);
+        }
+        let count = queued - finished;
+        let (_, _, fresh) = self.queue.segments();
+        if self.queue.given() != queued || fresh != count {
             return Err(Refusal::Memory);
         }
-        let (ready, waiting, _) = self.queue.segments();
-        if ready == 0 && waiting == 0 {
-            self.queue.seal();
+        if list.reserve(count as usize).is_err() || batch.reserve(count as usize).is_err() {
+            return Err(Refusal::Memory);
         }
-        Ok(given)
-    }
-
-    /// What waits becomes ready, where the grace period that was asked for at this cookie has ended by this number. It
-    /// waits for nobody and takes no memory.
-    pub fn ripen(&mut self, cookie: Cookie, seq: u64)
-        ensures same { (self.new.1 ≡ self.old.1) × (self.new.2 ≡ self.old.2) }
-        ensures items { self.new.0 ≡ ripened self.old.0 cookie seq }
-    {
-        let (_, waiting, _) = self.queue.segments();
-        if waiting > 0 {
-            self.queue.note(cookie);
-            self.queue.advance(seq);
-        }
-    }
-
-    /// Moves what is ready to a list, the last one first, so that popping gives it in the order of its tickets: where
-    /// it is of this queue, its tickets come next after so many that are finished, and it is no more than the list has
-    /// room for. The worker's seat hears what was seen under the lock. It waits for nobody and takes no memory.
-    pub fn take_ready<P: GracePlan, K: ChainRule>(
-        &mut self,
-        table: &LiveTable<P, K>,
-        worker: &mut LiveSeat,
-        queue: usize,
-        finished: u64,
-        room: u64,
-        list: &mut Vec<Item<Job<B, C>>>,
-    )
-        requires site { (table.now.words.shared.table_id ≡ B.table) × (worker.old.table_id ≡ B.table) }
-        requires list { (list.old.items ≡ []) × (room ≤ vec_capacity list.old) }
-        ensures worker { Keeps worker.old worker.new × (worker.new.me ≡ (record worker.old.me.0 { heard = worker.new.me.0.heard }, worker.old.me.1)) }
-        ensures queue { self.new.2 ≡ self.old.2 }
-        ensures taken { ((self.new.0 ≡ handed_out self.old.0) × (reverse list.new.items ≡ self.old.0.ready)) ⊎ ((self.new.0 ≡ self.old.0) × (list.new ≡ list.old)) }
-        ensures placed { InOrder queue worker.new.me.0.heard finished (reverse list.new.items) }
-        ensures room { vec_len list.new ≤ room }
-        ensures fits { self.old.2 ≡ queue → self.old.0.gone ≡ finished → length self.old.0.ready ≤ room → self.new.0 ≡ handed_out self.old.0 }
-    {
-        table.learn(worker, table.tell(&mut self.seat));
-        let (ready, waiting, fresh) = self.queue.segments();
-        let gone = self.queue.given() - ready - waiting - fresh;
-        if self.number == queue && gone == finished && ready <= room {
-            self.queue.take_ready(list);
-            list.reverse();
-        }
-    }
-
-    /// Moves what waits to the end of a list, where it is of this queue and its tickets come next after so many that
-    /// are finished, nothing is ready, and the list has room: for a worker whose grace period was refused. The worker's
-    /// seat hears what was seen under the lock. It waits for nobody and takes no memory.
-    pub fn take_back<P: GracePlan, K: ChainRule>(
-        &mut self,
-        table: &LiveTable<P, K>,
-        worker: &mut LiveSeat,
-        queue: usize,
-        finished: u64,
-        left: &mut Vec<Item<Job<B, C>>>,
-    )
-        requires { (table.now.words.shared.table_id ≡ B.table) × (worker.old.table_id ≡ B.table) }
-        ensures worker { Keeps worker.old worker.new × (worker.new.me ≡ (record worker.old.me.0 { heard = worker.new.me.0.heard }, worker.old.me.1)) }
-        ensures queue { self.new.2 ≡ self.old.2 }
-        ensures taken { ((self.new.0 ≡ taken_out self.old.0) × (left.new.items ≡ left.old.items ++ self.old.0.waiting)) ⊎ ((self.new.0 ≡ self.old.0) × (left.new ≡ left.old)) }
-        ensures placed { left.old.items ≡ [] → InOrder queue worker.new.me.0.heard finished left.new.items }
-        ensures fits { self.old.2 ≡ queue → TakesAllOut self.old.0 self.new.0 finished (vec_len left.old) (vec_capacity left.old) }
-    {
-        table.learn(worker, table.tell(&mut self.seat));
-        let (ready, waiting, fresh) = self.queue.segments();
-        let gone = self.queue.given() - ready - waiting - fresh;
-        let room = left.capacity() - left.len();
-        if self.number == queue && gone == finished && ready == 0 && waiting <= room as u64 {
-            self.queue.take_waiting(left);
-        }
+        self.queue.seal();
+        self.queue.take_waiting(batch);
+        batch.reverse();
+        Ok(queued)
     }
 
     /// Closes the queue: every later `retire` is refused, and what is queued stays. The caller hears of it. It waits

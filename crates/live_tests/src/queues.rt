@@ -15,7 +15,6 @@ use live_words::{
     load_queued,
 };
 use live_write::Unlinked;
-use poll_cookie::cookie_of;
 use rcu_model::{ObjectId, Refusal};
 use std::alloc::Global;
 use std::marker::Brand;
@@ -57,14 +56,15 @@ fn retires_two<P: GracePlan, B: Site, R: Wait>(
     Ok(())
 }
 
-/// How many tickets were given as a batch of two was sealed, and the objects of the items that were taken out once
-/// their grace period had ended, in the order of their turns; whether none was taken before, and none after it.
+/// How many were queued as a batch of two was taken, its objects in the order of their turns, what is to be called for
+/// the second, and how many were queued as the next batch was taken, in which nothing is; whether a batch is refused
+/// where one is finished before, and where none is afterwards.
 fn batches<P: GracePlan, B: Site, R: Wait>(
     rt: &R,
     memory: Global,
     table: &LiveTable<P, AnyChain>,
     mut root: LiveSeat,
-) -> Result<([u64; 3], [bool; 2]), Refusal>
+) -> Result<([u64; 5], [bool; 2]), Refusal>
     requires site { (table.now.words.shared.table_id ≡ B.table) × (table.now.words.shared.key ≡ B.sizes) × (root.table_id ≡ B.table) × (root.me ≡ (first_view B.sizes, [])) }
     requires sizes { (table.now.chains ≡ 1) × (table.now.queues ≡ 1) × (table.now.pool ≡ 4) }
 {
@@ -75,78 +75,40 @@ fn batches<P: GracePlan, B: Site, R: Wait>(
     let mut worker = record.tell(table);
     let mut list: Vec<u64> = Vec::new(memory);
     let mut batch: Vec<Item<Job<B, ObjectId>>> = Vec::new(memory);
-    let given = items.seal(table, &mut worker, 0, 0, &mut list, &mut batch)?;
-    let mut early: Vec<Item<Job<B, ObjectId>>> = Vec::new(memory);
-    items.ripen(cookie_of(0)?, 1);
-    items.take_ready(table, &mut worker, 0, 0, 0, &mut early);
-    items.ripen(cookie_of(0)?, 2);
-    items.take_ready(table, &mut worker, 0, 0, given, &mut batch);
-    let mut late: Vec<Item<Job<B, ObjectId>>> = Vec::new(memory);
-    items.take_ready(table, &mut worker, 0, 2, 0, &mut late);
+    let early = items
+        .take_batch(table, &mut worker, 0, 1, &mut list, &mut batch)
+        .is_err();
+    let mut batch: Vec<Item<Job<B, ObjectId>>> = Vec::new(memory);
+    let given = items.take_batch(table, &mut worker, 0, 0, &mut list, &mut batch)?;
     let (Some(one), Some(two)) = (batch.pop(), batch.pop()) else {
         return Err(Refusal::NoPlace);
     };
+    let mut none: Vec<Item<Job<B, ObjectId>>> = Vec::new(memory);
+    let late = items
+        .take_batch(table, &mut worker, 0, 0, &mut list, &mut none)
+        .is_err();
+    let mut none: Vec<Item<Job<B, ObjectId>>> = Vec::new(memory);
+    let next = items.take_batch(table, &mut worker, 0, 2, &mut list, &mut none)?;
+    if !none.is_empty() {
+        return Err(Refusal::NoPlace);
+    }
+    let (first, second) = (one.object.0, two.object.0);
     Ok((
-        [given, one.object.0, two.object.0],
-        [early.is_empty(), late.is_empty()],
+        [given, first, second, two.job.into_callback().0, next],
+        [early, late],
     ))
 }
 
-/// How many of two items were taken back: for another queue, before they were sealed, by one who has finished the
-/// first, and then; and what was to be called for the last of them.
-fn takes_back<P: GracePlan, B: Site, R: Wait>(
-    rt: &R,
-    memory: Global,
-    table: &LiveTable<P, AnyChain>,
-    mut root: LiveSeat,
-) -> Result<([usize; 4], u64), Refusal>
-    requires site { (table.now.words.shared.table_id ≡ B.table) × (table.now.words.shared.key ≡ B.sizes) × (root.table_id ≡ B.table) × (root.me ≡ (first_view B.sizes, [])) }
-    requires sizes { (table.now.chains ≡ 1) × (table.now.queues ≡ 1) × (table.now.pool ≡ 4) }
-{
-    let queue = table.cut_spare_queue(&mut root);
-    let mut items: Items<B, ObjectId> = Items::new(memory, queue, 0);
-    let mut record: Handle<B> = Handle::new(root);
-    retires_two(rt, table, &mut items, &mut record)?;
-    let mut worker = record.tell(table);
-    let mut list: Vec<u64> = Vec::new(memory);
-    let mut left: Vec<Item<Job<B, ObjectId>>> = Vec::new(memory);
-    items.take_back(table, &mut worker, 0, 0, &mut left);
-    let fresh = left.len();
-    items.seal(table, &mut worker, 0, 0, &mut list, &mut left)?;
-    items.take_back(table, &mut worker, 1, 0, &mut left);
-    let other = left.len();
-    items.take_back(table, &mut worker, 0, 1, &mut left);
-    let later = left.len();
-    items.take_back(table, &mut worker, 0, 0, &mut left);
-    let taken = left.len();
-    let Some(item) = left.pop() else {
-        return Err(Refusal::NoPlace);
-    };
-    Ok(([other, fresh, later, taken], item.job.into_callback().0))
-}
-
 #[test]
-fn a_batch_leaves_once_its_grace_period_has_ended(rt: HostRuntime) {
+fn a_batch_is_taken_whole(rt: HostRuntime) {
     let (table, root) = LiveTable::<MembPlan, AnyChain>::new(rt.alloc(), 1, 1, 1, 4).expect(
         &rt, "memory",
     );
-    let (numbers, none) = batches::<_, Brand, _>(&rt, rt.alloc(), &table, root).expect(
+    let (numbers, refused) = batches::<_, Brand, _>(&rt, rt.alloc(), &table, root).expect(
         &rt, "memory",
     );
-    assert_eq!(rt; numbers, [2, 1, 2]);
-    assert_eq!(rt; none, [true; 2]);
-}
-
-#[test]
-fn what_waits_is_taken_back(rt: HostRuntime) {
-    let (table, root) = LiveTable::<MembPlan, AnyChain>::new(rt.alloc(), 1, 1, 1, 4).expect(
-        &rt, "memory",
-    );
-    let (numbers, last) = takes_back::<_, Brand, _>(&rt, rt.alloc(), &table, root).expect(
-        &rt, "memory",
-    );
-    assert_eq!(rt; numbers, [0, 0, 0, 2]);
-    assert_eq!(rt; last, 9);
+    assert_eq!(rt; numbers, [2, 1, 2, 9, 2]);
+    assert_eq!(rt; refused, [true; 2]);
 }
 
 #[test]

@@ -10,7 +10,7 @@ use Rattle.domain.proofs.domain.Domain.run_all.Goals as goal
 pub loop-count-init : goal.loop-count-init
 loop-count-init g c =
     let r = c.requires in
-    (goes_same g.P.GracePlan.QSBR g.K.ChainRule.allows c.args.seat.now r.due.2, r.queue.1, r.due.1, r.list.0, r.list.1, r.batch.0, r.batch.1, r.due.0)
+    (goes_same g.P.GracePlan.QSBR g.K.ChainRule.allows c.args.seat.now r.due.1, r.queue.1, r.due.0, r.list.0, r.list.1, r.batch.0, r.batch.1)
 
 pub run_next-done-requires-clause-item : goal.run_next-done-requires-clause-item
 run_next-done-requires-clause-item g c = (order_popped c.args.queue c.loop-count.seat.me.0.seen c.loop-count.count c.loop-count.batch.items c.pop.new.self.items c.in-Some.item c.in-Some.ensures.items c.loop-count.invariant.5).0
@@ -47,6 +47,5 @@ loop-count-preserved g c =
       (subst (AreRunAs answers q last c.args.first) (sym items) (all_and answers q last c.args.first c.loop-count.count c.loop-count.list.items c.run_next-done.result (sym so) (all_later answers qsbr allows q now last c.args.first c.loop-count.list.items step.later step.run i.3.0) e.run), omega (arith, longer, so)),
       omega (arith, len, room, had, low),
       order_later q now last (c.loop-count.count + 1) (reverse c.pop.new.self.items) step.later order,
-      omega (arith, fewer, few, low),
-      omega (arith, low),
+      omega (arith, fewer, few),
     )

@@ -1,4 +1,4 @@
-use Rattle.std.proofs.Common.{◌+◌, ◌-◌, ◌≤◌, reverse, vec_len, vec_capacity}
+use Rattle.std.proofs.Common.{◌≡◌, ◌+◌, ◌-◌, ◌≤◌, reverse, vec_len, vec_capacity}
 use Rattle.live_items.specs.Items.{InOrder}
 use Rattle.live_reclaim.specs.Batches.{IsDue, Lists, WorksFor}
 use Rattle.domain.specs.Working.{GoesOn}
@@ -12,5 +12,4 @@ invariant-loop-count g l =
     × Lists g.D.Deleter.answers l.queue l.seat.me.0.seen l.first l.count l.list.items
     × (vec_len l.list + (l.given - l.count) ≤ vec_capacity l.list)
     × InOrder l.queue l.seat.me.0.seen l.count (reverse l.batch.items)
-    × (vec_len l.batch ≤ l.given - l.count)
-    × (l.count ≤ l.given)
+    × (l.count + vec_len l.batch ≡ l.given)

@@ -1,63 +1,79 @@
-use Rattle.std.proofs.Common.{rules, ℕ, ◌≤◌, length, inl, arith}
+use Rattle.std.proofs.Common.{rules, ◌≡◌, ℕ, List, length, reverse, refl, sym, ap, ◌∙◌, subst, arith}
+use Rattle.std.proofs.lemmas.List.{length-reverse}
+use Rattle.callback_queue.specs.declared.item.Item.{Item}
 use Rattle.live_log.specs.Log.{Log, line_of}
-use Rattle.live_log.proofs.Lemmas.{begins_trans}
+use Rattle.live_items.specs.Items.{InOrder, JobValue}
 use Rattle.live_reclaim.specs.Batches.{IsDue}
-use Rattle.domain.proofs.Running.{line_longer, goes_heard, goes_trans, list_later}
+use Rattle.domain.proofs.Running.{goes_heard, goes_trans, list_later, order_later}
 use Rattle.domain.proofs.domain.Domain.run_batch.Goals as goal
-
-pub returns-then-is_err-clause-seat : goal.returns-then-is_err-clause-seat
-returns-then-is_err-clause-seat g c =
-    let qsbr = g.P.GracePlan.QSBR in
-    let allows = g.K.ChainRule.allows in
-    let sealed = c.seal-sealed.ensures in
-    let waited = goes_trans qsbr allows c.args.seat.now c.seal-sealed.new.worker c.ripen.new.seat (goes_heard qsbr allows c.args.seat.now c.seal-sealed.new.worker sealed.worker.0 sealed.worker.1 c.requires.seat.2) c.ripen.ensures.seat.0 in
-    let back = c.take_back.ensures.worker in
-    goes_trans qsbr allows c.args.seat.now c.ripen.new.seat c.take_back.new.worker waited (goes_heard qsbr allows c.ripen.new.seat c.take_back.new.worker back.0 back.1 waited.run)
 
 pub returns-then-is_err-clause-list : goal.returns-then-is_err-clause-list
 returns-then-is_err-clause-list g c =
     let qsbr = g.P.GracePlan.QSBR in
     let allows = g.K.ChainRule.allows in
-    let sealed = c.seal-sealed.ensures in
-    let waited = goes_trans qsbr allows c.args.seat.now c.seal-sealed.new.worker c.ripen.new.seat (goes_heard qsbr allows c.args.seat.now c.seal-sealed.new.worker sealed.worker.0 sealed.worker.1 c.requires.seat.2) c.ripen.ensures.seat.0 in
-    let back = c.take_back.ensures.worker in
-    let all = goes_trans qsbr allows c.args.seat.now c.ripen.new.seat c.take_back.new.worker waited (goes_heard qsbr allows c.ripen.new.seat c.take_back.new.worker back.0 back.1 waited.run) in
-    list_later g.D.Deleter.answers qsbr allows c.args.queue c.args.seat.now.me.0.seen c.take_back.new.worker.me.0.seen c.args.first c.args.finished c.args.list.now.items c.seal-sealed.new.list.items all.later all.run sealed.list c.requires.list
+    let taken = c.take_batch-taken.ensures in
+    let waited = goes_trans qsbr allows c.args.seat.now c.take_batch-taken.new.worker c.wait_for_readers.new.seat (goes_heard qsbr allows c.args.seat.now c.take_batch-taken.new.worker taken.worker.0 taken.worker.1 c.requires.seat.2) c.wait_for_readers.ensures.seat.0 in
+    list_later g.D.Deleter.answers qsbr allows c.args.queue c.args.seat.now.me.0.seen c.wait_for_readers.new.seat.me.0.seen c.args.first c.args.finished c.args.list.now.items c.take_batch-taken.new.list.items waited.later waited.run taken.list c.requires.list
 
-pub run_all-count-requires-clause-list : goal.run_all-count-requires-clause-list
-run_all-count-requires-clause-list g c =
+pub returns-then-is_err-clause-left : goal.returns-then-is_err-clause-left
+returns-then-is_err-clause-left g c =
+    let heard : Log = c.take_batch-taken.new.worker.me.0.heard in
+    let placed = subst (InOrder c.args.queue heard c.args.finished) (sym c.reverse.ensures.items) c.in-Ok.ensures.taken.placed in
+    (order_later c.args.queue heard c.wait_for_readers.new.seat.me.0.seen c.args.finished c.reverse.new.self.items c.wait_for_readers.ensures.heard placed, λ no. absurd (no refl))
+
+pub returns-then-is_err-clause-whole : goal.returns-then-is_err-clause-whole
+returns-then-is_err-clause-whole g c _ =
     let qsbr = g.P.GracePlan.QSBR in
     let allows = g.K.ChainRule.allows in
-    let sealed = c.seal-sealed.ensures in
-    let waited = goes_trans qsbr allows c.args.seat.now c.seal-sealed.new.worker c.ripen.new.seat (goes_heard qsbr allows c.args.seat.now c.seal-sealed.new.worker sealed.worker.0 sealed.worker.1 c.requires.seat.2) c.ripen.ensures.seat.0 in
-    (list_later g.D.Deleter.answers qsbr allows c.args.queue c.args.seat.now.me.0.seen c.ripen.new.seat.me.0.seen c.args.first c.args.finished c.args.list.now.items c.seal-sealed.new.list.items waited.later waited.run sealed.list c.requires.list, c.in-Ok.ensures.given.2)
+    let taken = c.take_batch-taken.ensures in
+    let heard : Log = c.take_batch-taken.new.worker.me.0.heard in
+    let batch = c.in-Ok.ensures.taken in
+    let count = batch.count in
+    let other = c.if-given-finished.false in
+    let most = batch.known (omega (arith, count, other)) in
+    let all = batch.all in
+    let many = ap (λ (l : List (Item (JobValue g.row.D.Denot))). length l) c.reverse.ensures.items in
+    record {
+      taken = heard;
+      after = taken.heard.0;
+      before = c.wait_for_readers.ensures.heard;
+      ran = list_later g.D.Deleter.answers qsbr allows c.args.queue c.args.seat.now.me.0.seen heard c.args.first c.args.finished c.args.list.now.items c.take_batch-taken.new.list.items taken.heard.0 taken.heard.1 taken.list c.requires.list;
+      all = omega (arith, count, most, all, many);
+    }
 
-pub returns-then-count-given-clause-seat : goal.returns-then-count-given-clause-seat
-returns-then-count-given-clause-seat g c =
+pub run_all-requires-clause-due : goal.run_all-requires-clause-due
+run_all-requires-clause-due g c =
+    let q : ℕ = c.args.queue in
+    let heard : Log = c.take_batch-taken.new.worker.me.0.heard in
+    let due : (r : ℕ) → IsDue r (length (line_of heard r)) c.wait_for_readers.new.seat.me.0.seen = search rules in
+    let batch = c.in-Ok.ensures.taken in
+    let count = batch.count in
+    let other = c.if-given-finished.false in
+    let most = batch.known (omega (arith, count, other)) in
+    let now = due q in
+    let long = now.3 in
+    ((now.0, now.1, now.2, omega (arith, most, long)), c.wait_for_readers.ensures.seat.0.run)
+
+pub run_all-requires-clause-list : goal.run_all-requires-clause-list
+run_all-requires-clause-list g c =
     let qsbr = g.P.GracePlan.QSBR in
     let allows = g.K.ChainRule.allows in
-    let sealed = c.seal-sealed.ensures in
-    goes_trans qsbr allows c.args.seat.now c.seal-sealed.new.worker c.run_all-count.new.seat (goes_heard qsbr allows c.args.seat.now c.seal-sealed.new.worker sealed.worker.0 sealed.worker.1 c.requires.seat.2)
-    (goes_trans qsbr allows c.seal-sealed.new.worker c.ripen.new.seat c.run_all-count.new.seat c.ripen.ensures.seat.0 c.run_all-count.ensures.seat)
+    let taken = c.take_batch-taken.ensures in
+    let waited = goes_trans qsbr allows c.args.seat.now c.take_batch-taken.new.worker c.wait_for_readers.new.seat (goes_heard qsbr allows c.args.seat.now c.take_batch-taken.new.worker taken.worker.0 taken.worker.1 c.requires.seat.2) c.wait_for_readers.ensures.seat.0 in
+    (list_later g.D.Deleter.answers qsbr allows c.args.queue c.args.seat.now.me.0.seen c.wait_for_readers.new.seat.me.0.seen c.args.first c.args.finished c.args.list.now.items c.take_batch-taken.new.list.items waited.later waited.run taken.list c.requires.list, c.in-Ok.ensures.room)
+
+pub run_all-requires-clause-batch : goal.run_all-requires-clause-batch
+run_all-requires-clause-batch g c =
+    let items = c.take_batch-taken.new.batch.items in
+    let batch = c.in-Ok.ensures.taken in
+    let count = batch.count in
+    let same = length-reverse items in
+    (order_later c.args.queue c.take_batch-taken.new.worker.me.0.heard c.wait_for_readers.new.seat.me.0.seen c.args.finished (reverse items) c.wait_for_readers.ensures.heard batch.placed, omega (arith, count, same))
 
 pub returns-clause-seat : goal.returns-clause-seat
 returns-clause-seat g c =
     let qsbr = g.P.GracePlan.QSBR in
     let allows = g.K.ChainRule.allows in
-    let sealed = c.seal-sealed.ensures in
-    goes_trans qsbr allows c.args.seat.now c.seal-sealed.new.worker c.run_all-count.new.seat (goes_heard qsbr allows c.args.seat.now c.seal-sealed.new.worker sealed.worker.0 sealed.worker.1 c.requires.seat.2)
-    (goes_trans qsbr allows c.seal-sealed.new.worker c.ripen.new.seat c.run_all-count.new.seat c.ripen.ensures.seat.0 c.run_all-count.ensures.seat)
-
-pub returns-then-count-given-clause-memory : goal.returns-then-count-given-clause-memory
-returns-then-count-given-clause-memory g c _ =
-    let q : ℕ = c.args.queue in
-    let ripe : Log = c.ripen.new.seat.me.0.seen in
-    let last : Log = c.run_all-count.new.seat.me.0.seen in
-    let low : c.args.finished ≤ c.in-Ok.given = search rules in
-    let due : IsDue q (length (line_of c.seal-sealed.new.worker.me.0.heard q)) ripe = search rules in
-    let many = due.3 in
-    let line = line_longer due.0 last q (begins_trans due.0 ripe last due.1 c.run_all-count.ensures.seat.later) in
-    let fewer = c.if-count-given.true in
-    let other = c.if-given-finished.false in
-    let most = c.in-Ok.ensures.given.1 (omega (arith, low, other)) in
-    inl (omega (arith, many, line, fewer, most))
+    let taken = c.take_batch-taken.ensures in
+    goes_trans qsbr allows c.args.seat.now c.take_batch-taken.new.worker c.run_all.new.seat (goes_heard qsbr allows c.args.seat.now c.take_batch-taken.new.worker taken.worker.0 taken.worker.1 c.requires.seat.2)
+    (goes_trans qsbr allows c.take_batch-taken.new.worker c.wait_for_readers.new.seat c.run_all.new.seat c.wait_for_readers.ensures.seat.0 c.run_all.ensures.seat)

@@ -1,4 +1,5 @@
 use Rattle.std.proofs.Common.{rules, ◌≡◌, ℕ, [], sym, ap, ◌∙◌, subst, arith}
+use Rattle.live_log.proofs.Lemmas.{begins_trans}
 use Rattle.live_words.specs.live_rule.declared.view.View.{View}
 use Rattle.live_reclaim.specs.Batches.{Lists}
 use Rattle.domain.specs.declared.working.Outcome.TheVariants as outcome
@@ -35,3 +36,9 @@ returns-in-Exhausted-clause-exhausted g c _ =
     let i = c.loop.invariant.0 in
     let is : c.run_batch-now.result.1 ≡ outcome.Exhausted = search rules in
     used_up_since old.seen now.seen new.seen old.loads now.loads new.loads i.later i.finds.1.0 i.finds.1.1 (c.run_batch-now.ensures.exhausted is)
+
+pub returns-in-Exhausted-clause-whole : goal.returns-in-Exhausted-clause-whole
+returns-in-Exhausted-clause-whole g c _ =
+    let is : c.run_batch-now.result.1 ≡ outcome.Exhausted = search rules in
+    let w = c.run_batch-now.ensures.whole is in
+    record { taken = w.taken; after = begins_trans c.args.seat.now.me.0.seen c.loop.seat.me.0.seen w.taken c.loop.invariant.0.later w.after; before = w.before; ran = w.ran; all = w.all }
