@@ -146,18 +146,18 @@ BUGS = [
     (
         "a batch is run backwards",
         "live_items/src/items.rt",
-        "        batch.reverse();\n        Ok(queued)",
-        "        Ok(queued)",
+        "        self.queue.take_waiting(batch);\n",
+        "        self.queue.take_waiting(batch);\n        batch.reverse();\n",
     ),
     (
         "two callbacks of a batch are swapped",
         "live_items/src/items.rt",
-        "        batch.reverse();\n        Ok(queued)",
-        "        batch.reverse();\n        let one = batch.pop();\n        let two = batch.pop();\n"
+        "        self.queue.take_waiting(batch);\n",
+        "        self.queue.take_waiting(batch);\n        let one = batch.pop();\n        let two = batch.pop();\n"
         "        if let Some(mut one) = one {\n            if let Some(mut two) = two {\n"
         "                std::mem::swap(&mut one.job.callback, &mut two.job.callback);\n"
         "                batch.push_reserved(two);\n            }\n            batch.push_reserved(one);\n"
-        "        }\n        Ok(queued)",
+        "        }\n",
     ),
     (
         "a worker drops every second item of a batch",

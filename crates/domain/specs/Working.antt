@@ -53,20 +53,21 @@ pub record FoundUsedUp (start log : Log) (old new : List Log) : Type 0 where
 abbrev pub HasMore : ℕ → ℕ → Log → Type 0
 HasMore q n log = n < length (line_of log q)
 
--- So many are left, which are all that were queued in a log and had not run there; the entries are of those that had.
+-- So many are left, at least one: all that had been queued in a log in which the entries had run, but for these.
 pub record IsWhole {D : Type 0} (answers : D → Ripe → ℕ → Type 0) (q : ℕ) (start log : Log) (first last : ℕ) (entries : List Finished) (many : ℕ) : Type 0 where
   pub taken : Log
   pub after : Begins start taken
   pub before : Begins taken log
   pub ran : Lists answers q taken first last entries
   pub all : length (line_of taken q) ≡ last + many
+  pub some : 0 < many
 
 module _ {D : Type 0} (answers : D → Ripe → ℕ → Type 0) (qsbr : Bool) (allows : Log → LiveEvent → Type 0) (key : Sizes) (q : ℕ) where
   -- A worker began after all that had been seen and heard of, when the first so many were finished, and ran those that
   -- came next, each in its turn: a deleter was called with each, and answered the code of its entry. Where it was closed,
   -- no more were queued; where it was served, no more had been when it began; and where memory was refused, more were.
-  -- What is left comes next after them, and nothing is but where the numbers were used up. Then it is all that had been
-  -- queued after the last one ran.
+  -- What is left comes next after them, and nothing is but where the numbers were used up. Then something is, and
+  -- with the entries it is all that had been queued in a log in which these had run.
   pub record HasWorked (seen heard : Log) (old new : Looks) (old_loads new_loads : List Log) (entries : List Finished) (items : List (Item (JobValue D))) (stop : Stop) (log : Log) : Type 0 where
     pub start : Log
     pub first : ℕ

@@ -128,9 +128,9 @@ impl<P: GracePlan + Drop, K: ChainRule, B: Site, D: Deleter> Domain<P, K, B, D> 
             return (finished, Outcome::Nothing);
         }
         if self.wait_for_readers(rt, seat).is_err() {
-            left.reverse();
             return (finished, Outcome::Exhausted);
         }
+        left.reverse();
         self.run_all(seat, queue, first, finished, given, list, left);
         (given, Outcome::Ran)
     }

@@ -1,5 +1,5 @@
 -- What lies under a queue's lock: its items in the order of their tickets, and the queue's seat.
-use Rattle.std.specs.Prelude.{Bool, true, false, ◌≡◌, ◌⊎◌, ℕ, ◌+◌, ◌<◌, ◌≤◌, ◌^◌, List, [], ◌∷◌, length}
+use Rattle.std.specs.Prelude.{Bool, true, false, ◌≡◌, ◌≢◌, ◌⊎◌, ℕ, ◌+◌, ◌<◌, ◌≤◌, ◌^◌, List, [], ◌∷◌, length}
 use Rattle.rcu_model.specs.declared.event.ObjectId.{ObjectId}
 use Rattle.rcu_model.specs.declared.refusal.Refusal.{Refusal}
 use Rattle.rcu_model.specs.declared.refusal.Refusal.TheVariants.{Closed, Memory}
@@ -51,6 +51,11 @@ pub record IsBatch {C : Type 0} (q : ℕ) (log : Log) (finished last : ℕ) (ite
 -- these are the items, and all of them have left
 abbrev pub IsTakenOut : {C : Type 0} → Jobs C → Jobs C → List (Item (JobValue C)) → Type 0
 IsTakenOut old new items = (items ≡ old.fresh) × (new ≡ taken_out (sealed old))
+
+-- a list of this length and room has no place for an entry of each item, or a batch of this room none for the items; or the
+-- items are not all that was queued in the log but for the first so many
+abbrev pub HasNoBatch : {C : Type 0} → Jobs C → ℕ → ℕ → Log → ℕ × ℕ → ℕ → Type 0
+HasNoBatch jobs q finished log list room = (list.1 < list.0 + length jobs.fresh) ⊎ (room < length jobs.fresh) ⊎ (jobs.gone ≢ finished) ⊎ (given_of jobs ≢ length (line_of log q))
 
 -- 1 once the queue was closed
 abbrev pub word_of : Bool → ℕ

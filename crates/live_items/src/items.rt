@@ -1,5 +1,5 @@
 //! What lies under a queue's lock.
-ghost use Rattle.std.specs.Prelude.{◌≡◌, ◌≢◌, ◌⊎◌, ◌+◌, ◌-◌, ◌<◌, ◌≤◌, ◌^◌, ◌∷◌, [], length, reverse, vec_capacity, vec_len, true, false, IfErr, IfOk, IsOk};
+ghost use Rattle.std.specs.Prelude.{◌≡◌, ◌≢◌, ◌⊎◌, ◌+◌, ◌-◌, ◌<◌, ◌≤◌, ◌^◌, ◌∷◌, [], length, vec_capacity, vec_len, true, false, IfErr, IfOk, IsOk};
 ghost use Rattle.rcu_model.specs.declared.refusal.Refusal.TheVariants.{Closed, Memory};
 ghost use Rattle.rcu_model.specs.declared.event.ObjectId.{ObjectId};
 ghost use Rattle.callback_queue.specs.Queue.{closed_queue, empty_queue, given_of, with_place};
@@ -10,7 +10,7 @@ ghost use Rattle.live_words.specs.live_rule.declared.rights.RecordRight.TheVaria
 ghost use Rattle.live_words.specs.live_table.Rights.{object_in};
 ghost use Rattle.live_words.specs.live_table.Steps.{Keeps};
 ghost use Rattle.live_read.specs.Hearing.{OnlyHears};
-ghost use Rattle.live_items.specs.Items.{Closes, GetsNoPlace, IsBatch, IsPushed, IsTakenOut};
+ghost use Rattle.live_items.specs.Items.{Closes, GetsNoPlace, HasNoBatch, IsBatch, IsPushed, IsTakenOut};
 ghost use Rattle.live_items.specs.Retiring.{QueuesFor};
 
 use crate::job::Job;
@@ -153,9 +153,8 @@ impl<B: Site, C: Drop> Items<B, C> {
     }
 
     /// Takes all that is queued and not finished, for a worker that waits for a grace period and then runs it, as
-    /// liburcu's thread of `call_rcu` splices its queue. The last item comes first, so that popping gives them in the
-    /// order of their tickets. Answers how many were queued in the log that the worker's seat hears of, which begins
-    /// with all that it had seen. The other list gets room for an entry for each.
+    /// liburcu's thread of `call_rcu` splices its queue. Answers how many were queued in the log that the worker's seat
+    /// hears of, which begins with all that it had seen. The other list gets room for an entry for each.
     ///
     /// Refused with `Memory` where room is refused, or where the items are not those that come next after so many that
     /// are finished; then they are as they were. It waits for nobody.
@@ -175,10 +174,11 @@ impl<B: Site, C: Drop> Items<B, C> {
         ensures heard { Begins worker.old.me.0.seen worker.new.me.0.heard × IsLiveRun P.QSBR K.allows worker.new.me.0.heard }
         ensures list { list.new.items ≡ list.old.items }
         ensures room { IfOk result (λ n. vec_len list.new + (n - finished) ≤ vec_capacity list.new) }
-        ensures taken { IfOk result (λ n. IsBatch queue worker.new.me.0.heard finished n (reverse batch.new.items)) }
-        ensures moved { IfOk result (λ n. finished < n → IsTakenOut self.old.0 self.new.0 (reverse batch.new.items)) }
+        ensures taken { IfOk result (λ n. IsBatch queue worker.new.me.0.heard finished n batch.new.items) }
+        ensures moved { IfOk result (λ n. finished < n → IsTakenOut self.old.0 self.new.0 batch.new.items) }
         ensures none { IfOk result (λ n. n ≡ finished → (batch.new.items ≡ []) × (self.new.0 ≡ self.old.0)) }
         ensures refused { IfErr result (λ e. (e ≡ Memory) × (finished < length (line_of worker.new.me.0.heard queue))) }
+        ensures lacks { IfErr result (λ _. HasNoBatch self.old.0 queue finished worker.new.me.0.heard (vec_len list.old, vec_capacity list.old) (vec_capacity batch.old)) }
         ensures back { IfErr result (λ _. (self.new.0 ≡ self.old.0) × (batch.new.items ≡ [])) }
         ensures queue { self.new.2 ≡ self.old.2 }
     {
@@ -196,7 +196,6 @@ impl<B: Site, C: Drop> Items<B, C> {
         }
         self.queue.seal();
         self.queue.take_waiting(batch);
-        batch.reverse();
         Ok(queued)
     }
 

@@ -80,7 +80,7 @@ fn batches<P: GracePlan, B: Site, R: Wait>(
         .is_err();
     let mut batch: Vec<Item<Job<B, ObjectId>>> = Vec::new(memory);
     let given = items.take_batch(table, &mut worker, 0, 0, &mut list, &mut batch)?;
-    let (Some(one), Some(two)) = (batch.pop(), batch.pop()) else {
+    let (Some(two), Some(one)) = (batch.pop(), batch.pop()) else {
         return Err(Refusal::NoPlace);
     };
     let mut none: Vec<Item<Job<B, ObjectId>>> = Vec::new(memory);

@@ -93,7 +93,8 @@ pub extern "C" fn robiniagolf_memb_grace_free(alloc: Global, grace: &mut MembGra
 
 /// Registers a reader in the domain, liburcu's `rcu_register_thread`: one atomic step claims the first slot that is found
 /// free. 0 registered, 3 memory, 4 the domain's handle keeps nothing, 5 the reader's handle keeps one already, 6 every
-/// slot was found claimed. Where it is not 0, the reader's handle is as it was, and no slot stays claimed.
+/// slot was found claimed. Where it is not 0, the reader's handle is as it was. That no slot
+/// stays claimed then, tests show.
 #[unsafe(no_mangle)]
 pub extern "C" fn robiniagolf_memb_reader_register(
     alloc: Global,

@@ -46,7 +46,7 @@ returns-clause-worked g c =
       through = ran_through g.D.Deleter.answers q start last first n items later begun.3 begun.2 lists;
       left = order_later q between last n c.work_until-stop.new.left.items more w.left.0;
       nothing = w.left.1;
-      whole = λ x. let u = w.whole x in record { taken = u.taken; after = u.after; before = begins_trans u.taken between last u.before more; ran = u.ran; all = u.all };
+      whole = λ x. let u = w.whole x in record { taken = u.taken; after = u.after; before = begins_trans u.taken between last u.before more; ran = u.ran; all = u.all; some = u.some };
       closed = λ x. let e = (w.closed x).0 in let k = closed_stays g.P.GracePlan.QSBR g.K.ChainRule.allows between last q more left.2.2 e.0 in (k.0, ap (λ (l : List ObjectId). length l) k.1 ∙ e.1);
       served = λ x. (w.served x).0;
       memory = λ x. more_known q n c.work_until-stop.new.seat.me.0 last more left.2.1 (w.memory x);

@@ -1,5 +1,5 @@
 use Rattle.std.proofs.Common.{rules, ◌≡◌, ℕ, List, length, reverse, refl, sym, ap, ◌∙◌, subst, arith}
-use Rattle.std.proofs.lemmas.List.{length-reverse}
+use Rattle.std.proofs.lemmas.List.{length-reverse, reverse-reverse}
 use Rattle.callback_queue.specs.declared.item.Item.{Item}
 use Rattle.live_log.specs.Log.{Log, line_of}
 use Rattle.live_items.specs.Items.{InOrder, JobValue}
@@ -18,8 +18,7 @@ returns-then-is_err-clause-list g c =
 pub returns-then-is_err-clause-left : goal.returns-then-is_err-clause-left
 returns-then-is_err-clause-left g c =
     let heard : Log = c.take_batch-taken.new.worker.me.0.heard in
-    let placed = subst (InOrder c.args.queue heard c.args.finished) (sym c.reverse.ensures.items) c.in-Ok.ensures.taken.placed in
-    (order_later c.args.queue heard c.wait_for_readers.new.seat.me.0.seen c.args.finished c.reverse.new.self.items c.wait_for_readers.ensures.heard placed, λ no. absurd (no refl))
+    (order_later c.args.queue heard c.wait_for_readers.new.seat.me.0.seen c.args.finished c.take_batch-taken.new.batch.items c.wait_for_readers.ensures.heard c.in-Ok.ensures.taken.placed, λ no. absurd (no refl))
 
 pub returns-then-is_err-clause-whole : goal.returns-then-is_err-clause-whole
 returns-then-is_err-clause-whole g c _ =
@@ -32,13 +31,13 @@ returns-then-is_err-clause-whole g c _ =
     let other = c.if-given-finished.false in
     let most = batch.known (omega (arith, count, other)) in
     let all = batch.all in
-    let many = ap (λ (l : List (Item (JobValue g.row.D.Denot))). length l) c.reverse.ensures.items in
     record {
       taken = heard;
       after = taken.heard.0;
       before = c.wait_for_readers.ensures.heard;
       ran = list_later g.D.Deleter.answers qsbr allows c.args.queue c.args.seat.now.me.0.seen heard c.args.first c.args.finished c.args.list.now.items c.take_batch-taken.new.list.items taken.heard.0 taken.heard.1 taken.list c.requires.list;
-      all = omega (arith, count, most, all, many);
+      all = omega (arith, count, most, all);
+      some = omega (arith, count, other);
     }
 
 pub run_all-requires-clause-due : goal.run_all-requires-clause-due
@@ -64,11 +63,15 @@ run_all-requires-clause-list g c =
 
 pub run_all-requires-clause-batch : goal.run_all-requires-clause-batch
 run_all-requires-clause-batch g c =
+    let heard : Log = c.take_batch-taken.new.worker.me.0.heard in
+    let seen : Log = c.wait_for_readers.new.seat.me.0.seen in
     let items = c.take_batch-taken.new.batch.items in
     let batch = c.in-Ok.ensures.taken in
     let count = batch.count in
-    let same = length-reverse items in
-    (order_later c.args.queue c.take_batch-taken.new.worker.me.0.heard c.wait_for_readers.new.seat.me.0.seen c.args.finished (reverse items) c.wait_for_readers.ensures.heard batch.placed, omega (arith, count, same))
+    let turned = c.reverse.ensures.items in
+    let same = ap (λ (l : List (Item (JobValue g.row.D.Denot))). length l) turned ∙ length-reverse items in
+    let again = ap reverse turned ∙ reverse-reverse items in
+    (subst (InOrder c.args.queue seen c.args.finished) (sym again) (order_later c.args.queue heard seen c.args.finished items c.wait_for_readers.ensures.heard batch.placed), omega (arith, count, same))
 
 pub returns-clause-seat : goal.returns-clause-seat
 returns-clause-seat g c =

@@ -41,4 +41,4 @@ pub returns-in-Exhausted-clause-whole : goal.returns-in-Exhausted-clause-whole
 returns-in-Exhausted-clause-whole g c _ =
     let is : c.run_batch-now.result.1 ≡ outcome.Exhausted = search rules in
     let w = c.run_batch-now.ensures.whole is in
-    record { taken = w.taken; after = begins_trans c.args.seat.now.me.0.seen c.loop.seat.me.0.seen w.taken c.loop.invariant.0.later w.after; before = w.before; ran = w.ran; all = w.all }
+    record { taken = w.taken; after = begins_trans c.args.seat.now.me.0.seen c.loop.seat.me.0.seen w.taken c.loop.invariant.0.later w.after; before = w.before; ran = w.ran; all = w.all; some = w.some }
