@@ -16,7 +16,7 @@ struct urcu_atfork {
     void *priv;
 };
 
-static struct urcu_atfork *tables;
+static struct urcu_atfork *tables, *paused; /* paused: by a fork that is coming; with table_users under workers_lock */
 static unsigned table_users;
 
 static __attribute__((constructor)) void at_load(void)
@@ -50,21 +50,15 @@ API struct worker *RCU(create_call_rcu_data)(unsigned long flags, int processor)
     return worker;
 }
 
-/* Under workers_lock. */
+/* Takes the worker off the list; what it has left is called by the standard one. Under workers_lock. */
 static void take_out(struct worker *worker)
 {
     struct worker **at = &workers;
+    struct robiniagolf_head *head;
 
     while (*at != worker)
         at = &(*at)->next;
     *at = worker->next;
-}
-
-/* Under workers_lock: what the worker has left is called by the standard one. */
-static void hand_over(struct worker *worker)
-{
-    struct robiniagolf_head *head;
-
     take(worker);
     while ((head = pop(worker)))
         push(&standard, head);
@@ -80,12 +74,11 @@ API void RCU(call_rcu_data_free)(struct worker *worker)
     if (!worker || worker == &standard)
         return;
     wait = begin_wait();
+    lock(&workers_lock);
     atomic_store(&worker->stop, true);
     sem_post(&worker->wake);
     while (atomic_load(&worker->running))
-        usleep(1000);
-    lock(&workers_lock);
-    hand_over(worker);
+        pthread_cond_wait(&progress, &workers_lock);
     take_out(worker);
     if (worker->marked)
         worker->gone = true;
@@ -112,7 +105,9 @@ API struct worker *RCU(get_call_rcu_data)(void)
 
 API pthread_t RCU(get_call_rcu_thread)(struct worker *worker)
 {
-    start_if_needed(worker);
+    lock(&workers_lock);
+    start(worker);
+    unlock(&workers_lock);
     return worker->thread;
 }
 
@@ -134,18 +129,17 @@ API struct worker *RCU(get_cpu_call_rcu_data)(int processor)
 API int RCU(set_cpu_call_rcu_data)(int processor, struct worker *worker)
 {
     struct worker *none = NULL;
+    int error = 0;
 
-    if (processor < 0 || processor >= processors()) {
-        errno = EINVAL;
-        return -EINVAL;
-    }
-    if (!worker) {
+    if (processor < 0 || processor >= processors())
+        error = EINVAL;
+    else if (!worker)
         atomic_store(&by_processor[processor], NULL);
-    } else if (!atomic_compare_exchange_strong(&by_processor[processor], &none, worker)) {
-        errno = EEXIST;
-        return -EEXIST;
-    }
-    return 0;
+    else if (!atomic_compare_exchange_strong(&by_processor[processor], &none, worker))
+        error = EEXIST;
+    if (error)
+        errno = error;
+    return -error;
 }
 
 API int RCU(create_all_cpu_call_rcu_data)(unsigned long flags)
@@ -198,8 +192,11 @@ API void RCU(call_rcu_before_fork)(void)
 {
     struct wait wait = begin_wait();
 
-    if (tables)
-        tables->before_fork(tables->priv);
+    lock(&workers_lock);
+    paused = tables;
+    unlock(&workers_lock);
+    if (paused)
+        paused->before_fork(paused->priv);
     lock(&workers_lock);
     pausing++;
     while (resting < wake_others())
@@ -214,14 +211,14 @@ API void RCU(call_rcu_after_fork_parent)(void)
     pausing--;
     pthread_cond_broadcast(&progress);
     unlock(&workers_lock);
-    if (tables)
-        tables->after_fork_parent(tables->priv);
+    if (paused)
+        paused->after_fork_parent(paused->priv);
 }
 
 API void RCU(call_rcu_after_fork_child)(void)
 {
-    if (tables)
-        tables->after_fork_child(tables->priv);
+    if (paused)
+        paused->after_fork_child(paused->priv);
     lock(&workers_lock);
     for (struct worker *worker = workers; worker; worker = worker->next)
         if (atomic_load(&worker->in) || worker->batch)

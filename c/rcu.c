@@ -212,10 +212,7 @@ API void RCU(register_thread)(void)
 #endif
 }
 
-API void RCU(unregister_thread)(void)
-{
-    leave(NULL);
-}
+API void RCU(unregister_thread)(void) { leave(NULL); }
 
 #ifdef QSBR
 
@@ -386,29 +383,20 @@ static void push(struct worker *worker, struct robiniagolf_head *head)
         sem_post(&worker->wake);
 }
 
-static struct robiniagolf_head *reversed(struct robiniagolf_head *list)
-{
-    struct robiniagolf_head *result = NULL, *next;
-
-    for (; list; list = next) {
-        next = list->next;
-        list->next = result;
-        result = list;
-    }
-    return result;
-}
-
-/* Puts what came in behind the batch: whether there is a batch then. */
+/* Puts what came in behind the batch, the oldest first: whether there is a batch then. */
 static bool take(struct worker *worker)
 {
-    struct robiniagolf_head **end = &worker->batch;
-    bool some;
+    struct robiniagolf_head **end = &worker->batch, *head, *next;
 
     lock(&worker->lock);
     while (*end)
         end = &(*end)->next;
-    *end = reversed(atomic_exchange(&worker->in, NULL));
-    some = worker->batch;
+    for (head = atomic_exchange(&worker->in, NULL); head; head = next) {
+        next = head->next;
+        head->next = *end;
+        *end = head;
+    }
+    bool some = worker->batch;
     unlock(&worker->lock);
     return some;
 }
@@ -467,16 +455,20 @@ static void *work(void *arg)
             run_batch(worker);
     } while (!stop);
     leave(NULL);
-    atomic_store(&worker->running, false); /* the worker may be freed from here on */
+    lock(&workers_lock);
+    atomic_store(&worker->running, false);
+    pthread_cond_broadcast(&progress);
+    unlock(&workers_lock); /* the worker may be freed from here on */
     return NULL;
 }
 
-/* Starts the worker's thread unless it runs. If none can be had now, the next call tries again. Under workers_lock. */
+/* Starts the worker's thread unless it runs or has to stop. If none can be had now, a later call tries again. Under
+ * workers_lock. */
 static void start(struct worker *worker)
 {
     sigset_t all, before;
 
-    if (atomic_load(&worker->running))
+    if (atomic_load(&worker->running) || atomic_load(&worker->stop))
         return;
     sigfillset(&all);
     pthread_sigmask(SIG_SETMASK, &all, &before);
@@ -606,10 +598,8 @@ API struct robiniagolf_poll RCU(start_poll_synchronize_rcu)(void)
 
 API bool RCU(poll_state_synchronize_rcu)(struct robiniagolf_poll state)
 {
-    bool is_over;
-
     lock(&poll_lock);
-    is_over = (long)(answered - state.number) >= 0;
+    bool is_over = (long)(answered - state.number) >= 0;
     unlock(&poll_lock);
     if (!is_over)
         start_if_needed(&standard); /* in a forked child it may not run yet */

@@ -52,11 +52,12 @@ static void test_own_worker(struct call_rcu_data *worker)
     check("a barrier has waited for that worker", after_barrier == 2000);
 }
 
-static atomic_int slow_at;
+static atomic_int slow_at, slow_begun;
 
 static void be_slow(struct rcu_head *head)
 {
     slow_at = 1;
+    slow_begun++;
     linger();
     linger();
     free(item_of(head));
@@ -164,6 +165,60 @@ static void test_fork_calls(void)
     check("the parent after them", ran == 100);
 }
 
+static void *free_worker(void *worker)
+{
+    call_rcu_data_free(worker);
+    return NULL;
+}
+
+static void call_slow(int times)
+{
+    call_rcu(item(-1), be_slow);
+    while (slow_begun < times)
+        usleep(1000);
+}
+
+/* A fork is coming while a worker ends, in its last batch. There liburcu itself waits for ever. */
+static void test_freed_beside_fork(void)
+{
+    struct call_rcu_data *worker = create_call_rcu_data(0, -1);
+    pthread_t of_worker = get_call_rcu_thread(worker), thread;
+
+    set_thread_call_rcu_data(worker);
+    slow_begun = 0;
+    call_slow(1);
+    thread = started(free_worker, worker);
+    call_slow(2);
+    set_thread_call_rcu_data(NULL);
+    call_rcu_before_fork();
+    check("a fork waits for a worker that ends", slow_at == 2);
+    call_rcu_after_fork_parent();
+    pthread_join(thread, NULL);
+    check("a worker that ended beside a fork can be joined", pthread_join(of_worker, NULL) == 0);
+}
+
+/* Workers are freed while another thread waits for barriers, which start each worker that does not run. */
+static void test_freed_beside_barriers(void)
+{
+    struct call_rcu_data *worker;
+    pthread_t of_worker, thread;
+
+    ran = out_of_order = 0;
+    for (int i = 0; i < 50; i++) {
+        worker = create_call_rcu_data(0, -1);
+        of_worker = get_call_rcu_thread(worker);
+        set_thread_call_rcu_data(worker);
+        post(ran, ran + 10);
+        set_thread_call_rcu_data(NULL);
+        thread = started(barrier_aside, NULL);
+        call_rcu_data_free(worker);
+        pthread_join(thread, NULL);
+        pthread_join(of_worker, NULL);
+        rcu_barrier();
+    }
+    check("workers are freed beside barriers", ran == 500 && out_of_order == 0);
+}
+
 static void test_liburcu(void)
 {
     struct call_rcu_data *worker = create_call_rcu_data(0, -1);
@@ -175,4 +230,7 @@ static void test_liburcu(void)
     test_processors();
     test_deferred();
     test_fork_calls();
+    test_freed_beside_barriers();
+    if (!is_control)
+        test_freed_beside_fork();
 }

@@ -27,7 +27,7 @@ extern "C" {
 /* ---- The waiting part ------------------------------------------------------------------------------------------
  *
  * One domain for the whole program and each flavour, made at the first call. These calls may lock, wait, allocate and
- * start a thread. Where they can't go on (no memory for a reader, more than 16,384 threads, a wait within the caller's
+ * start a thread. Where they can't go on (no memory for a reader, more than 16,192 threads, a wait within the caller's
  * own section) they say so on standard error and abort. */
 
 /* Makes the calling thread a reader, of qsbr an online one. A thread that ends is unregistered; one that is registered
@@ -68,7 +68,8 @@ struct robiniagolf_head {
 };
 
 /* Has call(head) called after a grace period, by one thread of the library, in the order of the calls of one thread.
- * It never fails, waits or allocates, and may be called in a section or by a callback. A callback may read and wait. */
+ * It never fails or allocates, waits for no grace period, and may be called in a section or by a callback. A callback
+ * may read and wait. The first call starts that thread, under a lock; where it can't, a later call tries again. */
 void robiniagolf_memb_call_rcu(struct robiniagolf_head *head, void (*call)(struct robiniagolf_head *head));
 void robiniagolf_qsbr_call_rcu(struct robiniagolf_head *head, void (*call)(struct robiniagolf_head *head));
 
