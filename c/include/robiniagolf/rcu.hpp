@@ -198,8 +198,9 @@ public:
     /// Effects: evaluates `deleter = std::move(d)`, and schedules `deleter(addressof(x))` in `dom`. If that exits via
     /// an exception, the behavior is undefined.
     ///
-    /// Here: allocates nothing and never blocks. An exception of the two calls std::terminate. Where D moves without an
-    /// exception, `deleter` is moved out of x and then called, so that it may use its state after it has destroyed x.
+    /// Here: allocates nothing and waits for no grace period. An exception of the two calls std::terminate. Where D
+    /// moves without an exception, `deleter` is moved out of x and then called, so that it may use its state after it
+    /// has destroyed x.
     void retire(D d = D(), rcu_domain& dom = rcu_default_domain()) noexcept {
         static_assert(std::is_base_of_v<rcu_obj_base, T>, "retire: T must derive from rcu_obj_base<T, D>");
         static_assert(std::is_convertible_v<T*, rcu_obj_base*>,
@@ -242,8 +243,8 @@ private:
 /// an exception, the behavior is undefined. Throws: bad_alloc, or what the initialization of d1 throws; then nothing is
 /// scheduled.
 ///
-/// Here: allocates one node by operator new, and never blocks. T is any type. An exception of `d1(p)` calls
-/// std::terminate.
+/// Here: allocates one node by operator new, and waits for no grace period. T is any type. An exception of `d1(p)`
+/// calls std::terminate.
 template <class T, class D = std::default_delete<T>>
 void rcu_retire(T* p, D d = D(), rcu_domain& dom = rcu_default_domain()) {
     static_assert(std::is_move_constructible_v<D>, "rcu_retire: D must be move constructible");
