@@ -174,25 +174,35 @@ static struct puppet a, b;
 
 /* ---- Grace periods ---- */
 
-static atomic_int synced;
+static atomic_int syncing, synced;
 
 static void *synchronize(void *argument)
 {
+    atomic_fetch_add(&syncing, 1);
     synchronize_rcu();
     atomic_fetch_add(&synced, 1);
     return argument;
 }
 
+/* A thread that waits for a grace period, and has had time to begin it. */
+static pthread_t synchronizing(void)
+{
+    pthread_t thread;
+
+    syncing = synced = 0;
+    thread = started(synchronize, NULL);
+    while (!syncing)
+        usleep(1000);
+    linger();
+    return thread;
+}
+
 /* Whether a grace period that is begun now ends only after the puppet has left. */
 static bool waits_for(struct puppet *puppet)
 {
-    pthread_t thread;
-    bool early;
+    pthread_t thread = synchronizing();
+    bool early = synced > 0;
 
-    synced = 0;
-    thread = started(synchronize, NULL);
-    linger();
-    early = synced > 0;
     tell(puppet, REST);
     pthread_join(thread, NULL);
     return !early;
@@ -208,8 +218,7 @@ static void test_sections(void)
     check("a grace period waits for a section", waits_for(&a));
     /* One that began later may hold it up, another one after that may not. */
     tell(&a, INSIDE);
-    thread = started(synchronize, NULL);
-    linger();
+    thread = synchronizing();
     tell(&b, INSIDE);
     tell(&a, REST);
     linger();
@@ -250,11 +259,11 @@ static void test_flavour(void)
     rcu_read_unlock();
     synchronize_rcu();
     check("a thread that has waited is online again", rcu_read_ongoing());
-    synced = 0;
-    thread = started(synchronize, NULL);
-    linger();
+    thread = synchronizing();
     check("a grace period waits for a thread that is online", synced == 0);
-    rcu_quiescent_state();
+    /* More than once, where it has not begun yet. */
+    for (rcu_quiescent_state(); !synced; rcu_quiescent_state())
+        usleep(1000);
     pthread_join(thread, NULL);
     rcu_barrier();
     check("a thread is online after a barrier", rcu_read_ongoing());
@@ -293,12 +302,11 @@ static void test_flavour(void)
     check("no section is going on", !rcu_read_ongoing());
     if (is_control)
         return;
-    unregistered = synced = 0;
+    unregistered = 0;
     reader = started(read_unregistered, NULL);
     while (!unregistered)
         usleep(1000);
-    thread = started(synchronize, NULL);
-    linger();
+    thread = synchronizing();
     check("a grace period waits for a reader that has not registered", synced == 0);
     unregistered = 2;
     pthread_join(reader, NULL);
