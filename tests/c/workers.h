@@ -178,7 +178,7 @@ static void call_slow(int times)
         usleep(1000);
 }
 
-/* A fork is coming while a worker ends, in its last batch. There liburcu itself waits for ever. */
+/* A fork is coming while a worker ends, in its last batch. */
 static void test_freed_beside_fork(void)
 {
     struct call_rcu_data *worker = create_call_rcu_data(0, -1);
@@ -231,6 +231,5 @@ static void test_liburcu(void)
     test_deferred();
     test_fork_calls();
     test_freed_beside_barriers();
-    if (!is_control)
-        test_freed_beside_fork();
+    test_freed_beside_fork();
 }
