@@ -1,4 +1,5 @@
 -- What a worker keeps, and what it has run.
+use base.Stored.{Gv}
 use Rattle.std.proofs.Common.{Bool, true, false, ◌≡◌, ◌≢◌, ℕ, zero, suc, ◌+◌, ◌<◌, ◌≤◌, List, [], ◌∷◌, ◌++◌, length, reverse, append_assoc, sym, refl, ap, ◌∙◌, subst, arith, ⊎_elim, ◌==◌}
 use mathlib.Core.Option.{some, some-injective}
 use Rattle.std.proofs.lemmas.Bool.Decides.{eqb_tells}
@@ -14,8 +15,8 @@ use Rattle.callback_queue.specs.declared.item.Ripe.{Ripe}
 use Rattle.call_rcu_worker.specs.declared.finished.Finished.{Finished}
 use Rattle.live_log.specs.declared.event.LiveEvent.{LiveEvent}
 use Rattle.live_log.specs.declared.event.LiveEvent.TheVariants.{Close}
-use Rattle.live_log.specs.Log.{Log, Begins, Has, HaveEnded, HaveRun, IsLiveRun, line_of, state_of}
-use Rattle.live_log.proofs.Lemmas.{begins_trans, grows_log, has_later, line_grows}
+use Rattle.live_log.specs.Log.{Log, Begins, HaveEnded, HaveRun, IsLiveRun, line_of, state_of}
+use Rattle.live_log.proofs.Lemmas.{begins_trans, grows_log, has_since, line_grows}
 use Rattle.live_words.specs.live_rule.declared.view.Look.{Look}
 use Rattle.live_words.specs.live_rule.declared.view.Look.TheVariants.{Loaded, Stored}
 use Rattle.live_words.specs.live_rule.declared.view.View.{View}
@@ -36,14 +37,14 @@ stands_later : (old new : Log) (q n : ℕ) (o : ObjectId) → Begins old new →
 stands_later old new q n o b at = let g = line_grows old new q b in ap (λ (l : List ObjectId). get_elem? l n) g.1 ∙ at_longer (line_of old q) g.0 n o at
 
 pub ended_later : (mark old new : Log) → Begins old new → HaveEnded mark old → HaveEnded mark new
-ended_later mark old new b ended r n m at = subst (λ (l : Log). Has (Close r n) l) (sym b.1) (has_later (Close r n) b.0 old (ended r n m at))
+ended_later mark old new b ended r n m at = has_since (Close r n) old new b (ended r n m at)
 
 pub line_longer : (old new : Log) (q : ℕ) → Begins old new → length (line_of old q) ≤ length (line_of new q)
 line_longer old new q b = let g = line_grows old new q b in let e = ap (λ (l : List ObjectId). length l) g.1 ∙ length-append (line_of old q) g.0 in omega (arith, e)
 
 -- of the list, in a later log
-pub list_later : {D : Type 0} (answers : D → Ripe → ℕ → Type 0) (qsbr : Bool) (allows : Log → LiveEvent → Type 0) (q : ℕ) (old new : Log) (first last : ℕ) (a b : List Finished) → Begins old new → IsLiveRun qsbr allows new → b ≡ a → Lists answers q old first last a → Lists answers q new first last b
-list_later answers qsbr allows q old new first last a b x run e l = subst (λ (z : List Finished). Lists answers q new first last z) (sym e) (all_later answers qsbr allows q old new first a x run l.0, l.1)
+pub list_later : {D : Type 0} (code : D → Gv) (answers : D → Ripe → ℕ → Type 0) (qsbr : Bool) (allows : Log → LiveEvent → Type 0) (q : ℕ) (old new : Log) (first last : ℕ) (a b : List Finished) → Begins old new → IsLiveRun qsbr allows new → b ≡ a → Lists code answers q old first last a → Lists code answers q new first last b
+list_later code answers qsbr allows q old new first last a b x run e l = subst (λ (z : List Finished). Lists code answers q new first last z) (sym e) (all_later code answers qsbr allows q old new first a x run l.0, l.1)
 
 -- more were queued, as one knows who sees all that was seen and heard of
 pub more_known : (q n : ℕ) (v : View) (log : Log) → Begins v.seen log → Begins v.heard log → IsKnown (HasMore q n) v → HasMore q n log
@@ -52,7 +53,7 @@ more_known q n v log seen heard known = ⊎_elim (λ (m : HasMore q n v.seen). l
 -- what is left is so in a later log
 pub order_later : {D : Type 0} (q : ℕ) (old new : Log) (n : ℕ) (items : List (Item (JobValue D))) → Begins old new → InOrder q old n items → InOrder q new n items
 order_later q old new n [] b x = x
-order_later q old new n (i ∷ is) b x = (record { turn = x.0.turn; known = begins_trans i.job.0.seen old new x.0.known b; named = x.0.named }, order_later q old new (n + 1) is b x.1)
+order_later q old new n (i ∷ is) b x = (record { turn = x.0.turn; known = begins_trans i.job.0.seen old new x.0.known b; named = x.0.named; noted = x.0.noted }, order_later q old new (n + 1) is b x.1)
 
 -- and so is nothing
 pub none_in_order : {D : Type 0} (q : ℕ) (log : Log) (n : ℕ) (items : List (Item (JobValue D))) → items ≡ [] → InOrder q log n items
@@ -78,19 +79,19 @@ have_later q n old new b low ran k o less at =
     let same : there.0 ≡ o = some-injective there.0 o (sym (stands_later old new q k there.0 b there.1) ∙ at) in
     (grows_log old new b).reclaimed o (ran k o less (there.1 ∙ ap some same))
 
-one_more : {D : Type 0} (answers : D → Ripe → ℕ → Type 0) (q : ℕ) (log : Log) (n : ℕ) (entry : Finished) → HaveRun q n log → IsRunAs answers q log n entry → HaveRun q (n + 1) log
-one_more answers q log n entry ran x k o less at = ⊎_elim
+one_more : {D : Type 0} (code : D → Gv) (answers : D → Ripe → ℕ → Type 0) (q : ℕ) (log : Log) (n : ℕ) (entry : Finished) → HaveRun q n log → IsRunAs code answers q log n entry → HaveRun q (n + 1) log
+one_more code answers q log n entry ran x k o less at = ⊎_elim
     (λ (y : ((k == n) ≡ true) × (k ≡ n)). let same : entry.object ≡ o = some-injective entry.object o (sym x.turn ∙ (ap (λ (i : ℕ). get_elem? (line_of log q) i) (sym y.1) ∙ at)) in subst (λ (p : ObjectId). In (state_of log).reclaimed p) same x.run)
     (λ (y : ((k == n) ≡ false) × (k ≢ n)). let no = y.1 in ran k o (omega (arith, less, no)) at)
     (eqb_tells k n)
 
-all_through : {D : Type 0} (answers : D → Ripe → ℕ → Type 0) (q : ℕ) (log : Log) (n m : ℕ) (entries : List Finished) → n + length entries ≡ m → HaveRun q n log → AreRunAs answers q log n entries → HaveRun q m log
-all_through answers q log n m [] e ran x = subst (λ (k : ℕ). HaveRun q k log) (omega (arith, e)) ran
-all_through answers q log n m (z ∷ zs) e ran x = all_through answers q log (n + 1) m zs (omega (arith, e)) (one_more answers q log n z ran x.0) x.1
+all_through : {D : Type 0} (code : D → Gv) (answers : D → Ripe → ℕ → Type 0) (q : ℕ) (log : Log) (n m : ℕ) (entries : List Finished) → n + length entries ≡ m → HaveRun q n log → AreRunAs code answers q log n entries → HaveRun q m log
+all_through code answers q log n m [] e ran x = subst (λ (k : ℕ). HaveRun q k log) (omega (arith, e)) ran
+all_through code answers q log n m (z ∷ zs) e ran x = all_through code answers q log (n + 1) m zs (omega (arith, e)) (one_more code answers q log n z ran x.0) x.1
 
 -- those that had run at the start have, and so have those of the list
-pub ran_through : {D : Type 0} (answers : D → Ripe → ℕ → Type 0) (q : ℕ) (start log : Log) (first last : ℕ) (entries : List Finished) → Begins start log → first ≤ length (line_of start q) → HaveRun q first start → Lists answers q log first last entries → HaveRun q last log
-ran_through answers q start log first last entries b low ran l = all_through answers q log first last entries l.1 (have_later q first start log b low ran) l.0
+pub ran_through : {D : Type 0} (code : D → Gv) (answers : D → Ripe → ℕ → Type 0) (q : ℕ) (start log : Log) (first last : ℕ) (entries : List Finished) → Begins start log → first ≤ length (line_of start q) → HaveRun q first start → Lists code answers q log first last entries → HaveRun q last log
+ran_through code answers q start log first last entries b low ran l = all_through code answers q log first last entries l.1 (have_later q first start log b low ran) l.0
 
 finds_trans : (u v w : View) → KeepsFinds u v → KeepsFinds v w → KeepsFinds u w
 finds_trans u v w a b =
@@ -112,11 +113,11 @@ used_up_since first start log old between new b since e x = record {
 }
 
 -- a seat worked that had seen as much as the caller and found nothing; the caller takes in what the seat found
-pub worked_for : {D : Type 0} (answers : D → Ripe → ℕ → Type 0) (qsbr : Bool) (allows : Log → LiveEvent → Type 0) (key sizes : Sizes) (q : ℕ) (seen heard : Log) (v : View) (looks found before : Looks) (loads loaded earlier : List Log) (entries : List Finished) (items : List (Item (JobValue D))) (stop : Stop) (log : Log)
+pub worked_for : {D : Type 0} (code : D → Gv) (answers : D → Ripe → ℕ → Type 0) (qsbr : Bool) (allows : Log → LiveEvent → Type 0) (key sizes : Sizes) (q : ℕ) (seen heard : Log) (v : View) (looks found before : Looks) (loads loaded earlier : List Log) (entries : List Finished) (items : List (Item (JobValue D))) (stop : Stop) (log : Log)
     → v ≡ bare sizes seen heard → looks ≡ found ++ before → loads ≡ loaded ++ earlier
-    → HasWorked answers qsbr allows key q v.seen v.heard v.looks found v.loads loaded entries items stop log
-    → HasWorked answers qsbr allows key q seen heard before looks earlier loads entries items stop log
-worked_for answers qsbr allows key sizes q seen heard v looks found before loads loaded earlier entries items stop log is looks_are loads_are h =
+    → HasWorked code answers qsbr allows key q v.seen v.heard v.looks found v.loads loaded entries items stop log
+    → HasWorked code answers qsbr allows key q seen heard before looks earlier loads entries items stop log
+worked_for code answers qsbr allows key sizes q seen heard v looks found before loads loaded earlier entries items stop log is looks_are loads_are h =
     let x : Look = Stored (work_at key q) (left_by stop) in
     let begun : Looks = Loaded (finished_at key q) h.first ∷ Stored (work_at key q) 1 ∷ Loaded (work_at key q) 0 ∷ [] in
     let since : Looks = h.looks_since in record {

@@ -1,6 +1,7 @@
 -- What a call tells that retires what it takes out of a chain.
 use Rattle.std.specs.Prelude.{◌≡◌, ◌⊎◌, ◌+◌, ◌%◌, ◌<◌, ◌≤◌, Bool, ℕ, List, [], length, Some, slice_get}
 use Rattle.atomic_table.specs.declared.shared.Seat.{Seat}
+use base.Stored.{Gv}
 use Rattle.rcu_model.specs.Sets.{replaced, without_object}
 use Rattle.rcu_model.specs.declared.event.ObjectId.{ObjectId}
 use Rattle.rcu_model.specs.declared.refusal.Refusal.{Refusal}
@@ -19,8 +20,8 @@ use Rattle.live_reclaim.specs.Refusing.{RefusesRetirement}
 use Rattle.live_write.specs.Chains.{Publishes, list_in, replace_by}
 
 -- The object at an index of a chain left it by an event of its own, which left this list; and then it was retired, and
--- queued with the ticket. The views are the writer's before and after.
-pub record Retires (qsbr : Bool) (allows : Log → LiveEvent → Type 0) (old new : View) (seen heard owner : Log) (index : ℕ) (event : ObjectId → LiveEvent) (list : ObjectId → List ObjectId) (queue ticket : ℕ) (log : Log) : Type 0 where
+-- queued with the ticket and the callback of this code. The views are the writer's before and after.
+pub record Retires (qsbr : Bool) (allows : Log → LiveEvent → Type 0) (old new : View) (seen heard owner : Log) (index : ℕ) (event : ObjectId → LiveEvent) (list : ObjectId → List ObjectId) (queue ticket : ℕ) (callback : Gv) (log : Log) : Type 0 where
   pub object : ObjectId
   pub was : slice_get (list_in old) index ≡ Some object
   pub left : list_in new ≡ list object
@@ -29,24 +30,24 @@ pub record Retires (qsbr : Bool) (allows : Log → LiveEvent → Type 0) (old ne
   pub published : Publishes qsbr allows old seen heard owner (event object) new.seen
   pub given : ℕ
   pub turn : ticket ≡ given + 1
-  pub queued : Queues qsbr allows (Begins new.seen) object queue given log
+  pub queued : Queues qsbr allows (Begins new.seen) object queue given callback log
 
 module _ {W S : Type 0} (w : Ghosts W S) (qsbr : Bool) (allows : Log → LiveEvent → Type 0) (key : Sizes) (old new : W) where
-  -- a cut object was retired after all that its caller and its seat had seen, and queued with the ticket
-  abbrev pub RetiresCut : View → ℕ → ℕ → Type 0
-  RetiresCut unlinked chain ticket = (given : ℕ) × (ticket ≡ given + 1) × Queues qsbr allows (IsAfterAll unlinked.seen (w.seen old) (w.heard old)) (object_in unlinked.object) (chain % key.queues) given (w.heard new)
+  -- a cut object was retired after all that its caller and its seat had seen, and queued with the ticket and the callback
+  abbrev pub RetiresCut : View → ℕ → ℕ → Gv → Type 0
+  RetiresCut unlinked chain ticket callback = (given : ℕ) × (ticket ≡ given + 1) × Queues qsbr allows (IsAfterAll unlinked.seen (w.seen old) (w.heard old)) (object_in unlinked.object) (chain % key.queues) given callback (w.heard new)
 
   module _ {T : Type 0} (before : Seat T View) (chain index : ℕ) where
     abbrev writer : View
     writer = before.me.0
 
-    -- the object at the index was cut, retired and queued with the ticket
-    abbrev pub CutsAndRetires : Seat T View → ℕ → Type 0
-    CutsAndRetires after ticket = Retires qsbr allows writer after.me.0 (w.seen old) (w.heard old) [] index (λ o. cut_of o writer) (λ o. without_object o (list_in writer)) (chain % key.queues) ticket (w.heard new)
+    -- the object at the index was cut, retired and queued with the ticket and the callback
+    abbrev pub CutsAndRetires : Seat T View → ℕ → Gv → Type 0
+    CutsAndRetires after ticket callback = Retires qsbr allows writer after.me.0 (w.seen old) (w.heard old) [] index (λ o. cut_of o writer) (λ o. without_object o (list_in writer)) (chain % key.queues) ticket callback (w.heard new)
 
     -- it was replaced by the record that another seat owns
-    abbrev pub ReplacesAndRetires : Seat T View → Seat T View → ℕ → Type 0
-    ReplacesAndRetires owned after ticket = Retires qsbr allows writer after.me.0 (w.seen old) (w.heard old) owned.me.0.seen index (λ o. replace_by o writer owned.me.0) (λ o. replaced o (object_in owned.me.0.object) (list_in writer)) (chain % key.queues) ticket (w.heard new)
+    abbrev pub ReplacesAndRetires : Seat T View → Seat T View → ℕ → Gv → Type 0
+    ReplacesAndRetires owned after ticket callback = Retires qsbr allows writer after.me.0 (w.seen old) (w.heard old) owned.me.0.seen index (λ o. replace_by o writer owned.me.0) (λ o. replaced o (object_in owned.me.0.object) (list_in writer)) (chain % key.queues) ticket callback (w.heard new)
 
     -- there is no object at the index, and nothing was done, or its retirement is refused
     abbrev pub RefusesAt : Refusal → Type 0

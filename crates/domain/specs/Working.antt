@@ -1,4 +1,5 @@
 -- What a queue's worker did.
+use base.Stored.{Gv}
 use Rattle.std.specs.Prelude.{Bool, ◌≡◌, ◌≢◌, ℕ, ◌+◌, ◌^◌, ◌<◌, ◌≤◌, List, [], ◌∷◌, ◌++◌, length}
 use Rattle.atomic_table.specs.declared.shared.Seat.{Seat}
 use Rattle.callback_queue.specs.declared.item.Item.{Item}
@@ -54,15 +55,15 @@ abbrev pub HasMore : ℕ → ℕ → Log → Type 0
 HasMore q n log = n < length (line_of log q)
 
 -- So many are left, at least one: all that had been queued in a log in which the entries had run, but for these.
-pub record IsWhole {D : Type 0} (answers : D → Ripe → ℕ → Type 0) (q : ℕ) (start log : Log) (first last : ℕ) (entries : List Finished) (many : ℕ) : Type 0 where
+pub record IsWhole {D : Type 0} (code : D → Gv) (answers : D → Ripe → ℕ → Type 0) (q : ℕ) (start log : Log) (first last : ℕ) (entries : List Finished) (many : ℕ) : Type 0 where
   pub taken : Log
   pub after : Begins start taken
   pub before : Begins taken log
-  pub ran : Lists answers q taken first last entries
+  pub ran : Lists code answers q taken first last entries
   pub all : length (line_of taken q) ≡ last + many
   pub some : 0 < many
 
-module _ {D : Type 0} (answers : D → Ripe → ℕ → Type 0) (qsbr : Bool) (allows : Log → LiveEvent → Type 0) (key : Sizes) (q : ℕ) where
+module _ {D : Type 0} (code : D → Gv) (answers : D → Ripe → ℕ → Type 0) (qsbr : Bool) (allows : Log → LiveEvent → Type 0) (key : Sizes) (q : ℕ) where
   -- A worker began after all that had been seen and heard of, when the first so many were finished, and ran those that
   -- came next, each in its turn: a deleter was called with each, and answered the code of its entry. Where it was closed,
   -- no more were queued; where it was served, no more had been when it began; and where memory was refused, more were.
@@ -80,18 +81,18 @@ module _ {D : Type 0} (answers : D → Ripe → ℕ → Type 0) (qsbr : Bool) (a
     pub queued : first ≤ length (line_of start q)
     pub later : Begins start log
     pub run : IsLiveRun qsbr allows log
-    pub lists : Lists answers q log first last entries
+    pub lists : Lists code answers q log first last entries
     pub through : HaveRun q last log
     pub left : InOrder q log last items
     pub nothing : stop ≢ Exhausted → items ≡ []
-    pub whole : stop ≡ Exhausted → IsWhole answers q start log first last entries (length items)
+    pub whole : stop ≡ Exhausted → IsWhole code answers q start log first last entries (length items)
     pub closed : stop ≡ Closed → IsEmptied q last log
     pub served : stop ≡ Served → length (line_of start q) ≤ last
     pub memory : stop ≡ Memory → HasMore q last log
     pub exhausted : stop ≡ Exhausted → FoundUsedUp start log old_loads new_loads
     pub looks : new ≡ Stored (work_at key q) (left_by stop) ∷ (looks_since ++ (Loaded (finished_at key q) first ∷ Stored (work_at key q) 1 ∷ Loaded (work_at key q) 0 ∷ old))
 
-module _ {W S D : Type 0} (w : Ghosts W S) (answers : D → Ripe → ℕ → Type 0) (qsbr : Bool) (allows : Log → LiveEvent → Type 0) (key : Sizes) (q : ℕ) (old new : W) where
+module _ {W S D : Type 0} (w : Ghosts W S) (code : D → Gv) (answers : D → Ripe → ℕ → Type 0) (qsbr : Bool) (allows : Log → LiveEvent → Type 0) (key : Sizes) (q : ℕ) (old new : W) where
   -- so a worker did, which this caller had made
   abbrev pub HasWorkedFor : List Finished → List (Item (JobValue D)) → Stop → Type 0
-  HasWorkedFor entries items stop = HasWorked answers qsbr allows key q (w.seen old) (w.heard old) (w.looks old) (w.looks new) (w.loads old) (w.loads new) entries items stop (w.heard new)
+  HasWorkedFor entries items stop = HasWorked code answers qsbr allows key q (w.seen old) (w.heard old) (w.looks old) (w.looks new) (w.loads old) (w.loads new) entries items stop (w.heard new)

@@ -41,7 +41,7 @@ impl<P: GracePlan + Drop, K: ChainRule, B: Site, D: Deleter> Domain<P, K, B, D> 
         unlinked: Unlinked<B>,
         callback: D,
     ) -> Result<Ticket, (Refusal, Unlinked<B>, D)>
-        ensures queued { IfOk result (λ t. RetiresCut W.Caller P.QSBR K.allows B.sizes caller.old caller.new unlinked.seat.me.0 unlinked.chain t.0) }
+        ensures queued { IfOk result (λ t. RetiresCut W.Caller P.QSBR K.allows B.sizes caller.old caller.new unlinked.seat.me.0 unlinked.chain t.0 (D.row.coded.code callback)) }
         ensures same { IfOk result (λ _. OnlyHears W.Caller caller.old caller.new) }
         ensures refused { IfErr result (λ e. RefusesRetirement W.Caller P.QSBR K.allows B.sizes (unlinked.chain % B.sizes.queues) caller.old caller.new e.0) }
         ensures back { IfErr result (λ e. (e.1 ≡ unlinked) × (e.2 ≡ callback)) }
@@ -76,7 +76,7 @@ impl<P: GracePlan + Drop, K: ChainRule, B: Site, D: Deleter> Domain<P, K, B, D> 
         callback: D,
     ) -> Result<Ticket, (Refusal, D)>
         requires rule { MayCut W.Caller P.QSBR K.allows caller.old chain.old.seat.me.0 index }
-        ensures retired { IfOk result (λ t. CutsAndRetires W.Caller P.QSBR K.allows B.sizes caller.old caller.new chain.old.seat chain.old.number index chain.new.seat t.0) }
+        ensures retired { IfOk result (λ t. CutsAndRetires W.Caller P.QSBR K.allows B.sizes caller.old caller.new chain.old.seat chain.old.number index chain.new.seat t.0 (D.row.coded.code callback)) }
         ensures same { IfOk result (λ _. MakesLastIn W.Caller caller.old caller.new chain.new.seat.me.0.seen chain.old.number chain.new.number chain.old.home.now chain.new.home.now) }
         ensures refused { IfErr result (λ e. RefusesAt W.Caller P.QSBR K.allows B.sizes caller.old caller.new chain.old.seat chain.old.number index e.0) }
         ensures back { IfErr result (λ e. (e.1 ≡ callback) × (chain.new ≡ chain.old)) }
@@ -119,7 +119,7 @@ impl<P: GracePlan + Drop, K: ChainRule, B: Site, D: Deleter> Domain<P, K, B, D> 
         callback: D,
     ) -> Result<Ticket, (Refusal, Owned<B>, D)>
         requires rule { MayReplace W.Caller P.QSBR K.allows caller.old chain.old.seat.me.0 index owned.seat.me.0 }
-        ensures retired { IfOk result (λ t. ReplacesAndRetires W.Caller P.QSBR K.allows B.sizes caller.old caller.new chain.old.seat chain.old.number index owned.seat chain.new.seat t.0) }
+        ensures retired { IfOk result (λ t. ReplacesAndRetires W.Caller P.QSBR K.allows B.sizes caller.old caller.new chain.old.seat chain.old.number index owned.seat chain.new.seat t.0 (D.row.coded.code callback)) }
         ensures same { IfOk result (λ _. MakesLastIn W.Caller caller.old caller.new chain.new.seat.me.0.seen chain.old.number chain.new.number chain.old.home.now chain.new.home.now) }
         ensures refused { IfErr result (λ e. RefusesAt W.Caller P.QSBR K.allows B.sizes caller.old caller.new chain.old.seat chain.old.number index e.0) }
         ensures back { IfErr result (λ e. (e.1 ≡ owned) × (e.2 ≡ callback) × (chain.new ≡ chain.old)) }

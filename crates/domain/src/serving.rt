@@ -54,9 +54,9 @@ impl<P: GracePlan + Drop, K: ChainRule, B: Site, D: Deleter> Domain<P, K, B, D> 
         requires left { left.old.items ≡ [] }
         ensures seat { GoesOn P.QSBR K.allows seat.old seat.new }
         ensures work { WorksFor queue result.0 seat.new.me.0 }
-        ensures list { Lists D.answers queue seat.new.me.0.seen first result.0 list.new.items }
+        ensures list { Lists D.row.coded.code D.answers queue seat.new.me.0.seen first result.0 list.new.items }
         ensures left { InOrder queue seat.new.me.0.seen result.0 left.new.items × (result.1 ≢ stopped.Exhausted → left.new.items ≡ []) }
-        ensures whole { result.1 ≡ stopped.Exhausted → IsWhole D.answers queue seat.old.me.0.seen seat.new.me.0.seen first result.0 list.new.items (length left.new.items) }
+        ensures whole { result.1 ≡ stopped.Exhausted → IsWhole D.row.coded.code D.answers queue seat.old.me.0.seen seat.new.me.0.seen first result.0 list.new.items (length left.new.items) }
         ensures served { result.1 ≡ stopped.Served → length (line_of seat.old.me.0.seen queue) ≤ result.0 }
         ensures exhausted { result.1 ≡ stopped.Exhausted → FoundUsedUp seat.old.me.0.seen seat.new.me.0.seen seat.old.me.0.loads seat.new.me.0.loads }
         ensures memory { result.1 ≡ stopped.Memory → IsKnown (HasMore queue result.0) seat.new.me.0 }
@@ -100,9 +100,9 @@ impl<P: GracePlan + Drop, K: ChainRule, B: Site, D: Deleter> Domain<P, K, B, D> 
         requires left { left.old.items ≡ [] }
         ensures seat { GoesOn P.QSBR K.allows seat.old seat.new }
         ensures work { WorksFor queue result.0 seat.new.me.0 }
-        ensures list { Lists D.answers queue seat.new.me.0.seen first result.0 list.new.items }
+        ensures list { Lists D.row.coded.code D.answers queue seat.new.me.0.seen first result.0 list.new.items }
         ensures left { InOrder queue seat.new.me.0.seen result.0 left.new.items × (result.1 ≢ stopped.Exhausted → left.new.items ≡ []) }
-        ensures whole { result.1 ≡ stopped.Exhausted → IsWhole D.answers queue seat.old.me.0.seen seat.new.me.0.seen first result.0 list.new.items (length left.new.items) }
+        ensures whole { result.1 ≡ stopped.Exhausted → IsWhole D.row.coded.code D.answers queue seat.old.me.0.seen seat.new.me.0.seen first result.0 list.new.items (length left.new.items) }
         ensures closed { result.1 ≡ stopped.Closed → IsEmptied queue result.0 seat.new.me.0.seen × (until ≡ ends.Closed) }
         ensures served { result.1 ≡ stopped.Served → (length (line_of seat.old.me.0.seen queue) ≤ result.0) × (until ≡ ends.Served) }
         ensures exhausted { result.1 ≡ stopped.Exhausted → FoundUsedUp seat.old.me.0.seen seat.new.me.0.seen seat.old.me.0.loads seat.new.me.0.loads }
@@ -140,7 +140,7 @@ impl<P: GracePlan + Drop, K: ChainRule, B: Site, D: Deleter> Domain<P, K, B, D> 
     ) -> Result<WorkerEnd<B, D>, Refusal>
         requires { (seat.old.table_id ≡ B.table) × (seat.old.me.0.sizes ≡ B.sizes) × (seat.old.me.1 ≡ []) }
         ensures seat { (seat.new.table_id ≡ B.table) × (seat.new.me.1 ≡ []) }
-        ensures worked { IfOk result (λ e. HasWorked D.answers P.QSBR K.allows B.sizes queue seat.old.me.0.seen seat.old.me.0.heard seat.old.me.0.looks seat.new.me.0.looks seat.old.me.0.loads seat.new.me.0.loads e.finished.items e.left.items e.stop seat.new.me.0.seen) }
+        ensures worked { IfOk result (λ e. HasWorked D.row.coded.code D.answers P.QSBR K.allows B.sizes queue seat.old.me.0.seen seat.old.me.0.heard seat.old.me.0.looks seat.new.me.0.looks seat.old.me.0.loads seat.new.me.0.loads e.finished.items e.left.items e.stop seat.new.me.0.seen) }
         ensures until { IfOk result (λ e. (e.stop ≡ stopped.Closed → until ≡ ends.Closed) × (e.stop ≡ stopped.Served → until ≡ ends.Served)) }
         ensures refused { IfErr result (λ e. RefusesWork B.sizes queue seat.old.me.0.looks seat.new.me.0.looks e) }
         ensures later { IfErr result (λ _. queue < B.sizes.queues → IsLater P.QSBR K.allows seat.old.me.0 seat.new.me.0) }
@@ -166,7 +166,7 @@ impl<P: GracePlan + Drop, K: ChainRule, B: Site, D: Deleter> Domain<P, K, B, D> 
         queue: usize,
         until: Until,
     ) -> Result<WorkerEnd<B, D>, Refusal>
-        ensures worked { IfOk result (λ e. HasWorked D.answers P.QSBR K.allows B.sizes queue (W.seen caller.old) (W.heard caller.old) (W.looks caller.old) (W.looks caller.new) (W.loads caller.old) (W.loads caller.new) e.finished.items e.left.items e.stop (W.heard caller.new)) }
+        ensures worked { IfOk result (λ e. HasWorked D.row.coded.code D.answers P.QSBR K.allows B.sizes queue (W.seen caller.old) (W.heard caller.old) (W.looks caller.old) (W.looks caller.new) (W.loads caller.old) (W.loads caller.new) e.finished.items e.left.items e.stop (W.heard caller.new)) }
         ensures until { IfOk result (λ e. (e.stop ≡ stopped.Closed → until ≡ ends.Closed) × (e.stop ≡ stopped.Served → until ≡ ends.Served)) }
         ensures refused { IfErr result (λ e. RefusesWork B.sizes queue (W.looks caller.old) (W.looks caller.new) e) }
         ensures heard { IfErr result (λ _. queue < B.sizes.queues → IsAfter P.QSBR K.allows (W.seen caller.old) (W.heard caller.old) (W.heard caller.new)) }
@@ -187,9 +187,8 @@ impl<P: GracePlan + Drop, K: ChainRule, B: Site, D: Deleter> Domain<P, K, B, D> 
     /// held. It rests while nothing is queued. The caller, who has no section or lock open and is offline where its
     /// reader is of the quiescent-state flavour, hears of all that.
     ///
-    /// Each object's deleter is called with it and the words that were published with it, and the entry's code is the
-    /// answer. A clause here tells that some deleter was called so, since of what a lock holds only the type is known.
-    /// That it is the object's own, `run_next` tells of an item, and `live_items` of the way there.
+    /// Each object's deleter, which was handed to its retirement, is called with it and the words that were published
+    /// with it. The entry's code is the answer. Which deleter it was, the log tells, where `retire` noted it.
     ///
     /// It stops early where the sequence numbers are used up, and then nobody works for the queue any more; or where
     /// memory is refused for what is queued. Refused with `NoActor` exactly where there is no such queue, else with
@@ -202,7 +201,7 @@ impl<P: GracePlan + Drop, K: ChainRule, B: Site, D: Deleter> Domain<P, K, B, D> 
         caller: &mut W,
         queue: usize,
     ) -> Result<WorkerEnd<B, D>, Refusal>
-        ensures worked { IfOk result (λ e. HasWorkedFor W.Caller D.answers P.QSBR K.allows B.sizes queue caller.old caller.new e.finished.items e.left.items e.stop) }
+        ensures worked { IfOk result (λ e. HasWorkedFor W.Caller D.row.coded.code D.answers P.QSBR K.allows B.sizes queue caller.old caller.new e.finished.items e.left.items e.stop) }
         ensures stopped { IfOk result (λ e. e.stop ≢ stopped.Served) }
         ensures refused { IfErr result (λ e. RefusesWork B.sizes queue (W.looks caller.old) (W.looks caller.new) e) }
         ensures heard { IfErr result (λ _. queue < B.sizes.queues → IsAfter P.QSBR K.allows (W.seen caller.old) (W.heard caller.old) (W.heard caller.new)) }
@@ -226,7 +225,7 @@ impl<P: GracePlan + Drop, K: ChainRule, B: Site, D: Deleter> Domain<P, K, B, D> 
         caller: &mut W,
         queue: usize,
     ) -> Result<WorkerEnd<B, D>, Refusal>
-        ensures worked { IfOk result (λ e. HasWorkedFor W.Caller D.answers P.QSBR K.allows B.sizes queue caller.old caller.new e.finished.items e.left.items e.stop) }
+        ensures worked { IfOk result (λ e. HasWorkedFor W.Caller D.row.coded.code D.answers P.QSBR K.allows B.sizes queue caller.old caller.new e.finished.items e.left.items e.stop) }
         ensures stopped { IfOk result (λ e. e.stop ≢ stopped.Closed) }
         ensures refused { IfErr result (λ e. RefusesWork B.sizes queue (W.looks caller.old) (W.looks caller.new) e) }
         ensures heard { IfErr result (λ _. queue < B.sizes.queues → IsAfter P.QSBR K.allows (W.seen caller.old) (W.heard caller.old) (W.heard caller.new)) }

@@ -63,11 +63,11 @@ impl<P: GracePlan + Drop, K: ChainRule, B: Site, D: Deleter> Domain<P, K, B, D> 
         requires seat { (seat.old.table_id ≡ B.table) × (seat.old.me.0.sizes ≡ B.sizes) }
         requires queue { (queue < B.sizes.queues) × WorksFor queue finished seat.old.me.0 }
         requires due { IsDue queue given seat.old.me.0.seen × IsLiveRun P.QSBR K.allows seat.old.me.0.seen }
-        requires list { Lists D.answers queue seat.old.me.0.seen first finished list.old.items × (vec_len list.old + (given - finished) ≤ vec_capacity list.old) }
+        requires list { Lists D.row.coded.code D.answers queue seat.old.me.0.seen first finished list.old.items × (vec_len list.old + (given - finished) ≤ vec_capacity list.old) }
         requires batch { InOrder queue seat.old.me.0.seen finished (reverse batch.old.items) × (finished + vec_len batch.old ≡ given) }
         ensures seat { GoesOn P.QSBR K.allows seat.old seat.new }
         ensures work { WorksFor queue given seat.new.me.0 }
-        ensures list { Lists D.answers queue seat.new.me.0.seen first given list.new.items }
+        ensures list { Lists D.row.coded.code D.answers queue seat.new.me.0.seen first given list.new.items }
         ensures batch { batch.new.items ≡ [] }
     {
         for count in finished..given {
@@ -108,13 +108,13 @@ impl<P: GracePlan + Drop, K: ChainRule, B: Site, D: Deleter> Domain<P, K, B, D> 
     ) -> (u64, Outcome)
         requires seat { (seat.old.table_id ≡ B.table) × (seat.old.me.0.sizes ≡ B.sizes) × IsLiveRun P.QSBR K.allows seat.old.me.0.seen }
         requires queue { (queue < B.sizes.queues) × WorksFor queue finished seat.old.me.0 }
-        requires list { Lists D.answers queue seat.old.me.0.seen first finished list.old.items }
+        requires list { Lists D.row.coded.code D.answers queue seat.old.me.0.seen first finished list.old.items }
         requires left { left.old.items ≡ [] }
         ensures seat { GoesOn P.QSBR K.allows seat.old seat.new }
         ensures work { WorksFor queue result.0 seat.new.me.0 }
-        ensures list { Lists D.answers queue seat.new.me.0.seen first result.0 list.new.items }
+        ensures list { Lists D.row.coded.code D.answers queue seat.new.me.0.seen first result.0 list.new.items }
         ensures left { InOrder queue seat.new.me.0.seen result.0 left.new.items × (result.1 ≢ outcome.Exhausted → left.new.items ≡ []) }
-        ensures whole { result.1 ≡ outcome.Exhausted → IsWhole D.answers queue seat.old.me.0.seen seat.new.me.0.seen first result.0 list.new.items (length left.new.items) }
+        ensures whole { result.1 ≡ outcome.Exhausted → IsWhole D.row.coded.code D.answers queue seat.old.me.0.seen seat.new.me.0.seen first result.0 list.new.items (length left.new.items) }
         ensures exhausted { result.1 ≡ outcome.Exhausted → FoundUsedUp seat.old.me.0.seen seat.new.me.0.seen seat.old.me.0.loads seat.new.me.0.loads }
         ensures memory { result.1 ≡ outcome.Memory → IsKnown (HasMore queue result.0) seat.new.me.0 }
     {
@@ -151,9 +151,9 @@ impl<P: GracePlan + Drop, K: ChainRule, B: Site, D: Deleter> Domain<P, K, B, D> 
         requires left { left.old.items ≡ [] }
         ensures seat { GoesOn P.QSBR K.allows seat.old seat.new }
         ensures work { WorksFor queue result.0 seat.new.me.0 }
-        ensures list { Lists D.answers queue seat.new.me.0.seen first result.0 list.new.items }
+        ensures list { Lists D.row.coded.code D.answers queue seat.new.me.0.seen first result.0 list.new.items }
         ensures left { InOrder queue seat.new.me.0.seen result.0 left.new.items × (result.1 ≢ stopped.Exhausted → left.new.items ≡ []) }
-        ensures whole { result.1 ≡ stopped.Exhausted → IsWhole D.answers queue seat.old.me.0.seen seat.new.me.0.seen first result.0 list.new.items (length left.new.items) }
+        ensures whole { result.1 ≡ stopped.Exhausted → IsWhole D.row.coded.code D.answers queue seat.old.me.0.seen seat.new.me.0.seen first result.0 list.new.items (length left.new.items) }
         ensures closed { result.1 ≡ stopped.Closed → IsEmptied queue result.0 seat.new.me.0.seen }
         ensures exhausted { result.1 ≡ stopped.Exhausted → FoundUsedUp seat.old.me.0.seen seat.new.me.0.seen seat.old.me.0.loads seat.new.me.0.loads }
         ensures memory { result.1 ≡ stopped.Memory → IsKnown (HasMore queue result.0) seat.new.me.0 }

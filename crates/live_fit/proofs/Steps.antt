@@ -66,7 +66,7 @@ object_beside (Push c o i w) a b e = ap (λ (z : State). after z (seen.Push c o)
 object_beside (Replace c p o i w) a b e = ap (λ (z : State). after z (seen.Replace c p o)) e
 object_beside (Cut c o) a b e = ap (λ (z : State). after z (seen.Cut c o)) e
 object_beside (Retire o) a b e = ap (λ (z : State). after z (seen.Retire o)) e
-object_beside (Queue o q) a b e = ap (λ (z : State). after z (seen.Queue o q)) e
+object_beside (Queue o q n) a b e = ap (λ (z : State). after z (seen.Queue o q)) e
 object_beside (Run o) a b e = ap (λ (z : State). after z (seen.Run o)) e
 
 store_beside : (e : LiveEvent) (a b : State) → Beside a b → Beside (after_all a (shown e)) (after_all b (shown e))
@@ -84,7 +84,7 @@ object_holds (Push c o i w) a = refl
 object_holds (Replace c p o i w) a = refl
 object_holds (Cut c o) a = refl
 object_holds (Retire o) a = refl
-object_holds (Queue o q) a = refl
+object_holds (Queue o q n) a = refl
 object_holds (Run o) a = refl
 
 store_holds : (e : LiveEvent) (a b : State) (s : SectionId) → a.held s ≡ b.held s → (after_all a (shown e)).held s ≡ (after_all b (shown e)).held s
@@ -103,7 +103,7 @@ object_allowed (Push c o i w) a b e h = subst (λ (z : State). IsAllowed z (seen
 object_allowed (Replace c p o i w) a b e h = subst (λ (z : State). IsAllowed z (seen.Replace c p o)) (sym e) h
 object_allowed (Cut c o) a b e h = subst (λ (z : State). IsAllowed z (seen.Cut c o)) (sym e) h
 object_allowed (Retire o) a b e h = subst (λ (z : State). IsAllowed z (seen.Retire o)) (sym e) h
-object_allowed (Queue o q) a b e h = subst (λ (z : State). IsAllowed z (seen.Queue o q)) (sym e) h
+object_allowed (Queue o q n) a b e h = subst (λ (z : State). IsAllowed z (seen.Queue o q)) (sym e) h
 object_allowed (Run o) a b e h = subst (λ (z : State). IsAllowed z (seen.Run o)) (sym e) h
 
 pub store_allowed : (e : LiveEvent) (a b : State) → Beside a b → AreAllowed b (shown e) → AreAllowed a (shown e)

@@ -2,6 +2,7 @@
 ghost use Rattle.std.specs.Prelude.{◌≡◌, ◌+◌, ◌<◌, ◌≤◌, ◌^◌, ◌%◌, ℕ, false, true};
 ghost use Rattle.reader_word.specs.declared.layout.Layout.TheVariants.{Wide};
 ghost use Rattle.atomic_table.specs.Table.{Me};
+ghost use Rattle.live_log.specs.declared.callback_id.CallbackId.{CallbackId};
 ghost use Rattle.live_words.specs.live_rule.declared.view.View.{View};
 ghost use Rattle.live_log.specs.Log.{HaveEnded, IsBound, IsLiveRun};
 ghost use Rattle.live_words.specs.live_rule.declared.rights.GraceRight.TheVariants.{Rests};
@@ -78,9 +79,9 @@ pub(crate) fn turn<P: GracePlan + Drop, K: ChainRule>(
     ensures turned { Turned P.action P.turn P.taken plan.old result plan.new (looks_in seat.new.me.0.grace) }
     ensures in_way { (slot : ℕ) → result ≡ InTheWay slot → slot < table.now.slots }
     ensures goes { (result ≡ Done → ⊥) → WorksAt seq present.new seat.new.me.0 × (present.new ≡ P.present plan.new) × (before_in seat.new.me.0.grace ≡ before_in seat.old.me.0.grace) }
-    ensures going { (old : Me (Unit {0}) View) → (result ≡ Done → ⊥) → InLoop (P.is_begun Wide true table.now.slots seq first) P.action P.taken P.present seq P.QSBR K.allows old first plan.old seat.old.me → InLoop (P.is_begun Wide true table.now.slots seq first) P.action P.taken P.present seq P.QSBR K.allows old first plan.new seat.new.me }
+    ensures going { (old : Me CallbackId View) → (result ≡ Done → ⊥) → InLoop (P.is_begun Wide true table.now.slots seq first) P.action P.taken P.present seq P.QSBR K.allows old first plan.old seat.old.me → InLoop (P.is_begun Wide true table.now.slots seq first) P.action P.taken P.present seq P.QSBR K.allows old first plan.new seat.new.me }
     ensures ended { result ≡ Done → (seat.new.me.0.grace ≡ Rests (seq + 2) present.new) × (present.new ≡ present.old) × HasWords (seq + 2) present.new seat.new.me.0.seen × HaveEnded (before_in seat.old.me.0.grace) seat.new.me.0.seen }
-    ensures whole { (old : Me (Unit {0}) View) → result ≡ Done → InLoop (P.is_begun Wide true table.now.slots seq first) P.action P.taken P.present seq P.QSBR K.allows old first plan.old seat.old.me → (seat.new.me ≡ (record (at_log old.0 seat.new.me.0.seen) { grace = Rests (seq + 2) present.new }, old.1)) × IsBound P.QSBR (seq + 2) present.new × WholeGracePeriod P.QSBR K.allows old.0 seq first seat.new.me.0.seen × RanPlan P.is_begun P.action P.taken P.present table.now.slots seq first present.new seat.new.me.0.seen }
+    ensures whole { (old : Me CallbackId View) → result ≡ Done → InLoop (P.is_begun Wide true table.now.slots seq first) P.action P.taken P.present seq P.QSBR K.allows old first plan.old seat.old.me → (seat.new.me ≡ (record (at_log old.0 seat.new.me.0.seen) { grace = Rests (seq + 2) present.new }, old.1)) × IsBound P.QSBR (seq + 2) present.new × WholeGracePeriod P.QSBR K.allows old.0 seq first seat.new.me.0.seen × RanPlan P.is_begun P.action P.taken P.present table.now.slots seq first present.new seat.new.me.0.seen }
 {
     match plan.next() {
         Action::Load(slot) => {

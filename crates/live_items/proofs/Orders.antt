@@ -4,7 +4,7 @@ use lib.ListN.{length-append}
 use Rattle.rcu_model.specs.declared.event.ObjectId.{ObjectId}
 use Rattle.callback_queue.specs.declared.item.Item.{Item}
 use Rattle.callback_queue.specs.Queue.{items_of, given_of, pushed, closed_queue, with_place}
-use Rattle.live_log.specs.Log.{Log, Begins, line_of}
+use Rattle.live_log.specs.Log.{Log, Begins, WasQueued, line_of}
 use Rattle.live_log.proofs.Lemmas.{begins_trans, line_grows}
 use Rattle.live_words.specs.live_rule.declared.view.Sizes.{Sizes}
 use Rattle.live_words.specs.live_rule.declared.view.View.{View}
@@ -16,7 +16,7 @@ use Rattle.live_items.specs.Items.{JobValue, Jobs, IsPlaced, InOrder, IsUnderLoc
 
 in_order_later : {C : Type 0} (q : ℕ) (old new : Log) (n : ℕ) (items : List (Item (JobValue C))) → Begins old new → InOrder q old n items → InOrder q new n items
 in_order_later q old new n [] b x = x
-in_order_later q old new n (i ∷ is) b x = (record { turn = x.0.turn; known = begins_trans i.job.0.seen old new x.0.known b; named = x.0.named }, in_order_later q old new (n + 1) is b x.1)
+in_order_later q old new n (i ∷ is) b x = (record { turn = x.0.turn; known = begins_trans i.job.0.seen old new x.0.known b; named = x.0.named; noted = x.0.noted }, in_order_later q old new (n + 1) is b x.1)
 
 in_order_snoc : {C : Type 0} (q : ℕ) (seen : Log) (n m : ℕ) (items : List (Item (JobValue C))) (item : Item (JobValue C)) → m ≡ n + length items → InOrder q seen n items → IsPlaced q seen m item → InOrder q seen n (items ++ item ∷ [])
 in_order_snoc q seen n m [] item e x p = (subst (λ (k : ℕ). IsPlaced q seen k item) (omega (arith, e)) p, x)
@@ -45,15 +45,15 @@ module _ {C : Type 0} (key : Sizes) (jobs : Jobs C) (v w : View) (q : ℕ) (unde
   given_pushed item = let e = ap (λ (l : List (Item (JobValue C))). length l) (items_pushed item) ∙ length-append (items_of jobs) (item ∷ []) in omega (arith, e)
 
   -- an item is pushed, whose object was queued last
-  pub under_pushed : (item : Item (JobValue C)) → jobs.closed ≡ false → w.queue ≡ Owns q (given_of jobs + 1) 0 → w.object ≡ Nothing → IsLast q (given_of jobs) item.object w.seen → item.job.0.seen ≡ w.seen → item.object ≡ object_in item.job.0.object → IsUnderLock key (pushed jobs item) w q
-  under_pushed item unclosed right empty last known named = record {
+  pub under_pushed : (item : Item (JobValue C)) → jobs.closed ≡ false → w.queue ≡ Owns q (given_of jobs + 1) 0 → w.object ≡ Nothing → IsLast q (given_of jobs) item.object w.seen → item.job.0.seen ≡ w.seen → item.object ≡ object_in item.job.0.object → WasQueued item.object q item.job.3 item.job.0.seen → IsUnderLock key (pushed jobs item) w q
+  under_pushed item unclosed right empty last known named noted = record {
     sizes = size ∙ under.sizes;
     right = right ∙ (λ i. Owns q (sym (given_pushed item) i) (ap word_of (sym unclosed) i));
     empty = empty;
     low = under.low;
     long = let l = last.1 in let g = given_pushed item in omega (arith, l, g);
     placed = subst (InOrder q w.seen jobs.gone) (sym (items_pushed item)) (in_order_snoc q w.seen jobs.gone (given_of jobs) (items_of jobs) item refl (in_order_later q v.seen w.seen jobs.gone (items_of jobs) later under.placed)
-        (record { turn = subst (λ (l : Log). IsAt q (given_of jobs) item.object l) (sym known) last.0; known = subst (λ (l : Log). Begins item.job.0.seen l) known ([], refl); named = named }));
+        (record { turn = subst (λ (l : Log). IsAt q (given_of jobs) item.object l) (sym known) last.0; known = subst (λ (l : Log). Begins item.job.0.seen l) known ([], refl); named = named; noted = noted }));
     unsealed = under.unsealed;
   }
 

@@ -1,9 +1,10 @@
 -- What is told of a retirement, in other words.
 use Rattle.std.proofs.Common.{Bool, ℕ}
+use base.Stored.{Gv}
 use Rattle.rcu_model.specs.declared.event.ObjectId.{ObjectId}
 use Rattle.live_log.specs.declared.event.LiveEvent.{LiveEvent}
 use Rattle.live_log.specs.Log.{Log}
 use Rattle.live_items.specs.Retiring.{Queues}
 
-pub queues_as : (qsbr : Bool) (allows : Log → LiveEvent → Type 0) (is is' : Log → Type 0) (o : ObjectId) (q n : ℕ) (log : Log) → ((before : Log) → is before → is' before) → Queues qsbr allows is o q n log → Queues qsbr allows is' o q n log
-queues_as qsbr allows is is' o q n log later x = record { before = x.before; at = later x.before x.at; within = x.within; retired = x.retired; wrote = x.wrote; last = x.last; run = x.run }
+pub queues_as : (qsbr : Bool) (allows : Log → LiveEvent → Type 0) (is is' : Log → Type 0) (o : ObjectId) (q n : ℕ) (code : Gv) (log : Log) → ((before : Log) → is before → is' before) → Queues qsbr allows is o q n code log → Queues qsbr allows is' o q n code log
+queues_as qsbr allows is is' o q n code log later x = record { before = x.before; at = later x.before x.at; within = x.within; retired = x.retired; id = x.id; is = x.is; wrote = x.wrote; last = x.last; run = x.run }

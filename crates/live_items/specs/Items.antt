@@ -1,5 +1,6 @@
 -- What lies under a queue's lock: its items in the order of their tickets, and the queue's seat.
 use Rattle.std.specs.Prelude.{Bool, true, false, ◌≡◌, ◌≢◌, ◌⊎◌, ℕ, ◌+◌, ◌<◌, ◌≤◌, ◌^◌, List, [], ◌∷◌, length}
+use base.Stored.{Gv}
 use Rattle.rcu_model.specs.declared.event.ObjectId.{ObjectId}
 use Rattle.rcu_model.specs.declared.refusal.Refusal.{Refusal}
 use Rattle.rcu_model.specs.declared.refusal.Refusal.TheVariants.{Closed, Memory}
@@ -7,7 +8,7 @@ use Rattle.callback_queue.specs.declared.item.Item.{Item}
 use Rattle.callback_queue.specs.Queue.{Queue, items_of, given_of, pushed, sealed, taken_out, with_place}
 use Rattle.live_log.specs.declared.event.LiveEvent.{LiveEvent}
 use Rattle.live_log.specs.declared.event.LiveEvent.TheVariants.{CloseQueue}
-use Rattle.live_log.specs.Log.{Log, Begins, IsLiveRun, line_of}
+use Rattle.live_log.specs.Log.{Log, Begins, IsLiveRun, WasQueued, line_of}
 use Rattle.live_words.specs.live_rule.declared.view.Sizes.{Sizes}
 use Rattle.live_words.specs.live_rule.declared.view.View.{View}
 use Rattle.live_words.specs.live_rule.declared.rights.QueueRight.TheVariants.{Owns}
@@ -15,18 +16,20 @@ use Rattle.live_words.specs.live_rule.declared.rights.RecordRight.TheVariants.{N
 use Rattle.live_words.specs.live_table.Rights.{object_in}
 use Rattle.live_words.specs.live_queues.Queues.{IsAt}
 
--- what a job's seat knows, its record, and what is called
+-- what a job's seat knows, its record, what is called, and the code with which that was queued
 abbrev pub JobValue : Type 0 → Type 0
-JobValue C = View × ℕ × C
+JobValue C = View × ℕ × C × Gv
 
 abbrev pub Jobs : Type 0 → Type 0
 Jobs C = Queue (Item (JobValue C))
 
--- so many were queued before the item's object, and whoever has seen this log knows of it
+-- so many were queued before the item's object, which was queued with the callback of the job's code, and whoever has
+-- seen this log knows of it
 pub record IsPlaced {C : Type 0} (q : ℕ) (seen : Log) (n : ℕ) (item : Item (JobValue C)) : Type 0 where
   pub turn : IsAt q n item.object item.job.0.seen
   pub known : Begins item.job.0.seen seen
   pub named : item.object ≡ object_in item.job.0.object
+  pub noted : WasQueued item.object q item.job.3 item.job.0.seen
 
 -- the items stand in the order in which their objects were queued
 abbrev pub InOrder : {C : Type 0} → ℕ → Log → ℕ → List (Item (JobValue C)) → Type 0

@@ -3,6 +3,8 @@ use Rattle.std.specs.Prelude.{Bool, ◌≡◌, ℕ, ◌+◌, ◌<◌, ◌^◌, [
 use Rattle.atomic_table.specs.Seated.{TableId}
 use Rattle.atomic_table.specs.declared.shared.Seat.{Seat}
 use Rattle.rcu_model.specs.declared.event.ObjectId.{ObjectId}
+use base.Stored.{Gv}
+use Rattle.live_log.specs.declared.callback_id.CallbackId.{CallbackId}
 use Rattle.live_log.specs.declared.event.LiveEvent.{LiveEvent}
 use Rattle.live_log.specs.declared.event.LiveEvent.TheVariants.{Object}
 use Rattle.live_log.specs.declared.event.ObjectEvent.TheVariants.{Queue, Retire}
@@ -15,13 +17,16 @@ use Rattle.live_words.specs.live_table.Steps.{Keeps}
 use Rattle.live_words.specs.live_queues.Queues.{IsLast}
 use Rattle.live_read.specs.declared.caller.Caller.{Ghosts}
 
--- the object was retired at a log of which the first holds, and then it was queued, after so many
-pub record Queues (qsbr : Bool) (allows : Log → LiveEvent → Type 0) (at_retire : Log → Type 0) (o : ObjectId) (queue given : ℕ) (log : Log) : Type 0 where
+-- the object was retired at a log of which the first holds, and then it was queued, after so many, with the callback of
+-- this code
+pub record Queues (qsbr : Bool) (allows : Log → LiveEvent → Type 0) (at_retire : Log → Type 0) (o : ObjectId) (queue given : ℕ) (callback : Gv) (log : Log) : Type 0 where
   pub before : Log
   pub at : at_retire before
   pub within : Log
   pub retired : Begins (Object (Retire o) ∷ before) within
-  pub wrote : log ≡ Object (Queue o queue) ∷ within
+  pub id : CallbackId
+  pub is : id.code ≡ callback
+  pub wrote : log ≡ Object (Queue o queue id) ∷ within
   pub last : IsLast queue given o log
   pub run : IsLiveRun qsbr allows log
 
@@ -30,8 +35,8 @@ abbrev pub IsAfterAll : Log → Log → Log → Log → Type 0
 IsAfterAll cut seen heard log = Begins cut log × Begins seen log × Begins heard log
 
 -- and the caller hears of the log, in which the object of this seat's record is queued
-abbrev pub QueuesFor : {W S : Type 0} → Ghosts W S → Bool → (Log → LiveEvent → Type 0) → W → W → View → ℕ → ℕ → Type 0
-QueuesFor w qsbr allows old new cut queue given = Queues qsbr allows (IsAfterAll cut.seen (w.seen old) (w.heard old)) (object_in cut.object) queue given (w.heard new)
+abbrev pub QueuesFor : {W S : Type 0} → Ghosts W S → Bool → (Log → LiveEvent → Type 0) → W → W → View → ℕ → ℕ → Gv → Type 0
+QueuesFor w qsbr allows old new cut queue given callback = Queues qsbr allows (IsAfterAll cut.seen (w.seen old) (w.heard old)) (object_in cut.object) queue given callback (w.heard new)
 
 -- by the name, the queues and the pool of a table, both seats are of it, and so are the queue and the record
 abbrev pub AreOfTable : {S : Type 0} → TableId → ℕ → ℕ → Seat S View → Seat S View → ℕ → ℕ → Type 0

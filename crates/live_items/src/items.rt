@@ -18,7 +18,7 @@ use crate::retiring::queue_object;
 use callback_queue::{CallbackQueue, Item, Ticket};
 use gp_memb::GracePlan;
 use live_read::{Caller, Site, tell_all};
-use live_words::{ChainRule, LiveSeat, LiveTable, load_queued, store_closed};
+use live_words::{ChainRule, Identity, LiveSeat, LiveTable, load_queued, store_closed};
 use live_write::Unlinked;
 use rcu_model::{ObjectId, Refusal};
 use std::alloc::Global;
@@ -87,7 +87,7 @@ impl<B: Site, C: Drop> Items<B, C> {
     }
 
     /// Retires a cut object and queues its callback, liburcu's `call_rcu`. The retirement comes after the cut, and
-    /// after all that the caller had seen and heard of; the caller hears of it.
+    /// after all that the caller had seen and heard of; the caller hears of it. The log notes which callback it is.
     ///
     /// Refused with `Closed` exactly where the queue was closed, else with `Memory`; then nothing was stored, and both
     /// parts come back. It waits for nobody.
@@ -102,7 +102,7 @@ impl<B: Site, C: Drop> Items<B, C> {
         ensures queue { self.new.2 ≡ self.old.2 }
         ensures ticket { IfOk result (λ t. (self.old.0.closed ≡ false) × (t.0 ≡ given_of self.old.0 + 1) × (given_of self.new.0 ≡ t.0)) }
         ensures pushed { IfOk result (λ _. IsPushed self.old.0 self.new.0 (object_in unlinked.seat.me.0.object) callback) }
-        ensures retired { IfOk result (λ _. QueuesFor W.Caller P.QSBR K.allows caller.old caller.new unlinked.seat.me.0 self.old.2 (given_of self.old.0)) }
+        ensures retired { IfOk result (λ _. QueuesFor W.Caller P.QSBR K.allows caller.old caller.new unlinked.seat.me.0 self.old.2 (given_of self.old.0) (C.row.coded.code callback)) }
         ensures refused { IfErr result (λ e. ((e.0 ≡ Closed) × (self.old.0.closed ≡ true)) ⊎ ((e.0 ≡ Memory) × (self.old.0.closed ≡ false))) }
         ensures prepared { self.old.0.closed ≡ false → self.old.0.reserved ≡ true → given_of self.old.0 < 2 ^ 63 → IsOk result }
         ensures back { IfErr result (λ e. (e.1 ≡ unlinked) × (e.2 ≡ callback) × (self.new ≡ self.old) × (caller.new ≡ caller.old)) }
@@ -121,11 +121,21 @@ impl<B: Site, C: Drop> Items<B, C> {
         let (mut seat, cell) = unlinked.into_parts();
         let told = tell_all(table, caller);
         table.learn(&mut seat, told);
-        let (seat, number) = queue_object(table, &mut self.seat, seat, self.number, given, cell);
+        let identity = Identity::of(&callback);
+        let id = identity.id();
+        let (seat, number) = queue_object(
+            table,
+            &mut self.seat,
+            seat,
+            self.number,
+            given,
+            cell,
+            &id,
+        );
         caller.learn(table, table.tell(&mut self.seat));
         let item = Item {
             object: ObjectId(number),
-            job: Job::of(seat, cell, callback),
+            job: Job::of(seat, cell, callback, identity),
         };
         match self.queue.push(item) {
             Ok(ticket) => Ok(ticket),

@@ -6,10 +6,13 @@ ghost use Rattle.live_words.specs.live_table.Rights.{IsUnlinked, cell_in, object
 ghost use Rattle.live_items.specs.Retiring.{AreOfTable, GivesOneMore, HasQueue, HasQueued, Queues};
 
 use gp_memb::GracePlan;
-use live_words::{ChainRule, LiveSeat, LiveTable, load_number, store_queued, store_retire};
+use live_words::{
+    CallbackId, ChainRule, LiveSeat, LiveTable, load_number, store_queued, store_retire,
+};
 
 /// Retires the object of a seat and queues it, under the queue's lock: the header's store, and then that of the queued
-/// count, which is `given` before. Answers the seat with the right to run it, and its number. It never waits.
+/// count, which is `given` before. The log notes which callback it is. Answers the seat with the right to run it, and
+/// its number. It never waits.
 pub fn queue_object<P: GracePlan, K: ChainRule>(
     table: &LiveTable<P, K>,
     lock: &mut LiveSeat,
@@ -17,6 +20,7 @@ pub fn queue_object<P: GracePlan, K: ChainRule>(
     queue: usize,
     given: u64,
     cell: usize,
+    callback: &CallbackId,
 ) -> (LiveSeat, u64)
     requires seats { AreOfTable table.now.words.shared.table_id table.now.queues table.now.pool lock.old unlinked queue cell }
     requires lock { HasQueue lock.old.me.0 queue given }
@@ -24,12 +28,12 @@ pub fn queue_object<P: GracePlan, K: ChainRule>(
     ensures lock { GivesOneMore lock.old lock.new queue given }
     ensures job { HasQueued table.now.words.shared.table_id lock.old unlinked result.0 cell }
     ensures number { result.1 ≡ (object_in unlinked.me.0.object).0 }
-    ensures queued { Queues P.QSBR K.allows (Precedes unlinked.me.0) (object_in unlinked.me.0.object) queue given lock.new.me.0.seen × (result.0.me.0.seen ≡ lock.new.me.0.seen) }
+    ensures queued { Queues P.QSBR K.allows (Precedes unlinked.me.0) (object_in unlinked.me.0.object) queue given callback.now.code lock.new.me.0.seen × (result.0.me.0.seen ≡ lock.new.me.0.seen) }
     ensures later { Begins lock.old.me.0.seen lock.new.me.0.seen }
 {
     let number = load_number(table, &mut unlinked, cell);
     store_retire(table, &mut unlinked, cell, number);
     table.take_object(lock, unlinked);
-    store_queued(table, lock, queue, given + 1);
+    store_queued(table, lock, queue, given + 1, callback);
     (table.cut_object(lock), number)
 }

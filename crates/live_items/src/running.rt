@@ -35,8 +35,8 @@ fn load_words<P: GracePlan, K: ChainRule>(
 
 impl<B: Site, C: Drop> Job<B, C> {
     /// Runs the job's object, which the worker knows to be ripe: loads its four words, and then frees its record. The
-    /// worker's seat hears of that. Then the job's own callback may be called, which comes back with the words. It never
-    /// waits and takes no memory.
+    /// worker's seat hears of that. Then the job's own callback may be called, which comes back with the words; it is the
+    /// one that was queued, by its code. It never waits and takes no memory.
     pub fn run<P: GracePlan, K: ChainRule>(
         self,
         table: &LiveTable<P, K>,
@@ -51,13 +51,16 @@ impl<B: Site, C: Drop> Job<B, C> {
         ensures run { Runs P.QSBR K.allows self.0.seen worker.old.me.0.seen object worker.new.me.0.heard }
         ensures ripe { (result.0.object ≡ object) × (result.0.payload ≡ payload_of worker.new.me.0.heard object) }
         ensures callback { result.1 ≡ self.2 }
+        ensures queued { self.3 ≡ C.row.coded.code result.1 }
     {
         let Job {
             mut seat,
             cell,
             callback,
+            identity,
             ..
         } = self;
+        identity.tells();
         table.learn(&mut seat, table.tell(worker));
         let payload = load_words(table, &mut seat, cell);
         store_run(table, &mut seat, cell);

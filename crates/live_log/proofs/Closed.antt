@@ -22,7 +22,7 @@ module _ (qsbr : Bool) (allows : Log → LiveEvent → Type 0) where
   closed_once (Object (Cut d o)) log q run c = (c, refl)
   closed_once (Object (Retire o)) log q run c = (c, refl)
   closed_once (Object (Run o)) log q run c = (c, refl)
-  closed_once (Object (Queue o d)) log q run c = (c, at_number_other d q (line_of log d ++ o ∷ []) (line_of log) (λ e. let z : closed_of d log ≡ 1 = ap (λ n. closed_of n log) (sym e) ∙ c in let y = run.0.1 in absurd (omega arith)))
+  closed_once (Object (Queue o d n)) log q run c = (c, at_number_other d q (line_of log d ++ o ∷ []) (line_of log) (λ e. let z : closed_of d log ≡ 1 = ap (λ n. closed_of n log) (sym e) ∙ c in let y = run.0.1 in absurd (omega arith)))
 
   closed_all : (since old : Log) (q : ℕ) → IsLiveRun qsbr allows (since ++ old) → closed_of q old ≡ 1 → (closed_of q (since ++ old) ≡ 1) × (line_of (since ++ old) q ≡ line_of old q)
   closed_all [] old q run c = (c, refl)

@@ -48,7 +48,7 @@ module _ (qsbr : Bool) (allows : Log → LiveEvent → Type 0) where
         (λ is. subst (IsKeyed (e ∷ es)) is (leaves.cut es d o run))
         (λ ne. left_alone e es c run (at_number_other d c (without_object o ((state_of es).chain d)) (state_of es).chain (λ is. ne (sym is))) (all_fall es c run.1))
     all_fall (Object (Retire o) ∷ es) c run = all_fall es c run.1
-    all_fall (Object (Queue o q) ∷ es) c run = all_fall es c run.1
+    all_fall (Object (Queue o q n) ∷ es) c run = all_fall es c run.1
     all_fall (Object (Run o) ∷ es) c run = all_fall es c run.1
 
 -- under the rule of keyed chains each does

@@ -14,7 +14,7 @@ use Rattle.live_log.specs.Log.{Log, Begins, Has, HaveEnded, IsLiveRun, chain_not
 use Rattle.live_log.specs.Tables.{IsDirectory, IsFree, IsReplaced, Names, tabled}
 use Rattle.live_log.proofs.Machine.{begins_trans, grows_log, kept_log, run_of}
 use Rattle.live_log.proofs.Notes.{note_stays}
-use Rattle.live_log.proofs.Periods.{ended_before, has_later}
+use Rattle.live_log.proofs.Periods.{ended_before, has_since}
 use Rattle.live_log.proofs.Places.{chain_used}
 use Rattle.live_log.proofs.Tabling.{directory_alone, is_noted, linked_or_replaced, noted_or_ended}
 
@@ -24,17 +24,17 @@ rest [] = []
 rest (e ∷ es) = es
 
 -- of two beginnings of a log, one begins with the other
-beside : (t s : Log) (x : LiveEvent) (before known : Log) → s ++ x ∷ before ≡ t ++ known → Begins known before ⊎ Begins (x ∷ before) known
+pub beside : (t s : Log) (x : LiveEvent) (before known : Log) → s ++ x ∷ before ≡ t ++ known → Begins known before ⊎ Begins (x ∷ before) known
 beside [] s x before known is = inr (s, sym is)
 beside (z ∷ t) [] x before known is = inl (t, ap rest is)
 beside (z ∷ t) (y ∷ s) x before known is = beside t s x before known (ap rest is)
 
 ended_later : (before known log : Log) → Begins known log → HaveEnded before known → HaveEnded before log
-ended_later before known log b ended r n m opened = subst (Has (Close r n)) (sym b.1) (has_later (Close r n) b.0 known (ended r n m opened))
+ended_later before known log b ended r n m opened = has_since (Close r n) known log b (ended r n m opened)
 
 module _ (qsbr : Bool) where
   -- what was replaced is linked no more
-  gone : (before log : Log) (d c : ℕ) (old new : ObjectId) (cell : ℕ) (payload : List ℕ) → Begins (Object (Replace d old new cell payload) ∷ before) log → IsLiveRun qsbr tabled log → ¬ In ((state_of log).chain c) old
+  pub gone : (before log : Log) (d c : ℕ) (old new : ObjectId) (cell : ℕ) (payload : List ℕ) → Begins (Object (Replace d old new cell payload) ∷ before) log → IsLiveRun qsbr tabled log → ¬ In ((state_of log).chain c) old
   gone before log d c old new cell payload b run at =
       let left : Log = Object (Replace d old new cell payload) ∷ before in
       (kept_log qsbr tabled log run).linking.linked_not_cut c old at ((grows_log left log b).cut old (inl refl))

@@ -31,7 +31,7 @@ line_step (Object (Replace c p n i w)) log q = ([], sym (append-nil (line_of log
 line_step (Object (Cut c p)) log q = ([], sym (append-nil (line_of log q)))
 line_step (Object (Retire p)) log q = ([], sym (append-nil (line_of log q)))
 line_step (Object (Run p)) log q = ([], sym (append-nil (line_of log q)))
-line_step (Object (Queue p d)) log q = let f = line_of log in ⊎_elim
+line_step (Object (Queue p d n)) log q = let f = line_of log in ⊎_elim
     (λ (y : ((q == d) ≡ true) × (q ≡ d)). (p ∷ [], ap (at_number d (f d ++ p ∷ []) f) y.1 ∙ (at_number_same d (f d ++ p ∷ []) f ∙ ap (λ n. f n ++ p ∷ []) (sym y.1))))
     (λ (n : ((q == d) ≡ false) × (q ≢ d)). ([], at_number_other d q (f d ++ p ∷ []) f n.1 ∙ sym (append-nil (f q))))
     (eqb_tells q d)
@@ -63,9 +63,9 @@ line_has (Object (Replace c p n i w) ∷ es) o h = line_has es o h
 line_has (Object (Cut c p) ∷ es) o h = line_has es o h
 line_has (Object (Retire p) ∷ es) o h = line_has es o h
 line_has (Object (Run p) ∷ es) o h = line_has es o h
-line_has (Object (Queue p d) ∷ es) o h = let f = line_of es in ⊎_elim
+line_has (Object (Queue p d n) ∷ es) o h = let f = line_of es in ⊎_elim
     (λ (e : p ≡ o). (d, length (f d), subst (λ (z : List ObjectId). get_elem? z (length (f d)) ≡ some o) (sym (at_number_same d (f d ++ p ∷ []) f)) (subst (λ (x : ObjectId). get_elem? (f d ++ p ∷ []) (length (f d)) ≡ some x) e (at_last (f d) p (length (f d)) refl))))
-    (λ (z : In (state_of es).queued o). let w = line_has es o z in let m = line_step (Object (Queue p d)) es w.0 in
+    (λ (z : In (state_of es).queued o). let w = line_has es o z in let m = line_step (Object (Queue p d n)) es w.0 in
     (w.0, w.1, subst (λ (l : List ObjectId). get_elem? l w.1 ≡ some o) (sym m.1) (at_longer (f w.0) m.0 w.1 o w.2))) h
 
 -- a queue of which as many have their Run as were queued at an earlier load

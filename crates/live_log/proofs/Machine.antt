@@ -75,7 +75,7 @@ same_sections now (Push c o i w) = (refl, refl)
 same_sections now (Replace c p o i w) = (refl, refl)
 same_sections now (Cut c o) = (refl, refl)
 same_sections now (Retire o) = (refl, refl)
-same_sections now (Queue o q) = (refl, refl)
+same_sections now (Queue o q n) = (refl, refl)
 same_sections now (Run o) = (refl, refl)
 
 -- the open section of a slot is open in the machine

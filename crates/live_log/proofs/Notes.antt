@@ -29,7 +29,7 @@ module _ (qsbr : Bool) (allows : Log → LiveEvent → Type 0) where
   noted_once (Object (Replace c p n i w)) log o run h = at_object_other n o (i, w) (note_of log) (λ e. not_has (state_of log).used n run.0.0.1 (subst (In (state_of log).used) e h))
   noted_once (Object (Cut c p)) log o run h = refl
   noted_once (Object (Retire p)) log o run h = refl
-  noted_once (Object (Queue p q)) log o run h = refl
+  noted_once (Object (Queue p q n)) log o run h = refl
   noted_once (Object (Run p)) log o run h = refl
 
   note_all : (since old : Log) (o : ObjectId) → IsLiveRun qsbr allows (since ++ old) → In (state_of old).used o → note_of (since ++ old) o ≡ note_of old o

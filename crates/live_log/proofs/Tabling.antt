@@ -112,7 +112,7 @@ module _ (qsbr : Bool) where
       (λ is. subst (IsSorted (e ∷ es)) is (sorted_cut es d o run (each_sorted es d run.1)))
       (λ ne. sorted_other e es c run (at_number_other d c (without_object o (chain_in es d)) (chain_in es) (λ is. ne (sym is))) (each_sorted es c run.1))
   each_sorted (Object (Retire o) ∷ es) c run = each_sorted es c run.1
-  each_sorted (Object (Queue o q) ∷ es) c run = each_sorted es c run.1
+  each_sorted (Object (Queue o q n) ∷ es) c run = each_sorted es c run.1
   each_sorted (Object (Run o) ∷ es) c run = each_sorted es c run.1
 
   pub directory_alone : (log : Log) (d : ℕ) (o : ObjectId) → IsLiveRun qsbr tabled log → In (chain_in log d) o → IsDirectory (note_of log o) → chain_in log d ≡ o ∷ []
@@ -218,7 +218,7 @@ module _ (qsbr : Bool) where
   is_noted (Present p ∷ es) c d o run h directory names = is_noted es c d o run.1 h directory names
   is_noted (CloseQueue q ∷ es) c d o run h directory names = is_noted es c d o run.1 h directory names
   is_noted (Object (Retire p) ∷ es) c d o run h directory names = is_noted es c d o run.1 h directory names
-  is_noted (Object (Queue p q) ∷ es) c d o run h directory names = is_noted es c d o run.1 h directory names
+  is_noted (Object (Queue p q n) ∷ es) c d o run h directory names = is_noted es c d o run.1 h directory names
   is_noted (Object (Run p) ∷ es) c d o run h directory names = is_noted es c d o run.1 h directory names
   is_noted (ChainNote b x ∷ es) c d o run h directory names = noted_note c d o b x es run (is_noted es c d o run.1) h directory names
   is_noted (Object (Push b p i w) ∷ es) c d o run h directory names = noted_push c d o b p i w es run (is_noted es c d o run.1) h directory names
@@ -281,7 +281,7 @@ module _ (qsbr : Bool) where
       stays_since (ChainNote b x ∷ es) run none = stays_since es run.1 (still_open (ChainNote b x) (es ++ left) none)
       stays_since (CloseQueue q ∷ es) run none = stays_since es run.1 (still_open (CloseQueue q) (es ++ left) none)
       stays_since (Object (Retire p) ∷ es) run none = stays_since es run.1 (still_open (Object (Retire p)) (es ++ left) none)
-      stays_since (Object (Queue p q) ∷ es) run none = stays_since es run.1 (still_open (Object (Queue p q)) (es ++ left) none)
+      stays_since (Object (Queue p q n) ∷ es) run none = stays_since es run.1 (still_open (Object (Queue p q n)) (es ++ left) none)
       stays_since (Object (Run p) ∷ es) run none = stays_since es run.1 (still_open (Object (Run p)) (es ++ left) none)
       stays_since (Object (Push b p i w) ∷ es) run none = let log : Log = es ++ left in let opened' = still_open (Object (Push b p i w)) log none in dite (ℕ_discrete b c)
           (λ is. busy es b is run.0.1.0 opened')
@@ -353,7 +353,7 @@ module _ (qsbr : Bool) where
     goes_on (ChainNote b x) since run h = inl h
     goes_on (CloseQueue q) since run h = inl h
     goes_on (Object (Retire p)) since run h = inl h
-    goes_on (Object (Queue p q)) since run h = inl h
+    goes_on (Object (Queue p q n)) since run h = inl h
     goes_on (Object (Run p)) since run h = inl h
     goes_on (Object (Push b p i w)) since run h = goes_push b p i w (since ++ start) h
     goes_on (Object (Replace b p n i w)) since run h = goes_replace b p n i w since h

@@ -1,5 +1,6 @@
 //! What stores write into the log.
 
+use crate::callback_id::CallbackId;
 use rcu_model::ObjectId;
 use std::collections::LinkedList;
 
@@ -15,8 +16,8 @@ pub enum ObjectEvent {
     Cut(u64, ObjectId),
     /// A cut object is handed over to be reclaimed.
     Retire(ObjectId),
-    /// A retired object's callback is queued: the object, and the queue.
-    Queue(ObjectId, u64),
+    /// A retired object's callback is queued: the object, the queue, and which callback it is.
+    Queue(ObjectId, u64, CallbackId),
     /// The callback of a queued object begins to run.
     Run(ObjectId),
 }

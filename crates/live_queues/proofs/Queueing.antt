@@ -1,14 +1,16 @@
 -- Queueing an object and closing a queue keep the rule.
-use Rattle.std.proofs.Common.{◌≡◌, ◌≢◌, ℕ, ◌+◌, ◌<◌, ◌≤◌, List, [], ◌∷◌, ◌++◌, Bool, cond, length, get_or, set, sym, refl, ap, ◌∙◌, subst, inl, inr, ⊎_elim, arith, get_or-set_other, get_or-set_same, eq-eqb, ne_eqb, Option}
+use Rattle.std.proofs.Common.{◌≡◌, ◌≢◌, ℕ, ◌+◌, ◌<◌, ◌≤◌, List, [], ◌∷◌, ◌++◌, Bool, ◌==◌, cond, length, get_or, set, sym, refl, ap, ◌∙◌, subst, inl, inr, ⊎_elim, arith, get_or-set_other, get_or-set_same, eq-eqb, ne_eqb, Option}
 use mathlib.Core.Logic.{dite}
 use mathlib.Core.Option as lists
 use native.Mathlib.Decide.{ℕ_discrete}
 use lib.ListN.{get_elem?, length-append}
-use Rattle.atomic_table.specs.Table.{State, Me, step, keeps, Allows}
+use prog.Atomic.{either}
+use Rattle.atomic_table.specs.Table.{State, Me, step, stepped, keeps, Allows}
 use Rattle.atomic_table.proofs.Lists.{at_last}
 use Rattle.live_table.specs.rcu_model.declared.event.ObjectId.{ObjectId}
 use Rattle.live_table.specs.rcu_model.Sets.{In}
 use Rattle.live_table.proofs.rcu_model.Lemmas.{in_objects, has_object_in, at_number_same, at_number_other}
+use Rattle.live_table.specs.live_log.declared.callback_id.CallbackId.{CallbackId}
 use Rattle.live_table.specs.live_log.declared.event.LiveEvent.{LiveEvent}
 use Rattle.live_table.specs.live_log.declared.event.LiveEvent.TheVariants.{CloseQueue, Object}
 use Rattle.live_table.specs.live_log.declared.event.ObjectEvent.TheVariants.{Queue}
@@ -27,9 +29,9 @@ use Rattle.live_table.specs.Rights.{cell_in, object_in, IsRetired, queue_in, que
 use Rattle.live_queues.specs.Queues.{queued_view, closed_view, queued, closed}
 use Rattle.live_queues.proofs.Lines.{far, guards_stay, own_word}
 
-leads_queued : (log : Log) (o : ObjectId) (q : ℕ) (t : Spot) (found : Option ObjectId) → Leads (objects_of (Object (Queue o q) ∷ log)) t found → Leads (objects_of log) t found
-leads_queued log o q (head c) found f = f
-leads_queued log o q (link p) found f = f
+leads_queued : (log : Log) (o : ObjectId) (q : ℕ) (callback : CallbackId) (t : Spot) (found : Option ObjectId) → Leads (objects_of (Object (Queue o q callback) ∷ log)) t found → Leads (objects_of log) t found
+leads_queued log o q callback (head c) found f = f
+leads_queued log o q callback (link p) found f = f
 
 in_queue : (key : Sizes) (v : View) → IsInQueue v → (q : ℕ) → queue_in v.queue ≡ q → ClaimsQueue key v.queue q
 in_queue key v is q e = subst (λ (y : QueueRight). ClaimsQueue key y q) (sym is) e
@@ -79,8 +81,8 @@ module _ {S : Type 0} (qsbr : Bool) (allows : Log → LiveEvent → Type 0) (key
         (refl, refl, (r.log, refl, b.0, b.1, run)),
       )
 
-  pub queues_one : (slots id : ℕ) (me : Me S View) (a x : ℕ) → IsInQueue me.0 → closed_in me.0.queue ≡ 0 → IsRetired me.0 → a ≡ queued_at key (queue_in me.0.queue) → x ≡ queued_in me.0.queue + 1 → Allows Rule slots id me a (λ _. x) (λ _. queued qsbr allows (step slots a x 0 lists.none) me x)
-  queues_one slots id me a x is not_shut doomed a_is x_is s r deep at fits =
+  queues_one : (slots id : ℕ) (me : Me S View) (a x : ℕ) (callback : CallbackId) → IsInQueue me.0 → closed_in me.0.queue ≡ 0 → IsRetired me.0 → a ≡ queued_at key (queue_in me.0.queue) → x ≡ queued_in me.0.queue + 1 → Allows Rule slots id me a (λ _. x) (λ _. queued qsbr allows callback (step slots a x 0 lists.none) me x)
+  queues_one slots id me a x callback is not_shut doomed a_is x_is s r deep at fits =
       let v : View = me.0 in
       let q : ℕ = queue_in v.queue in
       let n : ℕ = queued_in v.queue in
@@ -92,7 +94,7 @@ module _ {S : Type 0} (qsbr : Bool) (allows : Log → LiveEvent → Type 0) (key
       let wide = r.wide in
       let b = r.seen id v at in
       let was : Objects = objects_of r.log in
-      let log : Log = Object (Queue o q) ∷ r.log in
+      let log : Log = Object (Queue o q callback) ∷ r.log in
       let now : Objects = objects_of log in
       let shut_no : closed_of q r.log ≡ 0 = sym (r.agree.lines.closed q low) ∙ (k.2 ∙ not_shut) in
       let run : IsLiveRun qsbr allows log = (((has_object_in was.retired o ko.0, λ h. ko.1 (in_objects was.queued o h)), shut_no), r.run) in
@@ -111,9 +113,9 @@ module _ {S : Type 0} (qsbr : Bool) (allows : Log → LiveEvent → Type 0) (key
         keeps,
         tt,
         subst (λ (m : ℕ). Rule record { words = set s.words m x; homes = s.homes; views = set s.views id w }) (sym a_is)
-            (stores qsbr allows key s r id a0 x v w log at (calm_object (Queue o q) r.log) run (omega arith) (refl, refl, refl, refl)
+            (stores qsbr allows key s r id a0 x v w log at (calm_object (Queue o q callback) r.log) run (omega arith) (refl, refl, refl, refl)
             (heap_beside key was now s.words W (record {
-              leads = leads_queued r.log o q;
+              leads = leads_queued r.log o q callback;
               note = λ _. refl;
               used = λ _ u. u;
               alive = λ _ u. u;
@@ -127,8 +129,8 @@ module _ {S : Type 0} (qsbr : Bool) (allows : Log → LiveEvent → Type 0) (key
               queued = λ e l. dite (ℕ_discrete e q) (λ same. subst (λ (z : ℕ). get_or W (queued_at key z) 0 ≡ length (line_of log z)) (sym same) (here ∙ (x_is ∙ sym longer)))
                   (λ ne. keep (queued_at key e) (λ z. ne (omega arith)) ∙ (r.agree.lines.queued e l ∙ ap length (sym (line_else e ne))));
               closed = λ e l. keep (closed_at key e) (λ z. omega arith) ∙ r.agree.lines.closed e l;
-              done = λ e l j p below f. let below' : j < get_or s.words (finished_at key e) 0 = subst (λ (z : ℕ). j < z) (keep (finished_at key e) (λ z. omega arith)) below in old_done s r o q e l j p below' f;
-              few = λ e l. subst (λ (z : ℕ). z ≤ length (line_of log e)) (sym (keep (finished_at key e) (λ z. omega arith))) (few_more s r o q e l);
+              done = λ e l j p below f. let below' : j < get_or s.words (finished_at key e) 0 = subst (λ (z : ℕ). j < z) (keep (finished_at key e) (λ z. omega arith)) below in old_done s r o q callback e l j p below' f;
+              few = λ e l. subst (λ (z : ℕ). z ≤ length (line_of log e)) (sym (keep (finished_at key e) (λ z. omega arith))) (few_more s r o q callback e l);
               beyond = λ e l. line_else e (λ z. omega arith) ∙ r.agree.lines.beyond e l;
             })
             (guards_far key s.words W (λ c l. keep (hold_at key c) (λ z. omega arith)) (λ e l. keep (work_at key e) (λ z. omega arith)) r.agree.holds)
@@ -150,14 +152,23 @@ module _ {S : Type 0} (qsbr : Bool) (allows : Log → LiveEvent → Type 0) (key
       )
     where
       -- a queue that got one more has run as many
-      old_done : (s : State S View) (r : Rule s) (o : ObjectId) (q e : ℕ) → e < key.queues → (j : ℕ) (p : ObjectId) → j < get_or s.words (finished_at key e) 0 → get_elem? (line_of (Object (Queue o q) ∷ r.log) e) j ≡ lists.some p → In (state_of r.log).reclaimed p
-      old_done s r o q e l j p below f = dite (ℕ_discrete e q)
+      old_done : (s : State S View) (r : Rule s) (o : ObjectId) (q : ℕ) (callback : CallbackId) (e : ℕ) → e < key.queues → (j : ℕ) (p : ObjectId) → j < get_or s.words (finished_at key e) 0 → get_elem? (line_of (Object (Queue o q callback) ∷ r.log) e) j ≡ lists.some p → In (state_of r.log).reclaimed p
+      old_done s r o q callback e l j p below f = dite (ℕ_discrete e q)
           (λ same. r.agree.lines.done e l j p below (subst (λ (z : ℕ). get_elem? (line_of r.log z) j ≡ lists.some p) (sym same) (⊎_elim (λ z. z) (λ (t : (j ≡ length (line_of r.log q)) × (o ≡ p)). absurd (let z = r.agree.lines.few q (subst (λ (m : ℕ). m < key.queues) same l) in let y : j < get_or s.words (finished_at key q) 0 = subst (λ (m : ℕ). j < get_or s.words (finished_at key m) 0) same below in let w = t.0 in omega arith))
-          (at_end (line_of r.log q) o p j (ap (λ (z : List ObjectId). get_elem? z j) (sym (at_number_same q (line_of r.log q ++ o ∷ []) (line_of r.log)) ∙ ap (line_of (Object (Queue o q) ∷ r.log)) (sym same)) ∙ f)))))
+          (at_end (line_of r.log q) o p j (ap (λ (z : List ObjectId). get_elem? z j) (sym (at_number_same q (line_of r.log q ++ o ∷ []) (line_of r.log)) ∙ ap (line_of (Object (Queue o q callback) ∷ r.log)) (sym same)) ∙ f)))))
           (λ ne. r.agree.lines.done e l j p below (ap (λ (z : List ObjectId). get_elem? z j) (sym (at_number_other q e (line_of r.log q ++ o ∷ []) (line_of r.log) ne)) ∙ f))
 
-      few_more : (s : State S View) (r : Rule s) (o : ObjectId) (q e : ℕ) → e < key.queues → get_or s.words (finished_at key e) 0 ≤ length (line_of (Object (Queue o q) ∷ r.log) e)
-      few_more s r o q e l = let z = r.agree.lines.few e l in dite (ℕ_discrete e q)
-          (λ same. subst (λ (m : ℕ). get_or s.words (finished_at key e) 0 ≤ m) (sym (ap (λ (m : ℕ). length (line_of (Object (Queue o q) ∷ r.log) m)) same ∙ (ap length (at_number_same q (line_of r.log q ++ o ∷ []) (line_of r.log)) ∙ length-append (line_of r.log q) (o ∷ []))))
+      few_more : (s : State S View) (r : Rule s) (o : ObjectId) (q : ℕ) (callback : CallbackId) (e : ℕ) → e < key.queues → get_or s.words (finished_at key e) 0 ≤ length (line_of (Object (Queue o q callback) ∷ r.log) e)
+      few_more s r o q callback e l = let z = r.agree.lines.few e l in dite (ℕ_discrete e q)
+          (λ same. subst (λ (m : ℕ). get_or s.words (finished_at key e) 0 ≤ m) (sym (ap (λ (m : ℕ). length (line_of (Object (Queue o q callback) ∷ r.log) m)) same ∙ (ap length (at_number_same q (line_of r.log q ++ o ∷ []) (line_of r.log)) ∙ length-append (line_of r.log q) (o ∷ []))))
           (let y : length (line_of r.log e) ≡ length (line_of r.log q) = ap (λ (m : ℕ). length (line_of r.log m)) same in omega arith))
           (λ ne. subst (λ (m : List ObjectId). get_or s.words (finished_at key e) 0 ≤ length m) (sym (at_number_other q e (line_of r.log q ++ o ∷ []) (line_of r.log) ne)) z)
+
+  -- whoever has the right to the queue knows the count, so that its exchange finds what it expects
+  pub queues : (slots id : ℕ) (me : Me S View) (a x p : ℕ) (callback : CallbackId) (said : lists.Option S) → IsInQueue me.0 → closed_in me.0.queue ≡ 0 → IsRetired me.0 → a ≡ queued_at key (queue_in me.0.queue) → x ≡ queued_in me.0.queue + 1 → p + 1 ≡ x
+      → Allows Rule slots id me a (λ n. either (n == p) x n) (queued qsbr allows callback (step slots a p x said) me)
+  queues slots id me a x p callback said is not_shut doomed a_is x_is p_is s r deep at fits =
+      let one = queues_one slots id me a x callback is not_shut doomed a_is x_is s r deep at fits in
+      let found : get_or s.words a 0 ≡ queued_in me.0.queue = ap (λ (i : ℕ). get_or s.words i 0) a_is ∙ (queue_now s r id me.0 at is).1 in
+      let same : either (get_or s.words a 0 == p) x (get_or s.words a 0) ≡ x = ap (λ (b : Bool). either b x (get_or s.words a 0)) (eq-eqb (get_or s.words a 0) p (omega (arith, found, x_is, p_is))) in
+      (one.0, one.1, one.2, subst (λ (y : ℕ). Rule (stepped s a y id me.1 one.0 one.1)) (sym same) one.3, one.4)

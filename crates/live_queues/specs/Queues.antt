@@ -1,7 +1,8 @@
 -- What each step on a queue asks and tells.
 use Rattle.std.specs.Prelude.{Bool, ◌≡◌, ◌≢◌, ℕ, ◌+◌, ◌<◌, ◌≤◌, [], length}
-use mathlib.Core.Option.{some}
+use mathlib.Core.Option.{Option, none, some}
 use lib.ListN.{get_elem?}
+use base.Stored.{gnil}
 use Rattle.atomic_table.specs.Table.{Me, Step}
 use Rattle.live_table.specs.rcu_model.declared.event.ObjectId.{ObjectId}
 use Rattle.live_table.specs.rcu_model.Sets.{In}
@@ -9,6 +10,7 @@ use Rattle.live_table.specs.live_log.declared.event.LiveEvent.{LiveEvent}
 use Rattle.live_table.specs.live_log.declared.event.LiveEvent.TheVariants.{CloseQueue, Object}
 use Rattle.live_table.specs.live_log.declared.event.ObjectEvent.TheVariants.{Queue}
 use Rattle.live_table.specs.live_log.Log.{Log, state_of, line_of, closed_of, HaveRun}
+use Rattle.live_table.specs.live_log.declared.callback_id.CallbackId.{CallbackId}
 use Rattle.live_table.specs.live_rule.declared.view.Sizes.{Sizes}
 use Rattle.live_table.specs.live_rule.declared.view.View.{View}
 use Rattle.live_table.specs.live_rule.declared.rights.QueueRight.TheVariants as queue_right
@@ -18,6 +20,11 @@ use Rattle.live_table.specs.live_rule.Places.{queued_at, closed_at, finished_at,
 use Rattle.live_table.specs.live_rule.Seats.{but_work}
 use Rattle.live_table.specs.Rights.{cell_in, object_in, queue_in, queued_in, closed_in, work_in, finished_in}
 use Rattle.live_table.specs.Steps.{Did, Went, exchanged_view, looked_view, stored_view}
+
+-- which callback a step was told of
+abbrev pub told_id : Option CallbackId → CallbackId
+told_id none = record { marker = record {}; code = gnil }
+told_id (some id) = id
 
 -- the view, once its retired object is queued
 abbrev pub queued_view : View → View
@@ -66,9 +73,9 @@ module _ {S : Type 0} (qsbr : Bool) (allows : Log → LiveEvent → Type 0) wher
   abbrev pub looked : Step S → Me S View → ℕ → Me S View → Type 0
   looked st m n m' = Went qsbr allows (looked_view st.word n m.0) m m' × HasNoOther m.0.sizes m'.0.seen × ((q : ℕ) → q < m.0.sizes.queues → TellsQueue m.0.sizes st.word q n m'.0.seen) × TellsWorker m.0 st.word n
 
-  -- the object was queued
-  abbrev pub queued : Step S → Me S View → ℕ → Me S View → Type 0
-  queued st m n m' = Did qsbr allows (queued_view m.0) (Object (Queue (object_in m.0.object) (queue_in m.0.queue))) m m' × IsLast (queue_in m.0.queue) (queued_in m.0.queue) (object_in m.0.object) m'.0.seen
+  -- the object was queued, with this callback
+  abbrev pub queued : CallbackId → Step S → Me S View → ℕ → Me S View → Type 0
+  queued id st m n m' = Did qsbr allows (queued_view m.0) (Object (Queue (object_in m.0.object) (queue_in m.0.queue) id)) m m' × IsLast (queue_in m.0.queue) (queued_in m.0.queue) (object_in m.0.object) m'.0.seen
 
   -- the queue was closed
   abbrev pub closed : Step S → Me S View → ℕ → Me S View → Type 0

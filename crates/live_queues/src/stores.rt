@@ -7,26 +7,31 @@ ghost use Rattle.live_table.specs.Steps.{Did, IsKnown, Keeps, Went};
 ghost use Rattle.live_queues.specs.Queues.{HasRunAt, IsLast, closed_view, finished_view, queued_view};
 
 use crate::plays::{Closes, Finishes, Queues};
-use live_table::{ChainRule, GracePlan, LiveSeat, LiveTable};
+use live_table::{CallbackId, ChainRule, GracePlan, LiveSeat, LiveTable};
 
 /// Queues the callback of the seat's retired object, where the queue is not closed: stores the count of those queued.
-/// Its ticket is that count, the first one being 1. It never waits.
+/// Its ticket is that count, the first one being 1. The log notes which callback it is. The store is an exchange,
+/// since only that can be told so. It never waits.
 pub fn store_queued<P: GracePlan, K: ChainRule>(
     table: &LiveTable<P, K>,
     seat: &mut LiveSeat,
     queue: usize,
     count: u64,
+    callback: &CallbackId,
 )
     requires seat { (seat.old.table_id ≡ table.now.words.shared.table_id) × (queue < table.now.queues) }
     requires right { IsInQueue seat.old.me.0 × (queue_in seat.old.me.0.queue ≡ queue) × (queued_in seat.old.me.0.queue + 1 ≡ count) }
     requires open { closed_in seat.old.me.0.queue ≡ 0 }
     requires retired { IsRetired seat.old.me.0 }
     ensures seat { Keeps seat.old seat.new }
-    ensures queued { Did P.QSBR K.allows (queued_view seat.old.me.0) (Object (Queue (object_in seat.old.me.0.object) (queue_in seat.old.me.0.queue))) seat.old.me seat.new.me }
+    ensures queued { Did P.QSBR K.allows (queued_view seat.old.me.0) (Object (Queue (object_in seat.old.me.0.object) (queue_in seat.old.me.0.queue) callback.now)) seat.old.me seat.new.me }
     ensures last { IsLast queue (queued_in seat.old.me.0.queue) (object_in seat.old.me.0.object) seat.new.me.0.seen }
 {
     let place = table.queued_place(queue);
-    table.words.shared.store::<Queues<P, K>>(seat, place, count);
+    table
+        .words
+        .shared
+        .compare_exchange_with::<Queues<P, K>>(seat, place, count - 1, count, callback);
 }
 
 /// Closes a queue, which takes no callback from then on. It never waits.

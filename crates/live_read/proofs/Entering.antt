@@ -11,6 +11,7 @@ use Rattle.live_log.specs.declared.event.LiveEvent.{LiveEvent}
 use Rattle.rcu_model.proofs.Lemmas.{has_section_in}
 use Rattle.live_log.specs.Log.{Log, IsOpenSection, open_of, sections_of, state_of}
 use Rattle.live_log.proofs.Lemmas.{is_open, open_inside}
+use Rattle.live_log.specs.declared.callback_id.CallbackId.{CallbackId}
 use Rattle.live_words.specs.live_rule.declared.view.View.{View}
 use Rattle.live_words.specs.live_rule.Readers.{Fits, IsClosed}
 use Rattle.live_words.specs.live_table.Rights.{count_in}
@@ -40,12 +41,12 @@ deeper w new (suc d) phase e made = (entered_of-nests Wide w phase new (λ z. ab
 
 module _ {P K : Type 0} {g : plan.Ghosts P} (qsbr : Bool) (allows : Log → LiveEvent → Type 0) where
   -- the reader is in the section that the word which it stored stands for
-  stored_in : (s : ReaderCore P K g) (q x count : ℕ) (events : Log) (m : Me Unit View) → s.slot ≡ q → Stored qsbr allows q x count events m s.seat.me → (IsClosed qsbr x → ⊥) → IsIn s
+  stored_in : (s : ReaderCore P K g) (q x count : ℕ) (events : Log) (m : Me CallbackId View) → s.slot ≡ q → Stored qsbr allows q x count events m s.seat.me → (IsClosed qsbr x → ⊥) → IsIn s
   stored_in s q x count events m slot st stands =
       let at = subst (λ (z : ℕ). Fits qsbr x (open_of z (log_of s))) (sym slot) st.2.0 in
       let o = fits_some qsbr x (open_of s.slot (log_of s)) at stands in
       let inside : IsOpenSection s.slot o.0.0 (log_of s) = is_open qsbr allows (log_of s) s.slot o.0.0 o.0.1 st.1.4 o.1 in
-      let counted : o.0.0 ≡ ordinal s = sym inside.2 ∙ (ap (λ (z : ℕ). sections_of z (log_of s)) slot ∙ (st.2.1 ∙ sym (ap (λ (me : Me Unit View). count_in me.0.slot) st.0))) in
+      let counted : o.0.0 ≡ ordinal s = sym inside.2 ∙ (ap (λ (z : ℕ). sections_of z (log_of s)) slot ∙ (st.2.1 ∙ sym (ap (λ (me : Me CallbackId View). count_in me.0.slot) st.0))) in
       let at_last : open_of s.slot (log_of s) ≡ some (ordinal s, o.0.1) = o.1 ∙ ap (λ (n : ℕ). some (n, o.0.1)) counted in
       record {
         note = o.0.1;
@@ -57,8 +58,8 @@ module _ {P K : Type 0} {g : plan.Ghosts P} (qsbr : Bool) (allows : Log → Live
   -- an inner lock leaves what is held
   nested_keeps : (r s : ReaderCore P K g) → s.slot ≡ r.slot → Nested qsbr allows r.slot s.word r.seat.me s.seat.me → KeepsHeld r s
   nested_keeps r s slot st =
-      let count : ordinal s ≡ ordinal r = simp unary_clauses at (ap (λ (me : Me Unit View). count_in me.0.slot) st.0) in
-      held_later qsbr allows r s slot (ap (λ (me : Me Unit View). me.0.sizes) st.0) count (wrote_later qsbr allows r.seat.me.0 [] (log_of s) st.1) st.1.4
+      let count : ordinal s ≡ ordinal r = simp unary_clauses at (ap (λ (me : Me CallbackId View). count_in me.0.slot) st.0) in
+      held_later qsbr allows r s slot (ap (λ (me : Me CallbackId View). me.0.sizes) st.0) count (wrote_later qsbr allows r.seat.me.0 [] (log_of s) st.1) st.1.4
 
   pub enters : (r s : ReaderCore P K g) → qsbr ≡ false → s.slot ≡ r.slot → s.depth ≡ r.depth + 1 → count_of Wide r.word ≡ r.depth → (phase : Bool) → entered_of Wide r.word phase ≡ Ok s.word
       → (count_of Wide r.word ≡ 0 → Opened qsbr allows r.slot s.word r.seat.me s.seat.me)

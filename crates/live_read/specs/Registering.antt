@@ -11,6 +11,7 @@ use Rattle.live_log.specs.Log.{Log, Begins, Has, IsLiveRun, sections_of}
 use Rattle.live_words.specs.live_rule.declared.view.Sizes.{Sizes}
 use Rattle.live_words.specs.live_rule.declared.view.Look.{Look}
 use Rattle.live_words.specs.live_rule.declared.view.Look.TheVariants.{Loaded, Stored}
+use Rattle.live_log.specs.declared.callback_id.CallbackId.{CallbackId}
 use Rattle.live_words.specs.live_rule.declared.view.View.{View}
 use Rattle.live_words.specs.live_rule.declared.rights.SlotRight.{SlotRight}
 use Rattle.live_words.specs.live_rule.Places.{group_at}
@@ -73,7 +74,7 @@ module _ {S : Type 0} (qsbr : Bool) (allows : Log → LiveEvent → Type 0) wher
 
 -- The reader's slot was given back by the seat, which has no right now: it has seen and heard all that the reader had,
 -- and the Close of the section that was open, if one was. No section was opened in the slot meanwhile.
-pub record IsGivenBack {P K : Type 0} {g : plan.Ghosts P} (qsbr : Bool) (allows : Log → LiveEvent → Type 0) (r : ReaderCore P K g) (s : Seat (Unit {0}) View) : Type 0 where
+pub record IsGivenBack {P K : Type 0} {g : plan.Ghosts P} (qsbr : Bool) (allows : Log → LiveEvent → Type 0) (r : ReaderCore P K g) (s : Seat CallbackId View) : Type 0 where
   pub table : s.table_id ≡ r.seat.table_id
   pub none_held : s.me.1 ≡ []
   pub later : Begins r.seat.me.0.seen s.me.0.seen × Begins r.seat.me.0.heard s.me.0.seen

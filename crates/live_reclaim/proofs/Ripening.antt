@@ -40,7 +40,7 @@ module _ (qsbr : Bool) (allows : Log → LiveEvent → Type 0) where
   line_retired (Object (Cut c p) ∷ es) q k o run at = line_retired es q k o run.1 at
   line_retired (Object (Retire p) ∷ es) q k o run at = inr (line_retired es q k o run.1 at)
   line_retired (Object (Run p) ∷ es) q k o run at = line_retired es q k o run.1 at
-  line_retired (Object (Queue p d) ∷ es) q k o run at = let f = line_of es in ⊎_elim
+  line_retired (Object (Queue p d i) ∷ es) q k o run at = let f = line_of es in ⊎_elim
       (λ (y : ((q == d) ≡ true) × (q ≡ d)). ⊎_elim
       (λ (z : get_elem? (f d) k ≡ some o). line_retired es d k o run.1 z)
       (λ (z : p ≡ o). subst (λ (x : ObjectId). In (state_of es).retired x) z (in_objects (state_of es).retired p run.0.0.0))

@@ -1,10 +1,11 @@
 -- What a worker knows of its batch, and of what it has run.
+use base.Stored.{Gv}
 use Rattle.std.specs.Prelude.{◌≡◌, ℕ, ◌+◌, ◌≤◌, List, [], ◌∷◌, length}
 use Rattle.rcu_model.specs.declared.event.ObjectId.{ObjectId}
 use Rattle.rcu_model.specs.Sets.{In}
 use Rattle.callback_queue.specs.declared.item.Ripe.{Ripe}
 use Rattle.call_rcu_worker.specs.declared.finished.Finished.{Finished}
-use Rattle.live_log.specs.Log.{Log, Begins, HaveEnded, line_of, payload_of, state_of}
+use Rattle.live_log.specs.Log.{Log, Begins, HaveEnded, WasQueued, line_of, payload_of, state_of}
 use Rattle.live_words.specs.live_rule.declared.view.View.{View}
 use Rattle.live_words.specs.live_rule.declared.rights.WorkRight.TheVariants.{Works}
 use Rattle.live_words.specs.live_queues.Queues.{IsAt}
@@ -21,17 +22,17 @@ IsDue q given log = (mark : Log) × Begins mark log × HaveEnded mark log × (gi
 abbrev pub ripe_in : Log → ObjectId → Ripe
 ripe_in log o = record { object = o; payload = payload_of log o }
 
-module _ {D : Type 0} (answers : D → Ripe → ℕ → Type 0) where
-  -- a deleter was called with the object and its words, and answered the code
-  abbrev pub WasCalled : Log → Finished → Type 0
-  WasCalled log entry = (d : D) × answers d (ripe_in log entry.object) entry.code
+module _ {D : Type 0} (code : D → Gv) (answers : D → Ripe → ℕ → Type 0) where
+  -- the deleter with which the object was queued, by its code, was called with it and its words, and answered the entry's
+  abbrev pub WasCalled : ℕ → Log → Finished → Type 0
+  WasCalled q log entry = (d : D) × WasQueued entry.object q (code d) log × answers d (ripe_in log entry.object) entry.code
 
   -- the object before which so many were queued has its Run, and the entry tells of it
   pub record IsRunAs (q : ℕ) (log : Log) (n : ℕ) (entry : Finished) : Type 0 where
     pub ticket : entry.ticket.0 ≡ n + 1
     pub turn : IsAt q n entry.object log
     pub run : In (state_of log).reclaimed entry.object
-    pub called : WasCalled log entry
+    pub called : WasCalled q log entry
 
   -- consecutive tickets, from one above this number on, each with its Run
   abbrev pub AreRunAs : ℕ → Log → ℕ → List Finished → Type 0

@@ -32,7 +32,7 @@ pub fn run_next<P: GracePlan, K: ChainRule, B: Site, D: Deleter>(
     ensures seat { Keeps seat.old seat.new × (seat.new.me.1 ≡ seat.old.me.1) × (seat.new.me.0.sizes ≡ seat.old.me.0.sizes) × WorksFor queue (finished + 1) seat.new.me.0 }
     ensures finds { KeepsFinds seat.old.me.0 seat.new.me.0 }
     ensures seen { Begins seat.old.me.0.seen seat.new.me.0.seen × IsLiveRun P.QSBR K.allows seat.new.me.0.seen }
-    ensures run { IsRunAs D.answers queue seat.new.me.0.seen finished result }
+    ensures run { IsRunAs D.row.coded.code D.answers queue seat.new.me.0.seen finished result }
     ensures called { (result.object ≡ item.object) × D.answers item.job.2 (ripe_in seat.new.me.0.seen item.object) result.code }
 {
     let Item { object, job } = item;

@@ -6,7 +6,8 @@ mod plays;
 mod table;
 
 pub use live_rule::{
-    AnyChain, ChainRight, ChainRule, GracePlan, GraceRight, Keyed, LiveEvent, LiveRule, LiveSeat,
-    Look, ObjectEvent, QueueRight, RecordRight, Sizes, SlotRight, Tabled, View, WorkRight,
+    AnyChain, CallbackId, ChainRight, ChainRule, GracePlan, GraceRight, Identity, Keyed, LiveEvent,
+    LiveRule, LiveSeat, Look, ObjectEvent, QueueRight, RecordRight, Sizes, SlotRight, Tabled, View,
+    WorkRight,
 };
 pub use table::LiveTable;

@@ -7,14 +7,14 @@ use crate::plays::{
     LearnChanges, NewSeat, TakeObject, Tell, TellChanges,
 };
 use atomic_table::Table;
-use live_rule::{ChainRule, GracePlan, LiveRule, LiveSeat, Sizes, View};
+use live_rule::{CallbackId, ChainRule, GracePlan, LiveRule, LiveSeat, Sizes, View};
 use std::alloc::{AllocError, Global};
 
 /// The words of one domain, under the rule for grace periods by the plans `P` and chains by the rule `K`.
 #[derive(Drop)]
 pub struct LiveTable<P: GracePlan, K: ChainRule> {
     /// The words, with the atomic steps on them.
-    pub words: Table<(), View, Sizes, LiveRule<P, K>, Global>,
+    pub words: Table<CallbackId, View, Sizes, LiveRule<P, K>, Global>,
     /// How many slots for readers it has, at most 256.
     pub slots: usize,
     /// How many chains, at most 4096.

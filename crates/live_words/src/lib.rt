@@ -21,6 +21,7 @@ pub use live_records::{
     store_retire, store_run, store_word, take_cell,
 };
 pub use live_table::{
-    AnyChain, ChainRight, ChainRule, GraceRight, Keyed, LiveEvent, LiveRule, LiveSeat, LiveTable,
-    Look, ObjectEvent, QueueRight, RecordRight, Sizes, SlotRight, Tabled, View, WorkRight,
+    AnyChain, CallbackId, ChainRight, ChainRule, GraceRight, Identity, Keyed, LiveEvent, LiveRule,
+    LiveSeat, LiveTable, Look, ObjectEvent, QueueRight, RecordRight, Sizes, SlotRight, Tabled,
+    View, WorkRight,
 };

@@ -1,4 +1,5 @@
 -- The first record of a chain, once its writer has published one.
+use base.Stored.{Gv}
 use Rattle.std.proofs.Common.{◌≡◌, ℕ, Bool, List, [], ◌∷◌, length, Option, Some, None, IfNone, IfSome, slice_get, refl, sym, ap, ◌∙◌, subst, inl, arith}
 use Rattle.rcu_model.specs.declared.event.ObjectId.{ObjectId}
 use Rattle.rcu_model.specs.Sets.{first_of, replaced}
@@ -59,9 +60,9 @@ if_some None so su f h = tt
 if_some (Some x) so su f h = f x h
 
 -- what is queued was published before
-pub queued_later : (qsbr : Bool) (allows : Log → LiveEvent → Type 0) (at : Log) (o : ObjectId) (queue given : ℕ) (log : Log) → Queues qsbr allows (Begins at) o queue given log → Begins at log
-queued_later qsbr allows at o queue given log q =
-    let within : Begins q.within log = (Object (Queue o queue) ∷ [], q.wrote) in
+pub queued_later : (qsbr : Bool) (allows : Log → LiveEvent → Type 0) (at : Log) (o : ObjectId) (queue given : ℕ) (callback : Gv) (log : Log) → Queues qsbr allows (Begins at) o queue given callback log → Begins at log
+queued_later qsbr allows at o queue given callback log q =
+    let within : Begins q.within log = (Object (Queue o queue q.id) ∷ [], q.wrote) in
     let retired : Begins q.before (Object (Retire o) ∷ q.before) = (Object (Retire o) ∷ [], refl) in
     begins_trans at q.before log q.at (begins_trans q.before (Object (Retire o) ∷ q.before) log retired (begins_trans (Object (Retire o) ∷ q.before) q.within log q.retired within))
 
@@ -104,6 +105,6 @@ module _ {W S : Type 0} (w : Ghosts W S) (qsbr : Bool) (old was new : W) (c : �
   unfolding puts_after
   pushes_after p = record { puts = puts_after p.puts; cell = p.cell; is = p.is; none = p.none }
 
-  pub replaces_after : (queue ticket : ℕ) → ReplacesValue w qsbr was new c words queue ticket → ReplacesValue w qsbr old new c words queue ticket
+  pub replaces_after : (queue ticket : ℕ) (callback : Gv) → ReplacesValue w qsbr was new c words queue ticket callback → ReplacesValue w qsbr old new c words queue ticket callback
   unfolding puts_after
-  replaces_after queue ticket r = record { puts = puts_after r.puts; left = r.left; cell = r.cell; is = r.is; was = r.was; handed = r.handed }
+  replaces_after queue ticket callback r = record { puts = puts_after r.puts; left = r.left; cell = r.cell; is = r.is; was = r.was; handed = r.handed }

@@ -1,18 +1,24 @@
 -- What the calls of a map tell, by the chain of its directory in a domain of so many chains.
+use base.Stored.{Gv}
+use denote.RattleType.{RattleType}
 use Rattle.gp_memb.specs.declared.plan.GracePlan as plan
-use Rattle.std.specs.Prelude.{◌≡◌, ◌%◌, ℕ, Bool, List, Option, Some, None}
+use Rattle.std.specs.Prelude.{◌≡◌, ◌⊎◌, ◌%◌, ℕ, Bool, List, Option, Some, None}
 use Rattle.rcu_model.specs.declared.event.ObjectId.{ObjectId}
+use Rattle.rcu_model.specs.declared.refusal.Refusal.{Refusal}
 use Rattle.live_log.specs.declared.event.LiveEvent.{LiveEvent}
 use Rattle.live_log.specs.Log.{Log, Begins}
 use Rattle.live_log.specs.Tables.{tabled}
-use Rattle.rcu_hash.specs.live_read.Hearing.{MakesLast}
+use Rattle.rcu_hash.specs.live_read.Hearing.{MakesLast, Stays}
 use Rattle.rcu_hash.specs.live_read.Holding.{log_of}
 use Rattle.rcu_hash.specs.live_read.declared.reader_core.ReaderCore.{ReaderCore}
 use Rattle.rcu_hash.specs.live_read.declared.caller.Caller.{Ghosts}
+use Rattle.rcu_hash.specs.live_rule.declared.view.Sizes.{Sizes}
 use Rattle.rcu_hash.specs.rcu_list.Calls.{HandsOver}
 use Rattle.rcu_hash.specs.Directories.{directed_map}
 use Rattle.rcu_hash.specs.Growing.{Grows}
 use Rattle.rcu_hash.specs.Publishing.{ChangesThrough}
+use Rattle.rcu_hash.specs.Refusing.{RefusesInsertionThrough, RefusesReplacementThrough}
+use Rattle.rcu.specs.Reclaiming.{gone_code}
 
 -- By the word of a value: the key has this value in the log, or none.
 abbrev pub HasAt : {T : Type 0} → (T → ℕ) → ℕ → ℕ → Log → ℕ → Option T → Type 0
@@ -48,9 +54,9 @@ GetsValue packed chains d r s key found = Gets packed chains d (log_of r) r.seat
 
 -- Between these two moments of a caller the key has this word from the last event of a log on, or none, and each other
 -- key what it had before the event. That came after all that the caller had seen and heard of, the caller has heard of
--- it, and no other change of a chain was made for it. A record that had the key's value before was retired then, in one
--- of so many queues.
-pub record GivesWord {W S : Type 0} (w : Ghosts W S) (qsbr : Bool) (chains queues d : ℕ) (old new : W) (key : ℕ) (has : Option ℕ) : Type 0 where
+-- it, and no other change of a chain was made for it. A record that had the key's value before was retired then, with
+-- the callback of this code, in one of so many queues.
+pub record GivesWord {W S : Type 0} (w : Ghosts W S) (qsbr : Bool) (chains queues d : ℕ) (old new : W) (key : ℕ) (has : Option ℕ) (callback : Gv) : Type 0 where
   pub published : Log
   pub chain : ℕ
   pub event : LiveEvent
@@ -58,8 +64,17 @@ pub record GivesWord {W S : Type 0} (w : Ghosts W S) (qsbr : Bool) (chains queue
   pub changes : ChangesThrough qsbr tabled chains d (w.seen old) (w.heard old) chain event key had has published
   pub told : Begins published (w.heard new)
   pub made : MakesLast w old new published
-  pub retired : (h : ℕ) → had ≡ Some h → (left : ObjectId) × (ticket : ℕ) × HandsOver qsbr tabled left (chain % queues) ticket published (w.heard new)
+  pub retired : (h : ℕ) → had ≡ Some h → (left : ObjectId) × (ticket : ℕ) × HandsOver qsbr tabled left (chain % queues) ticket callback published (w.heard new)
 
 -- and the map grew
 abbrev pub GrewTo : {W S : Type 0} → Ghosts W S → Bool → ℕ → ℕ → W → W → ℕ → ℕ → Type 0
 GrewTo w qsbr chains d old new first buckets = Grew qsbr tabled chains d (w.seen old) (w.heard old) first buckets (w.heard new)
+
+-- The key got no value at the last of several tries: a replacement or an insertion was refused. Before it the caller
+-- stood as it stood, and had heard of no less.
+abbrev pub IsNotSet : {W S : Type 0} → Ghosts W S → Bool → Sizes → ℕ → W → W → ℕ → Refusal → Type 0
+IsNotSet {W} w qsbr sizes d old new key e = (last : W) × Stays w old last × Begins (w.heard old) (w.heard last) × (RefusesReplacementThrough w qsbr tabled sizes last new e d key ⊎ RefusesInsertionThrough w qsbr tabled sizes last new e d key)
+
+-- The key has this word or none, and what had its value before is retired with the map's deleter.
+abbrev pub ChangesKey : {W S : Type 0} → Ghosts W S → Bool → Sizes → ℕ → W → W → ℕ → Option ℕ → (R : RattleType) → R.Denot → Type 0
+ChangesKey w qsbr sizes d old new key has R deleter = GivesWord w qsbr sizes.chains sizes.queues d old new key has (gone_code R deleter)

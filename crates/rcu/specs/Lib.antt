@@ -1,6 +1,9 @@
 pub mod Headline
 pub mod Keys
+pub mod Logs
 pub mod Naming
+pub mod Reclaiming
+pub mod Serving
 pub mod Slots
 pub use Rattle.rcu_model.specs.declared.refusal.Refusal.TheVariants as Refusals
 pub use Rattle.live_log.specs.Log

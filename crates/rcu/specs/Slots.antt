@@ -1,18 +1,25 @@
 -- The value of a slot.
+use base.Stored.{Gv}
+use denote.RattleType.{RattleType}
 use Rattle.gp_memb.specs.declared.plan.GracePlan as plan
 use Rattle.std.specs.Prelude.{◌≡◌, ◌⊎◌, ◌%◌, ◌∷◌, ℕ, Bool, List, Some, None}
 use Rattle.rcu_model.specs.declared.event.ObjectId.{ObjectId}
 use Rattle.rcu_model.specs.Sets.{first_of}
+use Rattle.rcu_model.specs.declared.refusal.Refusal.{Refusal}
+use Rattle.rcu_model.specs.declared.refusal.Refusal.TheVariants.{Busy}
 use Rattle.live_log.specs.declared.event.LiveEvent.{LiveEvent}
 use Rattle.live_log.specs.declared.event.LiveEvent.TheVariants.{Object}
 use Rattle.live_log.specs.declared.event.ObjectEvent.TheVariants.{Push, Replace}
 use Rattle.live_log.specs.Log.{Log, Begins, objects_of, payload_of}
-use Rattle.rcu_hash.specs.live_read.Hearing.{IsAfter, MakesLast}
+use Rattle.rcu_hash.specs.live_read.Hearing.{IsAfter, MakesLast, Stays}
 use Rattle.rcu_hash.specs.live_read.Holding.{log_of}
 use Rattle.rcu_hash.specs.live_read.declared.reader_core.ReaderCore.{ReaderCore}
 use Rattle.rcu_hash.specs.live_read.declared.caller.Caller.{Ghosts}
+use Rattle.rcu_hash.specs.live_rule.Places.{hold_at}
+use Rattle.rcu_hash.specs.live_rule.declared.view.Look.TheVariants.{Loaded, Stored}
 use Rattle.rcu_hash.specs.live_rule.declared.view.Sizes.{Sizes}
 use Rattle.rcu_hash.specs.rcu_list.Calls.{HandsOver}
+use Rattle.rcu_hash.specs.rcu_list.Refusing.{FindsNoRecord, GivesBack}
 
 -- the rule of chains that any change fits
 abbrev pub any_change : Log → LiveEvent → Type 0
@@ -64,15 +71,35 @@ module _ {W S : Type 0} (w : Ghosts W S) (qsbr : Bool) (old new : W) where
     pub is : puts.event ≡ Object (Push c puts.object cell words)
     pub none : first_of ((objects_of puts.before).chain c) ≡ None
 
-  -- it was put in the place of the record that was the first before, which was retired then, and queued with the ticket
-  pub record ReplacesValue (c : ℕ) (words : List ℕ) (queue ticket : ℕ) : Type 0 where
+  -- it was put in the place of the record that was the first before, which was retired then, and queued with
+  -- the ticket and the callback of this code
+  pub record ReplacesValue (c : ℕ) (words : List ℕ) (queue ticket : ℕ) (callback : Gv) : Type 0 where
     pub puts : PutsValue c words
     pub left : ObjectId
     pub cell : ℕ
     pub is : puts.event ≡ Object (Replace c left puts.object cell words)
     pub was : first_in c puts.before left
-    pub handed : HandsOver qsbr any_change left queue ticket puts.at (w.heard new)
+    pub handed : HandsOver qsbr any_change left queue ticket callback puts.at (w.heard new)
 
   -- into the queue of the chain
-  abbrev pub ReplacesValueIn : Sizes → (c : ℕ) (words : List ℕ) (ticket : ℕ) → Type 0
-  ReplacesValueIn sizes c words ticket = ReplacesValue c words (c % sizes.queues) ticket
+  abbrev pub ReplacesValueIn : Sizes → (c : ℕ) (words : List ℕ) (ticket : ℕ) (R : RattleType) (callback : R.Denot) → Type 0
+  ReplacesValueIn sizes c words ticket R callback = ReplacesValue c words (c % sizes.queues) ticket (R.coded.code callback)
+
+  -- The slot's chain is held for a caller that stands as it stood, and has heard of no less: its hold word was found to
+  -- be 0, and left at 1.
+  pub record HoldsSlot (sizes : Sizes) (c : ℕ) (mid : W) : Type 0 where
+    pub looks : w.looks mid ≡ Stored (hold_at sizes c) 1 ∷ Loaded (hold_at sizes c) 0 ∷ w.looks old
+    pub loads : w.loads mid ≡ w.loads old
+    pub stays : Stays w old mid
+    pub later : Begins (w.heard old) (w.heard mid)
+
+  -- Nothing was put into it: its hold word was found to be 1. Or it was held, and then no record was had, or its queue
+  -- took nothing.
+  abbrev pub IsNotPut : Sizes → ℕ → Refusal → Type 0
+  IsNotPut sizes c e =
+      ((e ≡ Busy) × (w.looks new ≡ Loaded (hold_at sizes c) 1 ∷ w.looks old))
+      ⊎ ((mid : W) × HoldsSlot sizes c mid × (FindsNoRecord w qsbr any_change sizes mid new e ⊎ GivesBack w qsbr any_change sizes mid new e (c % sizes.queues)))
+
+-- nor at the last of several tries, before which the caller stood as it stood, and had heard of no less
+abbrev pub IsNotPutLater : {W S : Type 0} → Ghosts W S → Bool → W → W → Sizes → ℕ → Refusal → Type 0
+IsNotPutLater {W} w qsbr old new sizes c e = (last : W) × Stays w old last × Begins (w.heard old) (w.heard last) × IsNotPut w qsbr last new sizes c e

@@ -9,6 +9,7 @@ mod headline;
 mod map;
 mod pending;
 mod program;
+mod reclaim;
 mod slot;
 mod threads;
 mod waiting;
@@ -21,7 +22,7 @@ pub use entering::with_domain;
 pub use gp_memb::{GracePlan, MembPlan as Memb};
 pub use gp_qsbr::QsbrPlan as Qsbr;
 pub use headline::{every_moment_is_safe, hear};
-pub use map::{Map, Reclaim};
+pub use map::Map;
 pub use pending::{Asked, Heard, Pending, PendingOf};
 pub use program::{Program, Threaded};
 pub use rcu_hash::{
@@ -31,6 +32,7 @@ pub use rcu_hash::{
     Unlinked, WorkerEnd,
 };
 pub use rcu_model::{ObjectId, Refusal};
+pub use reclaim::Reclaim;
 pub use slot::Slot;
 pub use threads::{Ended, with_threads};
 pub use waiting::alloc_when_free;

@@ -1,48 +1,25 @@
 //! A map from keys to values, which grows while it is read.
 
 ghost use Rattle.std.specs.Prelude.{◌≡◌, ◌⊎◌, ◌<◌, None, Some, IfErr, IfOk};
-ghost use Rattle.rcu_model.specs.declared.refusal.Refusal.TheVariants.{BadConfig, Closed, Memory, PoolFull};
+ghost use Rattle.rcu_model.specs.declared.refusal.Refusal.TheVariants.{Closed, Memory, PoolFull};
 ghost use Rattle.live_log.specs.Tables.{tabled};
 ghost use Rattle.rcu_hash.specs.live_read.Reads.{Looks};
 ghost use Rattle.live_log.specs.Log.{Begins};
+ghost use Rattle.rcu_hash.specs.Calls.{IsNotMade};
 ghost use Rattle.rcu_hash.specs.Directories.{HasNoKeys};
 ghost use Rattle.rcu_hash.specs.Growing.{Founds};
 ghost use Rattle.rcu_hash.specs.Refusing.{RefusesRemovalThrough};
 ghost use Rattle.rcu_hash.specs.Tidying.{IsTidied};
-ghost use Rattle.rcu.specs.Keys.{GetsValue, GivesWord, GrewTo, HearsMore};
+ghost use Rattle.rcu.specs.Keys.{ChangesKey, GetsValue, GrewTo, HearsMore, IsNotSet};
 
+use crate::reclaim::Reclaim;
 use crate::words::Word;
 use gp_memb::GracePlan;
-use rcu_hash::{Caller, Deleter, Domain, RcuHash, Ripe, Section, Site, Tabled};
+use rcu_hash::{Caller, Deleter, Domain, RcuHash, Section, Site, Tabled};
 use rcu_model::Refusal;
 use std::alloc::Global;
 use std::marker::PhantomData;
 use std::sync::Wait;
-
-/// What is done with a record of a map that no section can hold any more.
-#[derive(Clone, Copy, Drop)]
-pub enum Reclaim<F> {
-    /// Its entry has another record since the map grew: nothing is done.
-    Moved,
-    /// Its entry left the map, or got another value: this is called with the record. Its first word is the key, and its
-    /// second one the value.
-    Gone(F),
-}
-
-impl<F: Deleter> Deleter for Reclaim<F> {
-    ghost use Rattle.std.specs.Prelude.{◌≡◌};
-    ghost use Rattle.rcu.specs.declared.map.Reclaim.TheVariants.{Gone, Moved};
-
-    // 0 where its entry moved, and else what the inner one answers.
-    ghost answers = { elim [ Moved ↦ λ _ code. code ≡ 0 | Gone f ↦ F.answers f ] };
-
-    fn call(self, ripe: Ripe) -> u64 {
-        match self {
-            Reclaim::Moved => 0,
-            Reclaim::Gone(deleter) => deleter.call(ripe),
-        }
-    }
-}
 
 // This number of callbacks for records whose entries moved.
 fn moved<F: Deleter>(alloc: Global, many: usize) -> Result<Vec<Reclaim<F>>, Refusal>
@@ -64,7 +41,8 @@ pub struct Map<'d, P: GracePlan, B: Site, F: Drop, T: Word> {
     domain: &'d Domain<P, Tabled, B, Reclaim<F>>,
     /// The table of the values' words.
     pub table: RcuHash<'d, P, B, Reclaim<F>>,
-    deleter: F,
+    /// What is called with each entry that leaves it.
+    pub deleter: F,
     value: PhantomData<T>,
 }
 
@@ -90,11 +68,11 @@ impl<'d, P: GracePlan + Drop, B: Site, F: Deleter + Copy, T: Word + Copy + Drop>
         buckets: usize,
         deleter: F,
     ) -> Result<Map<'d, P, B, F, T>, Refusal>
-        ensures made { IfOk result (λ m. m.table.directory ≡ directory) }
+        ensures made { IfOk result (λ m. (m.table.directory ≡ directory) × (m.deleter ≡ deleter)) }
         ensures founded { IfOk result (λ _. Founds P.QSBR tabled directory (W.seen caller.old) (W.heard caller.old) first buckets (W.heard caller.new)) }
         ensures map { IfOk result (λ _. HasNoKeys B.sizes.chains directory first buckets (W.heard caller.new)) }
         ensures later { Begins (W.heard caller.old) (W.heard caller.new) }
-        ensures refused { IfErr result (λ e. (e ≡ BadConfig) ⊎ (e ≡ Memory) ⊎ (e ≡ PoolFull)) }
+        ensures refused { IfErr result (λ e. IsNotMade W.Caller P.QSBR B.sizes caller.old caller.new directory first buckets e) }
     {
         let table = RcuHash::new(rt, alloc, domain, caller, directory, first, buckets)?;
         Ok(Map {
@@ -134,8 +112,9 @@ impl<'d, P: GracePlan + Drop, B: Site, F: Deleter + Copy, T: Word + Copy + Drop>
         key: u64,
         value: T,
     ) -> Result<(), Refusal>
-        ensures set { IfOk result (λ _. GivesWord W.Caller P.QSBR B.sizes.chains B.sizes.queues self.now.table.directory caller.old caller.new key (Some (T.packed value))) }
+        ensures set { IfOk result (λ _. ChangesKey W.Caller P.QSBR B.sizes self.now.table.directory caller.old caller.new key (Some (T.packed value)) F.row self.now.deleter) }
         ensures refused { IfErr result (λ e. (e ≡ PoolFull) ⊎ (e ≡ Closed) ⊎ (e ≡ Memory)) }
+        ensures why { IfErr result (λ e. IsNotSet W.Caller P.QSBR B.sizes self.now.table.directory caller.old caller.new key e) }
     {
         let word = value.pack();
         for _ in rt.forever() {
@@ -165,7 +144,7 @@ impl<'d, P: GracePlan + Drop, B: Site, F: Deleter + Copy, T: Word + Copy + Drop>
         caller: &mut W,
         key: u64,
     ) -> Result<(), Refusal>
-        ensures removed { IfOk result (λ _. GivesWord W.Caller P.QSBR B.sizes.chains B.sizes.queues self.now.table.directory caller.old caller.new key None) }
+        ensures removed { IfOk result (λ _. ChangesKey W.Caller P.QSBR B.sizes self.now.table.directory caller.old caller.new key None F.row self.now.deleter) }
         ensures refused { IfErr result (λ e. RefusesRemovalThrough W.Caller P.QSBR tabled B.sizes caller.old caller.new e self.now.table.directory key) }
     {
         match self

@@ -4,6 +4,7 @@ ghost use Rattle.std.specs.Prelude.{◌≡◌, ◌≤◌, ◌^◌, ◌↔◌, If
 ghost use Rattle.rcu_model.specs.declared.refusal.Refusal.TheVariants.{Exhausted};
 ghost use Rattle.live_log.specs.Log.{Begins, HaveEnded, seq_of};
 ghost use Rattle.rcu_hash.specs.live_read.Hearing.{FindsNothing, IsAfter};
+ghost use Rattle.rcu.specs.Logs.{log_set};
 
 use gp_memb::GracePlan;
 use rcu_hash::{Caller, ChainRule, Deleter, Domain, Handle, LiveCookie, Site};
@@ -40,7 +41,7 @@ pub struct PendingOf<C: Asked, W: Heard, T> {
     pub(crate) cookie: C,
     pub(crate) handle: W,
     pub(crate) value: T,
-    pub(crate) ghost knows: { C.asked cookie ≡ W.heard handle },
+    pub(crate) ghost knows: { C.asked cookie ≡ W.heard handle } by { log_set (C.asked cookie) (W.heard handle) },
 }
 
 /// A value that only a grace period opens: then no section that was open at its making has it any more. Whoever opens

@@ -4,7 +4,7 @@ ghost use Rattle.std.specs.Prelude.{◌≡◌, ◌⊎◌, ◌<◌, ◌≤◌, If
 ghost use Rattle.rcu_model.specs.declared.refusal.Refusal.TheVariants.{Busy, Closed, Memory, NoPlace, PoolFull};
 ghost use Rattle.rcu_hash.specs.live_read.Hearing.{IsAfter, Stays};
 ghost use Rattle.rcu_hash.specs.live_read.Reads.{Looks};
-ghost use Rattle.rcu.specs.Slots.{FindsValue, PushesValue, any_change, ReplacesValueIn};
+ghost use Rattle.rcu.specs.Slots.{FindsValue, IsNotPut, IsNotPutLater, PushesValue, any_change, ReplacesValueIn};
 
 use crate::words::Words;
 use crossbeam_utils::Backoff;
@@ -79,8 +79,9 @@ impl<'d, P: GracePlan + Drop, B: Site, D: Deleter, T: Words + Copy + Drop> Slot<
         callback: D,
     ) -> Result<Option<Ticket>, (Refusal, D)>
         ensures pushed { IfOk result (λ found. IfNone found (PushesValue W.Caller P.QSBR caller.old caller.new self.now.chain (T.packed value))) }
-        ensures replaced { IfOk result (λ found. IfSome found (λ t. ReplacesValueIn W.Caller P.QSBR caller.old caller.new B.sizes self.now.chain (T.packed value) t.0)) }
+        ensures replaced { IfOk result (λ found. IfSome found (λ t. ReplacesValueIn W.Caller P.QSBR caller.old caller.new B.sizes self.now.chain (T.packed value) t.0 D.row callback)) }
         ensures refused { IfErr result (λ e. (e.0 ≡ Busy) ⊎ (e.0 ≡ PoolFull) ⊎ (e.0 ≡ Closed) ⊎ (e.0 ≡ Memory)) }
+        ensures why { IfErr result (λ e. IsNotPut W.Caller P.QSBR caller.old caller.new B.sizes self.now.chain e.0) }
         ensures back { IfErr result (λ e. (e.1 ≡ callback) × Stays W.Caller caller.old caller.new) }
         ensures heard { IfErr result (λ _. IsAfter P.QSBR any_change (W.seen caller.old) (W.heard caller.old) (W.heard caller.new)) }
     {
@@ -118,8 +119,9 @@ impl<'d, P: GracePlan + Drop, B: Site, D: Deleter, T: Words + Copy + Drop> Slot<
         callback: D,
     ) -> Result<Option<Ticket>, (Refusal, D)>
         ensures pushed { IfOk result (λ found. IfNone found (PushesValue W.Caller P.QSBR caller.old caller.new self.now.chain (T.packed value))) }
-        ensures replaced { IfOk result (λ found. IfSome found (λ t. ReplacesValueIn W.Caller P.QSBR caller.old caller.new B.sizes self.now.chain (T.packed value) t.0)) }
+        ensures replaced { IfOk result (λ found. IfSome found (λ t. ReplacesValueIn W.Caller P.QSBR caller.old caller.new B.sizes self.now.chain (T.packed value) t.0 D.row callback)) }
         ensures refused { IfErr result (λ e. (e.0 ≡ Closed) ⊎ (e.0 ≡ Memory)) }
+        ensures why { IfErr result (λ e. IsNotPutLater W.Caller P.QSBR caller.old caller.new B.sizes self.now.chain e.0) }
         ensures back { IfErr result (λ e. (e.1 ≡ callback) × Stays W.Caller caller.old caller.new) }
     {
         let backoff = Backoff::new();

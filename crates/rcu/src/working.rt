@@ -1,8 +1,10 @@
 //! A worker that goes on until its domain is closed.
 
-ghost use Rattle.std.specs.Prelude.{◌≡◌, ℕ, IfOk};
+ghost use Rattle.std.specs.Prelude.{◌≡◌, ℕ, IfErr, IfOk};
 ghost use Rattle.live_log.specs.Log.{HaveRun};
+ghost use Rattle.rcu_hash.specs.live_read.Hearing.{Stays};
 ghost use Rattle.rcu_hash.specs.live_reclaim.Working.{IsEmptied};
+ghost use Rattle.rcu.specs.Serving.{IsNotServed};
 
 use gp_memb::GracePlan;
 use rcu_hash::{Caller, ChainRule, Deleter, Domain, Site, Stop};
@@ -26,6 +28,8 @@ pub fn work<P: GracePlan + Drop, K: ChainRule, B: Site, D: Deleter, W: Caller<B>
     queue: usize,
 ) -> Result<u64, Refusal>
     ensures run { IfOk result (λ _. (all : ℕ) × IsEmptied queue all (W.heard caller.new) × HaveRun queue all (W.heard caller.new)) }
+    ensures refused { IfErr result (λ e. IsNotServed W.Caller B.sizes queue caller.old caller.new e) }
+    ensures same { Stays W.Caller caller.old caller.new }
 {
     let mut reclaimed = 0u64;
     for _ in rt.forever() {

@@ -1,4 +1,5 @@
 -- What an earlier directory left is free once a grace period has been waited for, and no part of the table's map.
+use base.Stored.{Gv}
 use Rattle.std.proofs.Common.{Bool, ◌≡◌, ◌≢◌, ◌⊎◌, ℕ, ◌+◌, ◌%◌, ◌<◌, ◌≤◌, List, [], ◌∷◌, ◌++◌, append_assoc, Some, length, map, take, suc, zero, slice_get, slice_index_or, refl, sym, ap, ◌∙◌, subst, inl, inr, ⊎_elim, arith}
 use Rattle.std.specs.Prelude.{Option, None, IfSome, Result, Ok, Err, IfOk, IfErr}
 use Rattle.std.proofs.Math.Logic.{∥∥₁_elim, ∥∥₁_map, ∥∥₁_map₂}
@@ -179,9 +180,9 @@ module _ {W S : Type 0} (w : Ghosts W S) where
   stays_none a = (refl, refl, λ h. h, refl)
 
 -- a retirement is heard of after what came before it
-pub queued_later : (qsbr : Bool) (allows : Log → LiveEvent → Type 0) (at : Log → Type 0) (o : ObjectId) (queue given : ℕ) (known log : Log) (r : Queues qsbr allows at o queue given log) → Begins known r.before → Begins known log
-queued_later qsbr allows at o queue given known log r b =
-    begins_trans known r.within log (begins_trans known (Object (Retire o) ∷ r.before) r.within (begins_trans known r.before (Object (Retire o) ∷ r.before) b (Object (Retire o) ∷ [], refl)) r.retired) (Object (Queue o queue) ∷ [], r.wrote)
+pub queued_later : (qsbr : Bool) (allows : Log → LiveEvent → Type 0) (at : Log → Type 0) (o : ObjectId) (queue given : ℕ) (callback : Gv) (known log : Log) (r : Queues qsbr allows at o queue given callback log) → Begins known r.before → Begins known log
+queued_later qsbr allows at o queue given callback known log r b =
+    begins_trans known r.within log (begins_trans known (Object (Retire o) ∷ r.before) r.within (begins_trans known r.before (Object (Retire o) ∷ r.before) b (Object (Retire o) ∷ [], refl)) r.retired) (Object (Queue o queue r.id) ∷ [], r.wrote)
 
 module _ (qsbr : Bool) (allows : Log → LiveEvent → Type 0) where
   abbrev pub writes_weaker : (seen known heard : Log) (e : LiveEvent) (log : Log) → Begins known heard → Writes qsbr allows seen heard e log → Writes qsbr allows seen known e log
@@ -192,8 +193,8 @@ module _ (qsbr : Bool) (allows : Log → LiveEvent → Type 0) where
 
 module _ (qsbr : Bool) (allows : Log → LiveEvent → Type 0) (sizes : Sizes) (d : ℕ) (seen : Log) where
   does_weaker : (known heard log : Log) (k : Kind) → Begins known heard → Does qsbr allows sizes d seen heard k log → Does qsbr allows sizes d seen known k log
-  does_weaker known heard log Cuts b r = record { chain = r.chain; object = r.object; ticket = r.ticket; published = r.published; leaves = leaves_weaker qsbr allows sizes.chains d seen known heard (Object (Cut r.chain r.object)) r.published b r.leaves; noted = r.noted; hands = r.hands }
-  does_weaker known heard log Retires b r = record { object = r.object; given = r.given; queued = let q = r.queued in record { before = q.before; at = (q.at.0, begins_trans known heard q.before b q.at.1, q.at.2); within = q.within; retired = q.retired; wrote = q.wrote; last = q.last; run = q.run } }
+  does_weaker known heard log Cuts b r = record { chain = r.chain; object = r.object; ticket = r.ticket; callback = r.callback; published = r.published; leaves = leaves_weaker qsbr allows sizes.chains d seen known heard (Object (Cut r.chain r.object)) r.published b r.leaves; noted = r.noted; hands = r.hands }
+  does_weaker known heard log Retires b r = record { object = r.object; given = r.given; callback = r.callback; queued = let q = r.queued in record { before = q.before; at = (q.at.0, begins_trans known heard q.before b q.at.1, q.at.2); within = q.within; retired = q.retired; id = q.id; is = q.is; wrote = q.wrote; last = q.last; run = q.run } }
   does_weaker known heard log Clears b r = record { chain = r.chain; leaves = leaves_weaker qsbr allows sizes.chains d seen known heard (ChainNote r.chain 0) log b r.leaves; noted = r.noted }
 
   follow_weaker : (known heard log : Log) (ss : List (Kind × Log)) → Begins known heard → Follow qsbr allows sizes d seen heard ss log → Follow qsbr allows sizes d seen known ss log
@@ -216,10 +217,10 @@ module _ (qsbr : Bool) (allows : Log → LiveEvent → Type 0) (sizes : Sizes) (
   pub heard_on : (known heard log : Log) (ss : List (Kind × Log)) → Begins known heard → Follow qsbr allows sizes d seen heard ss log → Begins known log
   heard_on known heard log [] b f = begins_trans known heard log b f
   heard_on known heard log ((Cuts, at) ∷ ss) b f = let r = f.0 in let p = r.leaves.writes in
-      heard_on known at log ss (queued_later qsbr allows (Begins r.published) r.object (r.chain % sizes.queues) r.hands.given known at r.hands.queued
+      heard_on known at log ss (queued_later qsbr allows (Begins r.published) r.object (r.chain % sizes.queues) r.hands.given r.callback known at r.hands.queued
       (begins_trans known r.published r.hands.queued.before (begins_trans known p.before r.published (begins_trans known heard p.before b p.after.1) (_ ∷ [], p.wrote)) r.hands.queued.at)) f.1
   heard_on known heard log ((Retires, at) ∷ ss) b f = let r = f.0 in
-      heard_on known at log ss (queued_later qsbr allows _ r.object (d % sizes.queues) r.given known at r.queued (begins_trans known heard r.queued.before b r.queued.at.1)) f.1
+      heard_on known at log ss (queued_later qsbr allows _ r.object (d % sizes.queues) r.given r.callback known at r.queued (begins_trans known heard r.queued.before b r.queued.at.1)) f.1
   heard_on known heard log ((Clears, at) ∷ ss) b f = let p = f.0.leaves.writes in
       heard_on known at log ss (begins_trans known p.before at (begins_trans known heard p.before b p.after.1) (_ ∷ [], p.wrote)) f.1
 

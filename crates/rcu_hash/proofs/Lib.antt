@@ -17,3 +17,4 @@ pub mod Relinking
 pub mod Taking
 pub mod Tidied
 pub use Rattle.rcu_list.proofs.live_read as live_read
+pub use Rattle.rcu_list.proofs as rcu_list

@@ -1,4 +1,5 @@
 -- What is left of directories that were replaced.
+use base.Stored.{Gv}
 use Rattle.std.proofs.Common.{Bool, ◌≡◌, ◌⊎◌, ⊎_elim, ℕ, ◌+◌, ◌<◌, ◌≤◌, List, [], ◌∷◌, ◌++◌, Option, None, Some, IfNone, IsSome, length, map, option_map, slice_index_or, inl, inr, refl, sym, ap, ◌∙◌, subst, arith}
 use Rattle.std.proofs.Math.Logic.{∥∥₁_map}
 use Rattle.std.proofs.lemmas.Bool.{cases_lt}
@@ -11,7 +12,7 @@ use Rattle.live_log.specs.declared.event.LiveEvent.TheVariants.{ChainNote, Objec
 use Rattle.live_log.specs.declared.event.ObjectEvent.TheVariants.{Push, Queue, Replace, Retire}
 use Rattle.live_log.specs.Log.{Log, Begins, Has, IsLiveRun, note_of, state_of}
 use Rattle.live_log.specs.Tables.{IsDirectory, Names, tabled}
-use Rattle.live_log.proofs.Lemmas.{begins_trans, chain_used, directory_alone, grows_log, has_later, kept_log, linked_between, note_stays, run_of}
+use Rattle.live_log.proofs.Lemmas.{begins_trans, beside, chain_used, directory_alone, gone, has_since, linked_between, note_stays, run_of}
 use Rattle.rcu_list.specs.live_rule.declared.view.View.{View}
 use Rattle.rcu_list.specs.live_items.Retiring.{Queues}
 use Rattle.rcu_list.specs.live_table.Rights.{IsListed, own_in}
@@ -30,29 +31,14 @@ abbrev rest : Log → Log
 rest [] = []
 rest (e ∷ es) = es
 
--- of two beginnings of a log, one begins with the other
-beside : (t s : Log) (x : LiveEvent) (before known : Log) → s ++ x ∷ before ≡ t ++ known → Begins known before ⊎ Begins (x ∷ before) known
-beside [] s x before known is = inr (s, sym is)
-beside (z ∷ t) [] x before known is = inl (t, ap rest is)
-beside (z ∷ t) (y ∷ s) x before known is = beside t s x before known (ap rest is)
-
-pub has_since : (e : LiveEvent) (known log : Log) → Begins known log → Has e known → Has e log
-has_since e known log b has = subst (Has e) (sym b.1) (has_later e b.0 known has)
-
 pub cleared_since : (since known log : Log) (c : ℕ) → Begins known log → WasCleared since c known → WasCleared since c log
 cleared_since since known log c b k = record { at = k.at; after = k.after; before = begins_trans (ChainNote c 0 ∷ k.at) known log k.before b }
 
 -- an object that was queued was retired before
-pub retired_by : (qsbr : Bool) (allows : Log → LiveEvent → Type 0) (at : Log → Type 0) (o : ObjectId) (queue given : ℕ) (log : Log) → Queues qsbr allows at o queue given log → Has (Object (Retire o)) log
-retired_by qsbr allows at o queue given log q = has_since (Object (Retire o)) (Object (Retire o) ∷ q.before) log (begins_trans (Object (Retire o) ∷ q.before) q.within log q.retired (Object (Queue o queue) ∷ [], q.wrote)) (inl refl)
+pub retired_by : (qsbr : Bool) (allows : Log → LiveEvent → Type 0) (at : Log → Type 0) (o : ObjectId) (queue given : ℕ) (callback : Gv) (log : Log) → Queues qsbr allows at o queue given callback log → Has (Object (Retire o)) log
+retired_by qsbr allows at o queue given callback log q = has_since (Object (Retire o)) (Object (Retire o) ∷ q.before) log (begins_trans (Object (Retire o) ∷ q.before) q.within log q.retired (Object (Queue o queue q.id) ∷ [], q.wrote)) (inl refl)
 
 module _ (qsbr : Bool) where
-  -- what was replaced is linked no more
-  gone : (before log : Log) (d c : ℕ) (old new : ObjectId) (cell : ℕ) (payload : List ℕ) → Begins (Object (Replace d old new cell payload) ∷ before) log → IsLiveRun qsbr tabled log → ¬ In ((state_of log).chain c) old
-  gone before log d c old new cell payload b run at =
-      let left : Log = Object (Replace d old new cell payload) ∷ before in
-      (kept_log qsbr tabled log run).linking.linked_not_cut c old at ((grows_log left log b).cut old (inl refl))
-
   -- while a directory stays linked none is replaced in its chain
   module _ (start log : Log) (d : ℕ) (o : ObjectId) (b : Begins start log) (run : IsLiveRun qsbr tabled log) (linked : IsLinked d o start) (still : In ((state_of log).chain d) o) where
     replaced_before : (before : Log) (old new : ObjectId) (cell : ℕ) (payload : List ℕ) → Begins (Object (Replace d old new cell payload) ∷ before) log → Begins (Object (Replace d old new cell payload) ∷ before) start
@@ -66,7 +52,7 @@ module _ (qsbr : Bool) where
         let same = note_stays qsbr tabled start before o later step.1 (chain_used qsbr tabled start d o (run_of qsbr tabled start before later step.1) linked.0) in
         let alone : (state_of before).chain d ≡ o ∷ [] = directory_alone qsbr before d o step.1 here (subst IsDirectory (sym same) linked.1) in
         let one : o ≡ old = ⊎_elim (λ (h : o ≡ old). h) (λ none. absurd none) (subst (λ (l : List ObjectId). In l old) alone there) in
-        absurd (gone before log d d old new cell payload is run (subst (In ((state_of log).chain d)) one still)))
+        absurd (gone qsbr before log d d old new cell payload is run (subst (In ((state_of log).chain d)) one still)))
         (λ (within : Begins left start). within)
         (beside b.0 is.0 (Object (Replace d old new cell payload)) before start (sym is.1 ∙ b.1))
 

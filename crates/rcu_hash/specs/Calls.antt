@@ -1,4 +1,5 @@
 -- What a call of a table tells its caller.
+use base.Stored.{Gv}
 use Rattle.std.specs.Prelude.{◌≡◌, ◌⊎◌, ◌+◌, ◌%◌, Bool, true, false, ℕ, List, length}
 use Rattle.rcu_model.specs.declared.event.ObjectId.{ObjectId}
 use Rattle.rcu_model.specs.declared.refusal.Refusal.{Refusal}
@@ -21,12 +22,12 @@ module _ {W S : Type 0} (w : Ghosts W S) (qsbr : Bool) (sizes : Sizes) (old new 
   IsInsertedThrough key value = (chain : ℕ) × InsertsThrough qsbr tabled sizes.chains d (w.seen old) (w.heard old) key value chain (w.heard new)
 
   -- a key that had a value has this one, and what left the table is retired
-  abbrev pub IsReplacedThrough : (key value ticket : ℕ) → Type 0
-  IsReplacedThrough key value ticket = (chain : ℕ) × (left : ObjectId) × (published : Log) × ReplacesThrough qsbr tabled sizes.chains d (w.seen old) (w.heard old) key value chain left published × HandsOver qsbr tabled left (chain % sizes.queues) ticket published (w.heard new) × MakesLast w old new published
+  abbrev pub IsReplacedThrough : (key value ticket : ℕ) (callback : Gv) → Type 0
+  IsReplacedThrough key value ticket callback = (chain : ℕ) × (left : ObjectId) × (published : Log) × ReplacesThrough qsbr tabled sizes.chains d (w.seen old) (w.heard old) key value chain left published × HandsOver qsbr tabled left (chain % sizes.queues) ticket callback published (w.heard new) × MakesLast w old new published
 
   -- a key that had a value has none, and what left the table is retired
-  abbrev pub IsRemovedThrough : (key ticket : ℕ) → Type 0
-  IsRemovedThrough key ticket = (chain : ℕ) × (left : ObjectId) × (published : Log) × RemovesThrough qsbr tabled sizes.chains d (w.seen old) (w.heard old) key chain left published × HandsOver qsbr tabled left (chain % sizes.queues) ticket published (w.heard new) × MakesLast w old new published
+  abbrev pub IsRemovedThrough : (key ticket : ℕ) (callback : Gv) → Type 0
+  IsRemovedThrough key ticket callback = (chain : ℕ) × (left : ObjectId) × (published : Log) × RemovesThrough qsbr tabled sizes.chains d (w.seen old) (w.heard old) key chain left published × HandsOver qsbr tabled left (chain % sizes.queues) ticket callback published (w.heard new) × MakesLast w old new published
 
   -- another directory, which names these chains, took the place of the old one, which left so many records
   abbrev pub IsGrown : (first buckets left : ℕ) → Type 0

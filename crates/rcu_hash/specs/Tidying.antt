@@ -1,4 +1,5 @@
 -- What a tidying tells of what earlier directories left.
+use base.Stored.{Gv}
 use Rattle.std.specs.Prelude.{◌≡◌, ◌⊎◌, ℕ, ◌+◌, ◌%◌, ◌^◌, ◌<◌, ◌≤◌, ◌∷◌, ◌++◌, Bool, List, [], Option, Some, length}
 use Rattle.std.proofs.Props.{props}
 use Rattle.rcu_model.specs.declared.event.ObjectId.{ObjectId}
@@ -114,16 +115,18 @@ module _ (qsbr : Bool) (allows : Log → LiveEvent → Type 0) (sizes : Sizes) (
       pub chain : ℕ
       pub object : ObjectId
       pub ticket : ℕ
+      pub callback : Gv
       pub published : Log
       pub leaves : LeavesMap qsbr allows sizes.chains d seen heard (Object (Cut chain object)) published
       pub noted : chain_note chain leaves.writes.before ≡ d + 1
-      pub hands : HandsOver qsbr allows object (chain % sizes.queues) ticket published log
+      pub hands : HandsOver qsbr allows object (chain % sizes.queues) ticket callback published log
 
     -- the record of an earlier directory was retired
     pub record RetiresRecord (log : Log) : Type 0 where
       pub object : ObjectId
       pub given : ℕ
-      pub queued : Queues qsbr allows (λ at. Begins seen at × Begins heard at × WasReplaced d object at) object (d % sizes.queues) given log
+      pub callback : Gv
+      pub queued : Queues qsbr allows (λ at. Begins seen at × Begins heard at × WasReplaced d object at) object (d % sizes.queues) given callback log
 
     -- a chain that had the table's note has none any more
     pub record ClearsNote (log : Log) : Type 0 where

@@ -89,7 +89,7 @@ impl<'d, P: GracePlan + Drop, B: Site, D: Deleter> Bucket<'d, P, B, D> {
         callback: D,
     ) -> Result<Ticket, (Refusal, D)>
         requires key { bucket_of self.old.naming.first self.old.naming.buckets key ≡ self.old.chain.number }
-        ensures replaced { IfOk result (λ t. (left : ObjectId) × (published : Log) × ReplacesThrough P.QSBR tabled B.sizes.chains self.old.naming.directory (W.seen caller.old) (W.heard caller.old) key value self.old.chain.number left published × HandsOver P.QSBR tabled left (self.old.chain.number % B.sizes.queues) t.0 published (W.heard caller.new) × MakesLast W.Caller caller.old caller.new published) }
+        ensures replaced { IfOk result (λ t. (left : ObjectId) × (published : Log) × ReplacesThrough P.QSBR tabled B.sizes.chains self.old.naming.directory (W.seen caller.old) (W.heard caller.old) key value self.old.chain.number left published × HandsOver P.QSBR tabled left (self.old.chain.number % B.sizes.queues) t.0 (D.row.coded.code callback) published (W.heard caller.new) × MakesLast W.Caller caller.old caller.new published) }
         ensures heard { IfOk result (λ _. TakesOneRecord W.Caller caller.old caller.new B.sizes) }
         ensures refused { IfErr result (λ e. RefusesReplacementThrough W.Caller P.QSBR tabled B.sizes caller.old caller.new e.0 self.old.naming.directory key) }
         ensures back { IfErr result (λ e. e.1 ≡ callback) }
@@ -124,7 +124,7 @@ impl<'d, P: GracePlan + Drop, B: Site, D: Deleter> Bucket<'d, P, B, D> {
         callback: D,
     ) -> Result<Ticket, (Refusal, D)>
         requires key { bucket_of self.old.naming.first self.old.naming.buckets key ≡ self.old.chain.number }
-        ensures removed { IfOk result (λ t. (left : ObjectId) × (published : Log) × RemovesThrough P.QSBR tabled B.sizes.chains self.old.naming.directory (W.seen caller.old) (W.heard caller.old) key self.old.chain.number left published × HandsOver P.QSBR tabled left (self.old.chain.number % B.sizes.queues) t.0 published (W.heard caller.new) × MakesLast W.Caller caller.old caller.new published) }
+        ensures removed { IfOk result (λ t. (left : ObjectId) × (published : Log) × RemovesThrough P.QSBR tabled B.sizes.chains self.old.naming.directory (W.seen caller.old) (W.heard caller.old) key self.old.chain.number left published × HandsOver P.QSBR tabled left (self.old.chain.number % B.sizes.queues) t.0 (D.row.coded.code callback) published (W.heard caller.new) × MakesLast W.Caller caller.old caller.new published) }
         ensures heard { IfOk result (λ _. (W.looks caller.new ≡ W.looks caller.old) × (W.loads caller.new ≡ W.loads caller.old)) }
         ensures refused { IfErr result (λ e. RefusesRemovalThrough W.Caller P.QSBR tabled B.sizes caller.old caller.new e.0 self.old.naming.directory key) }
         ensures back { IfErr result (λ e. e.1 ≡ callback) }

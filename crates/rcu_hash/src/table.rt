@@ -200,7 +200,7 @@ impl<'d, P: GracePlan + Drop, B: Site, D: Deleter> RcuHash<'d, P, B, D> {
         value: u64,
         callback: D,
     ) -> Result<Ticket, (Refusal, D)>
-        ensures replaced { IfOk result (λ t. IsReplacedThrough W.Caller P.QSBR B.sizes caller.old caller.new self.now.directory key value t.0) }
+        ensures replaced { IfOk result (λ t. IsReplacedThrough W.Caller P.QSBR B.sizes caller.old caller.new self.now.directory key value t.0 (D.row.coded.code callback)) }
         ensures same { IfOk result (λ _. TakesOneRecord W.Caller caller.old caller.new B.sizes) }
         ensures refused { IfErr result (λ e. (e.1 ≡ callback) × RefusesReplacementThrough W.Caller P.QSBR tabled B.sizes caller.old caller.new e.0 self.now.directory key) }
     {
@@ -224,7 +224,7 @@ impl<'d, P: GracePlan + Drop, B: Site, D: Deleter> RcuHash<'d, P, B, D> {
         key: u64,
         callback: D,
     ) -> Result<Ticket, (Refusal, D)>
-        ensures removed { IfOk result (λ t. IsRemovedThrough W.Caller P.QSBR B.sizes caller.old caller.new self.now.directory key t.0) }
+        ensures removed { IfOk result (λ t. IsRemovedThrough W.Caller P.QSBR B.sizes caller.old caller.new self.now.directory key t.0 (D.row.coded.code callback)) }
         ensures same { IfOk result (λ _. (W.looks caller.new ≡ W.looks caller.old) × (W.loads caller.new ≡ W.loads caller.old)) }
         ensures refused { IfErr result (λ e. (e.1 ≡ callback) × RefusesRemovalThrough W.Caller P.QSBR tabled B.sizes caller.old caller.new e.0 self.now.directory key) }
     {

@@ -10,7 +10,7 @@ use Rattle.live_log.specs.declared.event.LiveEvent.TheVariants.{Object}
 use Rattle.live_log.specs.declared.event.ObjectEvent.TheVariants.{Push, Replace, Cut}
 use Rattle.live_log.specs.Keys.{key_of}
 use Rattle.live_log.specs.Log.{Log, Begins, IsLiveRun, note_of, state_of}
-use Rattle.live_log.proofs.Lemmas.{by_object, chain_used, grows_log, not_has, note_stays, run_of}
+use Rattle.live_log.proofs.Lemmas.{chain_used, note_stays, run_of}
 use Rattle.live_log.specs.Maps.{HasMaps}
 use Rattle.rcu_list.specs.Calls.{Inserts, Replaces, Removes}
 use Rattle.rcu_list.specs.Maps.{map_of, next_rank, value_in, value_of, words_of}

@@ -1,5 +1,6 @@
 pub mod Allowing
 pub mod Changing
+pub mod GivingBack
 pub mod Going
 pub mod Lemmas
 pub mod Looking

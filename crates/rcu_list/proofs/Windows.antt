@@ -128,7 +128,7 @@ module _ (qsbr : Bool) (allows : Log → LiveEvent → Type 0) (maps : HasMaps q
   ranked_step (CloseQueue q) log key rank run r = inl (stays_ranked (CloseQueue q) log key rank run r r.has)
   ranked_step (Object (Push d p i w)) log key rank run r = by_cut (Object (Push d p i w)) log key rank run r (λ h. absurd (not_cut log r.object run.1 r.has h))
   ranked_step (Object (Retire p)) log key rank run r = inl (stays_ranked (Object (Retire p)) log key rank run r r.has)
-  ranked_step (Object (Queue p q)) log key rank run r = inl (stays_ranked (Object (Queue p q)) log key rank run r r.has)
+  ranked_step (Object (Queue p q n)) log key rank run r = inl (stays_ranked (Object (Queue p q n)) log key rank run r r.has)
   ranked_step (Object (Run p)) log key rank run r = inl (stays_ranked (Object (Run p)) log key rank run r r.has)
   ranked_step (Object (Replace d p m i w)) log key rank run r = by_cut (Object (Replace d p m i w)) log key rank run r
       (⊎_elim (λ (e : p ≡ r.object). came e) (λ (h : In (state_of log).cut r.object). absurd (not_cut log r.object run.1 r.has h)))

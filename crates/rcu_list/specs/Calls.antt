@@ -1,4 +1,5 @@
 -- What an accepted call of a list's writer tells.
+use base.Stored.{Gv}
 use Rattle.std.specs.Prelude.{◌≡◌, ◌+◌, ◌%◌, [], ◌∷◌, ◌<◌, ◌^◌, Bool, ℕ, Option, Some, None}
 use Rattle.atomic_table.specs.declared.shared.Seat.{Seat}
 use Rattle.rcu_model.specs.declared.event.ObjectId.{ObjectId}
@@ -56,11 +57,12 @@ module _ (qsbr : Bool) (allows : Log → LiveEvent → Type 0) (c : ℕ) (known 
     pub had : ℕ
     pub changes : Changes (Object (Cut c left)) key (Some had) None log
 
--- the object that left the list in one log was retired after that, and queued with the ticket
-pub record HandsOver (qsbr : Bool) (allows : Log → LiveEvent → Type 0) (left : ObjectId) (queue ticket : ℕ) (published log : Log) : Type 0 where
+-- the object that left the list in one log was retired after that, and queued with the ticket and the callback of this
+-- code
+pub record HandsOver (qsbr : Bool) (allows : Log → LiveEvent → Type 0) (left : ObjectId) (queue ticket : ℕ) (callback : Gv) (published log : Log) : Type 0 where
   pub given : ℕ
   pub turn : ticket ≡ given + 1
-  pub queued : Queues qsbr allows (Begins published) left queue given log
+  pub queued : Queues qsbr allows (Begins published) left queue given callback log
 
 -- by the seat of the list's writer, before and after
 module _ {T W S : Type 0} (w : Ghosts W S) (qsbr : Bool) (allows : Log → LiveEvent → Type 0) (sizes : Sizes) (old new : W) (c : ℕ) (before after : Seat T View) where
@@ -69,12 +71,12 @@ module _ {T W S : Type 0} (w : Ghosts W S) (qsbr : Bool) (allows : Log → LiveE
   IsInserted key value = Inserts qsbr allows c before.me.0.seen (w.seen old) (w.heard old) key value after.me.0.seen × (w.heard new ≡ after.me.0.seen)
 
   -- a key that had a value has this one, and what left the list is retired
-  abbrev pub IsReplaced : ℕ → ℕ → ℕ → Type 0
-  IsReplaced key value ticket = (left : ObjectId) × Replaces qsbr allows c before.me.0.seen (w.seen old) (w.heard old) key value left after.me.0.seen × HandsOver qsbr allows left (c % sizes.queues) ticket after.me.0.seen (w.heard new)
+  abbrev pub IsReplaced : (key value ticket : ℕ) (callback : Gv) → Type 0
+  IsReplaced key value ticket callback = (left : ObjectId) × Replaces qsbr allows c before.me.0.seen (w.seen old) (w.heard old) key value left after.me.0.seen × HandsOver qsbr allows left (c % sizes.queues) ticket callback after.me.0.seen (w.heard new)
 
   -- a key that had a value has none, and what left the list is retired
-  abbrev pub IsRemoved : ℕ → ℕ → Type 0
-  IsRemoved key ticket = (left : ObjectId) × Removes qsbr allows c before.me.0.seen (w.seen old) (w.heard old) key left after.me.0.seen × HandsOver qsbr allows left (c % sizes.queues) ticket after.me.0.seen (w.heard new)
+  abbrev pub IsRemoved : (key ticket : ℕ) (callback : Gv) → Type 0
+  IsRemoved key ticket callback = (left : ObjectId) × Removes qsbr allows c before.me.0.seen (w.seen old) (w.heard old) key left after.me.0.seen × HandsOver qsbr allows left (c % sizes.queues) ticket callback after.me.0.seen (w.heard new)
 
 module _ {W S : Type 0} (w : Ghosts W S) (old new : W) where
   -- one record was taken for the caller, and nothing loaded but what tells that

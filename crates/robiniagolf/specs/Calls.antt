@@ -6,6 +6,7 @@ use Rattle.gp_memb.specs.Memb.{memb_action, memb_turn}
 use Rattle.gp_qsbr.specs.Qsbr.{qsbr_action, qsbr_turn}
 use Rattle.live_log.specs.contracts.chain_rule.AnyChainChainRule.TheImpl.{ghosts}
 use Rattle.live_log.specs.Log.{IsLiveRun, seq_of}
+use Rattle.live_log.specs.declared.callback_id.CallbackId.{CallbackId}
 use Rattle.live_words.specs.live_rule.declared.view.View.{View}
 use Rattle.live_words.specs.live_rule.Steps.{Precedes}
 use Rattle.live_words.specs.live_groups.Groups.{IsClaimed}
@@ -22,7 +23,7 @@ use Rattle.held_values.specs.declared.MembReader.{MembReader}
 use Rattle.held_values.specs.declared.QsbrReader.{QsbrReader}
 
 abbrev LiveSeat : Type 0
-LiveSeat = Seat (Unit {0}) View
+LiveSeat = Seat CallbackId View
 
 -- a handle keeps something, of which this is so
 abbrev pub Keeps : {A : Type 0} → (A → Type 0) → Option A → Type 0

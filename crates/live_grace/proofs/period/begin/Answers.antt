@@ -4,6 +4,7 @@ use Rattle.reader_word.specs.declared.layout.Layout.TheVariants.{Wide}
 use Rattle.gp_memb.specs.declared.plan.Action.TheVariants.{StoreSeq}
 use Rattle.gp_memb.specs.Plan.{present_after}
 use Rattle.atomic_table.specs.Table.{Me}
+use Rattle.live_log.specs.declared.callback_id.CallbackId.{CallbackId}
 use Rattle.live_words.specs.live_rule.declared.view.View.{View}
 use Rattle.live_log.specs.Log.{before_odd}
 use Rattle.live_log.specs.declared.event.LiveEvent.TheVariants.{SeqOdd}
@@ -51,7 +52,7 @@ returns-clause-going g c = let p = g.P.GracePlan in let m = g.met.P.GracePlan in
     let present = m.begins Wide true slots seq number start begun (may_start p.QSBR seq number c.requires.right.3) in
     let same = sym (m.presents start 0 ∙ (ap (present_after (p.present start)) order.first ∙ present)) in
     let wrote = c.store_odd.ensures.began.1 in
-    let mark : before_in new.0.grace ≡ wrote.0 = ap (λ (z : Me Unit View). before_in z.0.grace) graced.0 ∙ ap before_odd wrote.1 in
+    let mark : before_in new.0.grace ≡ wrote.0 = ap (λ (z : Me CallbackId View). before_in z.0.grace) graced.0 ∙ ap before_odd wrote.1 in
     let told = told_first p.action p.taken seq start order (before_in new.0.grace) new.0.seen ([], wrote.0, wrote.1, ([], sym mark)) in
     subst (λ plan. InLoop (p.is_begun Wide true slots seq number) p.action p.taken p.present seq p.QSBR g.K.ChainRule.allows c.args.seat.now.me number plan new) (sym c.take.ensures.taken)
     (in_loop (p.is_begun Wide true slots seq number) p.action p.taken p.present seq p.QSBR g.K.ChainRule.allows c.args.seat.now.me number number [] (p.taken start 0) new go

@@ -10,6 +10,7 @@ use Rattle.gp_memb.specs.declared.plan.Turn.{Turn}
 use Rattle.gp_memb.specs.declared.plan.Turn.TheVariants.{Step, Wait}
 use Rattle.gp_memb.specs.Plan.{present_after}
 use Rattle.atomic_table.specs.Table.{Me}
+use Rattle.live_log.specs.declared.callback_id.CallbackId.{CallbackId}
 use Rattle.live_words.specs.live_rule.declared.view.View.{View}
 use Rattle.live_log.specs.Log.{Log, IsBound, MayBePresent}
 use Rattle.live_log.specs.declared.event.LiveEvent.TheVariants.{SeqOdd, SeqEven, Present}
@@ -34,15 +35,15 @@ laws : (g : given.Over) (slots seq number : ℕ) → Laws (g.P.GracePlan.is_begu
 laws g slots seq number = record { order = λ start begun. g.met.P.GracePlan.order Wide true slots seq number start begun; presents = g.met.P.GracePlan.presents }
 
 -- where the grace period stands
-abbrev Stands : (g : given.Over) → Me Unit View → ℕ → ℕ → ℕ → Me Unit View → g.row.P.Denot → Type 0
+abbrev Stands : (g : given.Over) → Me CallbackId View → ℕ → ℕ → ℕ → Me CallbackId View → g.row.P.Denot → Type 0
 Stands g old slots seq number now plan = let p = g.P.GracePlan in
     InLoop (p.is_begun Wide true slots seq number) p.action p.taken p.present seq p.QSBR g.K.ChainRule.allows old number plan now
 
-stands_at : (g : given.Over) (old : Me Unit View) (slots seq number : ℕ) (now : Me Unit View) (plan told : g.row.P.Denot) → told ≡ plan → Stands g old slots seq number now plan → Stands g old slots seq number now told
+stands_at : (g : given.Over) (old : Me CallbackId View) (slots seq number : ℕ) (now : Me CallbackId View) (plan told : g.row.P.Denot) → told ≡ plan → Stands g old slots seq number now plan → Stands g old slots seq number now told
 stands_at g old slots seq number now plan told is = subst (Stands g old slots seq number now) (sym is)
 
 -- a slot that the plan loads is one of the table's
-low_by : (g : given.Over) (slots seq number slot : ℕ) (now : Me Unit View) (plan : g.row.P.Denot) → ∥ ((old : Me Unit View) × Stands g old slots seq number now plan) ∥₁ → g.P.GracePlan.action plan ≡ Load slot → slot < slots
+low_by : (g : given.Over) (slots seq number slot : ℕ) (now : Me CallbackId View) (plan : g.row.P.Denot) → ∥ ((old : Me CallbackId View) × Stands g old slots seq number now plan) ∥₁ → g.P.GracePlan.action plan ≡ Load slot → slot < slots
 low_by g slots seq number slot now plan going does = ∥∥₁_elim going le_prop (λ z. let b = z.1.1 in
     g.met.P.GracePlan.in_range Wide true slots seq number b.start b.begun (0 ∷ b.told.words) slot (ap g.P.GracePlan.action (sym b.told.is) ∙ does))
 
@@ -53,14 +54,14 @@ load_slot-word-requires-clause-seat g c = (
 )
 
 -- a word that the plan asked for was loaded, and the plan told of it
-look_on : (g : given.Over) (slots seq number place word : ℕ) (old now new : Me Unit View) (plan told : g.row.P.Denot) (a : Action)
+look_on : (g : given.Over) (slots seq number place word : ℕ) (old now new : Me CallbackId View) (plan told : g.row.P.Denot) (a : Action)
     → let p = g.P.GracePlan in Stands g old slots seq number now plan → p.action plan ≡ a → Loads a place → told ≡ p.taken plan word
     → GraceBecomes p.QSBR g.K.ChainRule.allows (Works (seq_in now.0.grace) (present_in now.0.grace) (before_in now.0.grace) ((place, word) ∷ looks_in now.0.grace)) [] now new
     → Stands g old slots seq number new told
 look_on g slots seq number place word old now new plan told a inv does loads is looked = let p = g.P.GracePlan in let allows = g.K.ChainRule.allows in
     let begins = p.is_begun Wide true slots seq number in let looks = looks_in now.0.grace in let go = inv.0 in let taken = p.taken plan word in
     let after = after_look begins p.action p.taken p.present seq (laws g slots seq number) plan taken looks (before_in now.0.grace) now.0.seen new.0.seen inv.1 a place word does loads refl (λ es h. gained_more p.QSBR allows [] es (before_in now.0.grace) now.0 new.0.seen looked.1 h) in
-    let mark : before_in new.0.grace ≡ before_in now.0.grace = ap (λ (z : Me Unit View). before_in z.0.grace) looked.0 in
+    let mark : before_in new.0.grace ≡ before_in now.0.grace = ap (λ (z : Me CallbackId View). before_in z.0.grace) looked.0 in
     stands_at g old slots seq number new taken told is (
     in_loop begins p.action p.taken p.present seq p.QSBR allows old number (p.present plan) ((place, word) ∷ looks) taken new
     (goes_on p.QSBR allows old (seq + 1) number (p.present plan) (p.present plan) looks ((place, word) ∷ looks) _ [] now new go
@@ -108,7 +109,7 @@ returns-in-StorePhase-clause-going g c = λ old more inv. let p = g.P.GracePlan 
     let does = (sym c.next.ensures ∙ c.in-StorePhase.is) in
     let after = after_store begins p.action p.taken p.present seq (laws g slots seq number) plan (p.taken plan 0) (looks_in now.0.grace) (before_in now.0.grace) now.0.seen new.0.seen b value does refl
     (λ es h. gained_more p.QSBR g.K.ChainRule.allows (Present value ∷ []) es (before_in now.0.grace) now.0 new.0.seen c.store_present.ensures.presented.1 h) in
-    let mark : before_in new.0.grace ≡ before_in now.0.grace = ap (λ (z : Me Unit View). before_in z.0.grace) c.store_present.ensures.presented.0 in
+    let mark : before_in new.0.grace ≡ before_in now.0.grace = ap (λ (z : Me CallbackId View). before_in z.0.grace) c.store_present.ensures.presented.0 in
     stands_at g old slots seq number new (p.taken plan 0) c.take-in-StorePhase.new.self c.take-in-StorePhase.ensures.taken (
     in_loop begins p.action p.taken p.present seq p.QSBR g.K.ChainRule.allows old number value (looks_in now.0.grace) (p.taken plan 0) new
     (goes_on p.QSBR g.K.ChainRule.allows old (seq + 1) number (p.present plan) value (looks_in now.0.grace) (looks_in now.0.grace) _ (Present value ∷ []) now new go
@@ -120,7 +121,7 @@ even_of : (g : given.Over) (slots seq number value : ℕ) (plan : g.row.P.Denot)
 even_of g slots seq number value plan looks b does = even_is g.P.GracePlan.action g.P.GracePlan.taken seq b.start ((laws g slots seq number).order b.start b.begun) plan looks b.told value does
 
 -- what is stored
-even_by : (g : given.Over) (slots seq number value : ℕ) (now : Me Unit View) (plan : g.row.P.Denot) → ∥ ((old : Me Unit View) × Stands g old slots seq number now plan) ∥₁ → g.P.GracePlan.action plan ≡ StoreSeq value → value ≡ seq + 2
+even_by : (g : given.Over) (slots seq number value : ℕ) (now : Me CallbackId View) (plan : g.row.P.Denot) → ∥ ((old : Me CallbackId View) × Stands g old slots seq number now plan) ∥₁ → g.P.GracePlan.action plan ≡ StoreSeq value → value ≡ seq + 2
 even_by g slots seq number value now plan going does = ∥∥₁_elim going (ℕ_set value (seq + 2)) (λ z. let inv = z.1 in even_of g slots seq number value plan (looks_in now.0.grace) inv.1 does)
 
 even : (g : given.Over) (c : goal.After-store_even-arg-1 g) → c.in-StoreSeq.value ≡ c.args.seq + 2
@@ -207,7 +208,7 @@ returns-in-Load-clause-turned g c = let p = g.P.GracePlan in let plan = c.args.p
       moved = λ more. (
         c.take.ensures.taken,
         logged_at (Load c.in-Load.slot) (slot_at c.in-Load.slot) word c.args.seat.now.me.0.grace c.load_slot-word.new.seat.me.0.grace (p.action plan) refl
-            (ap (λ (z : Me Unit View). looks_in z.0.grace) c.load_slot-word.ensures.looked.0) does,
+            (ap (λ (z : Me CallbackId View). looks_in z.0.grace) c.load_slot-word.ensures.looked.0) does,
       );
     }
 
@@ -219,7 +220,7 @@ returns-in-LoadGroup-clause-turned g c = let p = g.P.GracePlan in let plan = c.a
       moved = λ more. (
         c.take-in-LoadGroup.ensures.taken,
         logged_at (LoadGroup c.in-LoadGroup.group) (group_at c.in-LoadGroup.group) word c.args.seat.now.me.0.grace c.load_group-word.new.seat.me.0.grace (p.action plan) refl
-            (ap (λ (z : Me Unit View). looks_in z.0.grace) c.load_group-word.ensures.looked.0) does,
+            (ap (λ (z : Me CallbackId View). looks_in z.0.grace) c.load_group-word.ensures.looked.0) does,
       );
     }
 

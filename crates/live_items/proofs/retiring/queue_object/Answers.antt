@@ -34,21 +34,23 @@ returns-clause-queued g c =
     let heard : Begins third.seen within = subst (λ (l : Log). Begins l within) (ap (λ (z : View). z.heard) taken) queued.2.3 in
     let at_retire : Begins (Object (Retire (object_in second.object)) ∷ before) within = subst (λ (l : Log). Begins l within) retired.2.1 heard in
     let cut = ap (λ z. z.0.seen) c.cut_object.ensures.2 in
-    let told : Queues qsbr allows (Precedes first) o c.args.queue c.args.given log = record {
+    let told : Queues qsbr allows (Precedes first) o c.args.queue c.args.given c.args.callback.now.code log = record {
       before = before;
       at = (begins_trans first.seen second.seen before looked.2.0 retired.2.2, begins_trans first.heard second.seen before looked.2.1 retired.2.2);
       within = within;
       retired = subst (λ (p : ObjectId). Begins (Object (Retire p) ∷ before) within) kept at_retire;
-      wrote = queued.2.1 ∙ (λ i. Object (Queue (same i) (queue i)) ∷ within);
+      id = c.args.callback.now;
+      is = refl;
+      wrote = queued.2.1 ∙ (λ i. Object (Queue (same i) (queue i) c.args.callback.now) ∷ within);
       last = subst (λ (n : ℕ). IsLast c.args.queue n o log) given (subst (λ (p : ObjectId). IsLast c.args.queue (queued_in joined.queue) p log) same c.store_queued.ensures.last);
       run = queued.2.4;
     } in
-    (subst (Queues qsbr allows (Precedes first) o c.args.queue c.args.given) (sym cut) told, ap (λ z. z.0.seen) c.cut_object.ensures.4 ∙ sym cut)
+    (subst (Queues qsbr allows (Precedes first) o c.args.queue c.args.given c.args.callback.now.code) (sym cut) told, ap (λ z. z.0.seen) c.cut_object.ensures.4 ∙ sym cut)
 
 pub returns-clause-later : goal.returns-clause-later
 returns-clause-later g c =
     let taken = ap (λ z. z.0.seen) c.take_object.ensures.2 in
     let queued = c.store_queued.ensures.queued in
-    let event = Object (Queue (object_in c.take_object.new.seat.me.0.object) (queue_in c.take_object.new.seat.me.0.queue)) in
+    let event = Object (Queue (object_in c.take_object.new.seat.me.0.object) (queue_in c.take_object.new.seat.me.0.queue) c.args.callback.now) in
     let within : Begins c.args.lock.now.me.0.seen queued.2.0 = subst (λ (l : Log). Begins l queued.2.0) taken queued.2.2 in
     subst (Begins c.args.lock.now.me.0.seen) (sym queued.2.1 ∙ sym (ap (λ z. z.0.seen) c.cut_object.ensures.2)) (begins_trans c.args.lock.now.me.0.seen queued.2.0 (event ∷ queued.2.0) within (event ∷ [], refl))

@@ -1,6 +1,6 @@
 use Rattle.std.proofs.Common.{◌≡◌, [], ◌∷◌, refl, sym, ap, ◌∙◌, subst, inr, arith}
 use Rattle.live_log.specs.Log.{Log, Begins}
-use Rattle.live_log.proofs.Lemmas.{begins_trans}
+use Rattle.live_log.proofs.Lemmas.{begins_trans, has_since}
 use Rattle.live_words.specs.live_rule.declared.view.View.{View}
 use Rattle.live_words.specs.live_rule.declared.rights.WorkRight.{WorkRight}
 use Rattle.live_words.specs.live_table.Rights.{finished_in, work_in}
@@ -71,9 +71,10 @@ returns-clause-run g c =
     let last : Log = c.store_finished.new.seat.me.0.seen in
     let heard : Begins log last = c.store_finished.ensures.finished.2.1 in
     let on : Begins was log = subst (Begins was) (sym ran.wrote) (begins_trans was ran.before (_ ∷ ran.before) ran.after_job (_ ∷ [], refl)) in
+    let mine = c.run-deleter.ensures.queued ∙ ap g.row.D.coded.code c.run-deleter.ensures.callback in
     record {
       ticket = refl;
       turn = stands_later was last c.args.queue c.args.finished c.args.item.object (begins_trans was log last on heard) placed.turn;
       run = has_run ran.before log last c.args.item.object ran.wrote heard;
-      called = (c.args.item.job.2, (returns-clause-called g c).1);
+      called = (c.args.item.job.2, (placed.noted.0, placed.noted.1 ∙ mine, has_since _ was last (begins_trans was log last on heard) placed.noted.2), (returns-clause-called g c).1);
     }

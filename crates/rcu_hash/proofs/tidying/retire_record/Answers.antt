@@ -33,11 +33,14 @@ returns-in-Ok-clause-uses g c d its =
     uses_one g.P.GracePlan.QSBR tabled g.B.Site.sizes d (w.seen w0) w w0 w2 c.args.jobs.now.items c.pop.new.self.items c.in-Some-pop.job (w.heard w0) (w.heard w2) Retires refl (none_made w w0 w2 c.in-Ok.ensures.same.0.0) c.in-Some-pop.ensures.items (record {
       object = object_in u.seat.me.0.object;
       given = r.0;
-      queued = subst (λ (x : ℕ). Queues g.P.GracePlan.QSBR tabled (λ (at : Log). Begins (w.seen w0) at × Begins (w.heard w0) at × WasReplaced d (object_in u.seat.me.0.object) at) (object_in u.seat.me.0.object) (x % g.B.Site.sizes.queues) r.0 (w.heard w2)) mine.0 (record {
+      callback = g.row.D.coded.code c.in-Some-pop.job;
+      queued = subst (λ (x : ℕ). Queues g.P.GracePlan.QSBR tabled (λ (at : Log). Begins (w.seen w0) at × Begins (w.heard w0) at × WasReplaced d (object_in u.seat.me.0.object) at) (object_in u.seat.me.0.object) (x % g.B.Site.sizes.queues) r.0 (g.row.D.coded.code c.in-Some-pop.job) (w.heard w2)) mine.0 (record {
         before = k.before;
         at = (k.at.1, k.at.2, replaced_later d (object_in u.seat.me.0.object) u.seat.me.0.seen k.before k.at.0 mine.1);
         within = k.within;
         retired = k.retired;
+        id = k.id;
+        is = k.is;
         wrote = k.wrote;
         last = k.last;
         run = k.run;
@@ -47,7 +50,7 @@ returns-in-Ok-clause-uses g c d its =
 pub returns-in-Ok-clause-heard : goal.returns-in-Ok-clause-heard
 returns-in-Ok-clause-heard g c =
     let w = g.W.Caller in let w0 = c.args.caller.now in let w2 = c.retire.new.caller in let u = c.in-Some.unlinked in let r = c.in-Ok.ensures.queued in
-    queued_later g.P.GracePlan.QSBR tabled (IsAfterAll u.seat.me.0.seen (w.seen w0) (w.heard w0)) (object_in u.seat.me.0.object) (u.chain % g.B.Site.sizes.queues) r.0 (w.heard w0) (w.heard w2) r.2 r.2.at.2
+    queued_later g.P.GracePlan.QSBR tabled (IsAfterAll u.seat.me.0.seen (w.seen w0) (w.heard w0)) (object_in u.seat.me.0.object) (u.chain % g.B.Site.sizes.queues) r.0 _ (w.heard w0) (w.heard w2) r.2 r.2.at.2
 
 pub returns-in-Err-clause-uses : goal.returns-in-Err-clause-uses
 returns-in-Err-clause-uses g c d its =
@@ -77,7 +80,7 @@ returns-in-Ok-clause-told g c o is =
     let u = c.in-Some.unlinked in let r = c.in-Ok.ensures.queued in let w2 : Log = g.W.Caller.heard c.retire.new.caller in let same : c.args.replaced.now ≡ Some u = search rules in
     let one : Some (object_in u.seat.me.0.object) ≡ Some o = subst (λ r. option_map (λ u. object_in u.seat.me.0.object) r ≡ Some o) same is in
     inl (subst (λ (p : ObjectId). Has (Object (Retire p)) w2) (some_is (object_in u.seat.me.0.object) o one)
-    (retired_by g.P.GracePlan.QSBR tabled (IsAfterAll u.seat.me.0.seen (g.W.Caller.seen c.args.caller.now) (g.W.Caller.heard c.args.caller.now)) (object_in u.seat.me.0.object) (u.chain % g.B.Site.sizes.queues) r.0 w2 r.2))
+    (retired_by g.P.GracePlan.QSBR tabled (IsAfterAll u.seat.me.0.seen (g.W.Caller.seen c.args.caller.now) (g.W.Caller.heard c.args.caller.now)) (object_in u.seat.me.0.object) (u.chain % g.B.Site.sizes.queues) r.0 _ w2 r.2))
 
 pub returns-in-Err-clause-told : goal.returns-in-Err-clause-told
 returns-in-Err-clause-told g c o is = let same : c.args.replaced.now ≡ Some c.in-Some.unlinked = search rules in

@@ -29,7 +29,7 @@ returns-clause-worked g c =
     let look : Look = Stored (work_at g.B.Site.sizes q) (left_by c.work_until-stop.result.1) in
     let more : Begins between last = left.2.0 in
     let later : Begins start last = begins_trans start between last w.seat.later more in
-    let lists = list_later g.D.Deleter.answers g.P.GracePlan.QSBR g.K.ChainRule.allows q between last first n items items more left.2.2 refl w.list in
+    let lists = list_later g.row.D.coded.code g.D.Deleter.answers g.P.GracePlan.QSBR g.K.ChainRule.allows q between last first n items items more left.2.2 refl w.list in
     record {
       start = start;
       first = first;
@@ -43,7 +43,7 @@ returns-clause-worked g c =
       later = later;
       run = left.2.2;
       lists = lists;
-      through = ran_through g.D.Deleter.answers q start last first n items later begun.3 begun.2 lists;
+      through = ran_through g.row.D.coded.code g.D.Deleter.answers q start last first n items later begun.3 begun.2 lists;
       left = order_later q between last n c.work_until-stop.new.left.items more w.left.0;
       nothing = w.left.1;
       whole = λ x. let u = w.whole x in record { taken = u.taken; after = u.after; before = begins_trans u.taken between last u.before more; ran = u.ran; all = u.all; some = u.some };

@@ -22,6 +22,7 @@ run_next-done-requires-clause-due g c =
 
 pub loop-count-preserved : goal.loop-count-preserved
 loop-count-preserved g c =
+    let code = g.row.D.coded.code in
     let answers = g.D.Deleter.answers in
     let qsbr = g.P.GracePlan.QSBR in
     let allows = g.K.ChainRule.allows in
@@ -44,7 +45,7 @@ loop-count-preserved g c =
       goes_trans qsbr allows c.args.seat.now c.loop-count.seat c.run_next-done.new.seat i.0 step,
       e.seat.3,
       due_later q c.args.given now last step.later i.2,
-      (subst (AreRunAs answers q last c.args.first) (sym items) (all_and answers q last c.args.first c.loop-count.count c.loop-count.list.items c.run_next-done.result (sym so) (all_later answers qsbr allows q now last c.args.first c.loop-count.list.items step.later step.run i.3.0) e.run), omega (arith, longer, so)),
+      (subst (AreRunAs code answers q last c.args.first) (sym items) (all_and code answers q last c.args.first c.loop-count.count c.loop-count.list.items c.run_next-done.result (sym so) (all_later code answers qsbr allows q now last c.args.first c.loop-count.list.items step.later step.run i.3.0) e.run), omega (arith, longer, so)),
       omega (arith, len, room, had, low),
       order_later q now last (c.loop-count.count + 1) (reverse c.pop.new.self.items) step.later order,
       omega (arith, fewer, few),

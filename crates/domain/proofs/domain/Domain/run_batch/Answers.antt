@@ -1,4 +1,4 @@
-use Rattle.std.proofs.Common.{rules, ◌≡◌, ℕ, List, length, reverse, refl, sym, ap, ◌∙◌, subst, arith}
+use Rattle.std.proofs.Common.{rules, ℕ, List, length, reverse, refl, sym, ap, ◌∙◌, subst, arith}
 use Rattle.std.proofs.lemmas.List.{length-reverse, reverse-reverse}
 use Rattle.callback_queue.specs.declared.item.Item.{Item}
 use Rattle.live_log.specs.Log.{Log, line_of}
@@ -13,7 +13,7 @@ returns-then-is_err-clause-list g c =
     let allows = g.K.ChainRule.allows in
     let taken = c.take_batch-taken.ensures in
     let waited = goes_trans qsbr allows c.args.seat.now c.take_batch-taken.new.worker c.wait_for_readers.new.seat (goes_heard qsbr allows c.args.seat.now c.take_batch-taken.new.worker taken.worker.0 taken.worker.1 c.requires.seat.2) c.wait_for_readers.ensures.seat.0 in
-    list_later g.D.Deleter.answers qsbr allows c.args.queue c.args.seat.now.me.0.seen c.wait_for_readers.new.seat.me.0.seen c.args.first c.args.finished c.args.list.now.items c.take_batch-taken.new.list.items waited.later waited.run taken.list c.requires.list
+    list_later g.row.D.coded.code g.D.Deleter.answers qsbr allows c.args.queue c.args.seat.now.me.0.seen c.wait_for_readers.new.seat.me.0.seen c.args.first c.args.finished c.args.list.now.items c.take_batch-taken.new.list.items waited.later waited.run taken.list c.requires.list
 
 pub returns-then-is_err-clause-left : goal.returns-then-is_err-clause-left
 returns-then-is_err-clause-left g c =
@@ -35,7 +35,7 @@ returns-then-is_err-clause-whole g c _ =
       taken = heard;
       after = taken.heard.0;
       before = c.wait_for_readers.ensures.heard;
-      ran = list_later g.D.Deleter.answers qsbr allows c.args.queue c.args.seat.now.me.0.seen heard c.args.first c.args.finished c.args.list.now.items c.take_batch-taken.new.list.items taken.heard.0 taken.heard.1 taken.list c.requires.list;
+      ran = list_later g.row.D.coded.code g.D.Deleter.answers qsbr allows c.args.queue c.args.seat.now.me.0.seen heard c.args.first c.args.finished c.args.list.now.items c.take_batch-taken.new.list.items taken.heard.0 taken.heard.1 taken.list c.requires.list;
       all = omega (arith, count, most, all);
       some = omega (arith, count, other);
     }
@@ -59,7 +59,7 @@ run_all-requires-clause-list g c =
     let allows = g.K.ChainRule.allows in
     let taken = c.take_batch-taken.ensures in
     let waited = goes_trans qsbr allows c.args.seat.now c.take_batch-taken.new.worker c.wait_for_readers.new.seat (goes_heard qsbr allows c.args.seat.now c.take_batch-taken.new.worker taken.worker.0 taken.worker.1 c.requires.seat.2) c.wait_for_readers.ensures.seat.0 in
-    (list_later g.D.Deleter.answers qsbr allows c.args.queue c.args.seat.now.me.0.seen c.wait_for_readers.new.seat.me.0.seen c.args.first c.args.finished c.args.list.now.items c.take_batch-taken.new.list.items waited.later waited.run taken.list c.requires.list, c.in-Ok.ensures.room)
+    (list_later g.row.D.coded.code g.D.Deleter.answers qsbr allows c.args.queue c.args.seat.now.me.0.seen c.wait_for_readers.new.seat.me.0.seen c.args.first c.args.finished c.args.list.now.items c.take_batch-taken.new.list.items waited.later waited.run taken.list c.requires.list, c.in-Ok.ensures.room)
 
 pub run_all-requires-clause-batch : goal.run_all-requires-clause-batch
 run_all-requires-clause-batch g c =

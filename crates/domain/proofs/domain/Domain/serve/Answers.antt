@@ -12,9 +12,9 @@ loop-init g c =
     let first : ℕ = c.args.first in
     let e = c.load_queued-queued.ensures in
     let now = c.load_queued-queued.new.seat in
-    let none : Lists g.D.Deleter.answers q now.me.0.seen first first [] = (tt, omega arith) in
+    let none : Lists g.row.D.coded.code g.D.Deleter.answers q now.me.0.seen first first [] = (tt, omega arith) in
     let longer = line_longer c.args.seat.now.me.0.seen now.me.0.seen q e.looked.2.0 in
-    (goes_looked_once g.P.GracePlan.QSBR g.K.ChainRule.allows c.args.seat.now now e.seat _ _ e.looked, ap (λ (v : View). v.work) e.looked.1 ∙ c.requires.queue.1, subst (Lists g.D.Deleter.answers q now.me.0.seen first first) (sym c.requires.list) none, c.requires.left, let same = e.count.0 in omega (arith, longer, same))
+    (goes_looked_once g.P.GracePlan.QSBR g.K.ChainRule.allows c.args.seat.now now e.seat _ _ e.looked, ap (λ (v : View). v.work) e.looked.1 ∙ c.requires.queue.1, subst (Lists g.row.D.coded.code g.D.Deleter.answers q now.me.0.seen first first) (sym c.requires.list) none, c.requires.left, let same = e.count.0 in omega (arith, longer, same))
 
 pub loop-preserved : goal.loop-preserved
 loop-preserved g c =

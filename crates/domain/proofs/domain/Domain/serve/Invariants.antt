@@ -8,6 +8,6 @@ abbrev pub invariant-loop : goal.invariant-loop
 invariant-loop g l =
     GoesOn g.P.GracePlan.QSBR g.K.ChainRule.allows l.fn.seat l.seat
     × WorksFor l.queue l.count l.seat.me.0
-    × Lists g.D.Deleter.answers l.queue l.seat.me.0.seen l.first l.count l.list.items
+    × Lists g.row.D.coded.code g.D.Deleter.answers l.queue l.seat.me.0.seen l.first l.count l.list.items
     × (l.left.items ≡ [])
     × (length (line_of l.fn.seat.me.0.seen l.queue) ≤ l.queued)

@@ -1,4 +1,4 @@
-use Rattle.std.proofs.Common.{rules, ◌≡◌, [], ◌∷◌, IfErr, sym, refl, ap, ◌∙◌, subst}
+use Rattle.std.proofs.Common.{rules, [], ◌∷◌, IfErr, sym, refl, ap, ◌∙◌, subst}
 use Rattle.std.specs.Prelude.{Result, Ok, Err}
 use Rattle.live_log.specs.Log.{Log, Begins, HaveEnded}
 use Rattle.live_log.proofs.Lemmas.{begins_trans}

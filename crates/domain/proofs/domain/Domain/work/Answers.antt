@@ -10,8 +10,8 @@ pub loop-init : goal.loop-init
 loop-init g c =
     let q = c.args.queue in
     let first : ℕ = c.args.first in
-    let none : Lists g.D.Deleter.answers q c.args.seat.now.me.0.seen first first [] = (tt, omega arith) in
-    (goes_same g.P.GracePlan.QSBR g.K.ChainRule.allows c.args.seat.now c.requires.seat.2, c.requires.queue.1, subst (Lists g.D.Deleter.answers q c.args.seat.now.me.0.seen first first) (sym c.requires.list) none, c.requires.left)
+    let none : Lists g.row.D.coded.code g.D.Deleter.answers q c.args.seat.now.me.0.seen first first [] = (tt, omega arith) in
+    (goes_same g.P.GracePlan.QSBR g.K.ChainRule.allows c.args.seat.now c.requires.seat.2, c.requires.queue.1, subst (Lists g.row.D.coded.code g.D.Deleter.answers q c.args.seat.now.me.0.seen first first) (sym c.requires.list) none, c.requires.left)
 
 pub loop-preserved-in-Ran : goal.loop-preserved-in-Ran
 loop-preserved-in-Ran g c =
@@ -33,7 +33,7 @@ pub returns-then-is_emptied-clause-list : goal.returns-then-is_emptied-clause-li
 returns-then-is_emptied-clause-list g c =
     let items = c.run_batch-now.new.list.items in
     let later = c.is_emptied.ensures.later in
-    list_later g.D.Deleter.answers g.P.GracePlan.QSBR g.K.ChainRule.allows c.args.queue c.run_batch-now.new.seat.me.0.seen c.is_emptied.new.seat.me.0.seen c.args.first c.run_batch-now.result.0 items items later.0 later.2 refl c.run_batch-now.ensures.list
+    list_later g.row.D.coded.code g.D.Deleter.answers g.P.GracePlan.QSBR g.K.ChainRule.allows c.args.queue c.run_batch-now.new.seat.me.0.seen c.is_emptied.new.seat.me.0.seen c.args.first c.run_batch-now.result.0 items items later.0 later.2 refl c.run_batch-now.ensures.list
 
 pub loop-preserved : goal.loop-preserved
 loop-preserved g c =
@@ -46,7 +46,7 @@ loop-preserved g c =
     let looked = goes_looked qsbr allows c.run_batch-now.new.seat c.is_emptied.new.seat e.seat.0 e.seat.1 e.seat.2.0 e.later.0 e.later.2 _ _ e.exact.2 in (
       goes_trans qsbr allows c.args.seat.now c.loop.seat c.is_emptied.new.seat c.loop.invariant.0 (goes_trans qsbr allows c.loop.seat c.run_batch-now.new.seat c.is_emptied.new.seat b.seat looked),
       ap (λ (v : View). v.work) e.seat.2.0 ∙ b.work,
-      list_later g.D.Deleter.answers qsbr allows c.args.queue c.run_batch-now.new.seat.me.0.seen c.is_emptied.new.seat.me.0.seen c.args.first c.run_batch-now.result.0 items items e.later.0 e.later.2 refl b.list,
+      list_later g.row.D.coded.code g.D.Deleter.answers qsbr allows c.args.queue c.run_batch-now.new.seat.me.0.seen c.is_emptied.new.seat.me.0.seen c.args.first c.run_batch-now.result.0 items items e.later.0 e.later.2 refl b.list,
       b.left.1 (λ x. let z : outcome.Nothing ≡ outcome.Exhausted = sym is ∙ x in cc),
     )
 

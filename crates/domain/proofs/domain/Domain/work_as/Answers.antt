@@ -19,8 +19,8 @@ returns-clause-worked g c =
     let seat : View = c.employ-end.new.seat.me.0 in
     let same = c.tell-seat.ensures.same in
     let learned = c.learn.ensures in
-    IfOk-weaker c.employ-end.result _ _ (λ e h. subst (λ (l : Log). HasWorked g.D.Deleter.answers qsbr allows key q (w.seen old) (w.heard old) (w.looks old) (w.looks new) (w.loads old) (w.loads new) e.finished.items e.left.items e.stop l) (sym learned.heard)
-    (worked_for g.D.Deleter.answers qsbr allows key key q (w.seen old) (w.heard old) told (w.looks new) seat.looks (w.looks old) (w.loads new) seat.loads (w.loads old) e.finished.items e.left.items e.stop seat.seen
+    IfOk-weaker c.employ-end.result _ _ (λ e h. subst (λ (l : Log). HasWorked g.row.D.coded.code g.D.Deleter.answers qsbr allows key q (w.seen old) (w.heard old) (w.looks old) (w.looks new) (w.loads old) (w.loads new) e.finished.items e.left.items e.stop l) (sym learned.heard)
+    (worked_for g.row.D.coded.code g.D.Deleter.answers qsbr allows key key q (w.seen old) (w.heard old) told (w.looks new) seat.looks (w.looks old) (w.loads new) seat.loads (w.loads old) e.finished.items e.left.items e.stop seat.seen
     (ap (λ m. m.0) c.tell-seat.ensures.seat.1)
     (learned.loads.1 ∙ ap (λ (l : Looks). seat.looks ++ l) same.3)
     (learned.loads.0 ∙ ap (λ (l : List Log). seat.loads ++ l) same.2)

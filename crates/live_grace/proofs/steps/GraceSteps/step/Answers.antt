@@ -4,6 +4,7 @@ use Rattle.std.proofs.Math.Logic.{∥∥₁_elim, ∥∥₁_map}
 use Rattle.std.specs.Coded.{le_prop}
 use Rattle.reader_word.specs.declared.layout.Layout.TheVariants.{Wide}
 use Rattle.atomic_table.specs.Table.{Me}
+use Rattle.live_log.specs.declared.callback_id.CallbackId.{CallbackId}
 use Rattle.live_words.specs.live_rule.declared.view.View.{View}
 use Rattle.live_grace.specs.declared.period.Progress.TheVariants.{Done}
 use Rattle.live_grace.specs.Going.{InLoop}
@@ -12,9 +13,9 @@ use Rattle.live_grace.proofs.steps.GraceSteps.step.Given as given
 use Rattle.live_grace.proofs.steps.GraceSteps.step.Goals.{in-Done, in_default}
 use Rattle.live_grace.proofs.steps.GraceSteps.step.Goals as goal
 
-abbrev Stands : (g : given.Over) → ℕ → ℕ → Me Unit View → g.row.P.Denot → ℕ → Type 0
+abbrev Stands : (g : given.Over) → ℕ → ℕ → Me CallbackId View → g.row.P.Denot → ℕ → Type 0
 Stands g seq number now plan slots = let p = g.P.GracePlan in
-    (old : Me Unit View) × InLoop (p.is_begun Wide true slots seq number) p.action p.taken p.present seq p.QSBR g.K.ChainRule.allows old number plan now
+    (old : Me CallbackId View) × InLoop (p.is_begun Wide true slots seq number) p.action p.taken p.present seq p.QSBR g.K.ChainRule.allows old number plan now
 
 pub turn-progress-requires-clause-going : goal.turn-progress-requires-clause-going
 turn-progress-requires-clause-going g c = let now = c.args.self.now in

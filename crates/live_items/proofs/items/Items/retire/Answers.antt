@@ -1,8 +1,11 @@
-use Rattle.std.proofs.Common.{◌≡◌, ℕ, ◌+◌, sym, ap, ◌∙◌, subst}
+use base.Stored.{Gv}
+use Rattle.std.proofs.Common.{◌≡◌, ℕ, ◌+◌, ◌∷◌, inl, refl, sym, ap, ◌∙◌, subst}
 use Rattle.rcu_model.specs.declared.event.ObjectId.{ObjectId}
 use Rattle.callback_queue.specs.declared.item.Item.{Item}
 use Rattle.callback_queue.specs.Queue.{given_of, pushed, with_place}
-use Rattle.live_log.specs.Log.{Log, Begins}
+use Rattle.live_log.specs.declared.event.LiveEvent.TheVariants.{Object}
+use Rattle.live_log.specs.declared.event.ObjectEvent.TheVariants.{Queue}
+use Rattle.live_log.specs.Log.{Log, Begins, Has, WasQueued}
 use Rattle.live_log.proofs.Lemmas.{begins_trans}
 use Rattle.live_words.specs.live_rule.declared.view.View.{View}
 use Rattle.live_words.specs.live_rule.declared.rights.QueueRight.TheVariants.{Owns}
@@ -34,9 +37,15 @@ invariant_of-self-2 g c =
     let named : item.object ≡ o = λ j. record { 0 = c.queue_object-seat.ensures.number j } in
     let run : object_in item.job.0.object ≡ o = ap (λ (z : JobValue g.row.C.Denot). object_in z.0.object) c.of.ensures ∙ ap object_in c.queue_object-seat.ensures.job.3 in
     let last : IsLast q (given_of jobs) item.object new.seen = subst (λ (n : ℕ). IsLast q n item.object new.seen) given (subst (λ (p : ObjectId). IsLast q c.given-given.result p new.seen) (sym named) queued.0.last) in
+    let seen = ap (λ (z : JobValue g.row.C.Denot). z.0.seen) c.of.ensures ∙ (queued.1 ∙ queued.0.wrote) in
+    let noted : WasQueued item.object q item.job.3 item.job.0.seen = (
+      queued.0.id,
+      queued.0.is ∙ (c.id-id.ensures ∙ sym (ap (λ (z : JobValue g.row.C.Denot). z.3) c.of.ensures)),
+      subst (Has (Object (Queue item.object q queued.0.id))) (sym seen) (subst (λ (p : ObjectId). Has (Object (Queue p q queued.0.id)) (Object (Queue o q queued.0.id) ∷ queued.0.within)) (sym named) (inl refl)),
+    ) in
     let under = under_pushed key (with_place jobs) old new q (under_place key jobs old q i.2) lock.2 c.queue_object-seat.ensures.later item
     (ap (λ (j : Jobs g.row.C.Denot). j.closed) (sym reserved) ∙ put.0) (lock.3 ∙ ap (λ (n : ℕ). Owns q (n + 1) 0) given) lock.4 last
-    (ap (λ (z : JobValue g.row.C.Denot). z.0.seen) c.of.ensures ∙ queued.1) (named ∙ sym run) in (
+    (ap (λ (z : JobValue g.row.C.Denot). z.0.seen) c.of.ensures ∙ queued.1) (named ∙ sym run) noted in (
       told.0 ∙ (lock.0.0 ∙ i.0),
       ap (λ z. z.1) told.2 ∙ (lock.1 ∙ i.1),
       subst (λ (v : View). IsUnderLock key c.push.new.self v q) (sym (ap (λ z. z.0) told.2))
@@ -63,12 +72,15 @@ returns-clause-retired g c =
     ) in
     let o = ap (λ (v : View). object_in v.object) learn ∙ ap (λ (v : View). object_in v.object) parts in
     let is = IsAfterAll cut seen heard in
-    let first = queues_as qsbr allows (Precedes learned) is (object_in learned.object) c.self.inside.number c.given-given.result new after c.queue_object-seat.ensures.queued.0 in
-    let second = subst (λ (p : ObjectId). Queues qsbr allows is p c.self.inside.number c.given-given.result new) o first in
-    let third = subst (λ (n : ℕ). Queues qsbr allows is (object_in c.args.unlinked.seat.me.0.object) c.self.inside.number n new) c.given-given.ensures second in
+    let first = queues_as qsbr allows (Precedes learned) is (object_in learned.object) c.self.inside.number c.given-given.result c.id-id.result.code new after c.queue_object-seat.ensures.queued.0 in
+    let second = subst (λ (p : ObjectId). Queues qsbr allows is p c.self.inside.number c.given-given.result c.id-id.result.code new) o first in
+    let third = subst (λ (n : ℕ). Queues qsbr allows is (object_in c.args.unlinked.seat.me.0.object) c.self.inside.number n c.id-id.result.code new) c.given-given.ensures second in
+    let code = c.id-id.ensures ∙ c.of-identity.ensures.1 in
+    let coded = subst (λ (i : Gv). Queues qsbr allows is (object_in c.args.unlinked.seat.me.0.object) c.self.inside.number (given_of c.self.inside.queue) i new) code third in
+    let callback : Gv = g.row.C.coded.code c.args.callback in
     let log = c.learn-2.ensures.heard ∙ ap (λ z. z.0.seen) c.tell.ensures.4 in
-    let fourth = subst (λ (l : Log). Queues qsbr allows is (object_in c.args.unlinked.seat.me.0.object) c.self.inside.number (given_of c.self.inside.queue) l) (sym log) third in
-    subst (λ (s : Jobs g.row.C.Denot × View × ℕ). Queues qsbr allows is (object_in c.args.unlinked.seat.me.0.object) s.2 (given_of s.0) (g.W.Caller.heard c.learn-2.new.self)) c.self.view_is fourth
+    let fourth = subst (λ (l : Log). Queues qsbr allows is (object_in c.args.unlinked.seat.me.0.object) c.self.inside.number (given_of c.self.inside.queue) callback l) (sym log) coded in
+    subst (λ (s : Jobs g.row.C.Denot × View × ℕ). Queues qsbr allows is (object_in c.args.unlinked.seat.me.0.object) s.2 (given_of s.0) callback (g.W.Caller.heard c.learn-2.new.self)) c.self.view_is fourth
 
 pub returns-clause-pushed : goal.returns-clause-pushed
 returns-clause-pushed g c =

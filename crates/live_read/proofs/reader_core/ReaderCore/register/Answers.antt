@@ -1,5 +1,6 @@
 use Rattle.std.proofs.Common.{sym, subst}
 use Rattle.atomic_table.specs.declared.shared.Seat.{Seat}
+use Rattle.live_log.specs.declared.callback_id.CallbackId.{CallbackId}
 use Rattle.live_words.specs.live_rule.declared.view.View.{View}
 use Rattle.live_words.specs.live_rule.Places.{slot_at}
 use Rattle.live_words.specs.live_rule.Readers.{Fits}
@@ -15,5 +16,5 @@ returns-clause-claimed g c =
     let s = c.in-Some.ensures.claimed.1 in
     let own = c.look_slot-word.ensures.own s.claimed.owns in
     let shut = closed_fits q _ _ c.look_slot-word.ensures.word (subst (λ w. Rattle.live_words.specs.live_rule.Readers.IsClosed q w) (sym own.0) s.claimed.closed) in
-    subst (λ (z : Seat (Unit {0}) View). Finds q k c.new.result.slot m z.me) (sym c.new.ensures.0)
+    subst (λ (z : Seat CallbackId View). Finds q k c.new.result.slot m z.me) (sym c.new.ensures.0)
     (subst (λ n. Finds q k n m v) (sym c.new.ensures.1) (finds_looks q k r (slot_at r) c.look_slot-word.result m u v s c.look_slot-word.ensures.looked shut own.1))

@@ -1,6 +1,7 @@
 use Rattle.std.proofs.Common.{◌≡◌, ℕ, [], refl, arith}
 use Rattle.atomic_table.specs.Table.{Me}
 use Rattle.live_rule.specs.live_log.Log.{IsLiveRun}
+use Rattle.live_rule.specs.live_log.declared.callback_id.CallbackId.{CallbackId}
 use Rattle.live_rule.specs.declared.view.View.{View}
 use Rattle.live_rule.specs.Views.{bare}
 use Rattle.live_rule.proofs.Lemmas.{enters}
@@ -8,5 +9,5 @@ use Rattle.live_table.proofs.table.LiveTable.new_seat.Goals as goal
 
 pub load_new_seat-requires : goal.load_new_seat-requires
 load_new_seat-requires g c = let laid = c.args.self.now.laid in let key = c.args.self.now.words.shared.key in
-    let told : ℕ → View → Type 0 = λ n w. (◌≡◌ {A = Me (Unit {0}) View} (w, []) (bare key w.seen [], [])) × IsLiveRun g.P.GracePlan.QSBR g.K.ChainRule.allows w.seen in
+    let told : ℕ → View → Type 0 = λ n w. (◌≡◌ {A = Me CallbackId View} (w, []) (bare key w.seen [], [])) × IsLiveRun g.P.GracePlan.QSBR g.K.ChainRule.allows w.seen in
     (omega arith, enters g.P.GracePlan.QSBR g.K.ChainRule.allows key _ _ told (λ n log run. (refl, run)))

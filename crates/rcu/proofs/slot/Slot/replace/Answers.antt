@@ -1,4 +1,5 @@
-use Rattle.std.proofs.Common.{ℕ, List, ◌∙◌, ◌%◌}
+use base.Stored.{Gv}
+use Rattle.std.proofs.Common.{ℕ, List, ◌∙◌, ◌%◌, ap, subst}
 use Rattle.live_log.proofs.Lemmas.{begins_trans}
 use Rattle.rcu.specs.Slots.{PushesValue, ReplacesValue}
 use Rattle.rcu.proofs.Hearing.{stays_on}
@@ -15,7 +16,9 @@ pub returns-in-Ok-clause-replaced : goal.returns-in-Ok-clause-replaced
 returns-in-Ok-clause-replaced g c =
     let w = g.W.Caller in let i = c.loop.invariant in let old = c.args.caller.now in let was = c.loop.caller in let new = c.try_replace.new.caller in
     let chain : ℕ = c.args.self.now.chain in let words : List ℕ = g.T.Words.packed c.args.value in let queue : ℕ = chain % g.B.Site.sizes.queues in
-    if_some c.in-Ok.ticket (λ t. ReplacesValue w g.P.GracePlan.QSBR was new chain words queue t.0) (λ t. ReplacesValue w g.P.GracePlan.QSBR old new chain words queue t.0) (λ t r. replaces_after w g.P.GracePlan.QSBR old was new chain words i.1 i.2 queue t.0 r) c.in-Ok.ensures.replaced
+    let mine : Gv = g.row.D.coded.code c.loop.callback in let code : Gv = g.row.D.coded.code c.args.callback in
+    if_some c.in-Ok.ticket (λ t. ReplacesValue w g.P.GracePlan.QSBR was new chain words queue t.0 mine) (λ t. ReplacesValue w g.P.GracePlan.QSBR old new chain words queue t.0 code)
+    (λ t r. subst (ReplacesValue w g.P.GracePlan.QSBR old new chain words queue t.0) (ap g.row.D.coded.code i.0) (replaces_after w g.P.GracePlan.QSBR old was new chain words i.1 i.2 queue t.0 mine r)) c.in-Ok.ensures.replaced
 
 pub loop-preserved : goal.loop-preserved
 loop-preserved g c =

@@ -122,7 +122,7 @@ returns-clause-removed g c =
       log,
       subst (λ (x : ℕ). RemovesThrough q tabled chains c.args.self.now.naming.directory seen heard key x r.object log) c.requires.key
           (subst (λ (m : Naming). RemovesThrough q tabled chains m.directory seen heard key (bucket_of m.first m.buckets key) r.object log) named through),
-      record { given = r.given; turn = r.turn; queued = subst (λ (x : ℕ). Queues q tabled (Begins log) r.object (x % queues) r.given (w.heard w2)) (number ∙ h.same.2) r.queued },
+      record { given = r.given; turn = r.turn; queued = subst (λ (x : ℕ). Queues q tabled (Begins log) r.object (x % queues) r.given (g.row.D.coded.code c.args.callback) (w.heard w2)) (number ∙ h.same.2) r.queued },
       stays_makes w w0 w1 w2 log h.same.0.0.0 z.0.0,
     ))
     c.cut_retire-answer.ensures.retired c.cut_retire-answer.ensures.same

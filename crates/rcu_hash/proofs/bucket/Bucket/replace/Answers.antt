@@ -4,29 +4,26 @@ use Rattle.rcu_model.specs.declared.event.ObjectId.{ObjectId}
 use Rattle.rcu_model.specs.Sets.{In}
 use Rattle.rcu_model.proofs.Lemmas.{some_is}
 use Rattle.live_log.specs.Keys.{key_of}
-use Rattle.live_log.specs.Log.{Log, Begins, IsLiveRun, closed_of, note_of, state_of}
+use Rattle.live_log.specs.Log.{Log, Begins, IsLiveRun, note_of, state_of}
 use Rattle.live_log.specs.Tables.{IsFree, tabled}
 use Rattle.live_log.proofs.Lemmas.{begins_trans, free_takes, tabled_maps}
 use Rattle.rcu_list.specs.live_rule.Seats.{lent_chains}
 use Rattle.rcu_list.specs.live_rule.declared.rights.ChainRight.{ChainRight}
-use Rattle.rcu_list.specs.live_rule.declared.rights.RecordRight.{RecordRight}
 use Rattle.rcu_list.specs.live_rule.declared.view.Look.{Look}
-use Rattle.rcu_list.specs.live_rule.declared.view.Look.TheVariants.{Loaded, Stored}
 use Rattle.rcu_list.specs.live_rule.declared.view.View.{View}
-use Rattle.rcu_list.specs.live_table.Rights.{cell_in, object_in, own_in}
+use Rattle.rcu_list.specs.live_table.Rights.{own_in}
 use Rattle.rcu_list.specs.live_items.Retiring.{Queues}
+use Rattle.rcu_list.specs.live_reclaim.Refusing.{RefusesRetirement}
 use Rattle.rcu_list.proofs.live_read.Lemmas.{stays_makes}
 use Rattle.rcu_list.specs.live_write.Chains.{list_in}
-use Rattle.rcu_list.specs.live_write.Searching.{TakesRecord}
 use Rattle.rcu_list.proofs.live_write.Lemmas.{index_has}
 use Rattle.std.proofs.lemmas.Option.{slice_get_within}
-use Rattle.rcu_list.specs.live_rule.Places.{cell_at, closed_at}
 use Rattle.rcu_list.specs.Calls as list
 use Rattle.rcu_list.specs.Maps.{map_of}
 use Rattle.rcu_list.specs.Refusing.{RefusesSuccessor}
 use Rattle.rcu_hash.specs.Directories.{LeadsTo, directed_map}
 use Rattle.rcu_hash.proofs.Hearing.{exchange_through, successor_through}
-use Rattle.rcu_list.proofs.Lemmas.{KnowsKeys, by_result, by_second, chain_known, keys_on, keys_replaced, keys_walked, note_walked, replaced_map, same_own, stays_both, takes_over}
+use Rattle.rcu_list.proofs.Lemmas.{KnowsKeys, by_result, by_second, chain_known, gives_back, keys_on, keys_replaced, keys_walked, note_walked, replaced_map, same_own, takes_over}
 use Rattle.rcu_hash.specs.declared.directory.Naming.{Naming}
 use Rattle.rcu_hash.specs.Naming.{WasNamed, words_by}
 use Rattle.rcu_hash.specs.Publishing.{ReplacesThrough}
@@ -130,7 +127,7 @@ returns-in-Ok-answer-clause-replaced g c =
       log,
       subst (λ (x : ℕ). ReplacesThrough q tabled chains c.args.self.now.naming.directory seen heard key value x r.object log) c.requires.key
           (subst (λ (m : Naming). ReplacesThrough q tabled chains m.directory seen heard key value (bucket_of m.first m.buckets key) r.object log) named through),
-      record { given = r.given; turn = r.turn; queued = subst (λ (x : ℕ). Queues q tabled (Begins log) r.object (x % queues) r.given (w.heard w3)) (number ∙ h.same.2) r.queued },
+      record { given = r.given; turn = r.turn; queued = subst (λ (x : ℕ). Queues q tabled (Begins log) r.object (x % queues) r.given (g.row.D.coded.code c.args.callback) (w.heard w3)) (number ∙ h.same.2) r.queued },
       stays_makes w w0 w1 w3 log h.same.0.0.0 (stays_makes w w1 w2 w3 log p.same.0 z.0.0),
     )
 
@@ -163,29 +160,8 @@ returns-clause-refused g c =
     exchange_through w q tabled sizes w0 w1 w4 h.same.0 h.told.0 x known h.told.2 n.first n.buckets key n.directory map_is leads (subst (λ (y : ℕ). IsSome (map_of known y key)) bucket a.ready.1)
     (by_second c.in-Err-answer.ensures.refused
     (λ m. let few : length (list_in three.seat.me.0) ≤ c.in-Ok.ready.0 = m.1 in omega arith)
-    (λ k. let r = k.1 in record {
-      found = a.took.0;
-      number = (object_in c.in-Ok.ready.1.seat.me.0.object).0;
-      took = subst (λ (y : RecordRight). TakesRecord sizes (cell_in y) (object_in c.in-Ok.ready.1.seat.me.0.object).0 a.took.0) (ap (λ o. o.seat.me.0.object) (sym c.in-Err-answer.ensures.back.0)) a.took.2;
-      closed = r.closed;
-      cell = cell_in c.in-Err-answer.owned.seat.me.0.object;
-      looks = d.freed ∙ ap (λ (l : List Look). Stored (cell_at sizes (cell_in c.in-Err-answer.owned.seat.me.0.object) 0) 0 ∷ l) (r.looked ∙ (λ i. Loaded (closed_at sizes (number i % sizes.queues)) r.closed ∷ a.took.1 i));
-      at = w.heard w3;
-      told = r.told ∙ ap (λ (m : ℕ). closed_of (m % sizes.queues) (w.heard w3)) number;
-      within = (
-        record {
-          after_seen = subst (λ (l : Log). Begins l (w.heard w3)) a.same.0.0 r.after.after_seen;
-          after_heard = begins_trans (w.heard w1) (w.heard w2) (w.heard w3) a.heard.after_heard r.after.after_heard;
-          run = r.after.run;
-        },
-        d.heard.0.after_heard,
-        d.heard.0.run,
-      );
-      why = r.why;
-      load = d.loads.0;
-      loads = d.loads.1 ∙ ap (λ (l : List Log). d.loads.0 ∷ l) (r.same.1 ∙ a.same.1.0);
-      same = stays_both w w1 w2 w4 a.same.0 (stays_both w w2 w3 w4 r.same.0 d.same);
-    }))
+    (λ k. gives_back w q tabled sizes w1 w2 w3 w4 x (bucket_of n.first n.buckets key % sizes.queues) c.in-Ok.ready.1.seat.me.0.object c.in-Err-answer.owned.seat.me.0.object (ap (λ o. o.seat.me.0.object) c.in-Err-answer.ensures.back.0)
+    a.same.0 a.same.1.0 a.heard.after_heard a.took (subst (λ (m : ℕ). RefusesRetirement w q tabled sizes (m % sizes.queues) w2 w3 x) number k.1) d.freed d.heard.0 d.loads d.same))
 
 pub returns-clause-back : goal.returns-clause-back
 returns-clause-back g c = c.in-Err-answer.ensures.back.1

@@ -80,6 +80,7 @@ returns-clause-retired g c =
         chain = c1;
         object = r.object;
         ticket = t.0;
+        callback = g.row.D.coded.code c.args.job;
         published = log;
         leaves = record {
           writes = record { before = before; wrote = wrote; after = r.published.after.after_caller; run = r.published.run };
@@ -87,7 +88,7 @@ returns-clause-retired g c =
               (λ k other. at_number_other c1 k (without_object r.object ((state_of before).chain c1)) (state_of before).chain other) (λ is. apart (is ∙ sym number)) outside;
         };
         noted = ap (λ (k : ℕ). chain_note k before) (sym number) ∙ noted_there q three.seat.me.0 n.directory n.object (own_in one.seat.me.0.chains) (own_in d.chain.seat.me.0.chains) e.chains.0 (d.chain.owns.2 ∙ d.own.0) d.alone three.owns.0 three.owns.1 noted before r.published.known;
-        hands = record { given = r.given; turn = r.turn; queued = subst (λ (x : ℕ). Queues q tabled (Begins log) r.object (x % sizes.queues) r.given (w.heard w2)) e.chains.1 r.queued };
+        hands = record { given = r.given; turn = r.turn; queued = subst (λ (x : ℕ). Queues q tabled (Begins log) r.object (x % sizes.queues) r.given (g.row.D.coded.code c.args.job) (w.heard w2)) e.chains.1 r.queued };
       }),
       ap length (sym same) ∙ (one_fewer (list_in three.seat.me.0) r.object (listed_once q three.seat.me.0 three.owns.1 e.later.2) r.was
           ∙ ap (λ (l : List ObjectId). length l + 1) (sym (ap (λ (x : List ChainRight). (own_in x).objects) f.0 ∙ r.left))),
@@ -132,7 +133,7 @@ returns-clause-heard g c =
     let t : Log = c.cut_retire-answer.new.chain.seat.me.0.seen in
     let same = ap (λ (x : List ChainRight). (own_in x).objects) e.chains.0 in let some = c.requires.some in
     by_result c.cut_retire-answer.result _ _ r.retired r.refused
-    (λ x k. queued_later q tabled (Begins t) k.object _ k.given (w.heard w0) (w.heard w2) k.queued (begins_trans (w.heard w0) t k.queued.before (begins_trans (w.heard w0) k.published.before t k.published.after.after_caller.1 (_ ∷ [], k.published.wrote)) k.queued.at))
+    (λ x k. queued_later q tabled (Begins t) k.object _ k.given _ (w.heard w0) (w.heard w2) k.queued (begins_trans (w.heard w0) t k.queued.before (begins_trans (w.heard w0) k.published.before t k.published.after.after_caller.1 (_ ∷ [], k.published.wrote)) k.queued.at))
     (λ x y. by_second y (λ none. let short = none.1 in absurd (omega (arith, short, some, ap length same))) (λ k. k.1.after.after_heard))
 
 pub returns-clause-same : goal.returns-clause-same

@@ -1,7 +1,7 @@
 use Rattle.std.proofs.Common.{rules, Bool, ◌≡◌, ◌<◌, ℕ, List, [], Option, IfSome, ⊎_elim, map, option_map, inl, inr, refl, sym, ap, ◌∙◌, subst}
 use Rattle.live_log.specs.Log.{Log, Begins}
 use Rattle.live_log.specs.Tables.{tabled}
-use Rattle.live_log.proofs.Lemmas.{begins_trans, closed_stays}
+use Rattle.live_log.proofs.Lemmas.{begins_trans, closed_stays, has_since}
 use Rattle.rcu_list.specs.live_rule.declared.view.Sizes.{Sizes}
 use Rattle.rcu_list.specs.live_read.Hearing.{OnlyHears}
 use Rattle.rcu_list.specs.live_read.declared.caller.Caller.{Ghosts}
@@ -11,7 +11,7 @@ use Rattle.rcu_hash.specs.declared.directory.Naming.{Naming}
 use Rattle.rcu_hash.specs.Tidying.{IsLeft, IsRecord, IsRest, IsStopped, Uses}
 use Rattle.rcu_hash.specs.Writers.{Each}
 use Rattle.rcu_hash.proofs.Emptying.{each_left, heard_on, some_on, uses_both, uses_none, waited_later}
-use Rattle.rcu_hash.proofs.Tidied.{cleared_since, has_since, none_so, not_none, rest_less, rest_none, some_there}
+use Rattle.rcu_hash.proofs.Tidied.{cleared_since, none_so, not_none, rest_less, rest_none, some_there}
 use Rattle.rcu_hash.proofs.table.RcuHash.retire_behind.Goals as goal
 
 pub retire_left-answer-requires-clause-waited : goal.retire_left-answer-requires-clause-waited

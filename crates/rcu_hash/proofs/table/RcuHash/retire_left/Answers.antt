@@ -4,10 +4,10 @@ use Rattle.live_log.specs.declared.event.LiveEvent.TheVariants.{Object}
 use Rattle.live_log.specs.declared.event.ObjectEvent.TheVariants.{Retire}
 use Rattle.live_log.specs.Log.{Log, Begins, Has}
 use Rattle.live_log.specs.Tables.{tabled}
-use Rattle.live_log.proofs.Lemmas.{begins_trans}
+use Rattle.live_log.proofs.Lemmas.{begins_trans, has_since}
 use Rattle.rcu_hash.specs.Tidying.{Uses, WasCleared}
 use Rattle.rcu_hash.proofs.Emptying.{err_on, finds_both, heard_on, objects_some, uses_both, waited_later}
-use Rattle.rcu_hash.proofs.Tidied.{has_since, not_none}
+use Rattle.rcu_hash.proofs.Tidied.{not_none}
 use Rattle.rcu_hash.proofs.table.RcuHash.retire_left.Goals as goal
 
 pub returns-in_err-retire_record-clause-uses : goal.returns-in_err-retire_record-clause-uses

@@ -45,7 +45,7 @@ returns-clause-removed g c =
           (chain_known old.seat.me.0 old.number old.owns.1 old.owns.2 ∙ sym list)
           (g.W.Caller.seen c.args.caller.now) (g.W.Caller.heard c.args.caller.now) [] c.args.key r.object (index_has (list_in mid.seat.me.0) c.in-Some.index r.object r.was) key_is r.published
           (begins_trans known mid.seat.me.0.seen r.published.before e.walked.1.2.0 r.published.after.after_writer.0, r.published.after.after_caller.0, r.published.after.after_caller.1),
-      record { given = r.given; turn = r.turn; queued = subst (λ (n : ℕ). Queues qsbr g.K.ChainRule.allows (Begins done.seat.me.0.seen) r.object (n % g.B.Site.sizes.queues) r.given (g.W.Caller.heard c.cut_retire.new.caller)) e.walked.2 r.queued },
+      record { given = r.given; turn = r.turn; queued = subst (λ (n : ℕ). Queues qsbr g.K.ChainRule.allows (Begins done.seat.me.0.seen) r.object (n % g.B.Site.sizes.queues) r.given (g.row.D.coded.code c.args.callback) (g.W.Caller.heard c.cut_retire.new.caller)) e.walked.2 r.queued },
     ))
     c.cut_retire.ensures.retired c.cut_retire.ensures.same
 

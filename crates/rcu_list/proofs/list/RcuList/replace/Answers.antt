@@ -1,23 +1,20 @@
-use Rattle.std.proofs.Common.{◌≡◌, ◌≤◌, ◌%◌, ℕ, List, ◌∷◌, length, slice_get, slice_index_or, inl, inr, ⊎_elim, refl, ap, sym, ◌∙◌, subst, arith}
+use Rattle.std.proofs.Common.{◌≡◌, ◌≤◌, ◌%◌, ℕ, List, length, slice_get, slice_index_or, inl, inr, ⊎_elim, refl, ap, sym, ◌∙◌, subst, arith}
 use Rattle.std.proofs.lemmas.Option.{slice_get_within}
 use Rattle.rcu_model.specs.declared.event.ObjectId.{ObjectId}
 use Rattle.rcu_model.proofs.Lemmas.{some_is}
 use Rattle.live_log.specs.Keys.{key_of}
-use Rattle.live_log.specs.Log.{Log, Begins, closed_of, note_of}
+use Rattle.live_log.specs.Log.{Log, Begins, note_of}
 use Rattle.live_log.specs.Maps.{IsUnnoted}
 use Rattle.live_log.proofs.Lemmas.{begins_trans}
-use Rattle.domain.specs.live_rule.declared.view.Look.{Look}
-use Rattle.domain.specs.live_rule.declared.view.Look.TheVariants.{Loaded, Stored}
-use Rattle.domain.specs.live_rule.Places.{cell_at, closed_at}
 use Rattle.domain.specs.live_rule.declared.rights.ChainRight.{ChainRight}
-use Rattle.domain.specs.live_rule.declared.rights.RecordRight.{RecordRight}
-use Rattle.domain.specs.live_table.Rights.{cell_in, object_in, own_in}
+use Rattle.domain.specs.live_table.Rights.{own_in}
 use Rattle.domain.specs.live_items.Retiring.{Queues}
+use Rattle.domain.specs.live_reclaim.Refusing.{RefusesRetirement}
 use Rattle.domain.proofs.live_read.Lemmas.{stays_makes}
 use Rattle.domain.specs.live_write.Chains.{list_in}
-use Rattle.domain.specs.live_write.Searching.{TakesRecord}
 use Rattle.domain.proofs.live_write.Lemmas.{index_has}
-use Rattle.rcu_list.proofs.Writing.{by_no_note, by_second, chain_known, keys_walked, map_walked, note_still, note_walked, replaced_map, same_own, stays_both, takes_over, KnowsKeys, by_result, keys_replaced}
+use Rattle.rcu_list.proofs.GivingBack.{gives_back}
+use Rattle.rcu_list.proofs.Writing.{by_no_note, by_second, chain_known, keys_walked, map_walked, note_still, note_walked, replaced_map, same_own, takes_over, KnowsKeys, by_result, keys_replaced}
 use Rattle.rcu_list.proofs.list.RcuList.replace.Goals as goal
 
 pub returns-in-Err-clause-refused : goal.returns-in-Err-clause-refused
@@ -55,7 +52,7 @@ returns-in-Ok-replace_retire-clause-replaced g c =
             subst (λ (l : Log). Begins l before) a.same.0.0 r.published.after.after_caller.0,
             begins_trans (g.W.Caller.heard c.args.caller.now) (g.W.Caller.heard c.prepare_replacement.new.caller) before a.heard.after_heard r.published.after.after_caller.1,
           ),
-      record { given = r.given; turn = r.turn; queued = subst (λ (n : ℕ). Queues qsbr allows (Begins done.seat.me.0.seen) r.object (n % g.B.Site.sizes.queues) r.given (g.W.Caller.heard c.replace_retire.new.caller)) number r.queued },
+      record { given = r.given; turn = r.turn; queued = subst (λ (n : ℕ). Queues qsbr allows (Begins done.seat.me.0.seen) r.object (n % g.B.Site.sizes.queues) r.given (g.row.D.coded.code c.args.callback) (g.W.Caller.heard c.replace_retire.new.caller)) number r.queued },
     )
 
 pub returns-in-Ok-replace_retire-clause-same : goal.returns-in-Ok-replace_retire-clause-same
@@ -81,29 +78,9 @@ returns-in-Err-replace_retire-clause-refused g c =
         a.ready.1,
         inr (by_second c.in-Err-replace_retire.ensures.refused
             (λ n. let few : length (list_in new.seat.me.0) ≤ c.in-Ok.ready.0 = n.1 in omega arith)
-            (λ k. let r = k.1 in record {
-              found = a.took.0;
-              number = (object_in c.in-Ok.ready.1.seat.me.0.object).0;
-              took = subst (λ (x : RecordRight). TakesRecord sizes (cell_in x) (object_in c.in-Ok.ready.1.seat.me.0.object).0 a.took.0) (ap (λ o. o.seat.me.0.object) (sym c.in-Err-replace_retire.ensures.back.0)) a.took.2;
-              closed = r.closed;
-              cell = cell_in c.in-Err-replace_retire.owned.seat.me.0.object;
-              looks = d.freed ∙ ap (λ (l : List Look). Stored (cell_at sizes (cell_in c.in-Err-replace_retire.owned.seat.me.0.object) 0) 0 ∷ l) (r.looked ∙ (λ i. Loaded (closed_at sizes (number i % sizes.queues)) r.closed ∷ a.took.1 i));
-              at = w.heard w2;
-              told = r.told ∙ ap (λ (n : ℕ). closed_of (n % sizes.queues) (w.heard w2)) number;
-              within = (
-                record {
-                  after_seen = subst (λ (l : Log). Begins l (w.heard w2)) a.same.0.0 r.after.after_seen;
-                  after_heard = begins_trans (w.heard w0) (w.heard w1) (w.heard w2) a.heard.after_heard r.after.after_heard;
-                  run = r.after.run;
-                },
-                d.heard.0.after_heard,
-                d.heard.0.run,
-              );
-              why = r.why;
-              load = d.loads.0;
-              loads = d.loads.1 ∙ ap (λ (l : List Log). d.loads.0 ∷ l) (r.same.1 ∙ a.same.1.0);
-              same = stays_both w w0 w1 w3 a.same.0 (stays_both w w1 w2 w3 r.same.0 d.same);
-            })),
+            (λ k. let own = ap (λ o. o.seat.me.0.object) c.in-Err-replace_retire.ensures.back.0 in
+            gives_back w g.P.GracePlan.QSBR g.K.ChainRule.allows sizes w0 w1 w2 w3 c.in-Err-replace_retire.refusal (old.number % sizes.queues) c.in-Ok.ready.1.seat.me.0.object c.in-Err-replace_retire.owned.seat.me.0.object own
+            a.same.0 a.same.1.0 a.heard.after_heard a.took (subst (λ (n : ℕ). RefusesRetirement w g.P.GracePlan.QSBR g.K.ChainRule.allows sizes (n % sizes.queues) w1 w2 c.in-Err-replace_retire.refusal) number k.1) d.freed d.heard.0 d.loads d.same)),
       ),
     )
 

@@ -1,0 +1,9 @@
+-- What a map's entries leave with.
+use base.Stored.{Gv}
+use denote.RattleType.{RattleType}
+use Rattle.rcu.specs.contracts.reclaim.Reclaim.{the_row}
+use Rattle.rcu.specs.declared.reclaim.Reclaim.TheVariants.{Gone}
+
+-- the code of the callback of an entry that leaves
+abbrev pub gone_code : (R : RattleType) → R.Denot → Gv
+gone_code R f = (the_row R).coded.code (Gone f)
