@@ -3,13 +3,14 @@
 ghost use Rattle.std.specs.Prelude.{◌≡◌};
 ghost use Rattle.atomic_table.specs.Table.{State};
 ghost use Rattle.rcu_model.specs.Promises.{IsSafeLog};
-ghost use Rattle.live_log.specs.Log.{events_of};
+ghost use Rattle.rcu_model.specs.declared.event.ObjectId.{ObjectId};
+ghost use Rattle.live_log.specs.Log.{Log, IsLiveRun, events_of};
 ghost use Rattle.rcu_hash.specs.live_rule.Rule.{KeepsRule};
 ghost use Rattle.rcu_hash.specs.live_rule.declared.view.Sizes.{Sizes};
 ghost use Rattle.rcu_hash.specs.live_rule.declared.view.View.{View};
 ghost use Rattle.rcu_hash.specs.live_read.Hearing.{FindsNothing};
 ghost use Rattle.rcu_hash.specs.domain.Waiting.{LoadedOnce};
-ghost use Rattle.rcu.specs.Headline.{IsSafeNow};
+ghost use Rattle.rcu.specs.Headline.{HasOneDeleter, IsSafeNow};
 
 use gp_memb::GracePlan;
 use live_log::the_log_is_a_run;
@@ -23,6 +24,12 @@ pub fn every_moment_is_safe<P: GracePlan, K: ChainRule, S>()
 {
     the_log_is_a_run::<K>();
 }
+
+/// In a log of the library's threads an object is queued once, into one queue and with one deleter. So the deleter that
+/// an entry of a worker tells is the very one that was handed to the retirement of the entry's object.
+pub fn objects_are_queued_with_one_deleter<P: GracePlan, K: ChainRule, D: Deleter>()
+    ensures { (log : Log) (o : ObjectId) → IsLiveRun P.QSBR K.allows log → HasOneDeleter D.row o log }
+{}
 
 /// The caller hears of the log of all that the domain's threads have done until now, by one load. It begins with all
 /// that the caller had seen and heard of, and keeps the headline's promise: in it an object's callback runs at most

@@ -21,7 +21,7 @@ pub use chains::Chains;
 pub use entering::with_domain;
 pub use gp_memb::{GracePlan, MembPlan as Memb};
 pub use gp_qsbr::QsbrPlan as Qsbr;
-pub use headline::{every_moment_is_safe, hear};
+pub use headline::{every_moment_is_safe, hear, objects_are_queued_with_one_deleter};
 pub use map::Map;
 pub use pending::{Asked, Heard, Pending, PendingOf};
 pub use program::{Program, Threaded};

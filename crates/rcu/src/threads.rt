@@ -1,5 +1,6 @@
 //! How the threads of a program get a domain.
 
+ghost use Rattle.std.specs.Prelude.{◌≡◌, IfOk, vec_len};
 ghost use Rattle.rcu.specs.Naming.{Names};
 ghost use Rattle.std.specs.Thread.{IsSync};
 
@@ -46,6 +47,7 @@ pub fn with_threads<
 ) -> Result<Ended<F::Out>, Refusal>
 where
     F::Out: Send + Drop,
+    ensures each { IfOk result (λ e. (vec_len e.answers ≡ number) × (vec_len e.reclaimed ≡ config.queues)) }
 {
     let opened = Opened::<P, K>::new(alloc, config)?;
     all::<Brand, P, K, D, R, F>(rt, alloc, opened, config.queues, number, program)
@@ -70,6 +72,7 @@ fn all<
 where
     F::Out: Send + Drop,
     requires { Names B.Site opened }
+    ensures each { IfOk result (λ e. (vec_len e.answers ≡ number) × (vec_len e.reclaimed ≡ queues)) }
 {
     let (domain, mut first) = opened.named::<B, D>(alloc)?;
     program.begin::<B>(rt, &domain, &mut first)?;
@@ -111,7 +114,9 @@ where
 
 // What the workers of this number of queues will have reclaimed: memory for it is asked for before there are threads,
 // since the parts wait for their workers.
-fn none_yet(alloc: Global, queues: usize) -> Result<Vec<Result<u64, Refusal>>, Refusal> {
+fn none_yet(alloc: Global, queues: usize) -> Result<Vec<Result<u64, Refusal>>, Refusal>
+    ensures { IfOk result (λ v. vec_len v ≡ queues) }
+{
     let mut reclaimed = Vec::new(alloc);
     for _ in 0..queues {
         if reclaimed.push(Ok(0)).is_err() {
