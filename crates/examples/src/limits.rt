@@ -34,8 +34,13 @@ fn newest<B: Site>(
 pub(crate) struct Server;
 
 impl<R: Wait> Threaded<Memb, AnyChain, NoCallback, R> for Server {
+    ghost use Rattle.std.specs.Prelude.{◌≡◌, IfOk};
+
     /// The lower limit that the thread found last.
     type Out = Result<u64, Refusal>;
+
+    // What thread 0 answers where nothing is refused, which `with_threads` tells of its first answer.
+    ghost gives = { λ _ number answer. number ≡ 0 → IfOk answer (λ lower. lower ≡ 200) };
 
     fn part<B: Site>(
         &self,

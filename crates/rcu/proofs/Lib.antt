@@ -1,5 +1,6 @@
 pub mod Giving
 pub mod Hearing
+pub mod Moving
 pub mod Once
 pub mod Putting
 pub mod Refused

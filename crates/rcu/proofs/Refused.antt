@@ -1,17 +1,15 @@
 -- What a caller has heard of where a call of a table was refused.
-use Rattle.std.proofs.Common.{◌≡◌, ◌⊎◌, ◌%◌, ◌∙◌, Bool, List, Option, None, Some, IfNone, ℕ, inl, inr, subst, sym}
+use Rattle.std.proofs.Common.{◌≡◌, ◌⊎◌, ◌%◌, ◌∙◌, Bool, Option, None, Some, IfNone, ℕ, inl, inr, subst, sym}
 use Rattle.rcu_model.specs.declared.refusal.Refusal.{Refusal}
 use Rattle.live_log.specs.declared.event.LiveEvent.{LiveEvent}
 use Rattle.live_log.specs.Log.{Log, Begins}
 use Rattle.live_log.proofs.Lemmas.{begins_trans}
 use Rattle.rcu_hash.specs.live_rule.declared.view.Sizes.{Sizes}
-use Rattle.rcu_hash.specs.live_read.Hearing.{FindsNothing, Stays}
+use Rattle.rcu_hash.specs.live_read.Hearing.{Stays}
 use Rattle.rcu_hash.specs.live_read.declared.caller.Caller.{Ghosts}
 use Rattle.rcu_hash.specs.live_reclaim.Refusing.{RefusesRetirement}
 use Rattle.rcu_hash.specs.rcu_list.Refusing.{FindsNoRecord, GivesBack}
 use Rattle.rcu_hash.specs.Refusing.{During, RefusesInsertionThrough, RefusesReplacementThrough}
-use Rattle.rcu_hash.specs.Tidying.{Tidies}
-use Rattle.rcu.specs.Keys.{HearsMore}
 use Rattle.rcu.proofs.Hearing.{Went, stays_on, went_on}
 
 module _ {W S : Type 0} (w : Ghosts W S) (old new : W) where
@@ -47,15 +45,6 @@ module _ {W S : Type 0} (w : Ghosts W S) (qsbr : Bool) (allows : Log → LiveEve
 pub went_refused : {W S P Q R : Type 0} (w : Ghosts W S) (qsbr : Bool) (allows : Log → LiveEvent → Type 0) {sizes : Sizes} {queue : ℕ} {e : Refusal} (a b c : W) → Went w qsbr allows a b → (P × Q × (c ≡ b)) ⊎ (R × RefusesRetirement w qsbr allows sizes queue b c e) → Went w qsbr allows a c
 went_refused w qsbr allows a b c had (inl r) = subst (Went w qsbr allows a) (sym r.2) had
 went_refused w qsbr allows a b c had (inr r) = went_on w qsbr allows a b c had (r.1.same.0.0, r.1.after)
-
--- a caller that hears more after one call and another hears more
-pub hears_on : {W S : Type 0} (w : Ghosts W S) (a b c : W) → HearsMore w a b → HearsMore w b c → HearsMore w a c
-hears_on w a b c p q = (q.0 ∙ p.0, begins_trans (w.heard a) (w.heard b) (w.heard c) p.1 q.1)
-
--- whatever came of a tidying, its caller hears more
-pub tidied_hears : {W S P Q D : Type 0} (w : Ghosts W S) (qsbr : Bool) (allows : Log → LiveEvent → Type 0) (old new : W) {sizes : Sizes} {d : ℕ} {jobs left : List D} → Tidies w qsbr allows old new sizes d jobs left ⊎ (P × FindsNothing w old new × Q) → Begins (w.heard old) (w.heard new) → HearsMore w old new
-tidied_hears w qsbr allows old new (inl t) later = (t.uses.made.made.0, later)
-tidied_hears w qsbr allows old new (inr s) later = (s.1.0.0, later)
 
 -- what is so where there is nothing, where there is nothing
 pub if_none : {A : Type 0} (r : Option A) (Q : Type 0) → r ≡ None → IfNone r Q → Q

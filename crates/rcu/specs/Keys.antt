@@ -15,7 +15,6 @@ use Rattle.rcu_hash.specs.live_read.declared.caller.Caller.{Ghosts}
 use Rattle.rcu_hash.specs.live_rule.declared.view.Sizes.{Sizes}
 use Rattle.rcu_hash.specs.rcu_list.Calls.{HandsOver}
 use Rattle.rcu_hash.specs.Directories.{directed_map}
-use Rattle.rcu_hash.specs.Growing.{Grows}
 use Rattle.rcu_hash.specs.Publishing.{ChangesThrough}
 use Rattle.rcu_hash.specs.Refusing.{RefusesInsertionThrough, RefusesReplacementThrough}
 use Rattle.rcu.specs.Reclaiming.{gone_code}
@@ -34,20 +33,6 @@ pub record Gets {T : Type 0} (packed : T → ℕ) (chains d : ℕ) (seen heard n
   pub before : Begins at new
   pub has : HasAt packed chains d at key found
 
--- In the call, after all that the caller had heard of, the map grew: each key is led to its bucket among these chains,
--- and no event of the growth changed what a key has. The caller has heard of it.
-pub record Grew (qsbr : Bool) (allows : Log → LiveEvent → Type 0) (chains d : ℕ) (seen heard : Log) (first buckets : ℕ) (new : Log) : Type 0 where
-  pub start : Log
-  pub entries : List (ℕ × ℕ)
-  pub grown : Log
-  pub after : Begins heard start
-  pub grows : Grows qsbr allows chains d seen start first buckets entries grown
-  pub before : Begins grown new
-
--- the caller has seen no more, and has heard of no less
-abbrev pub HearsMore : {W S : Type 0} → Ghosts W S → W → W → Type 0
-HearsMore w old new = (w.seen new ≡ w.seen old) × Begins (w.heard old) (w.heard new)
-
 -- a reader found this for the key between these two moments of it
 abbrev pub GetsValue : {T P K : Type 0} {g : plan.Ghosts P} → (T → ℕ) → ℕ → ℕ → ReaderCore P K g → ReaderCore P K g → ℕ → Option T → Type 0
 GetsValue packed chains d r s key found = Gets packed chains d (log_of r) r.seat.me.0.heard (log_of s) key found
@@ -65,10 +50,6 @@ pub record GivesWord {W S : Type 0} (w : Ghosts W S) (qsbr : Bool) (chains queue
   pub told : Begins published (w.heard new)
   pub made : MakesLast w old new published
   pub retired : (h : ℕ) → had ≡ Some h → (left : ObjectId) × (ticket : ℕ) × HandsOver qsbr tabled left (chain % queues) ticket callback published (w.heard new)
-
--- and the map grew
-abbrev pub GrewTo : {W S : Type 0} → Ghosts W S → Bool → ℕ → ℕ → W → W → ℕ → ℕ → Type 0
-GrewTo w qsbr chains d old new first buckets = Grew qsbr tabled chains d (w.seen old) (w.heard old) first buckets (w.heard new)
 
 -- The key got no value at the last of several tries: a replacement or an insertion was refused. Before it the caller
 -- stood as it stood, and had heard of no less.

@@ -3,8 +3,10 @@ pub mod Keys
 pub mod Logs
 pub mod Naming
 pub mod Reclaiming
+pub mod Resizing
 pub mod Serving
 pub mod Slots
+pub mod Threads
 pub use Rattle.rcu_model.specs.declared.refusal.Refusal.TheVariants as Refusals
 pub use Rattle.live_log.specs.Log
 pub use Rattle.rcu_hash.specs.live_read.Hearing

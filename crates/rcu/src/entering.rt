@@ -1,6 +1,6 @@
 //! How a program gets a domain.
 
-ghost use Rattle.std.specs.Prelude.{◌≡◌, IfErr};
+ghost use Rattle.std.specs.Prelude.{◌≡◌, IfErr, IfOk};
 ghost use Rattle.rcu_model.specs.declared.refusal.Refusal.TheVariants.{Memory};
 ghost use Rattle.rcu_hash.specs.domain.Config.{new_refusal};
 ghost use Rattle.rcu.specs.Naming.{Names};
@@ -22,7 +22,8 @@ pub fn with_domain<P: GracePlan + Drop, K: ChainRule, D: Deleter, R, F: Program<
     config: LiveConfig,
     program: F,
 ) -> Result<F::Out, Refusal>
-    ensures { IfErr result (λ e. e ≡ new_refusal config) }
+    ensures answered { IfOk result (λ x. F.gives program x) }
+    ensures refused { IfErr result (λ e. e ≡ new_refusal config) }
 {
     let opened = Opened::<P, K>::new(alloc, config)?;
     entered::<Brand, P, K, D, R, F>(rt, alloc, opened, program)
@@ -38,7 +39,8 @@ fn entered<
     F: Program<P, K, D, R> + Drop,
 >(rt: &R, alloc: Global, opened: Opened<P, K>, program: F) -> Result<F::Out, Refusal>
     requires { Names B.Site opened }
-    ensures { IfErr result (λ e. e ≡ Memory) }
+    ensures answered { IfOk result (λ x. F.gives program x) }
+    ensures refused { IfErr result (λ e. e ≡ Memory) }
 {
     let (domain, first) = opened.named::<B, D>(alloc)?;
     Ok(program.run::<B>(rt, alloc, &domain, first))

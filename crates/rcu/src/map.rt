@@ -10,7 +10,10 @@ ghost use Rattle.rcu_hash.specs.Directories.{HasNoKeys};
 ghost use Rattle.rcu_hash.specs.Growing.{Founds};
 ghost use Rattle.rcu_hash.specs.Refusing.{RefusesRemovalThrough};
 ghost use Rattle.rcu_hash.specs.Tidying.{IsTidied};
-ghost use Rattle.rcu.specs.Keys.{ChangesKey, GetsValue, GrewTo, HearsMore, IsNotSet};
+ghost use Rattle.rcu_hash.specs.Writers.{Each};
+ghost use Rattle.rcu.specs.declared.reclaim.Reclaim.TheVariants.{Moved};
+ghost use Rattle.rcu.specs.Keys.{ChangesKey, GetsValue, IsNotSet};
+ghost use Rattle.rcu.specs.Resizing.{GrewTo, IsNotResized, IsNotTidied, IsResized, OnlyMoves};
 
 use crate::reclaim::Reclaim;
 use crate::words::Word;
@@ -23,7 +26,8 @@ use std::sync::Wait;
 
 // This number of callbacks for records whose entries moved.
 fn moved<F: Deleter>(alloc: Global, many: usize) -> Result<Vec<Reclaim<F>>, Refusal>
-    ensures { IfErr result (λ e. e ≡ Memory) }
+    ensures each { IfOk result (λ v. Each (λ r. r ≡ Moved) v.items) }
+    ensures refused { IfErr result (λ e. e ≡ Memory) }
 {
     let mut callbacks = Vec::new(alloc);
     for _ in 0..many {
@@ -168,16 +172,17 @@ impl<'d, P: GracePlan + Drop, B: Site, F: Deleter + Copy, T: Word + Copy + Drop>
         alloc: Global,
         caller: &mut W,
     ) -> Result<(), Refusal>
-        ensures heard { HearsMore W.Caller caller.old caller.new }
+        ensures moves { OnlyMoves W.Caller P.QSBR B.sizes self.now.table.directory F.row caller.old caller.new }
         ensures tidied { IfOk result (λ _. IsTidied self.now.table.directory (W.heard caller.new)) }
+        ensures refused { IfErr result (λ e. IsNotTidied W.Caller P.QSBR B.sizes self.now.table.directory F.row caller.old caller.new e) }
     {
         let mut many = 0;
         for _ in rt.forever() {
             let end = self.table.tidy(rt, caller, moved(alloc, many)?);
             match end.stop {
                 None => return Ok(()),
-                Some(Refusal::FewJobs) => many = end.left,
-                Some(refusal) => return Err(refusal),
+                Some(refusal) if refusal != Refusal::FewJobs => return Err(refusal),
+                Some(_) => many = end.left,
             }
         }
         unreachable!()
@@ -197,14 +202,16 @@ impl<'d, P: GracePlan + Drop, B: Site, F: Deleter + Copy, T: Word + Copy + Drop>
         first: usize,
         buckets: usize,
     ) -> Result<(), Refusal>
-        ensures grown { IfOk result (λ _. GrewTo W.Caller P.QSBR B.sizes.chains self.now.table.directory caller.old caller.new first buckets) }
+        ensures grown { IfOk result (λ _. GrewTo W.Caller P.QSBR B.sizes self.now.table.directory F.row caller.old caller.new first buckets) }
+        ensures resized { IfOk result (λ _. IsResized W.Caller P.QSBR B.sizes self.now.table.directory F.row caller.old caller.new first buckets) }
         ensures tidied { IfOk result (λ _. IsTidied self.now.table.directory (W.heard caller.new)) }
+        ensures refused { IfErr result (λ e. IsNotResized W.Caller P.QSBR B.sizes self.now.table.directory F.row caller.old caller.new first buckets e) }
     {
         for _ in rt.forever() {
             match self.table.grow(rt, alloc, caller, first, buckets) {
                 Ok(_) => return self.tidy(rt, alloc, caller),
-                Err(Refusal::Busy) => self.tidy(rt, alloc, caller)?,
-                Err(refusal) => return Err(refusal),
+                Err(refusal) if refusal != Refusal::Busy => return Err(refusal),
+                Err(_) => self.tidy(rt, alloc, caller)?,
             }
         }
         unreachable!()

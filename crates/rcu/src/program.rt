@@ -1,5 +1,7 @@
 //! What is run over a domain.
 
+ghost use Rattle.std.specs.Prelude.{ℕ, ⊤};
+
 use gp_memb::GracePlan;
 use rcu_hash::{ChainRule, Deleter, Domain, Handle, Site};
 use rcu_model::Refusal;
@@ -11,6 +13,9 @@ pub trait Program<P: GracePlan, K: ChainRule, D: Deleter, R> {
     /// What it answers.
     type Out;
 
+    /// What it may answer. A program that leaves this out says nothing of it.
+    ghost gives: { Self → Self.Out → Type 0 } = { λ _ _. ⊤ };
+
     /// Runs it, over a domain with no reader, whose first handle has seen nothing yet.
     fn run<B: Site>(
         self,
@@ -18,7 +23,8 @@ pub trait Program<P: GracePlan, K: ChainRule, D: Deleter, R> {
         alloc: Global,
         domain: &Domain<P, K, B, D>,
         first: Handle<B>,
-    ) -> Self::Out;
+    ) -> Self::Out
+        ensures { gives self result };
 }
 
 /// What several threads run over a domain of their own, under a runtime `R`. `with_threads` runs it, and the workers of
@@ -26,6 +32,9 @@ pub trait Program<P: GracePlan, K: ChainRule, D: Deleter, R> {
 pub trait Threaded<P: GracePlan, K: ChainRule, D: Deleter, R> {
     /// What a thread answers.
     type Out;
+
+    /// What the thread of a number may answer. A program that leaves this out says nothing of it.
+    ghost gives: { Self → ℕ → Self.Out → Type 0 } = { λ _ _ _. ⊤ };
 
     /// What is done before there are threads, over a domain with no reader, whose first handle has seen nothing yet.
     /// Each thread has seen all that was done here. Where it is refused no thread starts.
@@ -46,5 +55,6 @@ pub trait Threaded<P: GracePlan, K: ChainRule, D: Deleter, R> {
         domain: &Domain<P, K, B, D>,
         own: Handle<B>,
         number: usize,
-    ) -> Self::Out;
+    ) -> Self::Out
+        ensures { gives self.now number result };
 }

@@ -2,6 +2,7 @@
 
 ghost use Rattle.std.specs.Prelude.{◌≡◌, IfOk, vec_len};
 ghost use Rattle.rcu.specs.Naming.{Names};
+ghost use Rattle.rcu.specs.Threads.{EachGives};
 ghost use Rattle.std.specs.Thread.{IsSync};
 
 use crate::program::Threaded;
@@ -48,6 +49,7 @@ pub fn with_threads<
 where
     F::Out: Send + Drop,
     ensures each { IfOk result (λ e. (vec_len e.answers ≡ number) × (vec_len e.reclaimed ≡ config.queues)) }
+    ensures answered { IfOk result (λ e. EachGives (F.gives program.now) number e.answers.items) }
 {
     let opened = Opened::<P, K>::new(alloc, config)?;
     all::<Brand, P, K, D, R, F>(rt, alloc, opened, config.queues, number, program)
@@ -73,6 +75,7 @@ where
     F::Out: Send + Drop,
     requires { Names B.Site opened }
     ensures each { IfOk result (λ e. (vec_len e.answers ≡ number) × (vec_len e.reclaimed ≡ queues)) }
+    ensures answered { IfOk result (λ e. EachGives (F.gives program.now) number e.answers.items) }
 {
     let (domain, mut first) = opened.named::<B, D>(alloc)?;
     program.begin::<B>(rt, &domain, &mut first)?;
@@ -85,12 +88,16 @@ where
         rt,
         ||
             requires { IsSync R.row }
+            ensures len { IfOk result (λ v. vec_len v ≡ number) }
+            ensures each { IfOk result (λ v. EachGives (F.gives program.entry.now) number v.items) }
         {
             let answers = map_indices(
                 rt,
                 alloc,
                 number,
-                &|index| program.part::<B>(rt, alloc, home, own(rt, home, from), index),
+                &|index|
+                    ensures { F.gives program.entry.now index result }
+                { program.part::<B>(rt, alloc, home, own(rt, home, from), index) },
             );
             home.close(rt, &mut *from.lock(rt));
             answers

@@ -1,9 +1,9 @@
 -- What an earlier directory left is free once a grace period has been waited for, and no part of the table's map.
 use base.Stored.{Gv}
-use Rattle.std.proofs.Common.{Bool, ◌≡◌, ◌≢◌, ◌⊎◌, ℕ, ◌+◌, ◌%◌, ◌<◌, ◌≤◌, List, [], ◌∷◌, ◌++◌, append_assoc, Some, length, map, take, suc, zero, slice_get, slice_index_or, refl, sym, ap, ◌∙◌, subst, inl, inr, ⊎_elim, arith}
+use Rattle.std.proofs.Common.{Bool, ◌≡◌, ◌≢◌, ◌⊎◌, ℕ, ◌+◌, ◌%◌, ◌<◌, ◌≤◌, List, [], ◌∷◌, ◌++◌, append_assoc, Some, length, map, reverse, take, suc, zero, slice_get, slice_index_or, refl, sym, ap, ◌∙◌, subst, inl, inr, ⊎_elim, arith}
 use Rattle.std.specs.Prelude.{Option, None, IfSome, Result, Ok, Err, IfOk, IfErr}
 use Rattle.std.proofs.Math.Logic.{∥∥₁_elim, ∥∥₁_map, ∥∥₁_map₂}
-use Rattle.std.proofs.lemmas.List.{append-nil, length-append, map-append}
+use Rattle.std.proofs.lemmas.List.{append-nil, map-append, reverse-append}
 use Rattle.std.proofs.lemmas.Nat.{mod_below}
 use Rattle.rcu_model.specs.declared.event.ObjectId.{ObjectId}
 use Rattle.rcu_model.specs.declared.refusal.Refusal.{Refusal}
@@ -33,7 +33,7 @@ use Rattle.rcu_hash.specs.Leaving.{LeavesMap, Writes}
 use Rattle.rcu_hash.specs.Naming.{words_by}
 use Rattle.rcu_hash.specs.Tables.{bucket_of}
 use Rattle.rcu_list.specs.domain.Waiting.{FindsMore}
-use Rattle.rcu_hash.specs.Tidying.{ClearsNote, Cuts, Clears, Does, Follow, HasWaited, IsLeft, IsRefused, Kind, Retires, Uses, WasReplaced, cut_by, cuts_in, objects_in, retired_by, retired_in}
+use Rattle.rcu_hash.specs.Tidying.{ClearsNote, Cuts, Clears, Does, Follow, HasWaited, IsLeft, IsRefused, Kind, Retires, Uses, WasReplaced, callbacks_by, callbacks_in, cut_by, cuts_in, objects_in}
 use Rattle.rcu_hash.specs.Writers.{Each, HasKeysIn, HasNote, IsAlone, IsOutside}
 use Rattle.rcu_hash.proofs.Changing.{other_map}
 use Rattle.rcu_hash.proofs.Holds.{each_last}
@@ -193,64 +193,64 @@ module _ (qsbr : Bool) (allows : Log → LiveEvent → Type 0) where
 
 module _ (qsbr : Bool) (allows : Log → LiveEvent → Type 0) (sizes : Sizes) (d : ℕ) (seen : Log) where
   does_weaker : (known heard log : Log) (k : Kind) → Begins known heard → Does qsbr allows sizes d seen heard k log → Does qsbr allows sizes d seen known k log
-  does_weaker known heard log Cuts b r = record { chain = r.chain; object = r.object; ticket = r.ticket; callback = r.callback; published = r.published; leaves = leaves_weaker qsbr allows sizes.chains d seen known heard (Object (Cut r.chain r.object)) r.published b r.leaves; noted = r.noted; hands = r.hands }
-  does_weaker known heard log Retires b r = record { object = r.object; given = r.given; callback = r.callback; queued = let q = r.queued in record { before = q.before; at = (q.at.0, begins_trans known heard q.before b q.at.1, q.at.2); within = q.within; retired = q.retired; id = q.id; is = q.is; wrote = q.wrote; last = q.last; run = q.run } }
+  does_weaker known heard log (Cuts callback) b r = record { chain = r.chain; object = r.object; ticket = r.ticket; published = r.published; leaves = leaves_weaker qsbr allows sizes.chains d seen known heard (Object (Cut r.chain r.object)) r.published b r.leaves; noted = r.noted; hands = r.hands }
+  does_weaker known heard log (Retires callback) b r = record { object = r.object; given = r.given; queued = let q = r.queued in record { before = q.before; at = (q.at.0, begins_trans known heard q.before b q.at.1, q.at.2); within = q.within; retired = q.retired; id = q.id; is = q.is; wrote = q.wrote; last = q.last; run = q.run } }
   does_weaker known heard log Clears b r = record { chain = r.chain; leaves = leaves_weaker qsbr allows sizes.chains d seen known heard (ChainNote r.chain 0) log b r.leaves; noted = r.noted }
 
-  follow_weaker : (known heard log : Log) (ss : List (Kind × Log)) → Begins known heard → Follow qsbr allows sizes d seen heard ss log → Follow qsbr allows sizes d seen known ss log
+  pub follow_weaker : (known heard log : Log) (ss : List (Kind × Log)) → Begins known heard → Follow qsbr allows sizes d seen heard ss log → Follow qsbr allows sizes d seen known ss log
   follow_weaker known heard log [] b f = begins_trans known heard log b f
   follow_weaker known heard log (s ∷ ss) b f = (does_weaker known heard s.1 s.0 b f.0, f.1)
 
-  follow_both : (heard mid log : Log) (ss ts : List (Kind × Log)) → Follow qsbr allows sizes d seen heard ss mid → Follow qsbr allows sizes d seen mid ts log → Follow qsbr allows sizes d seen heard (ss ++ ts) log
+  pub follow_both : (heard mid log : Log) (ss ts : List (Kind × Log)) → Follow qsbr allows sizes d seen heard ss mid → Follow qsbr allows sizes d seen mid ts log → Follow qsbr allows sizes d seen heard (ss ++ ts) log
   follow_both heard mid log [] ts f g = follow_weaker heard mid log ts f g
   follow_both heard mid log (s ∷ ss) ts f g = (f.0, follow_both s.1 mid log ss ts f.1 g)
 
-  many_both : (ss ts : List (Kind × Log)) → retired_in (ss ++ ts) ≡ retired_in ss + retired_in ts
-  many_both [] ts = omega arith
-  many_both (s ∷ ss) ts = let rest = many_both ss ts in omega arith
+  pub callbacks_both : (ss ts : List (Kind × Log)) → callbacks_in (ss ++ ts) ≡ callbacks_in ss ++ callbacks_in ts
+  callbacks_both [] ts = refl
+  callbacks_both (s ∷ ss) ts = ap (λ cs. callbacks_by s.0 ++ cs) (callbacks_both ss ts) ∙ sym (append_assoc (callbacks_by s.0) (callbacks_in ss) (callbacks_in ts))
 
-  cuts_both : (ss ts : List (Kind × Log)) → cuts_in (ss ++ ts) ≡ cuts_in ss + cuts_in ts
+  pub cuts_both : (ss ts : List (Kind × Log)) → cuts_in (ss ++ ts) ≡ cuts_in ss + cuts_in ts
   cuts_both [] ts = omega arith
   cuts_both (s ∷ ss) ts = let rest = cuts_both ss ts in omega arith
 
   -- what was heard of at the end began with what was before
   pub heard_on : (known heard log : Log) (ss : List (Kind × Log)) → Begins known heard → Follow qsbr allows sizes d seen heard ss log → Begins known log
   heard_on known heard log [] b f = begins_trans known heard log b f
-  heard_on known heard log ((Cuts, at) ∷ ss) b f = let r = f.0 in let p = r.leaves.writes in
-      heard_on known at log ss (queued_later qsbr allows (Begins r.published) r.object (r.chain % sizes.queues) r.hands.given r.callback known at r.hands.queued
+  heard_on known heard log ((Cuts callback, at) ∷ ss) b f = let r = f.0 in let p = r.leaves.writes in
+      heard_on known at log ss (queued_later qsbr allows (Begins r.published) r.object (r.chain % sizes.queues) r.hands.given callback known at r.hands.queued
       (begins_trans known r.published r.hands.queued.before (begins_trans known p.before r.published (begins_trans known heard p.before b p.after.1) (_ ∷ [], p.wrote)) r.hands.queued.at)) f.1
-  heard_on known heard log ((Retires, at) ∷ ss) b f = let r = f.0 in
-      heard_on known at log ss (queued_later qsbr allows _ r.object (d % sizes.queues) r.given r.callback known at r.queued (begins_trans known heard r.queued.before b r.queued.at.1)) f.1
+  heard_on known heard log ((Retires callback, at) ∷ ss) b f = let r = f.0 in
+      heard_on known at log ss (queued_later qsbr allows _ r.object (d % sizes.queues) r.given callback known at r.queued (begins_trans known heard r.queued.before b r.queued.at.1)) f.1
   heard_on known heard log ((Clears, at) ∷ ss) b f = let p = f.0.leaves.writes in
       heard_on known at log ss (begins_trans known p.before at (begins_trans known heard p.before b p.after.1) (_ ∷ [], p.wrote)) f.1
 
-  module _ {D W S : Type 0} (w : Ghosts W S) where
-    pub uses_none : (a b : W) (jobs : List D) (heard log : Log) → Stays w a b → Begins heard log → Uses qsbr allows sizes d seen w a b jobs jobs heard log
-    uses_none a b jobs heard log stays before = record { used = []; are = sym (append-nil jobs); steps = []; follow = before; many = refl; made = none_made w a b stays }
+  module _ {D W S : Type 0} (w : Ghosts W S) (code : D → Gv) where
+    pub uses_none : (a b : W) (jobs : List D) (heard log : Log) → Stays w a b → Begins heard log → Uses qsbr allows sizes d seen w code a b jobs jobs heard log
+    uses_none a b jobs heard log stays before = record { used = []; are = sym (append-nil jobs); steps = []; follow = before; callbacks = refl; made = none_made w a b stays }
 
-    pub uses_both : (a b c : W) (jobs mid left : List D) (heard then log : Log) → Uses qsbr allows sizes d seen w a b jobs mid heard then → Uses qsbr allows sizes d seen w b c mid left then log → Uses qsbr allows sizes d seen w a c jobs left heard log
+    pub uses_both : (a b c : W) (jobs mid left : List D) (heard then log : Log) → Uses qsbr allows sizes d seen w code a b jobs mid heard then → Uses qsbr allows sizes d seen w code b c mid left then log → Uses qsbr allows sizes d seen w code a c jobs left heard log
     uses_both a b c jobs mid left heard then log x y = record {
       used = y.used ++ x.used;
       are = x.are ∙ (ap (λ (l : List D). l ++ x.used) y.are ∙ append_assoc left y.used x.used);
       steps = x.steps ++ y.steps;
       follow = follow_both heard then log x.steps y.steps x.follow y.follow;
-      many = let one = many_both x.steps y.steps in let two = length-append y.used x.used in let three = x.many in let four = y.many in omega arith;
+      callbacks = callbacks_both x.steps y.steps ∙ (λ i. x.callbacks i ++ y.callbacks i) ∙ sym (ap (map code) (reverse-append y.used x.used) ∙ map-append code (reverse x.used) (reverse y.used));
       made = subst (MakesMany w a c) (sym (cuts_both x.steps y.steps)) (more_made w a b c (cuts_in x.steps) (cuts_in y.steps) x.made y.made);
     }
 
     -- one callback for one step
-    pub uses_one : (a b : W) (jobs left : List D) (job : D) (heard log : Log) (k : Kind) → retired_by k ≡ 1 → MakesMany w a b (cut_by k) → jobs ≡ left ++ job ∷ [] → Does qsbr allows sizes d seen heard k log → Uses qsbr allows sizes d seen w a b jobs left heard log
+    pub uses_one : (a b : W) (jobs left : List D) (job : D) (heard log : Log) (k : Kind) → callbacks_by k ≡ code job ∷ [] → MakesMany w a b (cut_by k) → jobs ≡ left ++ job ∷ [] → Does qsbr allows sizes d seen heard k log → Uses qsbr allows sizes d seen w code a b jobs left heard log
     uses_one a b jobs left job heard log k one made are does = let alone : cut_by k ≡ cut_by k + 0 = omega arith in record {
       used = job ∷ [];
       are = are;
       steps = (k, log) ∷ [];
       follow = (does, ([], refl));
-      many = omega (arith, one);
+      callbacks = append-nil (callbacks_by k) ∙ one;
       made = subst (MakesMany w a b) alone made;
     }
 
-    pub uses_no : (a b : W) (jobs : List D) (heard log : Log) → Stays w a b → ClearsNote qsbr allows sizes d seen heard log → Uses qsbr allows sizes d seen w a b jobs jobs heard log
-    uses_no a b jobs heard log stays does = record { used = []; are = sym (append-nil jobs); steps = (Clears, log) ∷ []; follow = (does, ([], refl)); many = refl; made = none_made w a b stays }
+    pub uses_no : (a b : W) (jobs : List D) (heard log : Log) → Stays w a b → ClearsNote qsbr allows sizes d seen heard log → Uses qsbr allows sizes d seen w code a b jobs jobs heard log
+    uses_no a b jobs heard log stays does = record { used = []; are = sym (append-nil jobs); steps = (Clears, log) ∷ []; follow = (does, ([], refl)); callbacks = refl; made = none_made w a b stays }
 
 -- what is so of an option where there is one
 pub some_on : {A : Type 0} (r : Option A) (P Q : A → Type 0) → ((x : A) → P x → Q x) → IfSome r P → IfSome r Q

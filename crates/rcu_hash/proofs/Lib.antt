@@ -8,6 +8,7 @@ pub mod Freeing
 pub mod Going
 pub mod Holds
 pub mod Hearing
+pub mod Lemmas
 pub mod Lending
 pub mod Looking
 pub mod Named

@@ -1,6 +1,6 @@
 -- What a tidying tells of what earlier directories left.
 use base.Stored.{Gv}
-use Rattle.std.specs.Prelude.{◌≡◌, ◌⊎◌, ℕ, ◌+◌, ◌%◌, ◌^◌, ◌<◌, ◌≤◌, ◌∷◌, ◌++◌, Bool, List, [], Option, Some, length}
+use Rattle.std.specs.Prelude.{◌≡◌, ◌⊎◌, ℕ, ◌+◌, ◌%◌, ◌^◌, ◌<◌, ◌≤◌, ◌∷◌, ◌++◌, Bool, List, [], Option, Some, length, map, reverse}
 use Rattle.std.proofs.Props.{props}
 use Rattle.rcu_model.specs.declared.event.ObjectId.{ObjectId}
 use Rattle.rcu_model.specs.declared.refusal.Refusal.{Refusal}
@@ -10,7 +10,7 @@ use Rattle.live_log.specs.declared.event.LiveEvent.{LiveEvent}
 use Rattle.live_log.specs.declared.event.LiveEvent.TheVariants.{ChainNote, Object}
 use Rattle.live_log.specs.declared.event.ObjectEvent.TheVariants.{Cut, Replace, Retire}
 use Rattle.live_log.specs.Log.{Log, Begins, Has, HaveEnded, chain_note, closed_of, note_of, seq_of, state_of}
-use Rattle.live_log.specs.Tables.{IsDirectory, Names}
+use Rattle.live_log.specs.Tables.{IsDirectory, Names, tabled}
 use Rattle.rcu_list.specs.live_rule.declared.view.Sizes.{Sizes}
 use Rattle.rcu_list.specs.live_rule.declared.view.View.{View}
 use Rattle.rcu_list.specs.live_items.Retiring.{Queues}
@@ -82,24 +82,26 @@ abbrev pub objects_in : List View → ℕ
 objects_in [] = 0
 objects_in (v ∷ vs) = length (list_in v) + objects_in vs
 
--- what a step does: it cuts and retires an object, or retires the record of an earlier directory, or takes a chain's
--- note
+-- what a step does: it cuts an object and retires it with the callback of this code, or retires the record of an
+-- earlier directory so, or takes a chain's note
 pub data Kind : Type 0 where
-  Cuts : Kind
-  Retires : Kind
+  Cuts : Gv → Kind
+  Retires : Gv → Kind
   Clears : Kind
 
-abbrev pub retired_by : Kind → ℕ
-retired_by Clears = 0
-retired_by _ = 1
+-- the callbacks of the retirements among them
+abbrev pub callbacks_by : Kind → List Gv
+callbacks_by (Cuts callback) = callback ∷ []
+callbacks_by (Retires callback) = callback ∷ []
+callbacks_by Clears = []
 
-abbrev pub retired_in : List (Kind × Log) → ℕ
-retired_in [] = 0
-retired_in (s ∷ ss) = retired_by s.0 + retired_in ss
+abbrev pub callbacks_in : List (Kind × Log) → List Gv
+callbacks_in [] = []
+callbacks_in (s ∷ ss) = callbacks_by s.0 ++ callbacks_in ss
 
 -- and which of them change a chain
 abbrev pub cut_by : Kind → ℕ
-cut_by Cuts = 1
+cut_by (Cuts callback) = 1
 cut_by _ = 0
 
 abbrev pub cuts_in : List (Kind × Log) → ℕ
@@ -110,22 +112,20 @@ cuts_in (s ∷ ss) = cut_by s.0 + cuts_in ss
 module _ (qsbr : Bool) (allows : Log → LiveEvent → Type 0) (sizes : Sizes) (d : ℕ) (seen : Log) where
   -- and by what it had heard of before the step
   module _ (heard : Log) where
-    -- an object left a chain that had the table's note, and was retired after that
-    pub record RetiresObject (log : Log) : Type 0 where
+    -- an object left a chain that had the table's note, and was retired after that, with this callback
+    pub record RetiresObject (callback : Gv) (log : Log) : Type 0 where
       pub chain : ℕ
       pub object : ObjectId
       pub ticket : ℕ
-      pub callback : Gv
       pub published : Log
       pub leaves : LeavesMap qsbr allows sizes.chains d seen heard (Object (Cut chain object)) published
       pub noted : chain_note chain leaves.writes.before ≡ d + 1
       pub hands : HandsOver qsbr allows object (chain % sizes.queues) ticket callback published log
 
-    -- the record of an earlier directory was retired
-    pub record RetiresRecord (log : Log) : Type 0 where
+    -- the record of an earlier directory was retired with it
+    pub record RetiresRecord (callback : Gv) (log : Log) : Type 0 where
       pub object : ObjectId
       pub given : ℕ
-      pub callback : Gv
       pub queued : Queues qsbr allows (λ at. Begins seen at × Begins heard at × WasReplaced d object at) object (d % sizes.queues) given callback log
 
     -- a chain that had the table's note has none any more
@@ -135,8 +135,8 @@ module _ (qsbr : Bool) (allows : Log → LiveEvent → Type 0) (sizes : Sizes) (
       pub noted : chain_note chain leaves.writes.before ≡ d + 1
 
   abbrev pub Does : Log → Kind → Log → Type 0
-  Does heard Cuts log = RetiresObject heard log
-  Does heard Retires log = RetiresRecord heard log
+  Does heard (Cuts callback) log = RetiresObject heard callback log
+  Does heard (Retires callback) log = RetiresRecord heard callback log
   Does heard Clears log = ClearsNote heard log
 
   -- the steps, the first one first, each after what the caller had heard of at the one before it
@@ -144,15 +144,20 @@ module _ (qsbr : Bool) (allows : Log → LiveEvent → Type 0) (sizes : Sizes) (
   Follow heard [] log = Begins heard log
   Follow heard (s ∷ ss) log = Does heard s.0 s.1 × Follow s.1 ss log
 
-  -- steps that used these callbacks, from the back, one for each retirement; no change was made for the caller but
-  -- one for each cut
-  pub record Uses {D W S : Type 0} (w : Ghosts W S) (old new : W) (jobs left : List D) (heard log : Log) : Type 0 where
+  -- Steps that used these callbacks, by their codes: from the back, each retirement the next one. No change was made for
+  -- the caller but one for each cut.
+  pub record Uses {D W S : Type 0} (w : Ghosts W S) (code : D → Gv) (old new : W) (jobs left : List D) (heard log : Log) : Type 0 where
     pub used : List D
     pub are : jobs ≡ left ++ used
     pub steps : List (Kind × Log)
     pub follow : Follow heard steps log
-    pub many : retired_in steps ≡ length used
+    pub callbacks : callbacks_in steps ≡ map code (reverse used)
     pub made : MakesMany w old new (cuts_in steps)
+
+module _ {D W S : Type 0} (qsbr : Bool) (sizes : Sizes) (d : ℕ) (w : Ghosts W S) (code : D → Gv) (old new : W) (jobs left : List D) where
+  -- in a call, after what its caller had heard of
+  abbrev pub UsesUp : Type 0
+  UsesUp = Uses qsbr tabled sizes d (w.seen old) w code old new jobs left (w.heard old) (w.heard new)
 
 module _ {W S : Type 0} (w : Ghosts W S) (old new : W) where
   -- a queue was closed, or there was no memory
@@ -173,12 +178,12 @@ module _ {W S : Type 0} (w : Ghosts W S) (qsbr : Bool) (allows : Log → LiveEve
   StopsTidying retired left jobs e = (0 < left) × (((e ≡ Exhausted) × (retired ≡ 0) × FindsEnd) ⊎ IsStopped w old new jobs e)
 
   -- a grace period was waited for, and only then something was retired; there may have been waits before it
-  pub record Tidies (sizes : Sizes) (d : ℕ) {D : Type 0} (jobs left : List D) : Type 0 where
+  pub record Tidies (sizes : Sizes) (d : ℕ) {D : Type 0} (code : D → Gv) (jobs left : List D) : Type 0 where
     pub earlier : List Log
     pub waited : Log
     pub ended : Synchronized qsbr allows (w.seen old) (w.heard old) (earlier ++ w.loads old) (w.loads new) waited
-    pub uses : Uses qsbr allows sizes d (w.seen old) w old new jobs left waited (w.heard new)
+    pub uses : Uses qsbr allows sizes d (w.seen old) w code old new jobs left waited (w.heard new)
 
   -- or nothing was, and the callbacks come back
-  abbrev pub EndsTidying : (sizes : Sizes) (d : ℕ) {D : Type 0} → (jobs left : List D) → Type 0
-  EndsTidying sizes d jobs left = Tidies sizes d jobs left ⊎ ((left ≡ jobs) × FindsNothing w old new × ((waits : List Log) × (w.loads new ≡ waits ++ w.loads old)))
+  abbrev pub EndsTidying : (sizes : Sizes) (d : ℕ) {D : Type 0} → (D → Gv) → (jobs left : List D) → Type 0
+  EndsTidying sizes d code jobs left = Tidies sizes d code jobs left ⊎ ((left ≡ jobs) × FindsNothing w old new × ((waits : List Log) × (w.loads new ≡ waits ++ w.loads old)))

@@ -12,7 +12,7 @@ ghost use Rattle.rcu_list.specs.live_table.Rights.{object_in};
 ghost use Rattle.rcu_list.specs.live_read.Hearing.{IsAfter, MakesMany, OnlyHears, Stays};
 ghost use Rattle.rcu_list.specs.live_write.Chains.{list_in};
 ghost use Rattle.rcu_list.specs.domain.Waiting.{FindsMore};
-ghost use Rattle.rcu_hash.specs.Tidying.{ClearsNote, EndsTidying, HasWaited, IsLeft, IsLinked, IsRecord, IsRefused, IsRest, IsStopped, IsTidied, RetiresObject, StopsTidying, Uses, WasCleared, chains_in, objects_in};
+ghost use Rattle.rcu_hash.specs.Tidying.{ClearsNote, EndsTidying, HasWaited, IsLeft, IsLinked, IsRecord, IsRefused, IsRest, IsStopped, IsTidied, RetiresObject, StopsTidying, UsesUp, WasCleared, chains_in, objects_in};
 ghost use Rattle.rcu_hash.specs.Writers.{Each, HasNothing};
 
 use crate::directory::{Desk, Naming};
@@ -79,7 +79,7 @@ impl<'d, P: GracePlan + Drop, B: Site, D: Deleter> Desk<'d, P, B, D> {
         requires waited { HasWaited naming.directory naming.object (W.heard caller.old) }
         requires chain { IsLeft naming.directory naming.first naming.buckets chain.old.seat.me.0 }
         requires some { 0 < length (list_in chain.old.seat.me.0) }
-        ensures retired { IfOk result (λ _. RetiresObject P.QSBR tabled B.sizes naming.directory (W.seen caller.old) (W.heard caller.old) (W.heard caller.new) × (length (list_in chain.old.seat.me.0) ≡ length (list_in chain.new.seat.me.0) + 1)) }
+        ensures retired { IfOk result (λ _. RetiresObject P.QSBR tabled B.sizes naming.directory (W.seen caller.old) (W.heard caller.old) (D.row.coded.code job) (W.heard caller.new) × (length (list_in chain.old.seat.me.0) ≡ length (list_in chain.new.seat.me.0) + 1)) }
         ensures refused { IfErr result (λ e. (e.1 ≡ job) × IsRefused W.Caller caller.old caller.new e.0 × (list_in chain.new.seat.me.0 ≡ list_in chain.old.seat.me.0)) }
         ensures chain { IsLeft naming.directory naming.first naming.buckets chain.new.seat.me.0 }
         ensures number { chain.new.number ≡ chain.old.number }
@@ -108,7 +108,7 @@ impl<'d, P: GracePlan + Drop, B: Site, D: Deleter> Desk<'d, P, B, D> {
     ) -> Result<(), Refusal>
         requires waited { HasWaited naming.directory naming.object (W.heard caller.old) }
         requires chain { IsLeft naming.directory naming.first naming.buckets chain.old.seat.me.0 }
-        ensures uses { Uses P.QSBR tabled B.sizes naming.directory (W.seen caller.old) W.Caller caller.old caller.new jobs.old.items jobs.new.items (W.heard caller.old) (W.heard caller.new) }
+        ensures uses { UsesUp P.QSBR B.sizes naming.directory W.Caller D.row.coded.code caller.old caller.new jobs.old.items jobs.new.items }
         ensures emptied { IfOk result (λ _. HasNothing chain.new.seat.me.0) }
         ensures stopped { IfErr result (λ e. (0 < length (list_in chain.new.seat.me.0)) × IsStopped W.Caller caller.old caller.new jobs.new.items e) }
         ensures chain { IsLeft naming.directory naming.first naming.buckets chain.new.seat.me.0 }
@@ -164,7 +164,7 @@ impl<'d, P: GracePlan + Drop, B: Site, D: Deleter> Desk<'d, P, B, D> {
     ) -> Result<(), Refusal>
         requires waited { HasWaited naming.directory naming.object (W.heard caller.old) }
         requires chains { Each (IsLeft naming.directory naming.first naming.buckets) (map (λ c. c.seat.me.0) chains.old.items) }
-        ensures uses { Uses P.QSBR tabled B.sizes naming.directory (W.seen caller.old) W.Caller caller.old caller.new jobs.old.items jobs.new.items (W.heard caller.old) (W.heard caller.new) }
+        ensures uses { UsesUp P.QSBR B.sizes naming.directory W.Caller D.row.coded.code caller.old caller.new jobs.old.items jobs.new.items }
         ensures chains { Each (IsLeft naming.directory naming.first naming.buckets) (map (λ c. c.seat.me.0) chains.new.items) }
         ensures emptied { IfOk result (λ _. chains.new.items ≡ []) }
         ensures cleared { (c : ℕ) → In (chains_in (map (λ c. c.seat.me.0) chains.old.items)) c → WasCleared (W.heard caller.old) c (W.heard caller.new) ⊎ In (chains_in (map (λ c. c.seat.me.0) chains.new.items)) c }
@@ -196,7 +196,7 @@ fn retire_record<P: GracePlan + Drop, B: Site, D: Deleter, W: Caller<B>, R: Wait
     replaced: &mut Option<Unlinked<B>>,
     jobs: &mut Vec<D>,
 ) -> Result<(), Refusal>
-    ensures uses { (d : ℕ) → IfSome replaced.old (λ u. IsRecord d u.chain u.seat.me.0) → Uses P.QSBR tabled B.sizes d (W.seen caller.old) W.Caller caller.old caller.new jobs.old.items jobs.new.items (W.heard caller.old) (W.heard caller.new) }
+    ensures uses { (d : ℕ) → IfSome replaced.old (λ u. IsRecord d u.chain u.seat.me.0) → UsesUp P.QSBR B.sizes d W.Caller D.row.coded.code caller.old caller.new jobs.old.items jobs.new.items }
     ensures retired { IfOk result (λ _. replaced.new ≡ None) }
     ensures told { (o : ObjectId) → option_map (λ u. object_in u.seat.me.0.object) replaced.old ≡ Some o → Has (Object (Retire o)) (W.heard caller.new) ⊎ (option_map (λ u. object_in u.seat.me.0.object) replaced.new ≡ Some o) }
     ensures kept { (replaced.new ≡ None) ⊎ (replaced.new ≡ replaced.old) }
@@ -293,7 +293,7 @@ impl<'d, P: GracePlan + Drop, B: Site, D: Deleter> RcuHash<'d, P, B, D> {
         ensures cleared { (c : ℕ) → In (chains_in (map (λ c. c.seat.me.0) chains.old.items)) c → WasCleared (W.heard caller.old) c (W.heard caller.new) ⊎ In (chains_in (map (λ c. c.seat.me.0) chains.new.items)) c }
         ensures done { IfOk result (λ _. (chains.new.items ≡ []) × (replaced.new ≡ None)) }
         ensures chains { IfErr result (λ _. 0 < vec_len chains.new) × Each (IsLeft naming.directory naming.first naming.buckets) (map (λ c. c.seat.me.0) chains.new.items) }
-        ensures uses { Uses P.QSBR tabled B.sizes naming.directory (W.seen caller.old) W.Caller caller.old caller.new jobs.old.items jobs.new.items (W.heard caller.old) (W.heard caller.new) }
+        ensures uses { UsesUp P.QSBR B.sizes naming.directory W.Caller D.row.coded.code caller.old caller.new jobs.old.items jobs.new.items }
         ensures stopped { IfErr result (λ e. (IsSome replaced.new ⊎ (0 < objects_in (map (λ c. c.seat.me.0) chains.new.items))) × IsStopped W.Caller caller.old caller.new jobs.new.items e) }
         ensures same { FindsMore W.Caller caller.old caller.new }
     {
@@ -341,7 +341,7 @@ impl<'d, P: GracePlan + Drop, B: Site, D: Deleter> RcuHash<'d, P, B, D> {
         requires directory { naming.directory ≡ self.now.directory }
         requires waited { HasWaited naming.directory naming.object (W.heard caller.old) }
         ensures jobs { IfOk result (λ r. (used : List D) × (jobs.items ≡ r.jobs.items ++ used) × (length used ≡ r.retired)) }
-        ensures uses { IfOk result (λ r. Uses P.QSBR tabled B.sizes naming.directory (W.seen caller.old) W.Caller caller.old caller.new jobs.items r.jobs.items (W.heard caller.old) (W.heard caller.new)) }
+        ensures uses { IfOk result (λ r. UsesUp P.QSBR B.sizes naming.directory W.Caller D.row.coded.code caller.old caller.new jobs.items r.jobs.items) }
         ensures done { IfOk result (λ r. IfNone r.stop ((r.left ≡ 0) × IsTidied naming.directory (W.heard caller.new))) }
         ensures stopped { IfOk result (λ r. IfSome r.stop (λ e. (0 < r.left) × IsStopped W.Caller caller.old caller.new r.jobs.items e)) }
         ensures back { IfErr result (λ js. (js ≡ jobs) × (caller.new ≡ caller.old)) }
@@ -391,7 +391,7 @@ impl<'d, P: GracePlan + Drop, B: Site, D: Deleter> RcuHash<'d, P, B, D> {
     /// writers and readers go on, and a growth is refused with `Busy`.
     pub fn tidy<W: Caller<B>, R: Wait>(&self, rt: &R, caller: &mut W, jobs: Vec<D>) -> TidyEnd<D>
         ensures jobs { (used : List D) × (jobs.items ≡ result.jobs.items ++ used) × (length used ≡ result.retired) }
-        ensures tidied { EndsTidying W.Caller P.QSBR tabled caller.old caller.new B.sizes self.now.directory jobs.items result.jobs.items }
+        ensures tidied { EndsTidying W.Caller P.QSBR tabled caller.old caller.new B.sizes self.now.directory D.row.coded.code jobs.items result.jobs.items }
         ensures done { IfNone result.stop ((result.left ≡ 0) × IsTidied self.now.directory (W.heard caller.new)) }
         ensures stopped { IfSome result.stop (λ e. StopsTidying W.Caller P.QSBR tabled caller.old caller.new result.retired result.left result.jobs.items e) }
         ensures heard { Begins (W.heard caller.old) (W.heard caller.new) }

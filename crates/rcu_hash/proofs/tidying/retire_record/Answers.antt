@@ -17,23 +17,22 @@ use Rattle.rcu_hash.proofs.tidying.retire_record.Goals as goal
 pub returns-in_default-clause-uses : goal.returns-in_default-clause-uses
 returns-in_default-clause-uses g c d its =
     let w = g.W.Caller in let w0 = c.args.caller.now in
-    uses_none g.P.GracePlan.QSBR tabled g.B.Site.sizes d (w.seen w0) w w0 w0 c.args.jobs.now.items (w.heard w0) (w.heard w0) (stays_none w w0) ([], refl)
+    uses_none g.P.GracePlan.QSBR tabled g.B.Site.sizes d (w.seen w0) w g.row.D.coded.code w0 w0 c.args.jobs.now.items (w.heard w0) (w.heard w0) (stays_none w w0) ([], refl)
 
 pub returns-in_default-pop-clause-uses : goal.returns-in_default-pop-clause-uses
 returns-in_default-pop-clause-uses g c d its =
     let w = g.W.Caller in let w0 = c.args.caller.now in let jobs = c.args.jobs.now.items in let same : jobs ≡ c.pop.new.self.items = search rules in
-    subst (λ js. Uses g.P.GracePlan.QSBR tabled g.B.Site.sizes d (w.seen w0) w w0 w0 jobs js (w.heard w0) (w.heard w0)) same
-    (uses_none g.P.GracePlan.QSBR tabled g.B.Site.sizes d (w.seen w0) w w0 w0 jobs (w.heard w0) (w.heard w0) (stays_none w w0) ([], refl))
+    subst (λ js. Uses g.P.GracePlan.QSBR tabled g.B.Site.sizes d (w.seen w0) w g.row.D.coded.code w0 w0 jobs js (w.heard w0) (w.heard w0)) same
+    (uses_none g.P.GracePlan.QSBR tabled g.B.Site.sizes d (w.seen w0) w g.row.D.coded.code w0 w0 jobs (w.heard w0) (w.heard w0) (stays_none w w0) ([], refl))
 
 pub returns-in-Ok-clause-uses : goal.returns-in-Ok-clause-uses
 returns-in-Ok-clause-uses g c d its =
     let w = g.W.Caller in let w0 = c.args.caller.now in let w2 = c.retire.new.caller in let u = c.in-Some.unlinked in let r = c.in-Ok.ensures.queued in let k = r.2 in
     let is : c.args.replaced.now ≡ Some u = search rules in
     let mine : IsRecord d u.chain u.seat.me.0 = subst (λ (x : Option (Unlinked g.row.B.Denot g.B.Site)). IfSome x (λ z. IsRecord d z.chain z.seat.me.0)) is its in
-    uses_one g.P.GracePlan.QSBR tabled g.B.Site.sizes d (w.seen w0) w w0 w2 c.args.jobs.now.items c.pop.new.self.items c.in-Some-pop.job (w.heard w0) (w.heard w2) Retires refl (none_made w w0 w2 c.in-Ok.ensures.same.0.0) c.in-Some-pop.ensures.items (record {
+    uses_one g.P.GracePlan.QSBR tabled g.B.Site.sizes d (w.seen w0) w g.row.D.coded.code w0 w2 c.args.jobs.now.items c.pop.new.self.items c.in-Some-pop.job (w.heard w0) (w.heard w2) (Retires (g.row.D.coded.code c.in-Some-pop.job)) refl (none_made w w0 w2 c.in-Ok.ensures.same.0.0) c.in-Some-pop.ensures.items (record {
       object = object_in u.seat.me.0.object;
       given = r.0;
-      callback = g.row.D.coded.code c.in-Some-pop.job;
       queued = subst (λ (x : ℕ). Queues g.P.GracePlan.QSBR tabled (λ (at : Log). Begins (w.seen w0) at × Begins (w.heard w0) at × WasReplaced d (object_in u.seat.me.0.object) at) (object_in u.seat.me.0.object) (x % g.B.Site.sizes.queues) r.0 (g.row.D.coded.code c.in-Some-pop.job) (w.heard w2)) mine.0 (record {
         before = k.before;
         at = (k.at.1, k.at.2, replaced_later d (object_in u.seat.me.0.object) u.seat.me.0.seen k.before k.at.0 mine.1);
@@ -57,8 +56,8 @@ returns-in-Err-clause-uses g c d its =
     let w = g.W.Caller in let w0 = c.args.caller.now in let w2 = c.retire.new.caller in let e = c.in-Err.ensures in
     let jobs = c.args.jobs.now.items in let left = c.pop.new.self.items in
     let back = c.push_reserved.ensures.items ∙ (ap (λ j. left ++ j ∷ []) e.back.1 ∙ sym c.in-Some-pop.ensures.items) in
-    subst (λ js. Uses g.P.GracePlan.QSBR tabled g.B.Site.sizes d (w.seen w0) w w0 w2 jobs js (w.heard w0) (w.heard w2)) (sym back)
-    (uses_none g.P.GracePlan.QSBR tabled g.B.Site.sizes d (w.seen w0) w w0 w2 jobs (w.heard w0) (w.heard w2) e.refused.same.0 e.refused.after.after_heard)
+    subst (λ js. Uses g.P.GracePlan.QSBR tabled g.B.Site.sizes d (w.seen w0) w g.row.D.coded.code w0 w2 jobs js (w.heard w0) (w.heard w2)) (sym back)
+    (uses_none g.P.GracePlan.QSBR tabled g.B.Site.sizes d (w.seen w0) w g.row.D.coded.code w0 w2 jobs (w.heard w0) (w.heard w2) e.refused.same.0 e.refused.after.after_heard)
 
 pub returns-in-Err-clause-same : goal.returns-in-Err-clause-same
 returns-in-Err-clause-same g c =

@@ -1,7 +1,30 @@
-use Rattle.rcu.proofs.Refused.{hears_on}
+use denote.Param.{copied}
+use Rattle.std.proofs.Common.{rules, ◌≡◌, subst, sym}
+use Rattle.std.proofs.lemmas.Result.{IfErr-weaker, err_from_is_err_and}
+use Rattle.rcu_model.specs.declared.refusal.Refusal.TheVariants.{Busy}
+use Rattle.rcu.specs.Resizing.{IsNotResized}
+use Rattle.rcu.proofs.Moving.{moves_none, moves_on, refused_moves, untidied_busy, untidied_grown}
 use Rattle.rcu.proofs.map.Map.resize.Goals as goal
+
+pub loop-init : goal.loop-init
+loop-init g c = moves_none g.W.Caller g.P.GracePlan.QSBR g.B.Site.sizes c.args.self.now.table.directory (copied 2 g.row.F) c.args.caller.now
 
 pub loop-preserved : goal.loop-preserved
 loop-preserved g c =
-    let w = g.W.Caller in let was = c.loop.caller in let new = c.grow.new.caller in let kept = c.in-Err-Busy.ensures.changes in
-    hears_on w c.args.caller.now new c.tidy-in-Err-Busy.new.caller (hears_on w c.args.caller.now was new c.loop.invariant (kept.1.0, c.grow.ensures.heard)) c.tidy-in-Err-Busy.ensures.heard
+    let old = c.args.caller.now in let was = c.loop.caller in let mid = c.grow.new.caller in let new = c.tidy-in-Err-2.new.caller in let k = c.in-Err-2.ensures in
+    moves_on g.W.Caller g.P.GracePlan.QSBR g.B.Site.sizes c.args.self.now.table.directory (copied 2 g.row.F) old mid new (moves_on g.W.Caller g.P.GracePlan.QSBR g.B.Site.sizes c.args.self.now.table.directory (copied 2 g.row.F) old was mid c.loop.invariant (refused_moves g.W.Caller g.P.GracePlan.QSBR g.B.Site.sizes c.args.self.now.table.directory (copied 2 g.row.F) was mid k.changes.1 k.heard k.looks.0 k.looks.1 k.loads.0)) c.tidy-in-Err-2.ensures.moves
+
+pub returns-in-Ok-clause-refused : goal.returns-in-Ok-clause-refused
+returns-in-Ok-clause-refused g c =
+    let old = c.args.caller.now in let was = c.loop.caller in let mid = c.grow.new.caller in let new = c.tidy.new.caller in let k = c.in-Ok.ensures in
+    IfErr-weaker c.tidy.result _ _ (λ e r. untidied_grown g.W.Caller g.P.GracePlan.QSBR g.B.Site.sizes c.args.self.now.table.directory (copied 2 g.row.F) old was mid new c.args.first c.args.buckets c.loop.invariant c.tidy.ensures.moves e r c.in-Ok.field-0
+    (record { same = k.changes.0.made.0; later = k.heard; found = k.looks.0; looks = k.looks.1; loaded = k.loads.0.0; loads = k.loads.0.1 }) k.grown k.changes.0)
+    c.tidy.ensures.refused
+
+pub returns-in_err-tidy-in-Err-2-clause-refused : goal.returns-in_err-tidy-in-Err-2-clause-refused
+returns-in_err-tidy-in-Err-2-clause-refused g c =
+    let old = c.args.caller.now in let was = c.loop.caller in let mid = c.grow.new.caller in let new = c.tidy-in-Err-2.new.caller in let k = c.in-Err-2.ensures in
+    let busy : c.in-Err-2.field-0 ≡ Busy = search rules in
+    let p = err_from_is_err_and c.from_residual.result c.from_residual.ensures.1 in
+    rw p.1 (subst (λ e. IsNotResized g.W.Caller g.P.GracePlan.QSBR g.B.Site.sizes c.args.self.now.table.directory (copied 2 g.row.F) old new c.args.first c.args.buckets e) (sym p.2)
+    (untidied_busy g.W.Caller g.P.GracePlan.QSBR g.B.Site.sizes c.args.self.now.table.directory (copied 2 g.row.F) old was mid new c.args.first c.args.buckets c.loop.invariant c.tidy-in-Err-2.ensures.moves c.in_err-tidy-in-Err-2.field-0.0 c.in_err-tidy-in-Err-2.ensures.refused c.in-Err-2.field-0 busy (refused_moves g.W.Caller g.P.GracePlan.QSBR g.B.Site.sizes c.args.self.now.table.directory (copied 2 g.row.F) was mid k.changes.1 k.heard k.looks.0 k.looks.1 k.loads.0) k.refused))

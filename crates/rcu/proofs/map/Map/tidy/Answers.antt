@@ -1,22 +1,35 @@
-use Rattle.std.proofs.Common.{rules, ◌≡◌, None}
+use denote.Param.{copied}
+use Rattle.std.proofs.Common.{rules, ◌≡◌, refl, subst}
+use Rattle.rcu_model.specs.declared.refusal.Refusal.TheVariants.{FewJobs}
 use Rattle.live_log.specs.Tables.{tabled}
-use Rattle.rcu.proofs.Refused.{hears_on, if_none, tidied_hears}
+use Rattle.rcu_hash.specs.Tidying.{StopsTidying}
+use Rattle.rcu.specs.Resizing.{IsNotTidied}
+use Rattle.rcu.specs.declared.reclaim.Reclaim.TheVariants.{Moved}
+use Rattle.rcu.proofs.Moving.{if_is, moves_none, moves_on, tidied_moves, untidied}
 use Rattle.rcu.proofs.map.Map.tidy.Goals as goal
 
-pub returns-in-None-stop : goal.returns-in-None-stop
-returns-in-None-stop g c =
-    let w = g.W.Caller in let was = c.loop.caller in let new = c.tidy-end.new.caller in
-    let none : c.tidy-end.result.stop ≡ None = search rules in record {
-      heard = hears_on w c.args.caller.now was new c.loop.invariant (tidied_hears w g.P.GracePlan.QSBR tabled was new c.tidy-end.ensures.tidied c.tidy-end.ensures.heard);
-      tidied = (if_none c.tidy-end.result.stop _ none c.tidy-end.ensures.done).1;
-    }
+pub loop-init : goal.loop-init
+loop-init g c = moves_none g.W.Caller g.P.GracePlan.QSBR g.B.Site.sizes c.args.self.now.table.directory (copied 2 g.row.F) c.args.caller.now
 
-pub returns-in-Some-stop : goal.returns-in-Some-stop
-returns-in-Some-stop g c =
+pub returns-in-None-stop-clause-moves : goal.returns-in-None-stop-clause-moves
+returns-in-None-stop-clause-moves g c =
     let w = g.W.Caller in let was = c.loop.caller in let new = c.tidy-end.new.caller in
-    record { heard = hears_on w c.args.caller.now was new c.loop.invariant (tidied_hears w g.P.GracePlan.QSBR tabled was new c.tidy-end.ensures.tidied c.tidy-end.ensures.heard); tidied = tt }
+    moves_on g.W.Caller g.P.GracePlan.QSBR g.B.Site.sizes c.args.self.now.table.directory (copied 2 g.row.F) c.args.caller.now was new c.loop.invariant (tidied_moves g.W.Caller g.P.GracePlan.QSBR g.B.Site.sizes c.args.self.now.table.directory (copied 2 g.row.F) _ Moved was new c.in_ok-moved.field-0.items c.tidy-end.result.jobs.items refl c.in_ok-moved.ensures.each c.tidy-end.ensures.tidied c.tidy-end.ensures.heard c.tidy-end.ensures.same)
+
+pub returns-in-Some-stop-clause-moves : goal.returns-in-Some-stop-clause-moves
+returns-in-Some-stop-clause-moves g c =
+    let w = g.W.Caller in let was = c.loop.caller in let new = c.tidy-end.new.caller in
+    moves_on g.W.Caller g.P.GracePlan.QSBR g.B.Site.sizes c.args.self.now.table.directory (copied 2 g.row.F) c.args.caller.now was new c.loop.invariant (tidied_moves g.W.Caller g.P.GracePlan.QSBR g.B.Site.sizes c.args.self.now.table.directory (copied 2 g.row.F) _ Moved was new c.in_ok-moved.field-0.items c.tidy-end.result.jobs.items refl c.in_ok-moved.ensures.each c.tidy-end.ensures.tidied c.tidy-end.ensures.heard c.tidy-end.ensures.same)
 
 pub loop-preserved : goal.loop-preserved
 loop-preserved g c =
     let w = g.W.Caller in let was = c.loop.caller in let new = c.tidy-end.new.caller in
-    hears_on w c.args.caller.now was new c.loop.invariant (tidied_hears w g.P.GracePlan.QSBR tabled was new c.tidy-end.ensures.tidied c.tidy-end.ensures.heard)
+    moves_on g.W.Caller g.P.GracePlan.QSBR g.B.Site.sizes c.args.self.now.table.directory (copied 2 g.row.F) c.args.caller.now was new c.loop.invariant (tidied_moves g.W.Caller g.P.GracePlan.QSBR g.B.Site.sizes c.args.self.now.table.directory (copied 2 g.row.F) _ Moved was new c.in_ok-moved.field-0.items c.tidy-end.result.jobs.items refl c.in_ok-moved.ensures.each c.tidy-end.ensures.tidied c.tidy-end.ensures.heard c.tidy-end.ensures.same)
+
+pub returns-in-Some-stop-clause-refused : goal.returns-in-Some-stop-clause-refused
+returns-in-Some-stop-clause-refused g c =
+    let w = g.W.Caller in let was = c.loop.caller in let new = c.tidy-end.new.caller in
+    let enough : ¬ (c.in-Some-stop.refusal ≡ FewJobs) = search rules in
+    let stops = if_is c.tidy-end.result.stop c.in-Some-stop.refusal (λ e. StopsTidying w g.P.GracePlan.QSBR tabled was new c.tidy-end.result.retired c.tidy-end.result.left c.tidy-end.result.jobs.items e) c.in-Some-stop.is c.tidy-end.ensures.stopped in
+    subst (λ e. IsNotTidied g.W.Caller g.P.GracePlan.QSBR g.B.Site.sizes c.args.self.now.table.directory (copied 2 g.row.F) c.args.caller.now new e) (search rules)
+    (untidied g.W.Caller g.P.GracePlan.QSBR g.B.Site.sizes c.args.self.now.table.directory (copied 2 g.row.F) c.args.caller.now was new c.loop.invariant.hears c.tidy-end.result.retired c.tidy-end.result.left c.tidy-end.result.jobs.items c.in-Some-stop.refusal enough stops)

@@ -12,7 +12,7 @@ pub loop-init : goal.loop-init
 loop-init g c =
     let w = g.W.Caller in let w0 = c.args.caller.now in record {
       left = omega (arith, c.len-many.ensures);
-      uses = uses_none g.P.GracePlan.QSBR tabled g.B.Site.sizes c.args.naming.directory (w.seen w0) w w0 w0 c.args.jobs.now.items (w.heard w0) (w.heard w0) (stays_none w w0) ([], refl);
+      uses = uses_none g.P.GracePlan.QSBR tabled g.B.Site.sizes c.args.naming.directory (w.seen w0) w g.row.D.coded.code w0 w0 c.args.jobs.now.items (w.heard w0) (w.heard w0) (stays_none w w0) ([], refl);
       chains = c.requires.chains;
       cleared = λ k h. inr h;
       heard = ([], refl);
@@ -30,8 +30,8 @@ returns-in-Err-clause-uses g c =
     let q = g.P.GracePlan.QSBR in let w = g.W.Caller in let sizes = g.B.Site.sizes in let d = c.args.naming.directory in
     let w0 = c.args.caller.now in let w1 = c.loop.caller in let w2 = c.retire_all.new.caller in let i = c.loop.invariant in
     let first = c.args.jobs.now.items in let jobs = c.loop.jobs.items in let left = c.retire_all.new.jobs.items in
-    uses_both q tabled sizes d (w.seen w0) w w0 w1 w2 first jobs left (w.heard w0) (w.heard w1) (w.heard w2) i.uses
-    (subst (λ (seen : Log). Uses q tabled sizes d seen w w1 w2 jobs left (w.heard w1) (w.heard w2)) i.uses.made.made.0 c.in-Err.ensures.uses)
+    uses_both q tabled sizes d (w.seen w0) w g.row.D.coded.code w0 w1 w2 first jobs left (w.heard w0) (w.heard w1) (w.heard w2) i.uses
+    (subst (λ (seen : Log). Uses q tabled sizes d seen w g.row.D.coded.code w1 w2 jobs left (w.heard w1) (w.heard w2)) i.uses.made.made.0 c.in-Err.ensures.uses)
 
 pub returns-in-Err-clause-chains : goal.returns-in-Err-clause-chains
 returns-in-Err-clause-chains g c =
@@ -53,7 +53,7 @@ loop-preserved g c =
     let q = g.P.GracePlan.QSBR in let w = g.W.Caller in let sizes = g.B.Site.sizes in let n = c.args.naming in let d = n.directory in
     let w0 = c.args.caller.now in let w1 = c.loop.caller in let w2 = c.retire_all.new.caller in let w3 = c.give_back.new.caller in let i = c.loop.invariant in let e = c.retire_all.ensures in let b = c.give_back.ensures in
     let first = c.args.jobs.now.items in let jobs = c.loop.jobs.items in let left = c.retire_all.new.jobs.items in
-    let uses = subst (λ (seen : Log). Uses q tabled sizes d seen w w1 w2 jobs left (w.heard w1) (w.heard w2)) i.uses.made.made.0 e.uses in
+    let uses = subst (λ (seen : Log). Uses q tabled sizes d seen w g.row.D.coded.code w1 w2 jobs left (w.heard w1) (w.heard w2)) i.uses.made.made.0 e.uses in
     let clears = subst (λ (seen : Log). ClearsNote q tabled sizes d seen (w.heard w2) (w.heard w3)) (e.uses.made.made.0 ∙ i.uses.made.made.0) b.cleared in
     let goes = let l = b.cleared.leaves.writes in begins_trans (w.heard w2) l.before (w.heard w3) l.after.1 (_ ∷ [], l.wrote) in
     let on : Begins (w.heard w1) (w.heard w2) = heard_on q tabled sizes d (w.seen w1) (w.heard w1) (w.heard w1) (w.heard w2) e.uses.steps ([], refl) e.uses.follow in
@@ -62,9 +62,9 @@ loop-preserved g c =
     let z = subst (λ (j : ℕ). WasCleared (w.heard w2) j (w.heard w3)) (e.number ∙ (sym c.in-Some.chain.owns.2 ∙ is)) b.own in
     record { at = z.at; after = begins_trans (w.heard w0) (w.heard w2) z.at (begins_trans (w.heard w0) (w.heard w1) (w.heard w2) i.heard on) z.after; before = z.before } in record {
       left = let fewer = c.in-Some.ensures.len in let was = i.left in omega arith;
-      uses = uses_both q tabled sizes d (w.seen w0) w w0 w2 w3 first left left (w.heard w0) (w.heard w2) (w.heard w3)
-          (uses_both q tabled sizes d (w.seen w0) w w0 w1 w2 first jobs left (w.heard w0) (w.heard w1) (w.heard w2) i.uses uses)
-          (uses_no q tabled sizes d (w.seen w0) w w2 w3 left (w.heard w2) (w.heard w3) b.same.0.0 clears);
+      uses = uses_both q tabled sizes d (w.seen w0) w g.row.D.coded.code w0 w2 w3 first left left (w.heard w0) (w.heard w2) (w.heard w3)
+          (uses_both q tabled sizes d (w.seen w0) w g.row.D.coded.code w0 w1 w2 first jobs left (w.heard w0) (w.heard w1) (w.heard w2) i.uses uses)
+          (uses_no q tabled sizes d (w.seen w0) w g.row.D.coded.code w2 w3 left (w.heard w2) (w.heard w3) b.same.0.0 clears);
       chains = (each_popped c.pop.new.self.items c.loop.chains.items c.in-Some.chain (λ x. x.seat.me.0) (IsLeft n.directory n.first n.buckets) c.in-Some.ensures.items i.chains).0;
       cleared = λ k h. ⊎_elim
           (λ (z : WasCleared (w.heard w0) k (w.heard w1)). inl (cleared_since (w.heard w0) (w.heard w1) (w.heard w3) k all z))

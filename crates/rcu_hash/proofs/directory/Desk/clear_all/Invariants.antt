@@ -10,7 +10,7 @@ use Rattle.rcu_hash.proofs.directory.Desk.clear_all.Given as goal
 abbrev pub invariant-loop : goal.invariant-loop
 invariant-loop g l = record {
   left : vec_len l.chains + l.counter ≡ l.many;
-  uses : Uses g.P.GracePlan.QSBR tabled g.B.Site.sizes l.naming.directory (g.W.Caller.seen l.fn.caller) g.W.Caller l.fn.caller l.caller l.fn.jobs.items l.jobs.items (g.W.Caller.heard l.fn.caller) (g.W.Caller.heard l.caller);
+  uses : Uses g.P.GracePlan.QSBR tabled g.B.Site.sizes l.naming.directory (g.W.Caller.seen l.fn.caller) g.W.Caller g.row.D.coded.code l.fn.caller l.caller l.fn.jobs.items l.jobs.items (g.W.Caller.heard l.fn.caller) (g.W.Caller.heard l.caller);
   chains : Each (IsLeft l.naming.directory l.naming.first l.naming.buckets) (map (λ c. c.seat.me.0) l.chains.items);
   cleared : (c : ℕ) → In (chains_in (map (λ c. c.seat.me.0) l.fn.chains.items)) c → WasCleared (g.W.Caller.heard l.fn.caller) c (g.W.Caller.heard l.caller) ⊎ In (chains_in (map (λ c. c.seat.me.0) l.chains.items)) c;
   heard : Begins (g.W.Caller.heard l.fn.caller) (g.W.Caller.heard l.caller);

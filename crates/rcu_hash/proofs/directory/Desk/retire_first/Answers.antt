@@ -76,11 +76,10 @@ returns-clause-retired g c =
     let there = directed_there q three.seat.me.0 n.directory n.object (own_in one.seat.me.0.chains) (own_in d.chain.seat.me.0.chains) e.chains.0 (d.chain.owns.2 ∙ d.own.0) d.alone three.owns.0 three.owns.1 noted before r.published.known in
     let apart = apart_there q three.seat.me.0 n.directory n.object (own_in one.seat.me.0.chains) (own_in d.chain.seat.me.0.chains) e.chains.0 (d.chain.owns.2 ∙ d.own.0) d.alone three.owns.0 three.owns.1 noted before r.published.known d.own.2 in
     let words = words_later q s before n.object r.published.after.after_writer.0 then n.first n.buckets used e.words in (
-      subst (λ (m : Naming). RetiresObject q tabled sizes m.directory (w.seen w0) (w.heard w0) (w.heard w2)) named (record {
+      subst (λ (m : Naming). RetiresObject q tabled sizes m.directory (w.seen w0) (w.heard w0) (g.row.D.coded.code c.args.job) (w.heard w2)) named (record {
         chain = c1;
         object = r.object;
         ticket = t.0;
-        callback = g.row.D.coded.code c.args.job;
         published = log;
         leaves = record {
           writes = record { before = before; wrote = wrote; after = r.published.after.after_caller; run = r.published.run };

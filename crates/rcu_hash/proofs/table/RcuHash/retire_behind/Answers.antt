@@ -1,3 +1,4 @@
+use base.Stored.{Gv}
 use Rattle.std.proofs.Common.{rules, Bool, ◌≡◌, ◌<◌, ℕ, List, [], Option, IfSome, ⊎_elim, map, option_map, inl, inr, refl, sym, ap, ◌∙◌, subst}
 use Rattle.live_log.specs.Log.{Log, Begins}
 use Rattle.live_log.specs.Tables.{tabled}
@@ -53,23 +54,23 @@ set_down-requires-clause-rest g c log b run linked =
     (λ p is. ⊎_elim (λ z. inl (has_since _ w2 log b z)) (λ kept. inr kept) (r.told p is)) known
 
 -- what it used, between what the caller heard of before it and after it
-used : {D W S : Type 0} (w : Ghosts W S) (q : Bool) (sizes : Sizes) (d : ℕ) (w0 w1 w2 w3 : W) (jobs left : List D) → OnlyHears w w0 w1 → Begins (w.heard w0) (w.heard w1) → Uses q tabled sizes d (w.seen w1) w w1 w2 jobs left (w.heard w1) (w.heard w2) → OnlyHears w w2 w3 → Begins (w.heard w2) (w.heard w3) → Uses q tabled sizes d (w.seen w0) w w0 w3 jobs left (w.heard w0) (w.heard w3)
-used w q sizes d w0 w1 w2 w3 jobs left before b uses after k =
-    let own = subst (λ (s : Log). Uses q tabled sizes d s w w1 w2 jobs left (w.heard w1) (w.heard w2)) before.0.0.0 uses in
-    uses_both q tabled sizes d (w.seen w0) w w0 w1 w3 jobs jobs left (w.heard w0) (w.heard w1) (w.heard w3) (uses_none q tabled sizes d (w.seen w0) w w0 w1 jobs (w.heard w0) (w.heard w1) before.0.0 b)
-    (uses_both q tabled sizes d (w.seen w0) w w1 w2 w3 jobs left left (w.heard w1) (w.heard w2) (w.heard w3) own (uses_none q tabled sizes d (w.seen w0) w w2 w3 left (w.heard w2) (w.heard w3) after.0.0 k))
+used : {D W S : Type 0} (w : Ghosts W S) (code : D → Gv) (q : Bool) (sizes : Sizes) (d : ℕ) (w0 w1 w2 w3 : W) (jobs left : List D) → OnlyHears w w0 w1 → Begins (w.heard w0) (w.heard w1) → Uses q tabled sizes d (w.seen w1) w code w1 w2 jobs left (w.heard w1) (w.heard w2) → OnlyHears w w2 w3 → Begins (w.heard w2) (w.heard w3) → Uses q tabled sizes d (w.seen w0) w code w0 w3 jobs left (w.heard w0) (w.heard w3)
+used w code q sizes d w0 w1 w2 w3 jobs left before b uses after k =
+    let own = subst (λ (s : Log). Uses q tabled sizes d s w code w1 w2 jobs left (w.heard w1) (w.heard w2)) before.0.0.0 uses in
+    uses_both q tabled sizes d (w.seen w0) w code w0 w1 w3 jobs jobs left (w.heard w0) (w.heard w1) (w.heard w3) (uses_none q tabled sizes d (w.seen w0) w code w0 w1 jobs (w.heard w0) (w.heard w1) before.0.0 b)
+    (uses_both q tabled sizes d (w.seen w0) w code w1 w2 w3 jobs left left (w.heard w1) (w.heard w2) (w.heard w3) own (uses_none q tabled sizes d (w.seen w0) w code w2 w3 left (w.heard w2) (w.heard w3) after.0.0 k))
 
 pub returns-in-Ok-clause-uses : goal.returns-in-Ok-clause-uses
 returns-in-Ok-clause-uses g c =
     let w = g.W.Caller in let w0 = c.args.caller.now in let w3 = c.set_down.new.caller in let jobs = c.args.jobs.items in
-    subst (λ (v : _). Uses g.P.GracePlan.QSBR tabled g.B.Site.sizes c.args.naming.directory (w.seen w0) w w0 w3 jobs v.items (w.heard w0) (w.heard w3)) (sym c.done.ensures.2)
-    (used w g.P.GracePlan.QSBR g.B.Site.sizes c.args.naming.directory w0 c.tell-left.new.caller c.retire_left-answer.new.caller w3 jobs c.retire_left-answer.new.jobs.items c.tell-left.ensures.same c.tell-left.ensures.heard.after_heard c.retire_left-answer.ensures.uses c.set_down.ensures.same c.set_down.ensures.heard.after_heard)
+    subst (λ (v : _). Uses g.P.GracePlan.QSBR tabled g.B.Site.sizes c.args.naming.directory (w.seen w0) w g.row.D.coded.code w0 w3 jobs v.items (w.heard w0) (w.heard w3)) (sym c.done.ensures.2)
+    (used w g.row.D.coded.code g.P.GracePlan.QSBR g.B.Site.sizes c.args.naming.directory w0 c.tell-left.new.caller c.retire_left-answer.new.caller w3 jobs c.retire_left-answer.new.jobs.items c.tell-left.ensures.same c.tell-left.ensures.heard.after_heard c.retire_left-answer.ensures.uses c.set_down.ensures.same c.set_down.ensures.heard.after_heard)
 
 pub returns-clause-uses : goal.returns-clause-uses
 returns-clause-uses g c =
     let w = g.W.Caller in let w0 = c.args.caller.now in let w3 = c.set_down.new.caller in let jobs = c.args.jobs.items in
-    subst (λ (v : _). Uses g.P.GracePlan.QSBR tabled g.B.Site.sizes c.args.naming.directory (w.seen w0) w w0 w3 jobs v.items (w.heard w0) (w.heard w3)) (sym c.stopped.ensures.2)
-    (used w g.P.GracePlan.QSBR g.B.Site.sizes c.args.naming.directory w0 c.tell-left.new.caller c.retire_left-answer.new.caller w3 jobs c.retire_left-answer.new.jobs.items c.tell-left.ensures.same c.tell-left.ensures.heard.after_heard c.retire_left-answer.ensures.uses c.set_down.ensures.same c.set_down.ensures.heard.after_heard)
+    subst (λ (v : _). Uses g.P.GracePlan.QSBR tabled g.B.Site.sizes c.args.naming.directory (w.seen w0) w g.row.D.coded.code w0 w3 jobs v.items (w.heard w0) (w.heard w3)) (sym c.stopped.ensures.2)
+    (used w g.row.D.coded.code g.P.GracePlan.QSBR g.B.Site.sizes c.args.naming.directory w0 c.tell-left.new.caller c.retire_left-answer.new.caller w3 jobs c.retire_left-answer.new.jobs.items c.tell-left.ensures.same c.tell-left.ensures.heard.after_heard c.retire_left-answer.ensures.uses c.set_down.ensures.same c.set_down.ensures.heard.after_heard)
 
 pub returns-in-Ok-clause-done : goal.returns-in-Ok-clause-done
 returns-in-Ok-clause-done g c =

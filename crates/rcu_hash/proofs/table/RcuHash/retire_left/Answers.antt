@@ -28,8 +28,8 @@ returns-clause-uses g c =
     let q = g.P.GracePlan.QSBR in let w = g.W.Caller in let sizes = g.B.Site.sizes in let d = c.args.naming.directory in
     let w0 = c.args.caller.now in let w1 = c.retire_record.new.caller in let w2 = c.clear_all.new.caller in let r = c.retire_record.ensures in let k = c.clear_all.ensures in
     let jobs = c.args.jobs.now.items in let mid = c.retire_record.new.jobs.items in let left = c.clear_all.new.jobs.items in
-    uses_both q tabled sizes d (w.seen w0) w w0 w1 w2 jobs mid left (w.heard w0) (w.heard w1) (w.heard w2) (r.uses d c.requires.record)
-    (subst (λ (seen : Log). Uses q tabled sizes d seen w w1 w2 mid left (w.heard w1) (w.heard w2)) r.changes.0 k.uses)
+    uses_both q tabled sizes d (w.seen w0) w g.row.D.coded.code w0 w1 w2 jobs mid left (w.heard w0) (w.heard w1) (w.heard w2) (r.uses d c.requires.record)
+    (subst (λ (seen : Log). Uses q tabled sizes d seen w g.row.D.coded.code w1 w2 mid left (w.heard w1) (w.heard w2)) r.changes.0 k.uses)
 
 pub returns-clause-same : goal.returns-clause-same
 returns-clause-same g c = finds_both g.W.Caller c.args.caller.now c.retire_record.new.caller c.clear_all.new.caller c.retire_record.ensures.same c.clear_all.ensures.same

@@ -90,13 +90,13 @@ returns-in-Ok-clause-tidied g c =
     let seen : Begins (w.seen w0) (w.heard w2) = subst (λ (l : Log). Begins l (w.heard w2)) i.same.0.0 h.heard.after_seen in
     let heard : Begins (w.heard w0) (w.heard w2) = begins_trans (w.heard w0) (w.heard w1) (w.heard w2) i.heard h.heard.after_heard in
     let waited = ended_since q tabled (w.seen w0) (w.heard w0) (w.seen w2) (w.heard w2) (w.loads w0) (w.loads w2) i.waits.0 (w.loads w3) (w.heard w3) seen heard (h.same.1 ∙ i.waits.1) s in
-    let first = uses_none q tabled sizes d (w.seen w0) w w0 w3 jobs (w.heard w3) (w.heard w3) stays ([], refl) in
-    let own = subst (λ (n : ℕ). Uses q tabled sizes n (w.seen w3) w w3 w4 c.loop.jobs.items left (w.heard w3) (w.heard w4)) c.in-Some-find_left.ensures.some.0 u in
-    let rest = subst (λ (v : _). Uses q tabled sizes d (w.seen w3) w w3 w4 v.items left (w.heard w3) (w.heard w4)) i.jobs own in
-    let next = subst (λ (l : Log). Uses q tabled sizes d l w w3 w4 jobs left (w.heard w3) (w.heard w4)) stays.0 rest in
+    let first = uses_none q tabled sizes d (w.seen w0) w g.row.D.coded.code w0 w3 jobs (w.heard w3) (w.heard w3) stays ([], refl) in
+    let own = subst (λ (n : ℕ). Uses q tabled sizes n (w.seen w3) w g.row.D.coded.code w3 w4 c.loop.jobs.items left (w.heard w3) (w.heard w4)) c.in-Some-find_left.ensures.some.0 u in
+    let rest = subst (λ (v : _). Uses q tabled sizes d (w.seen w3) w g.row.D.coded.code w3 w4 v.items left (w.heard w3) (w.heard w4)) i.jobs own in
+    let next = subst (λ (l : Log). Uses q tabled sizes d l w g.row.D.coded.code w3 w4 jobs left (w.heard w3) (w.heard w4)) stays.0 rest in
     inl (record {
       earlier = i.waits.0;
       waited = w.heard w3;
       ended = subst (λ (l : List Log). Synchronized q tabled (w.seen w0) (w.heard w0) (i.waits.0 ++ w.loads w0) l (w.heard w3)) (sym c.retire_behind.ensures.same.0) waited;
-      uses = uses_both q tabled sizes d (w.seen w0) w w0 w3 w4 jobs jobs left (w.heard w3) (w.heard w3) (w.heard w4) first next;
+      uses = uses_both q tabled sizes d (w.seen w0) w g.row.D.coded.code w0 w3 w4 jobs jobs left (w.heard w3) (w.heard w3) (w.heard w4) first next;
     })

@@ -1,0 +1,7 @@
+use Rattle.std.proofs.Common.{◌≡◌}
+use Rattle.rcu.specs.declared.reclaim.Reclaim.TheVariants.{Moved}
+use Rattle.rcu_hash.specs.Writers.{Each}
+use Rattle.rcu.proofs.map.moved.Given as goal
+
+abbrev pub invariant-loop : goal.invariant-loop
+invariant-loop g l = Each (λ r. r ≡ Moved) l.callbacks.items
