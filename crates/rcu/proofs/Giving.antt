@@ -1,6 +1,6 @@
 -- What a map's accepted change tells.
 use base.Stored.{Gv}
-use Rattle.std.proofs.Common.{◌%◌, ℕ, Bool, Option, Some, None, [], refl, subst}
+use Rattle.std.proofs.Common.{◌%◌, ℕ, Bool, Option, Some, None, [], inl, inr, refl, subst}
 use Rattle.rcu_model.specs.declared.event.ObjectId.{ObjectId}
 use Rattle.rcu_model.proofs.Lemmas.{none_some}
 use Rattle.live_log.specs.Log.{Log, Begins}
@@ -19,10 +19,10 @@ module _ {W S : Type 0} (w : Ghosts W S) (qsbr : Bool) (chains queues d : ℕ) (
   gives_insertion value chain callback i made = record { published = w.heard new; chain = chain; event = _; had = None; changes = i.changes; told = ([], refl); made = made; retired = λ h e. absurd (none_some h e) }
 
   pub gives_replacement : (value chain : ℕ) (left : ObjectId) (published : Log) (ticket : ℕ) (callback : Gv) → ReplacesThrough qsbr tabled chains d (w.seen old) (w.heard old) key value chain left published → HandsOver qsbr tabled left (chain % queues) ticket callback published (w.heard new) → MakesLast w old new published → GivesWord w qsbr chains queues d old new key (Some value) callback
-  gives_replacement value chain left published ticket callback r h made = record { published = published; chain = chain; event = _; had = Some r.had; changes = r.changes; told = queued_later qsbr tabled published left (chain % queues) h.given callback (w.heard new) h.queued; made = made; retired = λ _ _. (left, ticket, h) }
+  gives_replacement value chain left published ticket callback r h made = record { published = published; chain = chain; event = _; had = Some r.had; changes = r.changes; told = queued_later qsbr tabled published left (chain % queues) h.given callback (w.heard new) h.queued; made = made; retired = λ _ _. (left, ticket, inr (chain, r.object, r.cell, _, refl), h) }
 
   pub gives_removal : (chain : ℕ) (left : ObjectId) (published : Log) (ticket : ℕ) (callback : Gv) → RemovesThrough qsbr tabled chains d (w.seen old) (w.heard old) key chain left published → HandsOver qsbr tabled left (chain % queues) ticket callback published (w.heard new) → MakesLast w old new published → GivesWord w qsbr chains queues d old new key None callback
-  gives_removal chain left published ticket callback r h made = record { published = published; chain = chain; event = _; had = Some r.had; changes = r.changes; told = queued_later qsbr tabled published left (chain % queues) h.given callback (w.heard new) h.queued; made = made; retired = λ _ _. (left, ticket, h) }
+  gives_removal chain left published ticket callback r h made = record { published = published; chain = chain; event = _; had = Some r.had; changes = r.changes; told = queued_later qsbr tabled published left (chain % queues) h.given callback (w.heard new) h.queued; made = made; retired = λ _ _. (left, ticket, inl (chain, refl), h) }
 
 -- a caller that stood as it stood when the call was made gave all that was given in the call
 pub gives_after : {W S : Type 0} (w : Ghosts W S) (qsbr : Bool) (chains queues d : ℕ) (old was new : W) (key : ℕ) (has : Option ℕ) (callback : Gv) → Stays w old was → Begins (w.heard old) (w.heard was) → GivesWord w qsbr chains queues d was new key has callback → GivesWord w qsbr chains queues d old new key has callback

@@ -1,7 +1,7 @@
 -- What a map's tidyings did for a caller that calls again and again.
 use base.Stored.{Gv}
 use denote.RattleType.{RattleType}
-use Rattle.std.proofs.Common.{◌≡◌, ◌⊎◌, ◌++◌, ◌∷◌, ◌∙◌, Bool, List, [], Option, Some, IfSome, ℕ, inl, inr, ap, map, refl, reverse, subst, sym, append_assoc}
+use Rattle.std.proofs.Common.{◌≡◌, ◌++◌, ◌∷◌, ◌∙◌, Bool, List, [], Option, Some, IfSome, ℕ, inl, inr, ap, map, refl, reverse, subst, sym, append_assoc}
 use Rattle.std.proofs.lemmas.List.{reverse-append}
 use Rattle.rcu_model.specs.declared.refusal.Refusal.{Refusal}
 use Rattle.rcu_model.specs.declared.refusal.Refusal.TheVariants.{Busy, FewJobs}

@@ -1,45 +1,61 @@
 -- What a caller has heard of where a call of a table was refused.
-use Rattle.std.proofs.Common.{◌≡◌, ◌⊎◌, ◌%◌, ◌∙◌, Bool, Option, None, Some, IfNone, ℕ, inl, inr, subst, sym}
+use Rattle.std.proofs.Common.{◌≡◌, ◌⊎◌, ◌++◌, ◌∷◌, [], ◌∙◌, Bool, List, Option, None, Some, IfNone, ℕ, ⊎_elim, ap, append_assoc, inl, inr, refl, subst, sym}
 use Rattle.rcu_model.specs.declared.refusal.Refusal.{Refusal}
+use Rattle.rcu_model.specs.declared.refusal.Refusal.TheVariants.{Exists, Missing}
 use Rattle.live_log.specs.declared.event.LiveEvent.{LiveEvent}
 use Rattle.live_log.specs.Log.{Log, Begins}
+use Rattle.live_log.specs.Tables.{tabled}
 use Rattle.live_log.proofs.Lemmas.{begins_trans}
+use Rattle.rcu_hash.specs.live_rule.declared.view.Look.{Look}
 use Rattle.rcu_hash.specs.live_rule.declared.view.Sizes.{Sizes}
-use Rattle.rcu_hash.specs.live_read.Hearing.{Stays}
 use Rattle.rcu_hash.specs.live_read.declared.caller.Caller.{Ghosts}
 use Rattle.rcu_hash.specs.live_reclaim.Refusing.{RefusesRetirement}
-use Rattle.rcu_hash.specs.rcu_list.Refusing.{FindsNoRecord, GivesBack}
 use Rattle.rcu_hash.specs.Refusing.{During, RefusesInsertionThrough, RefusesReplacementThrough}
+use Rattle.rcu.specs.Slots.{IsNotPut}
+use Rattle.rcu.specs.Trying.{StaysOn}
 use Rattle.rcu.proofs.Hearing.{Went, stays_on, went_on}
 
-module _ {W S : Type 0} (w : Ghosts W S) (old new : W) where
-  -- it stands as it stood, and has heard of no less
-  abbrev pub Goes : Type 0
-  Goes = Stays w old new × Begins (w.heard old) (w.heard new)
+-- nothing was tried yet
+pub goes_none : {W S : Type 0} (w : Ghosts W S) (a : W) → StaysOn w a a
+goes_none w a = ((refl, refl, λ h. h, refl), ([], refl), ([], refl))
 
--- so after one call and another
-pub goes_on : {W S : Type 0} (w : Ghosts W S) (a b c : W) → Goes w a b → Goes w b c → Goes w a c
-goes_on w a b c p q = (stays_on w a b c p.0 q.0, begins_trans (w.heard a) (w.heard b) (w.heard c) p.1 q.1)
+-- what was found in one call and in the next was found in both
+both_found : (old mid new : List Look) → ((found : List Look) × (mid ≡ found ++ old)) → ((found : List Look) × (new ≡ found ++ mid)) → (found : List Look) × (new ≡ found ++ old)
+both_found old mid new p q = (q.0 ++ p.0, q.1 ∙ ap (λ ls. q.0 ++ ls) p.1 ∙ sym (append_assoc q.0 p.0 old))
 
-module _ {W S : Type 0} (w : Ghosts W S) (qsbr : Bool) (allows : Log → LiveEvent → Type 0) (sizes : Sizes) (old new : W) (e : Refusal) where
-  during : (is_so : Log → Type 0) → During w qsbr allows old new is_so → Begins (w.heard old) (w.heard new)
+-- a caller that stays on after one call and after the next stays on
+pub goes_on : {W S : Type 0} (w : Ghosts W S) (a b c : W) → StaysOn w a b → StaysOn w b c → StaysOn w a c
+goes_on w a b c p q = (
+  stays_on w a b c p.0 q.0,
+  begins_trans (w.heard a) (w.heard b) (w.heard c) p.1 q.1,
+  both_found (w.looks a) (w.looks b) (w.looks c) p.2 q.2,
+)
+
+-- what a worker found comes after what had been found
+pub more_found : (ls old new : List Look) (x a b c : Look) → new ≡ x ∷ (ls ++ (a ∷ b ∷ c ∷ old)) → (found : List Look) × (new ≡ found ++ old)
+more_found ls old new x a b c is = (x ∷ (ls ++ (a ∷ b ∷ c ∷ [])), is ∙ ap (λ l. x ∷ l) (sym (append_assoc ls (a ∷ b ∷ c ∷ []) old)))
+
+module _ {W S : Type 0} (w : Ghosts W S) (qsbr : Bool) (sizes : Sizes) (old new : W) (e : Refusal) where
+  during : (is_so : Log → Type 0) → During w qsbr tabled old new is_so → Begins (w.heard old) (w.heard new)
   during is_so d = begins_trans (w.heard old) d.at (w.heard new) d.after.after_heard d.before
 
-  no_record : FindsNoRecord w qsbr allows sizes old new e → Goes w old new
-  no_record f = (f.same.0, f.after.after_heard)
+  -- where the key had no value
+  pub missing : (d key : ℕ) → e ≡ Missing → RefusesReplacementThrough w qsbr tabled sizes old new e d key → StaysOn w old new
+  missing d key is (inl r) = (r.2.0.0, during _ r.1, ([], r.2.0.1))
+  missing d key is (inr (c, had, inl f)) = let no = sym is ∙ f.is in absurd (cc)
+  missing d key is (inr (c, had, inr g)) = ⊎_elim (λ r. let no = sym is ∙ r.0 in absurd (cc)) (λ r. let no = sym is ∙ r.0 in absurd (cc)) g.why
 
-  given_back : (queue : ℕ) → GivesBack w qsbr allows sizes old new e queue → Goes w old new
-  given_back queue g = (g.same, begins_trans (w.heard old) g.at (w.heard new) g.within.0.after_heard g.within.1)
+  -- where it had one
+  pub exists : (d key : ℕ) → e ≡ Exists → RefusesInsertionThrough w qsbr tabled sizes old new e d key → StaysOn w old new
+  exists d key is (inl r) = (r.2.0.0, during _ r.1.1, ([], r.2.0.1))
+  exists d key is (inr (lacked, inl r)) = let no = sym is ∙ r.0 in absurd (cc)
+  exists d key is (inr (lacked, inr f)) = let no = sym is ∙ f.is in absurd (cc)
 
-  pub refused_replacement : (d key : ℕ) → RefusesReplacementThrough w qsbr allows sizes old new e d key → Goes w old new
-  refused_replacement d key (inl r) = (r.2.0.0, during _ r.1)
-  refused_replacement d key (inr (c, had, inl f)) = no_record f
-  refused_replacement d key (inr (c, had, inr g)) = given_back (c % sizes.queues) g
-
-  pub refused_insertion : (d key : ℕ) → RefusesInsertionThrough w qsbr allows sizes old new e d key → Goes w old new
-  refused_insertion d key (inl r) = (r.2.0.0, during _ r.1.1)
-  refused_insertion d key (inr (lacked, inl r)) = (r.2.0.0, during _ lacked)
-  refused_insertion d key (inr (lacked, inr f)) = no_record f
+  -- where nothing was put into a slot
+  pub put_found : (c : ℕ) → IsNotPut w qsbr old new sizes c e → (found : List Look) × (w.looks new ≡ found ++ w.looks old)
+  put_found c (inl r) = (_ ∷ [], r.1)
+  put_found c (inr (mid, held, inl f)) = both_found (w.looks old) (w.looks mid) (w.looks new) (_ ∷ _ ∷ [], held.looks) (f.found, f.looks)
+  put_found c (inr (mid, held, inr g)) = both_found (w.looks old) (w.looks mid) (w.looks new) (_ ∷ _ ∷ [], held.looks) (_ ∷ _ ∷ g.found, g.looks)
 
 -- a retirement that was refused, for the one reason or the other
 pub went_refused : {W S P Q R : Type 0} (w : Ghosts W S) (qsbr : Bool) (allows : Log → LiveEvent → Type 0) {sizes : Sizes} {queue : ℕ} {e : Refusal} (a b c : W) → Went w qsbr allows a b → (P × Q × (c ≡ b)) ⊎ (R × RefusesRetirement w qsbr allows sizes queue b c e) → Went w qsbr allows a c

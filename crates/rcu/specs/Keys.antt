@@ -6,9 +6,11 @@ use Rattle.std.specs.Prelude.{◌≡◌, ◌⊎◌, ◌%◌, ℕ, Bool, List, Op
 use Rattle.rcu_model.specs.declared.event.ObjectId.{ObjectId}
 use Rattle.rcu_model.specs.declared.refusal.Refusal.{Refusal}
 use Rattle.live_log.specs.declared.event.LiveEvent.{LiveEvent}
+use Rattle.live_log.specs.declared.event.LiveEvent.TheVariants.{Object}
+use Rattle.live_log.specs.declared.event.ObjectEvent.TheVariants.{Cut, Replace}
 use Rattle.live_log.specs.Log.{Log, Begins}
 use Rattle.live_log.specs.Tables.{tabled}
-use Rattle.rcu_hash.specs.live_read.Hearing.{MakesLast, Stays}
+use Rattle.rcu_hash.specs.live_read.Hearing.{MakesLast}
 use Rattle.rcu_hash.specs.live_read.Holding.{log_of}
 use Rattle.rcu_hash.specs.live_read.declared.reader_core.ReaderCore.{ReaderCore}
 use Rattle.rcu_hash.specs.live_read.declared.caller.Caller.{Ghosts}
@@ -18,6 +20,7 @@ use Rattle.rcu_hash.specs.Directories.{directed_map}
 use Rattle.rcu_hash.specs.Publishing.{ChangesThrough}
 use Rattle.rcu_hash.specs.Refusing.{RefusesInsertionThrough, RefusesReplacementThrough}
 use Rattle.rcu.specs.Reclaiming.{gone_code}
+use Rattle.rcu.specs.Trying.{StaysOn}
 
 -- By the word of a value: the key has this value in the log, or none.
 abbrev pub HasAt : {T : Type 0} → (T → ℕ) → ℕ → ℕ → Log → ℕ → Option T → Type 0
@@ -37,10 +40,14 @@ pub record Gets {T : Type 0} (packed : T → ℕ) (chains d : ℕ) (seen heard n
 abbrev pub GetsValue : {T P K : Type 0} {g : plan.Ghosts P} → (T → ℕ) → ℕ → ℕ → ReaderCore P K g → ReaderCore P K g → ℕ → Option T → Type 0
 GetsValue packed chains d r s key found = Gets packed chains d (log_of r) r.seat.me.0.heard (log_of s) key found
 
+-- by this event the object left its chain
+abbrev pub Unlinks : LiveEvent → ObjectId → Type 0
+Unlinks event left = ((c : ℕ) × (event ≡ Object (Cut c left))) ⊎ ((c : ℕ) × (o : ObjectId) × (cell : ℕ) × (payload : List ℕ) × (event ≡ Object (Replace c left o cell payload)))
+
 -- Between these two moments of a caller the key has this word from the last event of a log on, or none, and each other
 -- key what it had before the event. That came after all that the caller had seen and heard of, the caller has heard of
--- it, and no other change of a chain was made for it. A record that had the key's value before was retired then, with
--- the callback of this code, in one of so many queues.
+-- it, and no other change of a chain was made for it. A record that had the key's value before left its chain by the
+-- event. It was retired then, with the callback of this code, in one of so many queues.
 pub record GivesWord {W S : Type 0} (w : Ghosts W S) (qsbr : Bool) (chains queues d : ℕ) (old new : W) (key : ℕ) (has : Option ℕ) (callback : Gv) : Type 0 where
   pub published : Log
   pub chain : ℕ
@@ -49,12 +56,11 @@ pub record GivesWord {W S : Type 0} (w : Ghosts W S) (qsbr : Bool) (chains queue
   pub changes : ChangesThrough qsbr tabled chains d (w.seen old) (w.heard old) chain event key had has published
   pub told : Begins published (w.heard new)
   pub made : MakesLast w old new published
-  pub retired : (h : ℕ) → had ≡ Some h → (left : ObjectId) × (ticket : ℕ) × HandsOver qsbr tabled left (chain % queues) ticket callback published (w.heard new)
+  pub retired : (h : ℕ) → had ≡ Some h → (left : ObjectId) × (ticket : ℕ) × Unlinks event left × HandsOver qsbr tabled left (chain % queues) ticket callback published (w.heard new)
 
--- The key got no value at the last of several tries: a replacement or an insertion was refused. Before it the caller
--- stood as it stood, and had heard of no less.
+-- The key got no value at the last of several tries: a replacement or an insertion was refused.
 abbrev pub IsNotSet : {W S : Type 0} → Ghosts W S → Bool → Sizes → ℕ → W → W → ℕ → Refusal → Type 0
-IsNotSet {W} w qsbr sizes d old new key e = (last : W) × Stays w old last × Begins (w.heard old) (w.heard last) × (RefusesReplacementThrough w qsbr tabled sizes last new e d key ⊎ RefusesInsertionThrough w qsbr tabled sizes last new e d key)
+IsNotSet {W} w qsbr sizes d old new key e = (last : W) × StaysOn w old last × (RefusesReplacementThrough w qsbr tabled sizes last new e d key ⊎ RefusesInsertionThrough w qsbr tabled sizes last new e d key)
 
 -- The key has this word or none, and what had its value before is retired with the map's deleter.
 abbrev pub ChangesKey : {W S : Type 0} → Ghosts W S → Bool → Sizes → ℕ → W → W → ℕ → Option ℕ → (R : RattleType) → R.Denot → Type 0

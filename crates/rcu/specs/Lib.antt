@@ -7,6 +7,7 @@ pub mod Resizing
 pub mod Serving
 pub mod Slots
 pub mod Threads
+pub mod Trying
 pub use Rattle.rcu_model.specs.declared.refusal.Refusal.TheVariants as Refusals
 pub use Rattle.live_log.specs.Log
 pub use Rattle.rcu_hash.specs.live_read.Hearing

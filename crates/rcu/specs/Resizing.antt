@@ -11,6 +11,7 @@ use Rattle.rcu_hash.specs.live_read.declared.caller.Caller.{Ghosts}
 use Rattle.rcu_hash.specs.live_rule.declared.view.Look.{Look}
 use Rattle.rcu_hash.specs.live_rule.declared.view.Sizes.{Sizes}
 use Rattle.rcu_hash.specs.Calls.{IsGrown, IsNotGrown}
+use Rattle.rcu_hash.specs.Freeing.{KeepsNone}
 use Rattle.rcu_hash.specs.Growing.{Grows, HasLeft}
 use Rattle.rcu_hash.specs.Refusing.{During}
 use Rattle.rcu_hash.specs.Tidying.{FindsEnd, Follow, IsRefused, Kind, callbacks_in, cuts_in}
@@ -29,7 +30,7 @@ pub record Grew (qsbr : Bool) (allows : Log → LiveEvent → Type 0) (chains d 
 
 -- between these two moments of a caller
 module _ {W S : Type 0} (w : Ghosts W S) (old new : W) where
-  -- It has seen no more, and has heard of no less. What was found and loaded for it comes after what had been.
+  -- It has seen no more, and has heard of no less. All that was found and loaded for it before is still there.
   pub record HearsMore : Type 0 where
     pub same : w.seen new ≡ w.seen old
     pub later : Begins (w.heard old) (w.heard new)
@@ -40,8 +41,8 @@ module _ {W S : Type 0} (w : Ghosts W S) (old new : W) where
 
 -- by the sizes of the domain, and the type of the map's deleter
 module _ {W S : Type 0} (w : Ghosts W S) (qsbr : Bool) (sizes : Sizes) (d : ℕ) (R : RattleType) (old new : W) where
-  -- Nothing was done for the caller but the steps of tidyings. Each of these left the map as it was, and each retirement
-  -- has the callback that does nothing.
+  -- No change was made for the caller but the cuts of tidyings. Each step of these left the map as it was, and each
+  -- object that was cut is retired with the callback that does nothing.
   pub record OnlyMoves : Type 0 where
     pub hears : HearsMore w old new
     pub steps : List (Kind × Log)
@@ -49,7 +50,7 @@ module _ {W S : Type 0} (w : Ghosts W S) (qsbr : Bool) (sizes : Sizes) (d : ℕ)
     pub callbacks : Each (λ c. c ≡ moved_code R) (callbacks_in steps)
     pub made : MakesMany w old new (cuts_in steps)
 
-  -- The map is not tidied: the sequence number was found at its end, a queue was closed, or there was no memory.
+  -- The map is not tidied: the sequence number was found at its end, or a queue was closed. Or memory is named.
   abbrev pub IsNotTidied : Refusal → Type 0
   IsNotTidied e = ((e ≡ Exhausted) × FindsEnd w qsbr tabled old new) ⊎ IsRefused w old new e
 
@@ -63,9 +64,16 @@ module _ {W S : Type 0} (w : Ghosts W S) (qsbr : Bool) (sizes : Sizes) (d : ℕ)
   abbrev pub IsResized : Type 0
   IsResized = (from : W) × (to : W) × (left : ℕ) × OnlyMoves w qsbr sizes d R old from × IsGrown w qsbr sizes from to d first buckets left × MakesMany w from to left × OnlyMoves w qsbr sizes d R to new
 
-  -- a growth was refused at the last of several tries, but not for what an earlier one left
-  abbrev pub IsNotTaken : Refusal → Type 0
-  IsNotTaken e = (last : W) × OnlyMoves w qsbr sizes d R old last × Stays w last new × IsNotGrown w qsbr sizes last new d first buckets e × ¬ (e ≡ Busy)
+  -- A growth was refused at the last of several tries, but not for what an earlier one left. It made no change, and
+  -- keeps no record.
+  pub record IsNotTaken (e : Refusal) : Type 0 where
+    pub last : W
+    pub moves : OnlyMoves w qsbr sizes d R old last
+    pub hears : HearsMore w last new
+    pub stays : Stays w last new
+    pub keeps : KeepsNone sizes e hears.found
+    pub refused : IsNotGrown w qsbr sizes last new d first buckets e
+    pub known : ¬ (e ≡ Busy)
 
   -- or the map is not tidied, after it grew, or while something was left of an earlier growth
   abbrev pub IsNotResized : Refusal → Type 0

@@ -20,6 +20,7 @@ use Rattle.rcu_hash.specs.live_rule.declared.view.Look.TheVariants.{Loaded, Stor
 use Rattle.rcu_hash.specs.live_rule.declared.view.Sizes.{Sizes}
 use Rattle.rcu_hash.specs.rcu_list.Calls.{HandsOver}
 use Rattle.rcu_hash.specs.rcu_list.Refusing.{FindsNoRecord, GivesBack}
+use Rattle.rcu.specs.Trying.{StaysOn}
 
 -- the rule of chains that any change fits
 abbrev pub any_change : Log → LiveEvent → Type 0
@@ -100,6 +101,6 @@ module _ {W S : Type 0} (w : Ghosts W S) (qsbr : Bool) (old new : W) where
       ((e ≡ Busy) × (w.looks new ≡ Loaded (hold_at sizes c) 1 ∷ w.looks old))
       ⊎ ((mid : W) × HoldsSlot sizes c mid × (FindsNoRecord w qsbr any_change sizes mid new e ⊎ GivesBack w qsbr any_change sizes mid new e (c % sizes.queues)))
 
--- nor at the last of several tries, before which the caller stood as it stood, and had heard of no less
+-- nor at the last of several tries
 abbrev pub IsNotPutLater : {W S : Type 0} → Ghosts W S → Bool → W → W → Sizes → ℕ → Refusal → Type 0
-IsNotPutLater {W} w qsbr old new sizes c e = (last : W) × Stays w old last × Begins (w.heard old) (w.heard last) × IsNotPut w qsbr last new sizes c e
+IsNotPutLater {W} w qsbr old new sizes c e = (last : W) × StaysOn w old last × IsNotPut w qsbr last new sizes c e

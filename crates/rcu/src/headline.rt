@@ -25,8 +25,8 @@ pub fn every_moment_is_safe<P: GracePlan, K: ChainRule, S>()
     the_log_is_a_run::<K>();
 }
 
-/// In a log of the library's threads an object is queued once, into one queue and with one deleter. So the deleter that
-/// an entry of a worker tells is the very one that was handed to the retirement of the entry's object.
+/// In a log of the library's threads an object is queued into one queue and with one deleter. So the deleter that an
+/// entry of a worker tells equals the one that was handed to the retirement of the entry's object.
 pub fn objects_are_queued_with_one_deleter<P: GracePlan, K: ChainRule, D: Deleter>()
     ensures { (log : Log) (o : ObjectId) → IsLiveRun P.QSBR K.allows log → HasOneDeleter D.row o log }
 {}

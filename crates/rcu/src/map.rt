@@ -3,10 +3,12 @@
 ghost use Rattle.std.specs.Prelude.{◌≡◌, ◌⊎◌, ◌<◌, None, Some, IfErr, IfOk};
 ghost use Rattle.rcu_model.specs.declared.refusal.Refusal.TheVariants.{Closed, Memory, PoolFull};
 ghost use Rattle.live_log.specs.Tables.{tabled};
+ghost use Rattle.rcu_hash.specs.live_read.Hearing.{MakesLast, Stays};
 ghost use Rattle.rcu_hash.specs.live_read.Reads.{Looks};
 ghost use Rattle.live_log.specs.Log.{Begins};
 ghost use Rattle.rcu_hash.specs.Calls.{IsNotMade};
 ghost use Rattle.rcu_hash.specs.Directories.{HasNoKeys};
+ghost use Rattle.rcu_hash.specs.Freeing.{KeepsRecords};
 ghost use Rattle.rcu_hash.specs.Growing.{Founds};
 ghost use Rattle.rcu_hash.specs.Refusing.{RefusesRemovalThrough};
 ghost use Rattle.rcu_hash.specs.Tidying.{IsTidied};
@@ -77,6 +79,8 @@ impl<'d, P: GracePlan + Drop, B: Site, F: Deleter + Copy, T: Word + Copy + Drop>
         ensures map { IfOk result (λ _. HasNoKeys B.sizes.chains directory first buckets (W.heard caller.new)) }
         ensures later { Begins (W.heard caller.old) (W.heard caller.new) }
         ensures refused { IfErr result (λ e. IsNotMade W.Caller P.QSBR B.sizes caller.old caller.new directory first buckets e) }
+        ensures looks { KeepsRecords W.Caller B.sizes caller.old caller.new result (λ _. 1) }
+        ensures changes { IfOk result (λ _. MakesLast W.Caller caller.old caller.new (W.heard caller.new)) × IfErr result (λ _. Stays W.Caller caller.old caller.new) }
     {
         let table = RcuHash::new(rt, alloc, domain, caller, directory, first, buckets)?;
         Ok(Map {
@@ -165,7 +169,7 @@ impl<'d, P: GracePlan + Drop, B: Site, F: Deleter + Copy, T: Word + Copy + Drop>
     /// and is offline where its reader is of the quiescent-state flavour.
     ///
     /// Refused with `Memory` where memory is refused, with `Exhausted` where the sequence numbers are used up, and with
-    /// `Closed` as `Domain::retire`; then something is left. Else nothing is, in the log of which the caller hears.
+    /// `Closed` as `Domain::retire`. Else nothing is left, in the log of which the caller hears.
     pub fn tidy<W: Caller<B>, R: Wait>(
         &self,
         rt: &R,

@@ -1,8 +1,8 @@
 use denote.Param.{copied}
-use Rattle.std.proofs.Common.{rules, ◌≡◌, subst, sym}
+use Rattle.std.proofs.Common.{rules, ◌≡◌, inl, subst, sym}
 use Rattle.std.proofs.lemmas.Result.{IfErr-weaker, err_from_is_err_and}
 use Rattle.rcu_model.specs.declared.refusal.Refusal.TheVariants.{Busy}
-use Rattle.rcu.specs.Resizing.{IsNotResized}
+use Rattle.rcu.specs.Resizing.{IsNotResized, IsNotTaken}
 use Rattle.rcu.proofs.Moving.{moves_none, moves_on, refused_moves, untidied_busy, untidied_grown}
 use Rattle.rcu.proofs.map.Map.resize.Goals as goal
 
@@ -28,3 +28,15 @@ returns-in_err-tidy-in-Err-2-clause-refused g c =
     let p = err_from_is_err_and c.from_residual.result c.from_residual.ensures.1 in
     rw p.1 (subst (λ e. IsNotResized g.W.Caller g.P.GracePlan.QSBR g.B.Site.sizes c.args.self.now.table.directory (copied 2 g.row.F) old new c.args.first c.args.buckets e) (sym p.2)
     (untidied_busy g.W.Caller g.P.GracePlan.QSBR g.B.Site.sizes c.args.self.now.table.directory (copied 2 g.row.F) old was mid new c.args.first c.args.buckets c.loop.invariant c.tidy-in-Err-2.ensures.moves c.in_err-tidy-in-Err-2.field-0.0 c.in_err-tidy-in-Err-2.ensures.refused c.in-Err-2.field-0 busy (refused_moves g.W.Caller g.P.GracePlan.QSBR g.B.Site.sizes c.args.self.now.table.directory (copied 2 g.row.F) was mid k.changes.1 k.heard k.looks.0 k.looks.1 k.loads.0) k.refused))
+
+pub returns-in-Err-clause-refused : goal.returns-in-Err-clause-refused
+returns-in-Err-clause-refused g c = let k = c.in-Err.ensures in
+    inl (subst (λ e. IsNotTaken g.W.Caller g.P.GracePlan.QSBR g.B.Site.sizes c.args.self.now.table.directory (copied 2 g.row.F) c.args.caller.now c.grow.new.caller c.args.first c.args.buckets e) (search rules) (record {
+      last = c.loop.caller;
+      moves = c.loop.invariant;
+      hears = record { same = k.changes.1.0; later = k.heard; found = k.looks.0; looks = k.looks.1; loaded = k.loads.0.0; loads = k.loads.0.1 };
+      stays = k.changes.1;
+      keeps = k.looks.3;
+      refused = k.refused;
+      known = search rules;
+    }))

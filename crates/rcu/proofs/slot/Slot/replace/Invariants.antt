@@ -1,7 +1,6 @@
 use Rattle.std.proofs.Common.{◌≡◌}
-use Rattle.live_log.specs.Log.{Begins}
-use Rattle.rcu_hash.specs.live_read.Hearing.{Stays}
+use Rattle.rcu.specs.Trying.{StaysOn}
 use Rattle.rcu.proofs.slot.Slot.replace.Given as goal
 
 abbrev pub invariant-loop : goal.invariant-loop
-invariant-loop g l = (l.callback ≡ l.fn.callback) × Stays g.W.Caller l.fn.caller l.caller × Begins (g.W.Caller.heard l.fn.caller) (g.W.Caller.heard l.caller)
+invariant-loop g l = (l.callback ≡ l.fn.callback) × StaysOn g.W.Caller l.fn.caller l.caller
