@@ -248,7 +248,7 @@ BUGS = [
     # Tables
     (
         "writers look for a key in another bucket",
-        "rcu_hash/src/shelf.rt",
+        "rcu_hash/src/bucket_array.rt",
         "(key % self.naming.buckets as u64) as usize",
         "(key / 2 % self.naming.buckets as u64) as usize",
     ),

@@ -29,7 +29,7 @@ fn answer_chains<P: GracePlan + Drop, B: Site, W: Write, H: Wait>(
     ensures { AnswersLines text.now (W.contents writer.old) (W.contents writer.new) result }
 {
     let queues = opened.table.queues;
-    let Ok((domain, record)) = opened.named::<B, Code>(alloc) else {
+    let Ok((domain, record)) = opened.into_domain::<B, Code>(alloc) else {
         return Err(ReplayFault::Memory);
     };
     let Ok(mut session) = OfChains::new(alloc, &domain, record, queues) else {
@@ -50,7 +50,7 @@ fn answer_maps<P: GracePlan + Drop, B: Site, W: Write, H: Wait>(
     ensures { AnswersLines text.now (W.contents writer.old) (W.contents writer.new) result }
 {
     let queues = opened.table.queues;
-    let Ok((domain, record)) = opened.named::<B, Code>(alloc) else {
+    let Ok((domain, record)) = opened.into_domain::<B, Code>(alloc) else {
         return Err(ReplayFault::Memory);
     };
     let Ok(mut session) = OfMaps::new(alloc, &domain, record, queues) else {

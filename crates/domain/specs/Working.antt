@@ -65,7 +65,7 @@ pub record IsWhole {D : Type 0} (code : D → Gv) (answers : D → Ripe → ℕ 
 
 module _ {D : Type 0} (code : D → Gv) (answers : D → Ripe → ℕ → Type 0) (qsbr : Bool) (allows : Log → LiveEvent → Type 0) (key : Sizes) (q : ℕ) where
   -- A worker began after all that had been seen and heard of, when the first so many were finished, and ran those that
-  -- came next, each in its turn: a deleter was called with each, and answered the code of its entry. Where it was closed,
+  -- came next, each in its turn: the deleter that it was queued with was called, and answered the code of its entry. Where it was closed,
   -- no more were queued; where it was served, no more had been when it began; and where memory was refused, more were.
   -- What is left comes next after them, and nothing is but where the numbers were used up. Then something is, and
   -- with the entries it is all that had been queued in a log in which these had run.

@@ -18,7 +18,7 @@ use std::alloc::Global;
 use std::sync::{Arc, Mutex};
 
 /// The words of a domain that has no name yet. A program picks the name, a type that is a `Site`, where it calls
-/// `named`.
+/// `into_domain`.
 #[derive(Drop)]
 pub struct Opened<P: GracePlan, K: ChainRule> {
     /// The words.
@@ -57,7 +57,7 @@ impl<P: GracePlan + Drop, K: ChainRule> Opened<P, K> {
     /// the boxed `Callback`, or a type of the program's own.
     ///
     /// Refused with `Memory` where memory is. It never waits.
-    pub fn named<B: Site, D: Deleter>(
+    pub fn into_domain<B: Site, D: Deleter>(
         self,
         alloc: Global,
     ) -> Result<(Domain<P, K, B, D>, Handle<B>), Refusal>

@@ -124,7 +124,7 @@ fn reads_alone<P: GracePlan + Drop, B: Site, R: Wait>(
 ) -> Result<Told, Refusal>
     requires { (opened.table.words.shared.table_id ≡ B.table) × (opened.table.words.shared.key ≡ B.sizes) }
 {
-    let (domain, mut record) = opened.named::<B, Adds>(alloc)?;
+    let (domain, mut record) = opened.into_domain::<B, Adds>(alloc)?;
     let mut reader = domain.register(rt, &mut record)?;
     if P::QSBR {
         reader.online()?;

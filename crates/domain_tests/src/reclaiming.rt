@@ -77,7 +77,7 @@ fn reclaims_one<B: Site, R: Wait>(
 ) -> Result<(u64, (usize, Option<Finished>, usize, Stop)), Refusal>
     requires { (opened.table.words.shared.table_id ≡ B.table) × (opened.table.words.shared.key ≡ B.sizes) }
 {
-    let (domain, mut record) = opened.named::<B, Callback>(alloc)?;
+    let (domain, mut record) = opened.into_domain::<B, Callback>(alloc)?;
     reclaims(rt, alloc, &domain, &mut record, callback)
 }
 
@@ -142,7 +142,7 @@ fn two_workers<B: Site + Send + Sync, R: Threads + Wait + Sync>(
 ) -> Result<(Option<Refusal>, (u64, Stop)), Refusal>
     requires { (opened.table.words.shared.table_id ≡ B.table) × (opened.table.words.shared.key ≡ B.sizes) }
 {
-    let (domain, mut record) = opened.named::<B, Adds>(alloc)?;
+    let (domain, mut record) = opened.into_domain::<B, Adds>(alloc)?;
     let other = domain.split(&mut record);
     let home = &domain;
     let (second, first) = join(

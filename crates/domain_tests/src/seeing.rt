@@ -131,7 +131,7 @@ fn paused<B: Site + Send + Sync, R: Threads + Wait + Sync>(
 ) -> Result<Counts, Refusal>
     requires { (opened.table.words.shared.table_id ≡ B.table) × (opened.table.words.shared.key ≡ B.sizes) }
 {
-    let (domain, mut record) = opened.named::<B, Pauses>(alloc)?;
+    let (domain, mut record) = opened.into_domain::<B, Pauses>(alloc)?;
     let in_call: Result<Arc<AtomicU64>, _> = entered.clone();
     let looked: Result<Arc<AtomicU64>, _> = seen.clone();
     let (Ok(in_call), Ok(looked)) = (in_call, looked) else {
@@ -224,7 +224,7 @@ fn sees<P: GracePlan + Drop + Send + Sync, B: Site + Send + Sync, R: Threads + W
 ) -> Result<(usize, Vec<usize>, usize), Refusal>
     requires { (opened.table.words.shared.table_id ≡ B.table) × (opened.table.words.shared.key ≡ B.sizes) }
 {
-    let (domain, mut record) = opened.named::<B, Adds>(alloc)?;
+    let (domain, mut record) = opened.into_domain::<B, Adds>(alloc)?;
     let _first = domain.register(rt, &mut record)?;
     let mut second = domain.register(rt, &mut record)?;
     let _third = domain.register(rt, &mut record)?;

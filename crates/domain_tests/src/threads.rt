@@ -53,7 +53,7 @@ fn spawns<B: Site + Send + Sync + 'static, R: Threads + Wait + Copy + Send + 'st
 ) -> Result<(bool, bool), Refusal>
     requires { (opened.table.words.shared.table_id ≡ B.table) × (opened.table.words.shared.key ≡ B.sizes) }
 {
-    let (domain, mut record) = opened.named::<B, Adds>(alloc)?;
+    let (domain, mut record) = opened.into_domain::<B, Adds>(alloc)?;
     let mut other = domain.split(&mut record);
     let one = registered(&rt, &domain, &mut record)?;
     let Ok(home) = Arc::new(alloc, domain) else {
@@ -90,7 +90,7 @@ fn moves_a_writer<
 >(rt: &R, alloc: Global, opened: Opened<P, AnyChain>) -> Result<(Option<[u64; 4]>, usize), Refusal>
     requires { (opened.table.words.shared.table_id ≡ B.table) × (opened.table.words.shared.key ≡ B.sizes) }
 {
-    let (domain, mut record) = opened.named::<B, Adds>(alloc)?;
+    let (domain, mut record) = opened.into_domain::<B, Adds>(alloc)?;
     let other = domain.split(&mut record);
     let owned = plain::alloc(rt, &domain, &mut record, [3, 5, 7, 11])?;
     let chain = plain::chain(&domain, &mut record, 0)?;

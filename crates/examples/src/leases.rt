@@ -53,7 +53,7 @@ pub(crate) fn serve<B: Site + Send + Sync, R: Threads + Wait + Sync>(
 ) -> Result<u64, Refusal>
     requires { Names B.Site opened }
 {
-    let (domain, mut own) = opened.named::<B, Reclaim<NoCallback>>(alloc)?;
+    let (domain, mut own) = opened.into_domain::<B, Reclaim<NoCallback>>(alloc)?;
     let rooms = Map::new(rt, alloc, &domain, &mut own, 0, 1, 4, NoCallback)?;
     let other = domain.split(&mut own);
     let leaving = Mutex::new(None);

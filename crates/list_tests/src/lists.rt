@@ -77,7 +77,7 @@ fn bad_chains_in<P: GracePlan + Drop, B: Site, R: Wait>(
 ) -> Result<[bool; 5], Refusal>
     requires { (opened.table.words.shared.table_id ≡ B.table) × (opened.table.words.shared.key ≡ B.sizes) }
 {
-    let (domain, mut record) = opened.named::<B, Adds>(alloc)?;
+    let (domain, mut record) = opened.into_domain::<B, Adds>(alloc)?;
     bad_chains(rt, &domain, &mut record)
 }
 

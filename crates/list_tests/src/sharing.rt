@@ -130,7 +130,7 @@ fn shares<P: GracePlan + Drop + Send + Sync, B: Site + Send + Sync, R: Threads +
 ) -> Result<(usize, [Option<u64>; 3]), Refusal>
     requires { (opened.table.words.shared.table_id ≡ B.table) × (opened.table.words.shared.key ≡ B.sizes) }
 {
-    let (domain, mut record) = opened.named::<B, Adds>(alloc)?;
+    let (domain, mut record) = opened.into_domain::<B, Adds>(alloc)?;
     let reader = registered(rt, &domain, &mut record)?;
     let Idle { reader: mut last } = registered(rt, &domain, &mut record)?;
     let table = RcuHash::new(rt, alloc, &domain, &mut record, 0, 1, 2)?;

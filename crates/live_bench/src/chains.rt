@@ -397,7 +397,7 @@ pub(crate) fn on_chains<
 ) -> Result<u64, Refusal>
     requires { (opened.table.words.shared.table_id ≡ B.table) × (opened.table.words.shared.key ≡ B.sizes) }
 {
-    let (domain, mut record) = opened.named::<B, RoundDone>(alloc)?;
+    let (domain, mut record) = opened.into_domain::<B, RoundDone>(alloc)?;
     if operation.is_read() {
         records(rt, &domain, &mut record, OnChains::Push, 1_000)?;
     }
@@ -471,7 +471,7 @@ pub(crate) fn boxed<
 >(rt: &R, alloc: Global, opened: Opened<P, AnyChain>, count: u64) -> Result<u64, Refusal>
     requires { (opened.table.words.shared.table_id ≡ B.table) × (opened.table.words.shared.key ≡ B.sizes) }
 {
-    let (domain, record) = opened.named::<B, Callback>(alloc)?;
+    let (domain, record) = opened.into_domain::<B, Callback>(alloc)?;
     let root = Mutex::new(record);
     last_of(together(
         rt,

@@ -265,7 +265,7 @@ pub(crate) fn on_table<
 ) -> Result<u64, Refusal>
     requires { (opened.table.words.shared.table_id ≡ B.table) × (opened.table.words.shared.key ≡ B.sizes) }
 {
-    let (domain, mut record) = opened.named::<B, RoundDone>(alloc)?;
+    let (domain, mut record) = opened.into_domain::<B, RoundDone>(alloc)?;
     let home = &domain;
     let map = table(rt, alloc, home, &mut record, operation.buckets())?;
     insertions(rt, &map, &mut record, operation.keys())?;

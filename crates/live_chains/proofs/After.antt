@@ -5,7 +5,7 @@ use Rattle.live_table.specs.rcu_model.declared.event.ObjectId.{ObjectId}
 use Rattle.live_table.specs.rcu_model.Sets.{In, IsPlace, follows, next_of}
 use Rattle.live_table.proofs.rcu_model.Lemmas.{follows_has}
 use Rattle.live_table.specs.live_log.declared.event.LiveEvent.{LiveEvent}
-use Rattle.live_table.specs.live_log.Log.{Log, Begins, objects_of, note_of}
+use Rattle.live_table.specs.live_log.Log.{Log, Begins, objects_of, record_of}
 use Rattle.live_table.proofs.live_log.Lemmas.{begins_trans, note_stays, run_of, chain_used}
 use Rattle.live_table.specs.live_rule.declared.view.View.{View}
 use Rattle.live_table.specs.live_rule.declared.rights.ChainRight.{ChainRight}
@@ -34,7 +34,7 @@ module _ {S : Type 0} (qsbr : Bool) (allows : Log → LiveEvent → Type 0) (a :
 
   module _ (listed : IsListed m.0) where
     -- the objects of the writer's chain have the notes that they had
-    pub note_same : (o : ObjectId) → In (own_in m.0.chains).objects o → note_of n.0.seen o ≡ note_of m.0.seen o
+    pub note_same : (o : ObjectId) → In (own_in m.0.chains).objects o → record_of n.0.seen o ≡ record_of m.0.seen o
     note_same o has = let run = went.2.2 in let begins = went.2.0 in
         note_stays qsbr allows m.0.seen n.0.seen o begins run (chain_used qsbr allows m.0.seen (own_in m.0.chains).chain o (run_of qsbr allows m.0.seen n.0.seen begins run) (subst (λ (l : List ObjectId). In l o) (sym listed.0) has))
 
@@ -80,7 +80,7 @@ module _ {S : Type 0} (qsbr : Bool) (allows : Log → LiveEvent → Type 0) (m n
   abbrev next : ℕ
   next = ref (objects_of m.0.seen) (next_of (own_in m.0.chains).objects o)
 
-  pub reads_own : (p : Option ObjectId) (cell : ℕ) → IsBefore m.0 p o → (note_of m.0.seen o).0 ≡ cell → MayRead qsbr m.0 o cell
+  pub reads_own : (p : Option ObjectId) (cell : ℕ) → IsBefore m.0 p o → (record_of m.0.seen o).0 ≡ cell → MayRead qsbr m.0 o cell
   reads_own p cell at is = (is, inr (own, listed, follows_has (own_in m.0.chains).objects p o at.1))
 
   pub loaded_next : (p : Option ObjectId) (x : ℕ) → IsBefore m.0 p o → (found : Option ObjectId) × IsNext qsbr m.0 n.0 o x found → x ≡ next
@@ -95,5 +95,5 @@ module _ {S : Type 0} (qsbr : Bool) (allows : Log → LiveEvent → Type 0) (m n
   pub cut_after : (p : Option ObjectId) (x : ℕ) (q : Me S View) → IsBefore m.0 p o → x ≡ next → Writes qsbr allows (cut_view p o x n.0) (cut_of o n.0) n q → Writes qsbr allows (cut_view p o next m.0) (cut_of o m.0) m q
   cut_after p x q at is did = did_after qsbr allows m.0 m n went refl refl (cut_view p o next m.0) (cut_of o m.0) q
       (subst (λ (z : ℕ × List ℕ). Writes qsbr allows (record (cut_view p o next m.0) { object = Unlinked z.0 o }) (cut_of o m.0) n q) (note_same qsbr allows m.0 m n went listed o (follows_has (own_in m.0.chains).objects p o at.1))
-      (subst (λ (y : ℕ). Writes qsbr allows (record (cut_view p o y m.0) { object = Unlinked (note_of n.0.seen o).0 o }) (cut_of o m.0) n q) is
+      (subst (λ (y : ℕ). Writes qsbr allows (record (cut_view p o y m.0) { object = Unlinked (record_of n.0.seen o).0 o }) (cut_of o m.0) n q) is
       (subst (λ (u : View). Writes qsbr allows (cut_view p o x u) (cut_of o u) n q) went.1 did)))

@@ -12,7 +12,7 @@ use Rattle.live_table.specs.rcu_model.declared.event.ObjectId.{ObjectId}
 use Rattle.live_table.specs.rcu_model.Sets.{In}
 use Rattle.live_table.proofs.rcu_model.Lemmas.{Once}
 use Rattle.live_table.specs.live_log.declared.event.LiveEvent.{LiveEvent}
-use Rattle.live_table.specs.live_log.Log.{Log, note_of, objects_of}
+use Rattle.live_table.specs.live_log.Log.{Log, record_of, objects_of}
 use Rattle.live_table.proofs.live_log.Lemmas.{kept_log}
 use Rattle.live_table.specs.live_rule.declared.view.Sizes.{Sizes}
 use Rattle.live_table.specs.live_rule.declared.view.View.{View}
@@ -43,7 +43,7 @@ module _ (f : ObjectId → ℕ) where
   few os bound once one low = subst (λ (n : ℕ). n ≤ bound) (length-map os f) (length-le_from_distinct_below (map f os) bound (distinct os once one) (λ n e. let m = among os n e in subst (λ (i : ℕ). i < bound) m.2 (low m.0 m.1)))
 
 pub fits_pool : {S : Type 0} (qsbr : Bool) (allows : Log → LiveEvent → Type 0) (key : Sizes) (s : State S View) (r : KeepsRule qsbr allows key s) (id : ℕ) (v : View) (at : get_elem? s.views id ≡ lists.some v) → v.sizes ≡ key → FitsPool v
-fits_pool qsbr allows key s r id v at sizes own = few (λ o. (note_of r.log o).0) (own_in v.chains).objects v.sizes.pool once one (λ o h. lows qsbr allows key s r id v at sizes o (alive o h))
+fits_pool qsbr allows key s r id v at sizes own = few (λ o. (record_of r.log o).0) (own_in v.chains).objects v.sizes.pool once one (λ o h. lows qsbr allows key s r id v at sizes o (alive o h))
   where
     alive : (o : ObjectId) → In (own_in v.chains).objects o → IsAlive (objects_of r.log) o
     alive o h = alive_linked qsbr allows r.log (own_in v.chains).chain o r.run (here qsbr allows key s r id v at own o h)
@@ -51,5 +51,5 @@ fits_pool qsbr allows key s r id v at sizes own = few (λ o. (note_of r.log o).0
     once : Once (own_in v.chains).objects
     once = subst Once (knows_own qsbr allows key s r id v at own).3 ((kept_log qsbr allows r.log r.run).linking.once (own_in v.chains).chain)
 
-    one : (o q : ObjectId) → In (own_in v.chains).objects o → In (own_in v.chains).objects q → (note_of r.log o).0 ≡ (note_of r.log q).0 → o ≡ q
+    one : (o q : ObjectId) → In (own_in v.chains).objects o → In (own_in v.chains).objects q → (record_of r.log o).0 ≡ (record_of r.log q).0 → o ≡ q
     one o q h k e = let half : o.0 ≡ q.0 = sym (r.agree.heap.header o (alive o h)).half ∙ (ap (λ (i : ℕ). get_or s.words (cell_at key i 0) 0 / 2) e ∙ (r.agree.heap.header q (alive q k)).half) in λ j. record { 0 = half j }

@@ -8,7 +8,7 @@ use Rattle.live_table.specs.rcu_model.Machine.{IsOpen}
 use Rattle.live_table.specs.rcu_model.Sets.{In, first_of, next_of}
 use Rattle.live_table.proofs.rcu_model.Lemmas.{has_section_in, has_object_in, follows_has}
 use Rattle.live_table.specs.live_log.declared.event.LiveEvent.{LiveEvent}
-use Rattle.live_table.specs.live_log.Log.{Log, state_of, note_of, open_of, section, WasLinked, objects_of, head, link, Follows}
+use Rattle.live_table.specs.live_log.Log.{Log, state_of, record_of, open_of, section, WasLinked, objects_of, head, link, Follows}
 use Rattle.live_table.proofs.live_log.Lemmas.{kept_log, protected, open_inside}
 use Rattle.live_table.proofs.live_log.Lemmas.{last_opened}
 use Rattle.live_table.proofs.live_log.Lemmas.{note_stays, run_of, was_later, was_used, next_linked, linked_here, first_linked}
@@ -53,7 +53,7 @@ module _ {S : Type 0} (qsbr : Bool) (allows : Log → LiveEvent → Type 0) (key
     held_alive q n o stands was = (was_used qsbr allows r.log (section q n) o r.run was, λ h. protected qsbr allows r.log (section q n) o r.run was (inside q n stands) (has_object_in (state_of r.log).reclaimed o h))
 
     -- what may be read has its record, which is the one that the seat knows
-    readable : (o : ObjectId) (i : ℕ) → MayRead qsbr v o i → IsAlive (objects_of r.log) o × (note_of r.log o ≡ note_of v.seen o) × ((note_of r.log o).0 ≡ i)
+    readable : (o : ObjectId) (i : ℕ) → MayRead qsbr v o i → IsAlive (objects_of r.log) o × (record_of r.log o ≡ record_of v.seen o) × ((record_of r.log o).0 ≡ i)
     readable o i may = ⊎_elim
         (λ (m : (q : ℕ) × (n : ℕ) × IsInSection qsbr v q n × WasLinked (section q n) o v.seen).
         let b = (r.seen id v at).0 in
@@ -120,7 +120,7 @@ module _ {S : Type 0} (qsbr : Bool) (allows : Log → LiveEvent → Type 0) (key
       λ o i j may four same.
           let h = readable s r id me.0 at o i may in
           let same' : a ≡ cell_at key i (j + 2) = same ∙ ap (λ (k : Sizes). cell_at k i (j + 2)) sizes in
-          ap (λ i. get_or s.words i 0) same' ∙ (subst (λ (z : ℕ). get_or s.words (cell_at key z (j + 2)) 0 ≡ get_or (note_of r.log o).1 j 0) h.2 (r.agree.heap.payload o h.0 j four) ∙ ap (λ (z : ℕ × List ℕ). get_or z.1 j 0) h.1),
+          ap (λ i. get_or s.words i 0) same' ∙ (subst (λ (z : ℕ). get_or s.words (cell_at key z (j + 2)) 0 ≡ get_or (record_of r.log o).1 j 0) h.2 (r.agree.heap.payload o h.0 j four) ∙ ap (λ (z : ℕ × List ℕ). get_or z.1 j 0) h.1),
     ),
   )
 

@@ -10,7 +10,7 @@ use Rattle.live_table.proofs.rcu_model.Lemmas.{at_object_same, at_number_same}
 use Rattle.live_table.proofs.rcu_model.Lemmas.{some_is, none_some, follows_has}
 use Rattle.live_table.specs.live_log.declared.event.LiveEvent.{LiveEvent}
 use Rattle.live_table.specs.live_log.declared.event.ObjectEvent.TheVariants.{Push, Replace, Cut}
-use Rattle.live_table.specs.live_log.Log.{Log, note_of, MayFollow, IsLiveRun, Objects, objects_of, spot_of, head}
+use Rattle.live_table.specs.live_log.Log.{Log, record_of, MayFollow, IsLiveRun, Objects, objects_of, spot_of, head}
 use Rattle.live_table.proofs.live_log.Lemmas.{kept_log}
 use Rattle.live_table.proofs.live_log.Lemmas.{note_stays, begins_trans}
 use Rattle.live_table.proofs.live_log.Lemmas.{first_used}
@@ -82,7 +82,7 @@ module _ {S : Type 0} (qsbr : Bool) (allows : Log → LiveEvent → Type 0) (key
 
   -- what a seat knows of the object that it took out of its chain
   unlinked_now : (s : State S View) (r : Rule s) (id a x : ℕ) (v : View) (at : get_elem? s.views id ≡ lists.some v) → IsWriter v → IsListed v → (e : LiveEvent) → IsLiveRun qsbr allows (e ∷ r.log) → (o : ObjectId) → In (own_in v.chains).objects o → In (objects_of (e ∷ r.log)).cut o → (objects_of (e ∷ r.log)).retired ≡ (objects_of r.log).retired
-      → (m : ObjectId) → o ≡ m → KnowsObject qsbr key (e ∷ r.log) (set s.words a x) (objects_of (e ∷ r.log)) (record_right.Unlinked (note_of v.seen o).0 o) × (ClaimsObject v.object m ⊎ Unclaimed key s.views id (object m))
+      → (m : ObjectId) → o ≡ m → KnowsObject qsbr key (e ∷ r.log) (set s.words a x) (objects_of (e ∷ r.log)) (record_right.Unlinked (record_of v.seen o).0 o) × (ClaimsObject v.object m ⊎ Unclaimed key s.views id (object m))
   unlinked_now s r id a x v at own listed e run o has cut retired m same =
       let k = kept_log qsbr allows r.log r.run in (
         (

@@ -12,7 +12,7 @@ use Rattle.live_table.specs.rcu_model.Sets.{In, IsPlace, first_of}
 use Rattle.live_table.specs.live_log.declared.event.LiveEvent.{LiveEvent}
 use Rattle.live_table.specs.live_log.declared.event.LiveEvent.TheVariants.{Object}
 use Rattle.live_table.specs.live_log.declared.event.ObjectEvent.{ObjectEvent}
-use Rattle.live_table.specs.live_log.Log.{Log, state_of, note_of, IsLiveRun, Objects, objects_of, Spot, head, link, spot_of, Leads}
+use Rattle.live_table.specs.live_log.Log.{Log, state_of, record_of, IsLiveRun, Objects, objects_of, Spot, head, link, spot_of, Leads}
 use Rattle.live_table.proofs.live_log.Lemmas.{kept_log}
 use Rattle.live_table.proofs.live_log.Lemmas.{note_stays, run_of}
 use Rattle.live_table.proofs.live_log.Lemmas.{chain_used, first_used, next_used}
@@ -92,12 +92,12 @@ module _ {S : Type 0} (qsbr : Bool) (allows : Log → LiveEvent → Type 0) (key
     pub seen_used : (o : ObjectId) → In (own_in v.chains).objects o → In (state_of v.seen).used o
     seen_used o h = chain_used qsbr allows v.seen (own_in v.chains).chain o seen_run (subst (λ (l : List ObjectId). In l o) (sym listed.0) h)
 
-    pub note_now : (o : ObjectId) → In (own_in v.chains).objects o → note_of r.log o ≡ note_of v.seen o
+    pub note_now : (o : ObjectId) → In (own_in v.chains).objects o → record_of r.log o ≡ record_of v.seen o
     note_now o h = note_stays qsbr allows v.seen r.log o (r.seen id v at).0 r.run (seen_used o h)
 
     pub place_now : (p : Option ObjectId) → IsPlace (own_in v.chains).objects p → v.sizes ≡ key → place_at v p ≡ spot_at key (objects_of r.log) (spot_of (own_in v.chains).chain p)
     place_now None h sizes = ap (λ (k : Sizes). head_at k (own_in v.chains).chain) sizes
-    place_now (Some o) h sizes = ap (λ (k : Sizes). cell_at k (note_of v.seen o).0 1) sizes ∙ ap (λ (z : ℕ × List ℕ). cell_at key z.0 1) (sym (note_now o h))
+    place_now (Some o) h sizes = ap (λ (k : Sizes). cell_at k (record_of v.seen o).0 1) sizes ∙ ap (λ (z : ℕ × List ℕ). cell_at key z.0 1) (sym (note_now o h))
 
   pub place_live : (p : Option ObjectId) → IsPlace (own_in v.chains).objects p → IsLive key (objects_of r.log) (spot_of (own_in v.chains).chain p)
   place_live None h = knows_own.0
@@ -106,7 +106,7 @@ module _ {S : Type 0} (qsbr : Bool) (allows : Log → LiveEvent → Type 0) (key
   -- the head after a store at a place of the chain
   pub head_stored : (p : Option ObjectId) (x : ℕ) → get_or (set s.words (spot_at key (objects_of r.log) (spot_of (own_in v.chains).chain p)) x) (head_at key (own_in v.chains).chain) 0 ≡ head_after p x (own_in v.chains).head
   head_stored None x = let wide = r.wide in let low = knows_own.0 in get_or-set_same s.words (head_at key (own_in v.chains).chain) x 0 (omega arith)
-  head_stored (Some o) x = let low = knows_own.0 in get_or-set_other s.words (cell_at key (note_of r.log o).0 1) (head_at key (own_in v.chains).chain) x 0 (λ e. omega arith) ∙ knows_own.2
+  head_stored (Some o) x = let low = knows_own.0 in get_or-set_other s.words (cell_at key (record_of r.log o).0 1) (head_at key (own_in v.chains).chain) x 0 (λ e. omega arith) ∙ knows_own.2
 
   -- a word is at one place of the chain
   pub one_place : IsListed v → v.sizes ≡ key → (p q : Option ObjectId) → IsPlace (own_in v.chains).objects p → IsPlace (own_in v.chains).objects q → place_at v p ≡ place_at v q → p ≡ q
@@ -208,7 +208,7 @@ pub place_there : (key : Sizes) (v : View) (before : Option ℕ) (p : Option Obj
 place_there key v None None c there is sizes = ap (λ (n : ℕ). head_at key n) (sym is) ∙ ap (λ (k : Sizes). head_at k (own_in v.chains).chain) (sym sizes)
 place_there key v None (Some q) c there is sizes = absurd there
 place_there key v (Some j) None c there is sizes = absurd there
-place_there key v (Some j) (Some q) c there is sizes = ap (λ (n : ℕ). cell_at key n 1) (sym there) ∙ ap (λ (k : Sizes). cell_at k (note_of v.seen q).0 1) (sym sizes)
+place_there key v (Some j) (Some q) c there is sizes = ap (λ (n : ℕ). cell_at key n 1) (sym there) ∙ ap (λ (k : Sizes). cell_at k (record_of v.seen q).0 1) (sym sizes)
 
 pub place_low : (key : Sizes) (c : ℕ) (before : Option ℕ) → c < key.chains → IfSome before (λ j. j < key.pool) → place_index key c before < words_of key
 place_low key c None low b = omega arith

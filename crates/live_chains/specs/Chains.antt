@@ -9,7 +9,7 @@ use Rattle.live_table.specs.rcu_model.Sets.{In, IsPlace, follows, without_object
 use Rattle.live_table.specs.live_log.declared.event.LiveEvent.{LiveEvent}
 use Rattle.live_table.specs.live_log.declared.event.LiveEvent.TheVariants.{ChainNote, Object}
 use Rattle.live_table.specs.live_log.declared.event.ObjectEvent.TheVariants.{Push, Replace, Cut}
-use Rattle.live_table.specs.live_log.Log.{Log, IsLiveRun, Begins, WasLinked, section, event_of, state_of, objects_of, spot_of, Follows, note_of, chain_note}
+use Rattle.live_table.specs.live_log.Log.{Log, IsLiveRun, Begins, WasLinked, section, event_of, state_of, objects_of, spot_of, Follows, record_of, chain_note}
 use Rattle.live_table.specs.live_rule.declared.view.Sizes.{Sizes}
 use Rattle.live_table.specs.live_rule.declared.view.View.{View}
 use Rattle.live_table.specs.live_rule.declared.rights.ChainRight.{ChainRight}
@@ -39,7 +39,7 @@ IsBefore v p o = IsPlace (own_in v.chains).objects p × (follows (own_in v.chain
 -- the record that stands before the place: none before the first object
 abbrev pub IsThere : View → Option ℕ → Option ObjectId → Type 0
 IsThere v None None = Unit {0}
-IsThere v (Some j) (Some q) = (note_of v.seen q).0 ≡ j
+IsThere v (Some j) (Some q) = (record_of v.seen q).0 ≡ j
 IsThere v _ _ = ⊥
 
 -- the word of a place in the writer's chain
@@ -71,11 +71,11 @@ pushed_view x v = changed (push_of v) x (object_in v.object ∷ (own_in v.chains
 
 -- the view, once the seat's object stands in the place of another, which the seat now has
 abbrev pub replaced_view : Option ObjectId → ObjectId → ℕ → View → View
-replaced_view p o x v = let own = own_in v.chains in changed (replace_of o v) (head_after p x own.head) (replaced o (object_in v.object) own.objects) (Unlinked (note_of v.seen o).0 o) v
+replaced_view p o x v = let own = own_in v.chains in changed (replace_of o v) (head_after p x own.head) (replaced o (object_in v.object) own.objects) (Unlinked (record_of v.seen o).0 o) v
 
 -- the view, once an object left the seat's chain
 abbrev pub cut_view : Option ObjectId → ObjectId → ℕ → View → View
-cut_view p o x v = let own = own_in v.chains in changed (cut_of o v) (head_after p x own.head) (without_object o own.objects) (Unlinked (note_of v.seen o).0 o) v
+cut_view p o x v = let own = own_in v.chains in changed (cut_of o v) (head_after p x own.head) (without_object o own.objects) (Unlinked (record_of v.seen o).0 o) v
 
 -- the view, once the seat's chain has this note
 abbrev pub noted_view : ℕ → View → View
@@ -96,7 +96,7 @@ IsInSection qsbr v r n = IsOwner v r × (¬ IsClosed qsbr (word_in v.slot)) × (
 -- the object lies in this record, and the reader's open section may hold it, or it is in the writer's chain
 abbrev pub MayRead : Bool → View → ObjectId → ℕ → Type 0
 MayRead qsbr v o i =
-    ((note_of v.seen o).0 ≡ i) × (((r : ℕ) × (n : ℕ) × IsInSection qsbr v r n × WasLinked (section r n) o v.seen) ⊎ (IsWriter v × IsListed v × In (own_in v.chains).objects o))
+    ((record_of v.seen o).0 ≡ i) × (((r : ℕ) × (n : ℕ) × IsInSection qsbr v r n × WasLinked (section r n) o v.seen) ⊎ (IsWriter v × IsListed v × In (own_in v.chains).objects o))
 
 -- a reader's section is still open
 abbrev pub StaysOpen : Bool → View → View → Type 0
@@ -106,14 +106,14 @@ StaysOpen qsbr v w = (r n : ℕ) → IsInSection qsbr v r n → IsOpen (state_of
 abbrev pub IsNext : Bool → View → View → ObjectId → ℕ → Option ObjectId → Type 0
 IsNext qsbr v w o n found =
     Follows (objects_of w.seen) o found × (n ≡ ref (objects_of w.seen) found)
-    × ((m : ObjectId) → found ≡ Some m → ((note_of w.seen m).0 < v.sizes.pool) × ((r k : ℕ) → IsInSection qsbr v r k → WasLinked (section r k) o v.seen → WasLinked (section r k) m w.seen))
+    × ((m : ObjectId) → found ≡ Some m → ((record_of w.seen m).0 < v.sizes.pool) × ((r k : ℕ) → IsInSection qsbr v r k → WasLinked (section r k) o v.seen → WasLinked (section r k) m w.seen))
     × (IsWriter v → In (own_in v.chains).objects o → found ≡ next_of (own_in v.chains).objects o)
 
 -- the first object of a chain: the word is its record, and each section of this seat may hold it
 abbrev pub IsFirst : Bool → View → View → ℕ → ℕ → Type 0
 IsFirst qsbr v w c n =
     (n ≡ ref (objects_of w.seen) (first_of ((objects_of w.seen).chain c)))
-    × ((o : ObjectId) → first_of ((objects_of w.seen).chain c) ≡ Some o → ((note_of w.seen o).0 < v.sizes.pool) × ((r k : ℕ) → IsInSection qsbr v r k → WasLinked (section r k) o w.seen))
+    × ((o : ObjectId) → first_of ((objects_of w.seen).chain c) ≡ Some o → ((record_of w.seen o).0 < v.sizes.pool) × ((r k : ℕ) → IsInSection qsbr v r k → WasLinked (section r k) o w.seen))
 
 -- the writer's chain has no more objects than the table has records
 abbrev pub FitsPool : View → Type 0
@@ -158,7 +158,7 @@ module _ (qsbr : Bool) (allows : Log → LiveEvent → Type 0) (v : View) (befor
 
   -- the object there is in this record
   abbrev pub MayCutRecord : ℕ → Type 0
-  MayCutRecord cell = (p : Option ObjectId) × (o : ObjectId) × IsThere v before p × IsBefore v p o × ((note_of v.seen o).0 ≡ cell) × MayWrite qsbr allows v (cut_of o v)
+  MayCutRecord cell = (p : Option ObjectId) × (o : ObjectId) × IsThere v before p × IsBefore v p o × ((record_of v.seen o).0 ≡ cell) × MayWrite qsbr allows v (cut_of o v)
 
 module _ {S : Type 0} (qsbr : Bool) (allows : Log → LiveEvent → Type 0) where
   -- a step that writes this event at a log in which the seat's chains are as it knows them, after which the view is
@@ -175,7 +175,7 @@ module _ {S : Type 0} (qsbr : Bool) (allows : Log → LiveEvent → Type 0) wher
 
   -- the object there is in this record
   abbrev pub WritesCutRecord : Option ℕ → ℕ → Me S View → Me S View → Type 0
-  WritesCutRecord before cell m m' = (p : Option ObjectId) (o : ObjectId) → IsThere m.0 before p → IsBefore m.0 p o → (note_of m.0.seen o).0 ≡ cell → Writes (cut_view p o (next_ref m.0 o) m.0) (cut_of o m.0) m m'
+  WritesCutRecord before cell m m' = (p : Option ObjectId) (o : ObjectId) → IsThere m.0 before p → IsBefore m.0 p o → (record_of m.0.seen o).0 ≡ cell → Writes (cut_view p o (next_ref m.0 o) m.0) (cut_of o m.0) m m'
 
   -- the head was stored, and the object is the first one
   abbrev pub pushed : Step S → Me S View → ℕ → Me S View → Type 0
@@ -191,6 +191,10 @@ module _ {S : Type 0} (qsbr : Bool) (allows : Log → LiveEvent → Type 0) wher
   -- the note was stored
   abbrev pub noted : Step S → Me S View → ℕ → Me S View → Type 0
   noted st m n m' = Writes (noted_view st.first m.0) (ChainNote (own_in m.0.chains).chain st.first) m m' × IsListed m'.0
+
+  -- this was found in the chain's hold word, and so the chain is the seat's own
+  abbrev pub TookChain : Sizes → ℕ → ℕ → Me S View → Me S View → Type 0
+  TookChain key c n m m' = Went qsbr allows (held_view (own_in m'.0.chains) (exchanged_view (hold_at key c) n 1 m.0)) m m' × IsHeld m'.0 c
 
   -- the hold word was 0, and so the chain is the seat's; or it was 1, and another has it
   abbrev pub held : Step S → Me S View → ℕ → Me S View → Type 0
@@ -215,7 +219,7 @@ module _ {S : Type 0} (qsbr : Bool) (allows : Log → LiveEvent → Type 0) wher
   -- a payload word was loaded
   abbrev pub looked_word : Step S → Me S View → ℕ → Me S View → Type 0
   looked_word st m n m' = Went qsbr allows m.0 m m' × KnowsChains m.0 m'.0 × StaysOpen qsbr m.0 m'.0
-      × ((o : ObjectId) (i j : ℕ) → MayRead qsbr m.0 o i → j < 4 → st.word ≡ cell_at m.0.sizes i (j + 2) → n ≡ slice_index_or (note_of m.0.seen o).1 j 0)
+      × ((o : ObjectId) (i j : ℕ) → MayRead qsbr m.0 o i → j < 4 → st.word ≡ cell_at m.0.sizes i (j + 2) → n ≡ slice_index_or (record_of m.0.seen o).1 j 0)
 
   -- a note was loaded
   abbrev pub looked_note : Step S → Me S View → ℕ → Me S View → Type 0

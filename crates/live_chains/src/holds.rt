@@ -3,8 +3,8 @@ ghost use Rattle.std.specs.Prelude.{◌≡◌, ◌≢◌, ◌<◌, ◌≤◌};
 ghost use Rattle.live_table.specs.live_log.declared.event.LiveEvent.TheVariants.{ChainNote};
 ghost use Rattle.live_table.specs.live_rule.Places.{hold_at};
 ghost use Rattle.live_table.specs.Rights.{IsListed, IsWriter, own_in};
-ghost use Rattle.live_table.specs.Steps.{Keeps, Went, exchanged_view, looked_view, stored_view};
-ghost use Rattle.live_chains.specs.Chains.{IsHeld, MayWrite, Writes, freed_view, held_view, noted_view};
+ghost use Rattle.live_table.specs.Steps.{Keeps, Went, looked_view, stored_view};
+ghost use Rattle.live_chains.specs.Chains.{MayWrite, TookChain, Writes, freed_view, noted_view};
 
 use crate::plays::{Frees, Holds, StoresNote};
 use live_table::{ChainRule, GracePlan, LiveSeat, LiveTable};
@@ -20,7 +20,7 @@ pub fn hold_chain<P: GracePlan, K: ChainRule>(
     requires { (seat.old.table_id ≡ table.now.words.shared.table_id) × (seat.old.me.0.sizes ≡ table.now.words.shared.key) × (chain < table.now.chains) }
     ensures seat { Keeps seat.old seat.new }
     ensures found { result ≤ 1 }
-    ensures held { result ≡ 0 → Went P.QSBR K.allows (held_view (own_in seat.new.me.0.chains) (exchanged_view (hold_at table.now.words.shared.key chain) result 1 seat.old.me.0)) seat.old.me seat.new.me × IsHeld seat.new.me.0 chain }
+    ensures held { result ≡ 0 → TookChain P.QSBR K.allows table.now.words.shared.key chain result seat.old.me seat.new.me }
     ensures missed { result ≢ 0 → Went P.QSBR K.allows (looked_view (hold_at table.now.words.shared.key chain) result seat.old.me.0) seat.old.me seat.new.me }
 {
     let place = table.hold_place(chain);

@@ -1,7 +1,7 @@
 //! The loads of a reader in a section, or of a chain's writer. None of them waits, and none writes an event.
 ghost use Rattle.std.specs.Prelude.{◌≡◌, ◌<◌, ◌≤◌, Option, length, slice_index_or};
 ghost use Rattle.live_table.specs.rcu_model.declared.event.ObjectId.{ObjectId};
-ghost use Rattle.live_table.specs.live_log.Log.{chain_note, note_of};
+ghost use Rattle.live_table.specs.live_log.Log.{chain_note, record_of};
 ghost use Rattle.live_table.specs.Steps.{Keeps, Went};
 ghost use Rattle.live_table.specs.Rights.{IsWriter, KnowsChains, own_in};
 ghost use Rattle.live_chains.specs.Chains.{IsFirst, IsNext, MayRead, StaysOpen};
@@ -59,7 +59,7 @@ pub fn load_word<P: GracePlan, K: ChainRule>(
     ensures seat { Keeps seat.old seat.new }
     ensures looked { Went P.QSBR K.allows seat.old.me.0 seat.old.me seat.new.me }
     ensures known { KnowsChains seat.old.me.0 seat.new.me.0 × StaysOpen P.QSBR seat.old.me.0 seat.new.me.0 }
-    ensures word { (o : ObjectId) → MayRead P.QSBR seat.old.me.0 o cell → result ≡ slice_index_or (note_of seat.old.me.0.seen o).1 index 0 }
+    ensures word { (o : ObjectId) → MayRead P.QSBR seat.old.me.0 o cell → result ≡ slice_index_or (record_of seat.old.me.0.seen o).1 index 0 }
 {
     let place = table.cell_place(cell, index + 2);
     table.words.shared.load::<LooksWord<P, K>>(seat, place)

@@ -4,7 +4,7 @@ use Rattle.atomic_table.specs.Table.{Me}
 use Rattle.rcu_model.specs.declared.event.ObjectId.{ObjectId}
 use Rattle.rcu_model.specs.Sets.{In}
 use Rattle.live_log.specs.declared.event.LiveEvent.{LiveEvent}
-use Rattle.live_log.specs.Log.{Log, Begins, IsLiveRun, note_of, state_of}
+use Rattle.live_log.specs.Log.{Log, Begins, IsLiveRun, record_of, state_of}
 use Rattle.live_log.proofs.Lemmas.{begins_trans, note_stays}
 use Rattle.live_words.specs.live_rule.declared.view.View.{View}
 use Rattle.live_words.specs.live_table.Steps.{Went}
@@ -17,5 +17,5 @@ went_on qsbr allows m u w x y = (
 )
 
 -- a word of an object that was used then is the same later
-pub word_stays : (qsbr : Bool) (allows : Log → LiveEvent → Type 0) (old log : Log) (o : ObjectId) (j n : ℕ) → Begins old log → IsLiveRun qsbr allows log → In (state_of old).used o → n ≡ slice_index_or (note_of old o).1 j 0 → n ≡ slice_index_or (note_of log o).1 j 0
+pub word_stays : (qsbr : Bool) (allows : Log → LiveEvent → Type 0) (old log : Log) (o : ObjectId) (j n : ℕ) → Begins old log → IsLiveRun qsbr allows log → In (state_of old).used o → n ≡ slice_index_or (record_of old o).1 j 0 → n ≡ slice_index_or (record_of log o).1 j 0
 word_stays qsbr allows old log o j n b run used e = e ∙ ap (λ (note : ℕ × List ℕ). slice_index_or note.1 j 0) (sym (note_stays qsbr allows old log o b run used))

@@ -28,7 +28,8 @@ pub fn queue_object<P: GracePlan, K: ChainRule>(
     ensures lock { GivesOneMore lock.old lock.new queue given }
     ensures job { HasQueued table.now.words.shared.table_id lock.old unlinked result.0 cell }
     ensures number { result.1 ≡ (object_in unlinked.me.0.object).0 }
-    ensures queued { Queues P.QSBR K.allows (Precedes unlinked.me.0) (object_in unlinked.me.0.object) queue given callback.now.code lock.new.me.0.seen × (result.0.me.0.seen ≡ lock.new.me.0.seen) }
+    ensures queued { Queues P.QSBR K.allows (Precedes unlinked.me.0) (object_in unlinked.me.0.object) queue given callback.now.code lock.new.me.0.seen }
+    ensures same { result.0.me.0.seen ≡ lock.new.me.0.seen }
     ensures later { Begins lock.old.me.0.seen lock.new.me.0.seen }
 {
     let number = load_number(table, &mut unlinked, cell);

@@ -66,7 +66,7 @@ fn threads<
 ) -> Result<Counts, Refusal>
     requires { (opened.table.words.shared.table_id ≡ B.table) × (opened.table.words.shared.key ≡ B.sizes) × (0 < load.updaters) }
 {
-    let (domain, record) = opened.named::<B, RoundDone>(alloc)?;
+    let (domain, record) = opened.into_domain::<B, RoundDone>(alloc)?;
     let root = Mutex::new(record);
     let ended = AtomicU64::new(0);
     let shared = Shared {

@@ -94,7 +94,7 @@ fn threads<
 ) -> Result<Counts, Refusal>
     requires { (opened.table.words.shared.table_id ≡ B.table) × (opened.table.words.shared.key ≡ B.sizes) × (0 < load.updaters) }
 {
-    let (domain, mut record) = opened.named::<B, RoundDone>(alloc)?;
+    let (domain, mut record) = opened.into_domain::<B, RoundDone>(alloc)?;
     let home = &domain;
     let map = filled(rt, alloc, home, &mut record, target)?;
     let marks = marks(alloc, load.readers)?;

@@ -9,7 +9,7 @@ use Rattle.live_log.specs.declared.event.ObjectEvent.TheVariants.{Push, Replace,
 use Rattle.live_log.specs.declared.event.LiveEvent.{LiveEvent}
 use Rattle.live_log.specs.declared.event.LiveEvent.TheVariants.{Open, Close, SeqOdd, SeqEven, Present, ChainNote, CloseQueue, Object}
 use Rattle.live_log.specs.Keys.{Falls, IsKeyed, keyed}
-use Rattle.live_log.specs.Log.{Log, state_of, note_of, IsLiveRun}
+use Rattle.live_log.specs.Log.{Log, state_of, record_of, IsLiveRun}
 use Rattle.live_log.proofs.Keying.{falls_same}
 use Rattle.live_log.proofs.Notes.{note_stays}
 use Rattle.live_log.proofs.Places.{chain_used}
@@ -19,8 +19,8 @@ module _ (qsbr : Bool) (allows : Log → LiveEvent → Type 0) where
   left_alone : (e : LiveEvent) (log : Log) (c : ℕ) → IsLiveRun qsbr allows (e ∷ log) → (state_of (e ∷ log)).chain c ≡ (state_of log).chain c → IsKeyed log c → IsKeyed (e ∷ log) c
   left_alone e log c run same falls =
       let was : List ObjectId = (state_of log).chain c in
-      subst (Falls (note_of (e ∷ log))) (sym same)
-      (falls_same (note_of log) (note_of (e ∷ log)) was (λ o h. note_stays qsbr allows log (e ∷ log) o (e ∷ [], refl) run (chain_used qsbr allows log c o run.1 h)) falls)
+      subst (Falls (record_of (e ∷ log))) (sym same)
+      (falls_same (record_of log) (record_of (e ∷ log)) was (λ o h. note_stays qsbr allows log (e ∷ log) o (e ∷ [], refl) run (chain_used qsbr allows log c o run.1 h)) falls)
 
   -- each event leaves the chain falling that it changes
   pub record LeavesFalling : Type 0 where

@@ -10,7 +10,7 @@ use Rattle.rcu_model.proofs.Lemmas.{in_objects}
 use Rattle.live_log.specs.declared.event.ObjectEvent.TheVariants.{Replace}
 use Rattle.live_log.specs.declared.event.LiveEvent.{LiveEvent}
 use Rattle.live_log.specs.declared.event.LiveEvent.TheVariants.{Open, Close, SeqOdd, SeqEven, Present, ChainNote, CloseQueue, Object}
-use Rattle.live_log.specs.Log.{Log, Begins, Has, HaveEnded, IsLiveRun, chain_note, note_of, state_of}
+use Rattle.live_log.specs.Log.{Log, Begins, Has, HaveEnded, IsLiveRun, chain_note, record_of, state_of}
 use Rattle.live_log.specs.Tables.{IsDirectory, IsFree, IsReplaced, Names, tabled}
 use Rattle.live_log.proofs.Machine.{begins_trans, grows_log, kept_log, run_of}
 use Rattle.live_log.proofs.Notes.{note_stays}
@@ -40,14 +40,14 @@ module _ (qsbr : Bool) where
       (kept_log qsbr tabled log run).linking.linked_not_cut c old at ((grows_log left log b).cut old (inl refl))
 
   -- a directory that is linked at both ends was linked between
-  pub linked_between : (known before log : Log) (d : ℕ) (o : ObjectId) → Begins known before → Begins before log → IsLiveRun qsbr tabled log → In ((state_of known).chain d) o → IsDirectory (note_of known o) → In ((state_of log).chain d) o → In ((state_of before).chain d) o
+  pub linked_between : (known before log : Log) (d : ℕ) (o : ObjectId) → Begins known before → Begins before log → IsLiveRun qsbr tabled log → In ((state_of known).chain d) o → IsDirectory (record_of known o) → In ((state_of log).chain d) o → In ((state_of before).chain d) o
   linked_between known before log d o b later run at directory still = ⊎_elim
       (λ (h : In ((state_of before).chain d) o). h)
       (λ (r : IsReplaced known before d o). absurd (gone r.before log d d o r.new r.cell r.payload (begins_trans (Object (Replace d o r.new r.cell r.payload) ∷ r.before) before log (r.since, r.is) later) run still))
       (linked_or_replaced qsbr known before d o b (run_of qsbr tabled before log later run) at directory)
 
   -- no directory was replaced in the chain since then
-  unreplaced : {A : Type 0} (start before log : Log) (d e : ℕ) (o old new : ObjectId) (cell : ℕ) (payload : List ℕ) → Begins start before → Begins (Object (Replace e old new cell payload) ∷ before) log → IsLiveRun qsbr tabled log → In ((state_of start).chain d) o → In ((state_of log).chain d) o → IsDirectory (note_of start o) → IsDirectory (note_of before old) → e ≡ d → A
+  unreplaced : {A : Type 0} (start before log : Log) (d e : ℕ) (o old new : ObjectId) (cell : ℕ) (payload : List ℕ) → Begins start before → Begins (Object (Replace e old new cell payload) ∷ before) log → IsLiveRun qsbr tabled log → In ((state_of start).chain d) o → In ((state_of log).chain d) o → IsDirectory (record_of start o) → IsDirectory (record_of before old) → e ≡ d → A
   unreplaced start before log d e o old new cell payload b later run at still directory directory' z =
       let left : Log = Object (Replace e old new cell payload) ∷ before in
       let step : IsLiveRun qsbr tabled left = run_of qsbr tabled left log later run in
@@ -65,7 +65,7 @@ module _ (qsbr : Bool) where
 
   -- Of the chains with the note of a directory that stays linked none is left by a later replacement: what freed it
   -- then frees it now.
-  pub stays_free : (start log : Log) (c d : ℕ) (o : ObjectId) → Begins start log → IsLiveRun qsbr tabled log → In ((state_of start).chain d) o → In ((state_of log).chain d) o → IsDirectory (note_of start o) → chain_note c log ≡ d + 1 → ((since before : Log) (e : ℕ) (old new : ObjectId) (cell : ℕ) (payload : List ℕ) → start ≡ since ++ Object (Replace e old new cell payload) ∷ before → IsDirectory (note_of before old) → Names (note_of before old) c → HaveEnded before log) → IsFree log c
+  pub stays_free : (start log : Log) (c d : ℕ) (o : ObjectId) → Begins start log → IsLiveRun qsbr tabled log → In ((state_of start).chain d) o → In ((state_of log).chain d) o → IsDirectory (record_of start o) → chain_note c log ≡ d + 1 → ((since before : Log) (e : ℕ) (old new : ObjectId) (cell : ℕ) (payload : List ℕ) → start ≡ since ++ Object (Replace e old new cell payload) ∷ before → IsDirectory (record_of before old) → Names (record_of before old) c → HaveEnded before log) → IsFree log c
   stays_free start log c d o b run at still directory noted earlier since before e old new cell payload is directory' names' = ⊎_elim
       (λ (later : Begins start before). ⊎_elim
       (λ (same : chain_note c log ≡ e + 1). let z : e ≡ d = omega arith in unreplaced start before log d e o old new cell payload later (since, is) run at still directory directory' z)
@@ -75,7 +75,7 @@ module _ (qsbr : Bool) where
       (beside b.0 since (Object (Replace e old new cell payload)) before start (sym is ∙ b.1))
 
   -- a chain that a directory names stays free while that is linked
-  pub named_stays_free : (known log : Log) (c d : ℕ) (o : ObjectId) → Begins known log → IsLiveRun qsbr tabled log → In ((state_of known).chain d) o → In ((state_of log).chain d) o → IsDirectory (note_of known o) → Names (note_of known o) c → IsFree known c → IsFree log c
+  pub named_stays_free : (known log : Log) (c d : ℕ) (o : ObjectId) → Begins known log → IsLiveRun qsbr tabled log → In ((state_of known).chain d) o → In ((state_of log).chain d) o → IsDirectory (record_of known o) → Names (record_of known o) c → IsFree known c → IsFree log c
   named_stays_free known log c d o b run at still directory names free =
       let same = note_stays qsbr tabled known log o b run (chain_used qsbr tabled known d o (run_of qsbr tabled known log b run) at) in
       stays_free known log c d o b run at still directory
@@ -83,7 +83,7 @@ module _ (qsbr : Bool) where
       (λ since before e old new cell payload is directory' names'. ended_later before known log b (free since before e old new cell payload is directory' names'))
 
   -- and one that was left is free once the sections have ended that were open when another directory was linked
-  pub left_is_freed : (mark log : Log) (c d : ℕ) (o : ObjectId) → Begins mark log → IsLiveRun qsbr tabled log → In ((state_of mark).chain d) o → In ((state_of log).chain d) o → IsDirectory (note_of mark o) → chain_note c log ≡ d + 1 → HaveEnded mark log → IsFree log c
+  pub left_is_freed : (mark log : Log) (c d : ℕ) (o : ObjectId) → Begins mark log → IsLiveRun qsbr tabled log → In ((state_of mark).chain d) o → In ((state_of log).chain d) o → IsDirectory (record_of mark o) → chain_note c log ≡ d + 1 → HaveEnded mark log → IsFree log c
   left_is_freed mark log c d o b run at still directory noted ended =
       stays_free mark log c d o b run at still directory noted
       (λ since before e old new cell payload is directory' names'. ended_before qsbr tabled before mark log (run_of qsbr tabled mark log b run) (since ++ Object (Replace e old new cell payload) ∷ [], is ∙ sym (append_assoc since (Object (Replace e old new cell payload) ∷ []) before)) b ended)

@@ -2,7 +2,7 @@
 use Rattle.std.proofs.Common.{Bool, ℕ, sym, ◌∙◌, inl, inr, ⊎_elim}
 use Rattle.live_log.specs.declared.event.ObjectEvent.TheVariants.{Replace}
 use Rattle.live_log.specs.Keys.{keyed, keyed_event}
-use Rattle.live_log.specs.Log.{Log, note_of}
+use Rattle.live_log.specs.Log.{Log, record_of}
 use Rattle.live_log.specs.Maps.{HasMaps, IsPlain, IsUnnoted, TakesKeys}
 use Rattle.live_log.specs.Tables.{HasKey, IsDirectory, IsFree, MayDirect, tabled}
 use Rattle.live_log.proofs.Falling as keys
@@ -47,8 +47,8 @@ pub tabled_maps : (qsbr : Bool) → HasMaps qsbr tabled
 tabled_maps qsbr = record {
   falls = tables.each_falls qsbr;
   alike = λ log c old new cell payload run. ⊎_elim
-      (λ (k : HasKey (cell, payload) × HasKey (note_of log old) × keyed_event log (Replace c old new cell payload)). (k.2.2, inl k.2.1))
-      (λ (k : IsDirectory (cell, payload) × IsDirectory (note_of log old) × MayDirect log c (cell, payload)). (k.0.1 ∙ sym k.1.1, inr (tables.was_alone qsbr log c old new cell payload run k.1)))
+      (λ (k : HasKey (cell, payload) × HasKey (record_of log old) × keyed_event log (Replace c old new cell payload)). (k.2.2, inl k.2.1))
+      (λ (k : IsDirectory (cell, payload) × IsDirectory (record_of log old) × MayDirect log c (cell, payload)). (k.0.1 ∙ sym k.1.1, inr (tables.was_alone qsbr log c old new cell payload run k.1)))
       run.0.1.1;
   takes = unnoted_takes qsbr;
 }

@@ -11,7 +11,7 @@ use Rattle.live_log.specs.declared.event.ObjectEvent.TheVariants.{Push, Replace,
 use Rattle.live_log.specs.declared.event.LiveEvent.{LiveEvent}
 use Rattle.live_log.specs.declared.event.LiveEvent.TheVariants.{Open, Close, SeqOdd, SeqEven, Present, ChainNote, CloseQueue, Object}
 use Rattle.live_log.specs.Keys.{Falls, IsKeyed, keyed_event}
-use Rattle.live_log.specs.Log.{Log, Begins, Has, HaveEnded, IsLiveRun, chain_note, note_of, open_of, state_of}
+use Rattle.live_log.specs.Log.{Log, Begins, Has, HaveEnded, IsLiveRun, chain_note, record_of, open_of, state_of}
 use Rattle.live_log.specs.Tables.{HasKey, HasKeys, IsDirectory, IsFree, IsNamed, IsReplaced, MayDirect, Names, kind_of, tabled}
 use Rattle.live_log.proofs.Falling.{LeavesFalling, all_fall}
 use Rattle.live_log.proofs.Machine.{by_object, run_of}
@@ -38,21 +38,21 @@ replaced_one p o os is = ap (replaced p o) is ∙ ⊎_elim
 
 -- the chain has keys alone, or one directory
 abbrev IsAlone : Log → ℕ → Type 0
-IsAlone log c = (o : ObjectId) × (chain_in log c ≡ o ∷ []) × IsDirectory (note_of log o)
+IsAlone log c = (o : ObjectId) × (chain_in log c ≡ o ∷ []) × IsDirectory (record_of log o)
 
 abbrev IsSorted : Log → ℕ → Type 0
 IsSorted log c = HasKeys log c ⊎ IsAlone log c
 
-keys_there : (log : Log) (c : ℕ) (o : ObjectId) → IsSorted log c → In (chain_in log c) o → HasKey (note_of log o) → HasKeys log c
+keys_there : (log : Log) (c : ℕ) (o : ObjectId) → IsSorted log c → In (chain_in log c) o → HasKey (record_of log o) → HasKeys log c
 keys_there log c o (inl keys) h key = keys
-keys_there log c o (inr (p, is, directory)) h key = one_kind (note_of log o) key (subst (λ (q : ObjectId). IsDirectory (note_of log q)) (only p o (subst (λ (l : List ObjectId). In l o) is h)) directory)
+keys_there log c o (inr (p, is, directory)) h key = one_kind (record_of log o) key (subst (λ (q : ObjectId). IsDirectory (record_of log q)) (only p o (subst (λ (l : List ObjectId). In l o) is h)) directory)
 
-alone_there : (log : Log) (c : ℕ) (o : ObjectId) → IsSorted log c → In (chain_in log c) o → IsDirectory (note_of log o) → chain_in log c ≡ o ∷ []
-alone_there log c o (inl keys) h directory = one_kind (note_of log o) (keys o h) directory
+alone_there : (log : Log) (c : ℕ) (o : ObjectId) → IsSorted log c → In (chain_in log c) o → IsDirectory (record_of log o) → chain_in log c ≡ o ∷ []
+alone_there log c o (inl keys) h directory = one_kind (record_of log o) (keys o h) directory
 alone_there log c o (inr (p, is, directory)) h directory' = is ∙ ap (λ (q : ObjectId). q ∷ []) (only p o (subst (λ (l : List ObjectId). In l o) is h))
 
 module _ (qsbr : Bool) where
-  noted : (e : LiveEvent) (log : Log) (c : ℕ) (o : ObjectId) → IsLiveRun qsbr tabled (e ∷ log) → In (chain_in log c) o → note_of (e ∷ log) o ≡ note_of log o
+  noted : (e : LiveEvent) (log : Log) (c : ℕ) (o : ObjectId) → IsLiveRun qsbr tabled (e ∷ log) → In (chain_in log c) o → record_of (e ∷ log) o ≡ record_of log o
   noted e log c o run h = note_stays qsbr tabled log (e ∷ log) o (e ∷ [], refl) run (chain_used qsbr tabled log c o run.1 h)
 
   -- a chain that an event leaves as it was
@@ -72,21 +72,21 @@ module _ (qsbr : Bool) where
     cut_list = at_number_same d (without_object o (chain_in log d)) (chain_in log)
 
   sorted_push : (log : Log) (d : ℕ) (o : ObjectId) (i : ℕ) (w : List ℕ) → IsLiveRun qsbr tabled (Object (Push d o i w) ∷ log) → IsSorted (Object (Push d o i w) ∷ log) d
-  sorted_push log d o i w run = let e : LiveEvent = Object (Push d o i w) in let here : note_of (e ∷ log) o ≡ (i, w) = at_object_same o (i, w) (note_of log) in ⊎_elim
+  sorted_push log d o i w run = let e : LiveEvent = Object (Push d o i w) in let here : record_of (e ∷ log) o ≡ (i, w) = at_object_same o (i, w) (record_of log) in ⊎_elim
       (λ (k : HasKey (i, w) × HasKeys log d × keyed_event log (Push d o i w)). inl (λ x h. ⊎_elim
-      (λ (is : o ≡ x). subst HasKey (sym (ap (note_of (e ∷ log)) (sym is) ∙ here)) k.0)
+      (λ (is : o ≡ x). subst HasKey (sym (ap (record_of (e ∷ log)) (sym is) ∙ here)) k.0)
       (λ (was : In (chain_in log d) x). subst HasKey (sym (noted e log d x run was)) (k.1 x was))
       (subst (λ (l : List ObjectId). In l x) (pushed_list log d o o i w) h)))
       (λ (k : IsDirectory (i, w) × (chain_in log d ≡ []) × MayDirect log d (i, w)). inr (o, pushed_list log d o o i w ∙ ap (λ (l : List ObjectId). o ∷ l) k.1, subst IsDirectory (sym here) k.0))
       run.0.1.1
 
   sorted_replace : (log : Log) (d : ℕ) (p o : ObjectId) (i : ℕ) (w : List ℕ) → IsLiveRun qsbr tabled (Object (Replace d p o i w) ∷ log) → IsSorted log d → IsSorted (Object (Replace d p o i w) ∷ log) d
-  sorted_replace log d p o i w run sorted = let e : LiveEvent = Object (Replace d p o i w) in let here : note_of (e ∷ log) o ≡ (i, w) = at_object_same o (i, w) (note_of log) in let at : In (chain_in log d) p = in_objects (chain_in log d) p run.0.0.0 in ⊎_elim
-      (λ (k : HasKey (i, w) × HasKey (note_of log p) × keyed_event log (Replace d p o i w)). let keys = keys_there log d p sorted at k.1 in inl (λ x h. ⊎_elim
-      (λ (is : x ≡ o). subst HasKey (sym (ap (note_of (e ∷ log)) is ∙ here)) k.0)
+  sorted_replace log d p o i w run sorted = let e : LiveEvent = Object (Replace d p o i w) in let here : record_of (e ∷ log) o ≡ (i, w) = at_object_same o (i, w) (record_of log) in let at : In (chain_in log d) p = in_objects (chain_in log d) p run.0.0.0 in ⊎_elim
+      (λ (k : HasKey (i, w) × HasKey (record_of log p) × keyed_event log (Replace d p o i w)). let keys = keys_there log d p sorted at k.1 in inl (λ x h. ⊎_elim
+      (λ (is : x ≡ o). subst HasKey (sym (ap (record_of (e ∷ log)) is ∙ here)) k.0)
       (λ (was : In (chain_in log d) x × (x ≢ p)). subst HasKey (sym (noted e log d x run was.0)) (keys x was.0))
       (replaced_has p o (chain_in log d) x (subst (λ (l : List ObjectId). In l x) (replaced_list log d p o i w) h))))
-      (λ (k : IsDirectory (i, w) × IsDirectory (note_of log p) × MayDirect log d (i, w)). inr (o, replaced_list log d p o i w ∙ replaced_one p o (chain_in log d) (alone_there log d p sorted at k.1), subst IsDirectory (sym here) k.0))
+      (λ (k : IsDirectory (i, w) × IsDirectory (record_of log p) × MayDirect log d (i, w)). inr (o, replaced_list log d p o i w ∙ replaced_one p o (chain_in log d) (alone_there log d p sorted at k.1), subst IsDirectory (sym here) k.0))
       run.0.1.1
 
   sorted_cut : (log : Log) (d : ℕ) (o : ObjectId) → IsLiveRun qsbr tabled (Object (Cut d o) ∷ log) → IsSorted log d → IsSorted (Object (Cut d o) ∷ log) d
@@ -115,23 +115,23 @@ module _ (qsbr : Bool) where
   each_sorted (Object (Queue o q n) ∷ es) c run = each_sorted es c run.1
   each_sorted (Object (Run o) ∷ es) c run = each_sorted es c run.1
 
-  pub directory_alone : (log : Log) (d : ℕ) (o : ObjectId) → IsLiveRun qsbr tabled log → In (chain_in log d) o → IsDirectory (note_of log o) → chain_in log d ≡ o ∷ []
+  pub directory_alone : (log : Log) (d : ℕ) (o : ObjectId) → IsLiveRun qsbr tabled log → In (chain_in log d) o → IsDirectory (record_of log o) → chain_in log d ≡ o ∷ []
   directory_alone log d o run h directory = alone_there log d o (each_sorted log d run) h directory
 
   -- a linked object of that kind is a directory
-  pub directory_there : (log : Log) (d : ℕ) (o : ObjectId) → IsLiveRun qsbr tabled log → In (chain_in log d) o → kind_of (note_of log o) ≡ 1 → IsDirectory (note_of log o)
+  pub directory_there : (log : Log) (d : ℕ) (o : ObjectId) → IsLiveRun qsbr tabled log → In (chain_in log d) o → kind_of (record_of log o) ≡ 1 → IsDirectory (record_of log o)
   directory_there log d o run h kind = ⊎_elim
-      (λ (keys : HasKeys log d). let a : kind_of (note_of log o) ≡ 0 = keys o h in absurd (omega arith))
-      (λ (alone : IsAlone log d). subst (λ (q : ObjectId). IsDirectory (note_of log q)) (only alone.0 o (subst (λ (l : List ObjectId). In l o) alone.1 h)) alone.2)
+      (λ (keys : HasKeys log d). let a : kind_of (record_of log o) ≡ 0 = keys o h in absurd (omega arith))
+      (λ (alone : IsAlone log d). subst (λ (q : ObjectId). IsDirectory (record_of log q)) (only alone.0 o (subst (λ (l : List ObjectId). In l o) alone.1 h)) alone.2)
       (each_sorted log d run)
 
   -- a directory takes the place of one that was alone
-  pub was_alone : (log : Log) (d : ℕ) (p o : ObjectId) (i : ℕ) (w : List ℕ) → IsLiveRun qsbr tabled (Object (Replace d p o i w) ∷ log) → IsDirectory (note_of log p) → chain_in log d ≡ p ∷ []
+  pub was_alone : (log : Log) (d : ℕ) (p o : ObjectId) (i : ℕ) (w : List ℕ) → IsLiveRun qsbr tabled (Object (Replace d p o i w) ∷ log) → IsDirectory (record_of log p) → chain_in log d ≡ p ∷ []
   was_alone log d p o i w run directory = alone_there log d p (each_sorted log d run.1) (in_objects (chain_in log d) p run.0.0.0) directory
 
   -- one object alone falls
   alone_falls : (log : Log) (c : ℕ) (o : ObjectId) → chain_in log c ≡ o ∷ [] → IsKeyed log c
-  alone_falls log c o is = subst (Falls (note_of log)) (sym is) ((λ p h. absurd h), tt)
+  alone_falls log c o is = subst (Falls (record_of log)) (sym is) ((λ p h. absurd h), tt)
 
   tables_leave : LeavesFalling qsbr tabled
   tables_leave = record {
@@ -140,8 +140,8 @@ module _ (qsbr : Bool) where
         (λ (k : IsDirectory (i, w) × (chain_in log d ≡ []) × MayDirect log d (i, w)). alone_falls (Object (Push d o i w) ∷ log) d o (pushed_list log d o o i w ∙ ap (λ (l : List ObjectId). o ∷ l) k.1))
         run.0.1.1;
     replace = λ log d p o i w run. ⊎_elim
-        (λ (k : HasKey (i, w) × HasKey (note_of log p) × keyed_event log (Replace d p o i w)). k.2.0)
-        (λ (k : IsDirectory (i, w) × IsDirectory (note_of log p) × MayDirect log d (i, w)). alone_falls (Object (Replace d p o i w) ∷ log) d o (replaced_list log d p o i w ∙ replaced_one p o (chain_in log d) (was_alone log d p o i w run k.1)))
+        (λ (k : HasKey (i, w) × HasKey (record_of log p) × keyed_event log (Replace d p o i w)). k.2.0)
+        (λ (k : IsDirectory (i, w) × IsDirectory (record_of log p) × MayDirect log d (i, w)). alone_falls (Object (Replace d p o i w) ∷ log) d o (replaced_list log d p o i w ∙ replaced_one p o (chain_in log d) (was_alone log d p o i w run k.1)))
         run.0.1.1;
     cut = λ log d o run. run.0.1.2;
   }
@@ -155,10 +155,10 @@ module _ (qsbr : Bool) where
 
   module _ (c d : ℕ) (o : ObjectId) where
     abbrev Noted : Log → Type 0
-    Noted log = In (chain_in log d) o → IsDirectory (note_of log o) → Names (note_of log o) c → IsNoted c d log
+    Noted log = In (chain_in log d) o → IsDirectory (record_of log o) → Names (record_of log o) c → IsNoted c d log
 
     -- one that was linked before
-    was_noted : (e : LiveEvent) (es : Log) → IsLiveRun qsbr tabled (e ∷ es) → Noted es → In (chain_in es d) o → IsDirectory (note_of (e ∷ es) o) → Names (note_of (e ∷ es) o) c → IsNoted c d es
+    was_noted : (e : LiveEvent) (es : Log) → IsLiveRun qsbr tabled (e ∷ es) → Noted es → In (chain_in es d) o → IsDirectory (record_of (e ∷ es) o) → Names (record_of (e ∷ es) o) c → IsNoted c d es
     was_noted e es run before was directory names = let same = noted e es d o run was in before was (subst IsDirectory same directory) (subst (λ (x : ℕ × List ℕ). Names x c) same names)
 
     noted_note : (b x : ℕ) (es : Log) → IsLiveRun qsbr tabled (ChainNote b x ∷ es) → Noted es → Noted (ChainNote b x ∷ es)
@@ -166,7 +166,7 @@ module _ (qsbr : Bool) where
         let was = before h directory names in dite (ℕ_discrete b c)
         (λ is. ⊎_elim
         (λ (none : chain_note b es ≡ 0). let z : chain_note c es ≡ 0 = ap (λ (n : ℕ). chain_note n es) (sym is) ∙ none in let y = was.1 in absurd (omega arith))
-        (λ (k : (x ≡ 0) × IsFree es b × (chain_in es b ≡ []) × ¬ IsNamed es b). absurd (k.3 (record { chain = d; object = o; linked = h; directory = directory; names = subst (Names (note_of es o)) (sym is) names })))
+        (λ (k : (x ≡ 0) × IsFree es b × (chain_in es b ≡ []) × ¬ IsNamed es b). absurd (k.3 (record { chain = d; object = o; linked = h; directory = directory; names = subst (Names (record_of es o)) (sym is) names })))
         run.0)
         (λ ne. (was.0, ap (λ (t : Bool). cond t x (chain_note c es)) (ne_eqb b c ne) ∙ was.1))
 
@@ -182,7 +182,7 @@ module _ (qsbr : Bool) where
         e = Object (Push b p i w)
 
         came : b ≡ d → p ≡ o → IsNoted c d es
-        came is new = let here : note_of (e ∷ es) o ≡ (i, w) = ap (note_of (e ∷ es)) (sym new) ∙ at_object_same p (i, w) (note_of es) in ⊎_elim
+        came is new = let here : record_of (e ∷ es) o ≡ (i, w) = ap (record_of (e ∷ es)) (sym new) ∙ at_object_same p (i, w) (record_of es) in ⊎_elim
             (λ (k : HasKey (i, w) × HasKeys es b × keyed_event es (Push b p i w)). one_kind (i, w) k.0 (subst IsDirectory here directory))
             (λ (k : IsDirectory (i, w) × (chain_in es b ≡ []) × MayDirect es b (i, w)). subst (λ (n : ℕ). IsNoted c n es) is (k.2 c (subst (λ (x : ℕ × List ℕ). Names x c) here names)))
             run.0.1.1
@@ -199,9 +199,9 @@ module _ (qsbr : Bool) where
         e = Object (Replace b p n i w)
 
         came : b ≡ d → o ≡ n → IsNoted c d es
-        came is new = let here : note_of (e ∷ es) o ≡ (i, w) = ap (note_of (e ∷ es)) new ∙ at_object_same n (i, w) (note_of es) in ⊎_elim
-            (λ (k : HasKey (i, w) × HasKey (note_of es p) × keyed_event es (Replace b p n i w)). one_kind (i, w) k.0 (subst IsDirectory here directory))
-            (λ (k : IsDirectory (i, w) × IsDirectory (note_of es p) × MayDirect es b (i, w)). subst (λ (m : ℕ). IsNoted c m es) is (k.2 c (subst (λ (x : ℕ × List ℕ). Names x c) here names)))
+        came is new = let here : record_of (e ∷ es) o ≡ (i, w) = ap (record_of (e ∷ es)) new ∙ at_object_same n (i, w) (record_of es) in ⊎_elim
+            (λ (k : HasKey (i, w) × HasKey (record_of es p) × keyed_event es (Replace b p n i w)). one_kind (i, w) k.0 (subst IsDirectory here directory))
+            (λ (k : IsDirectory (i, w) × IsDirectory (record_of es p) × MayDirect es b (i, w)). subst (λ (m : ℕ). IsNoted c m es) is (k.2 c (subst (λ (x : ℕ × List ℕ). Names x c) here names)))
             run.0.1.1
 
     noted_cut : (b : ℕ) (p : ObjectId) (es : Log) → IsLiveRun qsbr tabled (Object (Cut b p) ∷ es) → Noted es → Noted (Object (Cut b p) ∷ es)
@@ -209,7 +209,7 @@ module _ (qsbr : Bool) where
         (λ is. (without_object_has p (chain_in es d) o (subst (λ (l : List ObjectId). In l o) (ap (chain_in (e ∷ es)) (sym is) ∙ (cut_list es b p p 0 [] ∙ ap (λ (m : ℕ). without_object p (chain_in es m)) is)) h)).0)
         (λ ne. subst (λ (l : List ObjectId). In l o) (at_number_other b d (without_object p (chain_in es b)) (chain_in es) (λ is. ne (sym is))) h)) directory names
 
-  pub is_noted : (log : Log) (c d : ℕ) (o : ObjectId) → IsLiveRun qsbr tabled log → In (chain_in log d) o → IsDirectory (note_of log o) → Names (note_of log o) c → IsNoted c d log
+  pub is_noted : (log : Log) (c d : ℕ) (o : ObjectId) → IsLiveRun qsbr tabled log → In (chain_in log d) o → IsDirectory (record_of log o) → Names (record_of log o) c → IsNoted c d log
   is_noted [] c d o run h directory names = absurd h
   is_noted (Open r n m ∷ es) c d o run h directory names = is_noted es c d o run.1 h directory names
   is_noted (Close r n ∷ es) c d o run h directory names = is_noted es c d o run.1 h directory names
@@ -226,7 +226,7 @@ module _ (qsbr : Bool) where
   is_noted (Object (Cut b p) ∷ es) c d o run h directory names = noted_cut c d o b p es run (is_noted es c d o run.1) h directory names
 
   -- after a directory that named the chain was replaced
-  module _ (before : Log) (c d : ℕ) (old new : ObjectId) (cell : ℕ) (payload : List ℕ) (directory : IsDirectory (note_of before old)) (names : Names (note_of before old) c) where
+  module _ (before : Log) (c d : ℕ) (old new : ObjectId) (cell : ℕ) (payload : List ℕ) (directory : IsDirectory (record_of before old)) (names : Names (record_of before old) c) where
     abbrev left : Log
     left = Object (Replace d old new cell payload) ∷ before
 
@@ -246,7 +246,7 @@ module _ (qsbr : Bool) where
         (λ is. ⊎_elim
         (λ (noted : chain_note c (es ++ left) ≡ d + 1). ⊎_elim
         (λ (none : chain_note b (es ++ left) ≡ 0). let z : chain_note c (es ++ left) ≡ 0 = ap (λ (n : ℕ). chain_note n (es ++ left)) (sym is) ∙ none in absurd (omega arith))
-        (λ (k : (x ≡ 0) × IsFree (es ++ left) b × (chain_in (es ++ left) b ≡ []) × ¬ IsNamed (es ++ left) b). inr (λ r n m opened. inr (k.1 es before d old new cell payload refl directory (subst (Names (note_of before old)) (sym is) names) r n m opened)))
+        (λ (k : (x ≡ 0) × IsFree (es ++ left) b × (chain_in (es ++ left) b ≡ []) × ¬ IsNamed (es ++ left) b). inr (λ r n m opened. inr (k.1 es before d old new cell payload refl directory (subst (Names (record_of before old)) (sym is) names) r n m opened)))
         run.0)
         (λ (ended : HaveEnded before (es ++ left)). inr (λ r n m opened. inr (ended r n m opened)))
         waits)
@@ -269,7 +269,7 @@ module _ (qsbr : Bool) where
       still_open e log none h = none (inr h)
 
       busy : {A : Type 0} (es : Log) (b : ℕ) → b ≡ c → IsFree (es ++ left) b → ¬ Has (Close r n) (es ++ left) → A
-      busy es b is free none = absurd (none (free es before d old new cell payload refl directory (subst (Names (note_of before old)) (sym is) names) r n m opened))
+      busy es b is free none = absurd (none (free es before d old new cell payload refl directory (subst (Names (record_of before old)) (sym is) names) r n m opened))
 
       stays_since : (since : Log) → IsLiveRun qsbr tabled (since ++ left) → ¬ Has (Close r n) (since ++ left) → chain_in (since ++ left) c ≡ chain_in before c
       stays_since [] run none = at_number_other d c (replaced old new (chain_in before d)) (chain_in before) (named_then run).0
@@ -304,25 +304,25 @@ module _ (qsbr : Bool) where
 
   -- once a directory that named the chain was replaced its note is the directory's chain's number and 1 still, or the
   -- sections of then have ended
-  pub noted_or_ended : (log since before : Log) (c d : ℕ) (old new : ObjectId) (cell : ℕ) (payload : List ℕ) → IsLiveRun qsbr tabled log → log ≡ since ++ Object (Replace d old new cell payload) ∷ before → IsDirectory (note_of before old) → Names (note_of before old) c → (chain_note c log ≡ d + 1) ⊎ HaveEnded before log
+  pub noted_or_ended : (log since before : Log) (c d : ℕ) (old new : ObjectId) (cell : ℕ) (payload : List ℕ) → IsLiveRun qsbr tabled log → log ≡ since ++ Object (Replace d old new cell payload) ∷ before → IsDirectory (record_of before old) → Names (record_of before old) c → (chain_note c log ≡ d + 1) ⊎ HaveEnded before log
   noted_or_ended log since before c d old new cell payload run is directory names =
       subst (λ (l : Log). (chain_note c l ≡ d + 1) ⊎ HaveEnded before l) (sym is)
       (waits_since before c d old new cell payload directory names since (subst (IsLiveRun qsbr tabled) is run))
 
   -- a chain that a replaced directory named has what it had
-  pub left_stays : (log since before : Log) (c d : ℕ) (old new : ObjectId) (cell : ℕ) (payload : List ℕ) (r n m : ℕ) → IsLiveRun qsbr tabled log → log ≡ since ++ Object (Replace d old new cell payload) ∷ before → IsDirectory (note_of before old) → Names (note_of before old) c → open_of r before ≡ some (n, m) → ¬ Has (Close r n) log → chain_in log c ≡ chain_in before c
+  pub left_stays : (log since before : Log) (c d : ℕ) (old new : ObjectId) (cell : ℕ) (payload : List ℕ) (r n m : ℕ) → IsLiveRun qsbr tabled log → log ≡ since ++ Object (Replace d old new cell payload) ∷ before → IsDirectory (record_of before old) → Names (record_of before old) c → open_of r before ≡ some (n, m) → ¬ Has (Close r n) log → chain_in log c ≡ chain_in before c
   left_stays log since before c d old new cell payload r n m run is directory names opened none =
       ap (λ (l : Log). chain_in l c) is ∙ stays_since before c d old new cell payload directory names r n m opened since (subst (IsLiveRun qsbr tabled) is run) (λ h. none (subst (Has (Close r n)) (sym is) h))
 
   -- a directory that is linked is replaced by an event, or stays linked
-  module _ (start : Log) (d : ℕ) (o : ObjectId) (at : In (chain_in start d) o) (directory : IsDirectory (note_of start o)) where
+  module _ (start : Log) (d : ℕ) (o : ObjectId) (at : In (chain_in start d) o) (directory : IsDirectory (record_of start o)) where
     abbrev Goes : Log → Type 0
     Goes log = In (chain_in log d) o ⊎ IsReplaced start log d o
 
     later : (e : LiveEvent) (log : Log) → IsReplaced start log d o → Goes (e ∷ log)
     later e log r = inr (record { since = e ∷ r.since; before = r.before; new = r.new; cell = r.cell; payload = r.payload; is = ap (λ (l : Log). e ∷ l) r.is; after = r.after; linked = r.linked })
 
-    directory_then : (since : Log) → IsLiveRun qsbr tabled (since ++ start) → IsDirectory (note_of (since ++ start) o)
+    directory_then : (since : Log) → IsLiveRun qsbr tabled (since ++ start) → IsDirectory (record_of (since ++ start) o)
     directory_then since run = subst IsDirectory (sym (note_stays qsbr tabled start (since ++ start) o (since, refl) run (chain_used qsbr tabled start d o (run_of qsbr tabled start (since ++ start) (since, refl) run) at))) directory
 
     goes_push : (b : ℕ) (p : ObjectId) (i : ℕ) (w : List ℕ) (log : Log) → In (chain_in log d) o → Goes (Object (Push b p i w) ∷ log)
@@ -340,7 +340,7 @@ module _ (qsbr : Bool) where
     goes_cut : (b : ℕ) (p : ObjectId) (since : Log) → IsLiveRun qsbr tabled (Object (Cut b p) ∷ (since ++ start)) → In (chain_in (since ++ start) d) o → Goes (Object (Cut b p) ∷ (since ++ start))
     goes_cut b p since run h = let log : Log = since ++ start in let e : LiveEvent = Object (Cut b p) in dite (ℕ_discrete b d)
         (λ is. by_object o p
-        (λ same. one_kind (note_of log o) (subst (λ (q : ObjectId). HasKey (note_of log q)) (sym same) run.0.1.1) (directory_then since run.1))
+        (λ same. one_kind (record_of log o) (subst (λ (q : ObjectId). HasKey (record_of log q)) (sym same) run.0.1.1) (directory_then since run.1))
         (λ other. inl (subst (λ (m : ℕ). In (chain_in (e ∷ log) m) o) is (subst (λ (l : List ObjectId). In l o) (sym (cut_list log b p p 0 [])) (has_without_object p (chain_in log b) o (subst (λ (m : ℕ). In (chain_in log m) o) (sym is) h) other)))))
         (λ ne. inl (subst (λ (l : List ObjectId). In l o) (sym (at_number_other b d (without_object p (chain_in log b)) (chain_in log) (λ is. ne (sym is)))) h))
 
@@ -366,5 +366,5 @@ module _ (qsbr : Bool) where
         (λ (r : IsReplaced start (es ++ start) d o). later e (es ++ start) r)
         (goes_since es run.1)
 
-  pub linked_or_replaced : (start log : Log) (d : ℕ) (o : ObjectId) → Begins start log → IsLiveRun qsbr tabled log → In (chain_in start d) o → IsDirectory (note_of start o) → In (chain_in log d) o ⊎ IsReplaced start log d o
+  pub linked_or_replaced : (start log : Log) (d : ℕ) (o : ObjectId) → Begins start log → IsLiveRun qsbr tabled log → In (chain_in start d) o → IsDirectory (record_of start o) → In (chain_in log d) o ⊎ IsReplaced start log d o
   linked_or_replaced start log d o b run at directory = subst (λ (l : Log). In (chain_in l d) o ⊎ IsReplaced start l d o) (sym b.1) (goes_since start d o at directory b.0 (subst (IsLiveRun qsbr tabled) b.1 run))

@@ -6,7 +6,7 @@ use Rattle.live_log.specs.declared.event.LiveEvent.{LiveEvent}
 use Rattle.live_log.specs.declared.event.LiveEvent.TheVariants.{Object}
 use Rattle.live_log.specs.declared.event.ObjectEvent.TheVariants.{Push, Replace, Cut}
 use Rattle.live_log.specs.Keys.{IsKeyed, key_of, keyed_event, rank_of}
-use Rattle.live_log.specs.Log.{Log, IsLiveRun, chain_note, note_of, state_of}
+use Rattle.live_log.specs.Log.{Log, IsLiveRun, chain_note, record_of, state_of}
 use Rattle.live_log.specs.Tables.{HasKey, HasKeys}
 
 -- the chain has no note, as that of a list
@@ -32,5 +32,5 @@ module _ (qsbr : Bool) (allows : Log → LiveEvent → Type 0) where
   -- that object was alone. A chain of keys with no note takes keys by the rule of keyed chains.
   pub record HasMaps : Type 0 where
     pub falls : (log : Log) (c : ℕ) → IsLiveRun qsbr allows log → IsKeyed log c
-    pub alike : (log : Log) (c : ℕ) (old new : ObjectId) (cell : ℕ) (payload : List ℕ) → IsLiveRun qsbr allows (Object (Replace c old new cell payload) ∷ log) → (rank_of (cell, payload) ≡ rank_of (note_of log old)) × ((key_of (cell, payload) ≡ key_of (note_of log old)) ⊎ ((state_of log).chain c ≡ old ∷ []))
+    pub alike : (log : Log) (c : ℕ) (old new : ObjectId) (cell : ℕ) (payload : List ℕ) → IsLiveRun qsbr allows (Object (Replace c old new cell payload) ∷ log) → (rank_of (cell, payload) ≡ rank_of (record_of log old)) × ((key_of (cell, payload) ≡ key_of (record_of log old)) ⊎ ((state_of log).chain c ≡ old ∷ []))
     pub takes : TakesKeys IsUnnoted

@@ -7,7 +7,7 @@ use Rattle.live_log.specs.declared.event.LiveEvent.TheVariants.{ChainNote, Objec
 use Rattle.live_log.specs.declared.event.ObjectEvent.{ObjectEvent}
 use Rattle.live_log.specs.declared.event.ObjectEvent.TheVariants.{Push, Replace, Cut}
 use Rattle.live_log.specs.Keys.{keyed_event, rank_of}
-use Rattle.live_log.specs.Log.{Log, Begins, HaveEnded, chain_note, note_of, state_of}
+use Rattle.live_log.specs.Log.{Log, Begins, HaveEnded, chain_note, record_of, state_of}
 
 -- of a payload: its fourth word, 0 with a key and 1 in a directory
 abbrev pub kind_of : ℕ × List ℕ → ℕ
@@ -29,12 +29,12 @@ pub record IsNamed (log : Log) (c : ℕ) : Type 0 where
   pub chain : ℕ
   pub object : ObjectId
   pub linked : In ((state_of log).chain chain) object
-  pub directory : IsDirectory (note_of log object)
-  pub names : Names (note_of log object) c
+  pub directory : IsDirectory (record_of log object)
+  pub names : Names (record_of log object) c
 
 -- each section has ended that was open where a directory that named the chain was replaced
 abbrev pub IsFree : Log → ℕ → Type 0
-IsFree log c = (since before : Log) (d : ℕ) (old new : ObjectId) (cell : ℕ) (payload : List ℕ) → log ≡ since ++ Object (Replace d old new cell payload) ∷ before → IsDirectory (note_of before old) → Names (note_of before old) c → HaveEnded before log
+IsFree log c = (since before : Log) (d : ℕ) (old new : ObjectId) (cell : ℕ) (payload : List ℕ) → log ≡ since ++ Object (Replace d old new cell payload) ∷ before → IsDirectory (record_of before old) → Names (record_of before old) c → HaveEnded before log
 
 -- an object of the chain was replaced, no earlier than in one log, and not after another
 pub record IsReplaced (start log : Log) (c : ℕ) (o : ObjectId) : Type 0 where
@@ -53,14 +53,14 @@ MayDirect log d x = (c : ℕ) → Names x c → (c ≢ d) × (chain_note c log �
 
 -- the objects of the chain have keys
 abbrev pub HasKeys : Log → ℕ → Type 0
-HasKeys log c = (o : ObjectId) → In ((state_of log).chain c) o → HasKey (note_of log o)
+HasKeys log c = (o : ObjectId) → In ((state_of log).chain c) o → HasKey (record_of log o)
 
 -- Keys come and go in a free chain of keys by the rule of keyed chains. A directory comes into an empty chain, or takes
 -- the place of another one, and is not cut.
 abbrev pub tabled_event : Log → ObjectEvent → Type 0
 tabled_event log (Push c o i w) = IsFree log c × ((HasKey (i, w) × HasKeys log c × keyed_event log (Push c o i w)) ⊎ (IsDirectory (i, w) × ((state_of log).chain c ≡ []) × MayDirect log c (i, w)))
-tabled_event log (Replace c p o i w) = IsFree log c × ((HasKey (i, w) × HasKey (note_of log p) × keyed_event log (Replace c p o i w)) ⊎ (IsDirectory (i, w) × IsDirectory (note_of log p) × MayDirect log c (i, w)))
-tabled_event log (Cut c o) = IsFree log c × HasKey (note_of log o) × keyed_event log (Cut c o)
+tabled_event log (Replace c p o i w) = IsFree log c × ((HasKey (i, w) × HasKey (record_of log p) × keyed_event log (Replace c p o i w)) ⊎ (IsDirectory (i, w) × IsDirectory (record_of log p) × MayDirect log c (i, w)))
+tabled_event log (Cut c o) = IsFree log c × HasKey (record_of log o) × keyed_event log (Cut c o)
 tabled_event log _ = Unit {0}
 
 -- A note goes from 0 to any number, and from there to 0 alone, where the chain is free and empty and no directory names

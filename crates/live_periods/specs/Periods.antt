@@ -10,7 +10,7 @@ use Rattle.live_table.specs.live_rule.declared.rights.GraceRight.TheVariants.{Re
 use Rattle.live_table.specs.live_rule.Readers.{Shown}
 use Rattle.live_table.specs.live_rule.Rights.{ClaimsGrace}
 use Rattle.live_table.specs.live_rule.Steps.{Wrote, at_log}
-use Rattle.live_table.specs.Rights.{present_in, seq_in}
+use Rattle.live_table.specs.Rights.{before_in, looks_in, present_in, seq_in}
 
 -- each word that was loaded tells that a section that copied this is open in the slot
 abbrev pub ShownAll : Bool → List (ℕ × ℕ) → ℕ → ℕ → Type 0
@@ -38,6 +38,14 @@ module _ {S : Type 0} (qsbr : Bool) (allows : Log → LiveEvent → Type 0) wher
   -- the seat's right to the words of grace periods is this one now, and these events were written
   abbrev pub GraceBecomes : GraceRight → Log → Me S View → Me S View → Type 0
   GraceBecomes right events m m' = (m' ≡ (record (at_log m.0 m'.0.seen) { grace = right }, m.1)) × Wrote qsbr allows m.0 events m'.0.seen
+
+  -- this was loaded from the word at this place within a grace period, and is kept among the looks
+  abbrev pub LoadedWord : ℕ → ℕ → Me S View → Me S View → Type 0
+  LoadedWord place n m m' = GraceBecomes (Works (seq_in m.0.grace) (present_in m.0.grace) (before_in m.0.grace) ((place, n) ∷ looks_in m.0.grace)) [] m m'
+
+  -- this phase or number was stored within a grace period
+  abbrev pub StoredPresent : ℕ → Me S View → Me S View → Type 0
+  StoredPresent t m m' = GraceBecomes (Works (seq_in m.0.grace) t (before_in m.0.grace) (looks_in m.0.grace)) (Present t ∷ []) m m'
 
   -- a word was loaded within a grace period
   abbrev pub looked_word : Step S → Me S View → ℕ → Me S View → Type 0

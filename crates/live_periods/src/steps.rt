@@ -1,13 +1,13 @@
 //! One function for each kind of step of a grace period.
 ghost use Rattle.std.specs.Prelude.{◌≡◌, ◌+◌, ◌<◌, ◌≤◌, ◌^◌, [], ◌∷◌};
-ghost use Rattle.live_table.specs.live_log.declared.event.LiveEvent.TheVariants.{Present, SeqEven, SeqOdd};
+ghost use Rattle.live_table.specs.live_log.declared.event.LiveEvent.TheVariants.{SeqEven, SeqOdd};
 ghost use Rattle.live_table.specs.live_log.Log.{HaveEnded, MayBePresent, before_odd, present_of, seq_of};
 ghost use Rattle.live_table.specs.live_rule.declared.rights.GraceRight.TheVariants.{Rests, Works};
 ghost use Rattle.live_table.specs.live_rule.Places.{group_at, slot_at};
 ghost use Rattle.live_table.specs.live_rule.Rights.{ClaimsGrace};
 ghost use Rattle.live_table.specs.Steps.{Keeps};
 ghost use Rattle.live_table.specs.Rights.{IsResting, IsWorking, before_in, looks_in, present_in, seq_in};
-ghost use Rattle.live_periods.specs.Periods.{GraceBecomes, LoadedSeq, TellsAllEnded};
+ghost use Rattle.live_periods.specs.Periods.{GraceBecomes, LoadedSeq, LoadedWord, StoredPresent, TellsAllEnded};
 
 use crate::plays::{Begins, Ends, LooksSeq, LooksWord, StoresPresent};
 use live_table::{ChainRule, GracePlan, LiveSeat, LiveTable};
@@ -34,7 +34,7 @@ pub fn load_slot<P: GracePlan, K: ChainRule>(
     requires seat { (seat.old.table_id ≡ table.now.words.shared.table_id) × (slot < table.now.slots) }
     requires right { IsWorking seat.old.me.0 }
     ensures seat { Keeps seat.old seat.new }
-    ensures looked { GraceBecomes P.QSBR K.allows (Works (seq_in seat.old.me.0.grace) (present_in seat.old.me.0.grace) (before_in seat.old.me.0.grace) ((slot_at slot, result) ∷ looks_in seat.old.me.0.grace)) [] seat.old.me seat.new.me }
+    ensures looked { LoadedWord P.QSBR K.allows (slot_at slot) result seat.old.me seat.new.me }
 {
     let place = table.slot_place(slot);
     table.words.shared.load::<LooksWord<P, K>>(seat, place)
@@ -49,7 +49,7 @@ pub fn load_group<P: GracePlan, K: ChainRule>(
     requires seat { (seat.old.table_id ≡ table.now.words.shared.table_id) × (group < 4) }
     requires right { IsWorking seat.old.me.0 }
     ensures seat { Keeps seat.old seat.new }
-    ensures looked { GraceBecomes P.QSBR K.allows (Works (seq_in seat.old.me.0.grace) (present_in seat.old.me.0.grace) (before_in seat.old.me.0.grace) ((group_at group, result) ∷ looks_in seat.old.me.0.grace)) [] seat.old.me seat.new.me }
+    ensures looked { LoadedWord P.QSBR K.allows (group_at group) result seat.old.me seat.new.me }
 {
     let place = table.group_place(group);
     table.words.shared.load::<LooksWord<P, K>>(seat, place)
@@ -77,7 +77,7 @@ pub fn store_present<P: GracePlan, K: ChainRule>(
     requires seat { seat.old.table_id ≡ table.now.words.shared.table_id }
     requires right { IsWorking seat.old.me.0 × MayBePresent P.QSBR (seq_in seat.old.me.0.grace) (present_in seat.old.me.0.grace) present }
     ensures seat { Keeps seat.old seat.new }
-    ensures presented { GraceBecomes P.QSBR K.allows (Works (seq_in seat.old.me.0.grace) present (before_in seat.old.me.0.grace) (looks_in seat.old.me.0.grace)) (Present present ∷ []) seat.old.me seat.new.me }
+    ensures presented { StoredPresent P.QSBR K.allows present seat.old.me seat.new.me }
 {
     let place = table.present_place();
     table

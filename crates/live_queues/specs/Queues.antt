@@ -73,9 +73,13 @@ module _ {S : Type 0} (qsbr : Bool) (allows : Log → LiveEvent → Type 0) wher
   abbrev pub looked : Step S → Me S View → ℕ → Me S View → Type 0
   looked st m n m' = Went qsbr allows (looked_view st.word n m.0) m m' × HasNoOther m.0.sizes m'.0.seen × ((q : ℕ) → q < m.0.sizes.queues → TellsQueue m.0.sizes st.word q n m'.0.seen) × TellsWorker m.0 st.word n
 
-  -- the object was queued, with this callback
+  -- the seat's object was queued, with this callback
+  abbrev pub QueuedObject : CallbackId → Me S View → Me S View → Type 0
+  QueuedObject id m m' = Did qsbr allows (queued_view m.0) (Object (Queue (object_in m.0.object) (queue_in m.0.queue) id)) m m'
+
+  -- and it is the last one
   abbrev pub queued : CallbackId → Step S → Me S View → ℕ → Me S View → Type 0
-  queued id st m n m' = Did qsbr allows (queued_view m.0) (Object (Queue (object_in m.0.object) (queue_in m.0.queue) id)) m m' × IsLast (queue_in m.0.queue) (queued_in m.0.queue) (object_in m.0.object) m'.0.seen
+  queued id st m n m' = QueuedObject id m m' × IsLast (queue_in m.0.queue) (queued_in m.0.queue) (object_in m.0.object) m'.0.seen
 
   -- the queue was closed
   abbrev pub closed : Step S → Me S View → ℕ → Me S View → Type 0
@@ -84,6 +88,10 @@ module _ {S : Type 0} (qsbr : Bool) (allows : Log → LiveEvent → Type 0) wher
   -- one more is finished
   abbrev pub finished : Step S → Me S View → ℕ → Me S View → Type 0
   finished st m n m' = Went qsbr allows (finished_view m.0) m m'
+
+  -- this was found in the queue's hold word, and so the work is the seat's
+  abbrev pub TookWork : Sizes → ℕ → ℕ → Me S View → Me S View → Type 0
+  TookWork key q n m m' = Went qsbr allows (working_view q (finished_in m'.0.work) (exchanged_view (work_at key q) n 1 m.0)) m m' × HaveRun q (finished_in m'.0.work) m'.0.seen
 
   -- the hold word was 0, and so the work is the seat's; or another has it, or nobody can
   abbrev pub held : Step S → Me S View → ℕ → Me S View → Type 0

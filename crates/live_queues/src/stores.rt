@@ -1,10 +1,9 @@
 //! The stores of a queue's words: its counts, and that it is closed. None of these steps waits.
 ghost use Rattle.std.specs.Prelude.{◌≡◌, ◌+◌, ◌<◌};
-ghost use Rattle.live_table.specs.live_log.declared.event.LiveEvent.TheVariants.{CloseQueue, Object};
-ghost use Rattle.live_table.specs.live_log.declared.event.ObjectEvent.TheVariants.{Queue};
+ghost use Rattle.live_table.specs.live_log.declared.event.LiveEvent.TheVariants.{CloseQueue};
 ghost use Rattle.live_table.specs.Rights.{IsInQueue, IsRetired, IsWorker, closed_in, finished_in, object_in, queue_in, queued_in, work_in};
 ghost use Rattle.live_table.specs.Steps.{Did, IsKnown, Keeps, Went};
-ghost use Rattle.live_queues.specs.Queues.{HasRunAt, IsLast, closed_view, finished_view, queued_view};
+ghost use Rattle.live_queues.specs.Queues.{HasRunAt, IsLast, QueuedObject, closed_view, finished_view};
 
 use crate::plays::{Closes, Finishes, Queues};
 use live_table::{CallbackId, ChainRule, GracePlan, LiveSeat, LiveTable};
@@ -24,7 +23,7 @@ pub fn store_queued<P: GracePlan, K: ChainRule>(
     requires open { closed_in seat.old.me.0.queue ≡ 0 }
     requires retired { IsRetired seat.old.me.0 }
     ensures seat { Keeps seat.old seat.new }
-    ensures queued { Did P.QSBR K.allows (queued_view seat.old.me.0) (Object (Queue (object_in seat.old.me.0.object) (queue_in seat.old.me.0.queue) callback.now)) seat.old.me seat.new.me }
+    ensures queued { QueuedObject P.QSBR K.allows callback.now seat.old.me seat.new.me }
     ensures last { IsLast queue (queued_in seat.old.me.0.queue) (object_in seat.old.me.0.object) seat.new.me.0.seen }
 {
     let place = table.queued_place(queue);

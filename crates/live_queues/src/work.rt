@@ -1,11 +1,10 @@
 //! Who works for a queue. None of these steps waits.
 ghost use Rattle.std.specs.Prelude.{◌≡◌, ◌≢◌, ◌<◌, ◌≤◌};
-ghost use Rattle.live_table.specs.live_log.Log.{HaveRun};
 ghost use Rattle.live_table.specs.live_rule.Places.{work_at};
 ghost use Rattle.live_table.specs.live_rule.Seats.{but_work};
-ghost use Rattle.live_table.specs.Rights.{IsWorker, finished_in, work_in};
-ghost use Rattle.live_table.specs.Steps.{Keeps, Went, exchanged_view, looked_view, stored_view};
-ghost use Rattle.live_queues.specs.Queues.{working_view};
+ghost use Rattle.live_table.specs.Rights.{IsWorker, work_in};
+ghost use Rattle.live_table.specs.Steps.{Keeps, Went, looked_view, stored_view};
+ghost use Rattle.live_queues.specs.Queues.{TookWork};
 
 use crate::plays::{FreesWork, HoldsWork};
 use live_table::{ChainRule, GracePlan, LiveSeat, LiveTable};
@@ -21,7 +20,7 @@ pub fn hold_work<P: GracePlan, K: ChainRule>(
     requires { (seat.old.table_id ≡ table.now.words.shared.table_id) × (seat.old.me.0.sizes ≡ table.now.words.shared.key) × (queue < table.now.queues) }
     ensures seat { Keeps seat.old seat.new }
     ensures found { result ≤ 2 }
-    ensures held { result ≡ 0 → Went P.QSBR K.allows (working_view queue (finished_in seat.new.me.0.work) (exchanged_view (work_at table.now.words.shared.key queue) result 1 seat.old.me.0)) seat.old.me seat.new.me × HaveRun queue (finished_in seat.new.me.0.work) seat.new.me.0.seen }
+    ensures held { result ≡ 0 → TookWork P.QSBR K.allows table.now.words.shared.key queue result seat.old.me seat.new.me }
     ensures missed { result ≢ 0 → Went P.QSBR K.allows (looked_view (work_at table.now.words.shared.key queue) result seat.old.me.0) seat.old.me seat.new.me }
 {
     let place = table.work_place(queue);

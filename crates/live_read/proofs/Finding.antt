@@ -10,7 +10,7 @@ use Rattle.rcu_model.proofs.Lemmas.{in_sections}
 use Rattle.reader_word.specs.declared.layout.Layout.TheVariants.{Wide}
 use Rattle.reader_word.specs.Word.{count_of}
 use Rattle.live_log.specs.declared.event.LiveEvent.{LiveEvent}
-use Rattle.live_log.specs.Log.{Log, Begins, WasLinked, Objects, Follows, open_of, section, state_of, note_of, objects_of}
+use Rattle.live_log.specs.Log.{Log, Begins, WasLinked, Objects, Follows, open_of, section, state_of, record_of, objects_of}
 use Rattle.live_log.proofs.Lemmas.{begins_trans, first_linked, inside_open, is_open}
 use Rattle.live_words.specs.live_rule.declared.view.Sizes.{Sizes}
 use Rattle.live_words.specs.live_rule.declared.view.View.{View}
@@ -88,7 +88,7 @@ module _ {P K : Type 0} {g : plan.Ghosts P} (qsbr : Bool) (allows : Log → Live
   first_none s c n e z = ref_none (objects_of (log_of s)) (first_of ((objects_of (log_of s)).chain c)) n e z
 
   pub first_some : (s : ReaderCore P K g) (c n pool : ℕ) → pool ≡ s.seat.me.0.sizes.pool → IsOpen (state_of (log_of s)) (section_of s) → n ≡ ref (objects_of (log_of s)) (first_of ((objects_of (log_of s)).chain c)) → (n ≡ 0 → ⊥)
-      → ((o : ObjectId) → first_of ((objects_of (log_of s)).chain c) ≡ Some o → (note_of (log_of s) o).0 < pool) → (o : ObjectId) × FindsFirst s c (Some o) × MayHold s o (n - 1)
+      → ((o : ObjectId) → first_of ((objects_of (log_of s)).chain c) ≡ Some o → (record_of (log_of s) o).0 < pool) → (o : ObjectId) × FindsFirst s c (Some o) × MayHold s o (n - 1)
   first_some s c n pool size is e z low =
       let x = ref_some (objects_of (log_of s)) (first_of ((objects_of (log_of s)).chain c)) n e z in
       (x.0, x.1, record { was_linked = first_linked (log_of s) (section_of s) c x.0 is x.1; lies = x.2; low = subst (λ (k : ℕ). n - 1 < k) size (subst (λ (k : ℕ). k < pool) x.2 (low x.0 x.1)) })
@@ -109,7 +109,7 @@ module _ {P K : Type 0} {g : plan.Ghosts P} (qsbr : Bool) (allows : Log → Live
           subst (λ (x : Log). Follows (objects_of x) o (Some m.0)) log (subst (λ (found : Option ObjectId). Follows (objects_of w.seen) o found) m.1 y.1.0),
           record {
             was_linked = subst (λ (u : SectionId). WasLinked u m.0 (log_of s)) (sym one) (subst (WasLinked (section_of r) m.0) log (t.1 _ _ (stands r e above) x.was_linked));
-            lies = ap (λ (x : Log). (note_of x m.0).0) (sym log) ∙ m.2;
+            lies = ap (λ (x : Log). (record_of x m.0).0) (sym log) ∙ m.2;
             low = subst (λ (z : Sizes). n - 1 < z.pool) (sym sizes) (subst (λ (k : ℕ). k < r.seat.me.0.sizes.pool) m.2 t.0);
           },
         )

@@ -6,7 +6,7 @@ use Rattle.rcu_model.specs.declared.event.ObjectId.{ObjectId}
 use Rattle.rcu_model.specs.declared.event.SectionId.{SectionId}
 use Rattle.rcu_model.specs.Machine.{IsOpen}
 use Rattle.live_log.specs.declared.event.LiveEvent.{LiveEvent}
-use Rattle.live_log.specs.Log.{Log, Begins, IsLiveRun, IsOpenSection, WasLinked, note_of, open_of, section, state_of}
+use Rattle.live_log.specs.Log.{Log, Begins, IsLiveRun, IsOpenSection, WasLinked, record_of, open_of, section, state_of}
 use Rattle.live_log.proofs.Lemmas.{note_stays, run_of, was_later, was_used}
 use Rattle.live_words.specs.live_rule.declared.view.Sizes.{Sizes}
 use Rattle.live_read.specs.declared.reader.Reader.{Reader}
@@ -30,10 +30,10 @@ module _ {P K : Type 0} {g : plan.Ghosts P} where
   held_stays r s slot sizes log count = record {
     held = λ o cell x. record {
       was_linked = subst (λ (t : SectionId). WasLinked t o (log_of s)) (λ k. section (sym slot k) (sym count k)) (subst (WasLinked (section_of r) o) (sym log) x.was_linked);
-      lies = ap (λ (l : Log). (note_of l o).0) log ∙ x.lies;
+      lies = ap (λ (l : Log). (record_of l o).0) log ∙ x.lies;
       low = subst (λ (z : Sizes). cell < z.pool) (sym sizes) x.low;
     };
-    notes = λ o cell x. ap (λ (l : Log). note_of l o) log;
+    notes = λ o cell x. ap (λ (l : Log). record_of l o) log;
   }
 
   -- it has seen more
@@ -47,7 +47,7 @@ module _ {P K : Type 0} {g : plan.Ghosts P} where
     notes = λ o cell x. stays o x.was_linked;
   }
     where
-      stays : (o : ObjectId) → WasLinked (section_of r) o (log_of r) → note_of (log_of s) o ≡ note_of (log_of r) o
+      stays : (o : ObjectId) → WasLinked (section_of r) o (log_of r) → record_of (log_of s) o ≡ record_of (log_of r) o
       stays o was = note_stays qsbr allows (log_of r) (log_of s) o later run (was_used qsbr allows (log_of r) (section_of r) o (run_of qsbr allows (log_of r) (log_of s) later run) was)
 
   pub held_in : (r s : ReaderCore P K g) (cell : ℕ) → KeepsHeld r s → MayHoldIn r cell → MayHoldIn s cell

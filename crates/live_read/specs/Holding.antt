@@ -3,7 +3,7 @@ use Rattle.gp_memb.specs.declared.plan.GracePlan as plan
 use Rattle.std.specs.Prelude.{◌≡◌, ℕ, ◌<◌}
 use Rattle.rcu_model.specs.declared.event.ObjectId.{ObjectId}
 use Rattle.rcu_model.specs.declared.event.SectionId.{SectionId}
-use Rattle.live_log.specs.Log.{Log, WasLinked, section, note_of}
+use Rattle.live_log.specs.Log.{Log, WasLinked, section, record_of}
 use Rattle.live_words.specs.live_table.Rights.{count_in}
 use Rattle.live_read.specs.declared.reader_core.ReaderCore.{ReaderCore}
 
@@ -27,7 +27,7 @@ module _ {P K : Type 0} {g : plan.Ghosts P} where
   -- the section may hold the object, which was linked since the section was opened, and lies in this record
   pub record MayHold (r : ReaderCore P K g) (o : ObjectId) (cell : ℕ) : Type 0 where
     pub was_linked : WasLinked (section_of r) o (log_of r)
-    pub lies : (note_of (log_of r) o).0 ≡ cell
+    pub lies : (record_of (log_of r) o).0 ≡ cell
     pub low : cell < r.seat.me.0.sizes.pool
 
   -- it may hold some object in this record
@@ -38,4 +38,4 @@ module _ {P K : Type 0} {g : plan.Ghosts P} where
   -- what it may have held before it may hold still, with the same words
   pub record KeepsHeld (r s : ReaderCore P K g) : Type 0 where
     pub held : (o : ObjectId) (cell : ℕ) → MayHold r o cell → MayHold s o cell
-    pub notes : (o : ObjectId) (cell : ℕ) → MayHold r o cell → note_of (log_of s) o ≡ note_of (log_of r) o
+    pub notes : (o : ObjectId) (cell : ℕ) → MayHold r o cell → record_of (log_of s) o ≡ record_of (log_of r) o

@@ -4,7 +4,7 @@ use Rattle.std.specs.Prelude.{◌≡◌, ℕ, Bool, List, Option, None, Some, sl
 use Rattle.rcu_model.specs.declared.event.ObjectId.{ObjectId}
 use Rattle.rcu_model.specs.Sets.{first_of}
 use Rattle.live_log.specs.declared.event.LiveEvent.{LiveEvent}
-use Rattle.live_log.specs.Log.{Log, Follows, note_of, objects_of, payload_of}
+use Rattle.live_log.specs.Log.{Log, Follows, record_of, objects_of, payload_of}
 use Rattle.live_read.specs.declared.reader_core.ReaderCore.{ReaderCore}
 use Rattle.live_read.specs.Hearing.{IsAfter}
 use Rattle.live_read.specs.Holding.{KeepsHeld, MayHold, log_of, ordinal}
@@ -35,7 +35,7 @@ module _ {P K : Type 0} {g : plan.Ghosts P} where
   HasWords r cell words = (o : ObjectId) → MayHold r o cell → words ≡ payload_of (log_of r) o
 
   abbrev pub HasWord : ReaderCore P K g → ℕ → ℕ → ℕ → Type 0
-  HasWord r cell index word = (o : ObjectId) → MayHold r o cell → word ≡ slice_index_or (note_of (log_of r) o).1 index 0
+  HasWord r cell index word = (o : ObjectId) → MayHold r o cell → word ≡ slice_index_or (record_of (log_of r) o).1 index 0
 
   -- The reader has made a load. It is in the same section with the same locks, and has seen all that it had seen and
   -- heard of. What it held it holds, with the same words.

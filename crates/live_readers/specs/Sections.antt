@@ -81,3 +81,11 @@ module _ {S : Type 0} (qsbr : Bool) (allows : Log → LiveEvent → Type 0) (slo
   -- what the word copied was the present phase or number at a moment between the two, before these events
   abbrev pub CopiedBefore : Log → Type 0
   CopiedBefore events = (loaded since : Log) × Begins old.0.seen loaded × (new.0.seen ≡ events ++ (since ++ loaded)) × (present_of loaded ≡ copied qsbr word)
+
+  -- the same of a section that was opened
+  abbrev pub CopiedBeforeOpen : Type 0
+  CopiedBeforeOpen = CopiedBefore (opens qsbr slot (count_in old.0.slot) word)
+
+  -- and of an announcement
+  abbrev pub CopiedBeforeAnnounce : Type 0
+  CopiedBeforeAnnounce = CopiedBefore (announces qsbr slot (count_in old.0.slot) word)

@@ -1,8 +1,8 @@
 //! Announcements of the quiescent-state flavour.
 ghost use Rattle.std.specs.Prelude.{◌≡◌, ◌≢◌, ◌<◌, true};
 ghost use Rattle.live_table.specs.Steps.{Keeps};
-ghost use Rattle.live_table.specs.Rights.{IsOwner, count_in, word_in};
-ghost use Rattle.live_readers.specs.Sections.{Announced, Closed, CopiedBefore, Opened, announces, opens};
+ghost use Rattle.live_table.specs.Rights.{IsOwner, word_in};
+ghost use Rattle.live_readers.specs.Sections.{Announced, Closed, CopiedBeforeAnnounce, CopiedBeforeOpen, Opened};
 
 use crate::steps::{load_present, store_close, store_open, store_quiescent};
 use live_table::{ChainRule, GracePlan, LiveSeat, LiveTable};
@@ -20,7 +20,7 @@ pub fn online<P: GracePlan, K: ChainRule>(
     requires right { IsOwner seat.old.me.0 slot × (word_in seat.old.me.0.slot ≡ 0) }
     ensures seat { Keeps seat.old seat.new }
     ensures opened { Opened P.QSBR K.allows slot result seat.old.me seat.new.me × (result ≢ 0) }
-    ensures copied { CopiedBefore P.QSBR K.allows slot result seat.old.me seat.new.me (opens P.QSBR slot (count_in seat.old.me.0.slot) result) }
+    ensures copied { CopiedBeforeOpen P.QSBR K.allows slot result seat.old.me seat.new.me }
 {
     let num = load_present(table, seat);
     let word = qs_announced(num);
@@ -41,7 +41,7 @@ pub fn quiescent<P: GracePlan, K: ChainRule>(
     requires right { IsOwner seat.old.me.0 slot × (word_in seat.old.me.0.slot ≢ 0) }
     ensures seat { Keeps seat.old seat.new }
     ensures announced { Announced P.QSBR K.allows slot result seat.old.me seat.new.me × (result ≢ 0) }
-    ensures copied { CopiedBefore P.QSBR K.allows slot result seat.old.me seat.new.me (announces P.QSBR slot (count_in seat.old.me.0.slot) result) }
+    ensures copied { CopiedBeforeAnnounce P.QSBR K.allows slot result seat.old.me seat.new.me }
 {
     let num = load_present(table, seat);
     let word = qs_announced(num);

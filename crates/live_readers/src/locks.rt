@@ -4,8 +4,8 @@ ghost use Rattle.rcu_model.specs.declared.refusal.Refusal.TheVariants.{NestFull,
 ghost use Rattle.reader_word.specs.declared.layout.Layout.TheVariants.{Wide};
 ghost use Rattle.reader_word.specs.Word.{count_of, entered_of, greatest_count, left_of};
 ghost use Rattle.live_table.specs.Steps.{Keeps};
-ghost use Rattle.live_table.specs.Rights.{IsOwner, count_in, word_in};
-ghost use Rattle.live_readers.specs.Sections.{Closed, CopiedBefore, Nested, Opened, opens};
+ghost use Rattle.live_table.specs.Rights.{IsOwner, word_in};
+ghost use Rattle.live_readers.specs.Sections.{Closed, CopiedBeforeOpen, Nested, Opened};
 
 use crate::steps::{load_present, store_close, store_inner, store_open};
 use live_table::{ChainRule, GracePlan, LiveSeat, LiveTable};
@@ -28,7 +28,7 @@ pub fn lock<P: GracePlan, K: ChainRule>(
     ensures seat { Keeps seat.old seat.new }
     ensures word { IfOk result (λ new. (phase : Bool) × (entered_of Wide word phase ≡ Ok new)) }
     ensures outermost { count_of Wide word ≡ 0 → IfOk result (λ new. Opened P.QSBR K.allows slot new seat.old.me seat.new.me) }
-    ensures copied { count_of Wide word ≡ 0 → IfOk result (λ new. CopiedBefore P.QSBR K.allows slot new seat.old.me seat.new.me (opens P.QSBR slot (count_in seat.old.me.0.slot) new)) }
+    ensures copied { count_of Wide word ≡ 0 → IfOk result (λ new. CopiedBeforeOpen P.QSBR K.allows slot new seat.old.me seat.new.me) }
     ensures inner { count_of Wide word ≢ 0 → IfOk result (λ new. Nested P.QSBR K.allows slot new seat.old.me seat.new.me) }
     ensures refused { IfErr result (λ e. (e ≡ NestFull) × (count_of Wide word ≡ greatest_count Wide) × (seat.new ≡ seat.old)) }
 {

@@ -9,7 +9,7 @@ use Rattle.live_table.proofs.rcu_model.Lemmas.{in_objects, has_object_in}
 use Rattle.live_table.specs.live_log.declared.event.LiveEvent.{LiveEvent}
 use Rattle.live_table.specs.live_log.declared.event.LiveEvent.TheVariants.{Object}
 use Rattle.live_table.specs.live_log.declared.event.ObjectEvent.TheVariants.{Retire, Run}
-use Rattle.live_table.specs.live_log.Log.{Log, note_of, IsLiveRun, Objects, objects_of, Spot, head, link, Leads}
+use Rattle.live_table.specs.live_log.Log.{Log, record_of, IsLiveRun, Objects, objects_of, Spot, head, link, Leads}
 use Rattle.live_table.proofs.live_log.Lemmas.{by_object, kept_log, ready_stays}
 use Rattle.live_table.specs.live_rule.declared.view.Sizes.{Sizes}
 use Rattle.live_table.specs.live_rule.declared.view.View.{View}
@@ -134,7 +134,7 @@ module _ {S : Type 0} (qsbr : Bool) (allows : Log → LiveEvent → Type 0) (key
       )
 
   -- an object that was cut and has not been run is alive, and lies in the seat's record
-  cut_alive : (s : State S View) (r : Rule s) (id : ℕ) (v : View) → get_elem? s.views id ≡ lists.some v → HasCut v → IsAlive (objects_of r.log) (object_in v.object) × ((note_of r.log (object_in v.object)).0 ≡ cell_in v.object)
+  cut_alive : (s : State S View) (r : Rule s) (id : ℕ) (v : View) → get_elem? s.views id ≡ lists.some v → HasCut v → IsAlive (objects_of r.log) (object_in v.object) × ((record_of r.log (object_in v.object)).0 ≡ cell_in v.object)
   cut_alive s r id v at (inl is) =
       let o : ObjectId = object_in v.object in
       let k = knew qsbr allows key s r id v (Unlinked (cell_in v.object) o) at is refl in
@@ -167,6 +167,6 @@ module _ {S : Type 0} (qsbr : Bool) (allows : Log → LiveEvent → Type 0) (key
           alive.0.0,
           λ j low same.
               let here : a ≡ cell_at key (cell_in v.object) (j + 2) = same ∙ ap (λ (k : Sizes). cell_at k (cell_in v.object) (j + 2)) sizes in
-              ap (λ (i : ℕ). get_or s.words i 0) here ∙ subst (λ (i : ℕ). get_or s.words (cell_at key i (j + 2)) 0 ≡ get_or (note_of r.log o).1 j 0) alive.1 (r.agree.heap.payload o alive.0 j low),
+              ap (λ (i : ℕ). get_or s.words i 0) here ∙ subst (λ (i : ℕ). get_or s.words (cell_at key i (j + 2)) 0 ≡ get_or (record_of r.log o).1 j 0) alive.1 (r.agree.heap.payload o alive.0 j low),
         ),
       )

@@ -10,7 +10,7 @@ use Rattle.atomic_table.proofs.Lists.{exchanged}
 use Rattle.live_table.specs.rcu_model.declared.event.ObjectId.{ObjectId}
 use Rattle.live_table.specs.rcu_model.Sets.{In}
 use Rattle.live_table.specs.live_log.declared.event.LiveEvent.{LiveEvent}
-use Rattle.live_table.specs.live_log.Log.{Log, state_of, note_of, chain_note, closed_of, line_of, IsLiveRun, objects_of}
+use Rattle.live_table.specs.live_log.Log.{Log, state_of, record_of, chain_note, closed_of, line_of, IsLiveRun, objects_of}
 use Rattle.live_table.proofs.live_log.Lemmas.{kept_log}
 use Rattle.live_table.specs.live_rule.declared.view.Sizes.{Sizes}
 use Rattle.live_table.specs.live_rule.declared.view.View.{View}
@@ -116,7 +116,7 @@ module _ {S : Type 0} (qsbr : Bool) (allows : Log → LiveEvent → Type 0) (key
     cell_far j n ne l = get_or-set_other s.words (cell_at key i k) (cell_at key j n) x 0 (λ z. ne (omega arith))
 
     -- the records of other objects
-    pub alive_far : (q : ObjectId) → IsAlive (objects_of r.log) q → q.0 ≢ m → (note_of r.log q).0 ≢ i
+    pub alive_far : (q : ObjectId) → IsAlive (objects_of r.log) q → q.0 ≢ m → (record_of r.log q).0 ≢ i
     alive_far q alive ne = apart key (objects_of r.log) s.words r.agree.heap q i m alive half ne
 
     pub fresh_far : (j : ℕ) (q : ObjectId) → get_or s.words (cell_at key j 0) 0 ≡ 2 * q.0 → q.0 ≢ m → j ≢ i
@@ -137,7 +137,7 @@ module _ {S : Type 0} (qsbr : Bool) (allows : Log → LiveEvent → Type 0) (key
         → ((o : ObjectId) → ClaimsObject w.object o → KnowsObject qsbr key r.log (set s.words (cell_at key i k) x) (objects_of r.log) w.object × (ClaimsObject v.object o ⊎ Unclaimed key s.views id (object o)))
         → Rule record { words = set s.words (cell_at key i k) x; homes = s.homes; views = set s.views id w }
     own_cell id v w at same other dead others mine = own_record s r id (cell_at key i k) x v w r.log at (calm_same r.log) r.run (omega arith) same other (λ _. (refl, refl)) (λ _. (refl, refl)) (λ _ h. h)
-        (heap_far key (objects_of r.log) s.words (set s.words (cell_at key i k) x) last_less head_same (λ q alive n l. cell_far (note_of r.log q).0 n (alive_far q alive (dead q alive)) l) r.agree.heap)
+        (heap_far key (objects_of r.log) s.words (set s.words (cell_at key i k) x) last_less head_same (λ q alive n l. cell_far (record_of r.log q).0 n (alive_far q alive (dead q alive)) l) r.agree.heap)
         (record { others = λ q y claim ne kn. own_others q y claim ne kn (λ j header n l. cell_far j n (fresh_far j q header (others q (one_up q y claim kn) ne)) l); mine = mine })
       where
         -- an object that a seat has the right to has a number of 1 or more

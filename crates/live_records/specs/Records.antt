@@ -6,10 +6,11 @@ use Rattle.live_table.specs.rcu_model.Sets.{In}
 use Rattle.live_table.specs.live_log.declared.event.LiveEvent.{LiveEvent}
 use Rattle.live_table.specs.live_log.declared.event.LiveEvent.TheVariants.{Object}
 use Rattle.live_table.specs.live_log.declared.event.ObjectEvent.TheVariants.{Retire, Run}
-use Rattle.live_table.specs.live_log.Log.{Log, note_of, state_of}
+use Rattle.live_table.specs.live_log.Log.{Log, record_of, state_of}
+use Rattle.live_table.specs.live_rule.declared.view.Sizes.{Sizes}
 use Rattle.live_table.specs.live_rule.declared.view.View.{View}
 use Rattle.live_table.specs.live_rule.declared.rights.RecordRight.TheVariants.{Drawn, Fresh, Retired}
-use Rattle.live_table.specs.live_rule.Places.{cell_at}
+use Rattle.live_table.specs.live_rule.Places.{cell_at, last_at}
 use Rattle.live_table.specs.live_rule.Seats.{but_object}
 use Rattle.live_table.specs.Rights.{KnowsChains, IsFresh, IsUnlinked, IsRetired, IsQueued, cell_in, object_in, link_in, payload_in}
 use Rattle.live_table.specs.Steps.{Did, Went, exchanged_view, looked_view, stored_view}
@@ -55,9 +56,17 @@ module _ {S : Type 0} (qsbr : Bool) (allows : Log → LiveEvent → Type 0) wher
   abbrev pub numbered : Step S → Me S View → ℕ → Me S View → Type 0
   numbered st m n m' = looked st m n m' × (n ≡ 2 * (object_in m.0.object).0)
 
+  -- this was found to be the last number, and the one after it was drawn
+  abbrev pub DrewNumber : Sizes → ℕ → ℕ → Me S View → Me S View → Type 0
+  DrewNumber key n last m m' = Went qsbr allows (drawn_view (last + 1) (exchanged_view (last_at key) n (last + 1) m.0)) m m'
+
   -- a number was drawn, or another one was found
   abbrev pub drew : Step S → Me S View → ℕ → Me S View → Type 0
   drew st m n m' = (n ≡ st.first → Went qsbr allows (drawn_view st.second (exchanged_view st.word n st.second m.0)) m m') × (n ≢ st.first → Went qsbr allows (looked_view st.word n m.0) m m')
+
+  -- this was found in a record's header, and so the record was taken for the object with this number
+  abbrev pub TookRecord : Sizes → ℕ → ℕ → ℕ → Me S View → Me S View → Type 0
+  TookRecord key i n number m m' = Went qsbr allows (taken_record i (link_in m'.0.object) (payload_in m'.0.object) (exchanged_view (cell_at key i 0) n (2 * number) m.0)) m m' × (length (payload_in m'.0.object) ≡ 4)
 
   -- a free record was taken, or it was found in use
   abbrev pub took : Step S → Me S View → ℕ → Me S View → Type 0
@@ -81,10 +90,14 @@ module _ {S : Type 0} (qsbr : Bool) (allows : Log → LiveEvent → Type 0) wher
   abbrev pub retired : Step S → Me S View → ℕ → Me S View → Type 0
   retired st m n m' = Did qsbr allows (retired_view m.0) (Object (Retire (object_in m.0.object))) m m'
 
+  -- the object's callback may run, and this record, which was its own, was freed
+  abbrev pub RanObject : Sizes → ℕ → Me S View → Me S View → Type 0
+  RanObject key i m m' = Did qsbr allows (stored_view (cell_at key i 0) 0 (but_object m.0)) (Object (Run (object_in m.0.object))) m m'
+
   -- the object's callback may run, and its record was freed by this word
   abbrev pub ran : Step S → Me S View → ℕ → Me S View → Type 0
   ran st m n m' = Did qsbr allows (stored_view st.word st.first (but_object m.0)) (Object (Run (object_in m.0.object))) m m'
 
   -- a payload word of the seat's own object was looked at, which was cut and has not been run
   abbrev pub looked_payload : Step S → Me S View → ℕ → Me S View → Type 0
-  looked_payload st m n m' = Went qsbr allows m.0 m m' × In (state_of m'.0.seen).used (object_in m.0.object) × ((j : ℕ) → j < 4 → st.word ≡ cell_at m.0.sizes (cell_in m.0.object) (j + 2) → n ≡ slice_index_or (note_of m'.0.seen (object_in m.0.object)).1 j 0)
+  looked_payload st m n m' = Went qsbr allows m.0 m m' × In (state_of m'.0.seen).used (object_in m.0.object) × ((j : ℕ) → j < 4 → st.word ≡ cell_at m.0.sizes (cell_in m.0.object) (j + 2) → n ≡ slice_index_or (record_of m'.0.seen (object_in m.0.object)).1 j 0)

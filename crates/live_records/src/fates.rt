@@ -1,14 +1,12 @@
 //! The two stores of a header that end an object's life: it is retired, and once it was queued its callback may run.
 ghost use Rattle.std.specs.Prelude.{◌≡◌, ◌<◌, ◌^◌, slice_index_or};
 ghost use Rattle.live_table.specs.live_log.declared.event.LiveEvent.TheVariants.{Object};
-ghost use Rattle.live_table.specs.live_log.declared.event.ObjectEvent.TheVariants.{Retire, Run};
+ghost use Rattle.live_table.specs.live_log.declared.event.ObjectEvent.TheVariants.{Retire};
 ghost use Rattle.live_table.specs.rcu_model.Sets.{In};
-ghost use Rattle.live_table.specs.live_log.Log.{note_of, state_of};
-ghost use Rattle.live_table.specs.live_rule.Places.{cell_at};
-ghost use Rattle.live_table.specs.live_rule.Seats.{but_object};
+ghost use Rattle.live_table.specs.live_log.Log.{record_of, state_of};
 ghost use Rattle.live_table.specs.Rights.{IsQueued, IsUnlinked, cell_in, object_in};
-ghost use Rattle.live_table.specs.Steps.{Did, IsKnown, Keeps, Went, stored_view};
-ghost use Rattle.live_records.specs.Records.{HasCut, IsRipe, retired_view};
+ghost use Rattle.live_table.specs.Steps.{Did, IsKnown, Keeps, Went};
+ghost use Rattle.live_records.specs.Records.{HasCut, IsRipe, RanObject, retired_view};
 
 use crate::plays::{LooksPayload, Retires, Runs};
 use live_table::{ChainRule, GracePlan, LiveSeat, LiveTable};
@@ -26,7 +24,7 @@ pub fn load_payload<P: GracePlan, K: ChainRule>(
     ensures seat { Keeps seat.old seat.new }
     ensures looked { Went P.QSBR K.allows seat.old.me.0 seat.old.me seat.new.me }
     ensures published { In (state_of seat.new.me.0.seen).used (object_in seat.old.me.0.object) }
-    ensures word { result ≡ slice_index_or (note_of seat.new.me.0.seen (object_in seat.old.me.0.object)).1 index 0 }
+    ensures word { result ≡ slice_index_or (record_of seat.new.me.0.seen (object_in seat.old.me.0.object)).1 index 0 }
 {
     let place = table.cell_place(cell, index + 2);
     table.words.shared.load::<LooksPayload<P, K>>(seat, place)
@@ -63,7 +61,7 @@ pub fn store_run<P: GracePlan, K: ChainRule>(
     requires right { IsQueued seat.old.me.0 × (cell_in seat.old.me.0.object ≡ cell) }
     requires ripe { IsKnown (λ log. IsRipe log (object_in seat.old.me.0.object)) seat.old.me.0 }
     ensures seat { Keeps seat.old seat.new }
-    ensures ran { Did P.QSBR K.allows (stored_view (cell_at table.now.words.shared.key cell 0) 0 (but_object seat.old.me.0)) (Object (Run (object_in seat.old.me.0.object))) seat.old.me seat.new.me }
+    ensures ran { RanObject P.QSBR K.allows table.now.words.shared.key cell seat.old.me seat.new.me }
 {
     let place = table.cell_place(cell, 0);
     table.words.shared.store::<Runs<P, K>>(seat, place, 0);

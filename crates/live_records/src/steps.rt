@@ -1,11 +1,11 @@
 //! One function for each kind of step on a record. None of them waits, and none writes an event: what is not linked is
 //! no part of the log.
-ghost use Rattle.std.specs.Prelude.{◌≡◌, ◌≢◌, ◌+◌, ◌*◌, ◌<◌, ◌≤◌, ◌^◌, length};
+ghost use Rattle.std.specs.Prelude.{◌≡◌, ◌≢◌, ◌+◌, ◌*◌, ◌<◌, ◌≤◌, ◌^◌};
 ghost use Rattle.live_table.specs.live_rule.Places.{cell_at, last_at};
 ghost use Rattle.live_table.specs.live_rule.Seats.{but_object};
-ghost use Rattle.live_table.specs.Rights.{IsDrawn, IsFresh, KnowsChains, cell_in, link_in, object_in, payload_in};
-ghost use Rattle.live_table.specs.Steps.{Keeps, Went, exchanged_view, looked_view, stored_view};
-ghost use Rattle.live_records.specs.Records.{HasRecord, drawn_view, linked_view, taken_record, worded_view};
+ghost use Rattle.live_table.specs.Rights.{IsDrawn, IsFresh, KnowsChains, cell_in, object_in};
+ghost use Rattle.live_table.specs.Steps.{Keeps, Went, looked_view, stored_view};
+ghost use Rattle.live_records.specs.Records.{DrewNumber, HasRecord, TookRecord, linked_view, worded_view};
 
 use crate::plays::{
     Discards, Draws, LooksHeader, LooksLast, LooksNumber, StoresLink, StoresWord, Takes,
@@ -33,7 +33,7 @@ pub fn draw_number<P: GracePlan, K: ChainRule>(
     requires seat { seat.old.table_id ≡ table.now.words.shared.table_id }
     requires room { last < 2 ^ 62 }
     ensures seat { Keeps seat.old seat.new }
-    ensures drawn { result ≡ last → Went P.QSBR K.allows (drawn_view (last + 1) (exchanged_view (last_at table.now.words.shared.key) result (last + 1) seat.old.me.0)) seat.old.me seat.new.me }
+    ensures drawn { result ≡ last → DrewNumber P.QSBR K.allows table.now.words.shared.key result last seat.old.me seat.new.me }
     ensures missed { result ≢ last → Went P.QSBR K.allows (looked_view (last_at table.now.words.shared.key) result seat.old.me.0) seat.old.me seat.new.me }
 {
     let place = table.last_place();
@@ -87,7 +87,7 @@ pub fn take_cell<P: GracePlan, K: ChainRule>(
     requires seat { (seat.old.table_id ≡ table.now.words.shared.table_id) × (seat.old.me.0.sizes ≡ table.now.words.shared.key) × (cell < table.now.pool) }
     requires right { IsDrawn seat.old.me.0 × ((object_in seat.old.me.0.object).0 ≡ number) × (number ≤ 2 ^ 62) }
     ensures seat { Keeps seat.old seat.new }
-    ensures taken { result ≡ 0 → Went P.QSBR K.allows (taken_record cell (link_in seat.new.me.0.object) (payload_in seat.new.me.0.object) (exchanged_view (cell_at table.now.words.shared.key cell 0) result (2 * number) seat.old.me.0)) seat.old.me seat.new.me × (length (payload_in seat.new.me.0.object) ≡ 4) }
+    ensures taken { result ≡ 0 → TookRecord P.QSBR K.allows table.now.words.shared.key cell result number seat.old.me seat.new.me }
     ensures missed { result ≢ 0 → Went P.QSBR K.allows (looked_view (cell_at table.now.words.shared.key cell 0) result seat.old.me.0) seat.old.me seat.new.me }
 {
     let place = table.cell_place(cell, 0);

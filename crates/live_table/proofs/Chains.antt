@@ -6,7 +6,7 @@ use Rattle.atomic_table.specs.Table.{State}
 use Rattle.live_rule.specs.rcu_model.declared.event.ObjectId.{ObjectId}
 use Rattle.live_rule.specs.rcu_model.Sets.{In, first_of}
 use Rattle.live_rule.specs.live_log.declared.event.LiveEvent.{LiveEvent}
-use Rattle.live_rule.specs.live_log.Log.{Log, state_of, note_of, IsLiveRun, objects_of, head}
+use Rattle.live_rule.specs.live_log.Log.{Log, state_of, record_of, IsLiveRun, objects_of, head}
 use Rattle.live_rule.proofs.live_log.Lemmas.{kept_log}
 use Rattle.live_rule.specs.declared.view.Sizes.{Sizes}
 use Rattle.live_rule.specs.declared.view.View.{View}
@@ -46,8 +46,8 @@ module _ {S : Type 0} (qsbr : Bool) (allows : Log → LiveEvent → Type 0) (key
     here o h = subst (λ (l : List ObjectId). In l o) (sym knows_own.3) h
 
   -- the record of an object that is alive is one of the table's
-  pub lows : v.sizes ≡ key → (o : ObjectId) → IsAlive (objects_of r.log) o → (note_of r.log o).0 < v.sizes.pool
-  lows sizes o alive = subst (λ (k : Sizes). (note_of r.log o).0 < k.pool) (sym sizes) (r.agree.heap.low o alive)
+  pub lows : v.sizes ≡ key → (o : ObjectId) → IsAlive (objects_of r.log) o → (record_of r.log o).0 < v.sizes.pool
+  lows sizes o alive = subst (λ (k : Sizes). (record_of r.log o).0 < k.pool) (sym sizes) (r.agree.heap.low o alive)
 
   -- the seat goes on knowing its chains, once it has seen the log of now
   pub goes_on : v.sizes ≡ key → KnowsChains v (record v { seen = r.log })

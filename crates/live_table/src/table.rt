@@ -49,7 +49,8 @@ impl<P: GracePlan, K: ChainRule> LiveTable<P, K> {
         pool: usize,
     ) -> Result<(LiveTable<P, K>, LiveSeat), AllocError>
         requires { (slots ≤ 256) × (chains ≤ 4096) × (queues ≤ 8) × (pool ≤ 65536) }
-        ensures { IfOk result (λ made. (made.1.table_id ≡ made.0.words.shared.table_id) × (made.1.me ≡ (first_view made.0.words.shared.key, [])) × (made.0.slots ≡ slots) × (made.0.chains ≡ chains) × (made.0.queues ≡ queues) × (made.0.pool ≡ pool)) }
+        ensures seat { IfOk result (λ made. (made.1.table_id ≡ made.0.words.shared.table_id) × (made.1.me ≡ (first_view made.0.words.shared.key, []))) }
+        ensures sizes { IfOk result (λ made. (made.0.slots ≡ slots) × (made.0.chains ≡ chains) × (made.0.queues ≡ queues) × (made.0.pool ≡ pool)) }
     {
         let zeros = vec![in alloc; 0u64; 16 * slots + 8 * chains + 32 * queues + 6 * pool + 112]?;
         let key = Sizes {

@@ -5,7 +5,7 @@ ghost use Rattle.std.specs.Prelude.{◌≡◌, ◌≢◌, ◌<◌, [], IsTrue};
 ghost use Rattle.rcu_model.specs.Sets.{In};
 ghost use Rattle.rcu_model.specs.declared.event.ObjectId.{ObjectId};
 ghost use Rattle.live_log.specs.Keys.{key_of, keyed, rank_of};
-ghost use Rattle.live_log.specs.Log.{IsLiveRun, note_of};
+ghost use Rattle.live_log.specs.Log.{IsLiveRun, record_of};
 ghost use Rattle.live_words.specs.live_table.Rights.{payload_in};
 ghost use Rattle.live_write.specs.Chains.{list_in};
 
@@ -25,7 +25,7 @@ fn may_stand_first<P: GracePlan, B: Site, H>(
 ) -> bool
     requires run { IsLiveRun P.QSBR keyed chain.old.seat.me.0.seen }
     ensures run { IsLiveRun P.QSBR keyed chain.new.seat.me.0.seen }
-    ensures above { IsTrue result → (o : ObjectId) → In (list_in chain.new.seat.me.0) o → (key_of (note_of chain.new.seat.me.0.seen o) ≢ key_of (0, words)) × (rank_of (note_of chain.new.seat.me.0.seen o) < rank_of (0, words)) }
+    ensures above { IsTrue result → (o : ObjectId) → In (list_in chain.new.seat.me.0) o → (key_of (record_of chain.new.seat.me.0.seen o) ≢ key_of (0, words)) × (rank_of (record_of chain.new.seat.me.0.seen o) < rank_of (0, words)) }
 {
     if chain.len() == 0 {
         return true;

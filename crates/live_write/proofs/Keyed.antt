@@ -4,7 +4,7 @@ use Rattle.rcu_model.specs.declared.event.ObjectId.{ObjectId}
 use Rattle.rcu_model.specs.Sets.{In}
 use Rattle.live_log.specs.declared.event.LiveEvent.{LiveEvent}
 use Rattle.live_log.specs.Keys.{key_of, rank_of, Falls, keyed}
-use Rattle.live_log.specs.Log.{Log, IsLiveRun, note_of}
+use Rattle.live_log.specs.Log.{Log, IsLiveRun, record_of}
 use Rattle.live_log.proofs.Lemmas.{each_falls}
 use Rattle.live_words.specs.live_rule.declared.view.View.{View}
 use Rattle.live_words.specs.live_table.Rights.{IsListed, IsWriter, own_in, payload_in}
@@ -18,15 +18,15 @@ may_publish qsbr allows v seen heard owner e may log on run known allowed = may 
 
 module _ (qsbr : Bool) (v : View) (seen heard owner : Log) (own : IsWriter v) (listed : IsListed v) (run : IsLiveRun qsbr keyed v.seen) where
   -- the writer's list falls
-  falls : Falls (note_of v.seen) (list_in v)
-  falls = subst (Falls (note_of v.seen)) listed.0 (each_falls qsbr v.seen (own_in v.chains).chain run)
+  falls : Falls (record_of v.seen) (list_in v)
+  falls = subst (Falls (record_of v.seen)) listed.0 (each_falls qsbr v.seen (own_in v.chains).chain run)
 
   -- another key, above all ranks
-  pub keyed_push : (u : View) → ((p : ObjectId) → In (list_in v) p → (key_of (note_of v.seen p) ≢ key_of (0, payload_in u.object)) × (rank_of (note_of v.seen p) < rank_of (0, payload_in u.object))) → MayPublish qsbr keyed v seen heard owner (push_by v u)
+  pub keyed_push : (u : View) → ((p : ObjectId) → In (list_in v) p → (key_of (record_of v.seen p) ≢ key_of (0, payload_in u.object)) × (rank_of (record_of v.seen p) < rank_of (0, payload_in u.object))) → MayPublish qsbr keyed v seen heard owner (push_by v u)
   keyed_push u above = let w : View = record v { object = u.object } in may_publish qsbr keyed v seen heard owner (push_by v u) (chains.may_push qsbr w own listed falls above)
 
   -- the same key and rank
-  pub keyed_replace : (u : View) (o : ObjectId) → In (list_in v) o → (key_of (0, payload_in u.object) ≡ key_of (note_of v.seen o)) × (rank_of (0, payload_in u.object) ≡ rank_of (note_of v.seen o)) → MayPublish qsbr keyed v seen heard owner (replace_by o v u)
+  pub keyed_replace : (u : View) (o : ObjectId) → In (list_in v) o → (key_of (0, payload_in u.object) ≡ key_of (record_of v.seen o)) × (rank_of (0, payload_in u.object) ≡ rank_of (record_of v.seen o)) → MayPublish qsbr keyed v seen heard owner (replace_by o v u)
   keyed_replace u o at kept = let w : View = record v { object = u.object } in may_publish qsbr keyed v seen heard owner (replace_by o v u) (chains.may_replace qsbr w own listed o at falls kept)
 
   pub keyed_cut : (o : ObjectId) → MayPublish qsbr keyed v seen heard owner (cut_of o v)

@@ -7,7 +7,7 @@ use Rattle.rcu_model.proofs.Lemmas.{follows_has}
 use Rattle.live_log.specs.declared.event.LiveEvent.{LiveEvent}
 use Rattle.live_log.specs.declared.event.LiveEvent.TheVariants.{Object}
 use Rattle.live_log.specs.declared.event.ObjectEvent.TheVariants.{Push, Replace, Cut}
-use Rattle.live_log.specs.Log.{Log, Begins, note_of, objects_of}
+use Rattle.live_log.specs.Log.{Log, Begins, record_of, objects_of}
 use Rattle.live_log.proofs.Lemmas.{begins_trans}
 use Rattle.live_words.specs.live_rule.declared.view.Look.{Look}
 use Rattle.live_words.specs.live_rule.declared.view.View.{View}
@@ -111,7 +111,7 @@ push_same v u w chains object =
 pub record StandsAt (v : View) (before : Option ℕ) (cell : ℕ) (p : Option ObjectId) (o : ObjectId) : Type 0 where
   pub there : IsThere v before p
   pub at : IsBefore v p o
-  pub lies : (note_of v.seen o).0 ≡ cell
+  pub lies : (record_of v.seen o).0 ≡ cell
 
 module _ (before : Option ℕ) (cell : ℕ) (p : Option ObjectId) (o : ObjectId) where
   -- it stands there still, where it knows as much
@@ -119,14 +119,14 @@ module _ (before : Option ℕ) (cell : ℕ) (p : Option ObjectId) (o : ObjectId)
   at_still v w seen chains s = record {
     there = there_still before p s.there;
     at = subst (λ (l : List ChainRight). IsPlace (own_in l).objects p × (follows (own_in l).objects p ≡ Some o)) (sym chains) s.at;
-    lies = ap (λ (l : Log). (note_of l o).0) seen ∙ s.lies;
+    lies = ap (λ (l : Log). (record_of l o).0) seen ∙ s.lies;
   }
     where
       there_still : (b : Option ℕ) (q : Option ObjectId) → IsThere v b q → IsThere w b q
       there_still None None there = there
       there_still None (Some q) there = absurd there
       there_still (Some j) None there = absurd there
-      there_still (Some j) (Some q) there = ap (λ (l : Log). (note_of l q).0) seen ∙ there
+      there_still (Some j) (Some q) there = ap (λ (l : Log). (record_of l q).0) seen ∙ there
 
   -- and after a load
   pub at_after : {S : Type 0} (qsbr : Bool) (allows : Log → LiveEvent → Type 0) (f n : Me S View) → Went qsbr allows f.0 f n → IsListed f.0 → StandsAt f.0 before cell p o → StandsAt n.0 before cell p o
@@ -138,7 +138,7 @@ module _ (before : Option ℕ) (cell : ℕ) (p : Option ObjectId) (o : ObjectId)
 
 -- what a walk found: the object at an index, and where the writer stands before it
 abbrev pub Finds : {S : Type 0} → Me S View → Me S View → ℕ → Option ℕ → ℕ → Type 0
-Finds m f index before cell = (p : Option ObjectId) × (o : ObjectId) × (slice_get (list_in m.0) index ≡ Some o) × IsThere f.0 before p × IsBefore f.0 p o × ((note_of f.0.seen o).0 ≡ cell)
+Finds m f index before cell = (p : Option ObjectId) × (o : ObjectId) × (slice_get (list_in m.0) index ≡ Some o) × IsThere f.0 before p × IsBefore f.0 p o × ((record_of f.0.seen o).0 ≡ cell)
 
 pub stands : {S : Type 0} (m f : Me S View) (index : ℕ) (before : Option ℕ) (cell : ℕ) (found : Finds m f index before cell) → StandsAt f.0 before cell found.0 found.1
 stands m f index before cell found = record { there = found.3; at = found.4; lies = found.5 }
@@ -193,7 +193,7 @@ module _ {S : Type 0} (qsbr : Bool) (allows : Log → LiveEvent → Type 0) (m f
   pub cut_chains : w.0.chains ≡ m.0.chains
   cut_chains = ap (λ (y : Me S View). y.0.chains) heard ∙ ap (λ (y : View). y.chains) walked.1
 
-  pub cut_leaves : (x z u : Me S View) → ((p : Option ObjectId) (o : ObjectId) → IsThere w.0 before p → IsBefore w.0 p o → (note_of w.0.seen o).0 ≡ cell → Writes qsbr allows (cut_view p o (ref (objects_of w.0.seen) (next_of (own_in w.0.chains).objects o)) w.0) (cut_of o w.0) w x)
+  pub cut_leaves : (x z u : Me S View) → ((p : Option ObjectId) (o : ObjectId) → IsThere w.0 before p → IsBefore w.0 p o → (record_of w.0.seen o).0 ≡ cell → Writes qsbr allows (cut_view p o (ref (objects_of w.0.seen) (next_of (own_in w.0.chains).objects o)) w.0) (cut_of o w.0) w x)
       → u ≡ (object_alone x.0, []) → z ≡ (but_object x.0, x.1) → Leaves m x z u cell found.1 (λ q. without_object q (list_in m.0))
   cut_leaves x z u cut job rest =
       let p = found.0 in let o = found.1 in let s = cut_stands in

@@ -5,7 +5,7 @@ use Rattle.rcu_model.specs.declared.event.ObjectId.{ObjectId}
 use Rattle.rcu_model.specs.Sets.{In, IsPlace, follows, first_of, next_of, same_object, without_object, replaced}
 use Rattle.rcu_model.proofs.Lemmas.{Once, Tells, object_tells, follows_has, some_is, none_some}
 use Rattle.live_log.specs.declared.event.LiveEvent.{LiveEvent}
-use Rattle.live_log.specs.Log.{Log, note_of, objects_of}
+use Rattle.live_log.specs.Log.{Log, record_of, objects_of}
 use Rattle.live_log.proofs.Lemmas.{begins_trans, kept_log}
 use Rattle.live_words.specs.live_rule.declared.view.View.{View}
 use Rattle.live_words.specs.live_rule.declared.rights.ChainRight.{ChainRight}
@@ -96,7 +96,7 @@ went_both qsbr allows m n p a b = (
 pub record Stands {S : Type 0} (qsbr : Bool) (allows : Log → LiveEvent → Type 0) (m0 m : Me S View) (n : ℕ) (before : Option ℕ) (word : ℕ) : Type 0 where
   pub went : Went qsbr allows m0.0 m0 m
   pub listed : IsListed m.0
-  pub low : (o : ObjectId) → In (own_in m0.0.chains).objects o → (note_of m.0.seen o).0 < m0.0.sizes.pool
+  pub low : (o : ObjectId) → In (own_in m0.0.chains).objects o → (record_of m.0.seen o).0 < m0.0.sizes.pool
   pub front : List ObjectId
   pub rest : List ObjectId
   pub list : (own_in m0.0.chains).objects ≡ front ++ rest
@@ -154,7 +154,7 @@ module _ {S : Type 0} (qsbr : Bool) (allows : Log → LiveEvent → Type 0) (m0 
       pub others : List ObjectId
       pub is : s.rest ≡ object ∷ others
       pub has : In xs object
-      pub cell : (note_of m.0.seen object).0 ≡ word - 1
+      pub cell : (record_of m.0.seen object).0 ≡ word - 1
       pub low : word - 1 < m0.0.sizes.pool
       pub at : slice_get xs n ≡ Some object
 
@@ -163,7 +163,7 @@ module _ {S : Type 0} (qsbr : Bool) (allows : Log → LiveEvent → Type 0) (m0 
     here_by (o ∷ os) is some =
         let list : xs ≡ s.front ++ o ∷ os = s.list ∙ ap (λ (l : List ObjectId). s.front ++ l) is in
         let has : In xs o = subst (λ (l : List ObjectId). In l o) (sym list) (in_middle s.front o os) in
-        let leads : word ≡ (note_of m.0.seen o).0 + 1 = s.leads ∙ ap (λ (l : List ObjectId). ref (objects_of m.0.seen) (first_of l)) is in
+        let leads : word ≡ (record_of m.0.seen o).0 + 1 = s.leads ∙ ap (λ (l : List ObjectId). ref (objects_of m.0.seen) (first_of l)) is in
         let low = s.low o has in record {
           object = o;
           others = os;
@@ -191,7 +191,7 @@ module _ {S : Type 0} (qsbr : Bool) (allows : Log → LiveEvent → Type 0) (m0 
         let follows_is : next_of xs h.object ≡ first_of h.others = ap (λ (l : List ObjectId). next_of l h.object) list ∙ next_at s.front h.object h.others (subst Once list once) in record {
           went = went_both qsbr allows m0 m p s.went went;
           listed = k.0;
-          low = λ o has. subst (λ (z : ℕ). (note_of p.0.seen o).0 < z) (ap (λ (u : View). u.sizes.pool) s.went.1) (k.1 o (subst (λ (c : ChainRight). In c.objects o) (sym same_own) has));
+          low = λ o has. subst (λ (z : ℕ). (record_of p.0.seen o).0 < z) (ap (λ (u : View). u.sizes.pool) s.went.1) (k.1 o (subst (λ (c : ChainRight). In c.objects o) (sym same_own) has));
           front = s.front ++ h.object ∷ [];
           rest = h.others;
           list = list ∙ sym (append_assoc s.front (h.object ∷ []) h.others);
@@ -204,7 +204,7 @@ module _ {S : Type 0} (qsbr : Bool) (allows : Log → LiveEvent → Type 0) (m0 
 
     -- or loads a word, and stands where it stood
     module _ (p : Me S View) (went : Went qsbr allows m.0 m p) where
-      pub note_here : (o : ObjectId) → In xs o → note_of p.0.seen o ≡ note_of m.0.seen o
+      pub note_here : (o : ObjectId) → In xs o → record_of p.0.seen o ≡ record_of m.0.seen o
       note_here o has = note_same qsbr allows m.0 m p went s.listed o (subst (λ (c : ChainRight). In c.objects o) (sym same_own) has)
 
       there_here : (b : Option ℕ) (q : Option ObjectId) → IsPlace xs q → IsThere m.0 b q → IsThere p.0 b q
@@ -221,7 +221,7 @@ module _ {S : Type 0} (qsbr : Bool) (allows : Log → LiveEvent → Type 0) (m0 
       stands_on knows = let k = knows.1 still_writer in record {
         went = went_both qsbr allows m0 m p s.went went;
         listed = k.0;
-        low = λ o has. subst (λ (z : ℕ). (note_of p.0.seen o).0 < z) (ap (λ (u : View). u.sizes.pool) s.went.1) (k.1 o (subst (λ (c : ChainRight). In c.objects o) (sym same_own) has));
+        low = λ o has. subst (λ (z : ℕ). (record_of p.0.seen o).0 < z) (ap (λ (u : View). u.sizes.pool) s.went.1) (k.1 o (subst (λ (c : ChainRight). In c.objects o) (sym same_own) has));
         front = s.front;
         rest = s.rest;
         list = s.list;
@@ -250,10 +250,10 @@ pub record Reads {S : Type 0} (qsbr : Bool) (allows : Log → LiveEvent → Type
   pub listed : IsListed m.0
   pub own : IsWriter m.0
   pub has : In (own_in m.0.chains).objects o
-  pub lies : (note_of m.0.seen o).0 ≡ cell
+  pub lies : (record_of m.0.seen o).0 ≡ cell
 
 module _ {S : Type 0} (qsbr : Bool) (allows : Log → LiveEvent → Type 0) (m0 : Me S View) (o : ObjectId) (cell : ℕ) where
-  pub reads_found : (m : Me S View) (p : Option ObjectId) → IsWriter m0.0 → Went qsbr allows m0.0 m0 m → IsListed m.0 → IsBefore m.0 p o → (note_of m.0.seen o).0 ≡ cell → Reads qsbr allows m0 m o cell
+  pub reads_found : (m : Me S View) (p : Option ObjectId) → IsWriter m0.0 → Went qsbr allows m0.0 m0 m → IsListed m.0 → IsBefore m.0 p o → (record_of m.0.seen o).0 ≡ cell → Reads qsbr allows m0 m o cell
   reads_found m p own went listed at lies = record {
     went = went;
     listed = listed;
@@ -266,7 +266,7 @@ module _ {S : Type 0} (qsbr : Bool) (allows : Log → LiveEvent → Type 0) (m0 
     pub reads_it : MayRead qsbr m.0 o cell
     reads_it = (r.lies, inr (r.own, r.listed, r.has))
 
-    pub note_on : (n : Me S View) → Went qsbr allows m.0 m n → note_of n.0.seen o ≡ note_of m.0.seen o
+    pub note_on : (n : Me S View) → Went qsbr allows m.0 m n → record_of n.0.seen o ≡ record_of m.0.seen o
     note_on n went = note_same qsbr allows m.0 m n went r.listed o r.has
 
     pub reads_on : (n : Me S View) → Went qsbr allows m.0 m n → KnowsChains m.0 n.0 → Reads qsbr allows m0 n o cell

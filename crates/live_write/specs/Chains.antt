@@ -4,7 +4,7 @@ use Rattle.rcu_model.specs.declared.event.ObjectId.{ObjectId}
 use Rattle.live_log.specs.declared.event.LiveEvent.{LiveEvent}
 use Rattle.live_log.specs.declared.event.LiveEvent.TheVariants.{Object}
 use Rattle.live_log.specs.declared.event.ObjectEvent.TheVariants.{Push, Replace}
-use Rattle.live_log.specs.Log.{Log, Begins, IsLiveRun, note_of}
+use Rattle.live_log.specs.Log.{Log, Begins, IsLiveRun, record_of}
 use Rattle.live_words.specs.live_rule.declared.view.View.{View}
 use Rattle.live_words.specs.live_table.Rights.{AreAsKnown, own_in, object_in, cell_in, payload_in}
 use Rattle.live_words.specs.live_chains.Chains.{IsAllowedBy}
@@ -15,7 +15,7 @@ list_in v = (own_in v.chains).objects
 
 -- the word with which the payload of an object begins
 abbrev pub first_word : Log → ObjectId → ℕ
-first_word log o = slice_index_or (note_of log o).1 0 0
+first_word log o = slice_index_or (record_of log o).1 0 0
 
 -- the object at the index begins with the word, and none before it does
 pub record IsFirstWith (log : Log) (os : List ObjectId) (word index : ℕ) : Type 0 where

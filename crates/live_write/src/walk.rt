@@ -4,7 +4,7 @@
 ghost use Rattle.std.specs.Prelude.{◌≡◌, ◌≢◌, ℕ, ◌<◌, ◌≤◌, Option, Some, length, IfNone, IfSome, slice_get};
 ghost use Rattle.rcu_model.specs.Sets.{In};
 ghost use Rattle.rcu_model.specs.declared.event.ObjectId.{ObjectId};
-ghost use Rattle.live_log.specs.Log.{note_of, payload_of};
+ghost use Rattle.live_log.specs.Log.{record_of, payload_of};
 ghost use Rattle.live_words.specs.live_table.Rights.{IsListed, IsWriter, own_in};
 ghost use Rattle.live_words.specs.live_table.Steps.{Keeps, Went};
 ghost use Rattle.live_words.specs.live_chains.Chains.{IsBefore, IsThere};
@@ -49,7 +49,7 @@ pub(crate) fn find<P: GracePlan, K: ChainRule>(
     ensures seat { Keeps seat.old seat.new }
     ensures walked { Went P.QSBR K.allows seat.old.me.0 seat.old.me seat.new.me × IsListed seat.new.me.0 }
     ensures low { IfSome result.0 (λ j. j < table.now.pool) × (result.1 < table.now.pool) }
-    ensures found { (p : Option ObjectId) × (o : ObjectId) × (slice_get (own_in seat.old.me.0.chains).objects index ≡ Some o) × IsThere seat.new.me.0 result.0 p × IsBefore seat.new.me.0 p o × ((note_of seat.new.me.0.seen o).0 ≡ result.1) }
+    ensures found { (p : Option ObjectId) × (o : ObjectId) × (slice_get (own_in seat.old.me.0.chains).objects index ≡ Some o) × IsThere seat.new.me.0 result.0 p × IsBefore seat.new.me.0 p o × ((record_of seat.new.me.0.seen o).0 ≡ result.1) }
 {
     let mut before = None;
     let mut link = load_head(table, seat, chain);

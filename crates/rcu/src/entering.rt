@@ -42,6 +42,6 @@ fn entered<
     ensures answered { IfOk result (λ x. F.gives program x) }
     ensures refused { IfErr result (λ e. e ≡ Memory) }
 {
-    let (domain, first) = opened.named::<B, D>(alloc)?;
+    let (domain, first) = opened.into_domain::<B, D>(alloc)?;
     Ok(program.run::<B>(rt, alloc, &domain, first))
 }

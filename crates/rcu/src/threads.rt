@@ -77,7 +77,7 @@ where
     ensures each { IfOk result (λ e. (vec_len e.answers ≡ number) × (vec_len e.reclaimed ≡ queues)) }
     ensures answered { IfOk result (λ e. EachGives (F.gives program.now) number e.answers.items) }
 {
-    let (domain, mut first) = opened.named::<B, D>(alloc)?;
+    let (domain, mut first) = opened.into_domain::<B, D>(alloc)?;
     program.begin::<B>(rt, &domain, &mut first)?;
     let root = Mutex::new(first);
     let home = &domain;

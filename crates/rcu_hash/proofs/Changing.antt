@@ -8,7 +8,7 @@ use Rattle.rcu_model.proofs.Lemmas.{at_number_other, at_number_same}
 use Rattle.live_log.specs.declared.event.LiveEvent.{LiveEvent}
 use Rattle.live_log.specs.declared.event.LiveEvent.TheVariants.{Object}
 use Rattle.live_log.specs.declared.event.ObjectEvent.TheVariants.{Push, Replace, Cut}
-use Rattle.live_log.specs.Log.{Log, Begins, IsLiveRun, note_of, state_of}
+use Rattle.live_log.specs.Log.{Log, Begins, IsLiveRun, record_of, state_of}
 use Rattle.live_log.proofs.Lemmas.{chain_used, note_stays}
 use Rattle.rcu_list.specs.Calls as list
 use Rattle.rcu_list.specs.Maps.{map_of, value_in, words_of}
@@ -25,8 +25,8 @@ changed_same key has f g k same = dite (ℕ_discrete k key)
 module _ (qsbr : Bool) (allows : Log → LiveEvent → Type 0) where
   -- a chain that an event leaves has the map that it had
   pub other_map : (e : LiveEvent) (before : Log) (c k : ℕ) → IsLiveRun qsbr allows (e ∷ before) → (state_of (e ∷ before)).chain c ≡ (state_of before).chain c → map_of (e ∷ before) c k ≡ map_of before c k
-  other_map e before c k run same = ap (λ (os : List ObjectId). value_in (note_of (e ∷ before)) os k) same
-      ∙ value_same (note_of before) (note_of (e ∷ before)) ((state_of before).chain c) k (λ o h. note_stays qsbr allows before (e ∷ before) o (e ∷ [], refl) run (chain_used qsbr allows before c o run.1 h))
+  other_map e before c k run same = ap (λ (os : List ObjectId). value_in (record_of (e ∷ before)) os k) same
+      ∙ value_same (record_of before) (record_of (e ∷ before)) ((state_of before).chain c) k (λ o h. note_stays qsbr allows before (e ∷ before) o (e ∷ [], refl) run (chain_used qsbr allows before c o run.1 h))
 
   -- the list's writer had heard a caller that knew this before
   module _ (first buckets : ℕ) (known seen heard seen' heard' : Log) (knew : (log : Log) → Begins seen log → Begins heard log → Begins seen' log × Begins heard' log) (key : ℕ) (log : Log) where

@@ -7,7 +7,7 @@ use Rattle.rcu_model.specs.declared.event.ObjectId.{ObjectId}
 use Rattle.rcu_model.specs.Sets.{In}
 use Rattle.rcu_model.proofs.Lemmas.{at_object_same, in_left, none_some}
 use Rattle.live_log.specs.Keys.{key_of, rank_of, Falls}
-use Rattle.live_log.specs.Log.{Log, Begins, IsLiveRun, note_of, payload_of, words_in}
+use Rattle.live_log.specs.Log.{Log, Begins, IsLiveRun, record_of, payload_of, words_in}
 use Rattle.live_log.specs.Maps.{IsUnnoted}
 use Rattle.live_log.specs.Tables.{tabled}
 use Rattle.live_log.proofs.Lemmas.{begins_trans, chain_used, note_stays, run_of, tabled_maps}
@@ -250,21 +250,21 @@ found_before sizes more found = ⊎_elim
     (λ (t : AreTaken sizes found). inr (λ i low. let x = t i low in (x.0, in_behind more found _ x.1, x.2)))
 
 -- the keys of the list that a writer knows differ
-pub falls_known : (qsbr : Bool) (v : View) → IsLiveRun qsbr tabled v.seen → IsListed v → Falls (note_of v.seen) (list_in v)
-falls_known qsbr v run listed = subst (Falls (note_of v.seen)) listed.0 ((tabled_maps qsbr).falls v.seen (own_in v.chains).chain run)
+pub falls_known : (qsbr : Bool) (v : View) → IsLiveRun qsbr tabled v.seen → IsListed v → Falls (record_of v.seen) (list_in v)
+falls_known qsbr v run listed = subst (Falls (record_of v.seen)) listed.0 ((tabled_maps qsbr).falls v.seen (own_in v.chains).chain run)
 
 -- after a walk each key has what it had
-pub value_walked : {S : Type 0} (qsbr : Bool) (c : ℕ) (m n : Me S View) → Went qsbr tabled m.0 m n → IsListed m.0 → (own_in m.0.chains).chain ≡ c → (key : ℕ) → value_at (Some n.0) key ≡ value_in (note_of m.0.seen) (list_in m.0) key
+pub value_walked : {S : Type 0} (qsbr : Bool) (c : ℕ) (m n : Me S View) → Went qsbr tabled m.0 m n → IsListed m.0 → (own_in m.0.chains).chain ≡ c → (key : ℕ) → value_at (Some n.0) key ≡ value_in (record_of m.0.seen) (list_in m.0) key
 value_walked qsbr c m n went listed is key =
-    ap (λ (x : ChainRight). value_in (note_of n.0.seen) x.objects key) (same_own qsbr tabled (tabled_maps qsbr) c m n went listed is)
-    ∙ value_same (note_of m.0.seen) (note_of n.0.seen) (list_in m.0) key (note_walked qsbr tabled (tabled_maps qsbr) c m n went listed is)
+    ap (λ (x : ChainRight). value_in (record_of n.0.seen) x.objects key) (same_own qsbr tabled (tabled_maps qsbr) c m n went listed is)
+    ∙ value_same (record_of m.0.seen) (record_of n.0.seen) (list_in m.0) key (note_walked qsbr tabled (tabled_maps qsbr) c m n went listed is)
 
 -- what a writer got at an index after a walk
 module _ {S : Type 0} (qsbr : Bool) (c : ℕ) (m n p : Me S View) (went : Went qsbr tabled m.0 m n) (listed : IsListed m.0) (is : (own_in m.0.chains).chain ≡ c) (more : Went qsbr tabled n.0 n p) (index : ℕ) (o : ObjectId) (at : slice_get (list_in n.0) index ≡ Some o) where
   pub got_at : slice_get (list_in m.0) index ≡ Some o
   got_at = ap (λ (x : ChainRight). slice_get x.objects index) (sym (same_own qsbr tabled (tabled_maps qsbr) c m n went listed is)) ∙ at
 
-  pub got_words : (words : List ℕ) → words ≡ payload_of p.0.seen o → words ≡ words_in (note_of m.0.seen o).1
+  pub got_words : (words : List ℕ) → words ≡ payload_of p.0.seen o → words ≡ words_in (record_of m.0.seen o).1
   got_words words got = got ∙ ap (λ (x : ℕ × List ℕ). words_in x.1) (note_walked qsbr tabled (tabled_maps qsbr) c m p (went_both qsbr tabled m n p went more) listed is o (index_has (list_in m.0) index o got_at))
 
 -- A writer of a chain that holds copies: those of ranks below this one.
@@ -272,7 +272,7 @@ pub record Holds (rank : ℕ) (v : View) : Type 0 where
   pub keys : HasKeysIn v
   pub unnoted : HasNoNote v
   pub alone : IsAlone v
-  pub below : (o : ObjectId) → In (list_in v) o → rank_of (note_of v.seen o) < rank
+  pub below : (o : ObjectId) → In (list_in v) o → rank_of (record_of v.seen o) < rank
 
 pub hold_nothing : (vs : List View) → Each IsEmpty vs → Each IsAlone vs → Each (Holds 0) vs
 hold_nothing [] empty alone = tt
@@ -288,28 +288,28 @@ hold_nothing (v ∷ vs) empty alone = (
 
 pub no_value : (vs : List View) (index key : ℕ) → Each IsEmpty vs → value_at (slice_get vs index) key ≡ None
 no_value [] index key empty = refl
-no_value (v ∷ vs) zero key empty = ap (λ (l : List ObjectId). value_in (note_of v.seen) l key) empty.0.0
+no_value (v ∷ vs) zero key empty = ap (λ (l : List ObjectId). value_in (record_of v.seen) l key) empty.0.0
 no_value (v ∷ vs) (suc index) key empty = no_value vs index key empty.1
 
 -- the writer of a chain with no note puts in a copy with another key, and a rank above all others
 module _ (qsbr : Bool) (v : View) (seen heard owner : Log) (own : IsWriter v) (listed : IsListed v) (rank : ℕ) (holds : Holds rank v) (u : View) (key value : ℕ) (words : payload_in u.object ≡ words_of key value rank) where
   pub may_put : value_at (Some v) key ≡ None → MayPublish qsbr tabled v seen heard owner (push_by v u)
   may_put none = comes_above qsbr tabled (tabled_maps qsbr) IsUnnoted ((tabled_maps qsbr).takes) v seen heard owner own listed (λ log begins run note lent. note ∙ holds.unnoted) holds.keys u key value rank words
-      (λ o h. (none_has (note_of v.seen) (list_in v) key none o h, holds.below o h))
+      (λ o h. (none_has (record_of v.seen) (list_in v) key none o h, holds.below o h))
 
   module _ (w : View) (put : Publishes qsbr tabled v seen heard owner (push_by v u) w.seen) (list : list_in w ≡ object_in u.object ∷ list_in v) where
-    note_still : (o : ObjectId) → In (list_in v) o → note_of w.seen o ≡ note_of v.seen o
+    note_still : (o : ObjectId) → In (list_in v) o → record_of w.seen o ≡ record_of v.seen o
     note_still o h =
         let later : Begins v.seen w.seen = begins_trans v.seen put.before w.seen put.after.after_writer.0 (_ ∷ [], put.wrote) in
         note_stays qsbr tabled v.seen w.seen o later put.run (chain_used qsbr tabled v.seen (own_in v.chains).chain o (run_of qsbr tabled v.seen w.seen later put.run) (subst (λ (l : List ObjectId). In l o) (sym listed.0) h))
 
-    note_put : note_of w.seen (object_in u.object) ≡ (cell_in u.object, words_of key value rank)
-    note_put = ap (λ (l : Log). note_of l (object_in u.object)) put.wrote ∙ (at_object_same (object_in u.object) (cell_in u.object, payload_in u.object) (note_of put.before) ∙ ap (λ (l : List ℕ). (cell_in u.object, l)) words)
+    note_put : record_of w.seen (object_in u.object) ≡ (cell_in u.object, words_of key value rank)
+    note_put = ap (λ (l : Log). record_of l (object_in u.object)) put.wrote ∙ (at_object_same (object_in u.object) (cell_in u.object, payload_in u.object) (record_of put.before) ∙ ap (λ (l : List ℕ). (cell_in u.object, l)) words)
 
     pub put_value : (k : ℕ) → value_at (Some w) k ≡ (if key == k then Some value else value_at (Some v) k)
-    put_value k = ap (λ (l : List ObjectId). value_in (note_of w.seen) l k) list
-        ∙ (ap (λ (x : ℕ × List ℕ). if key_of x == k then Some (value_of x) else value_in (note_of w.seen) (list_in v) k) note_put
-        ∙ ap (λ (x : Option ℕ). if key == k then Some value else x) (value_same (note_of v.seen) (note_of w.seen) (list_in v) k note_still))
+    put_value k = ap (λ (l : List ObjectId). value_in (record_of w.seen) l k) list
+        ∙ (ap (λ (x : ℕ × List ℕ). if key_of x == k then Some (value_of x) else value_in (record_of w.seen) (list_in v) k) note_put
+        ∙ ap (λ (x : Option ℕ). if key == k then Some value else x) (value_same (record_of v.seen) (record_of w.seen) (list_in v) k note_still))
 
     pub put_holds : (own_in w.chains).note ≡ (own_in v.chains).note → lent_chains w.chains ≡ lent_chains v.chains → Holds (rank + 1) w
     put_holds note lent = record {
@@ -317,8 +317,8 @@ module _ (qsbr : Bool) (v : View) (seen heard owner : Log) (own : IsWriter v) (l
       unnoted = note ∙ holds.unnoted;
       alone = lent ∙ holds.alone;
       below = λ o h. ⊎_elim
-          (λ (is : object_in u.object ≡ o). let here : rank_of (note_of w.seen o) ≡ rank = ap (λ (p : ObjectId). rank_of (note_of w.seen p)) (sym is) ∙ ap rank_of note_put in omega arith)
-          (λ (was : In (list_in v) o). let low = holds.below o was in let same : rank_of (note_of w.seen o) ≡ rank_of (note_of v.seen o) = ap rank_of (note_still o was) in omega arith)
+          (λ (is : object_in u.object ≡ o). let here : rank_of (record_of w.seen o) ≡ rank = ap (λ (p : ObjectId). rank_of (record_of w.seen p)) (sym is) ∙ ap rank_of note_put in omega arith)
+          (λ (was : In (list_in v) o). let low = holds.below o was in let same : rank_of (record_of w.seen o) ≡ rank_of (record_of v.seen o) = ap rank_of (note_still o was) in omega arith)
           (subst (λ (l : List ObjectId). In l o) list h);
     }
 

@@ -10,7 +10,7 @@ use Rattle.rcu_model.proofs.Lemmas.{first_has}
 use Rattle.live_log.specs.declared.event.LiveEvent.{LiveEvent}
 use Rattle.live_log.specs.declared.event.LiveEvent.TheVariants.{Close, Object}
 use Rattle.live_log.specs.declared.event.ObjectEvent.TheVariants.{Replace}
-use Rattle.live_log.specs.Log.{Log, Begins, Has, IsLiveRun, note_of, open_of, state_of}
+use Rattle.live_log.specs.Log.{Log, Begins, Has, IsLiveRun, record_of, open_of, state_of}
 use Rattle.live_log.specs.Tables.{IsDirectory, IsReplaced, Names, kind_of, tabled}
 use Rattle.live_log.proofs.Lemmas.{begins_trans, chain_used, directory_alone, directory_there, has_later, left_stays, linked_or_replaced, note_stays, run_of, still}
 use Rattle.rcu_list.specs.Maps.{map_of, value_in}
@@ -30,7 +30,7 @@ module _ (chains key : ℕ) (x : ℕ × List ℕ) (led : leads chains x key ≡ 
   names = let m = mod_below key (buckets_in x) leads_by.1 in (omega arith, omega arith)
 
   -- where that directory is linked the table has what the bucket has
-  pub directed_is : (log : Log) (d : ℕ) (o : ObjectId) → (state_of log).chain d ≡ o ∷ [] → note_of log o ≡ x → directed_map chains d log key ≡ map_of log (bucket_in x key) key
+  pub directed_is : (log : Log) (d : ℕ) (o : ObjectId) → (state_of log).chain d ≡ o ∷ [] → record_of log o ≡ x → directed_map chains d log key ≡ map_of log (bucket_in x key) key
   directed_is log d o alone note =
       ap (λ (l : List ObjectId). value_through chains log (first_of l) key) alone
       ∙ (ap (λ (y : ℕ × List ℕ). cond (leads chains y key) (map_of log (bucket_in y key) key) None) note
@@ -39,12 +39,12 @@ module _ (chains key : ℕ) (x : ℕ × List ℕ) (led : leads chains x key ≡ 
 module _ (qsbr : Bool) where
   -- of two logs in which a chain has the same objects
   map_same : (old log : Log) (c key : ℕ) → Begins old log → IsLiveRun qsbr tabled log → (state_of log).chain c ≡ (state_of old).chain c → map_of log c key ≡ map_of old c key
-  map_same old log c key b run same = ap (λ (os : List ObjectId). value_in (note_of log) os key) same
-      ∙ value_same (note_of old) (note_of log) ((state_of old).chain c) key (λ o h. note_stays qsbr tabled old log o b run (chain_used qsbr tabled old c o (run_of qsbr tabled old log b run) h))
+  map_same old log c key b run same = ap (λ (os : List ObjectId). value_in (record_of log) os key) same
+      ∙ value_same (record_of old) (record_of log) ((state_of old).chain c) key (λ o h. note_stays qsbr tabled old log o b run (chain_used qsbr tabled old c o (run_of qsbr tabled old log b run) h))
 
-  module _ (start at log : Log) (chains d key : ℕ) (o : ObjectId) (slot ordinal copied : ℕ) (since : Begins start at) (later : Begins at log) (run : IsLiveRun qsbr tabled log) (first : first_of ((state_of start).chain d) ≡ Some o) (led : leads chains (note_of start o) key ≡ true) (opened : open_of slot start ≡ some (ordinal, copied)) (inside : ¬ Has (Close slot ordinal) log) where
+  module _ (start at log : Log) (chains d key : ℕ) (o : ObjectId) (slot ordinal copied : ℕ) (since : Begins start at) (later : Begins at log) (run : IsLiveRun qsbr tabled log) (first : first_of ((state_of start).chain d) ≡ Some o) (led : leads chains (record_of start o) key ≡ true) (opened : open_of slot start ≡ some (ordinal, copied)) (inside : ¬ Has (Close slot ordinal) log) where
     abbrev words : ℕ × List ℕ
-    words = note_of start o
+    words = record_of start o
 
     run_at : IsLiveRun qsbr tabled at
     run_at = run_of qsbr tabled at log later run
@@ -55,7 +55,7 @@ module _ (qsbr : Bool) where
     directory : IsDirectory words
     directory = directory_there qsbr start d o (run_of qsbr tabled start at since run_at) linked (leads_by chains key words led).0
 
-    note_later : (now : Log) → Begins start now → IsLiveRun qsbr tabled now → note_of now o ≡ words
+    note_later : (now : Log) → Begins start now → IsLiveRun qsbr tabled now → record_of now o ≡ words
     note_later now b here = note_stays qsbr tabled start now o b here (chain_used qsbr tabled start d o (run_of qsbr tabled start now b here) linked)
 
     -- the directory is linked in a log, where the bucket has this answer

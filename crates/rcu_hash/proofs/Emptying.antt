@@ -13,7 +13,7 @@ use Rattle.live_log.specs.declared.event.LiveEvent.{LiveEvent}
 use Rattle.live_log.specs.declared.event.LiveEvent.TheVariants.{ChainNote, Close, Object}
 use Rattle.live_log.specs.declared.event.ObjectEvent.TheVariants.{Cut, Queue, Replace, Retire}
 use Rattle.live_log.specs.Keys.{Falls}
-use Rattle.live_log.specs.Log.{Log, Begins, Has, HaveEnded, IsLiveRun, chain_note, note_of, state_of}
+use Rattle.live_log.specs.Log.{Log, Begins, Has, HaveEnded, IsLiveRun, chain_note, record_of, state_of}
 use Rattle.live_log.specs.Tables.{HasKey, IsDirectory, IsFree, IsNamed, tabled}
 use Rattle.live_log.proofs.Lemmas.{begins_trans, chain_used, falls_cut, has_later, is_noted, kept_log, left_is_freed, linked_between, note_stays, run_of, tabled_maps}
 use Rattle.rcu_list.specs.live_rule.declared.rights.ChainRight.{ChainRight}
@@ -95,7 +95,7 @@ module _ (qsbr : Bool) where
       left_is_freed qsbr w.mark log c d o goes run at here (subst IsDirectory (sym same) w.directory) noted (ended_later w.mark heard log b w.ended)
 
   -- an event that leaves each other chain leaves the table's map
-  pub map_left : (chains first buckets d c : ℕ) (o : ObjectId) (e : LiveEvent) (before log : Log) → 0 < buckets → first + buckets ≤ chains → log ≡ e ∷ before → IsLiveRun qsbr tabled log → (state_of before).chain d ≡ o ∷ [] → (note_of before o).1 ≡ words_by first buckets → ((k : ℕ) → k ≢ c → (state_of (e ∷ before)).chain k ≡ (state_of before).chain k) → d ≢ c → ∥ (c < first) ⊎ (first + buckets ≤ c) ∥₁ → (key : ℕ) → directed_map chains d log key ≡ directed_map chains d before key
+  pub map_left : (chains first buckets d c : ℕ) (o : ObjectId) (e : LiveEvent) (before log : Log) → 0 < buckets → first + buckets ≤ chains → log ≡ e ∷ before → IsLiveRun qsbr tabled log → (state_of before).chain d ≡ o ∷ [] → (record_of before o).1 ≡ words_by first buckets → ((k : ℕ) → k ≢ c → (state_of (e ∷ before)).chain k ≡ (state_of before).chain k) → d ≢ c → ∥ (c < first) ⊎ (first + buckets ≤ c) ∥₁ → (key : ℕ) → directed_map chains d log key ≡ directed_map chains d before key
   map_left chains first buckets d c o e before log many fits wrote run alone words others apart outside key =
       let step : IsLiveRun qsbr tabled (e ∷ before) = subst (IsLiveRun qsbr tabled) wrote run in
       let alone' : (state_of (e ∷ before)).chain d ≡ o ∷ [] = others d apart ∙ alone in
@@ -135,20 +135,20 @@ module _ (qsbr : Bool) where
           let note = note_stays qsbr tabled v.seen log p on.after_writer.0 run (chain_used qsbr tabled v.seen c p then (subst (λ (l : List ObjectId). In l p) (sym listed.0) at)) in (
             free,
             subst HasKey (sym note) (keys p at),
-            subst (Falls (note_of log)) (sym (at_number_same c (without_object p ((state_of log).chain c)) (state_of log).chain)) (falls_cut (note_of log) ((state_of log).chain c) p ((tabled_maps qsbr).falls log c run)),
+            subst (Falls (record_of log)) (sym (at_number_same c (without_object p ((state_of log).chain c)) (state_of log).chain)) (falls_cut (record_of log) ((state_of log).chain c) p ((tabled_maps qsbr).falls log c run)),
           )
 
-      pub may_clear_left : (n first buckets : ℕ) → c ≡ n → list_in v ≡ [] → In (state_of v.seen).used o → (note_of v.seen o).1 ≡ words_by first buckets → ∥ (c < first) ⊎ (first + buckets ≤ c) ∥₁ → MayPublish qsbr tabled v seen heard [] (ChainNote n 0)
+      pub may_clear_left : (n first buckets : ℕ) → c ≡ n → list_in v ≡ [] → In (state_of v.seen).used o → (record_of v.seen o).1 ≡ words_by first buckets → ∥ (c < first) ⊎ (first + buckets ≤ c) ∥₁ → MayPublish qsbr tabled v seen heard [] (ChainNote n 0)
       may_clear_left n first buckets number nothing used words outside log on run known made =
           let free = left_free d o heard log c waited on.after_caller.1 run (directed_there log known) (noted_there log known) in
           let none : (state_of log).chain c ≡ [] = (subst (AreAsKnown log) own known).0.0 ∙ nothing in
-          let then : (note_of log o).1 ≡ words_by first buckets = words_later qsbr v.seen log o on.after_writer.0 run first buckets used words in
+          let then : (record_of log o).1 ≡ words_by first buckets = words_later qsbr v.seen log o on.after_writer.0 run first buckets used words in
           let unnamed : ¬ IsNamed log c = λ m.
           let its : chain_note c log ≡ m.chain + 1 = (is_noted qsbr log c m.chain m.object run m.linked m.directory m.names).1 in
           let mine = noted_there log known in
           let here : m.chain ≡ d = omega (arith, its, mine) in
           let same : o ≡ m.object = only o m.object (subst (λ (l : List ObjectId). In l m.object) (ap (state_of log).chain here ∙ directed_there log known) m.linked) in
-          let its_words : (note_of log m.object).1 ≡ words_by first buckets = ap (λ (p : ObjectId). (note_of log p).1) (sym same) ∙ then in
+          let its_words : (record_of log m.object).1 ≡ words_by first buckets = ap (λ (p : ObjectId). (record_of log p).1) (sym same) ∙ then in
           let low : first ≤ c = subst (λ (w : List ℕ). slice_index_or w 0 0 ≤ c) its_words m.names.0 in
           let high : c < first + buckets = subst (λ (w : List ℕ). c < slice_index_or w 0 0 + slice_index_or w 1 0) its_words m.names.1 in
           ∥∥₁_elim outside (λ p q. absurd p) (λ out. ⊎_elim (λ under. absurd (omega (arith, low, under))) (λ over. absurd (omega (arith, high, over))) out) in

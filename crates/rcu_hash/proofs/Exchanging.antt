@@ -3,7 +3,7 @@ use Rattle.std.proofs.Common.{Bool, ◌≡◌, ℕ, ◌+◌, ◌%◌, ◌<◌, �
 use Rattle.std.proofs.lemmas.Nat.{mod_below}
 use Rattle.rcu_model.specs.declared.event.ObjectId.{ObjectId}
 use Rattle.rcu_model.specs.Sets.{In}
-use Rattle.live_log.specs.Log.{Log, Begins, IsLiveRun, chain_note, note_of, state_of}
+use Rattle.live_log.specs.Log.{Log, Begins, IsLiveRun, chain_note, record_of, state_of}
 use Rattle.live_log.specs.Tables.{tabled}
 use Rattle.live_log.proofs.Lemmas.{chain_used, note_stays, run_of}
 use Rattle.rcu_list.specs.live_rule.declared.rights.ChainRight.{ChainRight}
@@ -44,10 +44,10 @@ drop_first (suc n) (x ∷ xs) ys is = drop_first n xs ys (omega arith)
 
 module _ (qsbr : Bool) (log : Log) (run : IsLiveRun qsbr tabled log) where
   -- what a key has in the list of one writer it has in the log, in which the chain is as the writer knows it
-  value_known : (v : View) (key : ℕ) → IsListed v → Begins v.seen log → (state_of log).chain (own_in v.chains).chain ≡ list_in v → map_of log (own_in v.chains).chain key ≡ value_in (note_of v.seen) (list_in v) key
+  value_known : (v : View) (key : ℕ) → IsListed v → Begins v.seen log → (state_of log).chain (own_in v.chains).chain ≡ list_in v → map_of log (own_in v.chains).chain key ≡ value_in (record_of v.seen) (list_in v) key
   value_known v key listed saw is =
-      ap (λ (os : List ObjectId). value_in (note_of log) os key) is
-      ∙ value_same (note_of v.seen) (note_of log) (list_in v) key (λ o h. note_stays qsbr tabled v.seen log o saw run
+      ap (λ (os : List ObjectId). value_in (record_of log) os key) is
+      ∙ value_same (record_of v.seen) (record_of log) (list_in v) key (λ o h. note_stays qsbr tabled v.seen log o saw run
       (chain_used qsbr tabled v.seen (own_in v.chains).chain o (run_of qsbr tabled v.seen log saw run) (subst (λ (l : List ObjectId). In l o) (sym listed.0) h)))
 
   -- and in the chain of its bucket, where these are as they are known
@@ -58,11 +58,11 @@ module _ (qsbr : Bool) (log : Log) (run : IsLiveRun qsbr tabled log) where
       let next : first + suc k ≡ first + 1 + k = omega arith in ap (λ (c : ℕ). map_of log c key) next ∙ value_there (first + 1) k key vs known.1 from.1 listed.1 saw.1 (omega arith)
 
   -- so the map of a table whose buckets they are is told by them
-  pub map_told : (chains d first buckets : ℕ) (o : ObjectId) (key : ℕ) (vs : List View) → (state_of log).chain d ≡ o ∷ [] → (note_of log o).1 ≡ words_by first buckets → 0 < buckets → first + buckets ≤ chains → length vs ≡ buckets → AreAsKnown log (rights_of vs) → AreFrom first vs → Each IsListed vs → Each (SawBefore log) vs
+  pub map_told : (chains d first buckets : ℕ) (o : ObjectId) (key : ℕ) (vs : List View) → (state_of log).chain d ≡ o ∷ [] → (record_of log o).1 ≡ words_by first buckets → 0 < buckets → first + buckets ≤ chains → length vs ≡ buckets → AreAsKnown log (rights_of vs) → AreFrom first vs → Each IsListed vs → Each (SawBefore log) vs
       → directed_map chains d log key ≡ value_in_bucket buckets vs key
   map_told chains d first buckets o key vs alone words some fits many known from listed saw =
       let low = mod_below key buckets some in
-      directed_is chains key (note_of log o) (leads_all chains first buckets some fits (note_of log o) words key) log d o alone refl
+      directed_is chains key (record_of log o) (leads_all chains first buckets some fits (record_of log o) words key) log d o alone refl
       ∙ (ap (λ (w : List ℕ). map_of log (bucket_of (slice_index_or w 0 0) (slice_index_or w 1 0) key) key) words
       ∙ value_there first (key % buckets) key vs known from listed saw (omega arith))
 

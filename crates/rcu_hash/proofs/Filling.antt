@@ -7,7 +7,7 @@ use Rattle.rcu_model.proofs.Lemmas.{at_number_other, none_some, some_is}
 use Rattle.live_log.specs.declared.event.LiveEvent.{LiveEvent}
 use Rattle.live_log.specs.declared.event.LiveEvent.TheVariants.{ChainNote, Object}
 use Rattle.live_log.specs.declared.event.ObjectEvent.TheVariants.{Push}
-use Rattle.live_log.specs.Log.{Log, Begins, IsLiveRun, note_of, state_of}
+use Rattle.live_log.specs.Log.{Log, Begins, IsLiveRun, record_of, state_of}
 use Rattle.live_log.specs.Tables.{tabled}
 use Rattle.live_log.proofs.Lemmas.{begins_trans}
 use Rattle.rcu_list.specs.live_rule.declared.view.View.{View}
@@ -72,7 +72,7 @@ module _ (Tells : Log → LiveEvent → Log → Type 0) (goes : (heard : Log) (e
   notes_go note first (suc many) heard log n = begins_trans heard n.0 log (goes heard (ChainNote first note) n.0 n.1) (notes_go note (first + 1) many n.0 log n.2)
 
 -- between two logs in which a directory is linked
-module _ (qsbr : Bool) (seen : Log) (chains from buckets : ℕ) (some : 0 < buckets) (fits : from + buckets ≤ chains) (d : ℕ) (o : ObjectId) (old new : Log) (run : IsLiveRun qsbr tabled new) (was : (state_of old).chain d ≡ o ∷ []) (is : (state_of new).chain d ≡ o ∷ []) (words : (note_of old o).1 ≡ words_by from buckets) where
+module _ (qsbr : Bool) (seen : Log) (chains from buckets : ℕ) (some : 0 < buckets) (fits : from + buckets ≤ chains) (d : ℕ) (o : ObjectId) (old new : Log) (run : IsLiveRun qsbr tabled new) (was : (state_of old).chain d ≡ o ∷ []) (is : (state_of new).chain d ≡ o ∷ []) (words : (record_of old o).1 ≡ words_by from buckets) where
   -- an event that leaves all chains but one, which the directory does not name, leaves the table's map
   leaves_between : (heard : Log) (c : ℕ) (e : LiveEvent) (log : Log) → Begins old heard → Begins log new → ((before : Log) (k : ℕ) → k ≢ c → (state_of (e ∷ before)).chain k ≡ (state_of before).chain k) → (c < from) ⊎ (from + buckets ≤ c) → Writes qsbr tabled seen heard e log → LeavesMap qsbr tabled chains d seen heard e log
   leaves_between heard c e log since until others outside w = record {

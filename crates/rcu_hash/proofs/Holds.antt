@@ -10,7 +10,7 @@ use Rattle.rcu_model.proofs.Lemmas.{at_number_same, in_objects, replaced_there}
 use Rattle.live_log.specs.declared.event.LiveEvent.{LiveEvent}
 use Rattle.live_log.specs.declared.event.LiveEvent.TheVariants.{Close, Object}
 use Rattle.live_log.specs.declared.event.ObjectEvent.TheVariants.{Replace}
-use Rattle.live_log.specs.Log.{Log, Begins, Has, HaveEnded, IsLiveRun, chain_note, note_of, state_of}
+use Rattle.live_log.specs.Log.{Log, Begins, Has, HaveEnded, IsLiveRun, chain_note, record_of, state_of}
 use Rattle.live_log.specs.Tables.{IsDirectory, IsFree, IsReplaced, MayDirect, Names, tabled}
 use Rattle.live_log.proofs.Lemmas.{begins_trans, chain_used, linked_or_replaced, note_stays, noted_or_ended, replaced_note, run_of, unnoted_free}
 use Rattle.rcu_list.specs.live_rule.declared.rights.ChainRight.{ChainRight}
@@ -123,21 +123,21 @@ module _ (d : ℕ) (o : ObjectId) (first many : ℕ) (log : Log) (named : (c : �
 
 module _ (qsbr : Bool) where
   -- a directory that took the place of another one is linked, and is a directory
-  module _ (before : Log) (d : ℕ) (old new : ObjectId) (cell : ℕ) (payload : List ℕ) (run : IsLiveRun qsbr tabled (Object (Replace d old new cell payload) ∷ before)) (directory : IsDirectory (note_of before old)) where
+  module _ (before : Log) (d : ℕ) (old new : ObjectId) (cell : ℕ) (payload : List ℕ) (run : IsLiveRun qsbr tabled (Object (Replace d old new cell payload) ∷ before)) (directory : IsDirectory (record_of before old)) where
     abbrev left : Log
     left = Object (Replace d old new cell payload) ∷ before
 
     took_place : In ((state_of left).chain d) new
     took_place = subst (λ (l : List ObjectId). In l new) (sym (at_number_same d (replaced old new ((state_of before).chain d)) (state_of before).chain)) (replaced_there old new ((state_of before).chain d) (in_objects ((state_of before).chain d) old run.0.0.0))
 
-    is_directory : IsDirectory (note_of left new)
+    is_directory : IsDirectory (record_of left new)
     is_directory = subst IsDirectory (sym (replaced_note qsbr tabled left d old new cell payload run (inl refl))) (⊎_elim
         (λ k. let zero_kind = k.1 in let one_kind = directory.0 in absurd (omega arith))
         (λ k. k.0)
         run.0.1.1)
 
   -- one that replaced it later came after less
-  module _ (since before log : Log) (d : ℕ) (old new : ObjectId) (cell : ℕ) (payload : List ℕ) (is : log ≡ since ++ Object (Replace d old new cell payload) ∷ before) (run : IsLiveRun qsbr tabled log) (directory : IsDirectory (note_of before old)) (r : IsReplaced (Object (Replace d old new cell payload) ∷ before) log d new) where
+  module _ (since before log : Log) (d : ℕ) (old new : ObjectId) (cell : ℕ) (payload : List ℕ) (is : log ≡ since ++ Object (Replace d old new cell payload) ∷ before) (run : IsLiveRun qsbr tabled log) (directory : IsDirectory (record_of before old)) (r : IsReplaced (Object (Replace d old new cell payload) ∷ before) log d new) where
     abbrev then : Log
     then = Object (Replace d old new cell payload) ∷ before
 
@@ -149,7 +149,7 @@ module _ (qsbr : Bool) where
         let three : length r.before ≡ length r.after.0 + length then = ap length r.after.1 ∙ length-append r.after.0 then in
         let four : length z ≡ length r.before + 1 = omega arith in omega arith
 
-    is_directory_still : IsDirectory (note_of r.before new)
+    is_directory_still : IsDirectory (record_of r.before new)
     is_directory_still =
         let step : IsLiveRun qsbr tabled then = run_of qsbr tabled then log (since, is) run in
         let goes : Begins r.before log = begins_trans r.before (Object (Replace d new r.new r.cell r.payload) ∷ r.before) log (Object (Replace d new r.new r.cell r.payload) ∷ [], refl) (r.since, r.is) in
@@ -157,7 +157,7 @@ module _ (qsbr : Bool) where
         subst IsDirectory (sym same) (is_directory before d old new cell payload step directory)
 
   -- where a directory was replaced there is one still
-  pub stays_directed : (n : ℕ) (since before log : Log) (d : ℕ) (old new : ObjectId) (cell : ℕ) (payload : List ℕ) → length since ≤ n → log ≡ since ++ Object (Replace d old new cell payload) ∷ before → IsLiveRun qsbr tabled log → IsDirectory (note_of before old) → (state_of log).chain d ≢ []
+  pub stays_directed : (n : ℕ) (since before log : Log) (d : ℕ) (old new : ObjectId) (cell : ℕ) (payload : List ℕ) → length since ≤ n → log ≡ since ++ Object (Replace d old new cell payload) ∷ before → IsLiveRun qsbr tabled log → IsDirectory (record_of before old) → (state_of log).chain d ≢ []
   stays_directed zero since before log d old new cell payload short is run directory none =
       let x : Log = Object (Replace d old new cell payload) ∷ before in
       let step : IsLiveRun qsbr tabled x = run_of qsbr tabled x log (since, is) run in ⊎_elim
@@ -220,21 +220,21 @@ top x [] = x
 top x (e ∷ es) = e
 
 -- a chain stays free over an event that replaces no directory that names it
-pub free_after : (before log : Log) (x : LiveEvent) (c : ℕ) → log ≡ x ∷ before → ((d : ℕ) (old new : ObjectId) (cell : ℕ) (payload : List ℕ) → x ≡ Object (Replace d old new cell payload) → IsDirectory (note_of before old) → Names (note_of before old) c → ⊥) → IsFree before c → IsFree log c
+pub free_after : (before log : Log) (x : LiveEvent) (c : ℕ) → log ≡ x ∷ before → ((d : ℕ) (old new : ObjectId) (cell : ℕ) (payload : List ℕ) → x ≡ Object (Replace d old new cell payload) → IsDirectory (record_of before old) → Names (record_of before old) c → ⊥) → IsFree before c → IsFree log c
 free_after before log x c wrote other free [] then d old new cell payload is directory names =
     let same : before ≡ then = ap rest (sym wrote ∙ is) in
-    absurd (other d old new cell payload (ap (top x) (sym wrote ∙ is)) (subst (λ (l : Log). IsDirectory (note_of l old)) (sym same) directory) (subst (λ (l : Log). Names (note_of l old) c) (sym same) names))
+    absurd (other d old new cell payload (ap (top x) (sym wrote ∙ is)) (subst (λ (l : Log). IsDirectory (record_of l old)) (sym same) directory) (subst (λ (l : Log). Names (record_of l old) c) (sym same) names))
 free_after before log x c wrote other free (y ∷ since) then d old new cell payload is directory names =
     λ r n m opened. subst (Has (Close r n)) (sym wrote) (inr (free since then d old new cell payload (ap rest (sym wrote ∙ is)) directory names r n m opened))
 
 -- a writer that has seen the log in which the directory names its chain, which is free
-pub named_by : (log : Log) (d : ℕ) (o : ObjectId) (first many c : ℕ) (v : View) → Begins log v.seen → (state_of log).chain d ≡ o ∷ [] → (note_of log o).1 ≡ words_by first many → first ≤ c → c < first + many → (own_in v.chains).chain ≡ c → IsFree log c → IsNamedBy d o v
+pub named_by : (log : Log) (d : ℕ) (o : ObjectId) (first many c : ℕ) (v : View) → Begins log v.seen → (state_of log).chain d ≡ o ∷ [] → (record_of log o).1 ≡ words_by first many → first ≤ c → c < first + many → (own_in v.chains).chain ≡ c → IsFree log c → IsNamedBy d o v
 named_by log d o first many c v saw alone words low high is free = ∣ record {
   known = log;
   before = saw;
   linked = subst (λ (l : List ObjectId). In l o) (sym alone) (inl refl);
-  directory = subst (λ (w : List ℕ). IsDirectory ((note_of log o).0, w)) (sym words) (refl, refl);
-  names = subst (λ (w : List ℕ). Names ((note_of log o).0, w) (own_in v.chains).chain) (sym words) (subst (λ (k : ℕ). (first ≤ k) × (k < first + many)) (sym is) (low, high));
+  directory = subst (λ (w : List ℕ). IsDirectory ((record_of log o).0, w)) (sym words) (refl, refl);
+  names = subst (λ (w : List ℕ). Names ((record_of log o).0, w) (own_in v.chains).chain) (sym words) (subst (λ (k : ℕ). (first ≤ k) × (k < first + many)) (sym is) (low, high));
   is_free = subst (IsFree log) (sym is) free;
 } ∣₁
 
@@ -264,5 +264,5 @@ module _ (qsbr : Bool) (v u : View) (x : ChainRight) (d first many : ℕ) (vs : 
   )
 
   -- or takes the place of another directory
-  pub may_redirect : (seen heard : Log) (o : ObjectId) → ((log : Log) → Begins v.seen log → IsLiveRun qsbr tabled log → AreAsKnown log v.chains → IsDirectory (note_of log o)) → MayPublish qsbr tabled v seen heard u.seen (replace_by o v u)
+  pub may_redirect : (seen heard : Log) (o : ObjectId) → ((log : Log) → Begins v.seen log → IsLiveRun qsbr tabled log → AreAsKnown log v.chains → IsDirectory (record_of log o)) → MayPublish qsbr tabled v seen heard u.seen (replace_by o v u)
   may_redirect seen heard o directory log goes run known may = (own_free log run known, inr (is_directory_by (cell_in u.object), directory log goes.after_writer.0 run known, directs log (cell_in u.object) known))

@@ -8,7 +8,7 @@ use mathlib.Core.Logic.{dite}
 use native.Mathlib.Decide.{dec_le}
 use Rattle.rcu_model.specs.declared.event.ObjectId.{ObjectId}
 use Rattle.live_log.specs.declared.event.LiveEvent.TheVariants.{Close}
-use Rattle.live_log.specs.Log.{Log, Begins, Has, note_of}
+use Rattle.live_log.specs.Log.{Log, Begins, Has, record_of}
 use Rattle.live_log.specs.Tables.{kind_of, tabled}
 use Rattle.live_log.proofs.Lemmas.{begins_trans}
 use Rattle.rcu_list.specs.live_read.declared.reader_core.ReaderCore.{ReaderCore}
@@ -61,17 +61,17 @@ module _ (seen heard start new : Log) (chains d : ℕ) where
 -- a lookup by a reader in a section
 module _ {P K : Type 0} {g : plan.Ghosts P} (qsbr : Bool) (chains d : ℕ) (r s t : ReaderCore P K g) (o : ObjectId) (first : FindsFirst r d (Some o)) where
   -- the object is no directory that leads the key
-  pub answers_nowhere : (key : ℕ) → leads chains (note_of (log_of r) o) key ≡ false → Begins (log_of r) (log_of s) → AnswersThrough (log_of r) (log_of r) (log_of s) chains d key None
+  pub answers_nowhere : (key : ℕ) → leads chains (record_of (log_of r) o) key ≡ false → Begins (log_of r) (log_of s) → AnswersThrough (log_of r) (log_of r) (log_of s) chains d key None
   answers_nowhere key nowhere b = record {
     at = log_of r;
     after_seen = ([], refl);
     after_heard = ([], refl);
     before = b;
-    is = ap (λ (f : Option ObjectId). value_through chains (log_of r) f key) first ∙ ap (λ (y : Bool). cond y (map_of (log_of r) (bucket_in (note_of (log_of r) o) key) key) None) nowhere;
+    is = ap (λ (f : Option ObjectId). value_through chains (log_of r) f key) first ∙ ap (λ (y : Bool). cond y (map_of (log_of r) (bucket_in (record_of (log_of r) o) key) key) None) nowhere;
   }
 
   -- it is one, and the bucket answers
-  pub answers_there : (key c : ℕ) (answer : Option ℕ) → leads chains (note_of (log_of r) o) key ≡ true → c ≡ bucket_in (note_of (log_of r) o) key → IsIn r → Looks qsbr tabled r s → Looks qsbr tabled s t → AnswersBetween (log_of s) s.seat.me.0.heard (log_of t) c key answer → AnswersThrough (log_of r) (log_of r) (log_of t) chains d key answer
+  pub answers_there : (key c : ℕ) (answer : Option ℕ) → leads chains (record_of (log_of r) o) key ≡ true → c ≡ bucket_in (record_of (log_of r) o) key → IsIn r → Looks qsbr tabled r s → Looks qsbr tabled s t → AnswersBetween (log_of s) s.seat.me.0.heard (log_of t) c key answer → AnswersThrough (log_of r) (log_of r) (log_of t) chains d key answer
   answers_there key c answer led is inside a b between =
       let both = looks_twice qsbr tabled r s t a b in
       let closed : ¬ Has (Close r.slot (ordinal r)) (log_of t) = λ h. b.inside.inside.1 (subst (λ (x : ℕ × ℕ). Has (Close x.0 x.1) (log_of t)) (λ i. (sym both.same.0 i, sym both.same.4 i)) h) in
@@ -80,9 +80,9 @@ module _ {P K : Type 0} {g : plan.Ghosts P} (qsbr : Bool) (chains d : ℕ) (r s 
       subst (AnswersThrough (log_of r) (log_of r) (log_of t) chains d key) (ap (λ (n : ℕ). map_of between.at n key) (sym is) ∙ between.is) found
 
 -- what the words of an object tell is so of its payload
-module _ {P K : Type 0} {g : plan.Ghosts P} (qsbr : Bool) (chains d : ℕ) (r : ReaderCore P K g) (o : ObjectId) (first : FindsFirst r d (Some o)) (kind low many : ℕ) (words : (kind ≡ kind_of (note_of (log_of r) o)) × (low ≡ first_in (note_of (log_of r) o)) × (many ≡ buckets_in (note_of (log_of r) o))) where
+module _ {P K : Type 0} {g : plan.Ghosts P} (qsbr : Bool) (chains d : ℕ) (r : ReaderCore P K g) (o : ObjectId) (first : FindsFirst r d (Some o)) (kind low many : ℕ) (words : (kind ≡ kind_of (record_of (log_of r) o)) × (low ≡ first_in (record_of (log_of r) o)) × (many ≡ buckets_in (record_of (log_of r) o))) where
   abbrev x : ℕ × List ℕ
-  x = note_of (log_of r) o
+  x = record_of (log_of r) o
 
   pub leads_words : (key : ℕ) (b : Bool) → leads_to chains kind low many key ≡ b → leads chains x key ≡ b
   leads_words key b is = (λ i. leads_to chains (sym words.0 i) (sym words.1 i) (sym words.2 i) key) ∙ is

@@ -5,7 +5,7 @@ use Rattle.std.proofs.lemmas.Bool.{lt-ltb}
 use Rattle.std.proofs.lemmas.Nat.{mod_below}
 use Rattle.rcu_model.specs.declared.event.ObjectId.{ObjectId}
 use Rattle.rcu_model.specs.Sets.{In, first_of}
-use Rattle.live_log.specs.Log.{Log, Begins, IsLiveRun, note_of, state_of}
+use Rattle.live_log.specs.Log.{Log, Begins, IsLiveRun, record_of, state_of}
 use Rattle.live_log.specs.declared.event.LiveEvent.{LiveEvent}
 use Rattle.live_log.specs.Keys.{key_of, rank_of}
 use Rattle.live_log.specs.Tables.{IsDirectory, IsFree, tabled}
@@ -47,10 +47,10 @@ may_write_named qsbr v known d o x began lent is alone named log begins run note
 -- a record that was ready is so in a later log, in which the chain is the same
 pub ready_later : (qsbr : Bool) (v w u : View) (key value : ℕ) → IsListed v → Begins v.seen w.seen → IsLiveRun qsbr tabled w.seen → list_in w ≡ list_in v → MayComeIn v u key value → MayComeIn w u key value
 ready_later qsbr v w u key value listed later run same ready =
-    let note : (o : ObjectId) → In (list_in v) o → note_of w.seen o ≡ note_of v.seen o = λ o had. note_stays qsbr tabled v.seen w.seen o later run (chain_used qsbr tabled v.seen (own_in v.chains).chain o (run_of qsbr tabled v.seen w.seen later run) (subst (λ (l : List ObjectId). In l o) (sym listed.0) had)) in record {
+    let note : (o : ObjectId) → In (list_in v) o → record_of w.seen o ≡ record_of v.seen o = λ o had. note_stays qsbr tabled v.seen w.seen o later run (chain_used qsbr tabled v.seen (own_in v.chains).chain o (run_of qsbr tabled v.seen w.seen later run) (subst (λ (l : List ObjectId). In l o) (sym listed.0) had)) in record {
       rank = ready.rank;
       words = ready.words;
-      next = ready.next ∙ (sym (rank_same (note_of v.seen) (note_of w.seen) (list_in v) note) ∙ ap (next_rank (note_of w.seen)) (sym same));
+      next = ready.next ∙ (sym (rank_same (record_of v.seen) (record_of w.seen) (list_in v) note) ∙ ap (next_rank (record_of w.seen)) (sym same));
       others = λ o h.
           let had : In (list_in v) o = subst (λ (l : List ObjectId). In l o) same h in
           subst (λ (x : ℕ × List ℕ). (key_of x ≢ key) × (rank_of x < ready.rank)) (sym (note o had)) (ready.others o had);
@@ -58,7 +58,7 @@ ready_later qsbr v w u key value listed later run same ready =
 
 pub over_later : (qsbr : Bool) (v w u : View) (key value index : ℕ) → IsListed v → Begins v.seen w.seen → IsLiveRun qsbr tabled w.seen → list_in w ≡ list_in v → MayTakeOver v u key value index → MayTakeOver w u key value index
 over_later qsbr v w u key value index listed later run same ready =
-    let note : (o : ObjectId) → In (list_in v) o → note_of w.seen o ≡ note_of v.seen o = λ o had. note_stays qsbr tabled v.seen w.seen o later run (chain_used qsbr tabled v.seen (own_in v.chains).chain o (run_of qsbr tabled v.seen w.seen later run) (subst (λ (l : List ObjectId). In l o) (sym listed.0) had)) in
+    let note : (o : ObjectId) → In (list_in v) o → record_of w.seen o ≡ record_of v.seen o = λ o had. note_stays qsbr tabled v.seen w.seen o later run (chain_used qsbr tabled v.seen (own_in v.chains).chain o (run_of qsbr tabled v.seen w.seen later run) (subst (λ (l : List ObjectId). In l o) (sym listed.0) had)) in
     let f = ready.found in
     let at : (k : ℕ) (o : ObjectId) → slice_get (list_in w) k ≡ Some o → slice_get (list_in v) k ≡ Some o = λ k o is. ap (λ (l : List ObjectId). slice_get l k) (sym same) ∙ is in record {
       rank = ready.rank;
@@ -77,7 +77,7 @@ module _ (qsbr : Bool) (old later : Log) (o : ObjectId) (b : Begins old later) (
   pub used_later : In (state_of old).used o → In (state_of later).used o
   used_later h = (grows_log old later b).used o h
 
-  pub words_later : (first buckets : ℕ) → In (state_of old).used o → (note_of old o).1 ≡ words_by first buckets → (note_of later o).1 ≡ words_by first buckets
+  pub words_later : (first buckets : ℕ) → In (state_of old).used o → (record_of old o).1 ≡ words_by first buckets → (record_of later o).1 ≡ words_by first buckets
   words_later first buckets used words = ap (λ (x : ℕ × List ℕ). x.1) (note_stays qsbr tabled old later o b run used) ∙ words
 
 -- the one object of a writer's chain, and of a chain that was lent to it, was put into a chain
@@ -91,7 +91,7 @@ pub lent_used : (qsbr : Bool) (log : Log) (d : ℕ) (o : ObjectId) → IsLiveRun
 lent_used qsbr log d o run alone = chain_used qsbr tabled log d o run (subst (λ (l : List ObjectId). In l o) (sym alone) (inl refl))
 
 -- where a directory is the one object of its chain it leads each key to its bucket
-pub leads_there : (log : Log) (d : ℕ) (o : ObjectId) (first buckets key : ℕ) → (state_of log).chain d ≡ o ∷ [] → (note_of log o).1 ≡ words_by first buckets → LeadsTo d log key (bucket_of first buckets key)
+pub leads_there : (log : Log) (d : ℕ) (o : ObjectId) (first buckets key : ℕ) → (state_of log).chain d ≡ o ∷ [] → (record_of log o).1 ≡ words_by first buckets → LeadsTo d log key (bucket_of first buckets key)
 leads_there log d o first buckets key alone words = (o, ap first_of alone, ap (λ (w : List ℕ). bucket_of (slice_index_or w 0 0) (slice_index_or w 1 0) key) words)
 
 -- a directory leads each key to its bucket
@@ -103,17 +103,17 @@ module _ (chains first buckets : ℕ) (many : 0 < buckets) (fits : first + bucke
       let low : bucket_of first buckets key < chains = omega arith in
       (λ i. (lt-ltb 0 buckets many i) && (lt-ltb (bucket_of first buckets key) chains low i)))
 
-  module _ (qsbr : Bool) (d : ℕ) (o : ObjectId) (old log new : Log) (b : Begins old log) (later : Begins log new) (run : IsLiveRun qsbr tabled new) (was : (state_of old).chain d ≡ o ∷ []) (is : (state_of new).chain d ≡ o ∷ []) (words : (note_of old o).1 ≡ words_by first buckets) where
+  module _ (qsbr : Bool) (d : ℕ) (o : ObjectId) (old log new : Log) (b : Begins old log) (later : Begins log new) (run : IsLiveRun qsbr tabled new) (was : (state_of old).chain d ≡ o ∷ []) (is : (state_of new).chain d ≡ o ∷ []) (words : (record_of old o).1 ≡ words_by first buckets) where
     here : IsLiveRun qsbr tabled log
     here = run_of qsbr tabled log new later run
 
     there : In ((state_of old).chain d) o
     there = subst (λ (l : List ObjectId). In l o) (sym was) (inl refl)
 
-    directory : IsDirectory (note_of old o)
-    directory = subst (λ (w : List ℕ). IsDirectory ((note_of old o).0, w)) (sym words) (refl, refl)
+    directory : IsDirectory (record_of old o)
+    directory = subst (λ (w : List ℕ). IsDirectory ((record_of old o).0, w)) (sym words) (refl, refl)
 
-    note : note_of log o ≡ note_of old o
+    note : record_of log o ≡ record_of old o
     note = note_stays qsbr tabled old log o b here (chain_used qsbr tabled old d o (run_of qsbr tabled old log b here) there)
 
     -- between two logs in which it is linked the directory is alone in its chain
@@ -125,11 +125,11 @@ module _ (chains first buckets : ℕ) (many : 0 < buckets) (fits : first + bucke
     -- and the table's map is that of its buckets
     pub directed_between : (key : ℕ) → directed_map chains d log key ≡ map_of log (bucket_of first buckets key) key
     directed_between key =
-        directed_is chains key (note_of old o) (leads_all (note_of old o) words key) log d o alone_between note
+        directed_is chains key (record_of old o) (leads_all (record_of old o) words key) log d o alone_between note
         ∙ ap (λ (w : List ℕ). map_of log (bucket_of (slice_index_or w 0 0) (slice_index_or w 1 0) key) key) words
 
   -- so what changes a bucket changes the table
-  module _ (qsbr : Bool) (d : ℕ) (o : ObjectId) (old new : Log) (run : IsLiveRun qsbr tabled new) (was : (state_of old).chain d ≡ o ∷ []) (is : (state_of new).chain d ≡ o ∷ []) (words : (note_of old o).1 ≡ words_by first buckets) (seen heard : Log) (key : ℕ) (log : Log) (since : (before : Log) (e : LiveEvent) → log ≡ e ∷ before → Begins old before) (later : Begins log new) where
+  module _ (qsbr : Bool) (d : ℕ) (o : ObjectId) (old new : Log) (run : IsLiveRun qsbr tabled new) (was : (state_of old).chain d ≡ o ∷ []) (is : (state_of new).chain d ≡ o ∷ []) (words : (record_of old o).1 ≡ words_by first buckets) (seen heard : Log) (key : ℕ) (log : Log) (since : (before : Log) (e : LiveEvent) → log ≡ e ∷ before → Begins old before) (later : Begins log new) where
     module _ (event : LiveEvent) (had has : Option ℕ) (c : Changes qsbr tabled first buckets seen heard event key had has log) where
       abbrev before : Log
       before = c.before

@@ -3,7 +3,7 @@ use Rattle.std.proofs.Common.{Bool, ◌≡◌, ◌⊎◌, ℕ, ◌+◌, ◌≤�
 use Rattle.rcu_model.specs.declared.event.ObjectId.{ObjectId}
 use Rattle.rcu_model.specs.Sets.{In}
 use Rattle.live_log.specs.declared.event.LiveEvent.{LiveEvent}
-use Rattle.live_log.specs.Log.{Log, Begins, IsLiveRun, note_of}
+use Rattle.live_log.specs.Log.{Log, Begins, IsLiveRun, record_of}
 use Rattle.live_log.specs.Tables.{HasKey, tabled}
 use Rattle.live_log.proofs.Lemmas.{begins_trans, chain_used, note_stays, run_of}
 use Rattle.rcu_list.specs.live_rule.declared.view.View.{View}
@@ -28,7 +28,7 @@ numbers_from (x ∷ xs) (y ∷ ys) first number view is same from =
 
 module _ (qsbr : Bool) where
   -- the objects of a chain have the notes that they had, where its writer has gone on
-  note_same : (v w : View) (o : ObjectId) → IsSame v w → IsListed v → IsLiveRun qsbr tabled w.seen → In (list_in v) o → note_of w.seen o ≡ note_of v.seen o
+  note_same : (v w : View) (o : ObjectId) → IsSame v w → IsListed v → IsLiveRun qsbr tabled w.seen → In (list_in v) o → record_of w.seen o ≡ record_of v.seen o
   note_same v w o same listed run has = note_stays qsbr tabled v.seen w.seen o same.2 run
       (chain_used qsbr tabled v.seen (own_in v.chains).chain o (run_of qsbr tabled v.seen w.seen same.2 run) (subst (λ (l : List ObjectId). In l o) (sym listed.0) has))
 
@@ -44,7 +44,7 @@ module _ (qsbr : Bool) where
   pair_values [] (w ∷ ws) k key p listed runs = absurd p
   pair_values (v ∷ vs) [] k key p listed runs = absurd p
   pair_values (v ∷ vs) (w ∷ ws) zero key p listed runs =
-      ap (λ (os : List ObjectId). value_in (note_of w.seen) os key) p.0.1 ∙ value_same (note_of v.seen) (note_of w.seen) (list_in v) key (λ o has. note_same v w o p.0 listed.0 runs.0 has)
+      ap (λ (os : List ObjectId). value_in (record_of w.seen) os key) p.0.1 ∙ value_same (record_of v.seen) (record_of w.seen) (list_in v) key (λ o has. note_same v w o p.0 listed.0 runs.0 has)
   pair_values (v ∷ vs) (w ∷ ws) (suc k) key p listed runs = pair_values vs ws k key p.1 listed.1 runs.1
 
 -- what came after one log came after an earlier one

@@ -9,7 +9,7 @@ use Rattle.rcu_model.proofs.Lemmas.{at_number_other, at_number_same, object_tell
 use Rattle.live_log.specs.declared.event.LiveEvent.{LiveEvent}
 use Rattle.live_log.specs.declared.event.LiveEvent.TheVariants.{Close, Object}
 use Rattle.live_log.specs.declared.event.ObjectEvent.TheVariants.{Replace}
-use Rattle.live_log.specs.Log.{Log, Begins, Has, IsLiveRun, chain_note, note_of, state_of}
+use Rattle.live_log.specs.Log.{Log, Begins, Has, IsLiveRun, chain_note, record_of, state_of}
 use Rattle.live_log.specs.Tables.{HasKey, IsDirectory, IsFree, MayDirect, Names, tabled}
 use Rattle.live_log.proofs.Lemmas.{begins_trans, chain_used, has_later, is_noted, linked_between, note_stays, replaced_note, run_of, stays_free, unnoted_free}
 use Rattle.rcu_list.specs.live_rule.Seats.{lent_chains}
@@ -58,11 +58,11 @@ keys_back qsbr log (v ∷ vs) (w ∷ ws) same listed keys saw seen runs =
     )
 
 -- an object with these words is a directory
-pub directory_by : (log : Log) (o : ObjectId) (first many : ℕ) → (note_of log o).1 ≡ words_by first many → IsDirectory (note_of log o)
-directory_by log o first many words = subst (λ (w : List ℕ). IsDirectory ((note_of log o).0, w)) (sym words) (refl, refl)
+pub directory_by : (log : Log) (o : ObjectId) (first many : ℕ) → (record_of log o).1 ≡ words_by first many → IsDirectory (record_of log o)
+directory_by log o first many words = subst (λ (w : List ℕ). IsDirectory ((record_of log o).0, w)) (sym words) (refl, refl)
 
 -- the words of a writer's one object stay
-pub words_since : (qsbr : Bool) (v : View) (log : Log) (o : ObjectId) (first many : ℕ) → Begins v.seen log → IsLiveRun qsbr tabled log → IsListed v → list_in v ≡ o ∷ [] → (note_of v.seen o).1 ≡ words_by first many → (note_of log o).1 ≡ words_by first many
+pub words_since : (qsbr : Bool) (v : View) (log : Log) (o : ObjectId) (first many : ℕ) → Begins v.seen log → IsLiveRun qsbr tabled log → IsListed v → list_in v ≡ o ∷ [] → (record_of v.seen o).1 ≡ words_by first many → (record_of log o).1 ≡ words_by first many
 words_since qsbr v log o first many b run listed alone words = words_later qsbr v.seen log o b run first many (own_used qsbr v o (run_of qsbr tabled v.seen log b run) listed alone) words
 
 -- the writer of a directory's chain may replace it, to which the rights to the chains of both directories are lent
@@ -81,7 +81,7 @@ module _ (qsbr : Bool) (v u : View) (x : ChainRight) (d first many : ℕ) (vs us
         known_note log (d + 1) us first e news from notes within.0 (let a = within.1 in omega arith) ∙ ap (λ (c : ℕ). c + 1) (sym own_is),
       )
 
-  pub may_relink : (seen heard : Log) (o : ObjectId) → ((log : Log) → Begins v.seen log → IsLiveRun qsbr tabled log → IsDirectory (note_of log o)) → MayPublish qsbr tabled v seen heard u.seen (replace_by o v u)
+  pub may_relink : (seen heard : Log) (o : ObjectId) → ((log : Log) → Begins v.seen log → IsLiveRun qsbr tabled log → IsDirectory (record_of log o)) → MayPublish qsbr tabled v seen heard u.seen (replace_by o v u)
   may_relink seen heard o directory log goes run known may = (
     own_free log run known,
     inr (subst (λ (w : List ℕ). IsDirectory (cell_in u.object, w)) (sym words) (refl, refl), directory log goes.after_writer.0 run, directs log (cell_in u.object) known),
@@ -102,11 +102,11 @@ module _ (qsbr : Bool) (d : ℕ) (o new : ObjectId) (cell first many : ℕ) (bef
   run_before : IsLiveRun qsbr tabled before
   run_before = run_of qsbr tabled before log goes run
 
-  pub words_after : (note_of log new).1 ≡ words_by first many
+  pub words_after : (record_of log new).1 ≡ words_by first many
   words_after = ap (λ (x : ℕ × List ℕ). x.1) (replaced_note qsbr tabled log d o new cell (words_by first many) run (subst (Has event) (sym wrote) (inl refl)))
 
   -- where the rights to the chains of both directories are known
-  module _ (old_first old_many : ℕ) (x : ChainRight) (vs us : List View) (known : AreAsKnown before (x ∷ (rights_of vs ++ rights_of us))) (own : x.chain ≡ d) (alone : x.objects ≡ o ∷ []) (words : (note_of before o).1 ≡ words_by old_first old_many) (from_old : AreFrom old_first vs) (many_old : length vs ≡ old_many) (from : AreFrom first us) (here : length us ≡ many) (apart : (d < first) ⊎ (first + many ≤ d)) where
+  module _ (old_first old_many : ℕ) (x : ChainRight) (vs us : List View) (known : AreAsKnown before (x ∷ (rights_of vs ++ rights_of us))) (own : x.chain ≡ d) (alone : x.objects ≡ o ∷ []) (words : (record_of before o).1 ≡ words_by old_first old_many) (from_old : AreFrom old_first vs) (many_old : length vs ≡ old_many) (from : AreFrom first us) (here : length us ≡ many) (apart : (d < first) ⊎ (first + many ≤ d)) where
     known_old : AreAsKnown before (rights_of vs)
     known_old = (known_both before (rights_of vs) (rights_of us) known.1).0
 
@@ -119,7 +119,7 @@ module _ (qsbr : Bool) (d : ℕ) (o new : ObjectId) (cell first many : ℕ) (bef
     linked : In ((state_of before).chain d) o
     linked = subst (λ (l : List ObjectId). In l o) (sym alone_before) (inl refl)
 
-    directory : IsDirectory (note_of before o)
+    directory : IsDirectory (record_of before o)
     directory = directory_by before o old_first old_many words
 
     pub alone_after : (state_of log).chain d ≡ new ∷ []
@@ -127,7 +127,7 @@ module _ (qsbr : Bool) (d : ℕ) (o new : ObjectId) (cell first many : ℕ) (bef
 
     -- the chains that the old one named have its note
     named_old : (c : ℕ) → old_first ≤ c → c < old_first + old_many → chain_note c before ≡ d + 1
-    named_old c low high = (is_noted qsbr before c d o run_before linked directory (subst (λ (w : List ℕ). Names ((note_of before o).0, w) c) (sym words) (low, high))).1
+    named_old c low high = (is_noted qsbr before c d o run_before linked directory (subst (λ (w : List ℕ). Names ((record_of before o).0, w) c) (sym words) (low, high))).1
 
     pub noted_old : Each (HasNote (d + 1)) vs
     noted_old = noted_each qsbr before run_before d old_first old_many old_first vs named_old (omega arith) (omega arith) from_old known_old
@@ -160,10 +160,10 @@ module _ (qsbr : Bool) (d : ℕ) (o new : ObjectId) (cell first many : ℕ) (bef
           let b : Begins start before = begins_trans start v.seen before noted.before saw in
           let h : Begins heard before = begins_trans heard start before noted.after b in
           let at_heard : In ((state_of heard).chain d) o = subst (λ (l : List ObjectId). In l o) (sym was) (inl refl) in
-          let same : note_of before o ≡ note_of heard o = note_stays qsbr tabled heard before o h run_before (chain_used qsbr tabled heard d o (run_of qsbr tabled heard before h run_before) at_heard) in
+          let same : record_of before o ≡ record_of heard o = note_stays qsbr tabled heard before o h run_before (chain_used qsbr tabled heard d o (run_of qsbr tabled heard before h run_before) at_heard) in
           let at : In ((state_of start).chain d) o = linked_between qsbr heard start before d o noted.after b run_before at_heard (subst IsDirectory same directory) linked in
           let run_start : IsLiveRun qsbr tabled start = run_of qsbr tabled start before b run_before in
-          let same_start : note_of before o ≡ note_of start o = note_stays qsbr tabled start before o b run_before (chain_used qsbr tabled start d o run_start at) in
+          let same_start : record_of before o ≡ record_of start o = note_stays qsbr tabled start before o b run_before (chain_used qsbr tabled start d o run_start at) in
           stays_free qsbr start before c d o b run_before at linked (subst IsDirectory same_start directory) (as_known.1 ∙ noted.is)
           (λ since then e old n i payload is dir names slot ordinal copied opened. subst (Has (Close slot ordinal)) (sym b.1) (has_later (Close slot ordinal) b.0 start
           (unnoted_free qsbr start c run_start noted.was since then e old n i payload is dir names slot ordinal copied opened)))
@@ -179,6 +179,6 @@ module _ (qsbr : Bool) (d : ℕ) (o new : ObjectId) (cell first many : ℕ) (bef
       free_named beside noted saw c low high = free_after before log event c wrote
           (λ e old n i payload is dir names.
           let same : o ≡ old = ap old_of is in
-          let named : (old_first ≤ c) × (c < old_first + old_many) = subst (λ (w : List ℕ). Names ((note_of before o).0, w) c) words (subst (λ (p : ObjectId). Names (note_of before p) c) (sym same) names) in
+          let named : (old_first ≤ c) × (c < old_first + old_many) = subst (λ (w : List ℕ). Names ((record_of before o).0, w) c) words (subst (λ (p : ObjectId). Names (record_of before p) c) (sym same) names) in
           ⊎_elim (λ (a : old_first + old_many ≤ first). let z = named.1 in omega arith) (λ (b : first + many ≤ old_first). let z = named.0 in omega arith) beside)
           (free_in first c us from noted saw known_new low (omega arith))

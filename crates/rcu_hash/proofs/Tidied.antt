@@ -10,7 +10,7 @@ use Rattle.rcu_model.proofs.Lemmas.{in_objects}
 use Rattle.live_log.specs.declared.event.LiveEvent.{LiveEvent}
 use Rattle.live_log.specs.declared.event.LiveEvent.TheVariants.{ChainNote, Object}
 use Rattle.live_log.specs.declared.event.ObjectEvent.TheVariants.{Push, Queue, Replace, Retire}
-use Rattle.live_log.specs.Log.{Log, Begins, Has, IsLiveRun, note_of, state_of}
+use Rattle.live_log.specs.Log.{Log, Begins, Has, IsLiveRun, record_of, state_of}
 use Rattle.live_log.specs.Tables.{IsDirectory, Names, tabled}
 use Rattle.live_log.proofs.Lemmas.{begins_trans, beside, chain_used, directory_alone, gone, has_since, linked_between, note_stays, run_of}
 use Rattle.rcu_list.specs.live_rule.declared.view.View.{View}
@@ -77,15 +77,15 @@ only_weaker d log chains more records others goes on only before old new cell pa
 )
 
 -- a directory that takes the place of another leaves that one, and what it named
-pub only_left : (d : ℕ) (before log : Log) (old new : ObjectId) (cell : ℕ) (payload : List ℕ) → log ≡ Object (Replace d old new cell payload) ∷ before → LeavesOnly d before (λ c. ⊥) (λ o. ⊥) → LeavesOnly d log (Names (note_of before old)) (λ o. old ≡ o)
+pub only_left : (d : ℕ) (before log : Log) (old new : ObjectId) (cell : ℕ) (payload : List ℕ) → log ≡ Object (Replace d old new cell payload) ∷ before → LeavesOnly d before (λ c. ⊥) (λ o. ⊥) → LeavesOnly d log (Names (record_of before old)) (λ o. old ≡ o)
 only_left d before log old new cell payload wrote only b o n k w is directory = by is.0 (sym wrote ∙ is.1)
   where
     left : Log
     left = Object (Replace d o n k w) ∷ b
 
-    by : (s : Log) → Object (Replace d old new cell payload) ∷ before ≡ s ++ left → (Has (Object (Retire o)) log ⊎ (old ≡ o)) × ((c : ℕ) → Names (note_of b o) c → WasCleared left c log ⊎ Names (note_of before old) c)
+    by : (s : Log) → Object (Replace d old new cell payload) ∷ before ≡ s ++ left → (Has (Object (Retire o)) log ⊎ (old ≡ o)) × ((c : ℕ) → Names (record_of b o) c → WasCleared left c log ⊎ Names (record_of before old) c)
     by [] same = let one : old ≡ o = cc in let logs : b ≡ before = cc in
-        (inr one, λ c names. inr (subst (λ (p : ObjectId). Names (note_of before p) c) (sym one) (subst (λ (l : Log). Names (note_of l o) c) logs names)))
+        (inr one, λ c names. inr (subst (λ (p : ObjectId). Names (record_of before p) c) (sym one) (subst (λ (l : Log). Names (record_of l o) c) logs names)))
     by (e ∷ s) same =
         let goes : Begins before log = (Object (Replace d old new cell payload) ∷ [], wrote) in
         let was = only b o n k w (s, ap rest same) directory in (
@@ -173,18 +173,18 @@ module _ (qsbr : Bool) (allows : Log → LiveEvent → Type 0) (seen heard seen'
   }
 
 -- a writer that knows its directory knows a log in which that is linked
-pub linked_by : (v : View) (d : ℕ) (o : ObjectId) (first buckets : ℕ) → IsListed v → (own_in v.chains).chain ≡ d → list_in v ≡ o ∷ [] → (note_of v.seen o).1 ≡ words_by first buckets → IsLinked d o v.seen
-linked_by v d o first buckets listed own alone words = (subst (λ (l : List ObjectId). In l o) (sym (chain_known v d listed own ∙ alone)) (inl refl), by_words (note_of v.seen o) first buckets words)
+pub linked_by : (v : View) (d : ℕ) (o : ObjectId) (first buckets : ℕ) → IsListed v → (own_in v.chains).chain ≡ d → list_in v ≡ o ∷ [] → (record_of v.seen o).1 ≡ words_by first buckets → IsLinked d o v.seen
+linked_by v d o first buckets listed own alone words = (subst (λ (l : List ObjectId). In l o) (sym (chain_known v d listed own ∙ alone)) (inl refl), by_words (record_of v.seen o) first buckets words)
 
 -- where nothing was left, a directory that takes another one's place leaves that one's record and chains
-pub rest_replaced : (qsbr : Bool) (d : ℕ) (o new left : ObjectId) (first buckets : ℕ) (vs : List View) (start seen heard log : Log) (cell : ℕ) (payload : List ℕ) → Begins start heard → (w : Writes qsbr tabled seen heard (Object (Replace d o new cell payload)) log) → (state_of w.before).chain d ≡ o ∷ [] → (note_of w.before o).1 ≡ words_by first buckets → AreFrom first vs → length vs ≡ buckets → left ≡ o → IsLinked d o start → IsLinked d new log → IsTidied d start → IsRest d new vs (Some left) log
+pub rest_replaced : (qsbr : Bool) (d : ℕ) (o new left : ObjectId) (first buckets : ℕ) (vs : List View) (start seen heard log : Log) (cell : ℕ) (payload : List ℕ) → Begins start heard → (w : Writes qsbr tabled seen heard (Object (Replace d o new cell payload)) log) → (state_of w.before).chain d ≡ o ∷ [] → (record_of w.before o).1 ≡ words_by first buckets → AreFrom first vs → length vs ≡ buckets → left ≡ o → IsLinked d o start → IsLinked d new log → IsTidied d start → IsRest d new vs (Some left) log
 rest_replaced qsbr d o new left first buckets vs start seen heard log cell payload b w alone words from many is linked now tidied =
     let goes : Begins start w.before = begins_trans start heard w.before b w.after.1 in
     let run : IsLiveRun qsbr tabled w.before = run_of qsbr tabled w.before log (Object (Replace d o new cell payload) ∷ [], w.wrote) w.run in
     let here : In ((state_of w.before).chain d) o = subst (λ (l : List ObjectId). In l o) (sym alone) (inl refl) in
     ∥∥₁_map tidied (λ none. (
       now,
-      only_weaker d log (Names (note_of w.before o)) (In (chains_in vs)) (λ p. o ≡ p) (λ p. Some left ≡ Some p)
+      only_weaker d log (Names (record_of w.before o)) (In (chains_in vs)) (λ p. o ≡ p) (λ p. Some left ≡ Some p)
           (λ c names. let low : first ≤ c = subst (λ (ws : List ℕ). slice_index_or ws 0 0 ≤ c) words names.0 in
           let high : c < first + buckets = subst (λ (ws : List ℕ). c < slice_index_or ws 0 0 + slice_index_or ws 1 0) words names.1 in
           from_has first c vs from low (omega (arith, high, many)))

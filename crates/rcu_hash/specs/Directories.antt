@@ -6,7 +6,7 @@ use Rattle.gp_memb.specs.declared.plan.GracePlan as plan
 use Rattle.rcu_model.specs.declared.event.ObjectId.{ObjectId}
 use Rattle.rcu_model.specs.Sets.{In, first_of}
 use Rattle.live_log.specs.declared.event.LiveEvent.TheVariants.{Close}
-use Rattle.live_log.specs.Log.{Log, Begins, Has, IsLiveRun, note_of, open_of, state_of}
+use Rattle.live_log.specs.Log.{Log, Begins, Has, IsLiveRun, record_of, open_of, state_of}
 use Rattle.live_log.specs.Tables.{kind_of, tabled}
 use Rattle.rcu_list.specs.live_read.Holding.{log_of}
 use Rattle.rcu_list.specs.live_read.declared.reader_core.ReaderCore.{ReaderCore}
@@ -34,11 +34,11 @@ leads chains x key = leads_to chains (kind_of x) (first_in x) (buckets_in x) key
 -- the value of a key by the first object of the directory's chain, where there is one
 abbrev pub value_through : ℕ → Log → Option ObjectId → ℕ → Option ℕ
 value_through chains log None key = None
-value_through chains log (Some o) key = if leads chains (note_of log o) key then map_of log (bucket_in (note_of log o) key) key else None
+value_through chains log (Some o) key = if leads chains (record_of log o) key then map_of log (bucket_in (record_of log o) key) key else None
 
 -- the directory's first object leads the key to the chain
 abbrev pub LeadsTo : ℕ → Log → ℕ → ℕ → Type 0
-LeadsTo d log key c = (o : ObjectId) × (first_of ((state_of log).chain d) ≡ Some o) × (bucket_in (note_of log o) key ≡ c)
+LeadsTo d log key c = (o : ObjectId) × (first_of ((state_of log).chain d) ≡ Some o) × (bucket_in (record_of log o) key ≡ c)
 
 -- the map of the table whose directory is in chain d, over a domain of so many chains
 abbrev pub directed_map : ℕ → ℕ → Log → ℕ → Option ℕ
@@ -74,7 +74,7 @@ HasNoKeys chains d first buckets log = (key : ℕ) → (directed_map chains d lo
 -- What a key has in the bucket to which a directory leads it, the table had while the directory was linked, as long as a
 -- section is open that was open then.
 abbrev pub BucketsAnswer : Bool → Type 0
-BucketsAnswer qsbr = (start at log : Log) (chains d key : ℕ) (o : ObjectId) (slot ordinal copied : ℕ) → Begins start at → Begins at log → IsLiveRun qsbr tabled log → first_of ((state_of start).chain d) ≡ Some o → IsTrue (leads chains (note_of start o) key) → open_of slot start ≡ some (ordinal, copied) → ¬ Has (Close slot ordinal) log → AnswersLinked start at chains d key o (map_of at (bucket_in (note_of start o) key) key)
+BucketsAnswer qsbr = (start at log : Log) (chains d key : ℕ) (o : ObjectId) (slot ordinal copied : ℕ) → Begins start at → Begins at log → IsLiveRun qsbr tabled log → first_of ((state_of start).chain d) ≡ Some o → IsTrue (leads chains (record_of start o) key) → open_of slot start ≡ some (ordinal, copied) → ¬ Has (Close slot ordinal) log → AnswersLinked start at chains d key o (map_of at (bucket_in (record_of start o) key) key)
 
 module _ {P K : Type 0} {g : plan.Ghosts P} (r r' : ReaderCore P K g) (chains d : ℕ) where
   -- a reader looked a key up

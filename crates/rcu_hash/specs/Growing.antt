@@ -4,7 +4,7 @@ use Rattle.rcu_model.specs.declared.event.ObjectId.{ObjectId}
 use Rattle.live_log.specs.declared.event.LiveEvent.{LiveEvent}
 use Rattle.live_log.specs.declared.event.LiveEvent.TheVariants.{ChainNote, Object}
 use Rattle.live_log.specs.declared.event.ObjectEvent.TheVariants.{Push, Replace}
-use Rattle.live_log.specs.Log.{Log, Begins, chain_note, note_of, state_of}
+use Rattle.live_log.specs.Log.{Log, Begins, chain_note, record_of, state_of}
 use Rattle.live_log.specs.Tables.{Names}
 use Rattle.rcu_list.specs.Maps.{words_of}
 use Rattle.rcu_hash.specs.Copies.{AreApart, value_among}
@@ -19,7 +19,7 @@ pub record HasLeft (d : ℕ) (log : Log) : Type 0 where
   pub object : ObjectId
   pub noted : chain_note chain log ≡ d + 1
   pub present : (state_of log).chain d ≡ object ∷ []
-  pub unnamed : ¬ (Names (note_of log object) chain)
+  pub unnamed : ¬ (Names (record_of log object) chain)
 
 -- by what is told of an event: from what was heard of before it, the event, and the log that ends with it
 module _ (Tells : Log → LiveEvent → Log → Type 0) (first buckets : ℕ) where

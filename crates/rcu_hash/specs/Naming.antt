@@ -2,7 +2,7 @@
 use Rattle.std.specs.Prelude.{ℕ, List, [], ◌∷◌}
 use Rattle.rcu_model.specs.declared.event.ObjectId.{ObjectId}
 use Rattle.rcu_model.specs.Sets.{In}
-use Rattle.live_log.specs.Log.{Log, Begins, note_of, state_of}
+use Rattle.live_log.specs.Log.{Log, Begins, record_of, state_of}
 use Rattle.live_log.specs.Tables.{IsDirectory, IsFree, Names}
 use Rattle.rcu_list.specs.live_rule.declared.view.View.{View}
 use Rattle.rcu_list.specs.live_table.Rights.{own_in}
@@ -16,8 +16,8 @@ pub record WasNamed (d : ℕ) (o : ObjectId) (c : ℕ) (log : Log) : Type 0 wher
   pub known : Log
   pub before : Begins known log
   pub linked : In ((state_of known).chain d) o
-  pub directory : IsDirectory (note_of known o)
-  pub names : Names (note_of known o) c
+  pub directory : IsDirectory (record_of known o)
+  pub names : Names (record_of known o) c
   pub is_free : IsFree known c
 
 -- the writer of a chain that the directory named; how that is known does not matter

@@ -5,7 +5,7 @@ use Rattle.rcu_model.specs.Sets.{at_number}
 use Rattle.live_log.specs.declared.event.LiveEvent.{LiveEvent}
 use Rattle.live_log.specs.declared.event.LiveEvent.TheVariants.{Object}
 use Rattle.live_log.specs.declared.event.ObjectEvent.TheVariants.{Push, Replace, Cut}
-use Rattle.live_log.specs.Log.{Log, Begins, IsLiveRun, note_of, state_of}
+use Rattle.live_log.specs.Log.{Log, Begins, IsLiveRun, record_of, state_of}
 use Rattle.rcu_list.specs.Maps.{next_rank, words_of}
 use Rattle.rcu_hash.specs.Directories.{LeadsTo, directed_map}
 
@@ -30,7 +30,7 @@ module _ (qsbr : Bool) (allows : Log → LiveEvent → Type 0) (chains d : ℕ) 
     pub rank : ℕ
     pub below : rank < 2 ^ 62
     pub changes : ChangesThrough chain (Object (Push chain object cell (words_of key value rank))) key None (Some value) log
-    pub next : rank ≡ next_rank (note_of changes.before) ((state_of changes.before).chain chain)
+    pub next : rank ≡ next_rank (record_of changes.before) ((state_of changes.before).chain chain)
 
   -- a key that had a value has this one, by a replacement in the chain
   pub record ReplacesThrough (key value chain : ℕ) (left : ObjectId) (log : Log) : Type 0 where

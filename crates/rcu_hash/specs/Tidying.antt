@@ -9,7 +9,7 @@ use Rattle.rcu_model.specs.Sets.{In}
 use Rattle.live_log.specs.declared.event.LiveEvent.{LiveEvent}
 use Rattle.live_log.specs.declared.event.LiveEvent.TheVariants.{ChainNote, Object}
 use Rattle.live_log.specs.declared.event.ObjectEvent.TheVariants.{Cut, Replace, Retire}
-use Rattle.live_log.specs.Log.{Log, Begins, Has, HaveEnded, chain_note, closed_of, note_of, seq_of, state_of}
+use Rattle.live_log.specs.Log.{Log, Begins, Has, HaveEnded, chain_note, closed_of, record_of, seq_of, state_of}
 use Rattle.live_log.specs.Tables.{IsDirectory, Names, tabled}
 use Rattle.rcu_list.specs.live_rule.declared.view.Sizes.{Sizes}
 use Rattle.rcu_list.specs.live_rule.declared.view.View.{View}
@@ -25,7 +25,7 @@ use Rattle.rcu_hash.specs.Writers.{HasKeysIn, HasNote, IsAlone, IsOutside}
 
 -- the directory is linked in its chain
 abbrev pub IsLinked : ℕ → ObjectId → Log → Type 0
-IsLinked d o log = In ((state_of log).chain d) o × IsDirectory (note_of log o)
+IsLinked d o log = In ((state_of log).chain d) o × IsDirectory (record_of log o)
 
 -- a chain has lost its note since some log
 pub record WasCleared (since : Log) (c : ℕ) (log : Log) : Type 0 where
@@ -36,7 +36,7 @@ pub record WasCleared (since : Log) (c : ℕ) (log : Log) : Type 0 where
 -- Of the directories that were replaced in chain d nothing is left but some chains and some records. Each other record
 -- is retired, and each other chain that they named has lost its note since.
 abbrev pub LeavesOnly : ℕ → Log → (ℕ → Type 0) → (ObjectId → Type 0) → Type 0
-LeavesOnly d log chains records = (before : Log) (old new : ObjectId) (cell : ℕ) (payload : List ℕ) → Begins (Object (Replace d old new cell payload) ∷ before) log → IsDirectory (note_of before old) → (Has (Object (Retire old)) log ⊎ records old) × ((c : ℕ) → Names (note_of before old) c → WasCleared (Object (Replace d old new cell payload) ∷ before) c log ⊎ chains c)
+LeavesOnly d log chains records = (before : Log) (old new : ObjectId) (cell : ℕ) (payload : List ℕ) → Begins (Object (Replace d old new cell payload) ∷ before) log → IsDirectory (record_of before old) → (Has (Object (Retire old)) log ⊎ records old) × ((c : ℕ) → Names (record_of before old) c → WasCleared (Object (Replace d old new cell payload) ∷ before) c log ⊎ chains c)
 
 -- nothing is left of them; how that came does not matter
 abbrev pub IsTidied : ℕ → Log → Type 0
@@ -58,7 +58,7 @@ pub record HasWaited (d : ℕ) (o : ObjectId) (log : Log) : Type 0 where
   pub after : Begins known mark
   pub before : Begins mark log
   pub linked : In ((state_of known).chain d) o
-  pub directory : IsDirectory (note_of known o)
+  pub directory : IsDirectory (record_of known o)
   pub ended : HaveEnded mark log
 
 -- the writer of a chain of keys that an earlier directory named, and the present one does not

@@ -4,7 +4,7 @@ use Rattle.std.specs.Coded.{×_prop}
 use Rattle.std.proofs.Props.{props}
 use Rattle.rcu_model.specs.declared.event.ObjectId.{ObjectId}
 use Rattle.rcu_model.specs.Sets.{In}
-use Rattle.live_log.specs.Log.{Log, Begins, IsLiveRun, chain_note, note_of}
+use Rattle.live_log.specs.Log.{Log, Begins, IsLiveRun, chain_note, record_of}
 use Rattle.live_log.specs.Tables.{HasKey, tabled}
 use Rattle.rcu_list.specs.live_rule.Seats.{lent_chains}
 use Rattle.rcu_list.specs.live_rule.declared.rights.ChainRight.{ChainRight}
@@ -59,7 +59,7 @@ IsEmpty v = HasNothing v × HasNoNote v
 
 -- the objects of its chain have keys
 abbrev pub HasKeysIn : View → Type 0
-HasKeysIn v = (o : ObjectId) → In (list_in v) o → HasKey (note_of v.seen o)
+HasKeysIn v = (o : ObjectId) → In (list_in v) o → HasKey (record_of v.seen o)
 
 -- its chain is none of these, so many from the first one on
 abbrev pub IsOutside : ℕ → ℕ → View → Type 0
@@ -92,7 +92,7 @@ AreFrom first (v ∷ vs) = ((own_in v.chains).chain ≡ first) × AreFrom (first
 -- what a key has in the list of one of them
 abbrev pub value_at : Option View → ℕ → Option ℕ
 value_at None key = None
-value_at (Some v) key = value_in (note_of v.seen) (list_in v) key
+value_at (Some v) key = value_in (record_of v.seen) (list_in v) key
 
 -- that a fact is so of each is a fact
 pub each_prop : {X : Type 0} (P : X → Type 0) → ((x : X) → IsProp (P x)) → (xs : List X) → IsProp (Each P xs)

@@ -3,7 +3,7 @@
 ghost use Rattle.std.specs.Prelude.{◌≡◌, ◌%◌, [], ℕ, IfErr, IfOk};
 ghost use Rattle.rcu_model.specs.Sets.{In};
 ghost use Rattle.rcu_model.specs.declared.event.ObjectId.{ObjectId};
-ghost use Rattle.live_log.specs.Log.{Begins, Log, note_of};
+ghost use Rattle.live_log.specs.Log.{Begins, Log, record_of};
 ghost use Rattle.live_log.specs.Tables.{HasKey, tabled};
 ghost use Rattle.rcu_list.specs.live_rule.Seats.{lent_chains};
 ghost use Rattle.rcu_list.specs.live_read.Hearing.{IsAfter, MakesLast, OnlyHears};
@@ -16,7 +16,7 @@ ghost use Rattle.rcu_hash.specs.Publishing.{InsertsThrough, RemovesThrough, Repl
 ghost use Rattle.rcu_hash.specs.Refusing.{RefusesInsertionThrough, RefusesRemovalThrough, RefusesReplacementThrough};
 ghost use Rattle.rcu_hash.specs.Tables.{bucket_of};
 
-use crate::directory::{Desk, Naming};
+use crate::directory::{DirectoryLock, Naming};
 use gp_memb::GracePlan;
 use live_log::Tabled;
 use rcu_list::{Caller, Chain, Deleter, Site, Ticket, prepare_insertion, prepare_replacement};
@@ -29,7 +29,7 @@ pub(crate) struct Bucket<'d, P: GracePlan, B: Site, D: Drop> {
     pub(crate) chain: Chain<'d, P, Tabled, B, D>,
     pub(crate) naming: Naming,
     pub(crate) ghost alone: { lent_chains chain.seat.me.0.chains ≡ [] },
-    pub(crate) ghost keys: { (o : ObjectId) → In (list_in chain.seat.me.0) o → HasKey (note_of chain.seat.me.0.seen o) },
+    pub(crate) ghost keys: { (o : ObjectId) → In (list_in chain.seat.me.0) o → HasKey (record_of chain.seat.me.0.seen o) },
     pub(crate) ghost named: { ∥ WasNamed naming.directory naming.object chain.number chain.seat.me.0.seen ∥₁ },
 }
 
@@ -39,7 +39,7 @@ impl<'d, P: GracePlan + Drop, B: Site, D: Deleter> Bucket<'d, P, B, D> {
     pub(crate) fn hear<W: Caller<B>, R: Wait>(
         &mut self,
         rt: &R,
-        desk: &Desk<'d, P, B, D>,
+        lock: &DirectoryLock<'d, P, B, D>,
         caller: &mut W,
     )
         ensures told { IsAfter P.QSBR tabled (W.seen caller.old) (W.heard caller.old) (W.heard caller.new) × Begins self.old.chain.seat.me.0.seen (W.heard caller.new) × (W.heard caller.new ≡ self.new.chain.seat.me.0.seen) }
@@ -47,7 +47,7 @@ impl<'d, P: GracePlan + Drop, B: Site, D: Deleter> Bucket<'d, P, B, D> {
         ensures leads { (key : ℕ) → LeadsTo self.old.naming.directory (W.heard caller.new) key (bucket_of self.old.naming.first self.old.naming.buckets key) }
         ensures same { OnlyHears W.Caller caller.old caller.new × (self.new.naming ≡ self.old.naming) × (self.new.chain.number ≡ self.old.chain.number) }
     {
-        let (mut place, directory) = desk.take(rt, self.naming);
+        let (mut place, directory) = lock.take(rt, self.naming);
         let lent = directory.lend(&mut self.chain);
         self.chain.hear(caller);
         *place = Some(lent.take_back(&mut self.chain));
@@ -57,7 +57,7 @@ impl<'d, P: GracePlan + Drop, B: Site, D: Deleter> Bucket<'d, P, B, D> {
     pub(crate) fn insert<W: Caller<B>, R: Wait>(
         &mut self,
         rt: &R,
-        desk: &Desk<'d, P, B, D>,
+        lock: &DirectoryLock<'d, P, B, D>,
         caller: &mut W,
         key: u64,
         value: u64,
@@ -69,9 +69,9 @@ impl<'d, P: GracePlan + Drop, B: Site, D: Deleter> Bucket<'d, P, B, D> {
         ensures refused { IfErr result (λ e. RefusesInsertionThrough W.Caller P.QSBR tabled B.sizes caller.old caller.new e self.old.naming.directory key) }
         ensures same { (self.new.naming ≡ self.old.naming) × (self.new.chain.number ≡ self.old.chain.number) }
     {
-        self.hear(rt, desk, caller);
+        self.hear(rt, lock, caller);
         let owned = prepare_insertion(rt, &mut self.chain, caller, key, value)?;
-        let (mut place, directory) = desk.take(rt, self.naming);
+        let (mut place, directory) = lock.take(rt, self.naming);
         let lent = directory.lend(&mut self.chain);
         self.chain.push(caller, owned);
         *place = Some(lent.take_back(&mut self.chain));
@@ -82,7 +82,7 @@ impl<'d, P: GracePlan + Drop, B: Site, D: Deleter> Bucket<'d, P, B, D> {
     pub(crate) fn replace<W: Caller<B>, R: Wait>(
         &mut self,
         rt: &R,
-        desk: &Desk<'d, P, B, D>,
+        lock: &DirectoryLock<'d, P, B, D>,
         caller: &mut W,
         key: u64,
         value: u64,
@@ -95,13 +95,13 @@ impl<'d, P: GracePlan + Drop, B: Site, D: Deleter> Bucket<'d, P, B, D> {
         ensures back { IfErr result (λ e. e.1 ≡ callback) }
         ensures same { (self.new.naming ≡ self.old.naming) × (self.new.chain.number ≡ self.old.chain.number) }
     {
-        self.hear(rt, desk, caller);
+        self.hear(rt, lock, caller);
         let (index, owned) = match prepare_replacement(rt, &mut self.chain, caller, key, value) {
             Ok(ready) => ready,
             Err(refusal) => return Err((refusal, callback)),
         };
         let domain = self.chain.domain();
-        let (mut place, directory) = desk.take(rt, self.naming);
+        let (mut place, directory) = lock.take(rt, self.naming);
         let lent = directory.lend(&mut self.chain);
         let answer = domain.replace_retire(rt, caller, &mut self.chain, index, owned, callback);
         *place = Some(lent.take_back(&mut self.chain));
@@ -118,7 +118,7 @@ impl<'d, P: GracePlan + Drop, B: Site, D: Deleter> Bucket<'d, P, B, D> {
     pub(crate) fn remove<W: Caller<B>, R: Wait>(
         &mut self,
         rt: &R,
-        desk: &Desk<'d, P, B, D>,
+        lock: &DirectoryLock<'d, P, B, D>,
         caller: &mut W,
         key: u64,
         callback: D,
@@ -130,12 +130,12 @@ impl<'d, P: GracePlan + Drop, B: Site, D: Deleter> Bucket<'d, P, B, D> {
         ensures back { IfErr result (λ e. e.1 ≡ callback) }
         ensures same { (self.new.naming ≡ self.old.naming) × (self.new.chain.number ≡ self.old.chain.number) }
     {
-        self.hear(rt, desk, caller);
+        self.hear(rt, lock, caller);
         let Some(index) = self.chain.index_of(key) else {
             return Err((Refusal::Missing, callback));
         };
         let domain = self.chain.domain();
-        let (mut place, directory) = desk.take(rt, self.naming);
+        let (mut place, directory) = lock.take(rt, self.naming);
         let lent = directory.lend(&mut self.chain);
         let answer = domain.cut_retire(rt, caller, &mut self.chain, index, callback);
         *place = Some(lent.take_back(&mut self.chain));

@@ -2,7 +2,7 @@
 
 ghost use Rattle.std.specs.Prelude.{ℕ, ◌≡◌, ◌+◌, ◌<◌, ◌≤◌, ◌∷◌, [], true};
 ghost use Rattle.rcu_model.specs.Sets.{In};
-ghost use Rattle.live_log.specs.Log.{Begins, IsLiveRun, chain_note, note_of, state_of};
+ghost use Rattle.live_log.specs.Log.{Begins, IsLiveRun, chain_note, record_of, state_of};
 ghost use Rattle.live_log.specs.Tables.{tabled};
 ghost use Rattle.rcu_list.specs.live_rule.Seats.{lent_chains};
 ghost use Rattle.rcu_list.specs.live_table.Rights.{AreAsKnown, own_in};
@@ -50,7 +50,7 @@ pub(crate) struct Directory<'d, P: GracePlan, B: Site, D: Drop> {
     pub(crate) naming: Naming,
     pub(crate) ghost own: { (chain.number ≡ naming.directory) × (lent_chains chain.seat.me.0.chains ≡ []) × ((own_in chain.seat.me.0.chains).note ≡ 0) },
     pub(crate) ghost alone: { list_in chain.seat.me.0 ≡ naming.object ∷ [] },
-    pub(crate) ghost words: { (note_of chain.seat.me.0.seen naming.object).1 ≡ words_by naming.first naming.buckets },
+    pub(crate) ghost words: { (record_of chain.seat.me.0.seen naming.object).1 ≡ words_by naming.first naming.buckets },
     pub(crate) ghost fits: { (0 < naming.buckets) × (naming.first + naming.buckets ≤ B.sizes.chains) },
 }
 
@@ -70,7 +70,7 @@ impl<'d, P: GracePlan, B: Site, D: Deleter> Directory<'d, P, B, D> {
         ensures chains { (to.new.seat.me.0.chains ≡ own_in to.old.seat.me.0.chains ∷ own_in self.entry.chain.seat.me.0.chains ∷ []) × (to.new.number ≡ to.old.number) × (to.new.home.now ≡ to.old.home.now) }
         ensures known { AreAsKnown to.new.seat.me.0.seen to.new.seat.me.0.chains }
         ensures later { Begins to.old.seat.me.0.seen to.new.seat.me.0.seen × Begins self.entry.chain.seat.me.0.seen to.new.seat.me.0.seen × IsLiveRun P.QSBR tabled to.new.seat.me.0.seen }
-        ensures words { (note_of to.new.seat.me.0.seen self.entry.naming.object).1 ≡ words_by self.entry.naming.first self.entry.naming.buckets }
+        ensures words { (record_of to.new.seat.me.0.seen self.entry.naming.object).1 ≡ words_by self.entry.naming.first self.entry.naming.buckets }
     {
         let Directory { chain, naming } = self;
         LentDirectory {
@@ -84,7 +84,7 @@ impl<'d, P: GracePlan, B: Site, D: Deleter> LentDirectory<'d, P, B, D> {
     /// Takes its right back from a bucket's writer, which knows its own chain alone then. It never waits.
     pub(crate) fn take_back(self, from: &mut Chain<'_, P, Tabled, B, D>) -> Directory<'d, P, B, D>
         requires right { (lent_chains from.old.seat.me.0.chains ≡ own_in (lent_chains from.old.seat.me.0.chains) ∷ []) × ((own_in (lent_chains from.old.seat.me.0.chains)).chain ≡ self.naming.directory) × ((own_in (lent_chains from.old.seat.me.0.chains)).objects ≡ self.naming.object ∷ []) × ((own_in (lent_chains from.old.seat.me.0.chains)).note ≡ 0) }
-        requires words { (note_of from.old.seat.me.0.seen self.naming.object).1 ≡ words_by self.naming.first self.naming.buckets }
+        requires words { (record_of from.old.seat.me.0.seen self.naming.object).1 ≡ words_by self.naming.first self.naming.buckets }
         requires used { In (state_of from.old.seat.me.0.seen).used self.naming.object }
         ensures naming { (result.naming ≡ self.entry.naming) × (result.chain.seat.me.0.chains ≡ lent_chains from.old.seat.me.0.chains) }
         ensures from { (from.new.seat.me.0.chains ≡ own_in from.old.seat.me.0.chains ∷ []) × (from.new.seat.me.0.seen ≡ from.old.seat.me.0.seen) × (from.new.number ≡ from.old.number) × (from.new.home.now ≡ from.old.home.now) }
@@ -114,11 +114,11 @@ impl<'d, P: GracePlan + Drop, B: Site, D: Deleter> Directory<'d, P, B, D> {
 
 /// A directory's writer under its lock; none while another thread has lent it, which holds the lock then.
 #[derive(Drop)]
-pub(crate) struct Desk<'d, P: GracePlan, B: Site, D: Drop> {
+pub(crate) struct DirectoryLock<'d, P: GracePlan, B: Site, D: Drop> {
     pub(crate) writer: Mutex<Option<Directory<'d, P, B, D>>>,
 }
 
-impl<'d, P: GracePlan + Drop, B: Site, D: Deleter> Desk<'d, P, B, D> {
+impl<'d, P: GracePlan + Drop, B: Site, D: Deleter> DirectoryLock<'d, P, B, D> {
     /// The writer of this directory, which is linked, out of its lock, to which it is to be given back. A lock tells
     /// only the type of what it holds, so the directory is compared; it always is the right one.
     pub(crate) fn take<'t, R: Wait>(
@@ -132,12 +132,12 @@ impl<'d, P: GracePlan + Drop, B: Site, D: Deleter> Desk<'d, P, B, D> {
         ensures { result.1.naming ≡ naming }
     {
         for _ in rt.forever() {
-            let mut desk = self.writer.lock(rt);
-            if let Some(directory) = desk.take() {
+            let mut lock = self.writer.lock(rt);
+            if let Some(directory) = lock.take() {
                 if directory.naming.is(naming) {
-                    return (desk, directory);
+                    return (lock, directory);
                 }
-                *desk = Some(directory);
+                *lock = Some(directory);
             }
         }
         unreachable!()

@@ -3,7 +3,7 @@
 ghost use Rattle.std.specs.Prelude.{◌≡◌, ◌⊎◌, ◌+◌, ◌<◌, ◌≤◌, ◌∷◌, [], ℕ, List, map, vec_capacity, vec_len};
 ghost use Rattle.live_log.specs.declared.event.LiveEvent.TheVariants.{Object};
 ghost use Rattle.live_log.specs.declared.event.ObjectEvent.TheVariants.{Replace};
-ghost use Rattle.live_log.specs.Log.{Log, note_of, state_of};
+ghost use Rattle.live_log.specs.Log.{Log, record_of, state_of};
 ghost use Rattle.live_log.specs.Tables.{tabled};
 ghost use Rattle.rcu_list.specs.live_table.Rights.{object_in, payload_in};
 ghost use Rattle.rcu_list.specs.live_read.Hearing.{OnlyMakesLast};
@@ -55,7 +55,7 @@ pub(crate) fn exchange<'d, P: GracePlan + Drop, B: Site, D: Deleter, W: Caller<B
     ensures unlinked { IsRecord directory.entry.naming.directory result.1.chain result.1.seat.me.0 }
     ensures object { object_in result.1.seat.me.0.object ≡ directory.entry.naming.object }
     ensures told { W.heard caller.new ≡ result.0.chain.seat.me.0.seen }
-    ensures wrote { (cell : ℕ) × (w : Writes P.QSBR tabled (W.seen caller.old) (W.heard caller.old) (Object (Replace directory.entry.naming.directory directory.entry.naming.object (object_in owned.seat.me.0.object) cell (words_by first (vec_len news.entry.chains)))) (W.heard caller.new)) × ((state_of w.before).chain directory.entry.naming.directory ≡ directory.entry.naming.object ∷ []) × ((note_of w.before directory.entry.naming.object).1 ≡ words_by directory.entry.naming.first directory.entry.naming.buckets) }
+    ensures wrote { (cell : ℕ) × (w : Writes P.QSBR tabled (W.seen caller.old) (W.heard caller.old) (Object (Replace directory.entry.naming.directory directory.entry.naming.object (object_in owned.seat.me.0.object) cell (words_by first (vec_len news.entry.chains)))) (W.heard caller.new)) × ((state_of w.before).chain directory.entry.naming.directory ≡ directory.entry.naming.object ∷ []) × ((record_of w.before directory.entry.naming.object).1 ≡ words_by directory.entry.naming.first directory.entry.naming.buckets) }
     ensures olds { (vec_len result.2 ≡ vec_len olds.entry.chains) × AreFrom directory.entry.naming.first (map (λ c. c.seat.me.0) result.2.items) × Each IsAlone (map (λ c. c.seat.me.0) result.2.items) × Each HasKeysIn (map (λ c. c.seat.me.0) result.2.items) × Each (HasNote (directory.entry.naming.directory + 1)) (map (λ c. c.seat.me.0) result.2.items) }
     ensures news { (vec_len result.3 ≡ vec_len news.entry.chains) × AreFrom first (map (λ c. c.seat.me.0) result.3.items) × Each IsAlone (map (λ c. c.seat.me.0) result.3.items) × Each HasKeysIn (map (λ c. c.seat.me.0) result.3.items) × Each (IsNamedBy directory.entry.naming.directory (object_in owned.seat.me.0.object)) (map (λ c. c.seat.me.0) result.3.items) }
     ensures grown { (entries : List (ℕ × ℕ)) → AreApart entries → ((key : ℕ) → value_in_bucket (vec_len olds.entry.chains) (map (λ c. c.seat.me.0) olds.entry.chains.items) key ≡ value_among entries key) → Exchanges P.QSBR tabled B.sizes.chains directory.entry.naming.directory (W.seen caller.old) (W.heard caller.old) directory.entry.naming.object first (vec_len news.entry.chains) entries (W.heard caller.new) }

@@ -17,13 +17,13 @@ ghost use Rattle.rcu_hash.specs.Writers.{AreFrom, Each, HasKeysIn, IsAlone, IsEm
 ghost use Rattle.rcu_hash.specs.Calls.{IsGrown, IsNotGrown};
 
 use crate::bucket::Bucket;
+use crate::bucket_array::BucketArray;
 use crate::copying::fill;
-use crate::directory::{Desk, Naming};
+use crate::directory::{DirectoryLock, Naming};
 use crate::exchange::{Lenders, exchange};
 use crate::growth::Growth;
-use crate::left::Left;
-use crate::making::{note_all, shelve};
-use crate::shelf::Shelf;
+use crate::making::{into_buckets, note_all};
+use crate::old_table::OldTable;
 use crate::table::{RcuHash, fits};
 use gp_memb::GracePlan;
 use live_log::Tabled;
@@ -61,30 +61,30 @@ fn chains_of<'d, P: GracePlan + Drop, B: Site, D: Deleter>(
     chains
 }
 
-/// Fills the new chains, lets another directory take the place of the shelf's, and stocks the shelf with the new
-/// buckets. Nothing was left of earlier ones. Answers what the old directory left. The caller hears of that.
+/// Fills the new chains, puts another directory in the place of the array's, and puts the new buckets into the array.
+/// Nothing was left of earlier ones. Answers what the old directory left. The caller hears of that.
 fn commit<'d, P: GracePlan + Drop, B: Site, D: Deleter, W: Caller<B>, R: Wait>(
     rt: &R,
-    desk: &Desk<'d, P, B, D>,
-    shelf: &mut Shelf<'d, P, B, D>,
+    lock: &DirectoryLock<'d, P, B, D>,
+    array: &mut BucketArray<'d, P, B, D>,
     caller: &mut W,
     growth: Growth<'d, P, B, D>,
     mut handle: Handle<B>,
     first: usize,
-) -> Left<'d, P, B, D>
-    requires tidied { (start : Log) × Begins start (W.heard caller.old) × IsLinked shelf.old.naming.directory shelf.old.naming.object start × IsTidied shelf.old.naming.directory start }
-    requires rooms { (shelf.old.naming.buckets ≤ vec_capacity growth.rooms.olds) × (shelf.old.naming.buckets ≤ vec_capacity growth.rooms.returned) × (vec_len growth.chains ≤ vec_capacity growth.rooms.noted) × (vec_len growth.chains ≤ vec_capacity growth.rooms.named) × (vec_len growth.chains ≤ vec_capacity growth.rooms.places) }
-    requires taken { (vec_len growth.taken ≡ shelf.old.naming.buckets) × AreFrom shelf.old.naming.first (map (λ b. b.chain.seat.me.0) growth.taken.items) }
-    requires copied { ((key : ℕ) → value_among (map (λ c. (c.key, c.value)) growth.copied.items) key ≡ value_in_bucket shelf.old.naming.buckets (map (λ b. b.chain.seat.me.0) growth.taken.items) key) × AreApart (map (λ c. (c.key, c.value)) growth.copied.items) × AreRanked 0 (map (λ c. c.rank) growth.copied.items) }
+) -> OldTable<'d, P, B, D>
+    requires tidied { (start : Log) × Begins start (W.heard caller.old) × IsLinked array.old.naming.directory array.old.naming.object start × IsTidied array.old.naming.directory start }
+    requires reserved { (array.old.naming.buckets ≤ vec_capacity growth.reserved.olds) × (array.old.naming.buckets ≤ vec_capacity growth.reserved.returned) × (vec_len growth.chains ≤ vec_capacity growth.reserved.noted) × (vec_len growth.chains ≤ vec_capacity growth.reserved.named) × (vec_len growth.chains ≤ vec_capacity growth.reserved.places) }
+    requires taken { (vec_len growth.taken ≡ array.old.naming.buckets) × AreFrom array.old.naming.first (map (λ b. b.chain.seat.me.0) growth.taken.items) }
+    requires copied { ((key : ℕ) → value_among (map (λ c. (c.key, c.value)) growth.copied.items) key ≡ value_in_bucket array.old.naming.buckets (map (λ b. b.chain.seat.me.0) growth.taken.items) key) × AreApart (map (λ c. (c.key, c.value)) growth.copied.items) × AreRanked 0 (map (λ c. c.rank) growth.copied.items) }
     requires chains { (0 < vec_len growth.chains) × (first + vec_len growth.chains ≤ B.sizes.chains) × AreFrom first (map (λ c. c.seat.me.0) growth.chains.items) × Each IsEmpty (map (λ c. c.seat.me.0) growth.chains.items) × Each IsAlone (map (λ c. c.seat.me.0) growth.chains.items) }
-    requires record { (payload_in growth.owned.seat.me.0.object ≡ words_by first (vec_len growth.chains)) × (growth.old_lents.items ≡ []) × (shelf.old.naming.buckets ≤ vec_capacity growth.old_lents) × (growth.new_lents.items ≡ []) × (vec_len growth.chains ≤ vec_capacity growth.new_lents) }
-    requires apart { ((shelf.old.naming.directory < first) ⊎ (first + vec_len growth.chains ≤ shelf.old.naming.directory)) × ((shelf.old.naming.first + shelf.old.naming.buckets ≤ first) ⊎ (first + vec_len growth.chains ≤ shelf.old.naming.first)) }
-    ensures grown { Grows P.QSBR tabled B.sizes.chains shelf.old.naming.directory (W.seen caller.old) (W.heard caller.old) first (vec_len growth.entry.chains) (map (λ c. (c.key, c.value)) growth.entry.copied.items) (W.heard caller.new) }
-    ensures left { result.naming.directory ≡ shelf.old.naming.directory }
+    requires record { (payload_in growth.owned.seat.me.0.object ≡ words_by first (vec_len growth.chains)) × (growth.old_lents.items ≡ []) × (array.old.naming.buckets ≤ vec_capacity growth.old_lents) × (growth.new_lents.items ≡ []) × (vec_len growth.chains ≤ vec_capacity growth.new_lents) }
+    requires apart { ((array.old.naming.directory < first) ⊎ (first + vec_len growth.chains ≤ array.old.naming.directory)) × ((array.old.naming.first + array.old.naming.buckets ≤ first) ⊎ (first + vec_len growth.chains ≤ array.old.naming.first)) }
+    ensures grown { Grows P.QSBR tabled B.sizes.chains array.old.naming.directory (W.seen caller.old) (W.heard caller.old) first (vec_len growth.entry.chains) (map (λ c. (c.key, c.value)) growth.entry.copied.items) (W.heard caller.new) }
+    ensures left { result.naming.directory ≡ array.old.naming.directory }
     ensures same { OnlyMakesMany W.Caller caller.old caller.new (vec_len growth.entry.copied + 1) }
 {
     let Growth {
-        rooms,
+        reserved,
         taken,
         copied,
         owned,
@@ -92,23 +92,23 @@ fn commit<'d, P: GracePlan + Drop, B: Site, D: Deleter, W: Caller<B>, R: Wait>(
         old_lents,
         new_lents,
     } = growth;
-    let (mut place, mut directory) = desk.take(rt, shelf.naming);
+    let (mut place, mut directory) = lock.take(rt, array.naming);
     directory.chain.hear(caller);
     fill(&mut chains, caller, copied);
     let olds = Lenders {
-        chains: chains_of(taken, rooms.olds),
+        chains: chains_of(taken, reserved.olds),
         lents: old_lents,
-        back: rooms.returned,
+        back: reserved.returned,
     };
     let news = Lenders {
         chains: note_all(
             chains,
-            rooms.noted,
+            reserved.noted,
             caller,
-            shelf.naming.directory as u64 + 1,
+            array.naming.directory as u64 + 1,
         ),
         lents: new_lents,
-        back: rooms.named,
+        back: reserved.named,
     };
     let (mut directory, unlinked, left, named) = exchange(
         directory, olds, news, caller, owned, first,
@@ -116,11 +116,11 @@ fn commit<'d, P: GracePlan + Drop, B: Site, D: Deleter, W: Caller<B>, R: Wait>(
     let naming = directory.naming;
     directory.hear(&mut handle);
     *place = Some(directory);
-    *shelf = Shelf {
+    *array = BucketArray {
         naming,
-        buckets: shelve(named, rooms.places, naming),
+        buckets: into_buckets(named, reserved.places, naming),
     };
-    Left {
+    OldTable {
         naming,
         unlinked: Some(unlinked),
         chains: left,
@@ -129,19 +129,19 @@ fn commit<'d, P: GracePlan + Drop, B: Site, D: Deleter, W: Caller<B>, R: Wait>(
 }
 
 impl<'d, P: GracePlan + Drop, B: Site, D: Deleter> RcuHash<'d, P, B, D> {
-    /// The shelf of the buckets that this directory names, for their only user. A lock tells only the type of what it
+    /// The array of the buckets that this directory names, for their only user. A lock tells only the type of what it
     /// holds, so the directory is compared; it always is the right one.
-    fn own_shelf<'t, R: Wait>(
+    fn own_array<'t, R: Wait>(
         &'t self,
         rt: &R,
         naming: Naming,
-    ) -> RwLockWriteGuard<'t, Shelf<'d, P, B, D>>
+    ) -> RwLockWriteGuard<'t, BucketArray<'d, P, B, D>>
         ensures { (write_guard_value result).naming ≡ naming }
     {
         for _ in rt.forever() {
-            let shelf = self.shelf.write(rt);
-            if shelf.naming.is(naming) {
-                return shelf;
+            let array = self.array.write(rt);
+            if array.naming.is(naming) {
+                return array;
             }
         }
         unreachable!()
@@ -153,10 +153,10 @@ impl<'d, P: GracePlan + Drop, B: Site, D: Deleter> RcuHash<'d, P, B, D> {
         rt: &R,
         alloc: Global,
         caller: &mut W,
-        left: Left<'d, P, B, D>,
+        left: OldTable<'d, P, B, D>,
         first: usize,
         buckets: usize,
-    ) -> (Left<'d, P, B, D>, Result<usize, Refusal>)
+    ) -> (OldTable<'d, P, B, D>, Result<usize, Refusal>)
         requires { left.naming.directory ≡ self.now.directory }
         ensures grown { IfOk result.1 (λ left. IsGrown W.Caller P.QSBR B.sizes caller.old caller.new self.now.directory first buckets left) }
         ensures tidied { IfOk result.1 (λ _. During W.Caller P.QSBR tabled caller.old caller.new (IsTidied self.now.directory)) }
@@ -168,30 +168,30 @@ impl<'d, P: GracePlan + Drop, B: Site, D: Deleter> RcuHash<'d, P, B, D> {
         ensures changes { IfOk result.1 (λ left. MakesMany W.Caller caller.old caller.new left) × IfErr result.1 (λ _. Stays W.Caller caller.old caller.new) }
     {
         if left.chains.len() != 0 {
-            return (left.hear(rt, &self.desk, caller), Err(Refusal::Busy));
+            return (left.hear(rt, &self.lock, caller), Err(Refusal::Busy));
         }
         if !fits(self.domain.chains(), self.directory, first, buckets) {
             return (left, Err(Refusal::BadConfig));
         }
         let old = left.naming;
-        let mut shelf = self.own_shelf(rt, old);
+        let mut array = self.own_array(rt, old);
         if !are_apart(old, first, buckets) {
-            self.desk.hear(rt, old, caller);
+            self.lock.hear(rt, old, caller);
             return (left, Err(Refusal::BadConfig));
         }
-        let left = left.tell(rt, &self.desk, caller);
-        let growth = match Growth::ready(rt, alloc, self.domain, &shelf, caller, first, buckets) {
+        let left = left.tell(rt, &self.lock, caller);
+        let growth = match Growth::ready(rt, alloc, self.domain, &array, caller, first, buckets) {
             Ok(growth) => growth,
             Err(refusal) => return (left, Err(refusal)),
         };
         let many = growth.copied.len() + 1;
-        let Left {
+        let OldTable {
             naming: _,
             unlinked: _,
             chains: _,
             handle,
         } = left;
-        let left = commit(rt, &self.desk, &mut shelf, caller, growth, handle, first);
+        let left = commit(rt, &self.lock, &mut array, caller, growth, handle, first);
         (left, Ok(many))
     }
 

@@ -16,9 +16,9 @@ ghost use Rattle.rcu_hash.specs.Tables.{IsAmong};
 ghost use Rattle.rcu_hash.specs.Writers.{AreFrom, Each, IsAlone, IsEmpty};
 
 use crate::bucket::Bucket;
+use crate::bucket_array::{BucketArray, Place};
 use crate::copying::{Copied, discard_all};
 use crate::making::{hold_all, room};
-use crate::shelf::{Place, Shelf};
 use gp_memb::GracePlan;
 use live_log::Tabled;
 use rcu_list::{Caller, Chain, Deleter, Domain, Lent, Owned, Site};
@@ -28,7 +28,7 @@ use std::sync::Wait;
 
 /// Room for the writers and the buckets while they change hands.
 #[derive(Drop)]
-pub(crate) struct Rooms<'d, P: GracePlan, B: Site, D: Drop> {
+pub(crate) struct Reserved<'d, P: GracePlan, B: Site, D: Drop> {
     pub(crate) olds: Vec<Chain<'d, P, Tabled, B, D>>,
     pub(crate) returned: Vec<Chain<'d, P, Tabled, B, D>>,
     pub(crate) noted: Vec<Chain<'d, P, Tabled, B, D>>,
@@ -37,15 +37,15 @@ pub(crate) struct Rooms<'d, P: GracePlan, B: Site, D: Drop> {
     pub(crate) ghost empty: { (olds.items ≡ []) × (returned.items ≡ []) × (noted.items ≡ []) × (named.items ≡ []) × (places.items ≡ []) },
 }
 
-impl<'d, P: GracePlan + Drop, B: Site, D: Deleter> Rooms<'d, P, B, D> {
+impl<'d, P: GracePlan + Drop, B: Site, D: Deleter> Reserved<'d, P, B, D> {
     /// Room for so many old ones and so many new ones.
     ///
     /// Refused with `Memory` where memory is.
-    fn new(alloc: Global, olds: usize, news: usize) -> Result<Rooms<'d, P, B, D>, Refusal>
+    fn new(alloc: Global, olds: usize, news: usize) -> Result<Reserved<'d, P, B, D>, Refusal>
         ensures made { IfOk result (λ r. (olds ≤ vec_capacity r.olds) × (olds ≤ vec_capacity r.returned) × (news ≤ vec_capacity r.noted) × (news ≤ vec_capacity r.named) × (news ≤ vec_capacity r.places)) }
         ensures refused { IfErr result (λ e. e ≡ Memory) }
     {
-        Ok(Rooms {
+        Ok(Reserved {
             olds: room(alloc, olds)?,
             returned: room(alloc, olds)?,
             noted: room(alloc, news)?,
@@ -57,7 +57,7 @@ impl<'d, P: GracePlan + Drop, B: Site, D: Deleter> Rooms<'d, P, B, D> {
 
 /// What a growth needs before its first event.
 pub(crate) struct Growth<'d, P: GracePlan, B: Site, D: Drop> {
-    pub(crate) rooms: Rooms<'d, P, B, D>,
+    pub(crate) reserved: Reserved<'d, P, B, D>,
     /// The buckets of the table.
     pub(crate) taken: Vec<Bucket<'d, P, B, D>>,
     /// Records for their keys, and for the directory.
@@ -69,28 +69,28 @@ pub(crate) struct Growth<'d, P: GracePlan, B: Site, D: Drop> {
     pub(crate) new_lents: Vec<Lent<'d, P, Tabled, B, D>>,
 }
 
-/// The buckets of a shelf out of their locks, and records for their keys.
+/// The buckets of an array out of their locks, and records for their keys.
 ///
 /// Refused at the first record that is, with `Memory` or `PoolFull`; what was taken and copied then is there all the
 /// same.
 fn copy_all<'d, P: GracePlan + Drop, B: Site, D: Deleter, W: Caller<B>, R: Wait>(
     rt: &R,
-    shelf: &Shelf<'d, P, B, D>,
+    array: &BucketArray<'d, P, B, D>,
     caller: &mut W,
     taken: &mut Vec<Bucket<'d, P, B, D>>,
     copied: &mut Vec<Copied<B>>,
 ) -> Result<(), Refusal>
-    requires room { (taken.old.items ≡ []) × (shelf.now.naming.buckets ≤ vec_capacity taken.old) × (copied.old.items ≡ []) }
-    ensures copied { IfOk result (λ _. ((key : ℕ) → value_among (map (λ c. (c.key, c.value)) copied.new.items) key ≡ value_in_bucket shelf.now.naming.buckets (map (λ b. b.chain.seat.me.0) taken.new.items) key) × AreApart (map (λ c. (c.key, c.value)) copied.new.items) × AreRanked 0 (map (λ c. c.rank) copied.new.items)) }
-    ensures taken { IfOk result (λ _. (vec_len taken.new ≡ shelf.now.naming.buckets) × AreFrom shelf.now.naming.first (map (λ b. b.chain.seat.me.0) taken.new.items)) }
-    ensures many { vec_len taken.new ≤ shelf.now.naming.buckets }
+    requires room { (taken.old.items ≡ []) × (array.now.naming.buckets ≤ vec_capacity taken.old) × (copied.old.items ≡ []) }
+    ensures copied { IfOk result (λ _. ((key : ℕ) → value_among (map (λ c. (c.key, c.value)) copied.new.items) key ≡ value_in_bucket array.now.naming.buckets (map (λ b. b.chain.seat.me.0) taken.new.items) key) × AreApart (map (λ c. (c.key, c.value)) copied.new.items) × AreRanked 0 (map (λ c. c.rank) copied.new.items)) }
+    ensures taken { IfOk result (λ _. (vec_len taken.new ≡ array.now.naming.buckets) × AreFrom array.now.naming.first (map (λ b. b.chain.seat.me.0) taken.new.items)) }
+    ensures many { vec_len taken.new ≤ array.now.naming.buckets }
     ensures refused { IfErr result (λ e. (e ≡ Memory) ⊎ (e ≡ PoolFull)) }
     ensures looks { (found : List Look) × (W.looks caller.new ≡ found ++ W.looks caller.old) × FreesAllBut B.sizes (map (λ c. cell_in c.owned.seat.me.0.object) copied.new.items) found × IfErr result (λ e. (e ≡ PoolFull) → NoRecordIsFree B.sizes found) }
     ensures heard { Begins (W.heard caller.old) (W.heard caller.new) }
     ensures same { Stays W.Caller caller.old caller.new × (W.loads caller.new ≡ W.loads caller.old) }
 {
-    for number in 0..shelf.naming.buckets {
-        let (_place, mut bucket) = shelf.take(rt, number);
+    for number in 0..array.naming.buckets {
+        let (_place, mut bucket) = array.take(rt, number);
         let answer = bucket.copy(rt, caller, copied, number);
         taken.push_reserved(bucket);
         answer?;
@@ -98,13 +98,13 @@ fn copy_all<'d, P: GracePlan + Drop, B: Site, D: Deleter, W: Caller<B>, R: Wait>
     Ok(())
 }
 
-/// The buckets of a shelf back into their locks.
+/// The buckets of an array back into their locks.
 fn restock<'d, P: GracePlan + Drop, B: Site, D: Deleter, R: Wait>(
     rt: &R,
-    shelf: &Shelf<'d, P, B, D>,
+    array: &BucketArray<'d, P, B, D>,
     taken: Vec<Bucket<'d, P, B, D>>,
 )
-    requires { vec_len taken ≤ shelf.now.naming.buckets }
+    requires { vec_len taken ≤ array.now.naming.buckets }
 {
     let many = taken.len();
     let mut rest = taken.into_iter();
@@ -112,14 +112,14 @@ fn restock<'d, P: GracePlan + Drop, B: Site, D: Deleter, R: Wait>(
         let Some(bucket) = rest.next() else {
             unreachable!()
         };
-        *shelf.buckets[number].lock(rt) = Some(bucket);
+        *array.buckets[number].lock(rt) = Some(bucket);
     }
 }
 
 /// The record of a directory, and room for what is left of writers that lend it their rights.
 ///
 /// Refused with `Memory` or `PoolFull`.
-fn provide<'d, P: GracePlan + Drop, B: Site, D: Deleter, W: Caller<B>, R: Wait>(
+fn reserve_directory<'d, P: GracePlan + Drop, B: Site, D: Deleter, W: Caller<B>, R: Wait>(
     rt: &R,
     alloc: Global,
     domain: &Domain<P, Tabled, B, D>,
@@ -163,17 +163,17 @@ fn provide<'d, P: GracePlan + Drop, B: Site, D: Deleter, W: Caller<B>, R: Wait>(
 fn undo<'d, P: GracePlan + Drop, B: Site, D: Deleter, W: Caller<B>, R: Wait>(
     rt: &R,
     domain: &Domain<P, Tabled, B, D>,
-    shelf: &Shelf<'d, P, B, D>,
+    array: &BucketArray<'d, P, B, D>,
     caller: &mut W,
     taken: Vec<Bucket<'d, P, B, D>>,
     copied: Vec<Copied<B>>,
 )
-    requires many { vec_len taken ≤ shelf.now.naming.buckets }
+    requires many { vec_len taken ≤ array.now.naming.buckets }
     ensures heard { Begins (W.heard caller.old) (W.heard caller.new) }
     ensures told { ((found : List Look) × (W.looks caller.new ≡ found ++ W.looks caller.old) × Frees B.sizes (map (λ c. cell_in c.owned.seat.me.0.object) copied.items) found) × ((logs : List Log) × (W.loads caller.new ≡ logs ++ W.loads caller.old)) }
     ensures same { Stays W.Caller caller.old caller.new }
 {
-    restock(rt, shelf, taken);
+    restock(rt, array, taken);
     discard_all(domain, caller, copied);
 }
 
@@ -187,17 +187,17 @@ impl<'d, P: GracePlan + Drop, B: Site, D: Deleter> Growth<'d, P, B, D> {
         rt: &R,
         alloc: Global,
         domain: &'d Domain<P, Tabled, B, D>,
-        shelf: &Shelf<'d, P, B, D>,
+        array: &BucketArray<'d, P, B, D>,
         caller: &mut W,
         first: usize,
         buckets: usize,
     ) -> Result<Growth<'d, P, B, D>, Refusal>
         requires range { first + buckets ≤ B.sizes.chains }
-        ensures rooms { IfOk result (λ g. (shelf.now.naming.buckets ≤ vec_capacity g.rooms.olds) × (shelf.now.naming.buckets ≤ vec_capacity g.rooms.returned) × (buckets ≤ vec_capacity g.rooms.noted) × (buckets ≤ vec_capacity g.rooms.named) × (buckets ≤ vec_capacity g.rooms.places)) }
-        ensures taken { IfOk result (λ g. (vec_len g.taken ≡ shelf.now.naming.buckets) × AreFrom shelf.now.naming.first (map (λ b. b.chain.seat.me.0) g.taken.items)) }
-        ensures copied { IfOk result (λ g. ((key : ℕ) → value_among (map (λ c. (c.key, c.value)) g.copied.items) key ≡ value_in_bucket shelf.now.naming.buckets (map (λ b. b.chain.seat.me.0) g.taken.items) key) × AreApart (map (λ c. (c.key, c.value)) g.copied.items) × AreRanked 0 (map (λ c. c.rank) g.copied.items)) }
+        ensures reserved { IfOk result (λ g. (array.now.naming.buckets ≤ vec_capacity g.reserved.olds) × (array.now.naming.buckets ≤ vec_capacity g.reserved.returned) × (buckets ≤ vec_capacity g.reserved.noted) × (buckets ≤ vec_capacity g.reserved.named) × (buckets ≤ vec_capacity g.reserved.places)) }
+        ensures taken { IfOk result (λ g. (vec_len g.taken ≡ array.now.naming.buckets) × AreFrom array.now.naming.first (map (λ b. b.chain.seat.me.0) g.taken.items)) }
+        ensures copied { IfOk result (λ g. ((key : ℕ) → value_among (map (λ c. (c.key, c.value)) g.copied.items) key ≡ value_in_bucket array.now.naming.buckets (map (λ b. b.chain.seat.me.0) g.taken.items) key) × AreApart (map (λ c. (c.key, c.value)) g.copied.items) × AreRanked 0 (map (λ c. c.rank) g.copied.items)) }
         ensures chains { IfOk result (λ g. (vec_len g.chains ≡ buckets) × AreFrom first (map (λ c. c.seat.me.0) g.chains.items) × Each IsEmpty (map (λ c. c.seat.me.0) g.chains.items) × Each IsAlone (map (λ c. c.seat.me.0) g.chains.items)) }
-        ensures record { IfOk result (λ g. (payload_in g.owned.seat.me.0.object ≡ words_by first buckets) × (g.old_lents.items ≡ []) × (shelf.now.naming.buckets ≤ vec_capacity g.old_lents) × (g.new_lents.items ≡ []) × (buckets ≤ vec_capacity g.new_lents)) }
+        ensures record { IfOk result (λ g. (payload_in g.owned.seat.me.0.object ≡ words_by first buckets) × (g.old_lents.items ≡ []) × (array.now.naming.buckets ≤ vec_capacity g.old_lents) × (g.new_lents.items ≡ []) × (buckets ≤ vec_capacity g.new_lents)) }
         ensures refused { IfErr result (λ e. ((e ≡ BadConfig) × FindsTaken W.Caller P.QSBR tabled caller.old caller.new B.sizes (IsAmong first buckets)) ⊎ ((e ≡ Memory) ⊎ (e ≡ PoolFull))) }
         ensures free { IfOk result (λ _. FindsFree W.Caller P.QSBR tabled caller.old caller.new (IsAmong first buckets)) }
         ensures heard { Begins (W.heard caller.old) (W.heard caller.new) }
@@ -205,18 +205,18 @@ impl<'d, P: GracePlan + Drop, B: Site, D: Deleter> Growth<'d, P, B, D> {
         ensures loads { ((logs : List Log) × (W.loads caller.new ≡ logs ++ W.loads caller.old)) × IfOk result (λ _. W.loads caller.new ≡ W.loads caller.old) }
         ensures same { Stays W.Caller caller.old caller.new }
     {
-        let olds = shelf.naming.buckets;
-        let rooms = Rooms::new(alloc, olds, buckets)?;
+        let olds = array.naming.buckets;
+        let reserved = Reserved::new(alloc, olds, buckets)?;
         let mut taken = room(alloc, olds)?;
         let chains = hold_all(domain, caller, room(alloc, buckets)?, first, buckets)?;
         let mut copied = Vec::new(alloc);
-        if let Err(refusal) = copy_all(rt, shelf, caller, &mut taken, &mut copied) {
-            undo(rt, domain, shelf, caller, taken, copied);
+        if let Err(refusal) = copy_all(rt, array, caller, &mut taken, &mut copied) {
+            undo(rt, domain, array, caller, taken, copied);
             return Err(refusal);
         }
-        match provide(rt, alloc, domain, caller, olds, first, buckets) {
+        match reserve_directory(rt, alloc, domain, caller, olds, first, buckets) {
             Ok((owned, old_lents, new_lents)) => Ok(Growth {
-                rooms,
+                reserved,
                 taken,
                 copied,
                 owned,
@@ -225,7 +225,7 @@ impl<'d, P: GracePlan + Drop, B: Site, D: Deleter> Growth<'d, P, B, D> {
                 new_lents,
             }),
             Err(refusal) => {
-                undo(rt, domain, shelf, caller, taken, copied);
+                undo(rt, domain, array, caller, taken, copied);
                 Err(refusal)
             }
         }

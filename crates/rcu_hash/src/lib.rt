@@ -3,16 +3,16 @@
 //! the lock of one bucket each, and for moments that of the directory.
 
 mod bucket;
+mod bucket_array;
 mod copying;
 mod directory;
 mod exchange;
 mod grow;
 mod growth;
 mod laws;
-mod left;
 mod making;
+mod old_table;
 mod rights;
-mod shelf;
 mod table;
 mod tidying;
 mod view;

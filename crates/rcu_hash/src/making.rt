@@ -21,9 +21,9 @@ ghost use Rattle.rcu_hash.specs.Tables.{IsAmong, bucket_of};
 ghost use Rattle.rcu_hash.specs.Writers.{AreFrom, Each, HasKeysIn, HasNoNote, HasNote, HasNothing, IsAlone, IsEmpty, IsRunIn, IsSame, Noted, Pairwise};
 
 use crate::bucket::Bucket;
+use crate::bucket_array::Place;
 use crate::directory::{Directory, Naming};
 use crate::rights::{lend_all, take_all_back};
-use crate::shelf::Place;
 use gp_memb::GracePlan;
 use live_log::Tabled;
 use rcu_list::{Caller, Chain, Deleter, Domain, Lent, Owned, Site};
@@ -162,7 +162,7 @@ pub(crate) fn direct<'d, P: GracePlan + Drop, B: Site, D: Deleter, W: Caller<B>>
 }
 
 /// The buckets of a directory, each under its lock. There is room for them. It never waits.
-pub(crate) fn shelve<'d, P: GracePlan + Drop, B: Site, D: Deleter>(
+pub(crate) fn into_buckets<'d, P: GracePlan + Drop, B: Site, D: Deleter>(
     chains: Vec<Chain<'d, P, Tabled, B, D>>,
     mut buckets: Vec<Place<'d, P, B, D>>,
     naming: Naming,

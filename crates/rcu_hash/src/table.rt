@@ -14,10 +14,10 @@ ghost use Rattle.rcu_hash.specs.Tables.{IsAmong, fits};
 ghost use Rattle.rcu_hash.specs.Calls.{IsInsertedThrough, IsNotMade, IsRemovedThrough, IsReplacedThrough};
 ghost use Rattle.rcu_list.specs.Calls.{TakesOneRecord};
 
-use crate::directory::Desk;
-use crate::left::Left;
-use crate::making::{direct, hold_all, hold_empty, note_all, room, shelve};
-use crate::shelf::Shelf;
+use crate::bucket_array::BucketArray;
+use crate::directory::DirectoryLock;
+use crate::making::{direct, hold_all, hold_empty, into_buckets, note_all, room};
+use crate::old_table::OldTable;
 use crate::view::TableView;
 use gp_memb::GracePlan;
 use live_log::Tabled;
@@ -53,9 +53,9 @@ pub struct RcuHash<'d, P: GracePlan, B: Site, D: Drop = Callback> {
     pub directory: usize,
     pub(crate) domain: &'d Domain<P, Tabled, B, D>,
     view: TableView<B>,
-    pub(crate) desk: Desk<'d, P, B, D>,
-    pub(crate) shelf: RwLock<Shelf<'d, P, B, D>>,
-    pub(crate) left: Mutex<Option<Left<'d, P, B, D>>>,
+    pub(crate) lock: DirectoryLock<'d, P, B, D>,
+    pub(crate) array: RwLock<BucketArray<'d, P, B, D>>,
+    pub(crate) left: Mutex<Option<OldTable<'d, P, B, D>>>,
     pub(crate) ghost at: { view.directory ≡ directory },
 }
 
@@ -109,8 +109,8 @@ impl<'d, P: GracePlan + Drop, B: Site, D: Deleter> RcuHash<'d, P, B, D> {
         let chains = note_all(chains, noted, caller, directory as u64 + 1);
         let (writer, chains) = direct(own, chains, lents, back, caller, owned, first);
         let naming = writer.naming;
-        let buckets = shelve(chains, places, naming);
-        let left = Left {
+        let buckets = into_buckets(chains, places, naming);
+        let left = OldTable {
             naming,
             unlinked: None,
             chains: Vec::new(alloc),
@@ -120,10 +120,10 @@ impl<'d, P: GracePlan + Drop, B: Site, D: Deleter> RcuHash<'d, P, B, D> {
             directory,
             domain,
             view,
-            desk: Desk {
+            lock: DirectoryLock {
                 writer: Mutex::new(Some(writer)),
             },
-            shelf: RwLock::new(Shelf { naming, buckets }),
+            array: RwLock::new(BucketArray { naming, buckets }),
             left: Mutex::new(Some(left)),
         })
     }
@@ -135,15 +135,15 @@ impl<'d, P: GracePlan + Drop, B: Site, D: Deleter> RcuHash<'d, P, B, D> {
         self.view
     }
 
-    /// The shelf of its buckets, which writers of buckets read. A lock tells only the type of what it holds, so the
+    /// The array of its buckets, which writers of buckets read. A lock tells only the type of what it holds, so the
     /// directory's chain is compared; it always is the right one.
-    fn shelf<'t, R: Wait>(&'t self, rt: &R) -> RwLockReadGuard<'t, Shelf<'d, P, B, D>>
+    fn array<'t, R: Wait>(&'t self, rt: &R) -> RwLockReadGuard<'t, BucketArray<'d, P, B, D>>
         ensures { (read_guard_value result).naming.directory ≡ self.now.directory }
     {
         for _ in rt.forever() {
-            let shelf = self.shelf.read(rt);
-            if shelf.naming.directory == self.directory {
-                return shelf;
+            let array = self.array.read(rt);
+            if array.naming.directory == self.directory {
+                return array;
             }
         }
         unreachable!()
@@ -178,9 +178,9 @@ impl<'d, P: GracePlan + Drop, B: Site, D: Deleter> RcuHash<'d, P, B, D> {
         ensures same { IfOk result (λ _. TakesOneRecord W.Caller caller.old caller.new B.sizes) }
         ensures refused { IfErr result (λ e. RefusesInsertionThrough W.Caller P.QSBR tabled B.sizes caller.old caller.new e self.now.directory key) }
     {
-        let shelf = self.shelf(rt);
-        let (mut place, mut bucket) = shelf.take(rt, shelf.bucket(key));
-        let answer = bucket.insert(rt, &self.desk, caller, key, value);
+        let array = self.array(rt);
+        let (mut place, mut bucket) = array.take(rt, array.bucket(key));
+        let answer = bucket.insert(rt, &self.lock, caller, key, value);
         *place = Some(bucket);
         answer
     }
@@ -204,9 +204,9 @@ impl<'d, P: GracePlan + Drop, B: Site, D: Deleter> RcuHash<'d, P, B, D> {
         ensures same { IfOk result (λ _. TakesOneRecord W.Caller caller.old caller.new B.sizes) }
         ensures refused { IfErr result (λ e. (e.1 ≡ callback) × RefusesReplacementThrough W.Caller P.QSBR tabled B.sizes caller.old caller.new e.0 self.now.directory key) }
     {
-        let shelf = self.shelf(rt);
-        let (mut place, mut bucket) = shelf.take(rt, shelf.bucket(key));
-        let answer = bucket.replace(rt, &self.desk, caller, key, value, callback);
+        let array = self.array(rt);
+        let (mut place, mut bucket) = array.take(rt, array.bucket(key));
+        let answer = bucket.replace(rt, &self.lock, caller, key, value, callback);
         *place = Some(bucket);
         answer
     }
@@ -228,9 +228,9 @@ impl<'d, P: GracePlan + Drop, B: Site, D: Deleter> RcuHash<'d, P, B, D> {
         ensures same { IfOk result (λ _. (W.looks caller.new ≡ W.looks caller.old) × (W.loads caller.new ≡ W.loads caller.old)) }
         ensures refused { IfErr result (λ e. (e.1 ≡ callback) × RefusesRemovalThrough W.Caller P.QSBR tabled B.sizes caller.old caller.new e.0 self.now.directory key) }
     {
-        let shelf = self.shelf(rt);
-        let (mut place, mut bucket) = shelf.take(rt, shelf.bucket(key));
-        let answer = bucket.remove(rt, &self.desk, caller, key, callback);
+        let array = self.array(rt);
+        let (mut place, mut bucket) = array.take(rt, array.bucket(key));
+        let answer = bucket.remove(rt, &self.lock, caller, key, callback);
         *place = Some(bucket);
         answer
     }

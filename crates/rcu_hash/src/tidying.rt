@@ -15,8 +15,8 @@ ghost use Rattle.rcu_list.specs.domain.Waiting.{FindsMore};
 ghost use Rattle.rcu_hash.specs.Tidying.{ClearsNote, EndsTidying, HasWaited, IsLeft, IsLinked, IsRecord, IsRefused, IsRest, IsStopped, IsTidied, RetiresObject, StopsTidying, UsesUp, WasCleared, chains_in, objects_in};
 ghost use Rattle.rcu_hash.specs.Writers.{Each, HasNothing};
 
-use crate::directory::{Desk, Naming};
-use crate::left::Left;
+use crate::directory::{DirectoryLock, Naming};
+use crate::old_table::OldTable;
 use crate::table::RcuHash;
 use gp_memb::GracePlan;
 use live_log::Tabled;
@@ -63,7 +63,7 @@ impl<D> TidyEnd<D> {
     }
 }
 
-impl<'d, P: GracePlan + Drop, B: Site, D: Deleter> Desk<'d, P, B, D> {
+impl<'d, P: GracePlan + Drop, B: Site, D: Deleter> DirectoryLock<'d, P, B, D> {
     /// Cuts the first object of a chain that an earlier directory named, and retires it. It waits for the locks of the
     /// directory and of the queue.
     ///
@@ -242,7 +242,10 @@ impl<'d, P: GracePlan + Drop, B: Site, D: Deleter> RcuHash<'d, P, B, D> {
     pub(crate) fn take_left<'t, R: Wait>(
         &'t self,
         rt: &R,
-    ) -> (MutexGuard<'t, Option<Left<'d, P, B, D>>>, Left<'d, P, B, D>)
+    ) -> (
+        MutexGuard<'t, Option<OldTable<'d, P, B, D>>>,
+        OldTable<'d, P, B, D>,
+    )
         ensures { result.1.naming.directory ≡ self.now.directory }
     {
         for _ in rt.forever() {
@@ -266,7 +269,7 @@ impl<'d, P: GracePlan + Drop, B: Site, D: Deleter> RcuHash<'d, P, B, D> {
         ensures same { OnlyHears W.Caller caller.old caller.new }
     {
         let (mut place, left) = self.take_left(rt);
-        let left = left.tell(rt, &self.desk, caller);
+        let left = left.tell(rt, &self.lock, caller);
         let naming = left.naming;
         let none = left.chains.len() == 0;
         *place = Some(left);
@@ -298,7 +301,7 @@ impl<'d, P: GracePlan + Drop, B: Site, D: Deleter> RcuHash<'d, P, B, D> {
         ensures same { FindsMore W.Caller caller.old caller.new }
     {
         retire_record(rt, self.domain, caller, replaced, jobs)?;
-        self.desk.clear_all(rt, naming, caller, chains, jobs)
+        self.lock.clear_all(rt, naming, caller, chains, jobs)
     }
 
     /// What is left of the directories before this one, with a handle that has heard of as much as the caller does
@@ -310,7 +313,7 @@ impl<'d, P: GracePlan + Drop, B: Site, D: Deleter> RcuHash<'d, P, B, D> {
         naming: Naming,
         unlinked: Option<Unlinked<B>>,
         chains: Vec<Chain<'d, P, Tabled, B, D>>,
-    ) -> Left<'d, P, B, D>
+    ) -> OldTable<'d, P, B, D>
         requires some { IsSome unlinked → 0 < vec_len chains }
         requires record { IfSome unlinked (λ u. IsRecord naming.directory u.chain u.seat.me.0) }
         requires chains { Each (IsLeft naming.directory naming.first naming.buckets) (map (λ c. c.seat.me.0) chains.items) }
@@ -319,9 +322,9 @@ impl<'d, P: GracePlan + Drop, B: Site, D: Deleter> RcuHash<'d, P, B, D> {
         ensures heard { IsAfter P.QSBR tabled (W.seen caller.old) (W.heard caller.old) (W.heard caller.new) }
         ensures same { OnlyHears W.Caller caller.old caller.new }
     {
-        self.desk.hear(rt, naming, caller);
+        self.lock.hear(rt, naming, caller);
         let handle = self.domain.split(caller);
-        Left {
+        OldTable {
             naming,
             unlinked,
             chains,
@@ -353,8 +356,8 @@ impl<'d, P: GracePlan + Drop, B: Site, D: Deleter> RcuHash<'d, P, B, D> {
             *place = Some(left);
             return Err(jobs);
         }
-        let left = left.tell(rt, &self.desk, caller);
-        let Left {
+        let left = left.tell(rt, &self.lock, caller);
+        let OldTable {
             naming: _,
             unlinked: mut replaced,
             mut chains,

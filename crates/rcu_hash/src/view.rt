@@ -63,7 +63,7 @@ fn bucket_by(kind: u64, first: u64, buckets: u64, key: u64, chains: usize) -> Op
 impl<B: Site> TableView<B> {
     ghost use Rattle.std.specs.Prelude.{Some};
     ghost use Rattle.rcu_model.specs.declared.event.ObjectId.{ObjectId};
-    ghost use Rattle.live_log.specs.Log.{note_of};
+    ghost use Rattle.live_log.specs.Log.{record_of};
     ghost use Rattle.rcu_list.specs.live_read.Holding.{MayHold, MayHoldIn};
     ghost use Rattle.rcu_list.specs.live_read.Reads.{FindsFirst};
     ghost use Rattle.rcu_list.specs.live_read.Sections.{IsIn};
@@ -97,7 +97,7 @@ impl<B: Site> TableView<B> {
         requires held { MayHoldIn section.old.reader.now.core held.cell }
         ensures reader { section.new.reader.ghost_name ≡ section.old.reader.ghost_name }
         ensures looked { Looks P.QSBR tabled section.old.reader.now.core section.new.reader.now.core }
-        ensures words { (o : ObjectId) → MayHold section.old.reader.now.core o held.cell → (result.0 ≡ kind_of (note_of (log_of section.old.reader.now.core) o)) × (result.1 ≡ first_in (note_of (log_of section.old.reader.now.core) o)) × (result.2 ≡ buckets_in (note_of (log_of section.old.reader.now.core) o)) }
+        ensures words { (o : ObjectId) → MayHold section.old.reader.now.core o held.cell → (result.0 ≡ kind_of (record_of (log_of section.old.reader.now.core) o)) × (result.1 ≡ first_in (record_of (log_of section.old.reader.now.core) o)) × (result.2 ≡ buckets_in (record_of (log_of section.old.reader.now.core) o)) }
     {
         let kind = section.read_word(held, 3);
         let first = section.read_word(held, 0);

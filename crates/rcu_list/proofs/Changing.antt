@@ -9,7 +9,7 @@ use Rattle.live_log.specs.declared.event.LiveEvent.{LiveEvent}
 use Rattle.live_log.specs.declared.event.LiveEvent.TheVariants.{Object}
 use Rattle.live_log.specs.declared.event.ObjectEvent.TheVariants.{Push, Replace, Cut}
 use Rattle.live_log.specs.Keys.{key_of}
-use Rattle.live_log.specs.Log.{Log, Begins, IsLiveRun, note_of, state_of}
+use Rattle.live_log.specs.Log.{Log, Begins, IsLiveRun, record_of, state_of}
 use Rattle.live_log.proofs.Lemmas.{chain_used, note_stays, run_of}
 use Rattle.live_log.specs.Maps.{HasMaps}
 use Rattle.rcu_list.specs.Calls.{Inserts, Replaces, Removes}
@@ -25,28 +25,28 @@ module _ (qsbr : Bool) (allows : Log → LiveEvent → Type 0) (maps : HasMaps q
     known_run : IsLiveRun qsbr allows known
     known_run = run_of qsbr allows known log begins run
 
-    pub same_note : (o : ObjectId) → In (chain_in known) o → note_of log o ≡ note_of known o
+    pub same_note : (o : ObjectId) → In (chain_in known) o → record_of log o ≡ record_of known o
     same_note o h = note_stays qsbr allows known log o begins run (chain_used qsbr allows known c o known_run h)
 
     -- a key that is there, and one that is not
-    pub key_there : (o : ObjectId) (key : ℕ) → In (chain_in known) o → key_of (note_of log o) ≡ key → map_of known c key ≡ Some (value_of (note_of known o))
-    key_there o key h is = value_at (note_of known) (chain_in known) o key (maps.falls known c known_run) h (ap key_of (sym (same_note o h)) ∙ is)
+    pub key_there : (o : ObjectId) (key : ℕ) → In (chain_in known) o → key_of (record_of log o) ≡ key → map_of known c key ≡ Some (value_of (record_of known o))
+    key_there o key h is = value_at (record_of known) (chain_in known) o key (maps.falls known c known_run) h (ap key_of (sym (same_note o h)) ∙ is)
 
-    pub key_missing : (key : ℕ) → ((o : ObjectId) → In (chain_in known) o → key_of (note_of log o) ≢ key) → map_of known c key ≡ None
-    key_missing key none = value_absent (note_of known) (chain_in known) key (λ o h is. none o h (ap key_of (same_note o h) ∙ is))
+    pub key_missing : (key : ℕ) → ((o : ObjectId) → In (chain_in known) o → key_of (record_of log o) ≢ key) → map_of known c key ≡ None
+    key_missing key none = value_absent (record_of known) (chain_in known) key (λ o h is. none o h (ap key_of (same_note o h) ∙ is))
 
     -- the same objects have the same map
     same_map : chain_in log ≡ chain_in known → (k : ℕ) → map_of log c k ≡ map_of known c k
-    same_map linked k = ap (λ (os : List ObjectId). value_in (note_of log) os k) linked ∙ value_same (note_of known) (note_of log) (chain_in known) k same_note
+    same_map linked k = ap (λ (os : List ObjectId). value_in (record_of log) os k) linked ∙ value_same (record_of known) (record_of log) (chain_in known) k same_note
 
   module _ (known seen heard before : Log) (after : Begins known before × Begins seen before × Begins heard before) (linked : chain_in before ≡ chain_in known) (key value rank cell : ℕ) (o : ObjectId) where
-    pub inserts : rank < 2 ^ 62 → rank ≡ next_rank (note_of known) (chain_in known) → IsLiveRun qsbr allows (Object (Push c o cell (words_of key value rank)) ∷ before) → map_of known c key ≡ None → Inserts qsbr allows c known seen heard key value (Object (Push c o cell (words_of key value rank)) ∷ before)
+    pub inserts : rank < 2 ^ 62 → rank ≡ next_rank (record_of known) (chain_in known) → IsLiveRun qsbr allows (Object (Push c o cell (words_of key value rank)) ∷ before) → map_of known c key ≡ None → Inserts qsbr allows c known seen heard key value (Object (Push c o cell (words_of key value rank)) ∷ before)
     inserts below next run none =
         let e : LiveEvent = Object (Push c o cell (words_of key value rank)) in
         let now : List ObjectId = chain_in (e ∷ before) in
         let pushed : now ≡ o ∷ chain_in before = at_number_same c (o ∷ chain_in before) (state_of before).chain in
         let kept : (k : ℕ) → map_of before c k ≡ map_of known c k = same_map known before after.0 run.1 linked in
-        let here : note_of (e ∷ before) o ≡ (cell, words_of key value rank) = at_object_same o (cell, words_of key value rank) (note_of before) in
+        let here : record_of (e ∷ before) o ≡ (cell, words_of key value rank) = at_object_same o (cell, words_of key value rank) (record_of before) in
         record {
           object = o;
           cell = cell;
@@ -60,14 +60,14 @@ module _ (qsbr : Bool) (allows : Log → LiveEvent → Type 0) (maps : HasMaps q
             linked = linked;
             kept = kept;
             was = kept key ∙ none;
-            map = λ k. ap (λ (l : List ObjectId). value_in (note_of (e ∷ before)) l k) pushed
-                ∙ (value_first (note_of (e ∷ before)) (chain_in before) o k
-                ∙ (λ i. at_number (key_of (here i)) (Some (value_of (here i))) (λ n. value_same (note_of before) (note_of (e ∷ before)) (chain_in before) n (same_note before (e ∷ before) (e ∷ [], refl) run) i) k));
+            map = λ k. ap (λ (l : List ObjectId). value_in (record_of (e ∷ before)) l k) pushed
+                ∙ (value_first (record_of (e ∷ before)) (chain_in before) o k
+                ∙ (λ i. at_number (key_of (here i)) (Some (value_of (here i))) (λ n. value_same (record_of before) (record_of (e ∷ before)) (chain_in before) n (same_note before (e ∷ before) (e ∷ [], refl) run) i) k));
           };
-          next = next ∙ (sym (rank_same (note_of known) (note_of before) (chain_in known) (same_note known before after.0 run.1)) ∙ ap (next_rank (note_of before)) (sym linked));
+          next = next ∙ (sym (rank_same (record_of known) (record_of before) (chain_in known) (same_note known before after.0 run.1)) ∙ ap (next_rank (record_of before)) (sym linked));
         }
 
-    module _ (p : ObjectId) (at : In (chain_in known) p) (is : key_of (note_of known p) ≡ key) where
+    module _ (p : ObjectId) (at : In (chain_in known) p) (is : key_of (record_of known p) ≡ key) where
       pub replaces : IsLiveRun qsbr allows (Object (Replace c p o cell (words_of key value rank)) ∷ before) → Replaces qsbr allows c known seen heard key value p (Object (Replace c p o cell (words_of key value rank)) ∷ before)
       replaces run =
           let e : LiveEvent = Object (Replace c p o cell (words_of key value rank)) in
@@ -75,19 +75,19 @@ module _ (qsbr : Bool) (allows : Log → LiveEvent → Type 0) (maps : HasMaps q
           let has : In (chain_in before) p = in_objects (chain_in before) p run.0.0.0 in
           let left : now ≡ replaced p o (chain_in before) = at_number_same c (replaced p o (chain_in before)) (state_of before).chain in
           let kept : (k : ℕ) → map_of before c k ≡ map_of known c k = same_map known before after.0 run.1 linked in
-          let here : note_of (e ∷ before) o ≡ (cell, words_of key value rank) = at_object_same o (cell, words_of key value rank) (note_of before) in
-          let stay : (x : ObjectId) → In (chain_in before) x → note_of (e ∷ before) x ≡ note_of before x = same_note before (e ∷ before) (e ∷ [], refl) run in
-          let was : key_of (note_of before p) ≡ key = ap key_of (same_note known before after.0 run.1 p at) ∙ is in
-          let others : (k : ℕ) → k ≢ key → map_of (e ∷ before) c k ≡ map_of before c k = λ k apart. value_kept (note_of before) (note_of (e ∷ before)) (chain_in before) now k (maps.falls before c run.1) (maps.falls (e ∷ before) c run)
-          (λ x h key_is. (subst (λ (l : List ObjectId). In l x) (sym left) (has_replaced p o (chain_in before) x h (λ same. apart (sym key_is ∙ (ap (λ (z : ObjectId). key_of (note_of before z)) same ∙ was)))), stay x h))
-          (λ x h key_is. ⊎_elim (λ (new : x ≡ o). absurd (apart (sym key_is ∙ (ap (λ (z : ObjectId). key_of (note_of (e ∷ before) z)) new ∙ ap key_of here)))) (λ (k : In (chain_in before) x × (x ≢ p)). (k.0, stay x k.0))
+          let here : record_of (e ∷ before) o ≡ (cell, words_of key value rank) = at_object_same o (cell, words_of key value rank) (record_of before) in
+          let stay : (x : ObjectId) → In (chain_in before) x → record_of (e ∷ before) x ≡ record_of before x = same_note before (e ∷ before) (e ∷ [], refl) run in
+          let was : key_of (record_of before p) ≡ key = ap key_of (same_note known before after.0 run.1 p at) ∙ is in
+          let others : (k : ℕ) → k ≢ key → map_of (e ∷ before) c k ≡ map_of before c k = λ k apart. value_kept (record_of before) (record_of (e ∷ before)) (chain_in before) now k (maps.falls before c run.1) (maps.falls (e ∷ before) c run)
+          (λ x h key_is. (subst (λ (l : List ObjectId). In l x) (sym left) (has_replaced p o (chain_in before) x h (λ same. apart (sym key_is ∙ (ap (λ (z : ObjectId). key_of (record_of before z)) same ∙ was)))), stay x h))
+          (λ x h key_is. ⊎_elim (λ (new : x ≡ o). absurd (apart (sym key_is ∙ (ap (λ (z : ObjectId). key_of (record_of (e ∷ before) z)) new ∙ ap key_of here)))) (λ (k : In (chain_in before) x × (x ≢ p)). (k.0, stay x k.0))
           (replaced_has p o (chain_in before) x (subst (λ (l : List ObjectId). In l x) left h))) in
-          let own : map_of (e ∷ before) c key ≡ Some value = value_at (note_of (e ∷ before)) now o key (maps.falls (e ∷ before) c run) (subst (λ (l : List ObjectId). In l o) (sym left) (replaced_there p o (chain_in before) has)) (ap key_of here) ∙ ap (λ (x : ℕ × List ℕ). Some (value_of x)) here in
+          let own : map_of (e ∷ before) c key ≡ Some value = value_at (record_of (e ∷ before)) now o key (maps.falls (e ∷ before) c run) (subst (λ (l : List ObjectId). In l o) (sym left) (replaced_there p o (chain_in before) has)) (ap key_of here) ∙ ap (λ (x : ℕ × List ℕ). Some (value_of x)) here in
           record {
             object = o;
             cell = cell;
             rank = rank;
-            had = value_of (note_of known p);
+            had = value_of (record_of known p);
             changes = record {
               before = before;
               wrote = refl;
@@ -102,7 +102,7 @@ module _ (qsbr : Bool) (allows : Log → LiveEvent → Type 0) (maps : HasMaps q
             };
           }
 
-  module _ (known seen heard before : Log) (after : Begins known before × Begins seen before × Begins heard before) (linked : (state_of before).chain c ≡ (state_of known).chain c) (key : ℕ) (p : ObjectId) (at : In ((state_of known).chain c) p) (is : key_of (note_of known p) ≡ key) where
+  module _ (known seen heard before : Log) (after : Begins known before × Begins seen before × Begins heard before) (linked : (state_of before).chain c ≡ (state_of known).chain c) (key : ℕ) (p : ObjectId) (at : In ((state_of known).chain c) p) (is : key_of (record_of known p) ≡ key) where
     pub removes : IsLiveRun qsbr allows (Object (Cut c p) ∷ before) → Removes qsbr allows c known seen heard key p (Object (Cut c p) ∷ before)
     removes run =
         let e : LiveEvent = Object (Cut c p) in
@@ -110,14 +110,14 @@ module _ (qsbr : Bool) (allows : Log → LiveEvent → Type 0) (maps : HasMaps q
         let has : In (chain_in before) p = in_objects (chain_in before) p run.0.0 in
         let left : now ≡ without_object p (chain_in before) = at_number_same c (without_object p (chain_in before)) (state_of before).chain in
         let kept : (k : ℕ) → map_of before c k ≡ map_of known c k = same_map known before after.0 run.1 linked in
-        let was : key_of (note_of before p) ≡ key = ap key_of (same_note known before after.0 run.1 p at) ∙ is in
-        let others : (k : ℕ) → k ≢ key → map_of (e ∷ before) c k ≡ map_of before c k = λ k apart. value_kept (note_of before) (note_of before) (chain_in before) now k (maps.falls before c run.1) (maps.falls (e ∷ before) c run)
-        (λ x h key_is. (subst (λ (l : List ObjectId). In l x) (sym left) (has_without_object p (chain_in before) x h (λ same. apart (sym key_is ∙ (ap (λ (z : ObjectId). key_of (note_of before z)) same ∙ was)))), refl))
+        let was : key_of (record_of before p) ≡ key = ap key_of (same_note known before after.0 run.1 p at) ∙ is in
+        let others : (k : ℕ) → k ≢ key → map_of (e ∷ before) c k ≡ map_of before c k = λ k apart. value_kept (record_of before) (record_of before) (chain_in before) now k (maps.falls before c run.1) (maps.falls (e ∷ before) c run)
+        (λ x h key_is. (subst (λ (l : List ObjectId). In l x) (sym left) (has_without_object p (chain_in before) x h (λ same. apart (sym key_is ∙ (ap (λ (z : ObjectId). key_of (record_of before z)) same ∙ was)))), refl))
         (λ x h key_is. ((without_object_has p (chain_in before) x (subst (λ (l : List ObjectId). In l x) left h)).0, refl)) in
-        let own : map_of (e ∷ before) c key ≡ None = value_absent (note_of before) now key (λ x h key_is. let k = without_object_has p (chain_in before) x (subst (λ (l : List ObjectId). In l x) left h) in
-        k.1 (one_key (note_of before) (chain_in before) x p (maps.falls before c run.1) k.0 has (key_is ∙ sym was))) in
+        let own : map_of (e ∷ before) c key ≡ None = value_absent (record_of before) now key (λ x h key_is. let k = without_object_has p (chain_in before) x (subst (λ (l : List ObjectId). In l x) left h) in
+        k.1 (one_key (record_of before) (chain_in before) x p (maps.falls before c run.1) k.0 has (key_is ∙ sym was))) in
         record {
-          had = value_of (note_of known p);
+          had = value_of (record_of known p);
           changes = record {
             before = before;
             wrote = refl;

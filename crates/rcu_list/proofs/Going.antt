@@ -6,7 +6,7 @@ use Rattle.rcu_model.specs.Sets.{first_of}
 use Rattle.rcu_model.proofs.Lemmas.{first_has}
 use Rattle.live_log.specs.declared.event.LiveEvent.{LiveEvent}
 use Rattle.live_log.specs.Keys.{key_of, rank_of}
-use Rattle.live_log.specs.Log.{Log, Begins, IsLiveRun, note_of, state_of}
+use Rattle.live_log.specs.Log.{Log, Begins, IsLiveRun, record_of, state_of}
 use Rattle.live_log.specs.Maps.{HasMaps}
 use Rattle.live_log.proofs.Lemmas.{begins_trans, run_of}
 use Rattle.domain.specs.live_read.declared.reader_core.ReaderCore.{ReaderCore}
@@ -29,7 +29,7 @@ module _ {P K : Type 0} {g : plan.Ghosts P} (qsbr : Bool) (allows : Log → Live
     pub looked : Looks qsbr allows start r
     pub holds : MayHold r o cell
     pub was : Met c (log_of start) (log_of r) o
-    pub passed : Passed r (rank_of (note_of (log_of r) o)) met
+    pub passed : Passed r (rank_of (record_of (log_of r) o)) met
 
   -- after a load
   pub goes_on : (r s : ReaderCore P K g) (o : ObjectId) (cell : ℕ) (met : List (ℕ × ℕ)) → GoesAt r o cell met → Looks qsbr allows r s → GoesAt s o cell met
@@ -38,21 +38,21 @@ module _ {P K : Type 0} {g : plan.Ghosts P} (qsbr : Bool) (allows : Log → Live
     holds = l.keeps.held o cell at.holds;
     was = met_later c (log_of start) (log_of r) (log_of s) o l.later.after_seen at.was;
     passed = subst (λ (x : ℕ × List ℕ). Passed s (rank_of x) met) (sym (l.keeps.notes o cell at.holds))
-        (passes_later qsbr allows maps wanted c (log_of start) (log_of r) (log_of s) (rank_of (note_of (log_of r) o)) met l.later.after_seen at.passed);
+        (passes_later qsbr allows maps wanted c (log_of start) (log_of r) (log_of s) (rank_of (record_of (log_of r) o)) met l.later.after_seen at.passed);
   }
 
   -- at the first object, with this key and value
-  module _ (s : ReaderCore P K g) (o : ObjectId) (cell : ℕ) (l : Looks qsbr allows start s) (first : FindsFirst start c (Some o)) (held : MayHold start o cell) (key value : ℕ) (key_is : key_of (note_of (log_of start) o) ≡ key) (value_is : value_of (note_of (log_of start) o) ≡ value) where
+  module _ (s : ReaderCore P K g) (o : ObjectId) (cell : ℕ) (l : Looks qsbr allows start s) (first : FindsFirst start c (Some o)) (held : MayHold start o cell) (key value : ℕ) (key_is : key_of (record_of (log_of start) o) ≡ key) (value_is : value_of (record_of (log_of start) o) ≡ value) where
     run : IsLiveRun qsbr allows (log_of start)
     run = run_of qsbr allows (log_of start) (log_of s) l.later.after_seen l.later.run
 
-    begun : (met : List (ℕ × ℕ)) → Passed start (rank_of (note_of (log_of start) o)) met → GoesAt s o cell met
+    begun : (met : List (ℕ × ℕ)) → Passed start (rank_of (record_of (log_of start) o)) met → GoesAt s o cell met
     begun met p = record {
       looked = l;
       holds = l.keeps.held o cell held;
       was = record { at = log_of start; after = ([], refl); before = l.later.after_seen; has = first_has ((state_of (log_of start)).chain c) o first };
       passed = subst (λ (x : ℕ × List ℕ). Passed s (rank_of x) met) (sym (l.keeps.notes o cell held))
-          (passes_later qsbr allows maps wanted c (log_of start) (log_of start) (log_of s) (rank_of (note_of (log_of start) o)) met l.later.after_seen p);
+          (passes_later qsbr allows maps wanted c (log_of start) (log_of start) (log_of s) (rank_of (record_of (log_of start) o)) met l.later.after_seen p);
     }
 
     pub goes_first : wanted key → GoesAt s o cell ((key, value) ∷ [])
@@ -70,8 +70,8 @@ module _ {P K : Type 0} {g : plan.Ghosts P} (qsbr : Bool) (allows : Log → Live
     goes_none next = passes_end qsbr allows maps wanted c (log_of start) (log_of s) here.looked.later.run o met here.was here.passed next
 
     -- what follows has this key and value
-    module _ (p : ObjectId) (next : FindsNext s o (Some p)) (t : ReaderCore P K g) (cell' : ℕ) (held : MayHold s p cell') (m : Looks qsbr allows s t) (key value : ℕ) (key_is : key_of (note_of (log_of s) p) ≡ key) (value_is : value_of (note_of (log_of s) p) ≡ value) where
-      came : (met' : List (ℕ × ℕ)) → Passed s (rank_of (note_of (log_of s) p)) met' → GoesAt t p cell' met'
+    module _ (p : ObjectId) (next : FindsNext s o (Some p)) (t : ReaderCore P K g) (cell' : ℕ) (held : MayHold s p cell') (m : Looks qsbr allows s t) (key value : ℕ) (key_is : key_of (record_of (log_of s) p) ≡ key) (value_is : value_of (record_of (log_of s) p) ≡ value) where
+      came : (met' : List (ℕ × ℕ)) → Passed s (rank_of (record_of (log_of s) p)) met' → GoesAt t p cell' met'
       came met' q = goes_on s t p cell' met' (record { looked = here.looked; holds = held; was = (advances qsbr allows maps c (log_of start) (log_of s) o p here.looked.later.run here.was next).0; passed = q }) m
 
       pub goes_next : wanted key → GoesAt t p cell' (met ++ (key, value) ∷ [])
@@ -80,14 +80,14 @@ module _ {P K : Type 0} {g : plan.Ghosts P} (qsbr : Bool) (allows : Log → Live
       pub goes_by : ¬ wanted key → GoesAt t p cell' met
       goes_by unwanted = came met (passes_by qsbr allows maps wanted c (log_of start) (log_of s) here.looked.later.run o p met here.was here.passed next (λ w. unwanted (subst wanted key_is w)))
 
-      pub goes_lower : rank_of (note_of (log_of t) p) < rank_of (note_of (log_of r) o)
+      pub goes_lower : rank_of (record_of (log_of t) p) < rank_of (record_of (log_of r) o)
       goes_lower =
           let lower = (advances qsbr allows maps c (log_of start) (log_of s) o p here.looked.later.run here.was next).1 in
-          let a : rank_of (note_of (log_of t) p) ≡ rank_of (note_of (log_of s) p) = ap rank_of (m.keeps.notes p cell' held) in
-          let b : rank_of (note_of (log_of s) o) ≡ rank_of (note_of (log_of r) o) = ap rank_of (l.keeps.notes o cell at.holds) in omega arith
+          let a : rank_of (record_of (log_of t) p) ≡ rank_of (record_of (log_of s) p) = ap rank_of (m.keeps.notes p cell' held) in
+          let b : rank_of (record_of (log_of s) o) ≡ rank_of (record_of (log_of r) o) = ap rank_of (l.keeps.notes o cell at.holds) in omega arith
 
   -- nothing has a rank below 0
-  pub goes_last : (r : ReaderCore P K g) (o : ObjectId) (cell : ℕ) (met : List (ℕ × ℕ)) → GoesAt r o cell met → rank_of (note_of (log_of r) o) ≡ 0 → GoesThrough wanted (log_of start) (log_of start) (log_of r) c met
+  pub goes_last : (r : ReaderCore P K g) (o : ObjectId) (cell : ℕ) (met : List (ℕ × ℕ)) → GoesAt r o cell met → rank_of (record_of (log_of r) o) ≡ 0 → GoesThrough wanted (log_of start) (log_of start) (log_of r) c met
   goes_last r o cell met at low = passes_last qsbr allows maps wanted c (log_of start) (log_of r) at.looked.later.run met (subst (λ (n : ℕ). Passed r n met) low at.passed)
 
 -- a walk that began at a later log
@@ -104,5 +104,5 @@ module _ (wanted : ℕ → Type 0) (seen heard : Log) where
   nothing_there at c saw heard_of none = record {
     is_wanted = λ key value h. absurd h;
     had = λ key value h. absurd h;
-    lacked = λ key want n. record { at = at; after_seen = saw; after_heard = heard_of; before = ([], refl); is = empty_map (note_of at) ((state_of at).chain c) key none };
+    lacked = λ key want n. record { at = at; after_seen = saw; after_heard = heard_of; before = ([], refl); is = empty_map (record_of at) ((state_of at).chain c) key none };
   }

@@ -4,7 +4,7 @@ use Rattle.std.proofs.Common.{◌≡◌, ◌≢◌, ℕ, ◌<◌, Bool, List, []
 use Rattle.rcu_model.specs.declared.event.ObjectId.{ObjectId}
 use Rattle.rcu_model.proofs.Lemmas.{first_has}
 use Rattle.live_log.specs.Keys.{key_of, rank_of}
-use Rattle.live_log.specs.Log.{Log, Begins, note_of, objects_of}
+use Rattle.live_log.specs.Log.{Log, Begins, record_of, objects_of}
 use Rattle.live_log.proofs.Lemmas.{begins_trans, run_of}
 use Rattle.domain.specs.live_read.declared.reader_core.ReaderCore.{ReaderCore}
 use Rattle.domain.specs.live_read.Holding.{MayHold, log_of}
@@ -26,7 +26,7 @@ module _ {P K : Type 0} {g : plan.Ghosts P} (qsbr : Bool) (allows : Log → Live
     pub looked : Looks qsbr allows start r
     pub holds : MayHold r o cell
     pub met : Met c (log_of start) (log_of r) o
-    pub past : Past c (log_of start) (log_of r) key (rank_of (note_of (log_of r) o))
+    pub past : Past c (log_of start) (log_of r) key (rank_of (record_of (log_of r) o))
 
   abbrev Answers : ReaderCore P K g → Option ℕ → Type 0
   Answers r answer = AnswersBetween (log_of start) (log_of start) (log_of r) c key answer
@@ -37,23 +37,23 @@ module _ {P K : Type 0} {g : plan.Ghosts P} (qsbr : Bool) (allows : Log → Live
     looked = looks_twice qsbr allows start r s at.looked l;
     holds = l.keeps.held o cell at.holds;
     met = met_later c (log_of start) (log_of r) (log_of s) o l.later.after_seen at.met;
-    past = subst (λ (x : ℕ × List ℕ). Past c (log_of start) (log_of s) key (rank_of x)) (sym (l.keeps.notes o cell at.holds)) (past_later c (log_of start) (log_of r) (log_of s) key (rank_of (note_of (log_of r) o)) l.later.after_seen at.past);
+    past = subst (λ (x : ℕ × List ℕ). Past c (log_of start) (log_of s) key (rank_of x)) (sym (l.keeps.notes o cell at.holds)) (past_later c (log_of start) (log_of r) (log_of s) key (rank_of (record_of (log_of r) o)) l.later.after_seen at.past);
   }
 
   module _ (maps : HasMaps qsbr allows) where
     -- at the first object, which has another key
-    pub stands_first : (s : ReaderCore P K g) (o : ObjectId) (cell : ℕ) → Looks qsbr allows start s → FindsFirst start c (Some o) → MayHold start o cell → key_of (note_of (log_of start) o) ≢ key → StandsAt s o cell
+    pub stands_first : (s : ReaderCore P K g) (o : ObjectId) (cell : ℕ) → Looks qsbr allows start s → FindsFirst start c (Some o) → MayHold start o cell → key_of (record_of (log_of start) o) ≢ key → StandsAt s o cell
     stands_first s o cell l first held other = record {
       looked = l;
       holds = l.keeps.held o cell held;
       met = record { at = log_of start; after = ([], refl); before = l.later.after_seen; has = first_has ((objects_of (log_of start)).chain c) o first };
       past = subst (λ (x : ℕ × List ℕ). Past c (log_of start) (log_of s) key (rank_of x)) (sym (l.keeps.notes o cell held))
-          (past_later c (log_of start) (log_of start) (log_of s) key (rank_of (note_of (log_of start) o)) l.later.after_seen
+          (past_later c (log_of start) (log_of start) (log_of s) key (rank_of (record_of (log_of start) o)) l.later.after_seen
           (past_first qsbr allows maps c (log_of start) o key (run_of qsbr allows (log_of start) (log_of s) l.later.after_seen l.later.run) first other));
     }
 
     -- the first object has the key
-    pub answers_first : (s : ReaderCore P K g) (o : ObjectId) (value : ℕ) → Looks qsbr allows start s → FindsFirst start c (Some o) → key_of (note_of (log_of start) o) ≡ key → value_of (note_of (log_of start) o) ≡ value → Answers s (Some value)
+    pub answers_first : (s : ReaderCore P K g) (o : ObjectId) (value : ℕ) → Looks qsbr allows start s → FindsFirst start c (Some o) → key_of (record_of (log_of start) o) ≡ key → value_of (record_of (log_of start) o) ≡ value → Answers s (Some value)
     answers_first s o value l first is has = answers_later (log_of start) (log_of start) (log_of s) c key (Some value) l.later.after_seen
         (meets qsbr allows maps c (log_of start) (log_of start) key value o (run_of qsbr allows (log_of start) (log_of s) l.later.after_seen l.later.run)
         (record { at = log_of start; after = ([], refl); before = ([], refl); has = first_has ((objects_of (log_of start)).chain c) o first }) is has)
@@ -67,19 +67,19 @@ module _ {P K : Type 0} {g : plan.Ghosts P} (qsbr : Bool) (allows : Log → Live
       answers_none next = misses qsbr allows maps c (log_of start) (log_of s) key (ends qsbr allows maps c (log_of start) (log_of s) key o here.looked.later.run here.met here.past next)
 
       module _ (p : ObjectId) (next : FindsNext s o (Some p)) where
-        reached : Reaches c (log_of start) (log_of s) key (rank_of (note_of (log_of s) o)) p
+        reached : Reaches c (log_of start) (log_of s) key (rank_of (record_of (log_of s) o)) p
         reached = reaches qsbr allows maps c (log_of start) (log_of s) key o here.looked.later.run here.met here.past p next
 
         -- what follows has the key
-        pub answers_next : (t : ReaderCore P K g) (value : ℕ) → Looks qsbr allows s t → key_of (note_of (log_of s) p) ≡ key → value_of (note_of (log_of s) p) ≡ value → Answers t (Some value)
+        pub answers_next : (t : ReaderCore P K g) (value : ℕ) → Looks qsbr allows s t → key_of (record_of (log_of s) p) ≡ key → value_of (record_of (log_of s) p) ≡ value → Answers t (Some value)
         answers_next t value m is has = answers_later (log_of start) (log_of s) (log_of t) c key (Some value) m.later.after_seen
             (meets qsbr allows maps c (log_of start) (log_of s) key value p here.looked.later.run reached.met is has)
 
         -- it has another key, and a lower rank
-        pub stands_next : (t : ReaderCore P K g) (cell' : ℕ) → MayHold s p cell' → Looks qsbr allows s t → key_of (note_of (log_of s) p) ≢ key → StandsAt t p cell' × (rank_of (note_of (log_of t) p) < rank_of (note_of (log_of r) o))
+        pub stands_next : (t : ReaderCore P K g) (cell' : ℕ) → MayHold s p cell' → Looks qsbr allows s t → key_of (record_of (log_of s) p) ≢ key → StandsAt t p cell' × (rank_of (record_of (log_of t) p) < rank_of (record_of (log_of r) o))
         stands_next t cell' held m other = (
           stands_on s t p cell' (record { looked = here.looked; holds = held; met = reached.met; past = reached.past other }) m,
           let lower = reached.lower in
-              let a : rank_of (note_of (log_of t) p) ≡ rank_of (note_of (log_of s) p) = ap rank_of (m.keeps.notes p cell' held) in
-              let b : rank_of (note_of (log_of s) o) ≡ rank_of (note_of (log_of r) o) = ap rank_of (l.keeps.notes o cell at.holds) in omega arith,
+              let a : rank_of (record_of (log_of t) p) ≡ rank_of (record_of (log_of s) p) = ap rank_of (m.keeps.notes p cell' held) in
+              let b : rank_of (record_of (log_of s) o) ≡ rank_of (record_of (log_of r) o) = ap rank_of (l.keeps.notes o cell at.holds) in omega arith,
         )

@@ -7,7 +7,7 @@ use Rattle.rcu_model.specs.Sets.{In, first_of}
 use Rattle.rcu_model.proofs.Lemmas.{first_has, in_append}
 use Rattle.live_log.specs.declared.event.LiveEvent.{LiveEvent}
 use Rattle.live_log.specs.Keys.{key_of, rank_of}
-use Rattle.live_log.specs.Log.{Log, Begins, Follows, IsLiveRun, note_of, objects_of, state_of}
+use Rattle.live_log.specs.Log.{Log, Begins, Follows, IsLiveRun, record_of, objects_of, state_of}
 use Rattle.live_log.specs.Maps.{HasMaps}
 use Rattle.rcu_list.specs.Maps.{AnswersBetween, value_of}
 use Rattle.rcu_list.specs.Walks.{GoesThrough, times}
@@ -74,61 +74,61 @@ module _ (qsbr : Bool) (allows : Log → LiveEvent → Type 0) (maps : HasMaps q
   }
 
   module _ (now : Log) (run : IsLiveRun qsbr allows now) where
-    pub passes_end : (o : ObjectId) (met : List (ℕ × ℕ)) → Met c start now o → Passes now (rank_of (note_of now o)) met → Follows (objects_of now) o None → GoesThrough wanted start start now c met
-    passes_end o met m p none = through now (rank_of (note_of now o)) met p (λ key past. ends qsbr allows maps c start now key o run m past none)
+    pub passes_end : (o : ObjectId) (met : List (ℕ × ℕ)) → Met c start now o → Passes now (rank_of (record_of now o)) met → Follows (objects_of now) o None → GoesThrough wanted start start now c met
+    passes_end o met m p none = through now (rank_of (record_of now o)) met p (λ key past. ends qsbr allows maps c start now key o run m past none)
 
     -- nothing has a rank below 0
     pub passes_last : (met : List (ℕ × ℕ)) → Passes now 0 met → GoesThrough wanted start start now c met
     passes_last met p = through now 0 met p (λ key past. ⊎_elim (λ (l : Lacked c start now key). l) (λ (r : (r : ℕ) × Ranked c start key r × (r < 0)). let low = r.2 in absurd (omega arith)) past)
 
     -- from an object to the one behind it
-    module _ (o p : ObjectId) (met : List (ℕ × ℕ)) (m : Met c start now o) (before : Passes now (rank_of (note_of now o)) met) (next : Follows (objects_of now) o (Some p)) where
-      on : Met c start now p × (rank_of (note_of now p) < rank_of (note_of now o))
+    module _ (o p : ObjectId) (met : List (ℕ × ℕ)) (m : Met c start now o) (before : Passes now (rank_of (record_of now o)) met) (next : Follows (objects_of now) o (Some p)) where
+      on : Met c start now p × (rank_of (record_of now p) < rank_of (record_of now o))
       on = advances qsbr allows maps c start now o p run m next
 
-      low : rank_of (note_of now p) < rank_of (note_of now o)
+      low : rank_of (record_of now p) < rank_of (record_of now o)
       low = on.1
 
       -- of a key that p does not have
-      past_other : (key : ℕ) → key_of (note_of now p) ≢ key → Past c start now key (rank_of (note_of now o)) → Past c start now key (rank_of (note_of now p))
+      past_other : (key : ℕ) → key_of (record_of now p) ≢ key → Past c start now key (rank_of (record_of now o)) → Past c start now key (rank_of (record_of now p))
       past_other key other past = (reaches qsbr allows maps c start now key o run m past p next).past other
 
       -- of the key that p has
-      rank_there : (key r : ℕ) → key_of (note_of now p) ≡ key → Ranked c start key r → Lacked c start now key ⊎ (rank_of (note_of now p) ≡ r)
+      rank_there : (key r : ℕ) → key_of (record_of now p) ≡ key → Ranked c start key r → Lacked c start now key ⊎ (rank_of (record_of now p) ≡ r)
       rank_there key r is ranked = met_rank qsbr allows maps c start now key r p run ranked on.0 is
 
-      pub passes_by : ¬ wanted (key_of (note_of now p)) → Passes now (rank_of (note_of now p)) met
+      pub passes_by : ¬ wanted (key_of (record_of now p)) → Passes now (rank_of (record_of now p)) met
       passes_by unwanted = record {
         is_wanted = before.is_wanted;
         had = before.had;
         never = λ key w n. past_other key (λ is. unwanted (subst wanted (sym is) w)) (before.never key w n);
-        once = λ key n. gone_lower now key (rank_of (note_of now o)) (rank_of (note_of now p)) low (before.once key n);
+        once = λ key n. gone_lower now key (rank_of (record_of now o)) (rank_of (record_of now p)) low (before.once key n);
         again = before.again;
       }
 
-      module _ (key value : ℕ) (want : wanted key) (key_is : key_of (note_of now p) ≡ key) (value_is : value_of (note_of now p) ≡ value) where
+      module _ (key value : ℕ) (want : wanted key) (key_is : key_of (record_of now p) ≡ key) (value_is : value_of (record_of now p) ≡ value) where
         abbrev longer : List (ℕ × ℕ)
         longer = met ++ (key, value) ∷ []
 
-        once_here : times key met ≡ 0 → Gone now key (rank_of (note_of now p))
+        once_here : times key met ≡ 0 → Gone now key (rank_of (record_of now p))
         once_here none = ⊎_elim
             (λ (l : Lacked c start now key). inl l)
-            (λ (s : (r : ℕ) × Ranked c start key r × (r < rank_of (note_of now o))). ⊎_elim
+            (λ (s : (r : ℕ) × Ranked c start key r × (r < rank_of (record_of now o))). ⊎_elim
             (λ (l : Lacked c start now key). inl l)
-            (λ (is : rank_of (note_of now p) ≡ s.0). inr (s.0, s.1, omega arith))
+            (λ (is : rank_of (record_of now p) ≡ s.0). inr (s.0, s.1, omega arith))
             (rank_there key s.0 key_is s.1))
             (before.never key want none)
 
         again_here : times key met ≡ 1 → Lacked c start now key
         again_here one = ⊎_elim
             (λ (l : Lacked c start now key). l)
-            (λ (s : (r : ℕ) × Ranked c start key r × (rank_of (note_of now o) ≤ r)). ⊎_elim
+            (λ (s : (r : ℕ) × Ranked c start key r × (rank_of (record_of now o) ≤ r)). ⊎_elim
             (λ (l : Lacked c start now key). l)
-            (λ (is : rank_of (note_of now p) ≡ s.0). let above = s.2 in let lower = low in absurd (omega arith))
+            (λ (is : rank_of (record_of now p) ≡ s.0). let above = s.2 in let lower = low in absurd (omega arith))
             (rank_there key s.0 key_is s.1))
             (before.once key one)
 
-        pub passes_next : Passes now (rank_of (note_of now p)) longer
+        pub passes_next : Passes now (rank_of (record_of now p)) longer
         passes_next = record {
           is_wanted = λ k v h. ⊎_elim (λ (l : In met (k, v)). before.is_wanted k v l) (λ (e : (key ≡ k) × (value ≡ v)). subst wanted e.0 want) (entry_of met key value k v h);
           had = λ k v h. ⊎_elim
@@ -140,8 +140,8 @@ module _ (qsbr : Bool) (allows : Log → LiveEvent → Type 0) (maps : HasMaps q
               (λ other. past_other k (λ e. other (sym key_is ∙ e)) (before.never k w (sym (times_other k key value met other) ∙ n)));
           once = λ k n. dite (ℕ_discrete key k)
               (λ is. let more = times_same key value met in let same : times k longer ≡ times key longer = ap (λ (j : ℕ). times j longer) (sym is) in
-              subst (λ (j : ℕ). Gone now j (rank_of (note_of now p))) is (once_here (omega arith)))
-              (λ other. gone_lower now k (rank_of (note_of now o)) (rank_of (note_of now p)) low (before.once k (sym (times_other k key value met other) ∙ n)));
+              subst (λ (j : ℕ). Gone now j (rank_of (record_of now p))) is (once_here (omega arith)))
+              (λ other. gone_lower now k (rank_of (record_of now o)) (rank_of (record_of now p)) low (before.once k (sym (times_other k key value met other) ∙ n)));
           again = λ k n. dite (ℕ_discrete key k)
               (λ is. let more = times_same key value met in let same : times k longer ≡ times key longer = ap (λ (j : ℕ). times j longer) (sym is) in
               subst (λ (j : ℕ). Lacked c start now j) is (dite (ℕ_discrete (times key met) 1) (λ one. again_here one) (λ more_yet. before.again key (omega arith))))
@@ -153,7 +153,7 @@ module _ (qsbr : Bool) (allows : Log → LiveEvent → Type 0) (maps : HasMaps q
     abbrev here : Met c start start o
     here = record { at = start; after = ([], refl); before = ([], refl); has = first_has ((state_of start).chain c) o first }
 
-    pub first_by : ¬ wanted (key_of (note_of start o)) → Passes start (rank_of (note_of start o)) []
+    pub first_by : ¬ wanted (key_of (record_of start o)) → Passes start (rank_of (record_of start o)) []
     first_by unwanted = record {
       is_wanted = λ key value h. absurd h;
       had = λ key value h. absurd h;
@@ -162,7 +162,7 @@ module _ (qsbr : Bool) (allows : Log → LiveEvent → Type 0) (maps : HasMaps q
       again = λ key n. absurd (omega arith);
     }
 
-    pub first_met : (key value : ℕ) → wanted key → key_of (note_of start o) ≡ key → value_of (note_of start o) ≡ value → Passes start (rank_of (note_of start o)) ((key, value) ∷ [])
+    pub first_met : (key value : ℕ) → wanted key → key_of (record_of start o) ≡ key → value_of (record_of start o) ≡ value → Passes start (rank_of (record_of start o)) ((key, value) ∷ [])
     first_met key value want key_is value_is = record {
       is_wanted = λ k v h. ⊎_elim (λ (l : In {X = ℕ × ℕ} [] (k, v)). absurd l) (λ (e : (key ≡ k) × (value ≡ v)). subst wanted e.0 want) (entry_of [] key value k v h);
       had = λ k v h. ⊎_elim
@@ -173,7 +173,7 @@ module _ (qsbr : Bool) (allows : Log → LiveEvent → Type 0) (maps : HasMaps q
           (λ is. let more = times_same key value [] in let same : times k ((key, value) ∷ []) ≡ times key ((key, value) ∷ []) = ap (λ (j : ℕ). times j ((key, value) ∷ [])) (sym is) in absurd (omega arith))
           (λ other. past_first qsbr allows maps c start o k run first (λ e. other (sym key_is ∙ e)));
       once = λ k n. dite (ℕ_discrete key k)
-          (λ is. inr (rank_of (note_of start o), record { object = o; has = here.has; key_is = key_is ∙ is; rank_is = refl }, omega arith))
+          (λ is. inr (rank_of (record_of start o), record { object = o; has = here.has; key_is = key_is ∙ is; rank_is = refl }, omega arith))
           (λ other. let none = times_other k key value [] other in absurd (omega arith));
       again = λ k n. dite (ℕ_discrete key k)
           (λ is. let more = times_same key value [] in let same : times k ((key, value) ∷ []) ≡ times key ((key, value) ∷ []) = ap (λ (j : ℕ). times j ((key, value) ∷ [])) (sym is) in absurd (omega arith))

@@ -9,7 +9,7 @@ use Rattle.live_log.specs.declared.event.LiveEvent.{LiveEvent}
 use Rattle.live_log.specs.declared.event.LiveEvent.TheVariants.{Open, Close, SeqOdd, SeqEven, Present, ChainNote, CloseQueue, Object}
 use Rattle.live_log.specs.declared.event.ObjectEvent.TheVariants.{Push, Replace, Cut, Retire, Queue, Run}
 use Rattle.live_log.specs.Keys.{key_of, rank_of}
-use Rattle.live_log.specs.Log.{Log, Begins, Follows, IsLiveRun, event_of, note_of, objects_of, state_of}
+use Rattle.live_log.specs.Log.{Log, Begins, Follows, IsLiveRun, event_of, record_of, objects_of, state_of}
 use Rattle.live_log.proofs.Lemmas.{begins_trans, chain_used, kept_log, note_stays, run_of}
 use Rattle.live_log.specs.Maps.{HasMaps}
 use Rattle.rcu_list.specs.Maps.{AnswersBetween, map_of, value_of}
@@ -38,8 +38,8 @@ module _ (c : ℕ) where
   pub record Ranked (log : Log) (key rank : ℕ) : Type 0 where
     pub object : ObjectId
     pub has : In (chain_in log) object
-    pub key_is : key_of (note_of log object) ≡ key
-    pub rank_is : rank_of (note_of log object) ≡ rank
+    pub key_is : key_of (record_of log object) ≡ key
+    pub rank_is : rank_of (record_of log object) ≡ rank
 
   pub lacked_later : (start now later : Log) (key : ℕ) → Begins now later → Lacked start now key → Lacked start later key
   lacked_later start now later key b l = record { at = l.at; after = l.after; before = begins_trans l.at now later l.before b; is = l.is }
@@ -71,8 +71,8 @@ module _ (c : ℕ) where
   -- a lookup comes to an object behind one with this rank
   pub record Reaches (start now : Log) (key rank : ℕ) (o : ObjectId) : Type 0 where
     pub met : Met start now o
-    pub lower : rank_of (note_of now o) < rank
-    pub past : key_of (note_of now o) ≢ key → Past start now key (rank_of (note_of now o))
+    pub lower : rank_of (record_of now o) < rank
+    pub past : key_of (record_of now o) ≢ key → Past start now key (rank_of (record_of now o))
 
   pub past_later : (start now later : Log) (key rank : ℕ) → Begins now later → Past start now key rank → Past start later key rank
   past_later start now later key rank b (inl l) = inl (lacked_later start now later key b l)
@@ -142,8 +142,8 @@ module _ (qsbr : Bool) (allows : Log → LiveEvent → Type 0) (maps : HasMaps q
       list : (state_of after).chain d ≡ replaced p m ((state_of log).chain d)
       list = at_number_same d (replaced p m ((state_of log).chain d)) (state_of log).chain
 
-      here : note_of after m ≡ (i, w)
-      here = at_object_same m (i, w) (note_of log)
+      here : record_of after m ≡ (i, w)
+      here = at_object_same m (i, w) (record_of log)
 
       one : p ≡ r.object → c ≡ d
       one e = (kept_log qsbr allows log run.1).linking.one_chain c d p (subst (In (chain_in c log)) (sym e) r.has) at
@@ -153,14 +153,14 @@ module _ (qsbr : Bool) (allows : Log → LiveEvent → Type 0) (maps : HasMaps q
         object = m;
         has = subst (λ (n : ℕ). In ((state_of after).chain n) m) (sym (one e)) (subst (λ (l : List ObjectId). In l m) (sym list) (replaced_there p m ((state_of log).chain d) at));
         key_is = ap key_of here ∙ is;
-        rank_is = ap rank_of here ∙ ((maps.alike log d p m i w run).0 ∙ (ap (λ (z : ObjectId). rank_of (note_of log z)) e ∙ r.rank_is));
+        rank_is = ap rank_of here ∙ ((maps.alike log d p m i w run).0 ∙ (ap (λ (z : ObjectId). rank_of (record_of log z)) e ∙ r.rank_is));
       }
 
       gone : p ≡ r.object → key_of (i, w) ≢ key → (state_of log).chain d ≡ p ∷ [] → map_of after c key ≡ None
-      gone e other alone = value_absent (note_of after) (chain_in c after) key (λ o h key_is.
+      gone e other alone = value_absent (record_of after) (chain_in c after) key (λ o h key_is.
           let now : In (replaced p m (p ∷ [])) o = subst (λ (l : List ObjectId). In l o) (ap (state_of after).chain (one e) ∙ (list ∙ ap (replaced p m) alone)) h in
           ⊎_elim
-          (λ (is : o ≡ m). other (sym (ap key_of here) ∙ (ap (λ (z : ObjectId). key_of (note_of after z)) (sym is) ∙ key_is)))
+          (λ (is : o ≡ m). other (sym (ap key_of here) ∙ (ap (λ (z : ObjectId). key_of (record_of after z)) (sym is) ∙ key_is)))
           (λ (k : In (p ∷ []) o × (o ≢ p)). ⊎_elim (λ (is : p ≡ o). k.1 (sym is)) (λ (h : In [] o). absurd h) k.0)
           (replaced_has p m (p ∷ []) o now))
 
@@ -168,7 +168,7 @@ module _ (qsbr : Bool) (allows : Log → LiveEvent → Type 0) (maps : HasMaps q
       came e = dite (ℕ_discrete (key_of (i, w)) key)
           (λ is. inl (there e is))
           (λ other. ⊎_elim
-          (λ (same : key_of (i, w) ≡ key_of (note_of log p)). absurd (other (same ∙ (ap (λ (z : ObjectId). key_of (note_of log z)) e ∙ r.key_is))))
+          (λ (same : key_of (i, w) ≡ key_of (record_of log p)). absurd (other (same ∙ (ap (λ (z : ObjectId). key_of (record_of log z)) e ∙ r.key_is))))
           (λ (alone : (state_of log).chain d ≡ p ∷ []). inr (gone e other alone))
           (maps.alike log d p m i w run).1)
   ranked_step (Object (Cut d p)) log key rank run r = by_cut (Object (Cut d p)) log key rank run r
@@ -180,8 +180,8 @@ module _ (qsbr : Bool) (allows : Log → LiveEvent → Type 0) (maps : HasMaps q
           let same : d ≡ c = (kept_log qsbr allows log run.1).linking.one_chain d c p at (subst (In (chain_in c log)) (sym e) r.has) in
           let left : chain_in c (Object (Cut d p) ∷ log) ≡ without_object p (chain_in c log) = ap (λ (n : ℕ). (state_of (Object (Cut d p) ∷ log)).chain n) (sym same)
           ∙ (at_number_same d (without_object p ((state_of log).chain d)) (state_of log).chain ∙ ap (λ (n : ℕ). without_object p ((state_of log).chain n)) same) in
-          value_absent (note_of log) (chain_in c (Object (Cut d p) ∷ log)) key (λ o h key_is. let k = without_object_has p (chain_in c log) o (subst (λ (l : List ObjectId). In l o) left h) in
-          k.1 (one_key (note_of log) (chain_in c log) o p (maps.falls log c run.1) k.0 (subst (In (chain_in c log)) (sym e) r.has) (key_is ∙ (sym r.key_is ∙ ap (λ (z : ObjectId). key_of (note_of log z)) (sym e)))))
+          value_absent (record_of log) (chain_in c (Object (Cut d p) ∷ log)) key (λ o h key_is. let k = without_object_has p (chain_in c log) o (subst (λ (l : List ObjectId). In l o) left h) in
+          k.1 (one_key (record_of log) (chain_in c log) o p (maps.falls log c run.1) k.0 (subst (In (chain_in c log)) (sym e) r.has) (key_is ∙ (sym r.key_is ∙ ap (λ (z : ObjectId). key_of (record_of log z)) (sym e)))))
 
   ranked_since : (since start : Log) (key rank : ℕ) → IsLiveRun qsbr allows (since ++ start) → Ranked c start key rank → Lacked c start (since ++ start) key ⊎ Ranked c (since ++ start) key rank
   ranked_since [] start key rank run r = inr r
@@ -215,68 +215,68 @@ module _ (qsbr : Bool) (allows : Log → LiveEvent → Type 0) (maps : HasMaps q
       by (inr g) (inl l) = absurd ((kept_log qsbr allows now run).linking.linked_not_cut l.0 o l.1 g.cut)
       by (inr g) (inr k) = record { at = g.at; after = begins_trans start m.at g.at m.after g.after; before = g.before; has = g.has; next = g.next ∙ k.1 }
 
-  note_at : (at now : Log) (o : ObjectId) → Begins at now → IsLiveRun qsbr allows now → In (chain_in c at) o → note_of now o ≡ note_of at o
+  note_at : (at now : Log) (o : ObjectId) → Begins at now → IsLiveRun qsbr allows now → In (chain_in c at) o → record_of now o ≡ record_of at o
   note_at at now o b run h = note_stays qsbr allows at now o b run (chain_used qsbr allows at c o (run_of qsbr allows at now b run) h)
 
   -- what follows an object that was met was met, with a lower rank
-  pub advances : (start now : Log) (o p : ObjectId) → IsLiveRun qsbr allows now → Met c start now o → Follows (objects_of now) o (Some p) → Met c start now p × (rank_of (note_of now p) < rank_of (note_of now o))
+  pub advances : (start now : Log) (o p : ObjectId) → IsLiveRun qsbr allows now → Met c start now o → Follows (objects_of now) o (Some p) → Met c start now p × (rank_of (record_of now p) < rank_of (record_of now o))
   advances start now o p run met follows =
       let f = follower start now o (Some p) run met follows in
-      let b = next_below (note_of f.at) (chain_in c f.at) o p (maps.falls f.at c (run_of qsbr allows f.at now f.before run)) f.has f.next in
-      let here : rank_of (note_of now o) ≡ rank_of (note_of f.at o) = ap rank_of (note_at f.at now o f.before run f.has) in
-      let there : rank_of (note_of now p) ≡ rank_of (note_of f.at p) = ap rank_of (note_at f.at now p f.before run b.has) in
+      let b = next_below (record_of f.at) (chain_in c f.at) o p (maps.falls f.at c (run_of qsbr allows f.at now f.before run)) f.has f.next in
+      let here : rank_of (record_of now o) ≡ rank_of (record_of f.at o) = ap rank_of (note_at f.at now o f.before run f.has) in
+      let there : rank_of (record_of now p) ≡ rank_of (record_of f.at p) = ap rank_of (note_at f.at now p f.before run b.has) in
       let lower = b.lower in
       (record { at = f.at; after = f.after; before = f.before; has = b.has }, omega arith)
 
   -- a key that was there when the lookup began, and was met, was met with the rank that it had then, or was absent
-  pub met_rank : (start now : Log) (key rank : ℕ) (o : ObjectId) → IsLiveRun qsbr allows now → Ranked c start key rank → Met c start now o → key_of (note_of now o) ≡ key → Lacked c start now key ⊎ (rank_of (note_of now o) ≡ rank)
+  pub met_rank : (start now : Log) (key rank : ℕ) (o : ObjectId) → IsLiveRun qsbr allows now → Ranked c start key rank → Met c start now o → key_of (record_of now o) ≡ key → Lacked c start now key ⊎ (rank_of (record_of now o) ≡ rank)
   met_rank start now key rank o run r m key_is =
       let run_at = run_of qsbr allows m.at now m.before run in
       let note = note_at m.at now o m.before run m.has in
       ⊎_elim
       (λ (l : Lacked c start m.at key). inl (lacked_later c start m.at now key m.before l))
-      (λ (k : Ranked c m.at key rank). inr (ap rank_of note ∙ (ap (λ (p : ObjectId). rank_of (note_of m.at p)) (one_key (note_of m.at) (chain_in c m.at) o k.object (maps.falls m.at c run_at) m.has k.has (ap key_of (sym note) ∙ (key_is ∙ sym k.key_is))) ∙ k.rank_is)))
+      (λ (k : Ranked c m.at key rank). inr (ap rank_of note ∙ (ap (λ (p : ObjectId). rank_of (record_of m.at p)) (one_key (record_of m.at) (chain_in c m.at) o k.object (maps.falls m.at c run_at) m.has k.has (ap key_of (sym note) ∙ (key_is ∙ sym k.key_is))) ∙ k.rank_is)))
       (ranked_later start m.at key rank m.after run_at r)
 
   -- at the first object
-  pub past_first : (start : Log) (o : ObjectId) (key : ℕ) → IsLiveRun qsbr allows start → first_of (chain_in c start) ≡ Some o → key_of (note_of start o) ≢ key → Past c start start key (rank_of (note_of start o))
+  pub past_first : (start : Log) (o : ObjectId) (key : ℕ) → IsLiveRun qsbr allows start → first_of (chain_in c start) ≡ Some o → key_of (record_of start o) ≢ key → Past c start start key (rank_of (record_of start o))
   past_first start o key run first other = ⊎_elim
-      (λ (f : Found (note_of start) (chain_in c start) key). ⊎_elim
-      (λ (same : o ≡ f.object). absurd (other (ap (λ (p : ObjectId). key_of (note_of start p)) same ∙ f.is)))
-      (λ (low : rank_of (note_of start f.object) < rank_of (note_of start o)). inr (rank_of (note_of start f.object), record { object = f.object; has = f.has; key_is = f.is; rank_is = refl }, low))
-      (first_above (note_of start) (chain_in c start) o f.object (maps.falls start c run) first f.has))
-      (λ (none : (p : ObjectId) → In (chain_in c start) p → key_of (note_of start p) ≢ key). inl (record { at = start; after = ([], refl); before = ([], refl); is = value_absent (note_of start) (chain_in c start) key none }))
-      (find_key (note_of start) (chain_in c start) key)
+      (λ (f : Found (record_of start) (chain_in c start) key). ⊎_elim
+      (λ (same : o ≡ f.object). absurd (other (ap (λ (p : ObjectId). key_of (record_of start p)) same ∙ f.is)))
+      (λ (low : rank_of (record_of start f.object) < rank_of (record_of start o)). inr (rank_of (record_of start f.object), record { object = f.object; has = f.has; key_is = f.is; rank_is = refl }, low))
+      (first_above (record_of start) (chain_in c start) o f.object (maps.falls start c run) first f.has))
+      (λ (none : (p : ObjectId) → In (chain_in c start) p → key_of (record_of start p) ≢ key). inl (record { at = start; after = ([], refl); before = ([], refl); is = value_absent (record_of start) (chain_in c start) key none }))
+      (find_key (record_of start) (chain_in c start) key)
 
-  module _ (start now : Log) (key : ℕ) (o : ObjectId) (run : IsLiveRun qsbr allows now) (met : Met c start now o) (past : Past c start now key (rank_of (note_of now o))) where
+  module _ (start now : Log) (key : ℕ) (o : ObjectId) (run : IsLiveRun qsbr allows now) (met : Met c start now o) (past : Past c start now key (rank_of (record_of now o))) where
     -- the key was absent, or stood below the object when this followed it
-    below : (found : Option ObjectId) → (f : Follower c start now o found) → Lacked c start now key ⊎ ((r : ℕ) × Ranked c start key r × ((k : Ranked c f.at key r) × (rank_of (note_of f.at k.object) < rank_of (note_of f.at o))))
+    below : (found : Option ObjectId) → (f : Follower c start now o found) → Lacked c start now key ⊎ ((r : ℕ) × Ranked c start key r × ((k : Ranked c f.at key r) × (rank_of (record_of f.at k.object) < rank_of (record_of f.at o))))
     below found f = ⊎_elim
         (λ (l : Lacked c start now key). inl l)
-        (λ (b : (r : ℕ) × Ranked c start key r × (r < rank_of (note_of now o))). ⊎_elim
+        (λ (b : (r : ℕ) × Ranked c start key r × (r < rank_of (record_of now o))). ⊎_elim
         (λ (l : Lacked c start f.at key). inl (lacked_later c start f.at now key f.before l))
-        (λ (k : Ranked c f.at key b.0). inr (b.0, b.1, (k, let here : rank_of (note_of now o) ≡ rank_of (note_of f.at o) = ap rank_of (note_at f.at now o f.before run f.has) in let is = k.rank_is in let low = b.2 in omega arith)))
+        (λ (k : Ranked c f.at key b.0). inr (b.0, b.1, (k, let here : rank_of (record_of now o) ≡ rank_of (record_of f.at o) = ap rank_of (note_at f.at now o f.before run f.has) in let is = k.rank_is in let low = b.2 in omega arith)))
         (ranked_later start f.at key b.0 f.after (run_of qsbr allows f.at now f.before run) b.1))
         past
 
     -- what comes next
-    pub reaches : (p : ObjectId) → Follows (objects_of now) o (Some p) → Reaches c start now key (rank_of (note_of now o)) p
+    pub reaches : (p : ObjectId) → Follows (objects_of now) o (Some p) → Reaches c start now key (rank_of (record_of now o)) p
     reaches p follows =
         let f = follower start now o (Some p) run met follows in
         let run_at = run_of qsbr allows f.at now f.before run in
-        let b = next_below (note_of f.at) (chain_in c f.at) o p (maps.falls f.at c run_at) f.has f.next in
-        let here : rank_of (note_of now o) ≡ rank_of (note_of f.at o) = ap rank_of (note_at f.at now o f.before run f.has) in
-        let there : note_of now p ≡ note_of f.at p = note_at f.at now p f.before run b.has in
-        let rank : rank_of (note_of now p) ≡ rank_of (note_of f.at p) = ap rank_of there in
+        let b = next_below (record_of f.at) (chain_in c f.at) o p (maps.falls f.at c run_at) f.has f.next in
+        let here : rank_of (record_of now o) ≡ rank_of (record_of f.at o) = ap rank_of (note_at f.at now o f.before run f.has) in
+        let there : record_of now p ≡ record_of f.at p = note_at f.at now p f.before run b.has in
+        let rank : rank_of (record_of now p) ≡ rank_of (record_of f.at p) = ap rank_of there in
         let lower = b.lower in
         record {
           met = record { at = f.at; after = f.after; before = f.before; has = b.has };
           lower = omega arith;
           past = λ other. ⊎_elim
               (λ (l : Lacked c start now key). inl l)
-              (λ (s : (r : ℕ) × Ranked c start key r × ((k : Ranked c f.at key r) × (rank_of (note_of f.at k.object) < rank_of (note_of f.at o)))). ⊎_elim
-              (λ (same : p ≡ s.2.0.object). absurd (other (ap key_of there ∙ (ap (λ (q : ObjectId). key_of (note_of f.at q)) same ∙ s.2.0.key_is))))
-              (λ (low : rank_of (note_of f.at s.2.0.object) < rank_of (note_of f.at p)). inr (s.0, s.1, let is = s.2.0.rank_is in omega arith))
+              (λ (s : (r : ℕ) × Ranked c start key r × ((k : Ranked c f.at key r) × (rank_of (record_of f.at k.object) < rank_of (record_of f.at o)))). ⊎_elim
+              (λ (same : p ≡ s.2.0.object). absurd (other (ap key_of there ∙ (ap (λ (q : ObjectId). key_of (record_of f.at q)) same ∙ s.2.0.key_is))))
+              (λ (low : rank_of (record_of f.at s.2.0.object) < rank_of (record_of f.at p)). inr (s.0, s.1, let is = s.2.0.rank_is in omega arith))
               (b.others s.2.0.object s.2.0.has s.2.1))
               (below (Some p) f);
         }
@@ -287,18 +287,18 @@ module _ (qsbr : Bool) (allows : Log → LiveEvent → Type 0) (maps : HasMaps q
         let f = follower start now o None run met follows in
         ⊎_elim
         (λ (l : Lacked c start now key). l)
-        (λ (s : (r : ℕ) × Ranked c start key r × ((k : Ranked c f.at key r) × (rank_of (note_of f.at k.object) < rank_of (note_of f.at o)))).
-        absurd (last_below (note_of f.at) (chain_in c f.at) o s.2.0.object (maps.falls f.at c (run_of qsbr allows f.at now f.before run)) f.has f.next s.2.0.has s.2.1))
+        (λ (s : (r : ℕ) × Ranked c start key r × ((k : Ranked c f.at key r) × (rank_of (record_of f.at k.object) < rank_of (record_of f.at o)))).
+        absurd (last_below (record_of f.at) (chain_in c f.at) o s.2.0.object (maps.falls f.at c (run_of qsbr allows f.at now f.before run)) f.has f.next s.2.0.has s.2.1))
         (below None f)
 
   -- the key was met
-  pub meets : (start now : Log) (key value : ℕ) (o : ObjectId) → IsLiveRun qsbr allows now → Met c start now o → key_of (note_of now o) ≡ key → value_of (note_of now o) ≡ value → AnswersBetween start start now c key (Some value)
+  pub meets : (start now : Log) (key value : ℕ) (o : ObjectId) → IsLiveRun qsbr allows now → Met c start now o → key_of (record_of now o) ≡ key → value_of (record_of now o) ≡ value → AnswersBetween start start now c key (Some value)
   meets start now key value o run m key_is value_is = let note = note_at m.at now o m.before run m.has in record {
     at = m.at;
     after_seen = m.after;
     after_heard = m.after;
     before = m.before;
-    is = value_at (note_of m.at) (chain_in c m.at) o key (maps.falls m.at c (run_of qsbr allows m.at now m.before run)) m.has (ap key_of (sym note) ∙ key_is) ∙ ap Some (ap value_of (sym note) ∙ value_is);
+    is = value_at (record_of m.at) (chain_in c m.at) o key (maps.falls m.at c (run_of qsbr allows m.at now m.before run)) m.has (ap key_of (sym note) ∙ key_is) ∙ ap Some (ap value_of (sym note) ∙ value_is);
   }
 
   pub misses : (start now : Log) (key : ℕ) → Lacked c start now key → AnswersBetween start start now c key None

@@ -9,7 +9,7 @@ use Rattle.live_log.specs.declared.event.LiveEvent.{LiveEvent}
 use Rattle.live_log.specs.declared.event.LiveEvent.TheVariants.{Object}
 use Rattle.live_log.specs.declared.event.ObjectEvent.TheVariants.{Push, Replace, Cut}
 use Rattle.live_log.specs.Keys.{key_of, rank_of}
-use Rattle.live_log.specs.Log.{Log, Begins, IsLiveRun, chain_note, note_of, state_of}
+use Rattle.live_log.specs.Log.{Log, Begins, IsLiveRun, chain_note, record_of, state_of}
 use Rattle.domain.specs.live_rule.declared.view.View.{View}
 use Rattle.domain.specs.live_rule.Seats.{lent_chains}
 use Rattle.domain.specs.live_rule.declared.rights.ChainRight.{ChainRight}
@@ -39,16 +39,16 @@ module _ {S : Type 0} (qsbr : Bool) (allows : Log → LiveEvent → Type 0) (map
   walked_in : (o : ObjectId) → In (list_in m.0) o → In ((state_of m.0.seen).chain c) o
   walked_in o h = subst (λ (l : List ObjectId). In l o) (sym (chain_known m.0 c listed is)) h
 
-  pub note_walked : (o : ObjectId) → In (list_in m.0) o → note_of n.0.seen o ≡ note_of m.0.seen o
+  pub note_walked : (o : ObjectId) → In (list_in m.0) o → record_of n.0.seen o ≡ record_of m.0.seen o
   note_walked o h = same_note qsbr allows maps c m.0.seen n.0.seen went.2.0 went.2.2 o (walked_in o h)
 
-  pub walked_value : (o : ObjectId) (key : ℕ) → In (list_in m.0) o → key_of (note_of n.0.seen o) ≡ key → map_of m.0.seen c key ≡ Some (value_of (note_of m.0.seen o))
+  pub walked_value : (o : ObjectId) (key : ℕ) → In (list_in m.0) o → key_of (record_of n.0.seen o) ≡ key → map_of m.0.seen c key ≡ Some (value_of (record_of m.0.seen o))
   walked_value o key h key_is = key_there qsbr allows maps c m.0.seen n.0.seen went.2.0 went.2.2 o key (walked_in o h) key_is
 
-  pub walked_there : (o : ObjectId) (key : ℕ) → In (list_in m.0) o → key_of (note_of n.0.seen o) ≡ key → IsSome (map_of m.0.seen c key)
+  pub walked_there : (o : ObjectId) (key : ℕ) → In (list_in m.0) o → key_of (record_of n.0.seen o) ≡ key → IsSome (map_of m.0.seen c key)
   walked_there o key h key_is = subst (λ (x : Option ℕ). IsSome x) (sym (walked_value o key h key_is)) refl
 
-  pub walked_missing : (key : ℕ) → ((o : ObjectId) → In (list_in m.0) o → key_of (note_of n.0.seen o) ≢ key) → map_of m.0.seen c key ≡ None
+  pub walked_missing : (key : ℕ) → ((o : ObjectId) → In (list_in m.0) o → key_of (record_of n.0.seen o) ≢ key) → map_of m.0.seen c key ≡ None
   walked_missing key none = key_missing qsbr allows maps c m.0.seen n.0.seen went.2.0 went.2.2 key (λ o h. none o (subst (λ (l : List ObjectId). In l o) (chain_known m.0 c listed is) h))
 
   pub found_there : (key index : ℕ) → IsFirstWith n.0.seen (list_in m.0) key index → IsSome (map_of m.0.seen c key)
@@ -57,15 +57,15 @@ module _ {S : Type 0} (qsbr : Bool) (allows : Log → LiveEvent → Type 0) (map
   pub same_own : own_in n.0.chains ≡ own_in m.0.chains
   same_own = ap (λ (u : View). own_in u.chains) went.1
 
-  pub rank_walked : next_rank (note_of n.0.seen) (list_in n.0) ≡ next_rank (note_of m.0.seen) ((state_of m.0.seen).chain c)
-  rank_walked = ap (λ (x : ChainRight). next_rank (note_of n.0.seen) x.objects) same_own
-      ∙ (rank_same (note_of m.0.seen) (note_of n.0.seen) (list_in m.0) note_walked ∙ ap (next_rank (note_of m.0.seen)) (sym (chain_known m.0 c listed is)))
+  pub rank_walked : next_rank (record_of n.0.seen) (list_in n.0) ≡ next_rank (record_of m.0.seen) ((state_of m.0.seen).chain c)
+  rank_walked = ap (λ (x : ChainRight). next_rank (record_of n.0.seen) x.objects) same_own
+      ∙ (rank_same (record_of m.0.seen) (record_of n.0.seen) (list_in m.0) note_walked ∙ ap (next_rank (record_of m.0.seen)) (sym (chain_known m.0 c listed is)))
 
   pub map_walked : IsListed n.0 → (key : ℕ) → map_of n.0.seen c key ≡ map_of m.0.seen c key
   map_walked listed' key =
       let list : (state_of n.0.seen).chain c ≡ list_in m.0 = chain_known n.0 c listed' (ap (λ (x : ChainRight). x.chain) same_own ∙ is) ∙ ap (λ (x : ChainRight). x.objects) same_own in
-      ap (λ (l : List ObjectId). value_in (note_of n.0.seen) l key) list
-      ∙ (value_same (note_of m.0.seen) (note_of n.0.seen) (list_in m.0) key note_walked ∙ ap (λ (l : List ObjectId). value_in (note_of m.0.seen) l key) (sym (chain_known m.0 c listed is)))
+      ap (λ (l : List ObjectId). value_in (record_of n.0.seen) l key) list
+      ∙ (value_same (record_of m.0.seen) (record_of n.0.seen) (list_in m.0) key note_walked ∙ ap (λ (l : List ObjectId). value_in (record_of m.0.seen) l key) (sym (chain_known m.0 c listed is)))
 
   pub last_rank : IsListed n.0 → HasLastRank n.0.seen c → HasLastRank m.0.seen c
   last_rank listed' (o, first, last) =
@@ -79,7 +79,7 @@ module _ (qsbr : Bool) (allows : Log → LiveEvent → Type 0) (maps : HasMaps q
   linked : (e : LiveEvent) (p : Publishes qsbr allows v seen' heard' owner e w.seen) → (state_of p.before).chain c ≡ (state_of known).chain c
   linked e p = ap (state_of p.before).chain (sym is_v) ∙ ((subst (AreAsKnown p.before) own p.known).0.0 ∙ sym knows)
 
-  pub pushed_map : (u : View) (key value rank : ℕ) → rank < 2 ^ 62 → rank ≡ next_rank (note_of known) ((state_of known).chain c) → payload_in u.object ≡ words_of key value rank → (p : Publishes qsbr allows v seen' heard' owner (push_by v u) w.seen) → Begins known p.before × Begins seen p.before × Begins heard p.before → map_of known c key ≡ None → Inserts qsbr allows c known seen heard key value w.seen
+  pub pushed_map : (u : View) (key value rank : ℕ) → rank < 2 ^ 62 → rank ≡ next_rank (record_of known) ((state_of known).chain c) → payload_in u.object ≡ words_of key value rank → (p : Publishes qsbr allows v seen' heard' owner (push_by v u) w.seen) → Begins known p.before × Begins seen p.before × Begins heard p.before → map_of known c key ≡ None → Inserts qsbr allows c known seen heard key value w.seen
   pushed_map u key value rank below next words p after none =
       let o : ObjectId = object_in u.object in
       let e : LiveEvent = Object (Push c o (cell_in u.object) (words_of key value rank)) in
@@ -87,7 +87,7 @@ module _ (qsbr : Bool) (allows : Log → LiveEvent → Type 0) (maps : HasMaps q
       subst (Inserts qsbr allows c known seen heard key value) (sym wrote)
       (inserts qsbr allows maps c known seen heard p.before after (linked (push_by v u) p) key value rank (cell_in u.object) o below next (subst (IsLiveRun qsbr allows) wrote p.run) none)
 
-  module _ (key : ℕ) (o : ObjectId) (at : In (list_in v) o) (key_is : key_of (note_of known o) ≡ key) where
+  module _ (key : ℕ) (o : ObjectId) (at : In (list_in v) o) (key_is : key_of (record_of known o) ≡ key) where
     known_in : In ((state_of known).chain c) o
     known_in = subst (λ (l : List ObjectId). In l o) (sym knows) at
 
@@ -141,19 +141,19 @@ pub by_no_note : (qsbr : Bool) (allows : Log → LiveEvent → Type 0) (v : View
 by_no_note qsbr allows v none log begins run note lent = note ∙ none
 
 -- what the writer of a free chain may publish, by the list and the notes that it knows
-module _ (qsbr : Bool) (allows : Log → LiveEvent → Type 0) (maps : HasMaps qsbr allows) (free : Log → ℕ → Type 0) (takes : TakesKeys qsbr allows free) (v : View) (seen heard owner : Log) (own : IsWriter v) (listed : IsListed v) (may : MayWriteIn qsbr allows free v) (keys : (o : ObjectId) → In (list_in v) o → HasKey (note_of v.seen o)) where
+module _ (qsbr : Bool) (allows : Log → LiveEvent → Type 0) (maps : HasMaps qsbr allows) (free : Log → ℕ → Type 0) (takes : TakesKeys qsbr allows free) (v : View) (seen heard owner : Log) (own : IsWriter v) (listed : IsListed v) (may : MayWriteIn qsbr allows free v) (keys : (o : ObjectId) → In (list_in v) o → HasKey (record_of v.seen o)) where
   all_known : (log : Log) → AreAsKnown log v.chains → AreAsKnown log (own_in v.chains ∷ lent_chains v.chains)
   all_known log known = subst (AreAsKnown log) own known
 
   is_free : (log : Log) → GoesOn v seen heard owner log → IsLiveRun qsbr allows log → AreAsKnown log v.chains → free log (own_in v.chains).chain
   is_free log on run known = let k = all_known log known in may log on.after_writer.0 run k.0.1 k.1
 
-  pub may_insert : (u : View) → HasKey (0, payload_in u.object) → ((p : ObjectId) → In (list_in v) p → (key_of (note_of v.seen p) ≢ key_of (0, payload_in u.object)) × (rank_of (note_of v.seen p) < rank_of (0, payload_in u.object))) → MayPublish qsbr allows v seen heard owner (push_by v u)
+  pub may_insert : (u : View) → HasKey (0, payload_in u.object) → ((p : ObjectId) → In (list_in v) p → (key_of (record_of v.seen p) ≢ key_of (0, payload_in u.object)) × (rank_of (record_of v.seen p) < rank_of (0, payload_in u.object))) → MayPublish qsbr allows v seen heard owner (push_by v u)
   may_insert u key above log on run known made =
       may_push qsbr allows maps free takes (own_in v.chains).chain v.seen log on.after_writer.0 run (list_in v) listed.0 (all_known log known).0.0 (is_free log on run known) keys
       (object_in u.object) (cell_in u.object) (payload_in u.object) (not_has (state_of log).used (object_in u.object) made) key above
 
-  pub may_exchange : (u : View) (o : ObjectId) → In (list_in v) o → HasKey (0, payload_in u.object) → (key_of (0, payload_in u.object) ≡ key_of (note_of v.seen o)) × (rank_of (0, payload_in u.object) ≡ rank_of (note_of v.seen o)) → MayPublish qsbr allows v seen heard owner (replace_by o v u)
+  pub may_exchange : (u : View) (o : ObjectId) → In (list_in v) o → HasKey (0, payload_in u.object) → (key_of (0, payload_in u.object) ≡ key_of (record_of v.seen o)) × (rank_of (0, payload_in u.object) ≡ rank_of (record_of v.seen o)) → MayPublish qsbr allows v seen heard owner (replace_by o v u)
   may_exchange u o at key kept log on run known made =
       may_replace qsbr allows maps free takes (own_in v.chains).chain v.seen log on.after_writer.0 run (list_in v) listed.0 (all_known log known).0.0 (is_free log on run known) keys
       o (object_in u.object) (cell_in u.object) (payload_in u.object) at (not_has (state_of log).used (object_in u.object) made.1) key kept
@@ -163,10 +163,10 @@ module _ (qsbr : Bool) (allows : Log → LiveEvent → Type 0) (maps : HasMaps q
       may_cut qsbr allows maps free takes (own_in v.chains).chain v.seen log on.after_writer.0 run (list_in v) listed.0 (all_known log known).0.0 (is_free log on run known) keys o at
 
   -- by a record with another key, and a rank above all others
-  pub comes_above : (u : View) (key value rank : ℕ) → payload_in u.object ≡ words_of key value rank → ((o : ObjectId) → In (list_in v) o → (key_of (note_of v.seen o) ≢ key) × (rank_of (note_of v.seen o) < rank)) → MayPublish qsbr allows v seen heard owner (push_by v u)
+  pub comes_above : (u : View) (key value rank : ℕ) → payload_in u.object ≡ words_of key value rank → ((o : ObjectId) → In (list_in v) o → (key_of (record_of v.seen o) ≢ key) × (rank_of (record_of v.seen o) < rank)) → MayPublish qsbr allows v seen heard owner (push_by v u)
   comes_above u key value rank words others = may_insert u (ap (λ (l : List ℕ). slice_index_or l 3 0) words) (λ p h.
       let x = others p h in
-      (λ same. x.0 (same ∙ ap (λ (l : List ℕ). slice_index_or l 0 0) words), subst (λ (l : List ℕ). rank_of (note_of v.seen p) < slice_index_or l 2 0) (sym words) x.1))
+      (λ same. x.0 (same ∙ ap (λ (l : List ℕ). slice_index_or l 0 0) words), subst (λ (l : List ℕ). rank_of (record_of v.seen p) < slice_index_or l 2 0) (sym words) x.1))
 
   -- by a record that was made ready
   pub comes_in : (u : View) (key value : ℕ) → MayComeIn v u key value → MayPublish qsbr allows v seen heard owner (push_by v u)
@@ -176,13 +176,13 @@ module _ (qsbr : Bool) (allows : Log → LiveEvent → Type 0) (maps : HasMaps q
   takes_over u key value index ready o at =
       let is : ready.found.object ≡ o = some_is ready.found.object o (sym ready.found.at ∙ at) in
       may_exchange u o (index_has (list_in v) index o at) (ap (λ (l : List ℕ). slice_index_or l 3 0) ready.words) (
-        ap (λ (l : List ℕ). slice_index_or l 0 0) ready.words ∙ sym (ap (λ (p : ObjectId). key_of (note_of v.seen p)) (sym is) ∙ ready.found.begins),
-        ap (λ (l : List ℕ). slice_index_or l 2 0) ready.words ∙ (ready.same ∙ ap (λ (p : ObjectId). rank_of (note_of v.seen p)) is),
+        ap (λ (l : List ℕ). slice_index_or l 0 0) ready.words ∙ sym (ap (λ (p : ObjectId). key_of (record_of v.seen p)) (sym is) ∙ ready.found.begins),
+        ap (λ (l : List ℕ). slice_index_or l 2 0) ready.words ∙ (ready.same ∙ ap (λ (p : ObjectId). rank_of (record_of v.seen p)) is),
       )
 
 -- that the objects of the list have keys stays so
 abbrev pub KnowsKeys : View → Type 0
-KnowsKeys v = (o : ObjectId) → In (list_in v) o → HasKey (note_of v.seen o)
+KnowsKeys v = (o : ObjectId) → In (list_in v) o → HasKey (record_of v.seen o)
 
 -- after a walk
 module _ {S : Type 0} (qsbr : Bool) (allows : Log → LiveEvent → Type 0) (maps : HasMaps qsbr allows) (c : ℕ) (m n : Me S View) (went : Went qsbr allows m.0 m n) (listed : IsListed m.0) (is : (own_in m.0.chains).chain ≡ c) where
@@ -196,22 +196,22 @@ module _ {S : Type 0} (qsbr : Bool) (allows : Log → LiveEvent → Type 0) (map
 
 -- after an event
 module _ (qsbr : Bool) (allows : Log → LiveEvent → Type 0) (maps : HasMaps qsbr allows) (v w : View) (listed : IsListed v) (keys : KnowsKeys v) (seen heard owner : Log) where
-  key_later : (e : LiveEvent) → Publishes qsbr allows v seen heard owner e w.seen → (o : ObjectId) → In (list_in v) o → HasKey (note_of w.seen o)
+  key_later : (e : LiveEvent) → Publishes qsbr allows v seen heard owner e w.seen → (o : ObjectId) → In (list_in v) o → HasKey (record_of w.seen o)
   key_later e p o h =
       let later : Begins v.seen w.seen = begins_trans v.seen p.before w.seen p.after.after_writer.0 (e ∷ [], p.wrote) in
       subst HasKey (sym (same_note qsbr allows maps (own_in v.chains).chain v.seen w.seen later p.run o (subst (λ (l : List ObjectId). In l o) (sym listed.0) h))) (keys o h)
 
   pub keys_pushed : (u : View) → Publishes qsbr allows v seen heard owner (push_by v u) w.seen → HasKey (0, payload_in u.object) → list_in w ≡ object_in u.object ∷ list_in v → KnowsKeys w
   keys_pushed u p key list o h = ⊎_elim
-      (λ (is : object_in u.object ≡ o). subst (λ (q : ObjectId). HasKey (note_of w.seen q)) is
-      (subst (λ (l : Log). HasKey (note_of l (object_in u.object))) (sym p.wrote) (subst HasKey (sym (at_object_same (object_in u.object) (cell_in u.object, payload_in u.object) (note_of p.before))) key)))
+      (λ (is : object_in u.object ≡ o). subst (λ (q : ObjectId). HasKey (record_of w.seen q)) is
+      (subst (λ (l : Log). HasKey (record_of l (object_in u.object))) (sym p.wrote) (subst HasKey (sym (at_object_same (object_in u.object) (cell_in u.object, payload_in u.object) (record_of p.before))) key)))
       (λ (was : In (list_in v) o). key_later (push_by v u) p o was)
       (subst (λ (l : List ObjectId). In l o) list h)
 
   pub keys_replaced : (u : View) (left : ObjectId) → Publishes qsbr allows v seen heard owner (replace_by left v u) w.seen → HasKey (0, payload_in u.object) → list_in w ≡ replaced left (object_in u.object) (list_in v) → KnowsKeys w
   keys_replaced u left p key list o h = ⊎_elim
-      (λ (is : o ≡ object_in u.object). subst (λ (q : ObjectId). HasKey (note_of w.seen q)) (sym is)
-      (subst (λ (l : Log). HasKey (note_of l (object_in u.object))) (sym p.wrote) (subst HasKey (sym (at_object_same (object_in u.object) (cell_in u.object, payload_in u.object) (note_of p.before))) key)))
+      (λ (is : o ≡ object_in u.object). subst (λ (q : ObjectId). HasKey (record_of w.seen q)) (sym is)
+      (subst (λ (l : Log). HasKey (record_of l (object_in u.object))) (sym p.wrote) (subst HasKey (sym (at_object_same (object_in u.object) (cell_in u.object, payload_in u.object) (record_of p.before))) key)))
       (λ (was : In (list_in v) o × (o ≢ left)). key_later (replace_by left v u) p o was.0)
       (replaced_has left (object_in u.object) (list_in v) o (subst (λ (l : List ObjectId). In l o) list h))
 

@@ -7,7 +7,7 @@ use Rattle.rcu_model.specs.Sets.{at_number}
 use Rattle.live_log.specs.declared.event.LiveEvent.{LiveEvent}
 use Rattle.live_log.specs.declared.event.LiveEvent.TheVariants.{Object}
 use Rattle.live_log.specs.declared.event.ObjectEvent.TheVariants.{Push, Replace, Cut}
-use Rattle.live_log.specs.Log.{Log, Begins, IsLiveRun, note_of, state_of}
+use Rattle.live_log.specs.Log.{Log, Begins, IsLiveRun, record_of, state_of}
 use Rattle.domain.specs.live_items.Retiring.{Queues}
 use Rattle.domain.specs.live_read.Hearing.{IsAfter, MakesLast}
 use Rattle.domain.specs.live_read.declared.caller.Caller.{Ghosts}
@@ -42,7 +42,7 @@ module _ (qsbr : Bool) (allows : Log → LiveEvent → Type 0) (c : ℕ) (known 
     pub rank : ℕ
     pub below : rank < 2 ^ 62
     pub changes : Changes (Object (Push c object cell (words_of key value rank))) key None (Some value) log
-    pub next : rank ≡ next_rank (note_of changes.before) ((state_of changes.before).chain c)
+    pub next : rank ≡ next_rank (record_of changes.before) ((state_of changes.before).chain c)
 
   -- a key that had a value has this one, by a replacement
   pub record Replaces (key value : ℕ) (left : ObjectId) (log : Log) : Type 0 where

@@ -3,7 +3,7 @@ use Rattle.std.specs.Prelude.{◌≡◌, ◌≤◌, ℕ, ◌+◌, ◌^◌, ◌==
 use Rattle.rcu_model.specs.declared.event.ObjectId.{ObjectId}
 use Rattle.rcu_model.specs.Sets.{first_of}
 use Rattle.live_log.specs.Keys.{key_of, rank_of}
-use Rattle.live_log.specs.Log.{Log, Begins, note_of, state_of}
+use Rattle.live_log.specs.Log.{Log, Begins, record_of, state_of}
 
 -- the payload of a key with a value, and a payload's value
 abbrev pub words_of : ℕ → ℕ → ℕ → List ℕ
@@ -19,7 +19,7 @@ value_in note (o ∷ os) key = if key_of (note o) == key then Some (value_of (no
 
 -- the map of a chain: the keys and values of the objects that it links in the log
 abbrev pub map_of : Log → ℕ → ℕ → Option ℕ
-map_of log c = value_in (note_of log) ((state_of log).chain c)
+map_of log c = value_in (record_of log) ((state_of log).chain c)
 
 -- the rank that comes next above those of objects of which the first one has the highest
 abbrev pub next_rank : (ObjectId → ℕ × List ℕ) → List ObjectId → ℕ
@@ -28,7 +28,7 @@ next_rank note (o ∷ os) = rank_of (note o) + 1
 
 -- the first object of the chain has the last rank, above which there is none
 abbrev pub HasLastRank : Log → ℕ → Type 0
-HasLastRank log c = (o : ObjectId) × (first_of ((state_of log).chain c) ≡ Some o) × (2 ^ 62 ≤ rank_of (note_of log o) + 1)
+HasLastRank log c = (o : ObjectId) × (first_of ((state_of log).chain c) ≡ Some o) × (2 ^ 62 ≤ rank_of (record_of log o) + 1)
 
 -- A lookup that had seen and heard of these logs, and has seen the new one at its end, answers by the map in some log
 -- between: the key had the value there, or none.

@@ -4,7 +4,7 @@ ghost use Rattle.std.specs.Prelude.{◌≡◌, ◌≢◌, ◌⊎◌, ◌+◌, �
 ghost use Rattle.rcu_model.specs.Sets.{In};
 ghost use Rattle.rcu_model.specs.declared.event.ObjectId.{ObjectId};
 ghost use Rattle.rcu_model.specs.declared.refusal.Refusal.TheVariants.{BadConfig};
-ghost use Rattle.live_log.specs.Log.{note_of};
+ghost use Rattle.live_log.specs.Log.{record_of};
 ghost use Rattle.live_log.specs.Tables.{HasKey};
 ghost use Rattle.domain.specs.live_table.Rights.{own_in};
 ghost use Rattle.domain.specs.live_read.Hearing.{OnlyHears, OnlyMakesLast};
@@ -31,7 +31,7 @@ pub struct RcuList<'d, P: GracePlan, K: MapRule, B: Site, D: Drop = Callback> {
     pub chain: Chain<'d, P, K, B, D>,
     // Its chain has no note, and its objects have keys.
     pub(crate) ghost unnoted: { (own_in chain.seat.me.0.chains).note ≡ 0 },
-    pub(crate) ghost keys: { (o : ObjectId) → In (list_in chain.seat.me.0) o → HasKey (note_of chain.seat.me.0.seen o) },
+    pub(crate) ghost keys: { (o : ObjectId) → In (list_in chain.seat.me.0) o → HasKey (record_of chain.seat.me.0.seen o) },
 }
 
 impl<'d, P: GracePlan + Drop, K: MapRule, B: Site, D: Deleter> RcuList<'d, P, K, B, D> {

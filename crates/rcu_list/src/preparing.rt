@@ -4,7 +4,7 @@ ghost use Rattle.std.specs.Prelude.{◌≡◌, ◌+◌, ◌<◌, ◌^◌, None, 
 ghost use Rattle.rcu_model.specs.Sets.{In};
 ghost use Rattle.rcu_model.specs.declared.event.ObjectId.{ObjectId};
 ghost use Rattle.live_log.specs.Keys.{rank_of};
-ghost use Rattle.live_log.specs.Log.{note_of};
+ghost use Rattle.live_log.specs.Log.{record_of};
 ghost use Rattle.domain.specs.live_table.Steps.{IsLater, Keeps, Went};
 ghost use Rattle.domain.specs.live_read.Hearing.{IsAfter, Stays};
 ghost use Rattle.domain.specs.live_write.Chains.{list_in};
@@ -29,8 +29,8 @@ fn fresh_rank<P: GracePlan + Drop, K: MapRule, B: Site, D: Deleter>(
     chain: &mut Chain<'_, P, K, B, D>,
 ) -> Option<u64>
     requires { IsLater P.QSBR K.allows chain.old.seat.me.0 chain.old.seat.me.0 }
-    ensures above { IfSome result (λ rank. (rank < 2 ^ 62) × ((o : ObjectId) → In (list_in chain.old.seat.me.0) o → rank_of (note_of chain.new.seat.me.0.seen o) < rank)) }
-    ensures next { IfSome result (λ rank. rank ≡ next_rank (note_of chain.new.seat.me.0.seen) (list_in chain.new.seat.me.0)) }
+    ensures above { IfSome result (λ rank. (rank < 2 ^ 62) × ((o : ObjectId) → In (list_in chain.old.seat.me.0) o → rank_of (record_of chain.new.seat.me.0.seen o) < rank)) }
+    ensures next { IfSome result (λ rank. rank ≡ next_rank (record_of chain.new.seat.me.0.seen) (list_in chain.new.seat.me.0)) }
     ensures none { IfNone result (HasLastRank chain.new.seat.me.0.seen chain.old.number) }
     ensures looked { Keeps chain.old.seat chain.new.seat × Went P.QSBR K.allows chain.old.seat.me.0 chain.old.seat.me chain.new.seat.me × (chain.new.number ≡ chain.old.number) × (chain.new.home.now ≡ chain.old.home.now) }
 {

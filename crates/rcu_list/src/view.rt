@@ -41,7 +41,7 @@ impl<B: Site> ListView<B> {
     ghost use Rattle.std.specs.Prelude.{◌≢◌, Some, IfNone};
     ghost use Rattle.rcu_model.specs.declared.event.ObjectId.{ObjectId};
     ghost use Rattle.live_log.specs.Keys.{key_of};
-    ghost use Rattle.live_log.specs.Log.{note_of};
+    ghost use Rattle.live_log.specs.Log.{record_of};
     ghost use Rattle.domain.specs.live_read.Holding.{MayHold, MayHoldIn};
     ghost use Rattle.domain.specs.live_read.Reads.{FindsFirst};
     ghost use Rattle.rcu_list.specs.Maps.{value_of};
@@ -96,8 +96,8 @@ impl<B: Site> ListView<B> {
         requires held { MayHoldIn section.old.reader.now.core held.cell }
         ensures reader { section.new.reader.ghost_name ≡ section.old.reader.ghost_name }
         ensures looked { Looks P.QSBR K.allows section.old.reader.now.core section.new.reader.now.core }
-        ensures some { IfSome result (λ value. (o : ObjectId) → MayHold section.old.reader.now.core o held.cell → (key_of (note_of (log_of section.old.reader.now.core) o) ≡ key) × (value_of (note_of (log_of section.old.reader.now.core) o) ≡ value)) }
-        ensures none { IfNone result ((o : ObjectId) → MayHold section.old.reader.now.core o held.cell → key_of (note_of (log_of section.old.reader.now.core) o) ≢ key) }
+        ensures some { IfSome result (λ value. (o : ObjectId) → MayHold section.old.reader.now.core o held.cell → (key_of (record_of (log_of section.old.reader.now.core) o) ≡ key) × (value_of (record_of (log_of section.old.reader.now.core) o) ≡ value)) }
+        ensures none { IfNone result ((o : ObjectId) → MayHold section.old.reader.now.core o held.cell → key_of (record_of (log_of section.old.reader.now.core) o) ≢ key) }
     {
         if section.read_word(held, 0) != key {
             return None;
@@ -165,7 +165,7 @@ impl<B: Site> ListView<B> {
         requires held { MayHoldIn section.old.reader.now.core held.cell }
         ensures reader { section.new.reader.ghost_name ≡ section.old.reader.ghost_name }
         ensures looked { Looks P.QSBR K.allows section.old.reader.now.core section.new.reader.now.core }
-        ensures entry { (o : ObjectId) → MayHold section.old.reader.now.core o held.cell → (key_of (note_of (log_of section.old.reader.now.core) o) ≡ result.0) × (value_of (note_of (log_of section.old.reader.now.core) o) ≡ result.1) }
+        ensures entry { (o : ObjectId) → MayHold section.old.reader.now.core o held.cell → (key_of (record_of (log_of section.old.reader.now.core) o) ≡ result.0) × (value_of (record_of (log_of section.old.reader.now.core) o) ≡ result.1) }
     {
         let key = section.read_word(held, 0);
         let value = section.read_word(held, 1);

@@ -45,7 +45,10 @@ returns-clause-queued g c =
       last = subst (λ (n : ℕ). IsLast c.args.queue n o log) given (subst (λ (p : ObjectId). IsLast c.args.queue (queued_in joined.queue) p log) same c.store_queued.ensures.last);
       run = queued.2.4;
     } in
-    (subst (Queues qsbr allows (Precedes first) o c.args.queue c.args.given c.args.callback.now.code) (sym cut) told, ap (λ z. z.0.seen) c.cut_object.ensures.4 ∙ sym cut)
+    subst (Queues qsbr allows (Precedes first) o c.args.queue c.args.given c.args.callback.now.code) (sym cut) told
+
+pub returns-clause-same : goal.returns-clause-same
+returns-clause-same g c = ap (λ z. z.0.seen) c.cut_object.ensures.4 ∙ sym (ap (λ z. z.0.seen) c.cut_object.ensures.2)
 
 pub returns-clause-later : goal.returns-clause-later
 returns-clause-later g c =

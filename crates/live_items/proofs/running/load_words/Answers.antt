@@ -1,7 +1,7 @@
 use Rattle.std.proofs.Common.{◌≡◌, ℕ, [], ◌∷◌, ap, ◌∙◌, subst, slice_index_or}
 use Rattle.rcu_model.specs.declared.event.ObjectId.{ObjectId}
 use Rattle.rcu_model.specs.Sets.{In}
-use Rattle.live_log.specs.Log.{note_of, state_of}
+use Rattle.live_log.specs.Log.{record_of, state_of}
 use Rattle.live_log.proofs.Lemmas.{begins_trans}
 use Rattle.live_words.specs.live_rule.declared.view.View.{View}
 use Rattle.live_words.specs.live_table.Rights.{object_in}
@@ -40,7 +40,7 @@ returns-clause-words g c =
     let in_two : object_in two.object ≡ o = ap (λ (v : View). object_in v.object) second.looked.1 ∙ in_one in
     let in_three : object_in three.object ≡ o = ap (λ (v : View). object_in v.object) third.looked.1 ∙ in_two in
     let a = word_stays qsbr allows one.seen four.seen o 0 c.load_payload-first.result on_one run first.published first.word in
-    let word = λ (n j : ℕ) (p : ObjectId). n ≡ slice_index_or (note_of four.seen p).1 j 0 in
+    let word = λ (n j : ℕ) (p : ObjectId). n ≡ slice_index_or (record_of four.seen p).1 j 0 in
     let b = subst (word c.load_payload-second.result 1) in_one (word_stays qsbr allows two.seen four.seen (object_in one.object) 1 c.load_payload-second.result on_two run second.published second.word) in
     let d = subst (word c.load_payload-third.result 2) in_two (word_stays qsbr allows three.seen four.seen (object_in two.object) 2 c.load_payload-third.result on_three run third.published third.word) in
     let e = subst (word c.load_payload-fourth.result 3) in_three fourth.word in

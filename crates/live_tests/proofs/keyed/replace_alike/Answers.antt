@@ -3,7 +3,7 @@ use Rattle.rcu_model.specs.declared.event.ObjectId.{ObjectId}
 use Rattle.rcu_model.specs.Sets.{In}
 use Rattle.rcu_model.proofs.Lemmas.{some_is}
 use Rattle.live_log.specs.Keys.{key_of, rank_of}
-use Rattle.live_log.specs.Log.{note_of}
+use Rattle.live_log.specs.Log.{record_of}
 use Rattle.live_write.specs.Chains.{list_in}
 use Rattle.live_write.proofs.Lemmas.{keyed_replace}
 use Rattle.live_tests.proofs.keyed.replace_alike.Goals as goal
@@ -20,7 +20,7 @@ replace-requires g c = record {
       let found = c.in-Some.ensures.some in let walked = c.in-Some.ensures.walked.1 in
       let list = ap list_in walked.1 in
       let same = some_is found.0 o (sym found.1 ∙ (ap (λ (l : List ObjectId). slice_get l c.args.index) (sym list) ∙ at)) in
-      let key = ap (λ (w : List ℕ). slice_index_or w 0 0) c.requires.words ∙ (sym c.if-old-words.false ∙ (ap (λ (w : List ℕ). slice_index_or w 0 0) found.2 ∙ ap (λ (q : ObjectId). key_of (note_of v.seen q)) same)) in
-      let rank = ap (λ (w : List ℕ). slice_index_or w 2 0) c.requires.words ∙ (sym c.if-old-words-2.false ∙ (ap (λ (w : List ℕ). slice_index_or w 2 0) found.2 ∙ ap (λ (q : ObjectId). rank_of (note_of v.seen q)) same)) in
+      let key = ap (λ (w : List ℕ). slice_index_or w 0 0) c.requires.words ∙ (sym c.if-old-words.false ∙ (ap (λ (w : List ℕ). slice_index_or w 0 0) found.2 ∙ ap (λ (q : ObjectId). key_of (record_of v.seen q)) same)) in
+      let rank = ap (λ (w : List ℕ). slice_index_or w 2 0) c.requires.words ∙ (sym c.if-old-words-2.false ∙ (ap (λ (w : List ℕ). slice_index_or w 2 0) found.2 ∙ ap (λ (q : ObjectId). rank_of (record_of v.seen q)) same)) in
       keyed_replace g.P.GracePlan.QSBR v caller.seen caller.heard u.seen owns.0 owns.1 walked.2.2 u o (stands_in (list_in v) c.args.index o at) (key, rank);
 }

@@ -4,7 +4,7 @@ use Rattle.rcu_model.specs.declared.event.ObjectId.{ObjectId}
 use Rattle.live_log.specs.declared.event.LiveEvent.{LiveEvent}
 use Rattle.live_log.specs.declared.event.LiveEvent.TheVariants.{Object}
 use Rattle.live_log.specs.declared.event.ObjectEvent.TheVariants.{Replace}
-use Rattle.live_log.specs.Log.{Log, Begins, Has, IsLiveRun, note_of, state_of}
+use Rattle.live_log.specs.Log.{Log, Begins, Has, IsLiveRun, record_of, state_of}
 use Rattle.live_log.specs.Tables.{IsDirectory, IsFree, tabled}
 use Rattle.live_log.proofs.Lemmas.{begins_trans, run_of}
 use Rattle.rcu_list.specs.live_rule.Seats.{lent_chains}
@@ -48,8 +48,8 @@ replace-requires g c = record {
       let is : o ≡ p = first_only o p (list_in three) list at in
       let notes : Each (HasNote (d + 1)) us = each_map (Noted c.requires.noted.0 (d + 1)) (HasNote (d + 1)) (λ v n. n.is) us c.requires.noted.2 in
       let later : Begins zero.seen three.seen = begins_trans zero.seen one.seen three.seen looked.1.2.0 (begins_trans one.seen two.seen three.seen e1.later.0 e2.later.0) in
-      let directory : (log : Log) → Begins three.seen log → IsLiveRun q tabled log → IsDirectory (note_of log p) = λ log goes run.
-      subst (λ (z : ObjectId). IsDirectory (note_of log z)) is (directory_by log o dir.naming.first dir.naming.buckets (words_since q zero log o dir.naming.first dir.naming.buckets (begins_trans zero.seen three.seen log later goes) run dir.chain.owns.1 dir.alone dir.words)) in
+      let directory : (log : Log) → Begins three.seen log → IsLiveRun q tabled log → IsDirectory (record_of log p) = λ log goes run.
+      subst (λ (z : ObjectId). IsDirectory (record_of log z)) is (directory_by log o dir.naming.first dir.naming.buckets (words_since q zero log o dir.naming.first dir.naming.buckets (begins_trans zero.seen three.seen log later goes) run dir.chain.owns.1 dir.alone dir.words)) in
       may_relink q three owned x d first many vs us lent own dir.own.2 c.requires.record here c.requires.news.2 notes c.requires.apart.0 (g.W.Caller.seen c.args.caller.now) (g.W.Caller.heard c.args.caller.now) p directory;
 }
 
@@ -125,7 +125,7 @@ invariant_of-result g c =
         ap (λ (z : ChainRight). z.note) back ∙ (s.list.1 ∙ (ap (λ (xs : List ChainRight). (own_in xs).note) lent ∙ dir.own.2)),
       );
       alone = ap (λ (z : ChainRight). z.objects) back ∙ (s.list.0 ∙ (replaced_only left o new (list_in three) list (sym o_is) ∙ ap (λ (z : ObjectId). z ∷ []) (sym object)));
-      words = ap (λ (l : Log). (note_of l c.object-object.result).1) (t2.from.1 ∙ t1.from.1) ∙ (ap (λ (z : ObjectId). (note_of log z).1) object ∙ (words_after q d o new cell first many before log wrote p.run ∙ ap (words_by first) (sym c.len-buckets.ensures)));
+      words = ap (λ (l : Log). (record_of l c.object-object.result).1) (t2.from.1 ∙ t1.from.1) ∙ (ap (λ (z : ObjectId). (record_of log z).1) object ∙ (words_after q d o new cell first many before log wrote p.run ∙ ap (words_by first) (sym c.len-buckets.ensures)));
       fits = let range = c.requires.news in let n = c.len-buckets.ensures in (omega arith, omega arith);
     }
 
@@ -171,7 +171,7 @@ returns-clause-olds g c =
     let goes : Begins before log = (Object (Replace d o new cell (words_by first many)) ∷ [], wrote) in
     let later : Begins zero.seen before = begins_trans zero.seen one.seen before looked.1.2.0 (begins_trans one.seen two.seen before e1.later.0 (begins_trans two.seen three.seen before e2.later.0 p.after.after_writer.0)) in
     let run_before = run_of q tabled before log goes p.run in
-    let words : (note_of before o).1 ≡ words_by dir.naming.first dir.naming.buckets = words_since q zero before o dir.naming.first dir.naming.buckets later run_before dir.chain.owns.1 dir.alone dir.words in
+    let words : (record_of before o).1 ≡ words_by dir.naming.first dir.naming.buckets = words_since q zero before o dir.naming.first dir.naming.buckets later run_before dir.chain.owns.1 dir.alone dir.words in
     let many_old : length vs ≡ dir.naming.buckets = length-map c.args.olds.chains.items (λ x. x.seat.me.0) ∙ (sym c.args.olds.chains.ok.0 ∙ c.requires.olds.0) in
     let saw_old : Each (SawBefore before) vs = saw_on two.seen before (begins_trans two.seen three.seen before e2.later.0 p.after.after_writer.0) vs e1.later.1 in
     let listed_old : Each IsListed vs = each_all IsListed c.args.olds.chains.items (λ x. x.seat.me.0) (λ x. x.owns.1) in
@@ -213,7 +213,7 @@ returns-clause-news g c =
     let goes : Begins before log = (Object (Replace d o new cell (words_by first many)) ∷ [], wrote) in
     let later : Begins zero.seen before = begins_trans zero.seen one.seen before looked.1.2.0 (begins_trans one.seen two.seen before e1.later.0 (begins_trans two.seen three.seen before e2.later.0 p.after.after_writer.0)) in
     let run_before = run_of q tabled before log goes p.run in
-    let words : (note_of before o).1 ≡ words_by dir.naming.first dir.naming.buckets = words_since q zero before o dir.naming.first dir.naming.buckets later run_before dir.chain.owns.1 dir.alone dir.words in
+    let words : (record_of before o).1 ≡ words_by dir.naming.first dir.naming.buckets = words_since q zero before o dir.naming.first dir.naming.buckets later run_before dir.chain.owns.1 dir.alone dir.words in
     let many_old : length vs ≡ dir.naming.buckets = length-map c.args.olds.chains.items (λ x. x.seat.me.0) ∙ (sym c.args.olds.chains.ok.0 ∙ c.requires.olds.0) in
     let saw : Each (SawBefore before) us = saw_on three.seen before p.after.after_writer.0 us e2.later.1 in
     let listed : Each IsListed us = each_all IsListed c.args.news.chains.items (λ x. x.seat.me.0) (λ x. x.owns.1) in
@@ -223,7 +223,7 @@ returns-clause-news g c =
     let from = from_rights first us ws same c.requires.news.2 in
     let seen : Each (HasSeen log) ws = subst (λ (l : Log). Each (HasSeen l) ws) t1.from.1 t2.alone.1 in
     let alone : (state_of log).chain d ≡ new ∷ [] = alone_after q d o new cell first many before log wrote p.run dir.naming.first dir.naming.buckets x vs us known own dir.alone words c.requires.olds.1 many_old c.requires.news.2 here c.requires.apart.0 in
-    let after : (note_of log new).1 ≡ words_by first many = words_after q d o new cell first many before log wrote p.run in
+    let after : (record_of log new).1 ≡ words_by first many = words_after q d o new cell first many before log wrote p.run in
     let free : (k : ℕ) → first ≤ k → k < first + many → IsFree log k = free_named q d o new cell first many before log wrote p.run dir.naming.first dir.naming.buckets x vs us known own dir.alone words c.requires.olds.1 many_old c.requires.news.2 here c.requires.apart.0 c.requires.noted.0 c.requires.noted.1 c.requires.apart.1 c.requires.noted.2 saw in (
       let a = c.take_all_back-named.result.ok in let b = length-map c.take_all_back-named.result.items (λ x. x.seat.me.0) in omega arith,
       from,
@@ -254,7 +254,7 @@ returns-clause-grown g c entries apart had =
     let goes : Begins before log = (Object (Replace d o new cell (words_by first many)) ∷ [], wrote) in
     let later : Begins zero.seen before = begins_trans zero.seen one.seen before looked.1.2.0 (begins_trans one.seen two.seen before e1.later.0 (begins_trans two.seen three.seen before e2.later.0 p.after.after_writer.0)) in
     let run_before = run_of q tabled before log goes p.run in
-    let words : (note_of before o).1 ≡ words_by dir.naming.first dir.naming.buckets = words_since q zero before o dir.naming.first dir.naming.buckets later run_before dir.chain.owns.1 dir.alone dir.words in
+    let words : (record_of before o).1 ≡ words_by dir.naming.first dir.naming.buckets = words_since q zero before o dir.naming.first dir.naming.buckets later run_before dir.chain.owns.1 dir.alone dir.words in
     let many_old : length vs ≡ dir.naming.buckets = length-map c.args.olds.chains.items (λ x. x.seat.me.0) ∙ (sym c.args.olds.chains.ok.0 ∙ c.requires.olds.0) in
     let saw_old : Each (SawBefore before) vs = saw_on two.seen before (begins_trans two.seen three.seen before e2.later.0 p.after.after_writer.0) vs e1.later.1 in
     let saw : Each (SawBefore before) us = saw_on three.seen before p.after.after_writer.0 us e2.later.1 in

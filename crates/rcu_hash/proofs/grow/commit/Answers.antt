@@ -1,7 +1,7 @@
 use Rattle.std.proofs.Common.{◌≡◌, ◌⊎◌, ◌+◌, ◌%◌, ◌≤◌, ℕ, List, [], ◌∷◌, Some, length, map, vec_len, sym, ap, ◌∙◌, subst, arith}
 use Rattle.rcu_model.specs.declared.event.ObjectId.{ObjectId}
 use Rattle.std.proofs.lemmas.List.{length-map}
-use Rattle.live_log.specs.Log.{Log, Begins, note_of, state_of}
+use Rattle.live_log.specs.Log.{Log, Begins, record_of, state_of}
 use Rattle.live_log.specs.Tables.{tabled}
 use Rattle.live_log.proofs.Lemmas.{begins_trans, run_of}
 use Rattle.rcu_list.specs.live_rule.Seats.{lent_chains}
@@ -52,7 +52,7 @@ exchange-directory-requires-clause-news g c =
 pub exchange-directory-requires-clause-noted : goal.exchange-directory-requires-clause-noted
 exchange-directory-requires-clause-noted g c =
     let w = g.W.Caller in let d = c.take-place.result.1 in let is = c.take-place.ensures in let h = c.hear.ensures in let f = c.fill.ensures in let n = c.note_all.ensures in
-    let now = c.hear.new.self in let t : Log = now.seat.me.0.seen in let later : Log = w.heard c.fill.new.caller in let note = c.args.shelf.now.naming.directory + 1 in
+    let now = c.hear.new.self in let t : Log = now.seat.me.0.seen in let later : Log = w.heard c.fill.new.caller in let note = c.args.array.now.naming.directory + 1 in
     let ws = map (λ x. x.seat.me.0) c.note_all.result.items in
     let goes : Begins t later = subst (λ (l : Log). Begins l later) h.heard f.heard in (
       t,
@@ -75,7 +75,7 @@ exchange-directory-requires-clause-same g c key =
 pub invariant_of-result : goal.invariant_of-result
 invariant_of-result g c =
     let d = c.take-place.result.1 in let is = c.take-place.ensures in let n = c.note_all.ensures in let f = c.fill.ensures in let x = c.exchange-directory.ensures in let o = c.chains_of.ensures in let first = c.args.first in
-    let items = c.exchange-directory.result.2.items in let vs = map (λ y. y.seat.me.0) items in let old = c.args.shelf.now.naming in
+    let items = c.exchange-directory.result.2.items in let vs = map (λ y. y.seat.me.0) items in let old = c.args.array.now.naming in
     let size : vec_len c.note_all.result ≡ vec_len c.args.growth.chains = n.noted.0 ∙ f.chains.0 in
     let many : length vs ≡ d.naming.buckets = length-map items (λ y. y.seat.me.0) ∙ (sym c.exchange-directory.result.2.ok.0 ∙ (x.olds.0 ∙ (o.known.0 ∙ (c.requires.taken.0 ∙ ap (λ (m : Naming). m.buckets) (sym is))))) in
     let apart : (d.naming.first + d.naming.buckets ≤ first) ⊎ (first + vec_len c.note_all.result ≤ d.naming.first) =
@@ -118,7 +118,7 @@ returns-clause-grown g c =
     let run = run_of q tabled before (w.heard w4) (_ ∷ [], last.wrote) last.run in
     let was : (state_of t).chain z.directory ≡ z.object ∷ [] = chain_known now.seat.me.0 z.directory now.owns.1 (now.owns.2 ∙ (h.chains.1 ∙ dir.own.0)) ∙ (ap (λ (xs : List ChainRight). (own_in xs).objects) h.chains.0 ∙ dir.alone) in
     let saw = run_of q tabled dir.chain.seat.me.0.seen t h.told.1 h.told.0.run in
-    let words : (note_of t z.object).1 ≡ words_by z.first z.buckets = words_later q dir.chain.seat.me.0.seen t z.object h.told.1 h.told.0.run z.first z.buckets (own_used q dir.chain.seat.me.0 z.object saw dir.chain.owns.1 dir.alone) dir.words in
+    let words : (record_of t z.object).1 ≡ words_by z.first z.buckets = words_later q dir.chain.seat.me.0.seen t z.object h.told.1 h.told.0.run z.first z.buckets (own_used q dir.chain.seat.me.0 z.object saw dir.chain.owns.1 dir.alone) dir.words in
     let apart : (z.first + z.buckets ≤ first) ⊎ (first + m ≤ z.first) = subst (λ (y : Naming). (y.first + y.buckets ≤ first) ⊎ (first + m ≤ y.first)) (sym is) c.requires.apart.1 in
     let on : Begins t (w.heard w1) = ([], h.heard) in
     let to_noted : Begins (w.heard w2) before = begins_trans (w.heard w2) (w.heard w3) before n.heard last.after.1 in
@@ -126,8 +126,8 @@ returns-clause-grown g c =
     let copies : CopiesAll (Writes q tabled (w.seen w0)) first m 0 (w.heard w1) entries (w.heard w2) = subst (λ (s : Log). CopiesAll (Writes q tabled s) first m 0 (w.heard w1) entries (w.heard w2)) h.same.0.0.0 (f.filled first r.2) in
     let told : NotesAll (Writes q tabled (w.seen w0)) (z.directory + 1) first m (w.heard w2) (w.heard w3) =
     subst (λ (y : Naming). NotesAll (Writes q tabled (w.seen w0)) (y.directory + 1) first m (w.heard w2) (w.heard w3)) (sym is)
-    (subst (λ (k : ℕ). NotesAll (Writes q tabled (w.seen w0)) (c.args.shelf.now.naming.directory + 1) first k (w.heard w2) (w.heard w3)) f.chains.0
-    (subst (λ (s : Log). NotesAll (Writes q tabled s) (c.args.shelf.now.naming.directory + 1) first (vec_len c.fill.new.chains) (w.heard w2) (w.heard w3)) (f.same.0.made.0 ∙ h.same.0.0.0) (n.told first from))) in
+    (subst (λ (k : ℕ). NotesAll (Writes q tabled (w.seen w0)) (c.args.array.now.naming.directory + 1) first k (w.heard w2) (w.heard w3)) f.chains.0
+    (subst (λ (s : Log). NotesAll (Writes q tabled s) (c.args.array.now.naming.directory + 1) first (vec_len c.fill.new.chains) (w.heard w2) (w.heard w3)) (f.same.0.made.0 ∙ h.same.0.0.0) (n.told first from))) in
     subst (λ (y : Naming). Grows q tabled chains y.directory (w.seen w0) (w.heard w0) first m entries (w.heard w4)) is (record {
       copied = w.heard w2;
       noted = w.heard w3;

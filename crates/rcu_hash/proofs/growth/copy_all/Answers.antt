@@ -18,15 +18,15 @@ pub loop-number-preserved : goal.loop-number-preserved
 loop-number-preserved g c =
     let w = g.W.Caller in let w0 = c.args.caller.now in let w1 = c.loop-number.caller in let w2 = c.copy-answer.new.caller in
     let i = c.loop-number.invariant in let e = c.copy-answer.ensures in let ok = c.in_ok-answer.ensures in let t = c.take-place.ensures in let p = c.push_reserved.ensures in
-    let had = c.loop-number.taken.items in let one = c.copy-answer.new.self in let shelf = c.args.shelf.now in let number = c.loop-number.number in
+    let had = c.loop-number.taken.items in let one = c.copy-answer.new.self in let array = c.args.array.now in let number = c.loop-number.number in
     let vs = map (λ b. b.chain.seat.me.0) had in let v : View = one.chain.seat.me.0 in
     let views : map (λ b. b.chain.seat.me.0) c.push_reserved.new.self.items ≡ vs ++ v ∷ [] = ap (map (λ b. b.chain.seat.me.0)) p.items ∙ map-append (λ b. b.chain.seat.me.0) had (one ∷ []) in
     let many : length vs ≡ number = length-map had (λ b. b.chain.seat.me.0) ∙ (sym c.loop-number.taken.ok.0 ∙ i.room.0) in
-    let own : c.take-place.result.1.naming.buckets ≡ shelf.naming.buckets = ap (λ (n : Naming). n.buckets) t.0 in record {
+    let own : c.take-place.result.1.naming.buckets ≡ array.naming.buckets = ap (λ (n : Naming). n.buckets) t.0 in record {
       room = (let len = p.len in let was = i.room.0 in omega arith, let same = p.capacity in let was = i.room.1 in omega arith);
-      from = subst (AreFrom shelf.naming.first) (sym views) (from_last shelf.naming.first vs v i.from (one.chain.owns.2 ∙ (e.walked.3 ∙ (t.1 ∙ ap (λ (n : ℕ). shelf.naming.first + n) (sym many)))));
-      copied = subst (λ (us : List View). (key : ℕ) → value_among (map (λ x. (x.key, x.value)) c.copy-answer.new.copied.items) key ≡ value_in_bucket shelf.naming.buckets us key) (sym views)
-          (bucket_copied shelf.naming.buckets number vs (map (λ x. (x.key, x.value)) c.loop-number.copied.items) many i.copied c.take-place.result.1.naming.buckets own v (map (λ x. (x.key, x.value)) c.copy-answer.new.copied.items) ok.copied);
+      from = subst (AreFrom array.naming.first) (sym views) (from_last array.naming.first vs v i.from (one.chain.owns.2 ∙ (e.walked.3 ∙ (t.1 ∙ ap (λ (n : ℕ). array.naming.first + n) (sym many)))));
+      copied = subst (λ (us : List View). (key : ℕ) → value_among (map (λ x. (x.key, x.value)) c.copy-answer.new.copied.items) key ≡ value_in_bucket array.naming.buckets us key) (sym views)
+          (bucket_copied array.naming.buckets number vs (map (λ x. (x.key, x.value)) c.loop-number.copied.items) many i.copied c.take-place.result.1.naming.buckets own v (map (λ x. (x.key, x.value)) c.copy-answer.new.copied.items) ok.copied);
       apart = ok.apart;
       heard = begins_trans (w.heard w0) (w.heard w1) (w.heard w2) i.heard e.heard;
       looks = (

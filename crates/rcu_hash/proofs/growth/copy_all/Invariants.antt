@@ -11,9 +11,9 @@ use Rattle.rcu_hash.proofs.growth.copy_all.Given as goal
 -- the buckets up to this number are taken, and their keys copied
 abbrev pub invariant-loop-number : goal.invariant-loop-number
 invariant-loop-number g l = record {
-  room : (vec_len l.taken ≡ l.number) × (l.fn.shelf.naming.buckets ≤ vec_capacity l.taken);
-  from : AreFrom l.fn.shelf.naming.first (map (λ b. b.chain.seat.me.0) l.taken.items);
-  copied : (key : ℕ) → value_among (map (λ c. (c.key, c.value)) l.copied.items) key ≡ value_in_bucket l.fn.shelf.naming.buckets (map (λ b. b.chain.seat.me.0) l.taken.items) key;
+  room : (vec_len l.taken ≡ l.number) × (l.fn.array.naming.buckets ≤ vec_capacity l.taken);
+  from : AreFrom l.fn.array.naming.first (map (λ b. b.chain.seat.me.0) l.taken.items);
+  copied : (key : ℕ) → value_among (map (λ c. (c.key, c.value)) l.copied.items) key ≡ value_in_bucket l.fn.array.naming.buckets (map (λ b. b.chain.seat.me.0) l.taken.items) key;
   apart : AreApart (map (λ c. (c.key, c.value)) l.copied.items) × AreRanked 0 (map (λ c. c.rank) l.copied.items);
   heard : Begins (g.W.Caller.heard l.fn.caller) (g.W.Caller.heard l.caller);
   looks : (found : List Look) × (g.W.Caller.looks l.caller ≡ found ++ g.W.Caller.looks l.fn.caller) × FreesAllBut g.B.Site.sizes (map (λ c. cell_in c.owned.seat.me.0.object) l.copied.items) found;

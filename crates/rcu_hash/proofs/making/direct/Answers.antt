@@ -6,7 +6,7 @@ use Rattle.rcu_model.proofs.Lemmas.{at_number_other}
 use Rattle.live_log.specs.declared.event.LiveEvent.{LiveEvent}
 use Rattle.live_log.specs.declared.event.LiveEvent.TheVariants.{Object}
 use Rattle.live_log.specs.declared.event.ObjectEvent.TheVariants.{Push}
-use Rattle.live_log.specs.Log.{Log, Begins, Has, note_of, state_of}
+use Rattle.live_log.specs.Log.{Log, Begins, Has, record_of, state_of}
 use Rattle.live_log.specs.Tables.{IsFree, tabled}
 use Rattle.live_log.proofs.Lemmas.{begins_trans, pushed_note, run_of}
 use Rattle.rcu_list.specs.live_read.Hearing.{IsAfter}
@@ -73,7 +73,7 @@ invariant_of-result g c =
         ap (λ (x : ChainRight). x.note) back ∙ (p.list.1 ∙ (ap (λ (x : ChainRight). x.note) own ∙ c.requires.own.0.1)),
       );
       alone = ap (λ (x : ChainRight). x.objects) back ∙ (p.list.0 ∙ ap (λ (os : List ObjectId). c.push-object.result ∷ os) (ap (λ (x : ChainRight). x.objects) own ∙ c.requires.own.0.0));
-      words = ap (λ (l : Log). (note_of l c.push-object.result).1) t.from.1 ∙ (ap (λ (x : ℕ × List ℕ). x.1) note ∙ (c.requires.record ∙ ap (words_by c.args.first) (sym c.len-buckets.ensures)));
+      words = ap (λ (l : Log). (record_of l c.push-object.result).1) t.from.1 ∙ (ap (λ (x : ℕ × List ℕ). x.1) note ∙ (c.requires.record ∙ ap (words_by c.args.first) (sym c.len-buckets.ensures)));
       fits = let range = c.requires.range in let n = c.len-buckets.ensures in (omega arith, omega arith);
     }
 
@@ -98,7 +98,7 @@ returns-clause-map g c key =
     let d_is : own_chain ≡ d = ap (λ (x : ChainRight). x.chain) own ∙ chain.owns.2 in
     let size : vec_len c.args.chains ≡ n = c.args.chains.ok.0 in
     let range = c.requires.range in
-    let words : (note_of log o).1 ≡ words_by first n = ap (λ (x : ℕ × List ℕ). x.1) (pushed_note q tabled log own_chain o (cell_in owned.object) (payload_in owned.object) p.pushed.run
+    let words : (record_of log o).1 ≡ words_by first n = ap (λ (x : ℕ × List ℕ). x.1) (pushed_note q tabled log own_chain o (cell_in owned.object) (payload_in owned.object) p.pushed.run
     (subst (Has (Object (Push own_chain o (cell_in owned.object) (payload_in owned.object)))) (sym p.pushed.wrote) (inl (λ i. Object (Push own_chain (sym p.object i) (cell_in owned.object) (payload_in owned.object)))))) ∙ (c.requires.record ∙ ap (words_by first) size) in
     let alone : (state_of log).chain d ≡ o ∷ [] = chain_known three.seat.me.0 d three.owns.1 (three.owns.2 ∙ (p.list.3 ∙ e.same.0)) ∙ (p.list.0 ∙ ap (λ (os : List ObjectId). o ∷ os) (ap (λ (x : ChainRight). x.objects) own ∙ c.requires.own.0.0)) in
     let low = mod_below key n (omega arith) in
@@ -109,9 +109,9 @@ returns-clause-map g c key =
     ∙ (at_number_other own_chain bucket (object_in owned.object ∷ (state_of before).chain own_chain) (state_of before).chain apart
     ∙ known_empty before vs first bucket known c.requires.chains.0 c.requires.chains.1 (omega arith) (let many = length-map c.args.chains.items (λ x. x.seat.me.0) in omega arith)) in
     let none : directed_map chains d log key ≡ None =
-    directed_is chains key (note_of log o) (leads_all chains first n (omega arith) (omega arith) (note_of log o) words key) log d o alone refl
+    directed_is chains key (record_of log o) (leads_all chains first n (omega arith) (omega arith) (record_of log o) words key) log d o alone refl
     ∙ (ap (λ (ws : List ℕ). map_of log (bucket_of (slice_index_or ws 0 0) (slice_index_or ws 1 0) key) key) words
-    ∙ ap (λ (os : List ObjectId). value_in (note_of log) os key) empty) in
+    ∙ ap (λ (os : List ObjectId). value_in (record_of log) os key) empty) in
     subst (λ (l : Log). (directed_map chains d l key ≡ None) × LeadsTo d l key (bucket_of first (vec_len c.args.chains) key)) (sym p.heard)
     (none, subst (λ (k : ℕ). LeadsTo d log key (bucket_of first k key)) (sym size) (leads_there log d o first n key alone words))
 
@@ -131,7 +131,7 @@ returns-clause-chains g c =
     let here : length vs ≡ n = length-map c.args.chains.items (λ x. x.seat.me.0) in
     let there : length ws ≡ n = sym (rights_many ws) ∙ (ap length same ∙ (rights_many vs ∙ here)) in
     let from = from_rights first vs ws same c.requires.chains.0 in
-    let words : (note_of log o).1 ≡ words_by first n = ap (λ (x : ℕ × List ℕ). x.1) (pushed_note q tabled log own_chain o (cell_in owned.object) (payload_in owned.object) p.pushed.run
+    let words : (record_of log o).1 ≡ words_by first n = ap (λ (x : ℕ × List ℕ). x.1) (pushed_note q tabled log own_chain o (cell_in owned.object) (payload_in owned.object) p.pushed.run
     (subst (Has (Object (Push own_chain o (cell_in owned.object) (payload_in owned.object)))) (sym p.pushed.wrote) (inl (λ i. Object (Push own_chain (sym p.object i) (cell_in owned.object) (payload_in owned.object)))))) ∙ (c.requires.record ∙ ap (words_by first) size) in
     let alone : (state_of log).chain d ≡ o ∷ [] = chain_known three.seat.me.0 d three.owns.1 (three.owns.2 ∙ (p.list.3 ∙ e.same.0)) ∙ (p.list.0 ∙ ap (λ (os : List ObjectId). o ∷ os) (ap (λ (x : ChainRight). x.objects) own ∙ c.requires.own.0.0)) in
     let known = subst (AreAsKnown before) lent p.pushed.known in

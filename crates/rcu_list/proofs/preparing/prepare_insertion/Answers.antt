@@ -1,7 +1,7 @@
 use Rattle.std.proofs.Common.{◌≡◌, ℕ, Option, Some, None, true, false, IfNone, IfSome, is_some, inl, inr, refl, ap, sym, ◌∙◌, subst}
 use Rattle.rcu_model.specs.Sets.{In}
 use Rattle.live_log.specs.Keys.{key_of}
-use Rattle.live_log.specs.Log.{Log, note_of}
+use Rattle.live_log.specs.Log.{Log, record_of}
 use Rattle.domain.specs.live_rule.declared.rights.ChainRight.{ChainRight}
 use Rattle.domain.specs.live_write.Chains.{list_in}
 use Rattle.domain.proofs.live_write.Lemmas.{went_both}
@@ -64,7 +64,7 @@ returns-clause-ready g c =
         next = f.next;
         others = λ q h.
             let had : In (list_in mid.seat.me.0) q = subst (λ (x : ChainRight). In x.objects q) then h in
-            let note : note_of seen q ≡ note_of mid.seat.me.0.seen q = note_walked qsbr allows maps mid.number mid.seat.me new.seat.me f.looked.1 mid.owns.1 mid.owns.2 q had in
+            let note : record_of seen q ≡ record_of mid.seat.me.0.seen q = note_walked qsbr allows maps mid.number mid.seat.me new.seat.me f.looked.1 mid.owns.1 mid.owns.2 q had in
             (λ same. none q (subst (λ (x : ChainRight). In x.objects q) first had) (ap key_of (sym note) ∙ same), f.above.1 q had);
       },
       f.above.0,

@@ -3,7 +3,7 @@ use Rattle.std.proofs.lemmas.Option.{slice_get_within}
 use Rattle.rcu_model.specs.declared.event.ObjectId.{ObjectId}
 use Rattle.rcu_model.proofs.Lemmas.{some_is}
 use Rattle.live_log.specs.Keys.{rank_of}
-use Rattle.live_log.specs.Log.{Log, note_of}
+use Rattle.live_log.specs.Log.{Log, record_of}
 use Rattle.domain.specs.live_rule.declared.rights.ChainRight.{ChainRight}
 use Rattle.domain.specs.live_write.Chains.{list_in}
 use Rattle.domain.proofs.live_write.Lemmas.{index_has, went_both}
@@ -49,7 +49,7 @@ returns-in-Ok-clause-ready g c =
     let seen : Log = new.seat.me.0.seen in let o : ObjectId = e.found.object in
     let went = went_both qsbr allows old.seat.me mid.seat.me new.seat.me e.walked.1 f.1 in
     let list : list_in old.seat.me.0 ≡ list_in new.seat.me.0 = ap (λ (x : ChainRight). x.objects) (sym (then ∙ first)) in
-    let in_mid : (p : ObjectId) (k : ℕ) → slice_get (list_in old.seat.me.0) k ≡ Rattle.std.proofs.Common.Some p → note_of seen p ≡ note_of mid.seat.me.0.seen p =
+    let in_mid : (p : ObjectId) (k : ℕ) → slice_get (list_in old.seat.me.0) k ≡ Rattle.std.proofs.Common.Some p → record_of seen p ≡ record_of mid.seat.me.0.seen p =
     λ p k at. note_walked qsbr allows maps mid.number mid.seat.me new.seat.me f.1 mid.owns.1 mid.owns.2 p (index_has (list_in mid.seat.me.0) k p (ap (λ (x : ChainRight). slice_get x.objects k) first ∙ at)) in
     let here : s.0 ≡ o = some_is s.0 o (sym s.1 ∙ (ap (λ (x : ChainRight). slice_get x.objects index) first ∙ e.found.at)) in (
       record {
@@ -61,7 +61,7 @@ returns-in-Ok-clause-ready g c =
           begins = ap (λ (x : ℕ × List ℕ). slice_index_or x.1 0 0) (in_mid o index e.found.at) ∙ e.found.begins;
           others = λ k p low at is. e.found.others k p low (ap (λ (l : List ObjectId). slice_get l k) list ∙ at) (ap (λ (x : ℕ × List ℕ). slice_index_or x.1 0 0) (sym (in_mid p k (ap (λ (l : List ObjectId). slice_get l k) list ∙ at))) ∙ is);
         };
-        same = ap (λ (l : List ℕ). slice_index_or l 2 0) s.2 ∙ ap (λ (p : ObjectId). rank_of (note_of seen p)) here;
+        same = ap (λ (l : List ℕ). slice_index_or l 2 0) s.2 ∙ ap (λ (p : ObjectId). rank_of (record_of seen p)) here;
       },
       found_there qsbr allows maps old.number old.seat.me mid.seat.me e.walked.1 old.owns.1 old.owns.2 c.args.key index e.found,
     )

@@ -28,6 +28,7 @@ invariant_of-self-2 g c =
     let i = c.self.invariant in
     let lock = c.queue_object-seat.ensures.lock in
     let queued = c.queue_object-seat.ensures.queued in
+    let same = c.queue_object-seat.ensures.same in
     let told = c.tell.ensures in
     let reserved = c.in-Ok.ensures.ok in
     let put = c.in-Ok-push.ensures.ok in
@@ -36,16 +37,16 @@ invariant_of-self-2 g c =
     let item : Item (JobValue g.row.C.Denot) = record { object = record { 0 = c.queue_object-seat.result.1 }; job = c.of.result } in
     let named : item.object ≡ o = λ j. record { 0 = c.queue_object-seat.ensures.number j } in
     let run : object_in item.job.0.object ≡ o = ap (λ (z : JobValue g.row.C.Denot). object_in z.0.object) c.of.ensures ∙ ap object_in c.queue_object-seat.ensures.job.3 in
-    let last : IsLast q (given_of jobs) item.object new.seen = subst (λ (n : ℕ). IsLast q n item.object new.seen) given (subst (λ (p : ObjectId). IsLast q c.given-given.result p new.seen) (sym named) queued.0.last) in
-    let seen = ap (λ (z : JobValue g.row.C.Denot). z.0.seen) c.of.ensures ∙ (queued.1 ∙ queued.0.wrote) in
+    let last : IsLast q (given_of jobs) item.object new.seen = subst (λ (n : ℕ). IsLast q n item.object new.seen) given (subst (λ (p : ObjectId). IsLast q c.given-given.result p new.seen) (sym named) queued.last) in
+    let seen = ap (λ (z : JobValue g.row.C.Denot). z.0.seen) c.of.ensures ∙ (same ∙ queued.wrote) in
     let noted : WasQueued item.object q item.job.3 item.job.0.seen = (
-      queued.0.id,
-      queued.0.is ∙ (c.id-id.ensures ∙ sym (ap (λ (z : JobValue g.row.C.Denot). z.3) c.of.ensures)),
-      subst (Has (Object (Queue item.object q queued.0.id))) (sym seen) (subst (λ (p : ObjectId). Has (Object (Queue p q queued.0.id)) (Object (Queue o q queued.0.id) ∷ queued.0.within)) (sym named) (inl refl)),
+      queued.id,
+      queued.is ∙ (c.id-id.ensures ∙ sym (ap (λ (z : JobValue g.row.C.Denot). z.3) c.of.ensures)),
+      subst (Has (Object (Queue item.object q queued.id))) (sym seen) (subst (λ (p : ObjectId). Has (Object (Queue p q queued.id)) (Object (Queue o q queued.id) ∷ queued.within)) (sym named) (inl refl)),
     ) in
     let under = under_pushed key (with_place jobs) old new q (under_place key jobs old q i.2) lock.2 c.queue_object-seat.ensures.later item
     (ap (λ (j : Jobs g.row.C.Denot). j.closed) (sym reserved) ∙ put.0) (lock.3 ∙ ap (λ (n : ℕ). Owns q (n + 1) 0) given) lock.4 last
-    (ap (λ (z : JobValue g.row.C.Denot). z.0.seen) c.of.ensures ∙ queued.1) (named ∙ sym run) noted in (
+    (ap (λ (z : JobValue g.row.C.Denot). z.0.seen) c.of.ensures ∙ same) (named ∙ sym run) noted in (
       told.0 ∙ (lock.0.0 ∙ i.0),
       ap (λ z. z.1) told.2 ∙ (lock.1 ∙ i.1),
       subst (λ (v : View). IsUnderLock key c.push.new.self v q) (sym (ap (λ z. z.0) told.2))
@@ -72,7 +73,7 @@ returns-clause-retired g c =
     ) in
     let o = ap (λ (v : View). object_in v.object) learn ∙ ap (λ (v : View). object_in v.object) parts in
     let is = IsAfterAll cut seen heard in
-    let first = queues_as qsbr allows (Precedes learned) is (object_in learned.object) c.self.inside.number c.given-given.result c.id-id.result.code new after c.queue_object-seat.ensures.queued.0 in
+    let first = queues_as qsbr allows (Precedes learned) is (object_in learned.object) c.self.inside.number c.given-given.result c.id-id.result.code new after c.queue_object-seat.ensures.queued in
     let second = subst (λ (p : ObjectId). Queues qsbr allows is p c.self.inside.number c.given-given.result c.id-id.result.code new) o first in
     let third = subst (λ (n : ℕ). Queues qsbr allows is (object_in c.args.unlinked.seat.me.0.object) c.self.inside.number n c.id-id.result.code new) c.given-given.ensures second in
     let code = c.id-id.ensures ∙ c.of-identity.ensures.1 in

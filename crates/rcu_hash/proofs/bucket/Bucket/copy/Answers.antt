@@ -2,7 +2,7 @@ use Rattle.std.proofs.Common.{◌≡◌, ◌≤◌, ◌+◌, ◌%◌, ◌==◌, 
 use Rattle.std.proofs.Math.Logic.{∥∥₁_map}
 use Rattle.std.proofs.lemmas.List.{length-map, take_all}
 use Rattle.std.proofs.lemmas.Result.{err_from_is_err_and}
-use Rattle.live_log.specs.Log.{note_of}
+use Rattle.live_log.specs.Log.{record_of}
 use Rattle.live_log.specs.Tables.{tabled}
 use Rattle.live_log.proofs.Lemmas.{begins_trans, run_of, tabled_maps}
 use Rattle.rcu_list.specs.live_rule.Seats.{lent_chains}
@@ -69,7 +69,7 @@ loop-index-preserved g c =
     let i = c.loop-index.invariant in let e = c.in-Some.ensures in let s = e.some in let index = c.loop-index.index in
     let one = c.args.self.now.chain in let two = c.loop-index.self.chain in let three = c.get.new.self in let v = one.seat.me.0 in
     let went = went_both q tabled one.seat.me two.seat.me three.seat.me i.walked.2 e.walked.1 in
-    let note = note_of v.seen in let os = list_in v in let buckets = c.args.self.now.naming.buckets in let number = c.args.number in
+    let note = record_of v.seen in let os = list_in v in let buckets = c.args.self.now.naming.buckets in let number = c.args.number in
     let before = map (λ x. (x.key, x.value)) c.args.copied.now.items in let es = map (λ x. (x.key, x.value)) c.loop-index.copied.items in let ranks = map (λ x. x.rank) c.loop-index.copied.items in
     let many : 0 + length ranks ≡ vec_len c.loop-index.copied = let len = length-map c.loop-index.copied.items (λ x. x.rank) in let ok = c.loop-index.copied.ok.0 in omega arith in
     let at = got_at q one.number one.seat.me two.seat.me three.seat.me i.walked.2 one.owns.1 one.owns.2 e.walked.1 index s.0 s.1 in
@@ -110,7 +110,7 @@ returns-clause-copied g c key =
     let same : length (list_in c.note.new.self.seat.me.0) ≡ length (list_in v) = ap (λ (x : ChainRight). length x.objects) (same_own q tabled (tabled_maps q) one.number one.seat.me c.note.new.self.seat.me c.note.ensures.looked.1 one.owns.1 one.owns.2) in
     let all : length (list_in v) ≤ c.loop-index.index = let end = c.loop-index-test.false in let len = c.len-index-end.ensures in omega arith in
     i.copied.0 key ∙ ap (λ (x : Option ℕ). if key % c.args.self.now.naming.buckets == c.args.number then x else value_among before key)
-    (ap (λ l. value_in (note_of v.seen) l key) (take_all c.loop-index.index (list_in v) all) ∙ sym (value_walked q one.number one.seat.me two.seat.me i.walked.2 one.owns.1 one.owns.2 key))
+    (ap (λ l. value_in (record_of v.seen) l key) (take_all c.loop-index.index (list_in v) all) ∙ sym (value_walked q one.number one.seat.me two.seat.me i.walked.2 one.owns.1 one.owns.2 key))
 
 pub returns-clause-looks : goal.returns-clause-looks
 returns-clause-looks g c = let i = c.loop-index.invariant.looks in (i.0, i.1, i.2, tt)

@@ -1,6 +1,6 @@
 use Rattle.std.proofs.Common.{◌≡◌, ◌++◌, ℕ, List, map}
 use Rattle.rcu_model.specs.Sets.{In}
-use Rattle.live_log.specs.Log.{Begins, note_of}
+use Rattle.live_log.specs.Log.{Begins, record_of}
 use Rattle.live_log.specs.Tables.{tabled}
 use Rattle.rcu_list.specs.live_read.Hearing.{Stays}
 use Rattle.rcu_list.specs.live_rule.declared.view.Look.{Look}
@@ -14,7 +14,7 @@ use Rattle.rcu_hash.proofs.bucket.Bucket.copy.Given as goal
 
 abbrev pub invariant-loop-index : goal.invariant-loop-index
 invariant-loop-index g l = record {
-  copied : IsCopied (note_of l.fn.self.chain.seat.me.0.seen) (list_in l.fn.self.chain.seat.me.0) l.fn.self.naming.buckets l.number (map (λ c. (c.key, c.value)) l.fn.copied.items) l.index (map (λ c. (c.key, c.value)) l.copied.items);
+  copied : IsCopied (record_of l.fn.self.chain.seat.me.0.seen) (list_in l.fn.self.chain.seat.me.0) l.fn.self.naming.buckets l.number (map (λ c. (c.key, c.value)) l.fn.copied.items) l.index (map (λ c. (c.key, c.value)) l.copied.items);
   ranked : AreRanked 0 (map (λ c. c.rank) l.copied.items);
   heard : Begins (g.W.Caller.heard l.fn.caller) (g.W.Caller.heard l.caller);
   cells : (i : ℕ) → In (map (λ c. cell_in c.owned.seat.me.0.object) l.fn.copied.items) i → In (map (λ c. cell_in c.owned.seat.me.0.object) l.copied.items) i;

@@ -2,7 +2,7 @@ use Rattle.std.proofs.Common.{◌≡◌, ℕ, List, [], ◌∷◌, ◌++◌, ap,
 use Rattle.std.proofs.Math.Logic.{∥∥₁_map}
 use Rattle.rcu_model.specs.declared.event.ObjectId.{ObjectId}
 use Rattle.rcu_model.specs.Sets.{In}
-use Rattle.live_log.specs.Log.{Log, Begins, IsLiveRun, note_of, state_of}
+use Rattle.live_log.specs.Log.{Log, Begins, IsLiveRun, record_of, state_of}
 use Rattle.live_log.specs.Tables.{IsFree, tabled}
 use Rattle.live_log.proofs.Lemmas.{begins_trans, free_takes, tabled_maps}
 use Rattle.rcu_list.specs.live_rule.Seats.{lent_chains}
@@ -56,7 +56,7 @@ pub take_back-requires-clause-words : goal.take_back-requires-clause-words
 take_back-requires-clause-words g c =
     let q = g.P.GracePlan.QSBR in let d = c.take-place.result.1 in let n = d.naming in let e = c.lend-lent.ensures in let p = c.push.ensures.pushed in
     let s : Log = c.lend-lent.new.to.seat.me.0.seen in let t : Log = c.push.new.self.seat.me.0.seen in let goes : Begins s t = begins_trans s p.before t p.after.after_writer.0 (_ ∷ [], p.wrote) in
-    subst (λ (m : Naming). (note_of t m.object).1 ≡ words_by m.first m.buckets) (sym e.naming)
+    subst (λ (m : Naming). (record_of t m.object).1 ≡ words_by m.first m.buckets) (sym e.naming)
     (words_later q s t n.object goes p.run n.first n.buckets (lent_used q s n.directory n.object e.later.2 (lent_is s c.lend-lent.new.to.seat.me.0.chains _ _ n.object n.directory e.chains.0 e.known d.alone (d.chain.owns.2 ∙ d.own.0))) e.words)
 
 pub take_back-requires-clause-used : goal.take_back-requires-clause-used

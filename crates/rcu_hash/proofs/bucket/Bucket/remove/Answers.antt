@@ -4,7 +4,7 @@ use Rattle.rcu_model.specs.declared.event.ObjectId.{ObjectId}
 use Rattle.rcu_model.specs.Sets.{In}
 use Rattle.rcu_model.proofs.Lemmas.{some_is}
 use Rattle.live_log.specs.Keys.{key_of}
-use Rattle.live_log.specs.Log.{Log, Begins, IsLiveRun, note_of, state_of}
+use Rattle.live_log.specs.Log.{Log, Begins, IsLiveRun, record_of, state_of}
 use Rattle.live_log.specs.Tables.{IsFree, tabled}
 use Rattle.live_log.proofs.Lemmas.{begins_trans, free_takes, tabled_maps}
 use Rattle.rcu_list.specs.live_rule.Seats.{lent_chains}
@@ -60,7 +60,7 @@ take_back-requires-clause-words g c =
     let goes : Begins s t × IsLiveRun q tabled t = by_result c.cut_retire-answer.result _ _ r.retired r.back
     (λ x k. (begins_trans s k.published.before t k.published.after.after_writer.0 (_ ∷ [], k.published.wrote), k.published.run))
     (λ x b. (([], ap (λ z. z.seat.me.0.seen) b.1), subst (IsLiveRun q tabled) (sym (ap (λ z. z.seat.me.0.seen) b.1)) e.later.2)) in
-    subst (λ (m : Naming). (note_of t m.object).1 ≡ words_by m.first m.buckets) (sym e.naming)
+    subst (λ (m : Naming). (record_of t m.object).1 ≡ words_by m.first m.buckets) (sym e.naming)
     (words_later q s t n.object goes.0 goes.1 n.first n.buckets (lent_used q s n.directory n.object e.later.2 (lent_is s c.lend-lent.new.to.seat.me.0.chains _ _ n.object n.directory e.chains.0 e.known d.alone (d.chain.owns.2 ∙ d.own.0))) e.words)
 
 pub take_back-requires-clause-used : goal.take_back-requires-clause-used
@@ -108,7 +108,7 @@ returns-clause-removed g c =
     let is = subst (λ (m : Naming). (state_of new).chain m.directory ≡ m.object ∷ []) (k.naming.0 ∙ e.naming) (chain_known last.chain.seat.me.0 last.naming.directory last.chain.owns.1 (last.chain.owns.2 ∙ last.own.0) ∙ last.alone) in
     if_ok c.cut_retire-answer.result _ _ _ (λ t r z.
     let here : f.object ≡ r.object = some_is f.object r.object (sym f.at ∙ (ap (λ (x : List ObjectId). slice_get x index) (sym list_is) ∙ r.was)) in
-    let key_is : key_of (note_of known r.object) ≡ key = ap (λ (o : ObjectId). key_of (note_of known o)) (sym here) ∙ (ap key_of (sym (note_walked q tabled maps one.number one.seat.me two.seat.me l.1 one.owns.1 one.owns.2 f.object (index_has (list_in one.seat.me.0) index f.object f.at))) ∙ f.begins) in
+    let key_is : key_of (record_of known r.object) ≡ key = ap (λ (o : ObjectId). key_of (record_of known o)) (sym here) ∙ (ap key_of (sym (note_walked q tabled maps one.number one.seat.me two.seat.me l.1 one.owns.1 one.owns.2 f.object (index_has (list_in one.seat.me.0) index f.object f.at))) ∙ f.begins) in
     let came = cut_map q tabled maps one.number known seen heard three.seat.me.0 four.seat.me.0 (three.owns.2 ∙ number) three.owns.0
     (chain_known one.seat.me.0 one.number one.owns.1 one.owns.2 ∙ sym list_is) (w.seen w1) (w.heard w1) [] key r.object (index_has (list_in three.seat.me.0) index r.object r.was) key_is r.published (
       begins_trans known s r.published.before (begins_trans known two.seat.me.0.seen s l.1.2.0 e.later.0) r.published.after.after_writer.0,

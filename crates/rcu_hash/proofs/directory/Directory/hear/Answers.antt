@@ -1,7 +1,7 @@
 use Rattle.std.proofs.Common.{ℕ, ◌+◌, ◌<◌, ◌≤◌, List, ap, sym, ◌∙◌, subst, refl, inl, slice_index_or}
 use Rattle.rcu_model.specs.declared.event.ObjectId.{ObjectId}
 use Rattle.rcu_model.specs.Sets.{In}
-use Rattle.live_log.specs.Log.{Log, Begins, chain_note, note_of}
+use Rattle.live_log.specs.Log.{Log, Begins, chain_note, record_of}
 use Rattle.live_log.specs.Tables.{Names, tabled}
 use Rattle.live_log.proofs.Lemmas.{is_noted, run_of}
 use Rattle.rcu_list.specs.live_rule.Seats.{lent_chains}
@@ -29,7 +29,7 @@ returns-clause-linked g c =
     let one = c.hear.new.self in let t : Log = one.seat.me.0.seen in
     let words = words_later q v.seen t n.object h.told.1 h.told.0.run n.first n.buckets (own_used q v n.object (run_of q tabled v.seen t h.told.1 h.told.0.run) d.chain.owns.1 d.alone) d.words in
     let is = chain_known one.seat.me.0 n.directory one.owns.1 (one.owns.2 ∙ (h.chains.1 ∙ d.own.0)) ∙ (ap (λ (x : List ChainRight). (own_in x).objects) h.chains.0 ∙ d.alone) in
-    subst (IsLinked n.directory n.object) (sym h.heard) (subst (λ (l : List ObjectId). In l n.object) (sym is) (inl refl), by_words (note_of t n.object) n.first n.buckets words)
+    subst (IsLinked n.directory n.object) (sym h.heard) (subst (λ (l : List ObjectId). In l n.object) (sym is) (inl refl), by_words (record_of t n.object) n.first n.buckets words)
 
 -- a linked directory's chains have its note
 pub returns-clause-noted : goal.returns-clause-noted
@@ -38,11 +38,11 @@ returns-clause-noted g c k among =
     let one = c.hear.new.self in let t : Log = one.seat.me.0.seen in
     let words = words_later q v.seen t n.object h.told.1 h.told.0.run n.first n.buckets (own_used q v n.object (run_of q tabled v.seen t h.told.1 h.told.0.run) d.chain.owns.1 d.alone) d.words in
     let is = chain_known one.seat.me.0 n.directory one.owns.1 (one.owns.2 ∙ (h.chains.1 ∙ d.own.0)) ∙ (ap (λ (x : List ChainRight). (own_in x).objects) h.chains.0 ∙ d.alone) in
-    let names : Names (note_of t n.object) k = (
+    let names : Names (record_of t n.object) k = (
       subst (λ (w : List ℕ). slice_index_or w 0 0 ≤ k) (sym words) among.0,
       subst (λ (w : List ℕ). k < slice_index_or w 0 0 + slice_index_or w 1 0) (sym words) among.1,
     ) in
-    ap (chain_note k) h.heard ∙ (is_noted q t k n.directory n.object h.told.0.run (subst (λ (l : List ObjectId). In l n.object) (sym is) (inl refl)) (by_words (note_of t n.object) n.first n.buckets words) names).1
+    ap (chain_note k) h.heard ∙ (is_noted q t k n.directory n.object h.told.0.run (subst (λ (l : List ObjectId). In l n.object) (sym is) (inl refl)) (by_words (record_of t n.object) n.first n.buckets words) names).1
 
 pub returns-clause-heard : goal.returns-clause-heard
 returns-clause-heard g c =

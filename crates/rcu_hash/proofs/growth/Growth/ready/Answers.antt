@@ -11,10 +11,10 @@ use Rattle.rcu_hash.proofs.Holds.{looks_both}
 use Rattle.rcu_hash.proofs.Taking.{during_earlier, told_both, told_looks}
 use Rattle.rcu_hash.proofs.growth.Growth.ready.Goals as goal
 
-pub returns-in_err-rooms-clause-looks : goal.returns-in_err-rooms-clause-looks
-returns-in_err-rooms-clause-looks g c =
+pub returns-in_err-reserved-clause-looks : goal.returns-in_err-reserved-clause-looks
+returns-in_err-reserved-clause-looks g c =
     let p = err_from_is_err_and c.from_residual.result c.from_residual.ensures.1 in
-    let none = not_full g.B.Site.sizes _ [] c.from_residual.result p.0 Memory p.1 (p.2 ∙ c.in_err-rooms.ensures.refused) (λ z. cc) (λ i. tt) in ([], refl, none.0, none.1)
+    let none = not_full g.B.Site.sizes _ [] c.from_residual.result p.0 Memory p.1 (p.2 ∙ c.in_err-reserved.ensures.refused) (λ z. cc) (λ i. tt) in ([], refl, none.0, none.1)
 
 pub returns-in_err-taken-clause-looks : goal.returns-in_err-taken-clause-looks
 returns-in_err-taken-clause-looks g c =
@@ -57,18 +57,18 @@ returns-in-Err-clause-loads g c =
 
 pub returns-in-Ok-clause-heard : goal.returns-in-Ok-clause-heard
 returns-in-Ok-clause-heard g c =
-    let w = g.W.Caller in let w0 = c.args.caller.now in let w1 = c.hold_all.new.caller in let w2 = c.copy_all.new.caller in let w3 = c.provide.new.caller in
-    begins_trans (w.heard w0) (w.heard w1) (w.heard w3) c.hold_all.ensures.heard (begins_trans (w.heard w1) (w.heard w2) (w.heard w3) c.copy_all.ensures.heard c.provide.ensures.heard)
+    let w = g.W.Caller in let w0 = c.args.caller.now in let w1 = c.hold_all.new.caller in let w2 = c.copy_all.new.caller in let w3 = c.reserve_directory.new.caller in
+    begins_trans (w.heard w0) (w.heard w1) (w.heard w3) c.hold_all.ensures.heard (begins_trans (w.heard w1) (w.heard w2) (w.heard w3) c.copy_all.ensures.heard c.reserve_directory.ensures.heard)
 
 pub returns-in-Ok-clause-free : goal.returns-in-Ok-clause-free
 returns-in-Ok-clause-free g c chain among =
-    let w = g.W.Caller in let w1 = c.hold_all.new.caller in let w3 = c.provide.new.caller in
+    let w = g.W.Caller in let w1 = c.hold_all.new.caller in let w3 = c.reserve_directory.new.caller in
     during_earlier w g.P.GracePlan.QSBR tabled c.args.caller.now w1 w3 (IsUnused chain)
-    (begins_trans (w.heard w1) (w.heard c.copy_all.new.caller) (w.heard w3) c.copy_all.ensures.heard c.provide.ensures.heard) (c.in_ok-chains.ensures.free chain among)
+    (begins_trans (w.heard w1) (w.heard c.copy_all.new.caller) (w.heard w3) c.copy_all.ensures.heard c.reserve_directory.ensures.heard) (c.in_ok-chains.ensures.free chain among)
 
 pub returns-in-Ok-clause-looks : goal.returns-in-Ok-clause-looks
 returns-in-Ok-clause-looks g c =
-    let w = g.W.Caller in let l0 = w.looks c.args.caller.now in let l1 = w.looks c.hold_all.new.caller in let l2 = w.looks c.copy_all.new.caller in let l3 = w.looks c.provide.new.caller in
+    let w = g.W.Caller in let l0 = w.looks c.args.caller.now in let l1 = w.looks c.hold_all.new.caller in let l2 = w.looks c.copy_all.new.caller in let l3 = w.looks c.reserve_directory.new.caller in
     let a = c.hold_all.ensures.same.2 in let b = c.copy_all.ensures.looks in let p = c.in-Ok.ensures.looks in let sizes = g.B.Site.sizes in
     let cells = map (λ x. cell_in x.owned.seat.me.0.object) c.copy_all.new.copied.items in let cell = cell_in c.in-Ok.owned.seat.me.0.object in let before = b.0 ++ a.0 in (
       p.0 ++ before,
@@ -84,13 +84,13 @@ returns-in-Ok-clause-loads g c =
 
 pub returns-clause-heard : goal.returns-clause-heard
 returns-clause-heard g c =
-    let w = g.W.Caller in let w0 = c.args.caller.now in let w1 = c.hold_all.new.caller in let w2 = c.copy_all.new.caller in let w3 = c.provide.new.caller in let w4 = c.undo-in-Err-provide.new.caller in
-    begins_trans (w.heard w0) (w.heard w1) (w.heard w4) c.hold_all.ensures.heard (begins_trans (w.heard w1) (w.heard w2) (w.heard w4) c.copy_all.ensures.heard (begins_trans (w.heard w2) (w.heard w3) (w.heard w4) c.provide.ensures.heard c.undo-in-Err-provide.ensures.heard))
+    let w = g.W.Caller in let w0 = c.args.caller.now in let w1 = c.hold_all.new.caller in let w2 = c.copy_all.new.caller in let w3 = c.reserve_directory.new.caller in let w4 = c.undo-in-Err-reserve_directory.new.caller in
+    begins_trans (w.heard w0) (w.heard w1) (w.heard w4) c.hold_all.ensures.heard (begins_trans (w.heard w1) (w.heard w2) (w.heard w4) c.copy_all.ensures.heard (begins_trans (w.heard w2) (w.heard w3) (w.heard w4) c.reserve_directory.ensures.heard c.undo-in-Err-reserve_directory.ensures.heard))
 
 pub returns-clause-looks : goal.returns-clause-looks
 returns-clause-looks g c =
-    let w = g.W.Caller in let l0 = w.looks c.args.caller.now in let l1 = w.looks c.hold_all.new.caller in let l2 = w.looks c.copy_all.new.caller in let l3 = w.looks c.provide.new.caller in let l4 = w.looks c.undo-in-Err-provide.new.caller in
-    let a = c.hold_all.ensures.same.2 in let b = c.copy_all.ensures.looks in let p = c.in-Err-provide.ensures.looks in let u = c.undo-in-Err-provide.ensures.told.0 in let sizes = g.B.Site.sizes in
+    let w = g.W.Caller in let l0 = w.looks c.args.caller.now in let l1 = w.looks c.hold_all.new.caller in let l2 = w.looks c.copy_all.new.caller in let l3 = w.looks c.reserve_directory.new.caller in let l4 = w.looks c.undo-in-Err-reserve_directory.new.caller in
+    let a = c.hold_all.ensures.same.2 in let b = c.copy_all.ensures.looks in let p = c.in-Err-reserve_directory.ensures.looks in let u = c.undo-in-Err-reserve_directory.ensures.told.0 in let sizes = g.B.Site.sizes in
     let cells = map (λ x. cell_in x.owned.seat.me.0.object) c.copy_all.new.copied.items in let before = b.0 ++ a.0 in (
       u.0 ++ (p.0 ++ before),
       looks_both l0 l3 l4 (p.0 ++ before) u.0 (looks_both l0 l2 l3 before p.0 (looks_both l0 l1 l2 a.0 b.0 a.1 b.1) p.1) u.1,
@@ -103,9 +103,9 @@ returns-clause-looks g c =
 
 pub returns-clause-loads : goal.returns-clause-loads
 returns-clause-loads g c =
-    let w = g.W.Caller in let w0 = c.args.caller.now in let w1 = c.hold_all.new.caller in let w2 = c.copy_all.new.caller in let w3 = c.provide.new.caller in let w4 = c.undo-in-Err-provide.new.caller in
-    let a = c.hold_all.ensures.same in let b = c.copy_all.ensures in let p = c.in-Err-provide.ensures in
-    ((told_both w w0 w3 w4 (told_both w w0 w2 w3 (told_both w w0 w1 w2 (told_looks w w0 w1 a.2.0 a.2.1 a.1) (told_looks w w1 w2 b.looks.0 b.looks.1 b.same.1)) (told_looks w w2 w3 p.looks.0 p.looks.1 p.same.1)) ((c.undo-in-Err-provide.ensures.told.0.0, c.undo-in-Err-provide.ensures.told.0.1), c.undo-in-Err-provide.ensures.told.1)).1, tt)
+    let w = g.W.Caller in let w0 = c.args.caller.now in let w1 = c.hold_all.new.caller in let w2 = c.copy_all.new.caller in let w3 = c.reserve_directory.new.caller in let w4 = c.undo-in-Err-reserve_directory.new.caller in
+    let a = c.hold_all.ensures.same in let b = c.copy_all.ensures in let p = c.in-Err-reserve_directory.ensures in
+    ((told_both w w0 w3 w4 (told_both w w0 w2 w3 (told_both w w0 w1 w2 (told_looks w w0 w1 a.2.0 a.2.1 a.1) (told_looks w w1 w2 b.looks.0 b.looks.1 b.same.1)) (told_looks w w2 w3 p.looks.0 p.looks.1 p.same.1)) ((c.undo-in-Err-reserve_directory.ensures.told.0.0, c.undo-in-Err-reserve_directory.ensures.told.0.1), c.undo-in-Err-reserve_directory.ensures.told.1)).1, tt)
 
 pub returns-in_err-chains-clause-refused : goal.returns-in_err-chains-clause-refused
 returns-in_err-chains-clause-refused g c =

@@ -27,7 +27,7 @@ returns-clause-grown g c =
     let q = g.P.GracePlan.QSBR in let w = g.W.Caller in let w0 = c.args.caller.now in let wt = c.tell-left.new.caller in let w1 = c.ready.new.caller in let log : Log = w.heard c.commit-left.new.caller in
     let chains = g.B.Site.sizes.chains in let growth = c.in-Ok.growth in let e = c.in-Ok.ensures in let t = c.tell-left.ensures in let first = c.args.first in
     let entries : List (ℕ × ℕ) = map (λ y. (y.key, y.value)) growth.copied.items in
-    let directory : c.deref_mut.result.now.naming.directory ≡ c.args.self.now.directory = (λ i. (c.deref_mut.ensures.value i).naming.directory) ∙ (ap (λ (m : Naming). m.directory) c.own_shelf-shelf.ensures ∙ c.requires) in (
+    let directory : c.deref_mut.result.now.naming.directory ≡ c.args.self.now.directory = (λ i. (c.deref_mut.ensures.value i).naming.directory) ∙ (ap (λ (m : Naming). m.directory) c.own_array-array.ensures ∙ c.requires) in (
       entries,
       subst (λ (d : ℕ). Grows q tabled chains d (w.seen w0) (w.heard w0) first c.args.buckets entries log) directory
           (subst (λ (k : ℕ). Grows q tabled chains c.deref_mut.result.now.naming.directory (w.seen w0) (w.heard w0) first k entries log) e.chains.0
@@ -40,7 +40,7 @@ returns-clause-grown g c =
 pub commit-left-requires-clause-tidied : goal.commit-left-requires-clause-tidied
 commit-left-requires-clause-tidied g c =
     let t = c.tell-left.ensures in let log : Log = g.W.Caller.heard c.tell-left.new.caller in let l = c.args.left in
-    let same : c.deref_mut.result.now.naming ≡ l.naming = (λ i. (c.deref_mut.ensures.value i).naming) ∙ c.own_shelf-shelf.ensures in
+    let same : c.deref_mut.result.now.naming ≡ l.naming = (λ i. (c.deref_mut.ensures.value i).naming) ∙ c.own_array-array.ensures in
     let empty : l.chains.items ≡ [] = nil_from_length l.chains.items (let none = c.if-len-ne0.false in let len = c.len.ensures in let ok = l.chains.ok.0 in omega arith) in (
       log,
       c.ready.ensures.heard,
@@ -93,7 +93,7 @@ returns-then-not-are_apart-clause-refused g c =
     let w = g.W.Caller in let n = c.args.left.naming in let h = c.hear-then-not-are_apart.ensures in let log : Log = w.heard c.hear-then-not-are_apart.new.caller in
     let apart : are_apart n.first n.buckets c.args.first c.args.buckets ≡ false = sym c.are_apart.ensures ∙ c.if-not-are_apart.true in
     let some : 0 < c.args.buckets = search rules in
-    let here : 0 < n.buckets = subst (λ (m : Naming). 0 < m.buckets) c.own_shelf-shelf.ensures (write_guard_value c.own_shelf-shelf.result).many.0 in
+    let here : 0 < n.buckets = subst (λ (m : Naming). 0 < m.buckets) c.own_array-array.ensures (write_guard_value c.own_array-array.result).many.0 in
     let both = in_both n.first n.buckets c.args.first c.args.buckets here some apart in
     let note : chain_note both.0 log ≡ n.directory + 1 = h.noted both.0 both.1 in
     inr (inl (refl, inr (record { chain = both.0; one = both.2; found = []; looks = h.same.0.1; why = inr (record { at = log; after = h.heard; before = ([], refl); so = inr (λ none. absurd (omega (arith, note, none))) }) })))

@@ -3,7 +3,7 @@ use Rattle.std.proofs.lemmas.Option.{slice_get_within}
 use Rattle.rcu_model.specs.declared.event.ObjectId.{ObjectId}
 use Rattle.rcu_model.proofs.Lemmas.{some_is}
 use Rattle.live_log.specs.Keys.{key_of}
-use Rattle.live_log.specs.Log.{Log, Begins, note_of}
+use Rattle.live_log.specs.Log.{Log, Begins, record_of}
 use Rattle.live_log.specs.Maps.{IsUnnoted}
 use Rattle.live_log.proofs.Lemmas.{begins_trans}
 use Rattle.domain.specs.live_rule.declared.rights.ChainRight.{ChainRight}
@@ -39,7 +39,7 @@ returns-clause-removed g c =
     let list : list_in mid.seat.me.0 ≡ list_in old.seat.me.0 = ap (λ (x : ChainRight). x.objects) one in
     if_ok c.cut_retire.result _ _ _ (λ t r s.
     let here : f.object ≡ r.object = some_is f.object r.object (sym f.at ∙ (ap (λ (l : List ObjectId). slice_get l c.in-Some.index) (sym list) ∙ r.was)) in
-    let key_is : key_of (note_of known r.object) ≡ c.args.key = ap (λ (o : ObjectId). key_of (note_of known o)) (sym here) ∙ (ap key_of (sym (note_walked qsbr g.K.ChainRule.allows (g.met.K.MapRule.maps g.P.GracePlan.QSBR) old.number old.seat.me mid.seat.me e.walked.1 old.owns.1 old.owns.2 f.object (index_has (list_in old.seat.me.0) c.in-Some.index f.object f.at))) ∙ f.begins) in (
+    let key_is : key_of (record_of known r.object) ≡ c.args.key = ap (λ (o : ObjectId). key_of (record_of known o)) (sym here) ∙ (ap key_of (sym (note_walked qsbr g.K.ChainRule.allows (g.met.K.MapRule.maps g.P.GracePlan.QSBR) old.number old.seat.me mid.seat.me e.walked.1 old.owns.1 old.owns.2 f.object (index_has (list_in old.seat.me.0) c.in-Some.index f.object f.at))) ∙ f.begins) in (
       r.object,
       cut_map qsbr g.K.ChainRule.allows (g.met.K.MapRule.maps g.P.GracePlan.QSBR) old.number known (g.W.Caller.seen c.args.caller.now) (g.W.Caller.heard c.args.caller.now) mid.seat.me.0 done.seat.me.0 (mid.owns.2 ∙ e.walked.2) mid.owns.0
           (chain_known old.seat.me.0 old.number old.owns.1 old.owns.2 ∙ sym list)

@@ -3,7 +3,7 @@ use Rattle.std.proofs.lemmas.Option.{slice_get_within}
 use Rattle.rcu_model.specs.declared.event.ObjectId.{ObjectId}
 use Rattle.rcu_model.proofs.Lemmas.{some_is}
 use Rattle.live_log.specs.Keys.{key_of}
-use Rattle.live_log.specs.Log.{Log, Begins, note_of}
+use Rattle.live_log.specs.Log.{Log, Begins, record_of}
 use Rattle.live_log.specs.Maps.{IsUnnoted}
 use Rattle.live_log.proofs.Lemmas.{begins_trans}
 use Rattle.domain.specs.live_rule.declared.rights.ChainRight.{ChainRight}
@@ -42,7 +42,7 @@ returns-in-Ok-replace_retire-clause-replaced g c =
     let list : list_in new.seat.me.0 ≡ list_in old.seat.me.0 = ap (λ (x : ChainRight). x.objects) same in
     let number : new.number ≡ old.number = a.looked.2 in
     let one : ready.found.object ≡ r.object = some_is ready.found.object r.object (sym ready.found.at ∙ r.was) in
-    let key_is : key_of (note_of known r.object) ≡ c.args.key = sym (ap key_of (note_walked qsbr allows maps old.number old.seat.me new.seat.me a.looked.1 old.owns.1 old.owns.2 r.object (index_has (list_in old.seat.me.0) index r.object (ap (λ (l : List ObjectId). slice_get l index) (sym list) ∙ r.was)))) ∙ (ap (λ (p : ObjectId). key_of (note_of new.seat.me.0.seen p)) (sym one) ∙ ready.found.begins) in (
+    let key_is : key_of (record_of known r.object) ≡ c.args.key = sym (ap key_of (note_walked qsbr allows maps old.number old.seat.me new.seat.me a.looked.1 old.owns.1 old.owns.2 r.object (index_has (list_in old.seat.me.0) index r.object (ap (λ (l : List ObjectId). slice_get l index) (sym list) ∙ r.was)))) ∙ (ap (λ (p : ObjectId). key_of (record_of new.seat.me.0.seen p)) (sym one) ∙ ready.found.begins) in (
       r.object,
       replaced_map qsbr allows maps old.number known (g.W.Caller.seen c.args.caller.now) (g.W.Caller.heard c.args.caller.now) new.seat.me.0 done.seat.me.0 (new.owns.2 ∙ number) new.owns.0
           (chain_known old.seat.me.0 old.number old.owns.1 old.owns.2 ∙ sym list)

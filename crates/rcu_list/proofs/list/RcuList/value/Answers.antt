@@ -2,7 +2,7 @@ use Rattle.std.proofs.Common.{◌≡◌, ℕ, List, Some, length, slice_get, sli
 use Rattle.std.proofs.lemmas.Option.{slice_get_within}
 use Rattle.rcu_model.specs.declared.event.ObjectId.{ObjectId}
 use Rattle.rcu_model.proofs.Lemmas.{some_is}
-use Rattle.live_log.specs.Log.{note_of}
+use Rattle.live_log.specs.Log.{record_of}
 use Rattle.domain.specs.live_rule.declared.rights.ChainRight.{ChainRight}
 use Rattle.domain.specs.live_write.Chains.{list_in}
 use Rattle.domain.proofs.live_write.Lemmas.{index_has, went_both}
@@ -31,7 +31,7 @@ returns-clause-map g c =
     let went = went_both qsbr allows old.seat.me mid.seat.me new.seat.me e.walked.1 f.1 in
     let at = index_has (list_in old.seat.me.0) c.in-Some.index o e.found.at in
     let here : s.0 ≡ o = some_is s.0 o (sym s.1 ∙ (ap (λ (x : ChainRight). slice_get x.objects c.in-Some.index) first ∙ e.found.at)) in
-    let word : slice_index_or c.in-Some-get.words 1 0 ≡ value_of (note_of new.seat.me.0.seen o) = ap (λ (l : List ℕ). slice_index_or l 1 0) s.2 ∙ ap (λ (p : ObjectId). value_of (note_of new.seat.me.0.seen p)) here in
+    let word : slice_index_or c.in-Some-get.words 1 0 ≡ value_of (record_of new.seat.me.0.seen o) = ap (λ (l : List ℕ). slice_index_or l 1 0) s.2 ∙ ap (λ (p : ObjectId). value_of (record_of new.seat.me.0.seen p)) here in
     ap (λ (n : ℕ). Some n) (word ∙ ap value_of (note_walked qsbr allows maps old.number old.seat.me new.seat.me went old.owns.1 old.owns.2 o at))
     ∙ sym (walked_value qsbr allows maps old.number old.seat.me mid.seat.me e.walked.1 old.owns.1 old.owns.2 o c.args.key at e.found.begins)
 

@@ -1,5 +1,5 @@
 use Rattle.std.proofs.Common.{[], refl}
-use Rattle.live_log.specs.Log.{Log, note_of, state_of}
+use Rattle.live_log.specs.Log.{Log, record_of, state_of}
 use Rattle.live_log.proofs.Lemmas.{begins_trans}
 use Rattle.domain.specs.live_read.Holding.{log_of}
 use Rattle.domain.proofs.live_read.Lemmas.{looks_twice}
@@ -17,4 +17,4 @@ returns-in-Ok-Some-clause-window g c =
 pub returns-in-Ok-None-clause-window : goal.returns-in-Ok-None-clause-window
 returns-in-Ok-None-clause-window g c =
     let l = c.in-Ok-None.ensures.looked.1.later in let at : Log = log_of c.first.new.self.reader.now.core in let e = rw c.in-Ok-None.field-0-is at c.in-Ok-None.ensures in
-    record { at = at; after_seen = l.after_seen; after_heard = l.after_heard; before = ([], refl); is = empty_map (note_of at) ((state_of at).chain c.args.self.chain) c.args.key e.none }
+    record { at = at; after_seen = l.after_seen; after_heard = l.after_heard; before = ([], refl); is = empty_map (record_of at) ((state_of at).chain c.args.self.chain) c.args.key e.none }

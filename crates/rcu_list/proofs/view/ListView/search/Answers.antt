@@ -1,6 +1,6 @@
 use Rattle.std.proofs.Common.{◌≡◌, sym, ap, ◌∙◌, subst, arith}
 use Rattle.live_log.specs.Keys.{rank_of}
-use Rattle.live_log.specs.Log.{note_of}
+use Rattle.live_log.specs.Log.{record_of}
 use Rattle.domain.specs.live_read.Holding.{log_of}
 use Rattle.domain.proofs.live_read.Lemmas.{looks_twice}
 use Rattle.rcu_list.specs.Maps.{AnswersBetween}
@@ -19,8 +19,8 @@ loop-passed-init g c =
       reader = m.reader ∙ e.reader;
       object = f.0;
       stands = stands_first g.P.GracePlan.QSBR g.K.ChainRule.allows c.args.self.chain c.args.key start (g.met.K.MapRule.maps g.P.GracePlan.QSBR) now f.0 c.args.first.cell looked f.1 f.2 (e.none f.0 f.2);
-      low = let most : c.read_word-most.result ≡ rank_of (note_of (log_of mid) f.0) = m.word f.0 held in
-          let same : rank_of (note_of (log_of now) f.0) ≡ rank_of (note_of (log_of mid) f.0) = ap rank_of (m.looked.keeps.notes f.0 c.args.first.cell held) in omega arith;
+      low = let most : c.read_word-most.result ≡ rank_of (record_of (log_of mid) f.0) = m.word f.0 held in
+          let same : rank_of (record_of (log_of now) f.0) ≡ rank_of (record_of (log_of mid) f.0) = ap rank_of (m.looked.keeps.notes f.0 c.args.first.cell held) in omega arith;
     }
 
 pub returns-in_err-held-clause-looked : goal.returns-in_err-held-clause-looked

@@ -1,7 +1,7 @@
 use Rattle.std.proofs.Common.{◌≡◌, ◌+◌, ◌≤◌}
 use Rattle.rcu_model.specs.declared.event.ObjectId.{ObjectId}
 use Rattle.live_log.specs.Keys.{rank_of}
-use Rattle.live_log.specs.Log.{note_of}
+use Rattle.live_log.specs.Log.{record_of}
 use Rattle.domain.specs.live_read.Holding.{log_of}
 use Rattle.rcu_list.proofs.Looking.{StandsAt}
 use Rattle.rcu_list.proofs.view.ListView.search.Given as goal
@@ -11,5 +11,5 @@ invariant-loop-passed g l = record {
   reader : l.section.reader.ghost_name ≡ l.fn.section.reader.ghost_name;
   object : ObjectId;
   stands : StandsAt g.P.GracePlan.QSBR g.K.ChainRule.allows l.fn.self.chain l.fn.key l.fn.section.reader.now.core l.section.reader.now.core object l.held.cell;
-  low : rank_of (note_of (log_of l.section.reader.now.core) object) + l._passed ≤ l.most;
+  low : rank_of (record_of (log_of l.section.reader.now.core) object) + l._passed ≤ l.most;
 }

@@ -2,7 +2,7 @@ use Rattle.std.proofs.Common.{◌≡◌, ℕ, ◌%◌, [], ◌∷◌, ◌++◌, 
 use Rattle.std.specs.List.{FoldsTo}
 use Rattle.std.proofs.lemmas.Fn.{FoldsTo-push}
 use Rattle.live_log.specs.Keys.{rank_of}
-use Rattle.live_log.specs.Log.{note_of}
+use Rattle.live_log.specs.Log.{record_of}
 use Rattle.domain.specs.live_read.Holding.{log_of}
 use Rattle.domain.proofs.live_read.Lemmas.{looks_twice}
 use Rattle.rcu_list.proofs.Going.{goes_by, goes_first, goes_first_by, goes_last, goes_lower, goes_next, goes_none}
@@ -19,8 +19,8 @@ loop-passed-init g c =
     let wanted : ℕ → Type 0 = λ key. key % c.args.buckets ≡ c.args.bucket in
     let looked = looks_twice qsbr allows start mid now e.looked m.looked in
     let held = e.looked.keeps.held f.0 c.args.first.cell f.2 in let is = e.entry f.0 f.2 in
-    let most : c.read_word-rank.result ≡ rank_of (note_of (log_of mid) f.0) = m.word f.0 held in
-    let same : rank_of (note_of (log_of now) f.0) ≡ rank_of (note_of (log_of mid) f.0) = ap rank_of (m.looked.keeps.notes f.0 c.args.first.cell held) in
+    let most : c.read_word-rank.result ≡ rank_of (record_of (log_of mid) f.0) = m.word f.0 held in
+    let same : rank_of (record_of (log_of now) f.0) ≡ rank_of (record_of (log_of mid) f.0) = ap rank_of (m.looked.keeps.notes f.0 c.args.first.cell held) in
     ⊎_elim
     (λ x. record {
       reader = m.reader ∙ e.reader;

@@ -2,7 +2,7 @@ use Rattle.std.proofs.Common.{◌≡◌, ℕ, ◌+◌, ◌≤◌, ◌%◌, List}
 use Rattle.std.specs.List.{FoldsTo}
 use Rattle.rcu_model.specs.declared.event.ObjectId.{ObjectId}
 use Rattle.live_log.specs.Keys.{rank_of}
-use Rattle.live_log.specs.Log.{note_of}
+use Rattle.live_log.specs.Log.{record_of}
 use Rattle.domain.specs.live_read.Holding.{log_of}
 use Rattle.rcu_list.proofs.Going.{GoesAt}
 use Rattle.rcu_list.proofs.view.ListView.walk.Given as goal
@@ -14,6 +14,6 @@ invariant-loop-passed g l = record {
   object : ObjectId;
   met : List (ℕ × ℕ);
   goes : GoesAt g.P.GracePlan.QSBR g.K.ChainRule.allows (g.met.K.MapRule.maps g.P.GracePlan.QSBR) (λ key. key % l.fn.buckets ≡ l.fn.bucket) l.fn.self.chain l.fn.section.reader.now.core l.section.reader.now.core object l.held.cell met;
-  low : rank_of (note_of (log_of l.section.reader.now.core) object) + l._passed ≤ l.rank;
+  low : rank_of (record_of (log_of l.section.reader.now.core) object) + l._passed ≤ l.rank;
   ran : FoldsTo (λ f e h. goal.F-step g f e.0 e.1 tt h) l.fn.visit met l.visit;
 }

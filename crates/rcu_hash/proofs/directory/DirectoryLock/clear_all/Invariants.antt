@@ -5,7 +5,7 @@ use Rattle.live_log.specs.Tables.{tabled}
 use Rattle.rcu_list.specs.domain.Waiting.{FindsMore}
 use Rattle.rcu_hash.specs.Tidying.{HasWaited, IsLeft, Uses, WasCleared, chains_in}
 use Rattle.rcu_hash.specs.Writers.{Each}
-use Rattle.rcu_hash.proofs.directory.Desk.clear_all.Given as goal
+use Rattle.rcu_hash.proofs.directory.DirectoryLock.clear_all.Given as goal
 
 abbrev pub invariant-loop : goal.invariant-loop
 invariant-loop g l = record {

@@ -1,7 +1,7 @@
 use Rattle.std.proofs.Common.{◌≡◌, ◌⊎◌, ℕ, ◌+◌, ◌<◌, ◌≤◌, List, [], ◌∷◌, ap, sym, ◌∙◌, subst, refl}
 use Rattle.rcu_model.specs.Sets.{In}
 use Rattle.live_log.specs.declared.event.LiveEvent.TheVariants.{ChainNote}
-use Rattle.live_log.specs.Log.{Log, IsLiveRun, note_of, state_of, chain_note}
+use Rattle.live_log.specs.Log.{Log, IsLiveRun, record_of, state_of, chain_note}
 use Rattle.live_log.specs.Tables.{tabled}
 use Rattle.live_log.proofs.Lemmas.{begins_trans, run_of}
 use Rattle.rcu_list.specs.live_rule.declared.rights.ChainRight.{ChainRight}
@@ -11,7 +11,7 @@ use Rattle.rcu_hash.specs.Naming.{words_by}
 use Rattle.rcu_hash.specs.Tidying.{ClearsNote, HasWaited, IsLeft}
 use Rattle.rcu_hash.proofs.Emptying.{apart_there, directed_there, map_left, may_clear_left, noted_there}
 use Rattle.rcu_hash.proofs.Named.{lent_is, lent_used, used_later, words_later}
-use Rattle.rcu_hash.proofs.directory.Desk.give_back.Goals as goal
+use Rattle.rcu_hash.proofs.directory.DirectoryLock.give_back.Goals as goal
 
 pub set_note-requires : goal.set_note-requires
 set_note-requires g c = record {
@@ -33,7 +33,7 @@ take_back-requires-clause-words g c =
     let q = g.P.GracePlan.QSBR in let d = c.take-place.result.1 in let n = d.naming in let e = c.lend-lent.ensures in let k = c.set_note.ensures.noted in
     let s : Log = c.lend-lent.new.to.seat.me.0.seen in let t : Log = c.set_note.new.self.seat.me.0.seen in
     let goes = begins_trans s k.before t k.after.after_writer.0 (_ ∷ [], k.wrote) in
-    subst (λ (m : Naming). (note_of t m.object).1 ≡ words_by m.first m.buckets) (sym e.naming)
+    subst (λ (m : Naming). (record_of t m.object).1 ≡ words_by m.first m.buckets) (sym e.naming)
     (words_later q s t n.object goes k.run n.first n.buckets (lent_used q s n.directory n.object e.later.2 (lent_is s c.lend-lent.new.to.seat.me.0.chains _ _ n.object n.directory e.chains.0 e.known d.alone (d.chain.owns.2 ∙ d.own.0))) e.words)
 
 pub take_back-requires-clause-used : goal.take_back-requires-clause-used

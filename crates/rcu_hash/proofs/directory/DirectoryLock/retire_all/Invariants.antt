@@ -3,7 +3,7 @@ use Rattle.live_log.specs.Tables.{tabled}
 use Rattle.rcu_list.specs.live_write.Chains.{list_in}
 use Rattle.rcu_list.specs.domain.Waiting.{FindsMore}
 use Rattle.rcu_hash.specs.Tidying.{HasWaited, IsLeft, Uses}
-use Rattle.rcu_hash.proofs.directory.Desk.retire_all.Given as goal
+use Rattle.rcu_hash.proofs.directory.DirectoryLock.retire_all.Given as goal
 
 abbrev pub invariant-loop : goal.invariant-loop
 invariant-loop g l = record {

@@ -4,7 +4,7 @@ use Rattle.live_log.proofs.Lemmas.{begins_trans}
 use Rattle.rcu_hash.specs.declared.directory.Naming.{Naming}
 use Rattle.rcu_hash.specs.Tidying.{IsLinked}
 use Rattle.rcu_hash.proofs.Tidied.{rest_later}
-use Rattle.rcu_hash.proofs.left.Left.tell.Goals as goal
+use Rattle.rcu_hash.proofs.old_table.OldTable.tell.Goals as goal
 
 pub invariant_of-result : goal.invariant_of-result
 invariant_of-result g c =

@@ -1,5 +1,5 @@
 use Rattle.std.proofs.Common.{length, ap, arith}
-use Rattle.rcu_hash.proofs.making.shelve.Goals as goal
+use Rattle.rcu_hash.proofs.making.into_buckets.Goals as goal
 
 pub loop-init : goal.loop-init
 loop-init g c =

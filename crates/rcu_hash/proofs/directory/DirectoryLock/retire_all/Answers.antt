@@ -3,7 +3,7 @@ use Rattle.live_log.specs.Log.{Log}
 use Rattle.live_log.specs.Tables.{tabled}
 use Rattle.rcu_hash.specs.Tidying.{Cuts, RetiresObject, Uses}
 use Rattle.rcu_hash.proofs.Emptying.{finds_both, finds_none, stays_none, uses_both, uses_none, uses_one, waited_later}
-use Rattle.rcu_hash.proofs.directory.Desk.retire_all.Goals as goal
+use Rattle.rcu_hash.proofs.directory.DirectoryLock.retire_all.Goals as goal
 
 pub loop-init : goal.loop-init
 loop-init g c =

@@ -4,7 +4,7 @@ use Rattle.rcu_hash.specs.Writers.{Each, HasKeysIn, HasNote, IsAlone}
 use Rattle.rcu_hash.proofs.Emptying.{all_outside, each_left, each_popped, each_pushed}
 use Rattle.rcu_hash.proofs.Holds.{each_map}
 use Rattle.rcu_hash.proofs.Tidied.{chains_popped, chains_pushed, rest_more}
-use Rattle.rcu_hash.proofs.left.Left.hear.Goals as goal
+use Rattle.rcu_hash.proofs.old_table.OldTable.hear.Goals as goal
 
 pub hear_left-requires : goal.hear_left-requires
 hear_left-requires g c = record {

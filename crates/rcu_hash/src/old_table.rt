@@ -8,7 +8,7 @@ ghost use Rattle.rcu_hash.specs.Growing.{HasLeft};
 ghost use Rattle.rcu_hash.specs.Tidying.{IsLeft, IsLinked, IsRecord, IsRest, record_prop};
 ghost use Rattle.rcu_hash.specs.Writers.{Each, HasKeysIn, HasNote, IsAlone, IsOutside, alone_prop, each_prop, keys_prop, note_prop, some_prop};
 
-use crate::directory::{Desk, Naming};
+use crate::directory::{DirectoryLock, Naming};
 use gp_memb::GracePlan;
 use live_log::Tabled;
 use rcu_list::{Caller, Chain, Deleter, Handle, Site, Unlinked};
@@ -18,7 +18,7 @@ use std::sync::Wait;
 /// retired, and chains that it named, with the objects that are not retired yet. A handle has heard of a log in which
 /// nothing else is left.
 #[derive(Drop)]
-pub(crate) struct Left<'d, P: GracePlan, B: Site, D: Drop> {
+pub(crate) struct OldTable<'d, P: GracePlan, B: Site, D: Drop> {
     /// The directory that is linked.
     pub(crate) naming: Naming,
     pub(crate) unlinked: Option<Unlinked<B>>,
@@ -33,7 +33,7 @@ pub(crate) struct Left<'d, P: GracePlan, B: Site, D: Drop> {
     pub(crate) ghost rest: { IsRest naming.directory naming.object (map (λ c. c.seat.me.0) chains.items) (option_map (λ u. object_in u.seat.me.0.object) unlinked) handle.seat.me.0.heard },
 }
 
-impl<'d, P: GracePlan + Drop, B: Site, D: Deleter> Desk<'d, P, B, D> {
+impl<'d, P: GracePlan + Drop, B: Site, D: Deleter> DirectoryLock<'d, P, B, D> {
     /// The caller hears of a log in which a chain that an earlier directory named has its note still. It waits for the
     /// directory's lock.
     pub(crate) fn hear_left<W: Caller<B>, R: Wait>(
@@ -57,20 +57,20 @@ impl<'d, P: GracePlan + Drop, B: Site, D: Deleter> Desk<'d, P, B, D> {
     }
 }
 
-impl<'d, P: GracePlan + Drop, B: Site, D: Deleter> Left<'d, P, B, D> {
+impl<'d, P: GracePlan + Drop, B: Site, D: Deleter> OldTable<'d, P, B, D> {
     /// The caller hears of a log in which something is left: there are chains. It waits for the directory's lock.
     pub(crate) fn hear<W: Caller<B>, R: Wait>(
         self,
         rt: &R,
-        desk: &Desk<'d, P, B, D>,
+        lock: &DirectoryLock<'d, P, B, D>,
         caller: &mut W,
-    ) -> Left<'d, P, B, D>
+    ) -> OldTable<'d, P, B, D>
         requires { 0 < vec_len self.chains }
         ensures left { HasLeft self.entry.naming.directory (W.heard caller.new) }
         ensures heard { IsAfter P.QSBR tabled (W.seen caller.old) (W.heard caller.old) (W.heard caller.new) }
         ensures same { OnlyHears W.Caller caller.old caller.new × (result.naming ≡ self.entry.naming) }
     {
-        let Left {
+        let OldTable {
             naming,
             unlinked,
             mut chains,
@@ -79,9 +79,9 @@ impl<'d, P: GracePlan + Drop, B: Site, D: Deleter> Left<'d, P, B, D> {
         let Some(mut chain) = chains.pop() else {
             unreachable!()
         };
-        desk.hear_left(rt, naming, caller, &mut chain);
+        lock.hear_left(rt, naming, caller, &mut chain);
         chains.push_reserved(chain);
-        Left {
+        OldTable {
             naming,
             unlinked,
             chains,
@@ -93,26 +93,26 @@ impl<'d, P: GracePlan + Drop, B: Site, D: Deleter> Left<'d, P, B, D> {
     pub(crate) fn tell<W: Caller<B>, R: Wait>(
         self,
         rt: &R,
-        desk: &Desk<'d, P, B, D>,
+        lock: &DirectoryLock<'d, P, B, D>,
         caller: &mut W,
-    ) -> Left<'d, P, B, D>
+    ) -> OldTable<'d, P, B, D>
         ensures rest { IsRest self.entry.naming.directory self.entry.naming.object (map (λ c. c.seat.me.0) self.entry.chains.items) (option_map (λ u. object_in u.seat.me.0.object) self.entry.unlinked) (W.heard caller.new) }
         ensures linked { IsLinked self.entry.naming.directory self.entry.naming.object (W.heard caller.new) }
         ensures heard { IsAfter P.QSBR tabled (W.seen caller.old) (W.heard caller.old) (W.heard caller.new) }
         ensures same { OnlyHears W.Caller caller.old caller.new }
         ensures left { (result.naming ≡ self.entry.naming) × (result.chains ≡ self.entry.chains) × (result.unlinked ≡ self.entry.unlinked) }
     {
-        let Left {
+        let OldTable {
             naming,
             unlinked,
             chains,
             mut handle,
         } = self;
-        let (mut place, mut directory) = desk.take(rt, naming);
+        let (mut place, mut directory) = lock.take(rt, naming);
         directory.hear(&mut handle);
         directory.hear(caller);
         *place = Some(directory);
-        Left {
+        OldTable {
             naming,
             unlinked,
             chains,

@@ -6,7 +6,7 @@ use Rattle.rcu_list.specs.live_table.Rights.{own_in}
 use Rattle.rcu_hash.specs.Tidying.{ClearsNote, IsLeft, Uses, WasCleared}
 use Rattle.rcu_hash.proofs.Emptying.{each_popped, each_pushed, finds_both, finds_none, heard_on, objects_pushed, only_finds, stays_none, uses_both, uses_no, uses_none, waited_later}
 use Rattle.rcu_hash.proofs.Tidied.{chains_popped, chains_pushed, cleared_since}
-use Rattle.rcu_hash.proofs.directory.Desk.clear_all.Goals as goal
+use Rattle.rcu_hash.proofs.directory.DirectoryLock.clear_all.Goals as goal
 
 pub loop-init : goal.loop-init
 loop-init g c =

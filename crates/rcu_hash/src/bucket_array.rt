@@ -13,14 +13,14 @@ pub(crate) type Place<'d, P, B, D> = Mutex<Option<Bucket<'d, P, B, D>>>;
 
 /// The buckets that a directory names, in order.
 #[derive(Drop)]
-pub(crate) struct Shelf<'d, P: GracePlan, B: Site, D: Drop> {
+pub(crate) struct BucketArray<'d, P: GracePlan, B: Site, D: Drop> {
     pub(crate) naming: Naming,
     pub(crate) buckets: Vec<Place<'d, P, B, D>>,
     pub(crate) ghost many: { (0 < naming.buckets) × (vec_len buckets ≡ naming.buckets) },
     pub(crate) ghost fits: { naming.first + naming.buckets ≤ B.sizes.chains },
 }
 
-impl<'d, P: GracePlan + Drop, B: Site, D: Deleter> Shelf<'d, P, B, D> {
+impl<'d, P: GracePlan + Drop, B: Site, D: Deleter> BucketArray<'d, P, B, D> {
     /// The bucket of a key.
     pub(crate) fn bucket(&self, key: u64) -> usize
         ensures { (result ≡ key % self.now.naming.buckets) × (result < self.now.naming.buckets) }

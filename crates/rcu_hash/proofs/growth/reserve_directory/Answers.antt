@@ -2,7 +2,7 @@ use Rattle.std.proofs.Common.{[], refl, ◌∙◌}
 use Rattle.std.proofs.lemmas.Result.{err_from_is_err_and}
 use Rattle.rcu_model.specs.declared.refusal.Refusal.TheVariants.{Memory}
 use Rattle.rcu_hash.proofs.Freeing.{not_full}
-use Rattle.rcu_hash.proofs.growth.provide.Goals as goal
+use Rattle.rcu_hash.proofs.growth.reserve_directory.Goals as goal
 
 pub returns-in_err-old_lents-clause-looks : goal.returns-in_err-old_lents-clause-looks
 returns-in_err-old_lents-clause-looks g c =

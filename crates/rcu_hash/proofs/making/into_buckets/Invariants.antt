@@ -2,7 +2,7 @@ use Rattle.std.proofs.Common.{◌≡◌, ◌≤◌, ◌+◌, map, vec_len, vec_c
 use Rattle.std.specs.Vec.Iter.{into_iter_items, into_iter_len}
 use Rattle.rcu_hash.specs.Naming.{IsNamedBy}
 use Rattle.rcu_hash.specs.Writers.{Each, HasKeysIn, IsAlone}
-use Rattle.rcu_hash.proofs.making.shelve.Given as goal
+use Rattle.rcu_hash.proofs.making.into_buckets.Given as goal
 
 abbrev pub invariant-loop : goal.invariant-loop
 invariant-loop g l = record {

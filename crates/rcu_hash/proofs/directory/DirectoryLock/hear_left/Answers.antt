@@ -1,7 +1,7 @@
 use Rattle.std.proofs.Common.{◌≡◌, ◌⊎◌, ℕ, ◌+◌, ◌<◌, ◌≤◌, List, arith, ap, slice_index_or, sym, ◌∙◌, subst, ⊎_elim}
 use Rattle.std.proofs.Math.Logic.{∥∥₁_elim}
 use Rattle.rcu_model.specs.Sets.{In}
-use Rattle.live_log.specs.Log.{Log, Begins, IsLiveRun, note_of, state_of}
+use Rattle.live_log.specs.Log.{Log, Begins, IsLiveRun, record_of, state_of}
 use Rattle.live_log.specs.Tables.{Names, tabled}
 use Rattle.live_log.proofs.Lemmas.{begins_trans, tabled_maps}
 use Rattle.rcu_list.specs.live_rule.Seats.{lent_chains}
@@ -14,13 +14,13 @@ use Rattle.rcu_hash.specs.Growing.{HasLeft}
 use Rattle.rcu_hash.specs.Naming.{words_by}
 use Rattle.rcu_hash.specs.Tidying.{IsLeft}
 use Rattle.rcu_hash.proofs.Named.{lent_is, lent_used, used_later, words_later}
-use Rattle.rcu_hash.proofs.directory.Desk.hear_left.Goals as goal
+use Rattle.rcu_hash.proofs.directory.DirectoryLock.hear_left.Goals as goal
 
 pub take_back-requires-clause-words : goal.take_back-requires-clause-words
 take_back-requires-clause-words g c =
     let q = g.P.GracePlan.QSBR in let d = c.take-place.result.1 in let n = d.naming in let e = c.lend-lent.ensures in let h = c.hear.ensures in
     let s : Log = c.lend-lent.new.to.seat.me.0.seen in let t : Log = c.hear.new.self.seat.me.0.seen in
-    subst (λ (m : Naming). (note_of t m.object).1 ≡ words_by m.first m.buckets) (sym e.naming)
+    subst (λ (m : Naming). (record_of t m.object).1 ≡ words_by m.first m.buckets) (sym e.naming)
     (words_later q s t n.object h.told.1 h.told.0.run n.first n.buckets (lent_used q s n.directory n.object e.later.2 (lent_is s c.lend-lent.new.to.seat.me.0.chains _ _ n.object n.directory e.chains.0 e.known d.alone (d.chain.owns.2 ∙ d.own.0))) e.words)
 
 pub take_back-requires-clause-used : goal.take_back-requires-clause-used
@@ -37,7 +37,7 @@ returns-clause-left g c =
     let chains = h.chains.0 ∙ e.chains.0 in
     let left : IsLeft n.directory n.first n.buckets one = subst (λ (m : Naming). IsLeft m.directory m.first m.buckets one) (sym named) c.requires.chain in
     let words = words_later q s t n.object h.told.1 h.told.0.run n.first n.buckets (lent_used q s n.directory n.object e.later.2 (lent_is s c.lend-lent.new.to.seat.me.0.chains _ _ n.object n.directory e.chains.0 e.known d.alone (d.chain.owns.2 ∙ d.own.0))) e.words in
-    let unnamed : ¬ (Names (note_of t n.object) k) = λ names.
+    let unnamed : ¬ (Names (record_of t n.object) k) = λ names.
     let low : n.first ≤ k = subst (λ (w : List ℕ). slice_index_or w 0 0 ≤ k) words names.0 in
     let high : k < n.first + n.buckets = subst (λ (w : List ℕ). k < slice_index_or w 0 0 + slice_index_or w 1 0) words names.1 in
     ∥∥₁_elim left.3 (λ x y. absurd x) (λ out. ⊎_elim (λ under. absurd (omega (arith, low, under))) (λ over. absurd (omega (arith, high, over))) out) in

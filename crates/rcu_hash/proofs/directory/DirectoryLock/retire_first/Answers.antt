@@ -4,7 +4,7 @@ use Rattle.rcu_model.specs.Sets.{In, without_object}
 use Rattle.rcu_model.proofs.Lemmas.{at_number_other}
 use Rattle.live_log.specs.declared.event.LiveEvent.TheVariants.{Object}
 use Rattle.live_log.specs.declared.event.ObjectEvent.TheVariants.{Cut}
-use Rattle.live_log.specs.Log.{Log, Begins, IsLiveRun, note_of, state_of, chain_note}
+use Rattle.live_log.specs.Log.{Log, Begins, IsLiveRun, record_of, state_of, chain_note}
 use Rattle.live_log.specs.Tables.{tabled}
 use Rattle.live_log.proofs.Lemmas.{begins_trans, run_of, tabled_maps}
 use Rattle.rcu_list.specs.live_rule.Seats.{lent_chains}
@@ -20,7 +20,7 @@ use Rattle.rcu_hash.specs.Tidying.{HasWaited, IsLeft, RetiresObject}
 use Rattle.rcu_hash.proofs.Emptying.{apart_there, directed_there, err_both, listed_once, makes_finds, map_left, may_cut_left, noted_there, one_fewer, queued_later, refused_finds, refused_why}
 use Rattle.rcu_hash.proofs.Named.{lent_is, lent_used, used_later, words_later}
 use Rattle.rcu_list.proofs.live_read.Lemmas.{one_made}
-use Rattle.rcu_hash.proofs.directory.Desk.retire_first.Goals as goal
+use Rattle.rcu_hash.proofs.directory.DirectoryLock.retire_first.Goals as goal
 
 pub cut_retire-answer-requires : goal.cut_retire-answer-requires
 cut_retire-answer-requires g c = record {
@@ -43,7 +43,7 @@ take_back-requires-clause-words g c =
     let goes : Begins s t × IsLiveRun q tabled t = by_result c.cut_retire-answer.result _ _ r.retired r.back
     (λ x k. (begins_trans s k.published.before t k.published.after.after_writer.0 (_ ∷ [], k.published.wrote), k.published.run))
     (λ x b. (([], ap (λ z. z.seat.me.0.seen) b.1), subst (IsLiveRun q tabled) (sym (ap (λ z. z.seat.me.0.seen) b.1)) e.later.2)) in
-    subst (λ (m : Naming). (note_of t m.object).1 ≡ words_by m.first m.buckets) (sym e.naming)
+    subst (λ (m : Naming). (record_of t m.object).1 ≡ words_by m.first m.buckets) (sym e.naming)
     (words_later q s t n.object goes.0 goes.1 n.first n.buckets (lent_used q s n.directory n.object e.later.2 (lent_is s c.lend-lent.new.to.seat.me.0.chains _ _ n.object n.directory e.chains.0 e.known d.alone (d.chain.owns.2 ∙ d.own.0))) e.words)
 
 pub take_back-requires-clause-used : goal.take_back-requires-clause-used
