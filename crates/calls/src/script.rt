@@ -1,6 +1,7 @@
 //! A script from its first byte to its last one.
 
 ghost use Rattle.std.specs.Prelude.{◌≡◌};
+ghost use Rattle.rcu_hash.specs.domain.Naming.{Names};
 ghost use Rattle.calls.specs.Script.{AnswersCalls, AnswersIn, AnswersLines, AnswersScript, sizes_of};
 
 use crate::codes::Code;
@@ -25,7 +26,7 @@ fn answer_chains<P: GracePlan + Drop, B: Site, W: Write, H: Wait>(
     text: &[u8],
     writer: &mut W,
 ) -> Result<(), ReplayFault>
-    requires { (opened.table.words.shared.table_id ≡ B.table) × (opened.table.words.shared.key ≡ B.sizes) }
+    requires { Names B.Site opened }
     ensures { AnswersLines text.now (W.contents writer.old) (W.contents writer.new) result }
 {
     let queues = opened.table.queues;
@@ -46,7 +47,7 @@ fn answer_maps<P: GracePlan + Drop, B: Site, W: Write, H: Wait>(
     text: &[u8],
     writer: &mut W,
 ) -> Result<(), ReplayFault>
-    requires { (opened.table.words.shared.table_id ≡ B.table) × (opened.table.words.shared.key ≡ B.sizes) }
+    requires { Names B.Site opened }
     ensures { AnswersLines text.now (W.contents writer.old) (W.contents writer.new) result }
 {
     let queues = opened.table.queues;

@@ -1,4 +1,5 @@
 pub mod Config
+pub mod Naming
 pub mod Waiting
 pub mod Retiring
 pub mod Barriers

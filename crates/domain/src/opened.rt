@@ -4,6 +4,7 @@ ghost use Rattle.std.specs.Prelude.{◌≡◌, ◌<◌, ◌≤◌, [], IfErr, If
 ghost use Rattle.rcu_model.specs.declared.refusal.Refusal.TheVariants.{Memory};
 ghost use Rattle.live_words.specs.live_rule.Views.{first_view};
 ghost use Rattle.domain.specs.Config.{is_supported, new_refusal, IsOf};
+ghost use Rattle.domain.specs.Naming.{Names};
 
 use crate::config::LiveConfig;
 use crate::domain::Domain;
@@ -52,16 +53,16 @@ impl<P: GracePlan + Drop, K: ChainRule> Opened<P, K> {
         Ok(Opened { table, seat })
     }
 
-    /// The domain under this name, none of whose slots is claimed, and the first handle, which has seen nothing yet.
-    /// `D` is what is called with each object that is reclaimed:
-    /// the boxed `Callback`, or a type of the program's own.
+    /// The domain under this name, and the first handle, which has seen nothing yet. `B` is a type that stands for this
+    /// domain alone: a program is generic in it, and picks it in one line of a proof (`Names`, docs/USING.md). `D` is
+    /// what is called with each object that is reclaimed: the boxed `Callback`, or a type of the program's own.
     ///
     /// Refused with `Memory` where memory is. It never waits.
     pub fn into_domain<B: Site, D: Deleter>(
         self,
         alloc: Global,
     ) -> Result<(Domain<P, K, B, D>, Handle<B>), Refusal>
-        requires { (self.table.words.shared.table_id ≡ B.table) × (self.table.words.shared.key ≡ B.sizes) }
+        requires { Names B.Site self }
         ensures ok { IfOk result (λ made. (made.1.seat.me.0.seen ≡ []) × (made.1.seat.me.0.heard ≡ [])) }
         ensures err { IfErr result (λ e. e ≡ Memory) }
     {
@@ -73,14 +74,14 @@ impl<P: GracePlan + Drop, K: ChainRule> Opened<P, K> {
         let Ok(queues) = queues_of(alloc, &table, &mut seat) else {
             return Err(Refusal::Memory);
         };
-        let record = Handle::new(table.tell(&mut seat));
+        let handle = Handle::new(table.tell(&mut seat));
         Ok((
             Domain {
                 table,
                 grace: Mutex::new(grace),
                 queues,
             },
-            record,
+            handle,
         ))
     }
 }

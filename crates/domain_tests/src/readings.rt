@@ -2,6 +2,7 @@
 //! run of the abstract machine.
 
 ghost use Rattle.std.specs.Prelude.{◌≡◌, ℕ, ◌<◌, ◌∷◌, Option, Some, IfOk, IfSome};
+ghost use Rattle.domain.specs.Naming.{Names};
 ghost use Rattle.rcu_model.specs.declared.event.ObjectId.{ObjectId};
 ghost use Rattle.rcu_model.specs.declared.event.SectionId.{SectionId};
 ghost use Rattle.rcu_model.specs.Sets.{first_of};
@@ -122,7 +123,7 @@ fn reads_alone<P: GracePlan + Drop, B: Site, R: Wait>(
     alloc: Global,
     opened: Opened<P, AnyChain>,
 ) -> Result<Told, Refusal>
-    requires { (opened.table.words.shared.table_id ≡ B.table) × (opened.table.words.shared.key ≡ B.sizes) }
+    requires { Names B.Site opened }
 {
     let (domain, mut record) = opened.into_domain::<B, Adds>(alloc)?;
     let mut reader = domain.register(rt, &mut record)?;

@@ -1,6 +1,7 @@
 //! What is cut is retired and reclaimed: tickets, refusals with their parts back, closed queues, barriers and workers.
 
-ghost use Rattle.std.specs.Prelude.{◌≡◌, false, true};
+ghost use Rattle.std.specs.Prelude.{false, true};
+ghost use Rattle.domain.specs.Naming.{Names};
 
 use crate::deleter::Adds;
 use crate::plain;
@@ -75,7 +76,7 @@ fn reclaims_one<B: Site, R: Wait>(
     opened: Opened<MembPlan, AnyChain>,
     callback: Callback,
 ) -> Result<(u64, (usize, Option<Finished>, usize, Stop)), Refusal>
-    requires { (opened.table.words.shared.table_id ≡ B.table) × (opened.table.words.shared.key ≡ B.sizes) }
+    requires { Names B.Site opened }
 {
     let (domain, mut record) = opened.into_domain::<B, Callback>(alloc)?;
     reclaims(rt, alloc, &domain, &mut record, callback)
@@ -140,7 +141,7 @@ fn two_workers<B: Site + Send + Sync, R: Threads + Wait + Sync>(
     alloc: Global,
     opened: Opened<MembPlan, AnyChain>,
 ) -> Result<(Option<Refusal>, (u64, Stop)), Refusal>
-    requires { (opened.table.words.shared.table_id ≡ B.table) × (opened.table.words.shared.key ≡ B.sizes) }
+    requires { Names B.Site opened }
 {
     let (domain, mut record) = opened.into_domain::<B, Adds>(alloc)?;
     let other = domain.split(&mut record);

@@ -1,6 +1,7 @@
 //! What a program sees of a domain: its counts, and which readers a grace period waits for.
 
 ghost use Rattle.std.specs.Prelude.{◌≡◌, false, true};
+ghost use Rattle.domain.specs.Naming.{Names};
 
 use crate::deleter::Adds;
 use crate::plain;
@@ -129,7 +130,7 @@ fn paused<B: Site + Send + Sync, R: Threads + Wait + Sync>(
     entered: &Arc<AtomicU64>,
     seen: &Arc<AtomicU64>,
 ) -> Result<Counts, Refusal>
-    requires { (opened.table.words.shared.table_id ≡ B.table) × (opened.table.words.shared.key ≡ B.sizes) }
+    requires { Names B.Site opened }
 {
     let (domain, mut record) = opened.into_domain::<B, Pauses>(alloc)?;
     let in_call: Result<Arc<AtomicU64>, _> = entered.clone();
@@ -222,7 +223,7 @@ fn sees<P: GracePlan + Drop + Send + Sync, B: Site + Send + Sync, R: Threads + W
     alloc: Global,
     opened: Opened<P, AnyChain>,
 ) -> Result<(usize, Vec<usize>, usize), Refusal>
-    requires { (opened.table.words.shared.table_id ≡ B.table) × (opened.table.words.shared.key ≡ B.sizes) }
+    requires { Names B.Site opened }
 {
     let (domain, mut record) = opened.into_domain::<B, Adds>(alloc)?;
     let _first = domain.register(rt, &mut record)?;

@@ -1,6 +1,7 @@
 //! Readers and writers that are moved into threads, and domains that threads share.
 
 ghost use Rattle.std.specs.Prelude.{◌≡◌};
+ghost use Rattle.domain.specs.Naming.{Names};
 
 use crate::deleter::Adds;
 use crate::plain;
@@ -51,7 +52,7 @@ fn spawns<B: Site + Send + Sync + 'static, R: Threads + Wait + Copy + Send + 'st
     alloc: Global,
     opened: Opened<MembPlan, AnyChain>,
 ) -> Result<(bool, bool), Refusal>
-    requires { (opened.table.words.shared.table_id ≡ B.table) × (opened.table.words.shared.key ≡ B.sizes) }
+    requires { Names B.Site opened }
 {
     let (domain, mut record) = opened.into_domain::<B, Adds>(alloc)?;
     let mut other = domain.split(&mut record);
@@ -88,7 +89,7 @@ fn moves_a_writer<
     B: Site + Send + Sync,
     R: Threads + Wait + Sync,
 >(rt: &R, alloc: Global, opened: Opened<P, AnyChain>) -> Result<(Option<[u64; 4]>, usize), Refusal>
-    requires { (opened.table.words.shared.table_id ≡ B.table) × (opened.table.words.shared.key ≡ B.sizes) }
+    requires { Names B.Site opened }
 {
     let (domain, mut record) = opened.into_domain::<B, Adds>(alloc)?;
     let other = domain.split(&mut record);

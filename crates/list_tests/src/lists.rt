@@ -1,6 +1,7 @@
 //! Keyed lists, in both flavours: what their calls answer, and what stays where they are refused.
 
-ghost use Rattle.std.specs.Prelude.{◌≡◌, IfOk};
+ghost use Rattle.std.specs.Prelude.{IfOk};
+ghost use Rattle.rcu_hash.specs.domain.Naming.{Names};
 
 use crate::deleter::Adds;
 use crate::plain::list_put;
@@ -75,7 +76,7 @@ fn bad_chains_in<P: GracePlan + Drop, B: Site, R: Wait>(
     alloc: Global,
     opened: Opened<P, Keyed>,
 ) -> Result<[bool; 5], Refusal>
-    requires { (opened.table.words.shared.table_id ≡ B.table) × (opened.table.words.shared.key ≡ B.sizes) }
+    requires { Names B.Site opened }
 {
     let (domain, mut record) = opened.into_domain::<B, Adds>(alloc)?;
     bad_chains(rt, &domain, &mut record)

@@ -1,7 +1,7 @@
 //! Two threads write to one table, one of them in a section, while a third tidies: they wait for it no longer than for
 //! a lock, though it waits for the section.
 
-ghost use Rattle.std.specs.Prelude.{◌≡◌};
+ghost use Rattle.rcu_hash.specs.domain.Naming.{Names};
 ghost use Rattle.std.specs.Thread.{IsSync};
 
 use crate::deleter::Adds;
@@ -128,7 +128,7 @@ fn shares<P: GracePlan + Drop + Send + Sync, B: Site + Send + Sync, R: Threads +
     alloc: Global,
     opened: Opened<P, Tabled>,
 ) -> Result<(usize, [Option<u64>; 3]), Refusal>
-    requires { (opened.table.words.shared.table_id ≡ B.table) × (opened.table.words.shared.key ≡ B.sizes) }
+    requires { Names B.Site opened }
 {
     let (domain, mut record) = opened.into_domain::<B, Adds>(alloc)?;
     let reader = registered(rt, &domain, &mut record)?;

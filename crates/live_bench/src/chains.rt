@@ -1,6 +1,7 @@
 //! What is repeated on chains.
 
-ghost use Rattle.std.specs.Prelude.{◌≡◌, ◌<◌};
+ghost use Rattle.std.specs.Prelude.{◌<◌};
+ghost use Rattle.rcu_hash.specs.domain.Naming.{Names};
 ghost use Rattle.rcu_hash.specs.live_read.Holding.{MayHoldIn};
 
 use crate::kind::{OnChains, RECORDS, last_of};
@@ -395,7 +396,7 @@ pub(crate) fn on_chains<
     hands: usize,
     count: u64,
 ) -> Result<u64, Refusal>
-    requires { (opened.table.words.shared.table_id ≡ B.table) × (opened.table.words.shared.key ≡ B.sizes) }
+    requires { Names B.Site opened }
 {
     let (domain, mut record) = opened.into_domain::<B, RoundDone>(alloc)?;
     if operation.is_read() {
@@ -469,7 +470,7 @@ pub(crate) fn boxed<
     B: Site + Send + Sync,
     R: Threads + Wait + Sync,
 >(rt: &R, alloc: Global, opened: Opened<P, AnyChain>, count: u64) -> Result<u64, Refusal>
-    requires { (opened.table.words.shared.table_id ≡ B.table) × (opened.table.words.shared.key ≡ B.sizes) }
+    requires { Names B.Site opened }
 {
     let (domain, record) = opened.into_domain::<B, Callback>(alloc)?;
     let root = Mutex::new(record);

@@ -1,6 +1,6 @@
 //! What is repeated on a hash table.
 
-ghost use Rattle.std.specs.Prelude.{◌≡◌};
+ghost use Rattle.rcu_hash.specs.domain.Naming.{Names};
 
 use crate::kind::{OnTable, last_of};
 use gp_memb::GracePlan;
@@ -263,7 +263,7 @@ pub(crate) fn on_table<
     hands: usize,
     count: u64,
 ) -> Result<u64, Refusal>
-    requires { (opened.table.words.shared.table_id ≡ B.table) × (opened.table.words.shared.key ≡ B.sizes) }
+    requires { Names B.Site opened }
 {
     let (domain, mut record) = opened.into_domain::<B, RoundDone>(alloc)?;
     let home = &domain;

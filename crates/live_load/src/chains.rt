@@ -1,6 +1,7 @@
 //! A run on chains, of which each updater has one.
 
-ghost use Rattle.std.specs.Prelude.{◌≡◌, ◌<◌};
+ghost use Rattle.std.specs.Prelude.{◌<◌};
+ghost use Rattle.rcu_hash.specs.domain.Naming.{Names};
 
 use crate::counts::{Counts, NOTHING};
 use crate::deadline::Deadline;
@@ -64,7 +65,7 @@ fn threads<
     load: Load,
     watch: &W,
 ) -> Result<Counts, Refusal>
-    requires { (opened.table.words.shared.table_id ≡ B.table) × (opened.table.words.shared.key ≡ B.sizes) × (0 < load.updaters) }
+    requires { Names B.Site opened × (0 < load.updaters) }
 {
     let (domain, record) = opened.into_domain::<B, RoundDone>(alloc)?;
     let root = Mutex::new(record);

@@ -1,6 +1,7 @@
 //! A run on a list or a table.
 
-ghost use Rattle.std.specs.Prelude.{◌≡◌, ◌<◌};
+ghost use Rattle.std.specs.Prelude.{◌<◌};
+ghost use Rattle.rcu_hash.specs.domain.Naming.{Names};
 
 use crate::chains::POOL;
 use crate::counts::{Counts, NOTHING};
@@ -92,7 +93,7 @@ fn threads<
     load: Load,
     watch: &W,
 ) -> Result<Counts, Refusal>
-    requires { (opened.table.words.shared.table_id ≡ B.table) × (opened.table.words.shared.key ≡ B.sizes) × (0 < load.updaters) }
+    requires { Names B.Site opened × (0 < load.updaters) }
 {
     let (domain, mut record) = opened.into_domain::<B, RoundDone>(alloc)?;
     let home = &domain;

@@ -4,7 +4,7 @@ ghost use Rattle.std.specs.Prelude.{◌≡◌, ◌<◌, ◌≤◌, None, IfOk, I
 ghost use Rattle.rcu_model.specs.declared.refusal.Refusal.TheVariants.{NoPlace};
 ghost use Rattle.live_read.specs.Holding.{MayHoldIn};
 ghost use Rattle.live_read.specs.Reads.{FindsFirst, HasWord, HasWords, HoldsFirst, HoldsLast, HoldsNext, Looks};
-ghost use Rattle.live_read.specs.Sections.{BeginsSection, ClosesSection, EndsSection, MayNotBegin};
+ghost use Rattle.live_read.specs.Sections.{ClosesSection, EndsSection};
 
 use crate::held::Held;
 use crate::reader::Reader;
@@ -26,16 +26,6 @@ impl<'a, P: GracePlan, K: ChainRule, B: Site> Section<'a, P, K, B> {
         ensures value { result.reader.now ≡ reader.old }
     {
         Section { reader }
-    }
-
-    /// An inner section, refused as `Reader::section`. Its caller knows nothing of this one afterwards:
-    /// `section.reader.section()` tells more. It never waits.
-    pub fn nest(&mut self) -> Result<Section<'_, P, K, B>, Refusal>
-        ensures inside { IfOk result (λ s. BeginsSection P.QSBR K.allows self.old.reader.now.core s.reader.now.core self.old.reader.now.core.locks) }
-        ensures err { IfErr result (λ e. MayNotBegin P.QSBR e self.old.reader.now.core) }
-    {
-        let reader = &mut *self.reader;
-        reader.section()
     }
 
     /// The first object of a chain, which the section holds from then on: liburcu's `rcu_dereference` of a list's head.

@@ -98,4 +98,4 @@ module _ {S : Type 0} (qsbr : Bool) (allows : Log → LiveEvent → Type 0) wher
   copied_before written r x count m mid m' look st is =
       let b = st.1.2 in
       subst (λ (k : ℕ). CopiedBefore qsbr allows r x m m' (written r k x)) (same_count m mid look)
-      (mid.0.seen, b.0, (through m mid look).0, st.1.1 ∙ ap (λ (l : Log). written r (count_in mid.0.slot) x ++ l) b.1, is)
+      (mid.0.seen, b.0, through m mid look, st.1.1 ∙ ap (λ (l : Log). written r (count_in mid.0.slot) x ++ l) b.1, is)

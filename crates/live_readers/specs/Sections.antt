@@ -5,12 +5,12 @@ use Rattle.reader_word.specs.declared.layout.Layout.TheVariants.{Wide}
 use Rattle.reader_word.specs.Word.{number, phase_in}
 use Rattle.live_table.specs.live_log.declared.event.LiveEvent.{LiveEvent}
 use Rattle.live_table.specs.live_log.declared.event.LiveEvent.TheVariants.{Open, Close}
-use Rattle.live_table.specs.live_log.Log.{Log, Begins, open_of, sections_of, present_of}
+use Rattle.live_table.specs.live_log.Log.{Log, open_of, sections_of, present_of}
 use Rattle.live_table.specs.live_rule.declared.view.View.{View}
 use Rattle.live_table.specs.live_rule.declared.rights.SlotRight.TheVariants.{Owns}
 use Rattle.live_table.specs.live_rule.Places.{slot_at}
 use Rattle.live_table.specs.live_rule.Readers.{Fits}
-use Rattle.live_table.specs.live_rule.Steps.{Wrote, at_log, Looked}
+use Rattle.live_table.specs.live_rule.Steps.{Looked, Precedes, Wrote, at_log}
 use Rattle.live_table.specs.Rights.{IsOwner, count_in, word_in}
 use Rattle.live_table.specs.Steps.{Went, looked_view}
 
@@ -78,9 +78,10 @@ module _ {S : Type 0} (qsbr : Bool) (allows : Log → LiveEvent → Type 0) (slo
   abbrev pub Announced : Type 0
   Announced = Stored qsbr allows slot word (count_in old.0.slot + 1) (announces qsbr slot (count_in old.0.slot) word) old new
 
-  -- what the word copied was the present phase or number at a moment between the two, before these events
+  -- what the word copied was the present phase or number at a moment before these events, after all that the seat had
+  -- seen and heard
   abbrev pub CopiedBefore : Log → Type 0
-  CopiedBefore events = (loaded since : Log) × Begins old.0.seen loaded × (new.0.seen ≡ events ++ (since ++ loaded)) × (present_of loaded ≡ copied qsbr word)
+  CopiedBefore events = (loaded since : Log) × Precedes old.0 loaded × (new.0.seen ≡ events ++ (since ++ loaded)) × (present_of loaded ≡ copied qsbr word)
 
   -- the same of a section that was opened
   abbrev pub CopiedBeforeOpen : Type 0

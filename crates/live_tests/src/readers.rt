@@ -78,7 +78,7 @@ fn announces<B: Site>(
     reader.unlock()?;
     let mut section = reader.section()?;
     let inside = matches!(section.reader.quiescent(), Err(Refusal::Busy));
-    let nested = section.nest()?;
+    let nested = section.reader.section()?;
     let within = matches!(nested.reader.offline(), Err(Refusal::Busy));
     drop(nested);
     drop(section);

@@ -75,7 +75,7 @@ module _ {W S : Type 0} (w : Ghosts W S) (qsbr : Bool) (sizes : Sizes) (d : ℕ)
   }
 
   -- a tidying did only that, whatever came of it
-  pub tidied_moves : {D : Type 0} (code : D → Gv) (m : D) (old new : W) (jobs left : List D) → code m ≡ moved_code R → Each (λ x. x ≡ m) jobs → EndsTidying w qsbr tabled old new sizes d code jobs left → Begins (w.heard old) (w.heard new) → ((found : List Look) × (w.looks new ≡ found ++ w.looks old)) → OnlyMoves w qsbr sizes d R old new
+  tidied_moves : {D : Type 0} (code : D → Gv) (m : D) (old new : W) (jobs left : List D) → code m ≡ moved_code R → Each (λ x. x ≡ m) jobs → EndsTidying w qsbr tabled old new sizes d code jobs left → Begins (w.heard old) (w.heard new) → ((found : List Look) × (w.looks new ≡ found ++ w.looks old)) → OnlyMoves w qsbr sizes d R old new
   tidied_moves code m old new jobs left is all (inl t) later found = let u = t.uses in let asked = begins_trans (w.heard old) t.ended.asked t.waited t.ended.after.after_heard t.ended.later in record {
     hears = record {
       same = u.made.made.0;
@@ -98,6 +98,10 @@ module _ {W S : Type 0} (w : Ghosts W S) (qsbr : Bool) (sizes : Sizes) (d : ℕ)
     callbacks = tt;
     made = none_made w old new s.1.0;
   }
+
+  -- so did the calls before it and the tidying
+  pub moves_tidied : {D : Type 0} (code : D → Gv) (m : D) (a old new : W) (jobs left : List D) → code m ≡ moved_code R → OnlyMoves w qsbr sizes d R a old → Each (λ x. x ≡ m) jobs → EndsTidying w qsbr tabled old new sizes d code jobs left → Begins (w.heard old) (w.heard new) → ((found : List Look) × (w.looks new ≡ found ++ w.looks old)) → OnlyMoves w qsbr sizes d R a new
+  moves_tidied code m a old new jobs left is x all end later found = moves_on a old new x (tidied_moves code m old new jobs left is all end later found)
 
 module _ {W S : Type 0} (w : Ghosts W S) (qsbr : Bool) (sizes : Sizes) (d : ℕ) (R : RattleType) (a b c : W) (more : HearsMore w a b) where
   -- what was loaded after all that it knew later was loaded after all that it knew before

@@ -1,7 +1,6 @@
 pub mod Headline
 pub mod Keys
 pub mod Logs
-pub mod Naming
 pub mod Reclaiming
 pub mod Resizing
 pub mod Serving
@@ -14,5 +13,6 @@ pub use Rattle.rcu_hash.specs.live_read.Hearing
 pub use Rattle.rcu_hash.specs.live_read.Holding
 pub use Rattle.rcu_hash.specs.live_read.Reads
 pub use Rattle.rcu_hash.specs.live_read.Sections
+pub use Rattle.rcu_hash.specs.domain.Naming
 pub use Rattle.rcu_hash.specs.domain.Waiting
 pub use Rattle.rcu_hash.specs.rcu_list.Maps

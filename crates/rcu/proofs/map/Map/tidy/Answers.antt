@@ -5,26 +5,20 @@ use Rattle.live_log.specs.Tables.{tabled}
 use Rattle.rcu_hash.specs.Tidying.{StopsTidying}
 use Rattle.rcu.specs.Resizing.{IsNotTidied}
 use Rattle.rcu.specs.declared.reclaim.Reclaim.TheVariants.{Moved}
-use Rattle.rcu.proofs.Moving.{if_is, moves_none, moves_on, tidied_moves, untidied}
+use Rattle.rcu.proofs.Moving.{if_is, moves_none, moves_tidied, untidied}
 use Rattle.rcu.proofs.map.Map.tidy.Goals as goal
 
 pub loop-init : goal.loop-init
 loop-init g c = moves_none g.W.Caller g.P.GracePlan.QSBR g.B.Site.sizes c.args.self.now.table.directory (copied 2 g.row.F) c.args.caller.now
 
 pub returns-in-None-stop-clause-moves : goal.returns-in-None-stop-clause-moves
-returns-in-None-stop-clause-moves g c =
-    let w = g.W.Caller in let was = c.loop.caller in let new = c.tidy-end.new.caller in
-    moves_on g.W.Caller g.P.GracePlan.QSBR g.B.Site.sizes c.args.self.now.table.directory (copied 2 g.row.F) c.args.caller.now was new c.loop.invariant (tidied_moves g.W.Caller g.P.GracePlan.QSBR g.B.Site.sizes c.args.self.now.table.directory (copied 2 g.row.F) _ Moved was new c.in_ok-moved.field-0.items c.tidy-end.result.jobs.items refl c.in_ok-moved.ensures.each c.tidy-end.ensures.tidied c.tidy-end.ensures.heard c.tidy-end.ensures.same)
+returns-in-None-stop-clause-moves g c = moves_tidied g.W.Caller g.P.GracePlan.QSBR g.B.Site.sizes c.args.self.now.table.directory (copied 2 g.row.F) _ Moved c.args.caller.now c.loop.caller c.tidy-end.new.caller c.in_ok-moved.field-0.items c.tidy-end.result.jobs.items refl c.loop.invariant c.in_ok-moved.ensures.each c.tidy-end.ensures.tidied c.tidy-end.ensures.heard c.tidy-end.ensures.same
 
 pub returns-in-Some-stop-clause-moves : goal.returns-in-Some-stop-clause-moves
-returns-in-Some-stop-clause-moves g c =
-    let w = g.W.Caller in let was = c.loop.caller in let new = c.tidy-end.new.caller in
-    moves_on g.W.Caller g.P.GracePlan.QSBR g.B.Site.sizes c.args.self.now.table.directory (copied 2 g.row.F) c.args.caller.now was new c.loop.invariant (tidied_moves g.W.Caller g.P.GracePlan.QSBR g.B.Site.sizes c.args.self.now.table.directory (copied 2 g.row.F) _ Moved was new c.in_ok-moved.field-0.items c.tidy-end.result.jobs.items refl c.in_ok-moved.ensures.each c.tidy-end.ensures.tidied c.tidy-end.ensures.heard c.tidy-end.ensures.same)
+returns-in-Some-stop-clause-moves g c = moves_tidied g.W.Caller g.P.GracePlan.QSBR g.B.Site.sizes c.args.self.now.table.directory (copied 2 g.row.F) _ Moved c.args.caller.now c.loop.caller c.tidy-end.new.caller c.in_ok-moved.field-0.items c.tidy-end.result.jobs.items refl c.loop.invariant c.in_ok-moved.ensures.each c.tidy-end.ensures.tidied c.tidy-end.ensures.heard c.tidy-end.ensures.same
 
 pub loop-preserved : goal.loop-preserved
-loop-preserved g c =
-    let w = g.W.Caller in let was = c.loop.caller in let new = c.tidy-end.new.caller in
-    moves_on g.W.Caller g.P.GracePlan.QSBR g.B.Site.sizes c.args.self.now.table.directory (copied 2 g.row.F) c.args.caller.now was new c.loop.invariant (tidied_moves g.W.Caller g.P.GracePlan.QSBR g.B.Site.sizes c.args.self.now.table.directory (copied 2 g.row.F) _ Moved was new c.in_ok-moved.field-0.items c.tidy-end.result.jobs.items refl c.in_ok-moved.ensures.each c.tidy-end.ensures.tidied c.tidy-end.ensures.heard c.tidy-end.ensures.same)
+loop-preserved g c = moves_tidied g.W.Caller g.P.GracePlan.QSBR g.B.Site.sizes c.args.self.now.table.directory (copied 2 g.row.F) _ Moved c.args.caller.now c.loop.caller c.tidy-end.new.caller c.in_ok-moved.field-0.items c.tidy-end.result.jobs.items refl c.loop.invariant c.in_ok-moved.ensures.each c.tidy-end.ensures.tidied c.tidy-end.ensures.heard c.tidy-end.ensures.same
 
 pub returns-in-Some-stop-clause-refused : goal.returns-in-Some-stop-clause-refused
 returns-in-Some-stop-clause-refused g c =

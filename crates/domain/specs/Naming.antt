@@ -1,7 +1,7 @@
 -- What the type that stands for a domain says.
 use Rattle.std.specs.Prelude.{◌≡◌}
-use Rattle.rcu_hash.specs.live_read.declared.site.Site as site
-use Rattle.rcu_hash.specs.domain.declared.opened.Opened.{Opened}
+use Rattle.live_read.specs.declared.site.Site as site
+use Rattle.domain.specs.declared.opened.Opened.{Opened}
 
 -- the type stands for this domain: its table, and its sizes
 abbrev pub Names : {P K B : Type 0} → site.Ghosts B → Opened P K → Type 0
