@@ -47,15 +47,15 @@ pub(crate) fn cut<P: GracePlan + Drop, B: Site, D: Deleter>(
     writer.cut(record, index)
 }
 
-/// `Domain::retire`.
-pub(crate) fn retire<P: GracePlan + Drop, B: Site, D: Deleter, R: Wait>(
+/// `Domain::rcu_retire`.
+pub(crate) fn rcu_retire<P: GracePlan + Drop, B: Site, D: Deleter, R: Wait>(
     rt: &R,
     domain: &Domain<P, AnyChain, B, D>,
     record: &mut Handle<B>,
     unlinked: Unlinked<B>,
     callback: D,
 ) -> Result<Ticket, (Refusal, Unlinked<B>, D)> {
-    domain.retire(rt, record, unlinked, callback)
+    domain.rcu_retire(rt, record, unlinked, callback)
 }
 
 /// `Domain::cut_retire`.
@@ -90,13 +90,13 @@ pub(crate) fn run_worker<P: GracePlan + Drop, B: Site, D: Deleter, R: Wait>(
     domain.run_worker(rt, alloc, record, queue)
 }
 
-/// `Domain::barrier`.
-pub(crate) fn barrier<P: GracePlan + Drop, B: Site, D: Deleter, R: Wait>(
+/// `Domain::rcu_barrier`.
+pub(crate) fn rcu_barrier<P: GracePlan + Drop, B: Site, D: Deleter, R: Wait>(
     rt: &R,
     domain: &Domain<P, AnyChain, B, D>,
     record: &mut Handle<B>,
 ) {
-    domain.barrier(rt, record)
+    domain.rcu_barrier(rt, record)
 }
 
 /// `Domain::synchronize`.

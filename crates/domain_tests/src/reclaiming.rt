@@ -118,8 +118,8 @@ fn works<P: GracePlan + Drop, B: Site, R: Wait>(
     Ok((good, end.stop))
 }
 
-/// What a second worker of the queue is answered while the first one is there: it has run what was retired. Then the
-/// queue is closed.
+/// What a second worker of the queue is answered while the first one is there: it has run what was retired, by the
+/// names of the standard. Then the queue is closed.
 fn second_worker<B: Site, R: Wait>(
     rt: &R,
     alloc: Global,
@@ -127,10 +127,10 @@ fn second_worker<B: Site, R: Wait>(
     record: &mut Handle<B>,
 ) -> Result<Option<Refusal>, Refusal> {
     let unlinked = cut_one(rt, domain, record, 0, 1)?;
-    if plain::retire(rt, domain, record, unlinked, Adds(1)).is_err() {
+    if plain::rcu_retire(rt, domain, record, unlinked, Adds(1)).is_err() {
         return Err(Refusal::Memory);
     }
-    plain::barrier(rt, domain, record);
+    plain::rcu_barrier(rt, domain, record);
     let refused = plain::run_worker(rt, alloc, domain, record, 0).err();
     plain::close(rt, domain, record);
     Ok(refused)

@@ -64,7 +64,7 @@ fn spawns<B: Site + Send + Sync + 'static, R: Threads + Wait + Copy + Send + 'st
         return Err(Refusal::Memory);
     };
     let reads = thread::spawn(&rt, move || { spins(one) });
-    let waits = thread::spawn(&rt, move || theirs.synchronize(&rt, &mut other).is_ok());
+    let waits = thread::spawn(&rt, move || theirs.rcu_synchronize(&rt, &mut other).is_ok());
     home.synchronize(&rt, &mut record)?;
     match (reads, waits) {
         (Ok(reader), Ok(waiter)) => Ok((reader.join(&rt), waiter.join(&rt))),

@@ -13,6 +13,8 @@ mod reading;
 mod round;
 mod running;
 mod target;
+#[cfg(test)]
+mod tests;
 mod threads;
 mod updating;
 mod waiting;

@@ -3,6 +3,7 @@
 ghost use Rattle.std.specs.Prelude.{◌≡◌, IfOk};
 ghost use Rattle.rcu_hash.specs.live_read.Hearing.{IsAfter, Stays};
 ghost use Rattle.rcu_hash.specs.live_table.Rights.{payload_in};
+ghost use Rattle.rcu.specs.Trying.{TakesAtLast};
 
 use crossbeam_utils::Backoff;
 use gp_memb::GracePlan;
@@ -22,8 +23,9 @@ pub fn alloc_when_free<
     R: Wait,
 >(rt: &R, domain: &Domain<P, K, B, D>, caller: &mut W, words: [u64; 4]) -> Owned<B>
     ensures owned { (payload_in result.seat.me.0.object ≡ words) × (result.seat.me.0.seen ≡ W.heard caller.new) }
+    ensures took { TakesAtLast W.Caller B.sizes caller.old caller.new result.seat.me.0.object }
     ensures heard { IsAfter P.QSBR K.allows (W.seen caller.old) (W.heard caller.old) (W.heard caller.new) }
-    ensures same { Stays W.Caller caller.old caller.new }
+    ensures same { Stays W.Caller caller.old caller.new × (W.loads caller.new ≡ W.loads caller.old) }
 {
     let backoff = Backoff::new();
     for _ in rt.forever() {

@@ -1,7 +1,8 @@
+use Rattle.rcu_hash.specs.domain.Naming.{names}
 use Rattle.live_bench.proofs.chained.Given as goal
 
 abbrev pub ghosts-boxed : goal.ghosts-boxed
-ghosts-boxed g a = record { table = a.opened.table.words.shared.table_id; sizes = a.opened.table.words.shared.key }
+ghosts-boxed g a = names a.opened
 
 abbrev pub ghosts-on_chains : goal.ghosts-on_chains
-ghosts-on_chains g a = record { table = a.opened.table.words.shared.table_id; sizes = a.opened.table.words.shared.key }
+ghosts-on_chains g a = names a.opened

@@ -1,5 +1,6 @@
 use Rattle.std.specs.Prelude.{true}
+use Rattle.domain.specs.Naming.{names}
 use Rattle.domain_tests.proofs.readings.an_announcing_reader_reads_what_was_given.Given as goal
 
 abbrev pub ghosts-reads_alone : goal.ghosts-reads_alone
-ghosts-reads_alone g a = record { table = a.opened.table.words.shared.table_id; sizes = a.opened.table.words.shared.key }
+ghosts-reads_alone g a = names a.opened

@@ -1,5 +1,6 @@
 use Rattle.std.specs.Prelude.{false}
+use Rattle.domain.specs.Naming.{names}
 use Rattle.domain_tests.proofs.reclaiming.a_queue_has_one_worker.Given as goal
 
 abbrev pub ghosts-two_workers : goal.ghosts-two_workers
-ghosts-two_workers g a = record { table = a.opened.table.words.shared.table_id; sizes = a.opened.table.words.shared.key }
+ghosts-two_workers g a = names a.opened

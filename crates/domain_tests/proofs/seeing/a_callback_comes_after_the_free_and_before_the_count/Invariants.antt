@@ -1,5 +1,6 @@
 use Rattle.std.specs.Prelude.{false}
+use Rattle.domain.specs.Naming.{names}
 use Rattle.domain_tests.proofs.seeing.a_callback_comes_after_the_free_and_before_the_count.Given as goal
 
 abbrev pub ghosts-paused : goal.ghosts-paused
-ghosts-paused g a = record { table = a.opened.table.words.shared.table_id; sizes = a.opened.table.words.shared.key }
+ghosts-paused g a = names a.opened

@@ -1,5 +1,6 @@
 use Rattle.std.specs.Prelude.{false}
+use Rattle.domain.specs.Naming.{names}
 use Rattle.domain_tests.proofs.seeing.an_open_section_is_seen_in_the_way.Given as goal
 
 abbrev pub ghosts-sees : goal.ghosts-sees
-ghosts-sees g a = record { table = a.opened.table.words.shared.table_id; sizes = a.opened.table.words.shared.key }
+ghosts-sees g a = names a.opened

@@ -1,5 +1,6 @@
 use Rattle.std.specs.Prelude.{true}
+use Rattle.domain.specs.Naming.{names}
 use Rattle.domain_tests.proofs.threads.a_writer_is_moved_into_a_thread.Given as goal
 
 abbrev pub ghosts-moves_a_writer : goal.ghosts-moves_a_writer
-ghosts-moves_a_writer g a = record { table = a.opened.table.words.shared.table_id; sizes = a.opened.table.words.shared.key }
+ghosts-moves_a_writer g a = names a.opened

@@ -1,4 +1,5 @@
+use Rattle.rcu_hash.specs.domain.Naming.{names}
 use Rattle.live_load.proofs.chains.stress.Given as goal
 
 abbrev pub ghosts-threads : goal.ghosts-threads
-ghosts-threads g a = record { table = a.opened.table.words.shared.table_id; sizes = a.opened.table.words.shared.key }
+ghosts-threads g a = names a.opened

@@ -1,6 +1,14 @@
+use Rattle.std.specs.Prelude.{◌≡◌, ◌++◌, List}
 use Rattle.live_log.specs.Log.{Begins}
 use Rattle.rcu_hash.specs.live_read.Hearing.{Stays}
+use Rattle.rcu_hash.specs.live_rule.declared.view.Look.{Look}
+use Rattle.rcu_hash.specs.live_write.Searching.{GetsNoRecord}
+use Rattle.rcu_hash.specs.Writers.{Each}
+use Rattle.rcu.specs.Trying.{all_found}
 use Rattle.rcu.proofs.waiting.alloc_when_free.Given as goal
 
 abbrev pub invariant-loop : goal.invariant-loop
-invariant-loop g l = Stays g.W.Caller l.fn.caller l.caller × Begins (g.W.Caller.heard l.fn.caller) (g.W.Caller.heard l.caller)
+invariant-loop g l =
+    let w = g.W.Caller in let old = l.fn.caller in let now = l.caller in
+    Stays w old now × Begins (w.heard old) (w.heard now) × (w.loads now ≡ w.loads old)
+    × ((tries : List (List Look)) × Each (GetsNoRecord g.B.Site.sizes) tries × (w.looks now ≡ all_found tries ++ w.looks old))
