@@ -4,6 +4,7 @@ pub mod Waiting
 pub mod Retiring
 pub mod Barriers
 pub mod Working
+pub use Rattle.callback_queue.specs as callback_queue
 pub use Rattle.live_words.specs.live_chains as live_chains
 pub use Rattle.live_items.specs as live_items
 pub use Rattle.live_read.specs as live_read

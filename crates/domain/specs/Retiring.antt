@@ -1,7 +1,7 @@
 -- What a call tells that retires what it takes out of a chain.
 use Rattle.std.specs.Prelude.{◌≡◌, ◌⊎◌, ◌+◌, ◌%◌, ◌<◌, ◌≤◌, Bool, ℕ, List, [], length, Some, slice_get}
-use Rattle.atomic_table.specs.declared.shared.Seat.{Seat}
 use base.Stored.{Gv}
+use Rattle.callback_queue.specs.declared.item.Ticket.{Ticket}
 use Rattle.rcu_model.specs.Sets.{replaced, without_object}
 use Rattle.rcu_model.specs.declared.event.ObjectId.{ObjectId}
 use Rattle.rcu_model.specs.declared.refusal.Refusal.{Refusal}
@@ -16,7 +16,10 @@ use Rattle.live_words.specs.live_chains.Chains.{cut_of}
 use Rattle.live_items.specs.Retiring.{IsAfterAll, Queues}
 use Rattle.live_read.specs.Hearing.{OnlyMakesLast}
 use Rattle.live_read.specs.declared.caller.Caller.{Ghosts}
+use Rattle.live_read.specs.declared.site.Site as site
 use Rattle.live_reclaim.specs.Refusing.{RefusesRetirement}
+use Rattle.live_write.specs.declared.chain.Chain.{Chain}
+use Rattle.live_write.specs.declared.records.Owned.{Owned}
 use Rattle.live_write.specs.Chains.{Publishes, list_in, replace_by}
 
 -- The object at an index of a chain left it by an event of its own, which left this list; and then it was retired, and
@@ -37,21 +40,24 @@ module _ {W S : Type 0} (w : Ghosts W S) (qsbr : Bool) (allows : Log → LiveEve
   abbrev pub RetiresCut : View → ℕ → ℕ → Gv → Type 0
   RetiresCut unlinked chain ticket callback = (given : ℕ) × (ticket ≡ given + 1) × Queues qsbr allows (IsAfterAll unlinked.seen (w.seen old) (w.heard old)) (object_in unlinked.object) (chain % key.queues) given callback (w.heard new)
 
-  module _ {T : Type 0} (before : Seat T View) (chain index : ℕ) where
+  module _ {P K B H : Type 0} {b : site.Ghosts B} (before : Chain P K B H b) (index : ℕ) where
     abbrev writer : View
-    writer = before.me.0
+    writer = before.seat.me.0
+
+    abbrev queue : ℕ
+    queue = before.number % key.queues
 
     -- the object at the index was cut, retired and queued with the ticket and the callback
-    abbrev pub CutsAndRetires : Seat T View → ℕ → Gv → Type 0
-    CutsAndRetires after ticket callback = Retires qsbr allows writer after.me.0 (w.seen old) (w.heard old) [] index (λ o. cut_of o writer) (λ o. without_object o (list_in writer)) (chain % key.queues) ticket callback (w.heard new)
+    abbrev pub CutsAndRetires : Chain P K B H b → Ticket → Gv → Type 0
+    CutsAndRetires after ticket callback = Retires qsbr allows writer after.seat.me.0 (w.seen old) (w.heard old) [] index (λ o. cut_of o writer) (λ o. without_object o (list_in writer)) queue ticket.0 callback (w.heard new)
 
-    -- it was replaced by the record that another seat owns
-    abbrev pub ReplacesAndRetires : Seat T View → Seat T View → ℕ → Gv → Type 0
-    ReplacesAndRetires owned after ticket callback = Retires qsbr allows writer after.me.0 (w.seen old) (w.heard old) owned.me.0.seen index (λ o. replace_by o writer owned.me.0) (λ o. replaced o (object_in owned.me.0.object) (list_in writer)) (chain % key.queues) ticket callback (w.heard new)
+    -- it was replaced by this record
+    abbrev pub ReplacesAndRetires : Owned B b → Chain P K B H b → Ticket → Gv → Type 0
+    ReplacesAndRetires owned after ticket callback = let fresh = owned.seat.me.0 in Retires qsbr allows writer after.seat.me.0 (w.seen old) (w.heard old) fresh.seen index (λ o. replace_by o writer fresh) (λ o. replaced o (object_in fresh.object) (list_in writer)) queue ticket.0 callback (w.heard new)
 
     -- there is no object at the index, and nothing was done, or its retirement is refused
     abbrev pub RefusesAt : Refusal → Type 0
-    RefusesAt e = ((e ≡ NoPlace) × (length (list_in writer) ≤ index) × (new ≡ old)) ⊎ ((index < length (list_in writer)) × RefusesRetirement w qsbr allows key (chain % key.queues) old new e)
+    RefusesAt e = ((e ≡ NoPlace) × (length (list_in writer) ≤ index) × (new ≡ old)) ⊎ ((index < length (list_in writer)) × RefusesRetirement w qsbr allows key queue old new e)
 
 module _ {W S : Type 0} (w : Ghosts W S) (old new : W) where
   -- the last event of the log was made for the caller, by the writer of this chain of this domain

@@ -76,9 +76,9 @@ impl<P: GracePlan + Drop, K: ChainRule, B: Site, D: Deleter> Domain<P, K, B, D> 
         callback: D,
     ) -> Result<Ticket, (Refusal, D)>
         requires rule { MayCut W.Caller P.QSBR K.allows caller.old chain.old.seat.me.0 index }
-        ensures retired { IfOk result (λ t. CutsAndRetires W.Caller P.QSBR K.allows B.sizes caller.old caller.new chain.old.seat chain.old.number index chain.new.seat t.0 (D.row.coded.code callback)) }
+        ensures retired { IfOk result (λ t. CutsAndRetires W.Caller P.QSBR K.allows B.sizes caller.old caller.new chain.old index chain.new t (D.row.coded.code callback)) }
         ensures same { IfOk result (λ _. MakesLastIn W.Caller caller.old caller.new chain.new.seat.me.0.seen chain.old.number chain.new.number chain.old.home.now chain.new.home.now) }
-        ensures refused { IfErr result (λ e. RefusesAt W.Caller P.QSBR K.allows B.sizes caller.old caller.new chain.old.seat chain.old.number index e.0) }
+        ensures refused { IfErr result (λ e. RefusesAt W.Caller P.QSBR K.allows B.sizes caller.old caller.new chain.old index e.0) }
         ensures back { IfErr result (λ e. (e.1 ≡ callback) × (chain.new ≡ chain.old)) }
     {
         if index >= chain.len() {
@@ -119,9 +119,9 @@ impl<P: GracePlan + Drop, K: ChainRule, B: Site, D: Deleter> Domain<P, K, B, D> 
         callback: D,
     ) -> Result<Ticket, (Refusal, Owned<B>, D)>
         requires rule { MayReplace W.Caller P.QSBR K.allows caller.old chain.old.seat.me.0 index owned.seat.me.0 }
-        ensures retired { IfOk result (λ t. ReplacesAndRetires W.Caller P.QSBR K.allows B.sizes caller.old caller.new chain.old.seat chain.old.number index owned.seat chain.new.seat t.0 (D.row.coded.code callback)) }
+        ensures retired { IfOk result (λ t. ReplacesAndRetires W.Caller P.QSBR K.allows B.sizes caller.old caller.new chain.old index owned chain.new t (D.row.coded.code callback)) }
         ensures same { IfOk result (λ _. MakesLastIn W.Caller caller.old caller.new chain.new.seat.me.0.seen chain.old.number chain.new.number chain.old.home.now chain.new.home.now) }
-        ensures refused { IfErr result (λ e. RefusesAt W.Caller P.QSBR K.allows B.sizes caller.old caller.new chain.old.seat chain.old.number index e.0) }
+        ensures refused { IfErr result (λ e. RefusesAt W.Caller P.QSBR K.allows B.sizes caller.old caller.new chain.old index e.0) }
         ensures back { IfErr result (λ e. (e.1 ≡ owned) × (e.2 ≡ callback) × (chain.new ≡ chain.old)) }
     {
         if index >= chain.len() {
@@ -145,8 +145,8 @@ impl<P: GracePlan + Drop, K: ChainRule, B: Site, D: Deleter> Domain<P, K, B, D> 
         }
     }
 
-    /// Closes all queues: every later retirement is refused, and what is queued still runs. The caller hears of that.
-    /// It takes no memory, and waits for the queues' locks alone.
+    /// Closes all queues: every later retirement is refused. Workers still run what is queued, as tests show. The caller
+    /// hears of that. It takes no memory, and waits for the queues' locks alone.
     pub fn close<W: Caller<B>, R: Wait>(&self, rt: &R, caller: &mut W)
         ensures closed { (q : ℕ) → q < B.sizes.queues → closed_of q (W.heard caller.new) ≡ 1 }
         ensures after { IsAfter P.QSBR K.allows (W.seen caller.old) (W.heard caller.old) (W.heard caller.new) }

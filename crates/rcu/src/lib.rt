@@ -1,6 +1,6 @@
 #![tactic(auto)]
 //! The library over live threads, as a program uses it. A program's line in `crates.txt` names this crate alone, and
-//! none of those below it.
+//! none of those below it. The general-purpose flavour `Memb` has the steps of liburcu's mb, and not those of its memb.
 
 mod callbacks;
 mod chains;

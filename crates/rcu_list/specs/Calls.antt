@@ -8,14 +8,17 @@ use Rattle.live_log.specs.declared.event.LiveEvent.{LiveEvent}
 use Rattle.live_log.specs.declared.event.LiveEvent.TheVariants.{Object}
 use Rattle.live_log.specs.declared.event.ObjectEvent.TheVariants.{Push, Replace, Cut}
 use Rattle.live_log.specs.Log.{Log, Begins, IsLiveRun, record_of, state_of}
+use Rattle.domain.specs.callback_queue.declared.item.Ticket.{Ticket}
 use Rattle.domain.specs.live_items.Retiring.{Queues}
 use Rattle.domain.specs.live_read.Hearing.{IsAfter, MakesLast}
 use Rattle.domain.specs.live_read.declared.caller.Caller.{Ghosts}
+use Rattle.domain.specs.live_read.declared.site.Site as site
 use Rattle.domain.specs.live_rule.declared.rights.RecordRight.{RecordRight}
 use Rattle.domain.specs.live_rule.declared.view.Sizes.{Sizes}
 use Rattle.domain.specs.live_rule.declared.view.View.{View}
 use Rattle.domain.specs.live_table.Rights.{own_in}
 use Rattle.domain.specs.live_table.Steps.{Keeps, Went}
+use Rattle.domain.specs.live_write.declared.chain.Chain.{Chain}
 use Rattle.domain.specs.live_write.Chains.{list_in}
 use Rattle.domain.specs.live_write.Searching.{TakesFor}
 use Rattle.rcu_list.specs.Maps.{map_of, next_rank, words_of}
@@ -64,19 +67,28 @@ pub record HandsOver (qsbr : Bool) (allows : Log → LiveEvent → Type 0) (left
   pub turn : ticket ≡ given + 1
   pub queued : Queues qsbr allows (Begins published) left queue given callback log
 
--- by the seat of the list's writer, before and after
-module _ {T W S : Type 0} (w : Ghosts W S) (qsbr : Bool) (allows : Log → LiveEvent → Type 0) (sizes : Sizes) (old new : W) (c : ℕ) (before after : Seat T View) where
+-- by the writer of the list's chain, before and after
+module _ {P K B H W S : Type 0} {b : site.Ghosts B} (w : Ghosts W S) (qsbr : Bool) (allows : Log → LiveEvent → Type 0) (sizes : Sizes) (old new : W) (before after : Chain P K B H b) where
+  abbrev known : Log
+  known = before.seat.me.0.seen
+
+  abbrev now : Log
+  now = after.seat.me.0.seen
+
+  abbrev queue : ℕ
+  queue = before.number % sizes.queues
+
   -- a key that had no value has this one, of which the caller hears
   abbrev pub IsInserted : ℕ → ℕ → Type 0
-  IsInserted key value = Inserts qsbr allows c before.me.0.seen (w.seen old) (w.heard old) key value after.me.0.seen × (w.heard new ≡ after.me.0.seen)
+  IsInserted key value = Inserts qsbr allows before.number known (w.seen old) (w.heard old) key value now × (w.heard new ≡ now)
 
   -- a key that had a value has this one, and what left the list is retired
-  abbrev pub IsReplaced : (key value ticket : ℕ) (callback : Gv) → Type 0
-  IsReplaced key value ticket callback = (left : ObjectId) × Replaces qsbr allows c before.me.0.seen (w.seen old) (w.heard old) key value left after.me.0.seen × HandsOver qsbr allows left (c % sizes.queues) ticket callback after.me.0.seen (w.heard new)
+  abbrev pub IsReplaced : (key value : ℕ) → Ticket → Gv → Type 0
+  IsReplaced key value ticket callback = (left : ObjectId) × Replaces qsbr allows before.number known (w.seen old) (w.heard old) key value left now × HandsOver qsbr allows left queue ticket.0 callback now (w.heard new)
 
   -- a key that had a value has none, and what left the list is retired
-  abbrev pub IsRemoved : (key ticket : ℕ) (callback : Gv) → Type 0
-  IsRemoved key ticket callback = (left : ObjectId) × Removes qsbr allows c before.me.0.seen (w.seen old) (w.heard old) key left after.me.0.seen × HandsOver qsbr allows left (c % sizes.queues) ticket callback after.me.0.seen (w.heard new)
+  abbrev pub IsRemoved : (key : ℕ) → Ticket → Gv → Type 0
+  IsRemoved key ticket callback = (left : ObjectId) × Removes qsbr allows before.number known (w.seen old) (w.heard old) key left now × HandsOver qsbr allows left queue ticket.0 callback now (w.heard new)
 
 module _ {W S : Type 0} (w : Ghosts W S) (old new : W) where
   -- one record was taken for the caller, and nothing loaded but what tells that

@@ -100,7 +100,7 @@ impl<'d, P: GracePlan + Drop, K: MapRule, B: Site, D: Deleter> RcuList<'d, P, K,
         key: u64,
         value: u64,
     ) -> Result<(), Refusal>
-        ensures inserted { IfOk result (λ _. IsInserted W.Caller P.QSBR K.allows B.sizes caller.old caller.new self.old.chain.number self.old.chain.seat self.new.chain.seat key value) }
+        ensures inserted { IfOk result (λ _. IsInserted W.Caller P.QSBR K.allows B.sizes caller.old caller.new self.old.chain self.new.chain key value) }
         ensures same { IfOk result (λ _. (self.new.chain.number ≡ self.old.chain.number) × MakesLastAndTakes W.Caller caller.old caller.new B.sizes self.new.chain.seat.me.0.seen) }
         ensures refused { IfErr result (λ e. RefusesInsertion W.Caller P.QSBR K.allows B.sizes caller.old caller.new e self.old.chain.seat.me.0.seen self.old.chain.number key) }
         ensures kept { IfErr result (λ _. OnlyLooks P.QSBR K.allows self.old.chain.seat self.new.chain.seat self.old.chain.number self.new.chain.number) }
@@ -126,7 +126,7 @@ impl<'d, P: GracePlan + Drop, K: MapRule, B: Site, D: Deleter> RcuList<'d, P, K,
         value: u64,
         callback: D,
     ) -> Result<Ticket, (Refusal, D)>
-        ensures replaced { IfOk result (λ t. IsReplaced W.Caller P.QSBR K.allows B.sizes caller.old caller.new self.old.chain.number self.old.chain.seat self.new.chain.seat key value t.0 (D.row.coded.code callback)) }
+        ensures replaced { IfOk result (λ t. IsReplaced W.Caller P.QSBR K.allows B.sizes caller.old caller.new self.old.chain self.new.chain key value t (D.row.coded.code callback)) }
         ensures same { IfOk result (λ _. (self.new.chain.number ≡ self.old.chain.number) × MakesLastAndTakes W.Caller caller.old caller.new B.sizes self.new.chain.seat.me.0.seen) }
         ensures refused { IfErr result (λ e. (e.1 ≡ callback) × IsNotReplaced W.Caller P.QSBR K.allows B.sizes caller.old caller.new e.0 self.old.chain.number self.old.chain.seat key) }
         ensures kept { IfErr result (λ _. OnlyLooks P.QSBR K.allows self.old.chain.seat self.new.chain.seat self.old.chain.number self.new.chain.number) }
@@ -159,7 +159,7 @@ impl<'d, P: GracePlan + Drop, K: MapRule, B: Site, D: Deleter> RcuList<'d, P, K,
         key: u64,
         callback: D,
     ) -> Result<Ticket, (Refusal, D)>
-        ensures removed { IfOk result (λ t. IsRemoved W.Caller P.QSBR K.allows B.sizes caller.old caller.new self.old.chain.number self.old.chain.seat self.new.chain.seat key t.0 (D.row.coded.code callback)) }
+        ensures removed { IfOk result (λ t. IsRemoved W.Caller P.QSBR K.allows B.sizes caller.old caller.new self.old.chain self.new.chain key t (D.row.coded.code callback)) }
         ensures same { IfOk result (λ _. (self.new.chain.number ≡ self.old.chain.number) × OnlyMakesLast W.Caller caller.old caller.new self.new.chain.seat.me.0.seen) }
         ensures refused { IfErr result (λ e. (e.1 ≡ callback) × IsNotRemoved W.Caller P.QSBR K.allows B.sizes caller.old caller.new e.0 self.old.chain.number self.old.chain.seat key) }
         ensures kept { IfErr result (λ _. OnlyLooks P.QSBR K.allows self.old.chain.seat self.new.chain.seat self.old.chain.number self.new.chain.number) }
