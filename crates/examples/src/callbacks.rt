@@ -17,7 +17,6 @@ impl Deleter for OnReclaim {
     ghost use Rattle.std.specs.Prelude.{◌≡◌, slice_index};
     ghost use Rattle.examples.specs.declared.callbacks.OnReclaim.TheVariants.{Close, Free};
 
-    // The word that it is about.
     ghost answers = { elim [ Free ↦ λ ripe code. code ≡ slice_index ripe.payload 0 | Close ↦ λ ripe code. code ≡ slice_index ripe.payload 1 ] };
 
     fn call(self, ripe: Ripe) -> u64 {
@@ -29,8 +28,7 @@ impl Deleter for OnReclaim {
     }
 }
 
-/// Two records are published, and each is retired with what is done with it then. It answers the sum of what the
-/// callbacks answered.
+/// Publishes two records, retires each with what is done with it then, and adds up what the callbacks answer.
 #[derive(Drop)]
 pub(crate) struct Files;
 
@@ -45,21 +43,18 @@ impl<R: Wait> Program<Memb, AnyChain, OnReclaim, R> for Files {
         mut own: Handle<B>,
     ) -> Result<u64, Refusal> {
         let mut writer = domain.chain(&mut own, 0)?;
-        let file = domain.alloc(rt, &mut own, [4_096, 3, 0, 0])?;
-        writer.push(&mut own, file);
-        let buffer = domain.alloc(rt, &mut own, [64, 0, 0, 0])?;
-        writer.push(&mut own, buffer);
-        for callback in [OnReclaim::Free, OnReclaim::Close] {
-            if let Err((refusal, _)) = domain.cut_retire(rt, &mut own, &mut writer, 0, callback) {
-                return Err(refusal);
-            }
+        for (word, callback) in [(64, OnReclaim::Free), (3, OnReclaim::Close)] {
+            let record = domain.alloc(rt, &mut own, [word, word, 0, 0])?;
+            writer.push(&mut own, record);
+            let retired = domain.cut_retire(rt, &mut own, &mut writer, 0, callback);
+            retired.map_err(|refused| refused.0)?;
         }
         domain.close(rt, &mut own);
         let end = domain.run_worker(rt, alloc, &mut own, 0)?;
-        let mut sum = 0u64;
-        for entry in end.finished.iter() {
-            sum = sum.saturating_add(entry.code);
-        }
+        let sum = end
+            .finished
+            .iter()
+            .fold(0u64, |sum, entry| sum.saturating_add(entry.code));
         Ok(sum)
     }
 }

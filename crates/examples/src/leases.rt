@@ -1,69 +1,54 @@
-//! Threads by hand: one writes a map, and hands a value on that the other opens after a grace period.
+//! Threads by hand: one hands out a room again after a grace period, and closes the domain; the other is the worker.
 
 ghost use Rattle.rcu.specs.Naming.{Names};
 
-use rcu::{Domain, Handle, Map, Memb, NoCallback, Opened, Pending, Reclaim, Refusal, Site, Tabled};
+use rcu::{
+    Domain, Handle, Map, Memb, NoCallback, Opened, Pending, Reclaim, Refusal, Site, Tabled, work,
+};
 use std::alloc::Global;
-use std::sync::{Mutex, Wait};
-use std::thread::{self, Threads, join};
-
-/// The guests' rooms, and what came of a guest's move: the room that was left.
-type Rooms<'d, B> = Map<'d, Memb, B, NoCallback, u64>;
-
-type Leaving<B> = Mutex<Option<Result<Pending<B, u64>, Refusal>>>;
-
-/// Guest 7 moves from room 101 to 102. Readers may have found 101 before.
-fn moves<B: Site, R: Wait>(
-    rt: &R,
-    home: &Domain<Memb, Tabled, B, Reclaim<NoCallback>>,
-    rooms: &Rooms<'_, B>,
-    mut own: Handle<B>,
-) -> Result<Pending<B, u64>, Refusal> {
-    rooms.set(rt, &mut own, 7, 101)?;
-    rooms.set(rt, &mut own, 7, 102)?;
-    Pending::new(home, &mut own, 101).map_err(|refused| refused.0)
-}
+use std::sync::Wait;
+use std::thread::{Threads, join};
 
 /// The room that was left, once nobody can have found it.
 fn lets<B: Site, R: Wait>(
     rt: &R,
     home: &Domain<Memb, Tabled, B, Reclaim<NoCallback>>,
-    leaving: &Leaving<B>,
-    mut own: Handle<B>,
+    mut left: Pending<B, u64>,
+    own: &mut Handle<B>,
 ) -> Result<u64, Refusal> {
     for _ in rt.forever() {
-        let left = leaving.lock(rt).take();
-        if let Some(moved) = left {
-            match moved?.open(home, &mut own) {
-                Ok(free) => return Ok(free),
-                Err(room) => *leaving.lock(rt) = Some(Ok(room)),
-            }
-            home.synchronize(rt, &mut own)?;
+        match left.open(home, own) {
+            Ok(room) => return Ok(room),
+            Err(again) => left = again,
         }
-        thread::yield_now();
+        home.synchronize(rt, own)?;
     }
     unreachable!()
 }
 
-/// Both threads. Answers the room that is free.
+/// Guest 7 moves from room 101 to 102, where readers may have found 101 before. Answers the room that is free, and how
+/// many records were reclaimed.
 pub(crate) fn serve<B: Site + Send + Sync, R: Threads + Wait + Sync>(
     rt: &R,
     alloc: Global,
     opened: Opened<Memb, Tabled>,
-) -> Result<u64, Refusal>
+) -> Result<(u64, u64), Refusal>
     requires { Names B.Site opened }
 {
     let (domain, mut own) = opened.into_domain::<B, Reclaim<NoCallback>>(alloc)?;
     let rooms = Map::new(rt, alloc, &domain, &mut own, 0, 1, 4, NoCallback)?;
-    let other = domain.split(&mut own);
-    let leaving = Mutex::new(None);
-    let ((), free) = join(
+    rooms.set(rt, &mut own, 7, 101)?;
+    rooms.set(rt, &mut own, 7, 102)?;
+    let left = Pending::new(&domain, &mut own, 101).map_err(|refused| refused.0)?;
+    let mut other = domain.split(&mut own);
+    let (free, reclaimed) = join(
         rt,
         || {
-            let moved = moves(rt, &domain, &rooms, own);
-            *leaving.lock(rt) = Some(moved);
+            let free = lets(rt, &domain, left, &mut other);
+            domain.close(rt, &mut other);
+            free
         },
-        || lets(rt, &domain, &leaving, other),
+        || work(rt, alloc, &domain, &mut own, 0),
     );
-    free
+    Ok((free?, reclaimed?))
 }

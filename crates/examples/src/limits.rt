@@ -7,12 +7,10 @@ use std::sync::Wait;
 /// The last lower limit.
 const LAST: u64 = 200;
 
-/// A lower limit, and an upper one, which is one more.
-type Limits<'d, B> = Slot<'d, Memb, B, NoCallback, (u64, u64)>;
-
-/// Reads the limits until they are the last ones. Answers the lower one, or 0 where they were mixed or too old.
+/// Reads a lower limit, and an upper one, which is one more, until they are the last ones. Answers the lower one, or 0
+/// where they were mixed or too old.
 fn newest<B: Site>(
-    limits: &Limits<'_, B>,
+    limits: &Slot<'_, Memb, B, NoCallback, (u64, u64)>,
     reader: &mut Reader<Memb, AnyChain, B>,
 ) -> Result<u64, Refusal> {
     let mut newest = 0;
@@ -36,10 +34,9 @@ pub(crate) struct Server;
 impl<R: Wait> Threaded<Memb, AnyChain, NoCallback, R> for Server {
     ghost use Rattle.std.specs.Prelude.{◌≡◌, IfOk};
 
-    /// The lower limit that the thread found last.
     type Out = Result<u64, Refusal>;
 
-    // What thread 0 answers where nothing is refused, which `with_threads` tells of its first answer.
+    // What thread 0 found last where nothing is refused, which `with_threads` tells of its first answer.
     ghost gives = { λ _ number answer. number ≡ 0 → IfOk answer (λ lower. lower ≡ 200) };
 
     fn part<B: Site>(
@@ -52,14 +49,11 @@ impl<R: Wait> Threaded<Memb, AnyChain, NoCallback, R> for Server {
     ) -> Result<u64, Refusal> {
         let limits = Slot::new(domain, 0, (0, 1))?;
         if number != 0 {
-            let mut reader = domain.register(rt, &mut own)?;
-            return newest(&limits, &mut reader);
+            return newest(&limits, &mut domain.register(rt, &mut own)?);
         }
         for lower in 1..LAST + 1 {
-            let next = (lower, lower + 1);
-            if let Err((refusal, _)) = limits.replace(rt, &mut own, next, NoCallback) {
-                return Err(refusal);
-            }
+            let replaced = limits.replace(rt, &mut own, (lower, lower + 1), NoCallback);
+            replaced.map_err(|refused| refused.0)?;
         }
         Ok(LAST)
     }

@@ -3,13 +3,15 @@
 
 mod callbacks;
 mod event_loop;
+mod found;
 mod leases;
 mod limits;
 mod polling;
 mod routes;
 mod shutdown;
 
-use rcu::{Config, Ended, Opened, Refusal, with_domain, with_threads};
+use found::{Found, least, reclaimed};
+use rcu::{Config, Opened, Refusal, with_domain, with_threads};
 use std::alloc::Global;
 use std::io;
 use std::marker::Brand;
@@ -24,36 +26,6 @@ const SMALL: Config = Config {
     chains: 18,
     pool: 16,
 };
-
-/// What the examples found.
-#[derive(Drop)]
-struct Found {
-    limit: u64,
-    hops: (u64, u64, u64),
-    turns: u64,
-    codes: u64,
-    room: (u64, u64),
-    reclaimed: u64,
-    free: u64,
-}
-
-/// The least of the threads' answers.
-fn least(ended: &Ended<Result<u64, Refusal>>) -> u64 {
-    let mut least = u64::MAX;
-    for answer in ended.answers.iter() {
-        least = least.min(answer.unwrap_or(0));
-    }
-    least
-}
-
-/// How many records the workers reclaimed.
-fn reclaimed<T>(ended: &Ended<T>) -> u64 {
-    let mut sum = 0u64;
-    for one in ended.reclaimed.iter() {
-        sum = sum.saturating_add(one.unwrap_or(0));
-    }
-    sum
-}
 
 /// All the examples.
 fn show<R: Threads + Wait + Sync>(rt: &R, alloc: Global) -> Result<Found, Refusal> {
@@ -74,19 +46,7 @@ fn show<R: Threads + Wait + Sync>(rt: &R, alloc: Global) -> Result<Found, Refusa
 fn main(rt: HostRuntime) -> io::Result<ExitCode> {
     match show(&rt, rt.alloc()) {
         Ok(found) => {
-            println!(rt; "limits: {} was read last", found.limit)?;
-            println!(rt;
-                "routes: the next hop was {}, {} when the map had grown, and then {}",
-                found.hops.0, found.hops.1, found.hops.2
-            )?;
-            println!(rt; "event loop: {} turns found the value", found.turns)?;
-            println!(rt; "callbacks: {} in all", found.codes)?;
-            println!(rt;
-                "polling: room {} is free, after {} polls said no",
-                found.room.0, found.room.1
-            )?;
-            println!(rt; "shutdown: {} records were reclaimed", found.reclaimed)?;
-            println!(rt; "leases: room {} is free", found.free)?;
+            found.print(&rt)?;
             Ok(ExitCode::SUCCESS)
         }
         Err(refusal) => {

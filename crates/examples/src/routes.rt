@@ -29,8 +29,7 @@ fn next_hop<B: Site>(
     }
 }
 
-/// Two prefixes lead the address; the map of the longer ones grows, and then the longer one is withdrawn. It answers the
-/// next hops of the address before, after the growth, and in the end.
+/// The next hops of an address that two prefixes lead: at first, once the map of the longer ones has grown, and without.
 #[derive(Drop)]
 pub(crate) struct Router;
 
