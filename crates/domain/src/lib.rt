@@ -7,6 +7,7 @@ mod config;
 mod domain;
 mod face;
 mod grace_lock;
+mod making;
 mod opened;
 mod queue;
 mod retiring;
