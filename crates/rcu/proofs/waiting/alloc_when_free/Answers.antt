@@ -1,6 +1,9 @@
 use Rattle.std.proofs.Common.{◌≡◌, ◌∙◌, ◌++◌, ◌∷◌, [], refl, ap, sym, append_assoc}
+use Rattle.std.proofs.lemmas.Result.{IfErr-at_err}
+use Rattle.rcu_model.specs.declared.refusal.Refusal.TheVariants.{PoolFull}
 use Rattle.live_log.specs.Log.{Log}
 use Rattle.live_log.proofs.Lemmas.{begins_trans}
+use Rattle.rcu_hash.specs.live_write.Searching.{GetsNoRecord}
 use Rattle.rcu.specs.Trying.{all_found}
 use Rattle.rcu.proofs.Hearing.{still_after, stays_on}
 use Rattle.rcu.proofs.waiting.alloc_when_free.Goals as goal
@@ -26,9 +29,10 @@ returns-in-Ok-clause-took g c =
 pub loop-preserved : goal.loop-preserved
 loop-preserved g c =
     let w = g.W.Caller in let old = c.args.caller.now in let was = c.loop.caller in let now = c.alloc.new.caller in
-    let looks = c.alloc.ensures.looks in let before = c.loop.invariant.3 in (
+    let looks = c.alloc.ensures.looks in let before = c.loop.invariant.3 in
+    let vain = IfErr-at_err (λ e. (e ≡ PoolFull) × GetsNoRecord g.B.Site.sizes looks.0) c.in_default.is looks.2 in (
       stays_on w old was now c.loop.invariant.0 c.alloc.ensures.same.0,
       begins_trans (w.heard old) (w.heard was) (w.heard now) c.loop.invariant.1 c.alloc.ensures.heard.after_heard,
       c.alloc.ensures.same.1 ∙ c.loop.invariant.2,
-      (looks.0 ∷ before.0, (?vain, before.1), looks.1 ∙ ap (λ ls. looks.0 ++ ls) before.2 ∙ sym (append_assoc looks.0 (all_found before.0) (w.looks old))),
+      (looks.0 ∷ before.0, (vain.1, before.1), looks.1 ∙ ap (λ ls. looks.0 ++ ls) before.2 ∙ sym (append_assoc looks.0 (all_found before.0) (w.looks old))),
     )
