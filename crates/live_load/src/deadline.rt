@@ -4,7 +4,7 @@ use std::time::{Clock, Duration, Instant};
 
 /// When a run is over: at a time, or only once all rounds are done.
 #[derive(Clone, Copy, Drop)]
-pub(crate) enum Deadline {
+pub enum Deadline {
     /// Once all rounds are done.
     None,
     /// At this time.

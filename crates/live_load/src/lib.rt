@@ -13,8 +13,6 @@ mod reading;
 mod round;
 mod running;
 mod target;
-#[cfg(test)]
-mod tests;
 mod threads;
 mod updating;
 mod waiting;
@@ -22,10 +20,11 @@ mod watch;
 
 pub use chains::stress;
 pub use counts::Counts;
+pub use deadline::Deadline;
 pub use growing::grows_to;
 pub use load::Load;
 pub use maps::{Buckets, Map, View, look, put, table, take_out, view_of, walk};
-pub use reading::begin;
+pub use reading::{begin, reads};
 pub use round::RoundDone;
 pub use running::stress_on;
 pub use target::Target;

@@ -74,7 +74,7 @@ fn sections<P: GracePlan, B: Site, R: Clock>(
 
 /// What a reader does: it registers, goes online in the quiescent-state flavour, makes its sections and unregisters.
 /// How many of them read a record whose words differ.
-pub(crate) fn reads<P: GracePlan + Drop, B: Site, R: Wait + Clock>(
+pub fn reads<P: GracePlan + Drop, B: Site, R: Wait + Clock>(
     rt: &R,
     domain: &Domain<P, AnyChain, B, RoundDone>,
     record: &mut Handle<B>,

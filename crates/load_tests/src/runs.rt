@@ -36,6 +36,16 @@ fn a_time_that_is_over_ends_a_run(rt: HostRuntime) {
 }
 
 #[test]
+fn a_run_has_a_reader(rt: HostRuntime) {
+    let load = Load {
+        readers: 0,
+        ..SHORT
+    };
+    let refused = stress_on::<MembPlan, _, _>(&rt, rt.alloc(), Target::Chains, load, &Unwatched);
+    assert_eq!(rt; refused, Err(Refusal::BadConfig));
+}
+
+#[test]
 fn a_list_has_an_updater_for_each_key_that_stays(rt: HostRuntime) {
     let load = Load {
         updaters: 17,

@@ -1,15 +1,10 @@
-//! Readers of records whose words differ, and a run that is refused.
+//! Readers of records whose words differ.
 
 ghost use Rattle.rcu_hash.specs.domain.Naming.{Names};
 
-use crate::chains::stress;
-use crate::deadline::Deadline;
-use crate::load::Load;
-use crate::reading::reads;
-use crate::round::RoundDone;
-use crate::watch::Unwatched;
 use gp_memb::{GracePlan, MembPlan};
 use gp_qsbr::QsbrPlan;
+use live_load::{Deadline, Load, RoundDone, reads};
 use rcu_hash::{AnyChain, Domain, Handle, LiveConfig, Opened, Site};
 use rcu_model::Refusal;
 use std::alloc::Global;
@@ -76,14 +71,4 @@ fn online_sections_find_each_mixed_record(rt: HostRuntime) {
     let opened = Opened::<QsbrPlan, AnyChain>::new(rt.alloc(), OF_FOUR).expect(&rt, "memory");
     let mixed = finds_mixed::<QsbrPlan, Brand, _>(&rt, rt.alloc(), opened);
     assert_eq!(rt; mixed, Ok(30));
-}
-
-#[test]
-fn a_run_has_a_reader(rt: HostRuntime) {
-    let load = Load {
-        readers: 0,
-        ..FORTY
-    };
-    let refused = stress::<MembPlan, _, _>(&rt, rt.alloc(), load, &Unwatched);
-    assert_eq!(rt; refused, Err(Refusal::BadConfig));
 }
