@@ -4,6 +4,9 @@ from library import Refused
 
 MOST_BUCKETS = 4096
 
+# The first note of chains that are reserved for a directory.
+RESERVED = 2**63
+
 
 def taken_empty(domain, number):
     """The writer of a chain that has none, is empty and has no note; else bad config, and it is given back."""
@@ -101,7 +104,7 @@ class Table:
         except Refused:
             give_back(taken)
             raise
-        self.note_all(directory + 1)
+        self.note_all(RESERVED + record.number)
         self.directory.push(record)
         # What an earlier directory left: its record, and the chains that it named.
         self.left_record, self.left_chains = None, []
@@ -148,9 +151,10 @@ class Table:
             raise
         for item in copies:
             news[item.words[0] % buckets].push(item)
-        self.left_chains, self.buckets = self.buckets, news
-        self.left_record = self.directory.replace(0, record)
         self.note_all(self.directory.number + 1)
+        self.left_chains, self.buckets = self.buckets, news
+        self.note_all(RESERVED + record.number)
+        self.left_record = self.directory.replace(0, record)
         return self.left()
 
     def copied(self, first, buckets):

@@ -29,7 +29,7 @@ use Rattle.live_words.specs.live_queues.Queues.{IsAt}
 use Rattle.live_items.specs.Items.{InOrder, IsPlaced, JobValue}
 use Rattle.live_items.specs.Running.{KeepsFinds}
 use Rattle.live_reclaim.specs.Batches.{AreRunAs, IsRunAs, Lists}
-pub use Rattle.live_reclaim.proofs.Running.{all_and, all_later, due_later}
+pub use Rattle.live_reclaim.proofs.Lemmas.{all_and, all_later, due_later}
 use Rattle.domain.specs.declared.worker_end.Stop.{Stop}
 use Rattle.domain.specs.Working.{FoundUsedUp, GoesOn, HasMore, HasWorked, Looks, left_by}
 

@@ -1,6 +1,6 @@
 //! What a program sees of a domain: how full it is, and which readers a grace period waits for.
 
-ghost use Rattle.std.specs.Prelude.{◌≡◌, ◌++◌, IfErr, IfOk};
+ghost use Rattle.std.specs.Prelude.{◌≡◌, ◌≤◌, ◌++◌, IfErr, IfOk};
 ghost use Rattle.rcu_model.specs.declared.refusal.Refusal.TheVariants.{Memory};
 ghost use Rattle.live_log.specs.Log.{seq_of};
 ghost use Rattle.live_read.specs.Hearing.{IsAsBefore, Stays};
@@ -17,9 +17,10 @@ use rcu_model::Refusal;
 use std::alloc::Global;
 
 impl<P: GracePlan + Drop, K: ChainRule, B: Site, D: Deleter> Domain<P, K, B, D> {
-    /// How many chains it has, numbered from 0. It never waits.
+    /// How many chains it has, numbered from 0: at most 4,096. It never waits.
     pub fn chains(&self) -> usize
-        ensures { result ≡ B.sizes.chains }
+        ensures many { result ≡ B.sizes.chains }
+        ensures low { result ≤ 4096 }
     {
         self.table.chains
     }

@@ -8,24 +8,25 @@ use prog.Atomic.{either}
 use Rattle.atomic_table.specs.Table.{State, Me, Act, step, keeps, stepped, Valid, carried_after, Allows}
 use Rattle.atomic_table.proofs.Lists.{exchanged}
 use Rattle.live_table.specs.rcu_model.declared.event.ObjectId.{ObjectId}
-use Rattle.live_table.specs.rcu_model.Sets.{first_of}
+use Rattle.live_table.specs.rcu_model.Sets.{In, first_of}
 use Rattle.live_table.specs.live_log.declared.event.LiveEvent.{LiveEvent}
 use Rattle.live_table.specs.live_log.declared.event.LiveEvent.TheVariants.{ChainNote}
 use Rattle.live_table.specs.live_log.Log.{Log, line_of, chain_note, IsLiveRun, Objects, objects_of, head}
 use Rattle.live_table.specs.live_rule.declared.view.Sizes.{Sizes}
 use Rattle.live_table.specs.live_rule.declared.view.View.{View}
 use Rattle.live_table.specs.live_rule.declared.rights.ChainRight.{ChainRight}
+use Rattle.live_table.specs.live_rule.declared.rights.RecordRight.{RecordRight}
 use Rattle.live_table.specs.live_rule.Places.{head_at, hold_at, note_at, queued_at, closed_at, finished_at, work_at}
 use Rattle.live_table.specs.live_rule.Objects.{ref, QueueWords, HoldWords}
-use Rattle.live_table.specs.live_rule.Rights.{chain, ClaimsChain, KnowsOwned, KnowsChain}
+use Rattle.live_table.specs.live_rule.Rights.{chain, object, ClaimsChain, ClaimsObject, KnowsOwned, KnowsChain, KnowsObject}
 use Rattle.live_table.specs.live_rule.Seats.{lent_chains}
 use Rattle.live_table.specs.live_rule.Rule.{KeepsRule}
 use Rattle.live_table.proofs.live_rule.Lemmas.{Unclaimed, looks}
 use Rattle.live_table.proofs.live_rule.Lemmas.{Calm, calm_same, calm_note, chain_part, lines_far, guards_far}
 use Rattle.live_table.proofs.live_rule.Lemmas.{queues_kept, works_kept, stores_beside, look_all}
 use Rattle.live_table.specs.Steps.{exchanged_view, looked_view, stored_view}
-use Rattle.live_table.specs.Rights.{AreAsKnown, own_in, IsWriter}
-use Rattle.live_chains.specs.Chains.{MayWrite, held_view, noted_view, freed_view, noted, held, freed}
+use Rattle.live_table.specs.Rights.{AreAsKnown, IsFresh, own_in, object_in, IsWriter}
+use Rattle.live_chains.specs.Chains.{MayNote, held_view, noted_view, freed_view, noted, held, freed}
 use Rattle.live_table.proofs.Lemmas.{unclaimed, all_known, claims_own, knows_first, knows_own}
 use Rattle.live_chains.proofs.Writers.{own_changes}
 
@@ -141,7 +142,7 @@ module _ {S : Type 0} (qsbr : Bool) (allows : Log → LiveEvent → Type 0) (key
         (refl, refl, (b.0, b.1, r.run)),
       )
 
-  pub notes : (slots id : ℕ) (me : Me S View) (a x : ℕ) → IsWriter me.0 → a ≡ note_at key (own_in me.0.chains).chain → MayWrite qsbr allows me.0 (ChainNote (own_in me.0.chains).chain x) → Allows Rule slots id me a (λ _. x) (λ _. noted qsbr allows (step slots a x 0 lists.none) me x)
+  pub notes : (slots id : ℕ) (me : Me S View) (a x : ℕ) → IsWriter me.0 → a ≡ note_at key (own_in me.0.chains).chain → MayNote qsbr allows me.0 x → Allows Rule slots id me a (λ _. x) (λ _. noted qsbr allows (step slots a x 0 lists.none) me x)
   notes slots id me a x own a_is may s r deep at fits =
       let v : View = me.0 in
       let c : ℕ = (own_in v.chains).chain in
@@ -149,7 +150,8 @@ module _ {S : Type 0} (qsbr : Bool) (allows : Log → LiveEvent → Type 0) (key
       let b = r.seen id v at in
       let log : Log = ChainNote c x ∷ r.log in
       let known : AreAsKnown r.log v.chains = all_known qsbr key r.log s.words v.chains (λ d. r.knows (chain d) id v at) in
-      let run : IsLiveRun qsbr allows log = (may r.log b.0 b.1 r.run known tt, r.run) in
+      let fresh : IsFresh v → ¬ In (objects_of r.log).used (object_in v.object) = λ is. (subst (λ (z : RecordRight). KnowsObject qsbr key r.log s.words (objects_of r.log) z) is (r.knows (object (object_in v.object)) id v at (subst (λ (z : RecordRight). ClaimsObject z (object_in v.object)) (sym is) refl))).0 in
+      let run : IsLiveRun qsbr allows log = (may r.log b.0 b.1 r.run known fresh, r.run) in
       let w : View = record (noted_view x v) { seen = log } in
       let wide = r.wide in
       let low = kc.0 in

@@ -32,6 +32,10 @@ IsAllowedBy log _ = Unit {0}
 abbrev pub MayWrite : Bool → (Log → LiveEvent → Type 0) → View → LiveEvent → Type 0
 MayWrite qsbr allows v e = (log : Log) → Begins v.seen log → Begins v.heard log → IsLiveRun qsbr allows log → AreAsKnown log v.chains → IsAllowedBy log e → allows log e
 
+-- it allows a note after every such log, in which no chain has linked the object of a fresh record that the seat has
+abbrev pub MayNote : Bool → (Log → LiveEvent → Type 0) → View → ℕ → Type 0
+MayNote qsbr allows v note = (log : Log) → Begins v.seen log → Begins v.heard log → IsLiveRun qsbr allows log → AreAsKnown log v.chains → (IsFresh v → ¬ In (objects_of log).used (object_in v.object)) → allows log (ChainNote (own_in v.chains).chain note)
+
 -- the place in the writer's chain that leads to an object
 abbrev pub IsBefore : View → Option ObjectId → ObjectId → Type 0
 IsBefore v p o = IsPlace (own_in v.chains).objects p × (follows (own_in v.chains).objects p ≡ Some o)
@@ -79,7 +83,7 @@ cut_view p o x v = let own = own_in v.chains in changed (cut_of o v) (head_after
 
 -- the view, once the seat's chain has this note
 abbrev pub noted_view : ℕ → View → View
-noted_view x v = record v { chains = record (own_in v.chains) { note = x } ∷ lent_chains v.chains }
+noted_view x v = record v { chains = record (own_in v.chains) { note = x } ∷ lent_chains v.chains; changes = ChainNote (own_in v.chains).chain x ∷ [] }
 
 -- the view, once the seat has this chain as its own, before those that it had
 abbrev pub held_view : ChainRight → View → View

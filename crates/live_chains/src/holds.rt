@@ -4,7 +4,7 @@ ghost use Rattle.live_table.specs.live_log.declared.event.LiveEvent.TheVariants.
 ghost use Rattle.live_table.specs.live_rule.Places.{hold_at};
 ghost use Rattle.live_table.specs.Rights.{IsListed, IsWriter, own_in};
 ghost use Rattle.live_table.specs.Steps.{Keeps, Went, looked_view, stored_view};
-ghost use Rattle.live_chains.specs.Chains.{MayWrite, TookChain, Writes, freed_view, noted_view};
+ghost use Rattle.live_chains.specs.Chains.{MayNote, TookChain, Writes, freed_view, noted_view};
 
 use crate::plays::{Frees, Holds, StoresNote};
 use live_table::{ChainRule, GracePlan, LiveSeat, LiveTable};
@@ -46,7 +46,8 @@ pub fn free_chain<P: GracePlan, K: ChainRule>(
     table.words.shared.store::<Frees<P, K>>(seat, place, 0);
 }
 
-/// Stores the note of the seat's own chain, which the rule of chains allows. It never waits.
+/// Stores the note of the seat's own chain, which the rule of chains allows; the seat may have the right to a fresh
+/// record, whose object no chain has linked then. It never waits.
 pub fn store_note<P: GracePlan, K: ChainRule>(
     table: &LiveTable<P, K>,
     seat: &mut LiveSeat,
@@ -55,7 +56,7 @@ pub fn store_note<P: GracePlan, K: ChainRule>(
 )
     requires seat { (seat.old.table_id ≡ table.now.words.shared.table_id) × (chain < table.now.chains) }
     requires right { IsWriter seat.old.me.0 × ((own_in seat.old.me.0.chains).chain ≡ chain) }
-    requires rule { MayWrite P.QSBR K.allows seat.old.me.0 (ChainNote (own_in seat.old.me.0.chains).chain note) }
+    requires rule { MayNote P.QSBR K.allows seat.old.me.0 note }
     ensures seat { Keeps seat.old seat.new }
     ensures noted { Writes P.QSBR K.allows (noted_view note seat.old.me.0) (ChainNote (own_in seat.old.me.0.chains).chain note) seat.old.me seat.new.me × IsListed seat.new.me.0 }
 {

@@ -1,22 +1,18 @@
--- A chain that a linked directory names stays free as long as that directory stays linked; and whether the sections of
--- some log have ended can be told from a log, so that what is known to be so without saying how is so.
-use Rattle.std.proofs.Common.{Bool, ◌≡◌, ◌≢◌, ◌⊎◌, ℕ, ◌+◌, List, [], ◌∷◌, ◌++◌, refl, sym, ap, ◌∙◌, subst, inl, inr, ⊎_elim, append_assoc, arith}
-use Rattle.std.proofs.Math.Logic.{∥∥₁_elim}
-use mathlib.Core.Logic.{dite}
-use native.Mathlib.Decide.{ℕ_discrete}
+-- A chain that a linked directory names stays free as long as that directory stays linked.
+use Rattle.std.proofs.Common.{Bool, ◌≡◌, ◌⊎◌, ℕ, ◌+◌, List, [], ◌∷◌, ◌++◌, refl, sym, ap, ◌∙◌, subst, inl, inr, ⊎_elim, append_assoc, arith}
 use Rattle.rcu_model.specs.declared.event.ObjectId.{ObjectId}
 use Rattle.rcu_model.specs.Sets.{In}
 use Rattle.rcu_model.proofs.Lemmas.{in_objects}
 use Rattle.live_log.specs.declared.event.ObjectEvent.TheVariants.{Replace}
 use Rattle.live_log.specs.declared.event.LiveEvent.{LiveEvent}
-use Rattle.live_log.specs.declared.event.LiveEvent.TheVariants.{Open, Close, SeqOdd, SeqEven, Present, ChainNote, CloseQueue, Object}
-use Rattle.live_log.specs.Log.{Log, Begins, Has, HaveEnded, IsLiveRun, chain_note, record_of, state_of}
-use Rattle.live_log.specs.Tables.{IsDirectory, IsFree, IsReplaced, Names, tabled}
+use Rattle.live_log.specs.declared.event.LiveEvent.TheVariants.{Close, Object}
+use Rattle.live_log.specs.Log.{Log, Begins, HaveEnded, IsLiveRun, chain_note, record_of, state_of}
+use Rattle.live_log.specs.Tables.{IsDirectory, IsFree, IsReplaced, Names, reserved, tabled}
 use Rattle.live_log.proofs.Machine.{begins_trans, grows_log, kept_log, run_of}
 use Rattle.live_log.proofs.Notes.{note_stays}
 use Rattle.live_log.proofs.Periods.{ended_before, has_since}
 use Rattle.live_log.proofs.Places.{chain_used}
-use Rattle.live_log.proofs.Tabling.{directory_alone, is_noted, linked_or_replaced, noted_or_ended}
+use Rattle.live_log.proofs.Tabling.{directory_alone, is_noted, linked_or_replaced, noted_or_ended, reserved_free}
 
 -- a list without its first entry
 abbrev rest : Log → Log
@@ -78,44 +74,14 @@ module _ (qsbr : Bool) where
   pub named_stays_free : (known log : Log) (c d : ℕ) (o : ObjectId) → Begins known log → IsLiveRun qsbr tabled log → In ((state_of known).chain d) o → In ((state_of log).chain d) o → IsDirectory (record_of known o) → Names (record_of known o) c → IsFree known c → IsFree log c
   named_stays_free known log c d o b run at still directory names free =
       let same = note_stays qsbr tabled known log o b run (chain_used qsbr tabled known d o (run_of qsbr tabled known log b run) at) in
-      stays_free known log c d o b run at still directory
-      (is_noted qsbr log c d o run still (subst IsDirectory (sym same) directory) (subst (λ (x : ℕ × List ℕ). Names x c) (sym same) names)).1
-      (λ since before e old new cell payload is directory' names'. ended_later before known log b (free since before e old new cell payload is directory' names'))
+      ⊎_elim
+      (λ (noted : chain_note c log ≡ d + 1). stays_free known log c d o b run at still directory noted
+      (λ since before e old new cell payload is directory' names'. ended_later before known log b (free since before e old new cell payload is directory' names')))
+      (λ (held : chain_note c log ≡ reserved o). reserved_free qsbr log c o run held)
+      (is_noted qsbr log c d o run still (subst IsDirectory (sym same) directory) (subst (λ (x : ℕ × List ℕ). Names x c) (sym same) names)).2
 
   -- and one that was left is free once the sections have ended that were open when another directory was linked
   pub left_is_freed : (mark log : Log) (c d : ℕ) (o : ObjectId) → Begins mark log → IsLiveRun qsbr tabled log → In ((state_of mark).chain d) o → In ((state_of log).chain d) o → IsDirectory (record_of mark o) → chain_note c log ≡ d + 1 → HaveEnded mark log → IsFree log c
   left_is_freed mark log c d o b run at still directory noted ended =
       stays_free mark log c d o b run at still directory noted
       (λ since before e old new cell payload is directory' names'. ended_before qsbr tabled before mark log (run_of qsbr tabled mark log b run) (since ++ Object (Replace e old new cell payload) ∷ [], is ∙ sym (append_assoc since (Object (Replace e old new cell payload) ∷ []) before)) b ended)
-
--- what an event that ends a section tells
-abbrev ended_by : LiveEvent → ℕ × ℕ
-ended_by (Close q n) = (q, n)
-ended_by _ = (0, 0)
-
--- a section's end is in a log, or is not
-past : (e : LiveEvent) (es : Log) (r n : ℕ) → e ≢ Close r n → Has (Close r n) es ⊎ (¬ Has (Close r n) es) → Has (Close r n) (e ∷ es) ⊎ (¬ Has (Close r n) (e ∷ es))
-past e es r n other (inl h) = inl (inr h)
-past e es r n other (inr none) = inr (⊎_elim other none)
-
-ended_or_not : (log : Log) (r n : ℕ) → Has (Close r n) log ⊎ (¬ Has (Close r n) log)
-ended_or_not [] r n = inr (λ h. h)
-ended_or_not (Close q i ∷ es) r n = dite (ℕ_discrete q r)
-    (λ slot. dite (ℕ_discrete i n)
-    (λ ordinal. inl (inl (λ k. Close (slot k) (ordinal k))))
-    (λ other. past (Close q i) es r n (λ e. other (ap (λ (x : LiveEvent). (ended_by x).1) e)) (ended_or_not es r n)))
-    (λ other. past (Close q i) es r n (λ e. other (ap (λ (x : LiveEvent). (ended_by x).0) e)) (ended_or_not es r n))
-ended_or_not (Open q i j ∷ es) r n = past (Open q i j) es r n (λ e. cc) (ended_or_not es r n)
-ended_or_not (SeqOdd ∷ es) r n = past SeqOdd es r n (λ e. cc) (ended_or_not es r n)
-ended_or_not (SeqEven ∷ es) r n = past SeqEven es r n (λ e. cc) (ended_or_not es r n)
-ended_or_not (Present p ∷ es) r n = past (Present p) es r n (λ e. cc) (ended_or_not es r n)
-ended_or_not (ChainNote c x ∷ es) r n = past (ChainNote c x) es r n (λ e. cc) (ended_or_not es r n)
-ended_or_not (CloseQueue q ∷ es) r n = past (CloseQueue q) es r n (λ e. cc) (ended_or_not es r n)
-ended_or_not (Object d ∷ es) r n = past (Object d) es r n (λ e. cc) (ended_or_not es r n)
-
--- that a chain is free follows from what is known to be so, also where it is not known how
-pub free_told : {A : Type 0} (log : Log) (c : ℕ) → ∥ A ∥₁ → (A → IsFree log c) → IsFree log c
-free_told log c so frees since before d old new cell payload is directory names r n m opened = ⊎_elim
-    (λ h. h)
-    (λ none. absurd (∥∥₁_elim so (λ x y. absurd x) (λ a. none (frees a since before d old new cell payload is directory names r n m opened))))
-    (ended_or_not log r n)

@@ -13,5 +13,5 @@ pub use Rattle.live_log.proofs.Splices.{link_is, head_is, head_no_link, push_mov
 pub use Rattle.live_log.proofs.Keying.{falls_same, falls_push, falls_cut, falls_replaced}
 pub use Rattle.live_log.proofs.Falling.{each_falls}
 pub use Rattle.live_log.proofs.Mapping.{free_takes, keyed_maps, tabled_maps}
-pub use Rattle.live_log.proofs.Tabling.{is_noted, unnoted_free, noted_or_ended, left_stays, linked_or_replaced, directory_alone, directory_there}
-pub use Rattle.live_log.proofs.Freeing.{beside, free_told, gone, left_is_freed, linked_between, named_stays_free, stays_free}
+pub use Rattle.live_log.proofs.Tabling.{is_noted, left_then, reserved_free, reserved_linked, unnoted_free, noted_or_ended, left_stays, linked_or_replaced, directory_alone, directory_there}
+pub use Rattle.live_log.proofs.Freeing.{beside, gone, left_is_freed, linked_between, named_stays_free, stays_free}

@@ -4,7 +4,7 @@ use Rattle.live_log.specs.declared.event.ObjectEvent.TheVariants.{Replace}
 use Rattle.live_log.specs.Keys.{keyed, keyed_event}
 use Rattle.live_log.specs.Log.{Log, record_of}
 use Rattle.live_log.specs.Maps.{HasMaps, IsPlain, IsUnnoted, TakesKeys}
-use Rattle.live_log.specs.Tables.{HasKey, IsDirectory, IsFree, MayDirect, tabled}
+use Rattle.live_log.specs.Tables.{HasKey, IsFree, Redirects, tabled}
 use Rattle.live_log.proofs.Falling as keys
 use Rattle.live_log.proofs.Tabling as tables
 
@@ -48,7 +48,7 @@ tabled_maps qsbr = record {
   falls = tables.each_falls qsbr;
   alike = λ log c old new cell payload run. ⊎_elim
       (λ (k : HasKey (cell, payload) × HasKey (record_of log old) × keyed_event log (Replace c old new cell payload)). (k.2.2, inl k.2.1))
-      (λ (k : IsDirectory (cell, payload) × IsDirectory (record_of log old) × MayDirect log c (cell, payload)). (k.0.1 ∙ sym k.1.1, inr (tables.was_alone qsbr log c old new cell payload run k.1)))
+      (λ (k : Redirects log c old new (cell, payload)). (k.0.1 ∙ sym k.1.1, inr (tables.was_alone qsbr log c old new cell payload run k.1)))
       run.0.1.1;
   takes = unnoted_takes qsbr;
 }

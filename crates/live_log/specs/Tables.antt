@@ -1,5 +1,5 @@
 -- The rule of tables: chains of keys, and chains of one directory, which names the chains of a table.
-use Rattle.std.specs.Prelude.{◌≡◌, ◌≢◌, ◌⊎◌, ℕ, ◌+◌, ◌<◌, ◌≤◌, List, [], ◌∷◌, ◌++◌, slice_index_or}
+use Rattle.std.specs.Prelude.{◌≡◌, ◌≢◌, ◌⊎◌, ℕ, ◌+◌, ◌^◌, ◌<◌, ◌≤◌, List, [], ◌∷◌, ◌++◌, slice_index_or}
 use Rattle.rcu_model.specs.declared.event.ObjectId.{ObjectId}
 use Rattle.rcu_model.specs.Sets.{In}
 use Rattle.live_log.specs.declared.event.LiveEvent.{LiveEvent}
@@ -47,9 +47,30 @@ pub record IsReplaced (start log : Log) (c : ℕ) (o : ObjectId) : Type 0 where
   pub after : Begins start before
   pub linked : In ((state_of before).chain c) o
 
--- a directory may come into a chain: it names others alone, whose notes are this chain's number and 1
-abbrev pub MayDirect : Log → ℕ → ℕ × List ℕ → Type 0
-MayDirect log d x = (c : ℕ) → Names x c → (c ≢ d) × (chain_note c log ≡ d + 1)
+-- the note of a chain that is reserved for a directory: 2^63 and the directory's number
+abbrev pub reserved : ObjectId → ℕ
+reserved o = 2 ^ 63 + o.0
+
+-- a note for a chain that has none: a number below 2^63, or that of an object which no chain has linked yet
+abbrev pub MayReserve : Log → ℕ → Type 0
+MayReserve log x = (x < 2 ^ 63) ⊎ ((o : ObjectId) × (x ≡ reserved o) × ¬ In (state_of log).used o)
+
+-- another note for a chain that has one: 0, where the chain is empty and no directory names it; or the number of the
+-- chain of the directory that names it, and 1: the chain is left
+abbrev pub MayLeave : Log → ℕ → ℕ → Type 0
+MayLeave log c x = ((x ≡ 0) × ((state_of log).chain c ≡ []) × ¬ IsNamed log c) ⊎ ((n : IsNamed log c) × (x ≡ n.chain + 1))
+
+-- an object may come into a chain as a directory: it names other chains alone, which are reserved for it
+abbrev pub MayDirect : Log → ℕ → ObjectId → ℕ × List ℕ → Type 0
+MayDirect log d o x = (d + 1 < 2 ^ 63) × ((c : ℕ) → Names x c → (c ≢ d) × (chain_note c log ≡ reserved o))
+
+-- the chains that a directory names are left
+abbrev pub AreLeft : Log → ℕ → ObjectId → Type 0
+AreLeft log d o = (c : ℕ) → Names (record_of log o) c → chain_note c log ≡ d + 1
+
+-- a directory takes the place of another one, once that one's chains are left
+abbrev pub Redirects : Log → (c : ℕ) (old new : ObjectId) → ℕ × List ℕ → Type 0
+Redirects log c old new x = IsDirectory x × IsDirectory (record_of log old) × MayDirect log c new x × AreLeft log c old
 
 -- the objects of the chain have keys
 abbrev pub HasKeys : Log → ℕ → Type 0
@@ -58,14 +79,13 @@ HasKeys log c = (o : ObjectId) → In ((state_of log).chain c) o → HasKey (rec
 -- Keys come and go in a free chain of keys by the rule of keyed chains. A directory comes into an empty chain, or takes
 -- the place of another one, and is not cut.
 abbrev pub tabled_event : Log → ObjectEvent → Type 0
-tabled_event log (Push c o i w) = IsFree log c × ((HasKey (i, w) × HasKeys log c × keyed_event log (Push c o i w)) ⊎ (IsDirectory (i, w) × ((state_of log).chain c ≡ []) × MayDirect log c (i, w)))
-tabled_event log (Replace c p o i w) = IsFree log c × ((HasKey (i, w) × HasKey (record_of log p) × keyed_event log (Replace c p o i w)) ⊎ (IsDirectory (i, w) × IsDirectory (record_of log p) × MayDirect log c (i, w)))
+tabled_event log (Push c o i w) = IsFree log c × ((HasKey (i, w) × HasKeys log c × keyed_event log (Push c o i w)) ⊎ (IsDirectory (i, w) × ((state_of log).chain c ≡ []) × MayDirect log c o (i, w)))
+tabled_event log (Replace c p o i w) = IsFree log c × ((HasKey (i, w) × HasKey (record_of log p) × keyed_event log (Replace c p o i w)) ⊎ Redirects log c p o (i, w))
 tabled_event log (Cut c o) = IsFree log c × HasKey (record_of log o) × keyed_event log (Cut c o)
 tabled_event log _ = Unit {0}
 
--- A note goes from 0 to any number, and from there to 0 alone, where the chain is free and empty and no directory names
--- it.
+-- A chain with no note may get one at any time, and one with a note another, where it is free.
 abbrev pub tabled : Log → LiveEvent → Type 0
 tabled log (Object d) = tabled_event log d
-tabled log (ChainNote c x) = (chain_note c log ≡ 0) ⊎ ((x ≡ 0) × IsFree log c × ((state_of log).chain c ≡ []) × ¬ IsNamed log c)
+tabled log (ChainNote c x) = ((chain_note c log ≡ 0) × MayReserve log x) ⊎ (IsFree log c × MayLeave log c x)
 tabled log _ = Unit {0}

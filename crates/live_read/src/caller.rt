@@ -31,7 +31,7 @@ pub trait Caller<B: Site> {
     /// reader or a grace period loads are not kept.
     ghost looks: { Self → List Look };
 
-    /// The pushes, replacements and cuts that were made for it, the last one first.
+    /// The pushes, replacements, cuts and notes that were made for it, the last one first.
     ghost changes: { Self → Log };
 
     /// How it stands beside that: of a reader its slot, its word, its sections so far, and what it has open.

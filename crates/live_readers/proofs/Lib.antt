@@ -2,3 +2,4 @@ pub mod Stores
 pub mod Sections
 pub mod Words
 mod Slots
+pub mod Lemmas

@@ -1,3 +1,4 @@
 pub mod Looking
 pub mod Ripening
 pub mod Running
+pub mod Lemmas

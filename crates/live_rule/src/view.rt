@@ -50,6 +50,7 @@ pub struct View {
     pub looks: LinkedList<Look>,
     /// The logs at its loads of the sequence number, and at those of seats that it learned from, the last one first.
     pub loads: LinkedList<LinkedList<LiveEvent>>,
-    /// The push, the replacement or the cut that it wrote last, or those that it learned of, the last one first.
+    /// The push, the replacement, the cut or the note that it wrote last, or those that it learned of, the last one
+    /// first.
     pub changes: LinkedList<LiveEvent>,
 }

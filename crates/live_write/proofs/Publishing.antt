@@ -2,30 +2,31 @@
 use Rattle.std.proofs.Common.{Bool, ◌≡◌, ℕ, ◌∷◌, ◌++◌, [], List, Option, Some, None, slice_get, sym, refl, ap, ◌∙◌, subst}
 use Rattle.atomic_table.specs.Table.{Me}
 use Rattle.rcu_model.specs.declared.event.ObjectId.{ObjectId}
-use Rattle.rcu_model.specs.Sets.{IsPlace, follows, next_of, without_object, replaced}
+use Rattle.rcu_model.specs.Sets.{In, IsPlace, follows, next_of, without_object, replaced}
 use Rattle.rcu_model.proofs.Lemmas.{follows_has}
 use Rattle.live_log.specs.declared.event.LiveEvent.{LiveEvent}
-use Rattle.live_log.specs.declared.event.LiveEvent.TheVariants.{Object}
+use Rattle.live_log.specs.declared.event.LiveEvent.TheVariants.{ChainNote, Object}
 use Rattle.live_log.specs.declared.event.ObjectEvent.TheVariants.{Push, Replace, Cut}
-use Rattle.live_log.specs.Log.{Log, Begins, record_of, objects_of}
+use Rattle.live_log.specs.Log.{Log, Begins, record_of, objects_of, state_of}
 use Rattle.live_log.proofs.Lemmas.{begins_trans}
 use Rattle.live_words.specs.live_rule.declared.view.Look.{Look}
 use Rattle.live_words.specs.live_rule.declared.view.View.{View}
 use Rattle.live_words.specs.live_rule.declared.rights.ChainRight.{ChainRight}
 use Rattle.live_words.specs.live_rule.declared.rights.RecordRight.{RecordRight}
 use Rattle.live_words.specs.live_rule.declared.rights.RecordRight.TheVariants.{Unlinked}
+use Rattle.live_words.specs.live_rule.declared.rights.RecordRight.TheVariants as record_right
 use Rattle.live_words.specs.live_rule.Seats.{but_object, object_alone, lent_chains, heard_view, taken_view}
 use Rattle.live_words.specs.live_rule.Objects.{ref}
 use Rattle.live_words.specs.live_rule.Steps.{Wrote}
 use Rattle.live_words.proofs.live_rule.Lemmas.{begins_nothing}
-use Rattle.live_words.specs.live_table.Rights.{AreAsKnown, IsListed, IsUnlinked, IsWriter, own_in, object_in, cell_in, payload_in}
+use Rattle.live_words.specs.live_table.Rights.{AreAsKnown, IsFresh, IsListed, IsUnlinked, IsWriter, own_in, object_in, cell_in, link_in, payload_in}
 use Rattle.live_words.specs.live_table.Steps.{IsNow, Went}
 use Rattle.live_words.specs.live_periods.Periods.{LoadedSeq}
-use Rattle.live_words.specs.live_chains.Chains.{MayWrite, Writes, IsBefore, IsThere, push_of, cut_of, cut_view, replace_of, replaced_view, head_after}
+use Rattle.live_words.specs.live_chains.Chains.{MayNote, MayWrite, Writes, IsBefore, IsThere, push_of, cut_of, cut_view, replace_of, replaced_view, head_after}
 use Rattle.live_words.proofs.live_chains.Lemmas.{note_same, there_after}
 use Rattle.live_read.specs.Hearing.{IsAfter, IsAsBefore, OnlyMakesLast}
 use Rattle.live_read.specs.declared.caller.Caller.{Ghosts}
-use Rattle.live_write.specs.Chains.{GoesOn, MayPublish, Publishes, list_in, push_by, replace_by}
+use Rattle.live_write.specs.Chains.{GoesOn, MayPublish, MayReserve, Publishes, list_in, push_by, replace_by}
 
 -- what a seat with the writer's chains has seen and heard of: all that the writer had seen and heard of, and its
 -- caller, and who allocated a record
@@ -57,6 +58,17 @@ module _ (qsbr : Bool) (allows : Log → LiveEvent → Type 0) (v w : View) (see
     known = subst (AreAsKnown wrote.0) h.chains known;
     run = wrote.4;
   }
+
+-- what may be published it may note, whatever record it has
+pub may_note : (qsbr : Bool) (allows : Log → LiveEvent → Type 0) (v w : View) (seen heard owner : Log) → Hears v w seen heard owner → (chain note : ℕ) → chain ≡ (own_in w.chains).chain → MayPublish qsbr allows v seen heard owner (ChainNote chain note) → MayNote qsbr allows w note
+may_note qsbr allows v w seen heard owner h chain note is may log saw heard_of run known fresh =
+    subst (λ (c : ℕ). allows log (ChainNote c note)) is (may log (goes_on qsbr allows v w seen heard owner h log saw heard_of) run (subst (AreAsKnown log) h.chains known) tt)
+
+-- and with another's record it may reserve its chain for the object
+pub may_reserve : (qsbr : Bool) (allows : Log → LiveEvent → Type 0) (v w u : View) (seen heard : Log) → Hears v w seen heard u.seen → w.object ≡ u.object → IsFresh u → (chain note : ℕ) → chain ≡ (own_in w.chains).chain → MayReserve qsbr allows v seen heard u chain note → MayNote qsbr allows w note
+may_reserve qsbr allows v w u seen heard h same is_fresh chain note is may log saw heard_of run known fresh =
+    subst (λ (c : ℕ). allows log (ChainNote c note)) is (may log (goes_on qsbr allows v w seen heard u.seen h log saw heard_of) run (subst (AreAsKnown log) h.chains known)
+    (subst (λ (r : RecordRight). ¬ In (state_of log).used (object_in r)) same (fresh (subst (λ (r : RecordRight). r ≡ record_right.Fresh (cell_in r) (object_in r) (link_in r) (payload_in r)) (sym same) is_fresh))))
 
 module _ {S : Type 0} (qsbr : Bool) (allows : Log → LiveEvent → Type 0) (seen heard : Log) (m f w : Me S View) (went : Went qsbr allows m.0 m f) where
   -- the writer's seat has made a load, and then heard what its caller's seat has seen

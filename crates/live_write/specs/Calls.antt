@@ -7,6 +7,7 @@ use Rattle.rcu_model.specs.declared.refusal.Refusal.{Refusal}
 use Rattle.rcu_model.specs.declared.refusal.Refusal.TheVariants.{Busy, NoPlace}
 use Rattle.rcu_model.specs.Sets.{replaced, without_object}
 use Rattle.live_log.specs.declared.event.LiveEvent.{LiveEvent}
+use Rattle.live_log.specs.declared.event.LiveEvent.TheVariants.{ChainNote}
 use Rattle.live_log.specs.Log.{Log, Begins}
 use Rattle.live_words.specs.live_rule.declared.rights.ChainRight.{ChainRight}
 use Rattle.live_words.specs.live_rule.declared.view.Look.TheVariants.{Loaded, Stored}
@@ -19,7 +20,7 @@ use Rattle.live_words.specs.live_table.Steps.{Keeps, Went, looked_view}
 use Rattle.live_words.specs.live_chains.Chains.{cut_of}
 use Rattle.live_read.specs.Hearing.{IsAfter}
 use Rattle.live_read.specs.declared.caller.Caller.{Ghosts}
-use Rattle.live_write.specs.Chains.{MayPublish, Publishes, list_in, push_by, replace_by}
+use Rattle.live_write.specs.Chains.{MayPublish, MayReserve, Publishes, list_in, push_by, replace_by}
 
 -- by a seat before and after, and by the number of its chain
 module _ {T : Type 0} (qsbr : Bool) (allows : Log → LiveEvent → Type 0) (before after : Seat T View) (was is : ℕ) where
@@ -69,6 +70,13 @@ module _ {W S : Type 0} (w : Ghosts W S) (qsbr : Bool) (allows : Log → LiveEve
 
   abbrev pub PublishesPush : View → Log → Type 0
   PublishesPush u log = Publishes qsbr allows writer (w.seen old) (w.heard old) u.seen (push_by writer u) log
+
+  -- a note of its chain, before the object of this seat's record is linked
+  abbrev pub MayNoteFor : View → (chain note : ℕ) → Type 0
+  MayNoteFor u chain note = MayReserve qsbr allows writer (w.seen old) (w.heard old) u chain note
+
+  abbrev pub PublishesNoteFor : View → (chain note : ℕ) → Log → Type 0
+  PublishesNoteFor u chain note log = Publishes qsbr allows writer (w.seen old) (w.heard old) u.seen (ChainNote chain note) log
 
   -- a cut of the object at an index
   abbrev pub MayCut : ℕ → Type 0

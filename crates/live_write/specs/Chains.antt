@@ -1,10 +1,11 @@
 -- What a call of a chain's writer tells.
 use Rattle.std.specs.Prelude.{◌≡◌, ◌≢◌, ℕ, ◌<◌, ◌∷◌, Bool, List, Some, slice_get, slice_index_or}
+use Rattle.rcu_model.specs.Sets.{In}
 use Rattle.rcu_model.specs.declared.event.ObjectId.{ObjectId}
 use Rattle.live_log.specs.declared.event.LiveEvent.{LiveEvent}
-use Rattle.live_log.specs.declared.event.LiveEvent.TheVariants.{Object}
+use Rattle.live_log.specs.declared.event.LiveEvent.TheVariants.{ChainNote, Object}
 use Rattle.live_log.specs.declared.event.ObjectEvent.TheVariants.{Push, Replace}
-use Rattle.live_log.specs.Log.{Log, Begins, IsLiveRun, record_of}
+use Rattle.live_log.specs.Log.{Log, Begins, IsLiveRun, record_of, state_of}
 use Rattle.live_words.specs.live_rule.declared.view.View.{View}
 use Rattle.live_words.specs.live_table.Rights.{AreAsKnown, own_in, object_in, cell_in, payload_in}
 use Rattle.live_words.specs.live_chains.Chains.{IsAllowedBy}
@@ -38,6 +39,11 @@ pub record GoesOn (writer : View) (seen heard owner log : Log) : Type 0 where
   pub after_writer : Begins writer.seen log × Begins writer.heard log
   pub after_caller : Begins seen log × Begins heard log
   pub after_owner : Begins owner log
+
+-- the rule of chains allows this note of the writer's chain after every such log, in which no chain has linked the object
+-- of another seat's record
+abbrev pub MayReserve : Bool → (Log → LiveEvent → Type 0) → (writer : View) (seen heard : Log) (owner : View) (chain note : ℕ) → Type 0
+MayReserve qsbr allows writer seen heard owner chain note = (log : Log) → GoesOn writer seen heard owner.seen log → IsLiveRun qsbr allows log → AreAsKnown log writer.chains → ¬ In (state_of log).used (object_in owner.object) → allows log (ChainNote chain note)
 
 module _ (qsbr : Bool) (allows : Log → LiveEvent → Type 0) (writer : View) (seen heard owner : Log) (e : LiveEvent) where
   -- the rule of chains allows the event after every such log in which the writer's chains are as it knows them

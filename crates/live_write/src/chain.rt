@@ -1,6 +1,6 @@
 //! The one writer of a chain.
 
-ghost use Rattle.std.specs.Prelude.{◌≡◌, ◌≢◌, ◌<◌, ◌≤◌, ◌∷◌, ◌++◌, [], Some, length, slice_get, IfErr, IfNone, IfOk, IfSome};
+ghost use Rattle.std.specs.Prelude.{◌≡◌, ◌≢◌, ◌+◌, ◌^◌, ◌<◌, ◌≤◌, ◌∷◌, ◌++◌, [], Some, length, slice_get, IfErr, IfNone, IfOk, IfSome};
 ghost use Rattle.rcu_model.specs.declared.refusal.Refusal.TheVariants.{NoPlace};
 ghost use Rattle.rcu_model.specs.Sets.{In};
 ghost use Rattle.rcu_model.specs.declared.event.ObjectId.{ObjectId};
@@ -11,11 +11,13 @@ ghost use Rattle.live_words.specs.live_rule.Places.{hold_at};
 ghost use Rattle.live_words.specs.live_rule.Seats.{lent_chains};
 ghost use Rattle.live_words.specs.live_table.Rights.{AreAsKnown, IsListed, IsWriter, object_in, own_in};
 ghost use Rattle.live_read.specs.Hearing.{IsAfter, OnlyHears, OnlyMakesLast, Stays};
-ghost use Rattle.live_write.specs.Calls.{GetsNote, GetsObject, HasList, HearsAll, IsCutFrom, IsHad, IsNotHad, LosesObject, MayCut, MayPush, MayReplace, OnlyLooksIn, PublishesCut, PublishesPush, PublishesReplace, TakesIn};
+ghost use Rattle.live_write.specs.Calls.{GetsNote, GetsObject, HasList, HearsAll, IsCutFrom, IsHad, IsNotHad, LosesObject, MayCut, MayNoteFor, MayPush, MayReplace, OnlyLooksIn, PublishesCut, PublishesNoteFor, PublishesPush, PublishesReplace, TakesIn};
 ghost use Rattle.live_write.specs.Chains.{IsFirstWith, MayPublish, Publishes, first_word, list_in};
 
 use crate::lending::{Lent, take_right};
-use crate::publish::{cut_record, hear_caller, push_record, replace_record, write_note};
+use crate::publish::{
+    cut_record, hear_caller, push_record, replace_record, write_note, write_reservation,
+};
 use crate::records::{Owned, Unlinked};
 use crate::walk::{count, read, seek};
 use gp_memb::GracePlan;
@@ -109,7 +111,7 @@ impl<'d, P: GracePlan, K: ChainRule, B: Site, H> Chain<'d, P, K, B, H> {
 
     /// The object of a record becomes the first of the chain, liburcu's `cds_list_add_rcu`: its link is stored, and
     /// then the head. The event comes after all that the caller and who allocated the record had seen, and the caller
-    /// hears of it. The chain's rule has to allow it in each log that does. It takes no memory and never waits.
+    /// hears of it. The chain's rule has to allow it wherever it may come. It takes no memory and never waits.
     pub fn push<W: Caller<B>>(&mut self, caller: &mut W, owned: Owned<B>) -> ObjectId
         requires rule { MayPush W.Caller P.QSBR K.allows caller.old self.old.seat.me.0 owned.seat.me.0 }
         ensures object { result ≡ object_in owned.seat.me.0.object }
@@ -150,7 +152,7 @@ impl<'d, P: GracePlan, K: ChainRule, B: Site, H> Chain<'d, P, K, B, H> {
 
     /// The object at an index leaves the chain, liburcu's `cds_list_del_rcu`, after a walk to it: what led to it leads
     /// to what follows it, and its own link stays. The event comes after all that the caller had seen, and the caller
-    /// hears of it. The chain's rule has to allow it in each log that does.
+    /// hears of it. The chain's rule has to allow it wherever it may come.
     ///
     /// Refused with `NoPlace` exactly where the index is not below the length, and then nothing changes. It takes no
     /// memory and never waits.
@@ -178,7 +180,7 @@ impl<'d, P: GracePlan, K: ChainRule, B: Site, H> Chain<'d, P, K, B, H> {
     /// The object of a record takes the place of the one at an index, liburcu's `cds_list_replace_rcu`, after a walk to
     /// it: the new one's link is stored, and then what led to the old one leads to the new one. The event comes after
     /// all that the caller and who allocated the record had seen, and the caller hears of it. The chain's rule has to
-    /// allow it in each log that does.
+    /// allow it wherever it may come.
     ///
     /// Refused with `NoPlace` exactly where the index is not below the length; then nothing changes, and the record
     /// comes back. It takes no memory and never waits.
@@ -235,15 +237,49 @@ impl<'d, P: GracePlan, K: ChainRule, B: Site, H> Chain<'d, P, K, B, H> {
     }
 
     /// The chain's note becomes this one. The note comes after all that the caller had seen, and the caller hears of
-    /// it. The chain's rule has to allow it in each log that does. It takes no memory and never waits.
+    /// it. The chain's rule has to allow it wherever it may come. It takes no memory and never waits.
     pub fn set_note<W: Caller<B>>(&mut self, caller: &mut W, note: u64)
         requires rule { MayPublish P.QSBR K.allows self.old.seat.me.0 (W.seen caller.old) (W.heard caller.old) [] (ChainNote self.old.number note) }
         ensures note { GetsNote self.old.seat self.new.seat self.old.number self.new.number self.old.home.now self.new.home.now note }
         ensures noted { Publishes P.QSBR K.allows self.old.seat.me.0 (W.seen caller.old) (W.heard caller.old) [] (ChainNote self.old.number note) self.new.seat.me.0.seen }
         ensures heard { W.heard caller.new ≡ self.new.seat.me.0.seen }
-        ensures same { OnlyHears W.Caller caller.old caller.new }
+        ensures same { OnlyMakesLast W.Caller caller.old caller.new self.new.seat.me.0.seen }
     {
         write_note(self.table, &mut self.seat, self.number, caller, note);
+    }
+
+    /// The chain is reserved for the object of a record, which no chain has linked: its note becomes 2^63 and the
+    /// object's number. The record comes back, for other chains and for a push. The note comes after all that the caller
+    /// and who allocated the record had seen, and the caller hears of it. The chain's rule has to allow it wherever it
+    /// may come. It takes no memory and never waits.
+    pub fn reserve<W: Caller<B>>(&mut self, caller: &mut W, owned: Owned<B>) -> Owned<B>
+        requires rule { MayNoteFor W.Caller P.QSBR K.allows caller.old self.old.seat.me.0 owned.seat.me.0 self.old.number (2 ^ 63 + (object_in owned.seat.me.0.object).0) }
+        ensures note { GetsNote self.old.seat self.new.seat self.old.number self.new.number self.old.home.now self.new.home.now (2 ^ 63 + (object_in owned.seat.me.0.object).0) }
+        ensures noted { PublishesNoteFor W.Caller P.QSBR K.allows caller.old self.old.seat.me.0 owned.seat.me.0 self.old.number (2 ^ 63 + (object_in owned.seat.me.0.object).0) self.new.seat.me.0.seen }
+        ensures owned { (result.seat.me.0.object ≡ owned.seat.me.0.object) × (result.seat.me.0.seen ≡ self.new.seat.me.0.seen) }
+        ensures heard { W.heard caller.new ≡ self.new.seat.me.0.seen }
+        ensures same { OnlyMakesLast W.Caller caller.old caller.new self.new.seat.me.0.seen }
+    {
+        let Owned {
+            seat,
+            cell,
+            number,
+            ..
+        } = owned;
+        let seat = write_reservation(
+            self.table,
+            &mut self.seat,
+            self.number,
+            caller,
+            seat,
+            number,
+        );
+        Owned {
+            seat,
+            cell,
+            number,
+            site: PhantomData,
+        }
     }
 
     /// Lends the chain's right to another chain's writer, behind those that were lent to that before. That writer has

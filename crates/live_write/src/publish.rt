@@ -1,6 +1,6 @@
 //! What a chain's writer publishes, by seats: what the caller has seen comes before the event, of which it hears.
 
-ghost use Rattle.std.specs.Prelude.{◌≡◌, ◌+◌, ◌<◌, ◌≤◌, ◌∷◌, [], Some, length, slice_get};
+ghost use Rattle.std.specs.Prelude.{◌≡◌, ◌+◌, ◌^◌, ◌<◌, ◌≤◌, ◌∷◌, [], Some, length, slice_get};
 ghost use Rattle.rcu_model.specs.Sets.{replaced, without_object};
 ghost use Rattle.rcu_model.specs.declared.event.ObjectId.{ObjectId};
 ghost use Rattle.live_log.specs.declared.event.LiveEvent.TheVariants.{ChainNote};
@@ -10,7 +10,7 @@ ghost use Rattle.live_words.specs.live_table.Rights.{AreAsKnown, IsFresh, IsList
 ghost use Rattle.live_words.specs.live_table.Steps.{Keeps};
 ghost use Rattle.live_words.specs.live_chains.Chains.{cut_of};
 ghost use Rattle.live_read.specs.Hearing.{IsAfter, OnlyHears, OnlyMakesLast};
-ghost use Rattle.live_write.specs.Chains.{MayPublish, Publishes, list_in, push_by, replace_by};
+ghost use Rattle.live_write.specs.Chains.{MayPublish, MayReserve, Publishes, list_in, push_by, replace_by};
 
 use crate::walk::find;
 use gp_memb::GracePlan;
@@ -19,6 +19,9 @@ use live_words::{
     ChainRule, LiveSeat, LiveTable, cut, load_head, load_link, load_note, load_seq, push, replace,
     store_note,
 };
+
+/// The first note of chains that are reserved for an object.
+const RESERVED: u64 = 1 << 63;
 
 /// The object of a fresh record, by the seat with the right to it, becomes the first of the seat's own chain.
 pub(crate) fn push_record<P: GracePlan, K: ChainRule, B: Site, W: Caller<B>>(
@@ -135,14 +138,48 @@ pub(crate) fn write_note<P: GracePlan, K: ChainRule, B: Site, W: Caller<B>>(
     ensures note { seat.new.me.0.chains ≡ record (own_in seat.old.me.0.chains) { note = note } ∷ lent_chains seat.old.me.0.chains }
     ensures noted { Publishes P.QSBR K.allows seat.old.me.0 (W.seen caller.old) (W.heard caller.old) [] (ChainNote chain note) seat.new.me.0.seen }
     ensures heard { W.heard caller.new ≡ seat.new.me.0.seen }
-    ensures same { OnlyHears W.Caller caller.old caller.new }
+    ensures same { OnlyMakesLast W.Caller caller.old caller.new seat.new.me.0.seen }
 {
     load_note(table, seat, chain);
     let told = tell_all(table, caller);
     table.learn(seat, told);
     store_note(table, seat, chain, note);
-    let heard = table.tell(seat);
-    caller.learn(table, heard);
+    let noted = table.tell_changes(seat);
+    caller.learn_changes(table, noted);
+}
+
+/// The note of the seat's own chain becomes 2^63 and the number of the object of a fresh record, by the seat with the
+/// right to that, which no chain has linked. Answers the seat with the right.
+pub(crate) fn write_reservation<P: GracePlan, K: ChainRule, B: Site, W: Caller<B>>(
+    table: &LiveTable<P, K>,
+    seat: &mut LiveSeat,
+    chain: usize,
+    caller: &mut W,
+    owned: LiveSeat,
+    number: u64,
+) -> LiveSeat
+    requires seat { (seat.old.table_id ≡ table.now.words.shared.table_id) × (seat.old.me.0.sizes ≡ table.now.words.shared.key) × (chain < table.now.chains) }
+    requires owned { (owned.table_id ≡ table.now.words.shared.table_id) × (owned.me.1 ≡ []) × IsFresh owned.me.0 × (number ≤ 2 ^ 62) }
+    requires site { (table.now.words.shared.table_id ≡ B.table) × (table.now.words.shared.key ≡ B.sizes) }
+    requires right { IsWriter seat.old.me.0 × ((own_in seat.old.me.0.chains).chain ≡ chain) }
+    requires rule { MayReserve P.QSBR K.allows seat.old.me.0 (W.seen caller.old) (W.heard caller.old) owned.me.0 chain (2 ^ 63 + number) }
+    ensures seat { Keeps seat.old seat.new × (seat.new.me.1 ≡ seat.old.me.1) × (seat.new.me.0.sizes ≡ seat.old.me.0.sizes) × IsListed seat.new.me.0 }
+    ensures note { seat.new.me.0.chains ≡ record (own_in seat.old.me.0.chains) { note = 2 ^ 63 + number } ∷ lent_chains seat.old.me.0.chains }
+    ensures noted { Publishes P.QSBR K.allows seat.old.me.0 (W.seen caller.old) (W.heard caller.old) owned.me.0.seen (ChainNote chain (2 ^ 63 + number)) seat.new.me.0.seen }
+    ensures owned { (result.table_id ≡ seat.old.table_id) × (result.me.1 ≡ []) × (result.me.0.sizes ≡ seat.old.me.0.sizes) × (result.me.0.object ≡ owned.me.0.object) × (result.me.0.seen ≡ seat.new.me.0.seen) }
+    ensures heard { W.heard caller.new ≡ seat.new.me.0.seen }
+    ensures same { OnlyMakesLast W.Caller caller.old caller.new seat.new.me.0.seen }
+{
+    let mut told = tell_all(table, caller);
+    table.take_object(&mut told, owned);
+    load_seq(table, &mut told);
+    load_note(table, seat, chain);
+    table.take_object(seat, told);
+    store_note(table, seat, chain, RESERVED + number);
+    let owned = table.cut_object(seat);
+    let reserved = table.tell_changes(seat);
+    caller.learn_changes(table, reserved);
+    owned
 }
 
 /// The seat, which has a chain of its own, sees all that the caller has seen and heard of, by a load of that chain's

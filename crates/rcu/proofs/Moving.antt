@@ -14,10 +14,10 @@ use Rattle.rcu_hash.specs.live_read.Hearing.{IsAfter, MakesMany, Stays}
 use Rattle.rcu_hash.specs.live_read.declared.caller.Caller.{Ghosts}
 use Rattle.rcu_hash.specs.Calls.{IsGrown, IsNotGrown}
 use Rattle.rcu_hash.specs.Growing.{HasLeft}
-use Rattle.rcu_hash.specs.Tidying.{EndsTidying, FindsEnd, Follow, StopsTidying, callbacks_in, cuts_in}
+use Rattle.rcu_hash.specs.Tidying.{EndsTidying, FindsEnd, Follow, StopsTidying, callbacks_in, changes_in}
 use Rattle.rcu_hash.specs.Writers.{Each}
 use Rattle.rcu_hash.proofs.live_read.Lemmas.{more_made, none_made}
-use Rattle.rcu_hash.proofs.Lemmas.{callbacks_both, cuts_both, follow_both, follow_weaker}
+use Rattle.rcu_hash.proofs.Lemmas.{callbacks_both, changes_both, follow_both, follow_weaker}
 use Rattle.rcu.specs.Reclaiming.{moved_code}
 use Rattle.rcu.specs.Resizing.{HearsMore, IsNotResized, IsNotTidied, OnlyMoves}
 use Rattle.rcu.proofs.Hearing.{still_after}
@@ -71,7 +71,7 @@ module _ {W S : Type 0} (w : Ghosts W S) (qsbr : Bool) (sizes : Sizes) (d : ℕ)
     steps = x.steps ++ y.steps;
     follow = follow_both qsbr tabled sizes d (w.seen a) (w.heard a) (w.heard b) (w.heard c) x.steps y.steps x.follow (subst (λ (s : Log). Follow qsbr tabled sizes d s (w.heard b) y.steps (w.heard c)) x.hears.same y.follow);
     callbacks = subst (Each (λ c. c ≡ moved_code R)) (sym (callbacks_both qsbr tabled sizes d (w.seen a) x.steps y.steps)) (each_both _ (callbacks_in x.steps) (callbacks_in y.steps) x.callbacks y.callbacks);
-    made = subst (MakesMany w a c) (sym (cuts_both qsbr tabled sizes d (w.seen a) x.steps y.steps)) (more_made w a b c (cuts_in x.steps) (cuts_in y.steps) x.made y.made);
+    made = subst (MakesMany w a c) (sym (changes_both qsbr tabled sizes d (w.seen a) x.steps y.steps)) (more_made w a b c (changes_in x.steps) (changes_in y.steps) x.made y.made);
   }
 
   -- a tidying did only that, whatever came of it
@@ -149,8 +149,8 @@ module _ {W S : Type 0} (w : Ghosts W S) (qsbr : Bool) (sizes : Sizes) (d : ℕ)
 
   -- the last tidying of a map that is resized
   module _ (old was mid new : W) (first buckets : ℕ) (x : OnlyMoves w qsbr sizes d R old was) (z : OnlyMoves w qsbr sizes d R mid new) (e : Refusal) (untidy : IsNotTidied w qsbr sizes d R mid new e) where
-    pub untidied_grown : (left : ℕ) → HearsMore w was mid → IsGrown w qsbr sizes was mid d first buckets left → MakesMany w was mid left → IsNotResized w qsbr sizes d R old new first buckets e
-    untidied_grown left more grown made = inr (untidied_since w qsbr sizes d R old mid new (hears_on w old was mid x.hears more) e untidy, inl (was, mid, left, x, grown, made, z))
+    pub untidied_grown : (left : ℕ) → HearsMore w was mid → IsGrown w qsbr sizes was mid d first buckets left → IsNotResized w qsbr sizes d R old new first buckets e
+    untidied_grown left more grown = inr (untidied_since w qsbr sizes d R old mid new (hears_on w old was mid x.hears more) e untidy, inl (was, mid, left, x, grown, z))
 
     pub untidied_busy : (why : Refusal) → why ≡ Busy → OnlyMoves w qsbr sizes d R was mid → IsNotGrown w qsbr sizes was mid d first buckets why → IsNotResized w qsbr sizes d R old new first buckets e
     untidied_busy why busy y r = let left = busy_left was mid first buckets why busy r in let to = moves_on w qsbr sizes d R old was mid x y in

@@ -5,7 +5,7 @@ use lib.ListN.{get_elem?}
 use Rattle.atomic_table.specs.Table.{State}
 use Rattle.live_log.specs.declared.event.LiveEvent.{LiveEvent}
 use Rattle.live_log.specs.Log.{Log, IsOpenSection, open_of}
-use Rattle.live_log.proofs.Machine.{is_open}
+use Rattle.live_log.proofs.Lemmas.{is_open}
 use Rattle.rcu_hash.specs.live_rule.declared.rights.SlotRight.{SlotRight}
 use Rattle.rcu_hash.specs.live_rule.declared.view.Sizes.{Sizes}
 use Rattle.rcu_hash.specs.live_rule.declared.view.View.{View}

@@ -14,7 +14,7 @@ use Rattle.rcu_hash.specs.Calls.{IsGrown, IsNotGrown}
 use Rattle.rcu_hash.specs.Freeing.{KeepsNone}
 use Rattle.rcu_hash.specs.Growing.{Grows, HasLeft}
 use Rattle.rcu_hash.specs.Refusing.{During}
-use Rattle.rcu_hash.specs.Tidying.{FindsEnd, Follow, IsRefused, Kind, callbacks_in, cuts_in}
+use Rattle.rcu_hash.specs.Tidying.{FindsEnd, Follow, IsRefused, Kind, callbacks_in, changes_in}
 use Rattle.rcu_hash.specs.Writers.{Each}
 use Rattle.rcu.specs.Reclaiming.{moved_code}
 
@@ -41,14 +41,14 @@ module _ {W S : Type 0} (w : Ghosts W S) (old new : W) where
 
 -- by the sizes of the domain, and the type of the map's deleter
 module _ {W S : Type 0} (w : Ghosts W S) (qsbr : Bool) (sizes : Sizes) (d : ℕ) (R : RattleType) (old new : W) where
-  -- No change was made for the caller but the cuts of tidyings. Each step of these left the map as it was, and each
+  -- No change was made for the caller but the cuts and notes of tidyings. Each step of these left the map as it was, and each
   -- object that was cut is retired with the callback that does nothing.
   pub record OnlyMoves : Type 0 where
     pub hears : HearsMore w old new
     pub steps : List (Kind × Log)
     pub follow : Follow qsbr tabled sizes d (w.seen old) (w.heard old) steps (w.heard new)
     pub callbacks : Each (λ c. c ≡ moved_code R) (callbacks_in steps)
-    pub made : MakesMany w old new (cuts_in steps)
+    pub made : MakesMany w old new (changes_in steps)
 
   -- The map is not tidied: the sequence number was found at its end, or a queue was closed. Or memory is named.
   abbrev pub IsNotTidied : Refusal → Type 0
@@ -62,7 +62,7 @@ module _ {W S : Type 0} (w : Ghosts W S) (qsbr : Bool) (sizes : Sizes) (d : ℕ)
 
   -- nothing else was done but the steps of tidyings, before that and after
   abbrev pub IsResized : Type 0
-  IsResized = (from : W) × (to : W) × (left : ℕ) × OnlyMoves w qsbr sizes d R old from × IsGrown w qsbr sizes from to d first buckets left × MakesMany w from to left × OnlyMoves w qsbr sizes d R to new
+  IsResized = (from : W) × (to : W) × (left : ℕ) × OnlyMoves w qsbr sizes d R old from × IsGrown w qsbr sizes from to d first buckets left × OnlyMoves w qsbr sizes d R to new
 
   -- A growth was refused at the last of several tries, but not for what an earlier one left. It made no change, and
   -- keeps no record.

@@ -1,9 +1,9 @@
 //! A map from keys to values, which grows while it is read.
 
-ghost use Rattle.std.specs.Prelude.{◌≡◌, ◌⊎◌, ◌<◌, None, Some, IfErr, IfOk};
+ghost use Rattle.std.specs.Prelude.{◌≡◌, ◌+◌, ◌⊎◌, ◌<◌, None, Some, IfErr, IfOk};
 ghost use Rattle.rcu_model.specs.declared.refusal.Refusal.TheVariants.{Closed, Memory, PoolFull};
 ghost use Rattle.live_log.specs.Tables.{tabled};
-ghost use Rattle.rcu_hash.specs.live_read.Hearing.{MakesLast, Stays};
+ghost use Rattle.rcu_hash.specs.live_read.Hearing.{MakesMany, Stays};
 ghost use Rattle.rcu_hash.specs.live_read.Reads.{Looks};
 ghost use Rattle.live_log.specs.Log.{Begins};
 ghost use Rattle.rcu_hash.specs.Calls.{IsNotMade};
@@ -80,7 +80,7 @@ impl<'d, P: GracePlan + Drop, B: Site, F: Deleter + Copy, T: Word + Copy + Drop>
         ensures later { Begins (W.heard caller.old) (W.heard caller.new) }
         ensures refused { IfErr result (λ e. IsNotMade W.Caller P.QSBR B.sizes caller.old caller.new directory first buckets e) }
         ensures looks { KeepsRecords W.Caller B.sizes caller.old caller.new result (λ _. 1) }
-        ensures changes { IfOk result (λ _. MakesLast W.Caller caller.old caller.new (W.heard caller.new)) × IfErr result (λ _. Stays W.Caller caller.old caller.new) }
+        ensures changes { IfOk result (λ _. MakesMany W.Caller caller.old caller.new (buckets + 1)) × IfErr result (λ _. Stays W.Caller caller.old caller.new) }
     {
         let table = RcuHash::new(rt, alloc, domain, caller, directory, first, buckets)?;
         Ok(Map {

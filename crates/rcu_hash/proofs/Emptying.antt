@@ -1,6 +1,6 @@
 -- What an earlier directory left is free once a grace period has been waited for, and no part of the table's map.
 use base.Stored.{Gv}
-use Rattle.std.proofs.Common.{Bool, ◌≡◌, ◌≢◌, ◌⊎◌, ℕ, ◌+◌, ◌%◌, ◌<◌, ◌≤◌, List, [], ◌∷◌, ◌++◌, append_assoc, Some, length, map, reverse, take, suc, zero, slice_get, slice_index_or, refl, sym, ap, ◌∙◌, subst, inl, inr, ⊎_elim, arith}
+use Rattle.std.proofs.Common.{Bool, ◌≡◌, ◌≢◌, ◌⊎◌, ℕ, ◌+◌, ◌%◌, ◌^◌, ◌<◌, ◌≤◌, List, [], ◌∷◌, ◌++◌, append_assoc, Some, length, map, reverse, take, suc, zero, slice_get, slice_index_or, refl, sym, ap, ◌∙◌, subst, inl, inr, ⊎_elim, arith}
 use Rattle.std.specs.Prelude.{Option, None, IfSome, Result, Ok, Err, IfOk, IfErr}
 use Rattle.std.proofs.Math.Logic.{∥∥₁_elim, ∥∥₁_map, ∥∥₁_map₂}
 use Rattle.std.proofs.lemmas.List.{append-nil, map-append, reverse-append}
@@ -14,7 +14,7 @@ use Rattle.live_log.specs.declared.event.LiveEvent.TheVariants.{ChainNote, Close
 use Rattle.live_log.specs.declared.event.ObjectEvent.TheVariants.{Cut, Queue, Replace, Retire}
 use Rattle.live_log.specs.Keys.{Falls}
 use Rattle.live_log.specs.Log.{Log, Begins, Has, HaveEnded, IsLiveRun, chain_note, record_of, state_of}
-use Rattle.live_log.specs.Tables.{HasKey, IsDirectory, IsFree, IsNamed, tabled}
+use Rattle.live_log.specs.Tables.{HasKey, IsDirectory, IsFree, IsNamed, reserved, tabled}
 use Rattle.live_log.proofs.Lemmas.{begins_trans, chain_used, falls_cut, has_later, is_noted, kept_log, left_is_freed, linked_between, note_stays, run_of, tabled_maps}
 use Rattle.rcu_list.specs.live_rule.declared.rights.ChainRight.{ChainRight}
 use Rattle.rcu_list.specs.live_rule.declared.view.Look.{Look}
@@ -33,7 +33,7 @@ use Rattle.rcu_hash.specs.Leaving.{LeavesMap, Writes}
 use Rattle.rcu_hash.specs.Naming.{words_by}
 use Rattle.rcu_hash.specs.Tables.{bucket_of}
 use Rattle.rcu_list.specs.domain.Waiting.{FindsMore}
-use Rattle.rcu_hash.specs.Tidying.{ClearsNote, Cuts, Clears, Does, Follow, HasWaited, IsLeft, IsRefused, Kind, Retires, Uses, WasReplaced, callbacks_by, callbacks_in, cut_by, cuts_in, objects_in}
+use Rattle.rcu_hash.specs.Tidying.{ClearsNote, Cuts, Clears, Does, Follow, HasWaited, IsLeft, IsRefused, Kind, Retires, Uses, WasReplaced, callbacks_by, callbacks_in, change_by, changes_in, objects_in}
 use Rattle.rcu_hash.specs.Writers.{Each, HasKeysIn, HasNote, IsAlone, IsOutside}
 use Rattle.rcu_hash.proofs.Changing.{other_map}
 use Rattle.rcu_hash.proofs.Holds.{each_last}
@@ -138,21 +138,23 @@ module _ (qsbr : Bool) where
             subst (Falls (record_of log)) (sym (at_number_same c (without_object p ((state_of log).chain c)) (state_of log).chain)) (falls_cut (record_of log) ((state_of log).chain c) p ((tabled_maps qsbr).falls log c run)),
           )
 
-      pub may_clear_left : (n first buckets : ℕ) → c ≡ n → list_in v ≡ [] → In (state_of v.seen).used o → (record_of v.seen o).1 ≡ words_by first buckets → ∥ (c < first) ⊎ (first + buckets ≤ c) ∥₁ → MayPublish qsbr tabled v seen heard [] (ChainNote n 0)
-      may_clear_left n first buckets number nothing used words outside log on run known made =
+      pub may_clear_left : (n first buckets : ℕ) → d + 1 < 2 ^ 63 → c ≡ n → list_in v ≡ [] → In (state_of v.seen).used o → (record_of v.seen o).1 ≡ words_by first buckets → ∥ (c < first) ⊎ (first + buckets ≤ c) ∥₁ → MayPublish qsbr tabled v seen heard [] (ChainNote n 0)
+      may_clear_left n first buckets small number nothing used words outside log on run known made =
           let free = left_free d o heard log c waited on.after_caller.1 run (directed_there log known) (noted_there log known) in
           let none : (state_of log).chain c ≡ [] = (subst (AreAsKnown log) own known).0.0 ∙ nothing in
           let then : (record_of log o).1 ≡ words_by first buckets = words_later qsbr v.seen log o on.after_writer.0 run first buckets used words in
           let unnamed : ¬ IsNamed log c = λ m.
-          let its : chain_note c log ≡ m.chain + 1 = (is_noted qsbr log c m.chain m.object run m.linked m.directory m.names).1 in
           let mine = noted_there log known in
-          let here : m.chain ≡ d = omega (arith, its, mine) in
+          let here : m.chain ≡ d = ⊎_elim
+          (λ (its : chain_note c log ≡ m.chain + 1). omega (arith, its, mine))
+          (λ (held : chain_note c log ≡ reserved m.object). absurd (omega (arith, held, mine, small)))
+          (is_noted qsbr log c m.chain m.object run m.linked m.directory m.names).2 in
           let same : o ≡ m.object = only o m.object (subst (λ (l : List ObjectId). In l m.object) (ap (state_of log).chain here ∙ directed_there log known) m.linked) in
           let its_words : (record_of log m.object).1 ≡ words_by first buckets = ap (λ (p : ObjectId). (record_of log p).1) (sym same) ∙ then in
           let low : first ≤ c = subst (λ (w : List ℕ). slice_index_or w 0 0 ≤ c) its_words m.names.0 in
           let high : c < first + buckets = subst (λ (w : List ℕ). c < slice_index_or w 0 0 + slice_index_or w 1 0) its_words m.names.1 in
           ∥∥₁_elim outside (λ p q. absurd p) (λ out. ⊎_elim (λ under. absurd (omega (arith, low, under))) (λ over. absurd (omega (arith, high, over))) out) in
-          subst (λ (k : ℕ). tabled log (ChainNote k 0)) number (inr (refl, free, none, unnamed))
+          subst (λ (k : ℕ). tabled log (ChainNote k 0)) number (inr (free, inl (refl, none, unnamed)))
 
 -- what a refused retirement tells
 module _ {W S : Type 0} (w : Ghosts W S) (qsbr : Bool) (allows : Log → LiveEvent → Type 0) (sizes : Sizes) (q : ℕ) (old new : W) (e : Refusal) (r : RefusesRetirement w qsbr allows sizes q old new e) where
@@ -209,9 +211,9 @@ module _ (qsbr : Bool) (allows : Log → LiveEvent → Type 0) (sizes : Sizes) (
   callbacks_both [] ts = refl
   callbacks_both (s ∷ ss) ts = ap (λ cs. callbacks_by s.0 ++ cs) (callbacks_both ss ts) ∙ sym (append_assoc (callbacks_by s.0) (callbacks_in ss) (callbacks_in ts))
 
-  pub cuts_both : (ss ts : List (Kind × Log)) → cuts_in (ss ++ ts) ≡ cuts_in ss + cuts_in ts
-  cuts_both [] ts = omega arith
-  cuts_both (s ∷ ss) ts = let rest = cuts_both ss ts in omega arith
+  pub changes_both : (ss ts : List (Kind × Log)) → changes_in (ss ++ ts) ≡ changes_in ss + changes_in ts
+  changes_both [] ts = omega arith
+  changes_both (s ∷ ss) ts = let rest = changes_both ss ts in omega arith
 
   -- what was heard of at the end began with what was before
   pub heard_on : (known heard log : Log) (ss : List (Kind × Log)) → Begins known heard → Follow qsbr allows sizes d seen heard ss log → Begins known log
@@ -235,12 +237,12 @@ module _ (qsbr : Bool) (allows : Log → LiveEvent → Type 0) (sizes : Sizes) (
       steps = x.steps ++ y.steps;
       follow = follow_both heard then log x.steps y.steps x.follow y.follow;
       callbacks = callbacks_both x.steps y.steps ∙ (λ i. x.callbacks i ++ y.callbacks i) ∙ sym (ap (map code) (reverse-append y.used x.used) ∙ map-append code (reverse x.used) (reverse y.used));
-      made = subst (MakesMany w a c) (sym (cuts_both x.steps y.steps)) (more_made w a b c (cuts_in x.steps) (cuts_in y.steps) x.made y.made);
+      made = subst (MakesMany w a c) (sym (changes_both x.steps y.steps)) (more_made w a b c (changes_in x.steps) (changes_in y.steps) x.made y.made);
     }
 
     -- one callback for one step
-    pub uses_one : (a b : W) (jobs left : List D) (job : D) (heard log : Log) (k : Kind) → callbacks_by k ≡ code job ∷ [] → MakesMany w a b (cut_by k) → jobs ≡ left ++ job ∷ [] → Does qsbr allows sizes d seen heard k log → Uses qsbr allows sizes d seen w code a b jobs left heard log
-    uses_one a b jobs left job heard log k one made are does = let alone : cut_by k ≡ cut_by k + 0 = omega arith in record {
+    pub uses_one : (a b : W) (jobs left : List D) (job : D) (heard log : Log) (k : Kind) → callbacks_by k ≡ code job ∷ [] → MakesMany w a b (change_by k) → jobs ≡ left ++ job ∷ [] → Does qsbr allows sizes d seen heard k log → Uses qsbr allows sizes d seen w code a b jobs left heard log
+    uses_one a b jobs left job heard log k one made are does = let alone : change_by k ≡ change_by k + 0 = omega arith in record {
       used = job ∷ [];
       are = are;
       steps = (k, log) ∷ [];
@@ -249,8 +251,8 @@ module _ (qsbr : Bool) (allows : Log → LiveEvent → Type 0) (sizes : Sizes) (
       made = subst (MakesMany w a b) alone made;
     }
 
-    pub uses_no : (a b : W) (jobs : List D) (heard log : Log) → Stays w a b → ClearsNote qsbr allows sizes d seen heard log → Uses qsbr allows sizes d seen w code a b jobs jobs heard log
-    uses_no a b jobs heard log stays does = record { used = []; are = sym (append-nil jobs); steps = (Clears, log) ∷ []; follow = (does, ([], refl)); callbacks = refl; made = none_made w a b stays }
+    pub uses_no : (a b : W) (jobs : List D) (heard log : Log) → MakesMany w a b 1 → ClearsNote qsbr allows sizes d seen heard log → Uses qsbr allows sizes d seen w code a b jobs jobs heard log
+    uses_no a b jobs heard log made does = record { used = []; are = sym (append-nil jobs); steps = (Clears, log) ∷ []; follow = (does, ([], refl)); callbacks = refl; made = made }
 
 -- what is so of an option where there is one
 pub some_on : {A : Type 0} (r : Option A) (P Q : A → Type 0) → ((x : A) → P x → Q x) → IfSome r P → IfSome r Q

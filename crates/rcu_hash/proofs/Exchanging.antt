@@ -3,7 +3,7 @@ use Rattle.std.proofs.Common.{Bool, ◌≡◌, ℕ, ◌+◌, ◌%◌, ◌<◌, �
 use Rattle.std.proofs.lemmas.Nat.{mod_below}
 use Rattle.rcu_model.specs.declared.event.ObjectId.{ObjectId}
 use Rattle.rcu_model.specs.Sets.{In}
-use Rattle.live_log.specs.Log.{Log, Begins, IsLiveRun, chain_note, record_of, state_of}
+use Rattle.live_log.specs.Log.{Log, Begins, IsLiveRun, record_of, state_of}
 use Rattle.live_log.specs.Tables.{tabled}
 use Rattle.live_log.proofs.Lemmas.{chain_used, note_stays, run_of}
 use Rattle.rcu_list.specs.live_rule.declared.rights.ChainRight.{ChainRight}
@@ -16,7 +16,7 @@ use Rattle.rcu_hash.specs.Copies.{value_in_bucket}
 use Rattle.rcu_hash.specs.Directories.{directed_map}
 use Rattle.rcu_hash.specs.Naming.{words_by}
 use Rattle.rcu_hash.specs.Tables.{bucket_of}
-use Rattle.rcu_hash.specs.Writers.{AreFrom, Each, HasNote, SawBefore, rights_of, value_at}
+use Rattle.rcu_hash.specs.Writers.{AreFrom, Each, SawBefore, rights_of, value_at}
 use Rattle.rcu_hash.proofs.Directing.{directed_is}
 use Rattle.rcu_hash.proofs.Named.{leads_all}
 
@@ -65,9 +65,3 @@ module _ (qsbr : Bool) (log : Log) (run : IsLiveRun qsbr tabled log) where
       directed_is chains key (record_of log o) (leads_all chains first buckets some fits (record_of log o) words key) log d o alone refl
       ∙ (ap (λ (w : List ℕ). map_of log (bucket_of (slice_index_or w 0 0) (slice_index_or w 1 0) key) key) words
       ∙ value_there first (key % buckets) key vs known from listed saw (omega arith))
-
-  -- a directory's chains have its note
-  pub noted_each : (d first many k : ℕ) (vs : List View) → ((c : ℕ) → first ≤ c → c < first + many → chain_note c log ≡ d + 1) → first ≤ k → k + length vs ≤ first + many → AreFrom k vs → AreAsKnown log (rights_of vs) → Each (HasNote (d + 1)) vs
-  noted_each d first many k [] notes low high from known = tt
-  noted_each d first many k (v ∷ vs) notes low high from known =
-      (sym known.0.1 ∙ (ap (λ (c : ℕ). chain_note c log) from.0 ∙ notes k low (omega arith)), noted_each d first many (k + 1) vs notes (omega arith) (omega arith) from.1 known.1)

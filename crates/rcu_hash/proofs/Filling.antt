@@ -1,6 +1,6 @@
 -- The events of a growth before its last one: pushes into the new chains, and notes. None of them changes the table's
 -- map, since the same directory was linked from before them until after them.
-use Rattle.std.proofs.Common.{Bool, ◌≡◌, ◌≢◌, ◌⊎◌, ℕ, ◌+◌, ◌<◌, ◌≤◌, List, [], ◌∷◌, ◌++◌, Some, length, slice_get, refl, sym, ap, ◌∙◌, subst, inl, inr, ⊎_elim, arith, zero, suc}
+use Rattle.std.proofs.Common.{Bool, ◌≡◌, ◌⊎◌, ℕ, ◌+◌, ◌<◌, ◌≤◌, List, [], ◌∷◌, ◌++◌, Some, length, slice_get, refl, sym, ap, ◌∙◌, subst, inl, inr, ⊎_elim, arith, zero, suc}
 use Rattle.std.proofs.lemmas.Nat.{mod_below}
 use Rattle.rcu_model.specs.declared.event.ObjectId.{ObjectId}
 use Rattle.rcu_model.proofs.Lemmas.{at_number_other, none_some, some_is}
@@ -73,49 +73,43 @@ module _ (Tells : Log → LiveEvent → Log → Type 0) (goes : (heard : Log) (e
 
 -- between two logs in which a directory is linked
 module _ (qsbr : Bool) (seen : Log) (chains from buckets : ℕ) (some : 0 < buckets) (fits : from + buckets ≤ chains) (d : ℕ) (o : ObjectId) (old new : Log) (run : IsLiveRun qsbr tabled new) (was : (state_of old).chain d ≡ o ∷ []) (is : (state_of new).chain d ≡ o ∷ []) (words : (record_of old o).1 ≡ words_by from buckets) where
-  -- an event that leaves all chains but one, which the directory does not name, leaves the table's map
-  leaves_between : (heard : Log) (c : ℕ) (e : LiveEvent) (log : Log) → Begins old heard → Begins log new → ((before : Log) (k : ℕ) → k ≢ c → (state_of (e ∷ before)).chain k ≡ (state_of before).chain k) → (c < from) ⊎ (from + buckets ≤ c) → Writes qsbr tabled seen heard e log → LeavesMap qsbr tabled chains d seen heard e log
-  leaves_between heard c e log since until others outside w = record {
+  -- an event that leaves the chains that the directory names leaves the table's map
+  leaves_between : (heard : Log) (e : LiveEvent) (log : Log) → Begins old heard → Begins log new → ((before : Log) (k : ℕ) → from ≤ k → k < from + buckets → (state_of (e ∷ before)).chain k ≡ (state_of before).chain k) → Writes qsbr tabled seen heard e log → LeavesMap qsbr tabled chains d seen heard e log
+  leaves_between heard e log since until others w = record {
     writes = w;
     map = λ key.
         let before : Log = w.before in let goes : Begins before log = (e ∷ [], w.wrote) in
         let b : Begins old before = begins_trans old heard before since w.after.1 in
         let k : ℕ = bucket_of from buckets key in let low = mod_below key buckets some in
-        let other : k ≢ c = λ same. ⊎_elim (λ under. absurd (omega (arith, same, under))) (λ over. absurd (omega (arith, same, over, low))) outside in
         directed_between chains from buckets some fits qsbr d o old log new (begins_trans old before log b goes) until run was is words key
         ∙ (ap (λ (l : Log). map_of l k key) w.wrote
-        ∙ (other_map qsbr tabled e before k key (subst (IsLiveRun qsbr tabled) w.wrote w.run) (others before k other)
+        ∙ (other_map qsbr tabled e before k key (subst (IsLiveRun qsbr tabled) w.wrote w.run) (others before k (omega arith) (omega arith))
         ∙ sym (directed_between chains from buckets some fits qsbr d o old before new b (begins_trans before log new goes until) run was is words key)));
   }
 
-  -- so do all pushes and notes of chains that it does not name
-  module _ (first many : ℕ) (apart : (from + buckets ≤ first) ⊎ (first + many ≤ from)) where
-    outside : (c : ℕ) → first ≤ c → c < first + many → (c < from) ⊎ (from + buckets ≤ c)
-    outside c low high = ⊎_elim (λ (below : from + buckets ≤ first). inr (omega arith)) (λ (above : first + many ≤ from). inl (omega arith)) apart
+  -- so do all pushes into chains that it does not name
+  pub copies_leave : (first many : ℕ) → (from + buckets ≤ first) ⊎ (first + many ≤ from) → 0 < many → (rank : ℕ) (heard : Log) (es : List (ℕ × ℕ)) (log : Log) → Begins old heard → Begins log new → CopiesAll (Writes qsbr tabled seen) first many rank heard es log → CopiesAll (LeavesMap qsbr tabled chains d seen) first many rank heard es log
+  copies_leave first many apart more rank heard [] log since until c = c
+  copies_leave first many apart more rank heard (e ∷ es) log since until c =
+      let k = c.1 in let b : ℕ = bucket_of first many e.0 in let low = mod_below e.0 many more in
+      let goes : Begins heard c.0 = writes_go qsbr tabled seen heard (Object (Push b k.object k.cell (words_of e.0 e.1 rank))) c.0 k.tells in
+      let outside : (b < from) ⊎ (from + buckets ≤ b) = ⊎_elim (λ (below : from + buckets ≤ first). inr (omega arith)) (λ (above : first + many ≤ from). inl (omega arith)) apart in (
+        c.0,
+        record {
+          object = k.object;
+          cell = k.cell;
+          tells = leaves_between heard (Object (Push b k.object k.cell (words_of e.0 e.1 rank))) c.0 since (begins_trans c.0 log new (copies_go (Writes qsbr tabled seen) (writes_go qsbr tabled seen) first many (rank + 1) c.0 es log c.2) until)
+              (λ before i under over. at_number_other b i (k.object ∷ (state_of before).chain b) (state_of before).chain (λ same. ⊎_elim (λ low. absurd (omega (arith, same, low, under))) (λ high. absurd (omega (arith, same, high, over))) outside)) k.tells;
+        },
+        copies_leave first many apart more (rank + 1) c.0 es log (begins_trans old heard c.0 since goes) until c.2,
+      )
 
-    pub copies_leave : 0 < many → (rank : ℕ) (heard : Log) (es : List (ℕ × ℕ)) (log : Log) → Begins old heard → Begins log new → CopiesAll (Writes qsbr tabled seen) first many rank heard es log → CopiesAll (LeavesMap qsbr tabled chains d seen) first many rank heard es log
-    copies_leave more rank heard [] log since until c = c
-    copies_leave more rank heard (e ∷ es) log since until c =
-        let k = c.1 in let b : ℕ = bucket_of first many e.0 in let low = mod_below e.0 many more in
-        let goes : Begins heard c.0 = writes_go qsbr tabled seen heard (Object (Push b k.object k.cell (words_of e.0 e.1 rank))) c.0 k.tells in (
-          c.0,
-          record {
-            object = k.object;
-            cell = k.cell;
-            tells = leaves_between heard b (Object (Push b k.object k.cell (words_of e.0 e.1 rank))) c.0 since (begins_trans c.0 log new (copies_go (Writes qsbr tabled seen) (writes_go qsbr tabled seen) first many (rank + 1) c.0 es log c.2) until)
-                (λ before i other. at_number_other b i (k.object ∷ (state_of before).chain b) (state_of before).chain other) (outside b (omega arith) (omega arith)) k.tells;
-          },
-          copies_leave more (rank + 1) c.0 es log (begins_trans old heard c.0 since goes) until c.2,
-        )
-
-    notes_from : (note k left : ℕ) (heard log : Log) → first ≤ k → k + left ≤ first + many → Begins old heard → Begins log new → NotesAll (Writes qsbr tabled seen) note k left heard log → NotesAll (LeavesMap qsbr tabled chains d seen) note k left heard log
-    notes_from note k zero heard log low high since until n = n
-    notes_from note k (suc left) heard log low high since until n =
-        let goes : Begins heard n.0 = writes_go qsbr tabled seen heard (ChainNote k note) n.0 n.1 in (
-          n.0,
-          leaves_between heard k (ChainNote k note) n.0 since (begins_trans n.0 log new (notes_go (Writes qsbr tabled seen) (writes_go qsbr tabled seen) note (k + 1) left n.0 log n.2) until) (λ before i other. refl) (outside k low (omega arith)) n.1,
-          notes_from note (k + 1) left n.0 log (omega arith) (omega arith) (begins_trans old heard n.0 since goes) until n.2,
-        )
-
-    pub notes_leave : (note : ℕ) (heard log : Log) → Begins old heard → Begins log new → NotesAll (Writes qsbr tabled seen) note first many heard log → NotesAll (LeavesMap qsbr tabled chains d seen) note first many heard log
-    notes_leave note heard log since until n = notes_from note first many heard log (omega arith) (omega arith) since until n
+  -- and all notes
+  pub notes_leave : (note first many : ℕ) (heard log : Log) → Begins old heard → Begins log new → NotesAll (Writes qsbr tabled seen) note first many heard log → NotesAll (LeavesMap qsbr tabled chains d seen) note first many heard log
+  notes_leave note k zero heard log since until n = n
+  notes_leave note k (suc left) heard log since until n =
+      let goes : Begins heard n.0 = writes_go qsbr tabled seen heard (ChainNote k note) n.0 n.1 in (
+        n.0,
+        leaves_between heard (ChainNote k note) n.0 since (begins_trans n.0 log new (notes_go (Writes qsbr tabled seen) (writes_go qsbr tabled seen) note (k + 1) left n.0 log n.2) until) (λ before i under over. refl) n.1,
+        notes_leave note (k + 1) left n.0 log (begins_trans old heard n.0 since goes) until n.2,
+      )

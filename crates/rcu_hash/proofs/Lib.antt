@@ -1,3 +1,4 @@
+pub mod Buckets
 pub mod Changing
 pub mod Copies
 pub mod Directing
@@ -13,6 +14,7 @@ pub mod Lending
 pub mod Looking
 pub mod Named
 pub mod Ranges
+pub mod Redirected
 pub mod Regrown
 pub mod Relinking
 pub mod Taking

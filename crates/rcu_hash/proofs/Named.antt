@@ -1,26 +1,21 @@
 -- What the directory's right tells a bucket's writer that has it: its chain is free, and the table's map is that of its
 -- buckets.
-use Rattle.std.proofs.Common.{Bool, ◌≡◌, ◌≢◌, ℕ, ◌+◌, ◌<◌, ◌≤◌, ◌&&◌, List, [], ◌∷◌, Option, None, Some, true, refl, sym, ap, ◌∙◌, subst, inl, arith, slice_get, slice_index_or}
+use Rattle.std.proofs.Common.{Bool, ◌≡◌, ℕ, ◌+◌, ◌<◌, ◌≤◌, ◌&&◌, List, [], ◌∷◌, Option, None, Some, true, refl, sym, ap, ◌∙◌, subst, inl, arith, slice_index_or}
 use Rattle.std.proofs.lemmas.Bool.{lt-ltb}
 use Rattle.std.proofs.lemmas.Nat.{mod_below}
 use Rattle.rcu_model.specs.declared.event.ObjectId.{ObjectId}
 use Rattle.rcu_model.specs.Sets.{In, first_of}
 use Rattle.live_log.specs.Log.{Log, Begins, IsLiveRun, record_of, state_of}
 use Rattle.live_log.specs.declared.event.LiveEvent.{LiveEvent}
-use Rattle.live_log.specs.Keys.{key_of, rank_of}
-use Rattle.live_log.specs.Tables.{IsDirectory, IsFree, tabled}
-use Rattle.live_log.proofs.Lemmas.{begins_trans, chain_used, directory_alone, free_told, grows_log, linked_between, named_stays_free, note_stays, run_of}
-use Rattle.rcu_list.specs.live_rule.Seats.{lent_chains}
+use Rattle.live_log.specs.Tables.{IsDirectory, tabled}
+use Rattle.live_log.proofs.Lemmas.{begins_trans, chain_used, directory_alone, grows_log, linked_between, note_stays, run_of}
 use Rattle.rcu_list.specs.live_rule.declared.rights.ChainRight.{ChainRight}
 use Rattle.rcu_list.specs.live_rule.declared.view.View.{View}
 use Rattle.rcu_list.specs.live_table.Rights.{AreAsKnown, IsListed, own_in}
 use Rattle.rcu_list.specs.live_write.Chains.{list_in}
-use Rattle.rcu_list.proofs.live_write.Lemmas.{index_has}
-use Rattle.rcu_list.specs.Maps.{map_of, next_rank}
-use Rattle.rcu_list.specs.Preparing.{MayComeIn, MayTakeOver}
-use Rattle.rcu_list.proofs.Lemmas.{MayWriteIn, rank_same}
+use Rattle.rcu_list.specs.Maps.{map_of}
 use Rattle.rcu_hash.specs.Directories.{LeadsTo, directed_map, leads}
-use Rattle.rcu_hash.specs.Naming.{WasNamed, words_by}
+use Rattle.rcu_hash.specs.Naming.{words_by}
 use Rattle.rcu_hash.proofs.Ranges.{Changes, Inserts, Removes, Replaces, table_of}
 use Rattle.rcu_hash.specs.Publishing.{ChangesThrough, InsertsThrough, RemovesThrough, ReplacesThrough}
 use Rattle.rcu_hash.specs.Tables.{bucket_of}
@@ -31,46 +26,6 @@ use Rattle.rcu_hash.proofs.Directing.{directed_is}
 abbrev pub rest : Log → Log
 rest [] = []
 rest (e ∷ es) = es
-
--- what was so is so of a later log
-pub named_later : (d : ℕ) (o : ObjectId) (c : ℕ) (log later : Log) → Begins log later → WasNamed d o c log → WasNamed d o c later
-named_later d o c log later b n = record { known = n.known; before = begins_trans n.known log later n.before b; linked = n.linked; directory = n.directory; names = n.names; is_free = n.is_free }
-
--- a writer of a bucket that has the directory's right may write
-pub may_write_named : (qsbr : Bool) (v : View) (known : Log) (d : ℕ) (o : ObjectId) (x : ChainRight) → Begins known v.seen → lent_chains v.chains ≡ x ∷ [] → x.chain ≡ d → x.objects ≡ o ∷ [] → ∥ WasNamed d o (own_in v.chains).chain known ∥₁ → MayWriteIn qsbr tabled IsFree v
-may_write_named qsbr v known d o x began lent is alone named log begins run note known_lent =
-    let right = (subst (AreAsKnown log) lent known_lent).0 in
-    let at : In ((state_of log).chain d) o = subst (λ (l : List ObjectId). In l o) (sym (ap (state_of log).chain (sym is) ∙ (right.0 ∙ alone))) (inl refl) in
-    free_told log (own_in v.chains).chain named
-    (λ n. named_stays_free qsbr n.known log (own_in v.chains).chain d o (begins_trans n.known known log n.before (begins_trans known v.seen log began begins)) run n.linked at n.directory n.names n.is_free)
-
--- a record that was ready is so in a later log, in which the chain is the same
-pub ready_later : (qsbr : Bool) (v w u : View) (key value : ℕ) → IsListed v → Begins v.seen w.seen → IsLiveRun qsbr tabled w.seen → list_in w ≡ list_in v → MayComeIn v u key value → MayComeIn w u key value
-ready_later qsbr v w u key value listed later run same ready =
-    let note : (o : ObjectId) → In (list_in v) o → record_of w.seen o ≡ record_of v.seen o = λ o had. note_stays qsbr tabled v.seen w.seen o later run (chain_used qsbr tabled v.seen (own_in v.chains).chain o (run_of qsbr tabled v.seen w.seen later run) (subst (λ (l : List ObjectId). In l o) (sym listed.0) had)) in record {
-      rank = ready.rank;
-      words = ready.words;
-      next = ready.next ∙ (sym (rank_same (record_of v.seen) (record_of w.seen) (list_in v) note) ∙ ap (next_rank (record_of w.seen)) (sym same));
-      others = λ o h.
-          let had : In (list_in v) o = subst (λ (l : List ObjectId). In l o) same h in
-          subst (λ (x : ℕ × List ℕ). (key_of x ≢ key) × (rank_of x < ready.rank)) (sym (note o had)) (ready.others o had);
-    }
-
-pub over_later : (qsbr : Bool) (v w u : View) (key value index : ℕ) → IsListed v → Begins v.seen w.seen → IsLiveRun qsbr tabled w.seen → list_in w ≡ list_in v → MayTakeOver v u key value index → MayTakeOver w u key value index
-over_later qsbr v w u key value index listed later run same ready =
-    let note : (o : ObjectId) → In (list_in v) o → record_of w.seen o ≡ record_of v.seen o = λ o had. note_stays qsbr tabled v.seen w.seen o later run (chain_used qsbr tabled v.seen (own_in v.chains).chain o (run_of qsbr tabled v.seen w.seen later run) (subst (λ (l : List ObjectId). In l o) (sym listed.0) had)) in
-    let f = ready.found in
-    let at : (k : ℕ) (o : ObjectId) → slice_get (list_in w) k ≡ Some o → slice_get (list_in v) k ≡ Some o = λ k o is. ap (λ (l : List ObjectId). slice_get l k) (sym same) ∙ is in record {
-      rank = ready.rank;
-      words = ready.words;
-      found = record {
-        object = f.object;
-        at = ap (λ (l : List ObjectId). slice_get l index) same ∙ f.at;
-        begins = ap key_of (note f.object (index_has (list_in v) index f.object f.at)) ∙ f.begins;
-        others = λ k o low is word. f.others k o low (at k o is) (ap key_of (sym (note o (index_has (list_in v) k o (at k o is)))) ∙ word);
-      };
-      same = ready.same ∙ ap rank_of (sym (note f.object (index_has (list_in v) index f.object f.at)));
-    }
 
 -- what a log says of an object that a seat knows it says still
 module _ (qsbr : Bool) (old later : Log) (o : ObjectId) (b : Begins old later) (run : IsLiveRun qsbr tabled later) where

@@ -4,16 +4,17 @@ use Rattle.rcu_model.specs.declared.event.ObjectId.{ObjectId}
 use Rattle.rcu_model.specs.Sets.{In}
 use Rattle.live_log.specs.declared.event.LiveEvent.{LiveEvent}
 use Rattle.live_log.specs.Log.{Log, Begins, IsLiveRun, record_of}
-use Rattle.live_log.specs.Tables.{HasKey, tabled}
+use Rattle.live_log.specs.Tables.{HasKey, reserved, tabled}
 use Rattle.live_log.proofs.Lemmas.{begins_trans, chain_used, note_stays, run_of}
 use Rattle.rcu_list.specs.live_rule.declared.view.View.{View}
 use Rattle.rcu_list.specs.live_table.Rights.{IsListed, own_in}
 use Rattle.rcu_list.specs.live_write.Chains.{list_in}
 use Rattle.rcu_list.specs.Maps.{value_in}
 use Rattle.rcu_list.proofs.Lemmas.{value_same}
+use Rattle.rcu_hash.specs.Directories.{buckets_in, first_in}
 use Rattle.rcu_hash.specs.Growing.{Grows}
 use Rattle.rcu_hash.specs.Leaving.{LeavesMap}
-use Rattle.rcu_hash.specs.Writers.{AreFrom, Each, HasKeysIn, IsOutside, IsRunIn, IsSame, Noted, Pairwise, value_at}
+use Rattle.rcu_hash.specs.Writers.{AreFrom, Each, HasKeysIn, IsOutside, IsRunIn, IsSame, Pairwise, value_at}
 use Rattle.rcu_hash.proofs.Emptying.{leaves_weaker}
 use Rattle.rcu_hash.proofs.Filling.{copies_go, copies_weaker, notes_go, writes_go}
 
@@ -47,28 +48,30 @@ module _ (qsbr : Bool) where
       ap (λ (os : List ObjectId). value_in (record_of w.seen) os key) p.0.1 ∙ value_same (record_of v.seen) (record_of w.seen) (list_in v) key (λ o has. note_same v w o p.0 listed.0 runs.0 has)
   pair_values (v ∷ vs) (w ∷ ws) (suc k) key p listed runs = pair_values vs ws k key p.1 listed.1 runs.1
 
--- what came after one log came after an earlier one
-pub noted_since : (heard later : Log) (note : ℕ) (v : View) → Begins heard later → Noted later note v → Noted heard note v
-noted_since heard later note v b n = record { at = n.at; after = begins_trans heard later n.at b n.after; before = n.before; was = n.was; is = n.is }
-
 module _ (qsbr : Bool) (allows : Log → LiveEvent → Type 0) (chains d : ℕ) (first buckets : ℕ) (entries : List (ℕ × ℕ)) (log : Log) where
-  pub grows_since : (seen heard seen' heard' : Log) → seen' ≡ seen → Begins heard heard' → Grows qsbr allows chains d seen' heard' first buckets entries log → Grows qsbr allows chains d seen heard first buckets entries log
-  grows_since seen heard seen' heard' same b g = subst (λ (s : Log). Grows qsbr allows chains d s heard first buckets entries log) same (record {
-    copied = g.copied;
-    noted = g.noted;
-    old = g.old;
-    copies = copies_weaker (LeavesMap qsbr allows chains d seen') (leaves_weaker qsbr allows chains d seen') first buckets 0 heard heard' entries g.copied b g.copies;
-    notes = g.notes;
-    exchanges = g.exchanges;
-  })
+  pub grows_since : (seen heard seen' heard' : Log) (n : ℕ) → seen' ≡ seen → Begins heard heard' → (g : Grows qsbr allows chains d seen' heard' first buckets entries log) → buckets_in (record_of g.left g.old) ≡ n → (k : Grows qsbr allows chains d seen heard first buckets entries log) × (buckets_in (record_of k.left k.old) ≡ n)
+  grows_since seen heard seen' heard' n same b g is = subst (λ (s : Log). (k : Grows qsbr allows chains d s heard first buckets entries log) × (buckets_in (record_of k.left k.old) ≡ n)) same (
+    record {
+      copied = g.copied;
+      noted = g.noted;
+      left = g.left;
+      old = g.old;
+      copies = copies_weaker (LeavesMap qsbr allows chains d seen') (leaves_weaker qsbr allows chains d seen') first buckets 0 heard heard' entries g.copied b g.copies;
+      notes = g.notes;
+      leaves = g.leaves;
+      exchanges = g.exchanges;
+    },
+    is,
+  )
 
   pub grows_go : (seen heard : Log) → Grows qsbr allows chains d seen heard first buckets entries log → Begins heard log
   grows_go seen heard g =
       let goes : (h : Log) (e : LiveEvent) (l : Log) → LeavesMap qsbr allows chains d seen h e l → Begins h l = λ h e l t. writes_go qsbr allows seen h e l t.writes in
       let w = g.exchanges.leaves.writes in
       begins_trans heard g.copied log (copies_go (LeavesMap qsbr allows chains d seen) goes first buckets 0 heard entries g.copied g.copies)
-      (begins_trans g.copied g.noted log (notes_go (LeavesMap qsbr allows chains d seen) goes (d + 1) first buckets g.copied g.noted g.notes)
-      (begins_trans g.noted w.before log w.after.1 (_ ∷ [], w.wrote)))
+      (begins_trans g.copied g.noted log (notes_go (LeavesMap qsbr allows chains d seen) goes (reserved g.exchanges.new) first buckets g.copied g.noted g.notes)
+      (begins_trans g.noted g.left log (notes_go (LeavesMap qsbr allows chains d seen) goes (d + 1) (first_in (record_of g.left g.old)) (buckets_in (record_of g.left g.old)) g.noted g.left g.leaves)
+      (begins_trans g.left w.before log w.after.1 (_ ∷ [], w.wrote))))
 
 -- chains of a range that has none in common with another
 pub all_outside : (first many other buckets k : ℕ) (vs : List View) → (first + many ≤ other) ⊎ (other + buckets ≤ first) → first ≤ k → k + length vs ≤ first + many → AreFrom k vs → Each (IsOutside other buckets) vs

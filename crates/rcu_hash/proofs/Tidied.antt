@@ -24,7 +24,7 @@ use Rattle.rcu_hash.specs.Naming.{words_by}
 use Rattle.rcu_hash.specs.Tidying.{IsLinked, IsRest, IsTidied, LeavesOnly, WasCleared, chains_in}
 use Rattle.rcu_hash.specs.Writers.{AreFrom}
 use Rattle.rcu_hash.proofs.Emptying.{by_words}
-use Rattle.rcu_hash.proofs.Holds.{stays_directed}
+use Rattle.rcu_hash.proofs.Redirected.{stays_directed}
 
 -- a list without its first entry
 abbrev rest : Log → Log

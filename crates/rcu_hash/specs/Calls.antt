@@ -4,12 +4,13 @@ use Rattle.std.specs.Prelude.{◌≡◌, ◌⊎◌, ◌+◌, ◌%◌, Bool, true
 use Rattle.rcu_model.specs.declared.event.ObjectId.{ObjectId}
 use Rattle.rcu_model.specs.declared.refusal.Refusal.{Refusal}
 use Rattle.rcu_model.specs.declared.refusal.Refusal.TheVariants.{BadConfig, Busy, Memory, PoolFull}
-use Rattle.live_log.specs.Log.{Log}
+use Rattle.live_log.specs.Log.{Log, record_of}
 use Rattle.live_log.specs.Tables.{tabled}
-use Rattle.rcu_list.specs.live_read.Hearing.{IsAfter, MakesLast}
+use Rattle.rcu_list.specs.live_read.Hearing.{IsAfter, MakesLast, MakesMany}
 use Rattle.rcu_list.specs.live_read.declared.caller.Caller.{Ghosts}
 use Rattle.rcu_list.specs.live_rule.declared.view.Sizes.{Sizes}
 use Rattle.rcu_list.specs.Calls.{HandsOver}
+use Rattle.rcu_hash.specs.Directories.{buckets_in}
 use Rattle.rcu_hash.specs.Growing.{Grows, HasLeft}
 use Rattle.rcu_hash.specs.Publishing.{InsertsThrough, RemovesThrough, ReplacesThrough}
 use Rattle.rcu_hash.specs.Refusing.{FindsTaken}
@@ -29,9 +30,11 @@ module _ {W S : Type 0} (w : Ghosts W S) (qsbr : Bool) (sizes : Sizes) (old new 
   abbrev pub IsRemovedThrough : (key ticket : ℕ) (callback : Gv) → Type 0
   IsRemovedThrough key ticket callback = (chain : ℕ) × (left : ObjectId) × (published : Log) × RemovesThrough qsbr tabled sizes.chains d (w.seen old) (w.heard old) key chain left published × HandsOver qsbr tabled left (chain % sizes.queues) ticket callback published (w.heard new) × MakesLast w old new published
 
-  -- another directory, which names these chains, took the place of the old one, which left so many records
+  -- Another directory, which names these chains, took the place of the old one, which left so many records. Of that the
+  -- caller made a change for each copy, for each bucket of both, and for the directory.
   abbrev pub IsGrown : (first buckets left : ℕ) → Type 0
-  IsGrown first buckets left = (entries : List (ℕ × ℕ)) × Grows qsbr tabled sizes.chains d (w.seen old) (w.heard old) first buckets entries (w.heard new) × (left ≡ length entries + 1) × (fits sizes.chains d first buckets ≡ true)
+  IsGrown first buckets left = (entries : List (ℕ × ℕ)) × (g : Grows qsbr tabled sizes.chains d (w.seen old) (w.heard old) first buckets entries (w.heard new)) × (left ≡ length entries + 1) × (fits sizes.chains d first buckets ≡ true)
+      × MakesMany w old new (length entries + buckets + buckets_in (record_of g.left g.old) + 1)
 
   -- a new table is refused: a chain is not there, or was taken, or there was no memory or no record
   abbrev pub IsNotMade : (first buckets : ℕ) → Refusal → Type 0

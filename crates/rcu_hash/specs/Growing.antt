@@ -5,10 +5,10 @@ use Rattle.live_log.specs.declared.event.LiveEvent.{LiveEvent}
 use Rattle.live_log.specs.declared.event.LiveEvent.TheVariants.{ChainNote, Object}
 use Rattle.live_log.specs.declared.event.ObjectEvent.TheVariants.{Push, Replace}
 use Rattle.live_log.specs.Log.{Log, Begins, chain_note, record_of, state_of}
-use Rattle.live_log.specs.Tables.{Names}
+use Rattle.live_log.specs.Tables.{Names, reserved}
 use Rattle.rcu_list.specs.Maps.{words_of}
 use Rattle.rcu_hash.specs.Copies.{AreApart, value_among}
-use Rattle.rcu_hash.specs.Directories.{LeadsTo, directed_map}
+use Rattle.rcu_hash.specs.Directories.{LeadsTo, buckets_in, directed_map, first_in}
 use Rattle.rcu_hash.specs.Leaving.{LeavesMap, Writes}
 use Rattle.rcu_hash.specs.Naming.{words_by}
 use Rattle.rcu_hash.specs.Tables.{bucket_of}
@@ -39,13 +39,13 @@ abbrev pub NotesAll : (Log → LiveEvent → Log → Type 0) → (note first man
 NotesAll Tells note first zero heard log = Begins heard log
 NotesAll Tells note first (suc many) heard log = (at : Log) × Tells heard (ChainNote first note) at × NotesAll Tells note (first + 1) many at log
 
--- Each bucket of a new table got the table's note, and then its directory came into the directory's chain, all after
--- what the caller had seen and heard of.
+-- Each bucket of a new table was reserved for an object, which then came into the directory's chain as the directory, all
+-- after what the caller had seen and heard of.
 pub record Founds (qsbr : Bool) (allows : Log → LiveEvent → Type 0) (d : ℕ) (seen heard : Log) (first buckets : ℕ) (log : Log) : Type 0 where
   pub noted : Log
   pub object : ObjectId
   pub cell : ℕ
-  pub notes : NotesAll (Writes qsbr allows seen) (d + 1) first buckets heard noted
+  pub notes : NotesAll (Writes qsbr allows seen) (reserved object) first buckets heard noted
   pub pushed : Writes qsbr allows seen noted (Object (Push d object cell (words_by first buckets))) log
 
 -- by the rule of chains, the chains of the domain, the directory's chain, and what the caller had seen
@@ -61,12 +61,15 @@ module _ (qsbr : Bool) (allows : Log → LiveEvent → Type 0) (chains d : ℕ) 
     pub had : (key : ℕ) → directed_map chains d leaves.writes.before key ≡ value_among entries key
     pub apart : AreApart entries
 
-  -- Each key got a record in its new bucket, with ranks from 0 on, then each new bucket the table's note, and then another directory took the
-  -- place of the one that was linked. Each of these events left the table's map as it was.
+  -- Each key got a record in its new bucket, with ranks from 0 on; then each new bucket was reserved for an object, and
+  -- each bucket of the directory that was linked got the table's note; and then the object took that one's place. Each of
+  -- these events left the table's map as it was.
   pub record Grows (heard : Log) (first buckets : ℕ) (entries : List (ℕ × ℕ)) (log : Log) : Type 0 where
     pub copied : Log
     pub noted : Log
+    pub left : Log
     pub old : ObjectId
+    pub exchanges : Exchanges left old first buckets entries log
     pub copies : CopiesAll (LeavesMap qsbr allows chains d seen) first buckets 0 heard entries copied
-    pub notes : NotesAll (LeavesMap qsbr allows chains d seen) (d + 1) first buckets copied noted
-    pub exchanges : Exchanges noted old first buckets entries log
+    pub notes : NotesAll (LeavesMap qsbr allows chains d seen) (reserved exchanges.new) first buckets copied noted
+    pub leaves : NotesAll (LeavesMap qsbr allows chains d seen) (d + 1) (first_in (record_of left old)) (buckets_in (record_of left old)) noted left

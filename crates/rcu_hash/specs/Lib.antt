@@ -1,3 +1,4 @@
+pub mod Buckets
 pub mod Calls
 pub mod Copies
 pub mod Directories

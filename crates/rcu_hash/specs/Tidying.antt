@@ -100,13 +100,14 @@ callbacks_in [] = []
 callbacks_in (s ∷ ss) = callbacks_by s.0 ++ callbacks_in ss
 
 -- and which of them change a chain
-abbrev pub cut_by : Kind → ℕ
-cut_by (Cuts callback) = 1
-cut_by _ = 0
+abbrev pub change_by : Kind → ℕ
+change_by (Cuts callback) = 1
+change_by (Retires callback) = 0
+change_by Clears = 1
 
-abbrev pub cuts_in : List (Kind × Log) → ℕ
-cuts_in [] = 0
-cuts_in (s ∷ ss) = cut_by s.0 + cuts_in ss
+abbrev pub changes_in : List (Kind × Log) → ℕ
+changes_in [] = 0
+changes_in (s ∷ ss) = change_by s.0 + changes_in ss
 
 -- by the rule of chains, the sizes of the domain, the directory's chain, and what the caller had seen
 module _ (qsbr : Bool) (allows : Log → LiveEvent → Type 0) (sizes : Sizes) (d : ℕ) (seen : Log) where
@@ -145,14 +146,14 @@ module _ (qsbr : Bool) (allows : Log → LiveEvent → Type 0) (sizes : Sizes) (
   Follow heard (s ∷ ss) log = Does heard s.0 s.1 × Follow s.1 ss log
 
   -- Steps that used these callbacks, by their codes: from the back, each retirement the next one. No change was made for
-  -- the caller but one for each cut.
+  -- the caller but one for each cut and each note.
   pub record Uses {D W S : Type 0} (w : Ghosts W S) (code : D → Gv) (old new : W) (jobs left : List D) (heard log : Log) : Type 0 where
     pub used : List D
     pub are : jobs ≡ left ++ used
     pub steps : List (Kind × Log)
     pub follow : Follow heard steps log
     pub callbacks : callbacks_in steps ≡ map code (reverse used)
-    pub made : MakesMany w old new (cuts_in steps)
+    pub made : MakesMany w old new (changes_in steps)
 
 module _ {D W S : Type 0} (qsbr : Bool) (sizes : Sizes) (d : ℕ) (w : Ghosts W S) (code : D → Gv) (old new : W) (jobs left : List D) where
   -- in a call, after what its caller had heard of

@@ -4,7 +4,7 @@ use Rattle.std.specs.Coded.{×_prop}
 use Rattle.std.proofs.Props.{props}
 use Rattle.rcu_model.specs.declared.event.ObjectId.{ObjectId}
 use Rattle.rcu_model.specs.Sets.{In}
-use Rattle.live_log.specs.Log.{Log, Begins, IsLiveRun, chain_note, record_of}
+use Rattle.live_log.specs.Log.{Log, Begins, IsLiveRun, record_of}
 use Rattle.live_log.specs.Tables.{HasKey, tabled}
 use Rattle.rcu_list.specs.live_rule.Seats.{lent_chains}
 use Rattle.rcu_list.specs.live_rule.declared.rights.ChainRight.{ChainRight}
@@ -68,14 +68,6 @@ IsOutside first many v = ((own_in v.chains).chain < first) ⊎ (first + many ≤
 -- it has the same list of the same chain, in a log that goes on
 abbrev pub IsSame : View → View → Type 0
 IsSame v w = ((own_in w.chains).chain ≡ (own_in v.chains).chain) × (list_in w ≡ list_in v) × Begins v.seen w.seen
-
--- its chain got this note from none, after all that was in the log
-pub record Noted (heard : Log) (note : ℕ) (v : View) : Type 0 where
-  pub at : Log
-  pub after : Begins heard at
-  pub before : Begins at v.seen
-  pub was : chain_note (own_in v.chains).chain at ≡ 0
-  pub is : HasNote note v
 
 -- it is so of each pair
 abbrev pub Pairwise : {X : Type 0} → (X → X → Type 0) → List X → List X → Type 0

@@ -1,63 +1,50 @@
 //! A bucket of a table: a chain of keys, and which directory names it.
 
-ghost use Rattle.std.specs.Prelude.{◌≡◌, ◌%◌, [], ℕ, IfErr, IfOk};
-ghost use Rattle.rcu_model.specs.Sets.{In};
+ghost use Rattle.std.specs.Prelude.{◌≡◌, ◌%◌, ◌+◌, ◌<◌, ◌≤◌, ℕ, IfErr, IfOk};
 ghost use Rattle.rcu_model.specs.declared.event.ObjectId.{ObjectId};
-ghost use Rattle.live_log.specs.Log.{Begins, Log, record_of};
-ghost use Rattle.live_log.specs.Tables.{HasKey, tabled};
-ghost use Rattle.rcu_list.specs.live_rule.Seats.{lent_chains};
+ghost use Rattle.live_log.specs.Log.{Begins, Log};
+ghost use Rattle.live_log.specs.Tables.{tabled};
 ghost use Rattle.rcu_list.specs.live_read.Hearing.{IsAfter, MakesLast, OnlyHears};
-ghost use Rattle.rcu_list.specs.live_write.Chains.{list_in};
 ghost use Rattle.rcu_list.specs.Maps.{map_of};
 ghost use Rattle.rcu_list.specs.Calls.{HandsOver, TakesOneRecord};
 ghost use Rattle.rcu_hash.specs.Directories.{LeadsTo, directed_map};
-ghost use Rattle.rcu_hash.specs.Naming.{WasNamed};
+ghost use Rattle.rcu_hash.specs.Buckets.{IsBucket};
 ghost use Rattle.rcu_hash.specs.Publishing.{InsertsThrough, RemovesThrough, ReplacesThrough};
 ghost use Rattle.rcu_hash.specs.Refusing.{RefusesInsertionThrough, RefusesRemovalThrough, RefusesReplacementThrough};
 ghost use Rattle.rcu_hash.specs.Tables.{bucket_of};
 
-use crate::directory::{DirectoryLock, Naming};
+use crate::directory::Naming;
 use gp_memb::GracePlan;
 use live_log::Tabled;
 use rcu_list::{Caller, Chain, Deleter, Site, Ticket, prepare_insertion, prepare_replacement};
 use rcu_model::Refusal;
 use std::sync::Wait;
 
-/// A chain of keys, which its directory names.
+/// A chain of keys, which its directory has in use: so its writer may change it while it has the chain alone.
 #[derive(Drop)]
 pub(crate) struct Bucket<'d, P: GracePlan, B: Site, D: Drop> {
     pub(crate) chain: Chain<'d, P, Tabled, B, D>,
     pub(crate) naming: Naming,
-    pub(crate) ghost alone: { lent_chains chain.seat.me.0.chains ≡ [] },
-    pub(crate) ghost keys: { (o : ObjectId) → In (list_in chain.seat.me.0) o → HasKey (record_of chain.seat.me.0.seen o) },
-    pub(crate) ghost named: { ∥ WasNamed naming.directory naming.object chain.number chain.seat.me.0.seen ∥₁ },
+    pub(crate) ghost is: { IsBucket naming chain.seat.me.0 },
+    pub(crate) ghost fits: { (0 < naming.buckets) × (naming.first + naming.buckets ≤ B.sizes.chains) },
 }
 
 impl<'d, P: GracePlan + Drop, B: Site, D: Deleter> Bucket<'d, P, B, D> {
     /// The bucket's writer sees all that the caller has seen and heard of, and the caller hears of a log in which the
     /// bucket and its directory are as their writers know them.
-    pub(crate) fn hear<W: Caller<B>, R: Wait>(
-        &mut self,
-        rt: &R,
-        lock: &DirectoryLock<'d, P, B, D>,
-        caller: &mut W,
-    )
+    fn hear<W: Caller<B>>(&mut self, caller: &mut W)
         ensures told { IsAfter P.QSBR tabled (W.seen caller.old) (W.heard caller.old) (W.heard caller.new) × Begins self.old.chain.seat.me.0.seen (W.heard caller.new) × (W.heard caller.new ≡ self.new.chain.seat.me.0.seen) }
         ensures map { (key : ℕ) → directed_map B.sizes.chains self.old.naming.directory (W.heard caller.new) key ≡ map_of (W.heard caller.new) (bucket_of self.old.naming.first self.old.naming.buckets key) key }
         ensures leads { (key : ℕ) → LeadsTo self.old.naming.directory (W.heard caller.new) key (bucket_of self.old.naming.first self.old.naming.buckets key) }
         ensures same { OnlyHears W.Caller caller.old caller.new × (self.new.naming ≡ self.old.naming) × (self.new.chain.number ≡ self.old.chain.number) }
     {
-        let (mut place, directory) = lock.take(rt, self.naming);
-        let lent = directory.lend(&mut self.chain);
         self.chain.hear(caller);
-        *place = Some(lent.take_back(&mut self.chain));
     }
 
     /// As `RcuHash::insert`, of a key that the directory leads to this bucket.
     pub(crate) fn insert<W: Caller<B>, R: Wait>(
         &mut self,
         rt: &R,
-        lock: &DirectoryLock<'d, P, B, D>,
         caller: &mut W,
         key: u64,
         value: u64,
@@ -69,12 +56,9 @@ impl<'d, P: GracePlan + Drop, B: Site, D: Deleter> Bucket<'d, P, B, D> {
         ensures refused { IfErr result (λ e. RefusesInsertionThrough W.Caller P.QSBR tabled B.sizes caller.old caller.new e self.old.naming.directory key) }
         ensures same { (self.new.naming ≡ self.old.naming) × (self.new.chain.number ≡ self.old.chain.number) }
     {
-        self.hear(rt, lock, caller);
+        self.hear(caller);
         let owned = prepare_insertion(rt, &mut self.chain, caller, key, value)?;
-        let (mut place, directory) = lock.take(rt, self.naming);
-        let lent = directory.lend(&mut self.chain);
         self.chain.push(caller, owned);
-        *place = Some(lent.take_back(&mut self.chain));
         Ok(())
     }
 
@@ -82,7 +66,6 @@ impl<'d, P: GracePlan + Drop, B: Site, D: Deleter> Bucket<'d, P, B, D> {
     pub(crate) fn replace<W: Caller<B>, R: Wait>(
         &mut self,
         rt: &R,
-        lock: &DirectoryLock<'d, P, B, D>,
         caller: &mut W,
         key: u64,
         value: u64,
@@ -95,16 +78,13 @@ impl<'d, P: GracePlan + Drop, B: Site, D: Deleter> Bucket<'d, P, B, D> {
         ensures back { IfErr result (λ e. e.1 ≡ callback) }
         ensures same { (self.new.naming ≡ self.old.naming) × (self.new.chain.number ≡ self.old.chain.number) }
     {
-        self.hear(rt, lock, caller);
+        self.hear(caller);
         let (index, owned) = match prepare_replacement(rt, &mut self.chain, caller, key, value) {
             Ok(ready) => ready,
             Err(refusal) => return Err((refusal, callback)),
         };
         let domain = self.chain.domain();
-        let (mut place, directory) = lock.take(rt, self.naming);
-        let lent = directory.lend(&mut self.chain);
         let answer = domain.replace_retire(rt, caller, &mut self.chain, index, owned, callback);
-        *place = Some(lent.take_back(&mut self.chain));
         match answer {
             Ok(ticket) => Ok(ticket),
             Err((refusal, owned, callback)) => {
@@ -118,7 +98,6 @@ impl<'d, P: GracePlan + Drop, B: Site, D: Deleter> Bucket<'d, P, B, D> {
     pub(crate) fn remove<W: Caller<B>, R: Wait>(
         &mut self,
         rt: &R,
-        lock: &DirectoryLock<'d, P, B, D>,
         caller: &mut W,
         key: u64,
         callback: D,
@@ -130,15 +109,12 @@ impl<'d, P: GracePlan + Drop, B: Site, D: Deleter> Bucket<'d, P, B, D> {
         ensures back { IfErr result (λ e. e.1 ≡ callback) }
         ensures same { (self.new.naming ≡ self.old.naming) × (self.new.chain.number ≡ self.old.chain.number) }
     {
-        self.hear(rt, lock, caller);
+        self.hear(caller);
         let Some(index) = self.chain.index_of(key) else {
             return Err((Refusal::Missing, callback));
         };
         let domain = self.chain.domain();
-        let (mut place, directory) = lock.take(rt, self.naming);
-        let lent = directory.lend(&mut self.chain);
         let answer = domain.cut_retire(rt, caller, &mut self.chain, index, callback);
-        *place = Some(lent.take_back(&mut self.chain));
         answer
     }
 }

@@ -1,6 +1,6 @@
 //! The writer of a table's directory, and its lock.
 
-ghost use Rattle.std.specs.Prelude.{ℕ, ◌≡◌, ◌+◌, ◌<◌, ◌≤◌, ◌∷◌, [], true};
+ghost use Rattle.std.specs.Prelude.{ℕ, ◌≡◌, ◌≢◌, ◌+◌, ◌^◌, ◌<◌, ◌≤◌, ◌∷◌, [], true};
 ghost use Rattle.rcu_model.specs.Sets.{In};
 ghost use Rattle.live_log.specs.Log.{Begins, IsLiveRun, chain_note, record_of, state_of};
 ghost use Rattle.live_log.specs.Tables.{tabled};
@@ -51,7 +51,7 @@ pub(crate) struct Directory<'d, P: GracePlan, B: Site, D: Drop> {
     pub(crate) ghost own: { (chain.number ≡ naming.directory) × (lent_chains chain.seat.me.0.chains ≡ []) × ((own_in chain.seat.me.0.chains).note ≡ 0) },
     pub(crate) ghost alone: { list_in chain.seat.me.0 ≡ naming.object ∷ [] },
     pub(crate) ghost words: { (record_of chain.seat.me.0.seen naming.object).1 ≡ words_by naming.first naming.buckets },
-    pub(crate) ghost fits: { (0 < naming.buckets) × (naming.first + naming.buckets ≤ B.sizes.chains) },
+    pub(crate) ghost fits: { (0 < naming.buckets) × (naming.first + naming.buckets ≤ B.sizes.chains) × (naming.directory + 1 < 2 ^ 63) },
 }
 
 /// The same while another writer has the right to the chain.
@@ -59,7 +59,7 @@ pub(crate) struct LentDirectory<'d, P: GracePlan, B: Site, D: Drop> {
     pub(crate) lent: Lent<'d, P, Tabled, B, D>,
     pub(crate) naming: Naming,
     pub(crate) ghost own: { (lent.number ≡ naming.directory) × (lent.linked ≡ 1) },
-    pub(crate) ghost fits: { (0 < naming.buckets) × (naming.first + naming.buckets ≤ B.sizes.chains) },
+    pub(crate) ghost fits: { (0 < naming.buckets) × (naming.first + naming.buckets ≤ B.sizes.chains) × (naming.directory + 1 < 2 ^ 63) },
 }
 
 impl<'d, P: GracePlan, B: Site, D: Deleter> Directory<'d, P, B, D> {
@@ -99,11 +99,10 @@ impl<'d, P: GracePlan, B: Site, D: Deleter> LentDirectory<'d, P, B, D> {
 }
 
 impl<'d, P: GracePlan + Drop, B: Site, D: Deleter> Directory<'d, P, B, D> {
-    /// The caller hears of a log in which it is linked, and the chains that it names have its table's note. It never
-    /// waits.
+    /// The caller hears of a log in which it is linked, and the chains that it names have notes. It never waits.
     pub(crate) fn hear<W: Caller<B>>(&mut self, caller: &mut W)
         ensures linked { IsLinked self.old.naming.directory self.old.naming.object (W.heard caller.new) }
-        ensures noted { (c : ℕ) → IsAmong self.old.naming.first self.old.naming.buckets c → chain_note c (W.heard caller.new) ≡ self.old.naming.directory + 1 }
+        ensures noted { (c : ℕ) → IsAmong self.old.naming.first self.old.naming.buckets c → chain_note c (W.heard caller.new) ≢ 0 }
         ensures heard { IsAfter P.QSBR tabled (W.seen caller.old) (W.heard caller.old) (W.heard caller.new) }
         ensures told { Begins self.old.chain.seat.me.0.seen (W.heard caller.new) × (W.heard caller.new ≡ self.new.chain.seat.me.0.seen) }
         ensures same { OnlyHears W.Caller caller.old caller.new × (self.new.naming ≡ self.old.naming) }
@@ -143,11 +142,11 @@ impl<'d, P: GracePlan + Drop, B: Site, D: Deleter> DirectoryLock<'d, P, B, D> {
         unreachable!()
     }
 
-    /// The caller hears of a log in which this directory is linked, and the chains that it names have its table's note.
-    /// It waits for the directory's lock.
+    /// The caller hears of a log in which this directory is linked, and the chains that it names have notes. It waits for
+    /// the directory's lock.
     pub(crate) fn hear<W: Caller<B>, R: Wait>(&self, rt: &R, naming: Naming, caller: &mut W)
         ensures linked { IsLinked naming.directory naming.object (W.heard caller.new) }
-        ensures noted { (c : ℕ) → IsAmong naming.first naming.buckets c → chain_note c (W.heard caller.new) ≡ naming.directory + 1 }
+        ensures noted { (c : ℕ) → IsAmong naming.first naming.buckets c → chain_note c (W.heard caller.new) ≢ 0 }
         ensures heard { IsAfter P.QSBR tabled (W.seen caller.old) (W.heard caller.old) (W.heard caller.new) }
         ensures same { OnlyHears W.Caller caller.old caller.new }
     {

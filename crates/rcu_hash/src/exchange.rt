@@ -3,16 +3,17 @@
 ghost use Rattle.std.specs.Prelude.{◌≡◌, ◌⊎◌, ◌+◌, ◌<◌, ◌≤◌, ◌∷◌, [], ℕ, List, map, vec_capacity, vec_len};
 ghost use Rattle.live_log.specs.declared.event.LiveEvent.TheVariants.{Object};
 ghost use Rattle.live_log.specs.declared.event.ObjectEvent.TheVariants.{Replace};
-ghost use Rattle.live_log.specs.Log.{Log, record_of, state_of};
-ghost use Rattle.live_log.specs.Tables.{tabled};
+ghost use Rattle.live_log.specs.Log.{record_of, state_of};
+ghost use Rattle.live_log.specs.Tables.{reserved, tabled};
 ghost use Rattle.rcu_list.specs.live_table.Rights.{object_in, payload_in};
 ghost use Rattle.rcu_list.specs.live_read.Hearing.{OnlyMakesLast};
 ghost use Rattle.rcu_hash.specs.Copies.{AreApart, value_among, value_in_bucket};
 ghost use Rattle.rcu_hash.specs.Growing.{Exchanges};
 ghost use Rattle.rcu_hash.specs.Leaving.{Writes};
-ghost use Rattle.rcu_hash.specs.Naming.{IsNamedBy, words_by};
+ghost use Rattle.rcu_hash.specs.Buckets.{IsBucket};
+ghost use Rattle.rcu_hash.specs.Naming.{words_by};
 ghost use Rattle.rcu_hash.specs.Tidying.{IsRecord};
-ghost use Rattle.rcu_hash.specs.Writers.{AreFrom, Each, HasKeysIn, HasNote, IsAlone, Noted};
+ghost use Rattle.rcu_hash.specs.Writers.{AreFrom, Each, HasKeysIn, HasNote, IsAlone};
 
 use crate::directory::{Directory, Naming};
 use crate::rights::{lend_all, take_all_back};
@@ -29,8 +30,8 @@ pub(crate) struct Lenders<'d, P: GracePlan, B: Site, D: Drop> {
     pub(crate) ghost room: { (lents.items ≡ []) × (vec_len chains ≤ vec_capacity lents) × (back.items ≡ []) × (vec_len chains ≤ vec_capacity back) },
 }
 
-/// Another directory, which names the second chains, takes the place of this one, which names the first ones; for that
-/// they all lend it their rights. Answers it, the record that it replaced, and the writers. The caller hears of that.
+/// Another directory, for which the second chains are reserved, takes the place of this one, which names the first ones,
+/// and has left them; for that they all lend it their rights. Answers it, the record that it replaced, and the writers. The caller hears of that.
 /// It never waits.
 pub(crate) fn exchange<'d, P: GracePlan + Drop, B: Site, D: Deleter, W: Caller<B>>(
     directory: Directory<'d, P, B, D>,
@@ -48,7 +49,7 @@ pub(crate) fn exchange<'d, P: GracePlan + Drop, B: Site, D: Deleter, W: Caller<B
     requires olds { (vec_len olds.chains ≡ directory.naming.buckets) × AreFrom directory.naming.first (map (λ c. c.seat.me.0) olds.chains.items) × Each IsAlone (map (λ c. c.seat.me.0) olds.chains.items) × Each HasKeysIn (map (λ c. c.seat.me.0) olds.chains.items) }
     requires news { (0 < vec_len news.chains) × (first + vec_len news.chains ≤ B.sizes.chains) × AreFrom first (map (λ c. c.seat.me.0) news.chains.items) × Each IsAlone (map (λ c. c.seat.me.0) news.chains.items) × Each HasKeysIn (map (λ c. c.seat.me.0) news.chains.items) }
     requires apart { ((directory.naming.directory < first) ⊎ (first + vec_len news.chains ≤ directory.naming.directory)) × ((directory.naming.first + directory.naming.buckets ≤ first) ⊎ (first + vec_len news.chains ≤ directory.naming.first)) }
-    requires noted { (heard : Log) × ((state_of heard).chain directory.naming.directory ≡ directory.naming.object ∷ []) × Each (Noted heard (directory.naming.directory + 1)) (map (λ c. c.seat.me.0) news.chains.items) }
+    requires noted { Each (HasNote (directory.naming.directory + 1)) (map (λ c. c.seat.me.0) olds.chains.items) × Each (HasNote (reserved (object_in owned.seat.me.0.object))) (map (λ c. c.seat.me.0) news.chains.items) }
     requires record { payload_in owned.seat.me.0.object ≡ words_by first (vec_len news.chains) }
     requires same { (key : ℕ) → value_in_bucket (vec_len news.chains) (map (λ c. c.seat.me.0) news.chains.items) key ≡ value_in_bucket (vec_len olds.chains) (map (λ c. c.seat.me.0) olds.chains.items) key }
     ensures directory { result.0.naming ≡ record { directory = directory.entry.naming.directory; object = object_in owned.seat.me.0.object; first = first; buckets = vec_len news.entry.chains } }
@@ -57,8 +58,8 @@ pub(crate) fn exchange<'d, P: GracePlan + Drop, B: Site, D: Deleter, W: Caller<B
     ensures told { W.heard caller.new ≡ result.0.chain.seat.me.0.seen }
     ensures wrote { (cell : ℕ) × (w : Writes P.QSBR tabled (W.seen caller.old) (W.heard caller.old) (Object (Replace directory.entry.naming.directory directory.entry.naming.object (object_in owned.seat.me.0.object) cell (words_by first (vec_len news.entry.chains)))) (W.heard caller.new)) × ((state_of w.before).chain directory.entry.naming.directory ≡ directory.entry.naming.object ∷ []) × ((record_of w.before directory.entry.naming.object).1 ≡ words_by directory.entry.naming.first directory.entry.naming.buckets) }
     ensures olds { (vec_len result.2 ≡ vec_len olds.entry.chains) × AreFrom directory.entry.naming.first (map (λ c. c.seat.me.0) result.2.items) × Each IsAlone (map (λ c. c.seat.me.0) result.2.items) × Each HasKeysIn (map (λ c. c.seat.me.0) result.2.items) × Each (HasNote (directory.entry.naming.directory + 1)) (map (λ c. c.seat.me.0) result.2.items) }
-    ensures news { (vec_len result.3 ≡ vec_len news.entry.chains) × AreFrom first (map (λ c. c.seat.me.0) result.3.items) × Each IsAlone (map (λ c. c.seat.me.0) result.3.items) × Each HasKeysIn (map (λ c. c.seat.me.0) result.3.items) × Each (IsNamedBy directory.entry.naming.directory (object_in owned.seat.me.0.object)) (map (λ c. c.seat.me.0) result.3.items) }
-    ensures grown { (entries : List (ℕ × ℕ)) → AreApart entries → ((key : ℕ) → value_in_bucket (vec_len olds.entry.chains) (map (λ c. c.seat.me.0) olds.entry.chains.items) key ≡ value_among entries key) → Exchanges P.QSBR tabled B.sizes.chains directory.entry.naming.directory (W.seen caller.old) (W.heard caller.old) directory.entry.naming.object first (vec_len news.entry.chains) entries (W.heard caller.new) }
+    ensures news { (vec_len result.3 ≡ vec_len news.entry.chains) × Each (IsBucket result.0.naming) (map (λ c. c.seat.me.0) result.3.items) }
+    ensures grown { (entries : List (ℕ × ℕ)) → AreApart entries → ((key : ℕ) → value_in_bucket (vec_len olds.entry.chains) (map (λ c. c.seat.me.0) olds.entry.chains.items) key ≡ value_among entries key) → (e : Exchanges P.QSBR tabled B.sizes.chains directory.entry.naming.directory (W.seen caller.old) (W.heard caller.old) directory.entry.naming.object first (vec_len news.entry.chains) entries (W.heard caller.new)) × (e.new ≡ object_in owned.seat.me.0.object) }
     ensures same { OnlyMakesLast W.Caller caller.old caller.new (W.heard caller.new) }
 {
     let Directory { mut chain, naming } = directory;

@@ -2,18 +2,20 @@
 
 ghost use Rattle.std.specs.Prelude.{◌≡◌, ◌⊎◌, ◌+◌, ◌<◌, ◌≤◌, ◌^◌, ◌++◌, [], ℕ, List, IfErr, IfOk, map, vec_capacity, vec_len};
 ghost use Rattle.std.specs.Sync.RwLock.{write_guard_value};
-ghost use Rattle.live_log.specs.Log.{Begins, Log};
+ghost use Rattle.live_log.specs.Log.{Begins, Log, record_of};
 ghost use Rattle.live_log.specs.Tables.{tabled};
 ghost use Rattle.rcu_list.specs.live_table.Rights.{payload_in};
-ghost use Rattle.rcu_list.specs.live_read.Hearing.{MakesMany, OnlyMakesMany, Stays};
+ghost use Rattle.rcu_list.specs.live_read.Hearing.{OnlyMakesMany, Stays};
 ghost use Rattle.rcu_hash.specs.Copies.{AreApart, AreRanked, value_among, value_in_bucket};
+ghost use Rattle.rcu_hash.specs.Directories.{buckets_in};
 ghost use Rattle.rcu_hash.specs.Freeing.{KeepsRecords};
-ghost use Rattle.rcu_hash.specs.Growing.{Grows};
+ghost use Rattle.rcu_hash.specs.Growing.{Grows, NotesAll};
+ghost use Rattle.rcu_hash.specs.Leaving.{Writes};
 ghost use Rattle.rcu_hash.specs.Naming.{words_by};
 ghost use Rattle.rcu_hash.specs.Refusing.{During, FindsFree};
 ghost use Rattle.rcu_hash.specs.Tables.{IsAmong, are_apart};
 ghost use Rattle.rcu_hash.specs.Tidying.{IsLinked, IsTidied};
-ghost use Rattle.rcu_hash.specs.Writers.{AreFrom, Each, HasKeysIn, IsAlone, IsEmpty};
+ghost use Rattle.rcu_hash.specs.Writers.{AreFrom, Each, HasNote, IsAlone, IsEmpty, IsRunIn, IsSame, Pairwise};
 ghost use Rattle.rcu_hash.specs.Calls.{IsGrown, IsNotGrown};
 
 use crate::bucket::Bucket;
@@ -22,7 +24,7 @@ use crate::copying::fill;
 use crate::directory::{DirectoryLock, Naming};
 use crate::exchange::{Lenders, exchange};
 use crate::growth::Growth;
-use crate::making::{into_buckets, note_all};
+use crate::making::{into_buckets, reserve_all};
 use crate::old_table::OldTable;
 use crate::table::{RcuHash, fits};
 use gp_memb::GracePlan;
@@ -40,14 +42,22 @@ fn are_apart(naming: Naming, first: usize, buckets: usize) -> bool
     naming.first + naming.buckets <= first || first + buckets <= naming.first
 }
 
-/// The writers of the buckets' chains. There is room for them.
-fn chains_of<'d, P: GracePlan + Drop, B: Site, D: Deleter>(
+/// The writers of the buckets' chains, which the directory leaves: each gets the table's note. There is room for them.
+/// The caller hears of that. It never waits.
+fn leave_all<'d, P: GracePlan + Drop, B: Site, D: Deleter, W: Caller<B>>(
     taken: Vec<Bucket<'d, P, B, D>>,
     mut chains: Vec<Chain<'d, P, Tabled, B, D>>,
+    caller: &mut W,
+    naming: Naming,
 ) -> Vec<Chain<'d, P, Tabled, B, D>>
-    requires { (chains.items ≡ []) × (vec_len taken ≤ vec_capacity chains) }
-    ensures same { map (λ c. c.seat.me.0) result.items ≡ map (λ b. b.chain.seat.me.0) taken.entry.items }
-    ensures known { (vec_len result ≡ vec_len taken.entry) × Each IsAlone (map (λ c. c.seat.me.0) result.items) × Each HasKeysIn (map (λ c. c.seat.me.0) result.items) }
+    requires room { (chains.items ≡ []) × (vec_len taken ≤ vec_capacity chains) }
+    requires taken { Each (λ b. b.naming ≡ naming) taken.items }
+    requires low { naming.directory + 1 < 2 ^ 63 }
+    ensures left { (vec_len result ≡ vec_len taken.entry) × Pairwise IsSame (map (λ b. b.chain.seat.me.0) taken.entry.items) (map (λ c. c.seat.me.0) result.items) × Each (HasNote (naming.directory + 1)) (map (λ c. c.seat.me.0) result.items) × Each IsAlone (map (λ c. c.seat.me.0) result.items) }
+    ensures told { (first : ℕ) → AreFrom first (map (λ b. b.chain.seat.me.0) taken.entry.items) → NotesAll (Writes P.QSBR tabled (W.seen caller.old)) (naming.directory + 1) first (vec_len taken.entry) (W.heard caller.old) (W.heard caller.new) }
+    ensures runs { Each (IsRunIn P.QSBR) (map (λ c. c.seat.me.0) result.items) }
+    ensures heard { Begins (W.heard caller.old) (W.heard caller.new) }
+    ensures same { OnlyMakesMany W.Caller caller.old caller.new (vec_len taken.entry) }
 {
     let many = taken.len();
     let mut rest = taken.into_iter();
@@ -55,7 +65,11 @@ fn chains_of<'d, P: GracePlan + Drop, B: Site, D: Deleter>(
         let Some(bucket) = rest.next() else {
             unreachable!()
         };
-        let Bucket { chain, naming: _ } = bucket;
+        let Bucket {
+            mut chain,
+            naming: _,
+        } = bucket;
+        chain.set_note(caller, naming.directory as u64 + 1);
         chains.push_reserved(chain);
     }
     chains
@@ -74,14 +88,14 @@ fn commit<'d, P: GracePlan + Drop, B: Site, D: Deleter, W: Caller<B>, R: Wait>(
 ) -> OldTable<'d, P, B, D>
     requires tidied { (start : Log) × Begins start (W.heard caller.old) × IsLinked array.old.naming.directory array.old.naming.object start × IsTidied array.old.naming.directory start }
     requires reserved { (array.old.naming.buckets ≤ vec_capacity growth.reserved.olds) × (array.old.naming.buckets ≤ vec_capacity growth.reserved.returned) × (vec_len growth.chains ≤ vec_capacity growth.reserved.noted) × (vec_len growth.chains ≤ vec_capacity growth.reserved.named) × (vec_len growth.chains ≤ vec_capacity growth.reserved.places) }
-    requires taken { (vec_len growth.taken ≡ array.old.naming.buckets) × AreFrom array.old.naming.first (map (λ b. b.chain.seat.me.0) growth.taken.items) }
+    requires taken { (vec_len growth.taken ≡ array.old.naming.buckets) × AreFrom array.old.naming.first (map (λ b. b.chain.seat.me.0) growth.taken.items) × Each (λ b. b.naming ≡ array.old.naming) growth.taken.items }
     requires copied { ((key : ℕ) → value_among (map (λ c. (c.key, c.value)) growth.copied.items) key ≡ value_in_bucket array.old.naming.buckets (map (λ b. b.chain.seat.me.0) growth.taken.items) key) × AreApart (map (λ c. (c.key, c.value)) growth.copied.items) × AreRanked 0 (map (λ c. c.rank) growth.copied.items) }
     requires chains { (0 < vec_len growth.chains) × (first + vec_len growth.chains ≤ B.sizes.chains) × AreFrom first (map (λ c. c.seat.me.0) growth.chains.items) × Each IsEmpty (map (λ c. c.seat.me.0) growth.chains.items) × Each IsAlone (map (λ c. c.seat.me.0) growth.chains.items) }
     requires record { (payload_in growth.owned.seat.me.0.object ≡ words_by first (vec_len growth.chains)) × (growth.old_lents.items ≡ []) × (array.old.naming.buckets ≤ vec_capacity growth.old_lents) × (growth.new_lents.items ≡ []) × (vec_len growth.chains ≤ vec_capacity growth.new_lents) }
     requires apart { ((array.old.naming.directory < first) ⊎ (first + vec_len growth.chains ≤ array.old.naming.directory)) × ((array.old.naming.first + array.old.naming.buckets ≤ first) ⊎ (first + vec_len growth.chains ≤ array.old.naming.first)) }
-    ensures grown { Grows P.QSBR tabled B.sizes.chains array.old.naming.directory (W.seen caller.old) (W.heard caller.old) first (vec_len growth.entry.chains) (map (λ c. (c.key, c.value)) growth.entry.copied.items) (W.heard caller.new) }
+    ensures grown { (g : Grows P.QSBR tabled B.sizes.chains array.old.naming.directory (W.seen caller.old) (W.heard caller.old) first (vec_len growth.entry.chains) (map (λ c. (c.key, c.value)) growth.entry.copied.items) (W.heard caller.new)) × (buckets_in (record_of g.left g.old) ≡ array.old.naming.buckets) }
     ensures left { result.naming.directory ≡ array.old.naming.directory }
-    ensures same { OnlyMakesMany W.Caller caller.old caller.new (vec_len growth.entry.copied + 1) }
+    ensures same { OnlyMakesMany W.Caller caller.old caller.new (vec_len growth.entry.copied + vec_len growth.entry.chains + array.old.naming.buckets + 1) }
 {
     let Growth {
         reserved,
@@ -95,18 +109,14 @@ fn commit<'d, P: GracePlan + Drop, B: Site, D: Deleter, W: Caller<B>, R: Wait>(
     let (mut place, mut directory) = lock.take(rt, array.naming);
     directory.chain.hear(caller);
     fill(&mut chains, caller, copied);
+    let (owned, chains) = reserve_all(chains, reserved.noted, caller, owned);
     let olds = Lenders {
-        chains: chains_of(taken, reserved.olds),
+        chains: leave_all(taken, reserved.olds, caller, array.naming),
         lents: old_lents,
         back: reserved.returned,
     };
     let news = Lenders {
-        chains: note_all(
-            chains,
-            reserved.noted,
-            caller,
-            array.naming.directory as u64 + 1,
-        ),
+        chains,
         lents: new_lents,
         back: reserved.named,
     };
@@ -165,7 +175,7 @@ impl<'d, P: GracePlan + Drop, B: Site, D: Deleter> RcuHash<'d, P, B, D> {
         ensures heard { Begins (W.heard caller.old) (W.heard caller.new) }
         ensures looks { KeepsRecords W.Caller B.sizes caller.old caller.new result.1 (λ left. left) }
         ensures loads { ((logs : List Log) × (W.loads caller.new ≡ logs ++ W.loads caller.old)) × IfOk result.1 (λ _. W.loads caller.new ≡ W.loads caller.old) }
-        ensures changes { IfOk result.1 (λ left. MakesMany W.Caller caller.old caller.new left) × IfErr result.1 (λ _. Stays W.Caller caller.old caller.new) }
+        ensures changes { IfErr result.1 (λ _. Stays W.Caller caller.old caller.new) }
     {
         if left.chains.len() != 0 {
             return (left.hear(rt, &self.lock, caller), Err(Refusal::Busy));
@@ -223,7 +233,7 @@ impl<'d, P: GracePlan + Drop, B: Site, D: Deleter> RcuHash<'d, P, B, D> {
         ensures heard { Begins (W.heard caller.old) (W.heard caller.new) }
         ensures looks { KeepsRecords W.Caller B.sizes caller.old caller.new result (λ left. left) }
         ensures loads { ((logs : List Log) × (W.loads caller.new ≡ logs ++ W.loads caller.old)) × IfOk result (λ _. W.loads caller.new ≡ W.loads caller.old) }
-        ensures changes { IfOk result (λ left. MakesMany W.Caller caller.old caller.new left) × IfErr result (λ _. Stays W.Caller caller.old caller.new) }
+        ensures changes { IfErr result (λ _. Stays W.Caller caller.old caller.new) }
     {
         let (mut place, left) = self.take_left(rt);
         let (left, answer) = self.grow_over(rt, alloc, caller, left, first, buckets);

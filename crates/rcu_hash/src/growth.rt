@@ -82,7 +82,7 @@ fn copy_all<'d, P: GracePlan + Drop, B: Site, D: Deleter, W: Caller<B>, R: Wait>
 ) -> Result<(), Refusal>
     requires room { (taken.old.items ≡ []) × (array.now.naming.buckets ≤ vec_capacity taken.old) × (copied.old.items ≡ []) }
     ensures copied { IfOk result (λ _. ((key : ℕ) → value_among (map (λ c. (c.key, c.value)) copied.new.items) key ≡ value_in_bucket array.now.naming.buckets (map (λ b. b.chain.seat.me.0) taken.new.items) key) × AreApart (map (λ c. (c.key, c.value)) copied.new.items) × AreRanked 0 (map (λ c. c.rank) copied.new.items)) }
-    ensures taken { IfOk result (λ _. (vec_len taken.new ≡ array.now.naming.buckets) × AreFrom array.now.naming.first (map (λ b. b.chain.seat.me.0) taken.new.items)) }
+    ensures taken { IfOk result (λ _. (vec_len taken.new ≡ array.now.naming.buckets) × AreFrom array.now.naming.first (map (λ b. b.chain.seat.me.0) taken.new.items) × Each (λ b. b.naming ≡ array.now.naming) taken.new.items) }
     ensures many { vec_len taken.new ≤ array.now.naming.buckets }
     ensures refused { IfErr result (λ e. (e ≡ Memory) ⊎ (e ≡ PoolFull)) }
     ensures looks { (found : List Look) × (W.looks caller.new ≡ found ++ W.looks caller.old) × FreesAllBut B.sizes (map (λ c. cell_in c.owned.seat.me.0.object) copied.new.items) found × IfErr result (λ e. (e ≡ PoolFull) → NoRecordIsFree B.sizes found) }
@@ -194,7 +194,7 @@ impl<'d, P: GracePlan + Drop, B: Site, D: Deleter> Growth<'d, P, B, D> {
     ) -> Result<Growth<'d, P, B, D>, Refusal>
         requires range { first + buckets ≤ B.sizes.chains }
         ensures reserved { IfOk result (λ g. (array.now.naming.buckets ≤ vec_capacity g.reserved.olds) × (array.now.naming.buckets ≤ vec_capacity g.reserved.returned) × (buckets ≤ vec_capacity g.reserved.noted) × (buckets ≤ vec_capacity g.reserved.named) × (buckets ≤ vec_capacity g.reserved.places)) }
-        ensures taken { IfOk result (λ g. (vec_len g.taken ≡ array.now.naming.buckets) × AreFrom array.now.naming.first (map (λ b. b.chain.seat.me.0) g.taken.items)) }
+        ensures taken { IfOk result (λ g. (vec_len g.taken ≡ array.now.naming.buckets) × AreFrom array.now.naming.first (map (λ b. b.chain.seat.me.0) g.taken.items) × Each (λ b. b.naming ≡ array.now.naming) g.taken.items) }
         ensures copied { IfOk result (λ g. ((key : ℕ) → value_among (map (λ c. (c.key, c.value)) g.copied.items) key ≡ value_in_bucket array.now.naming.buckets (map (λ b. b.chain.seat.me.0) g.taken.items) key) × AreApart (map (λ c. (c.key, c.value)) g.copied.items) × AreRanked 0 (map (λ c. c.rank) g.copied.items)) }
         ensures chains { IfOk result (λ g. (vec_len g.chains ≡ buckets) × AreFrom first (map (λ c. c.seat.me.0) g.chains.items) × Each IsEmpty (map (λ c. c.seat.me.0) g.chains.items) × Each IsAlone (map (λ c. c.seat.me.0) g.chains.items)) }
         ensures record { IfOk result (λ g. (payload_in g.owned.seat.me.0.object ≡ words_by first buckets) × (g.old_lents.items ≡ []) × (array.now.naming.buckets ≤ vec_capacity g.old_lents) × (g.new_lents.items ≡ []) × (buckets ≤ vec_capacity g.new_lents)) }

@@ -1,24 +1,25 @@
 //! How a table takes its chains, and how a directory comes to name them.
 
-ghost use Rattle.std.specs.Prelude.{◌≡◌, ◌⊎◌, ◌+◌, ◌<◌, ◌≤◌, ◌∷◌, ◌++◌, [], ℕ, List, None, IfErr, IfOk, map, vec_capacity, vec_len};
+ghost use Rattle.std.specs.Prelude.{◌≡◌, ◌⊎◌, ◌+◌, ◌^◌, ◌<◌, ◌≤◌, ◌∷◌, ◌++◌, [], ℕ, List, None, IfErr, IfOk, map, vec_capacity, vec_len};
 ghost use Rattle.rcu_model.specs.declared.refusal.Refusal.TheVariants.{BadConfig, Memory};
 ghost use Rattle.live_log.specs.declared.event.LiveEvent.TheVariants.{Object};
 ghost use Rattle.live_log.specs.declared.event.ObjectEvent.TheVariants.{Push};
 ghost use Rattle.live_log.specs.Log.{Begins, IsLiveRun};
-ghost use Rattle.live_log.specs.Tables.{tabled};
+ghost use Rattle.live_log.specs.Tables.{reserved, tabled};
 ghost use Rattle.rcu_list.specs.live_rule.declared.view.Look.{Look};
 ghost use Rattle.rcu_list.specs.live_rule.declared.view.Look.TheVariants.{Loaded, Stored};
 ghost use Rattle.rcu_list.specs.live_rule.Places.{hold_at};
 ghost use Rattle.rcu_list.specs.live_table.Rights.{object_in, payload_in};
-ghost use Rattle.rcu_list.specs.live_read.Hearing.{IsAfter, OnlyHears, OnlyMakesLast, Stays};
+ghost use Rattle.rcu_list.specs.live_read.Hearing.{IsAfter, OnlyMakesLast, OnlyMakesMany, Stays};
 ghost use Rattle.rcu_hash.specs.Directories.{LeadsTo, directed_map};
 ghost use Rattle.rcu_hash.specs.Freeing.{FreesAll};
 ghost use Rattle.rcu_hash.specs.Growing.{NotesAll};
 ghost use Rattle.rcu_hash.specs.Leaving.{Writes};
-ghost use Rattle.rcu_hash.specs.Naming.{IsNamedBy, words_by};
+ghost use Rattle.rcu_hash.specs.Buckets.{IsBucket};
+ghost use Rattle.rcu_hash.specs.Naming.{words_by};
 ghost use Rattle.rcu_hash.specs.Refusing.{FindsFree, FindsTaken, IsUnused};
 ghost use Rattle.rcu_hash.specs.Tables.{IsAmong, bucket_of};
-ghost use Rattle.rcu_hash.specs.Writers.{AreFrom, Each, HasKeysIn, HasNoNote, HasNote, HasNothing, IsAlone, IsEmpty, IsRunIn, IsSame, Noted, Pairwise};
+ghost use Rattle.rcu_hash.specs.Writers.{AreFrom, Each, HasNoNote, HasNote, HasNothing, IsAlone, IsEmpty, IsRunIn, IsSame, Pairwise};
 
 use crate::bucket::Bucket;
 use crate::bucket_array::Place;
@@ -95,37 +96,39 @@ pub(crate) fn hold_all<'d, P: GracePlan + Drop, B: Site, D: Deleter, W: Caller<B
     Ok(chains)
 }
 
-/// The chains of these writers get this note, from none. There is room for the writers. The caller hears of that. It
-/// never waits.
-pub(crate) fn note_all<'d, P: GracePlan + Drop, B: Site, D: Deleter, W: Caller<B>>(
+/// The chains of these writers, which have no note, are reserved for the object of a record, which comes back. There is
+/// room for the writers. The caller hears of that. It never waits.
+pub(crate) fn reserve_all<'d, P: GracePlan + Drop, B: Site, D: Deleter, W: Caller<B>>(
     chains: Vec<Chain<'d, P, Tabled, B, D>>,
-    mut noted: Vec<Chain<'d, P, Tabled, B, D>>,
+    mut kept: Vec<Chain<'d, P, Tabled, B, D>>,
     caller: &mut W,
-    note: u64,
-) -> Vec<Chain<'d, P, Tabled, B, D>>
-    requires room { (noted.items ≡ []) × (vec_len chains ≤ vec_capacity noted) }
+    owned: Owned<B>,
+) -> (Owned<B>, Vec<Chain<'d, P, Tabled, B, D>>)
+    requires room { (kept.items ≡ []) × (vec_len chains ≤ vec_capacity kept) }
     requires chains { Each HasNoNote (map (λ c. c.seat.me.0) chains.items) × Each IsAlone (map (λ c. c.seat.me.0) chains.items) }
-    ensures noted { (vec_len result ≡ vec_len chains.entry) × Pairwise IsSame (map (λ c. c.seat.me.0) chains.entry.items) (map (λ c. c.seat.me.0) result.items) × Each (Noted (W.heard caller.old) note) (map (λ c. c.seat.me.0) result.items) × Each IsAlone (map (λ c. c.seat.me.0) result.items) }
-    ensures told { (first : ℕ) → AreFrom first (map (λ c. c.seat.me.0) chains.entry.items) → NotesAll (Writes P.QSBR tabled (W.seen caller.old)) note first (vec_len chains.entry) (W.heard caller.old) (W.heard caller.new) }
-    ensures runs { Each (IsRunIn P.QSBR) (map (λ c. c.seat.me.0) result.items) }
+    ensures owned { result.0.seat.me.0.object ≡ owned.seat.me.0.object }
+    ensures kept { (vec_len result.1 ≡ vec_len chains.entry) × Pairwise IsSame (map (λ c. c.seat.me.0) chains.entry.items) (map (λ c. c.seat.me.0) result.1.items) × Each (HasNote (reserved (object_in owned.seat.me.0.object))) (map (λ c. c.seat.me.0) result.1.items) × Each IsAlone (map (λ c. c.seat.me.0) result.1.items) }
+    ensures told { (first : ℕ) → AreFrom first (map (λ c. c.seat.me.0) chains.entry.items) → NotesAll (Writes P.QSBR tabled (W.seen caller.old)) (reserved (object_in owned.seat.me.0.object)) first (vec_len chains.entry) (W.heard caller.old) (W.heard caller.new) }
+    ensures runs { Each (IsRunIn P.QSBR) (map (λ c. c.seat.me.0) result.1.items) }
     ensures heard { Begins (W.heard caller.old) (W.heard caller.new) }
-    ensures same { OnlyHears W.Caller caller.old caller.new }
+    ensures same { OnlyMakesMany W.Caller caller.old caller.new (vec_len chains.entry) }
 {
     let many = chains.len();
+    let mut owned = owned;
     let mut rest = chains.into_iter();
     for _ in 0..many {
         let Some(mut chain) = rest.next() else {
             unreachable!()
         };
-        chain.set_note(caller, note);
-        noted.push_reserved(chain);
+        owned = chain.reserve(caller, owned);
+        kept.push_reserved(chain);
     }
-    noted
+    (owned, kept)
 }
 
-/// A directory of these chains: a push of its record into its own chain, for which they all lend their rights. There is
-/// room for what is left of the writers then, and for them when they have their rights again. The caller hears of the
-/// push. It never waits.
+/// A directory of these chains, which are reserved for it: a push of its record into its own chain, for which they all
+/// lend their rights. There is room for what is left of the writers then, and for them when they have their rights
+/// again. The caller hears of the push. It never waits.
 pub(crate) fn direct<'d, P: GracePlan + Drop, B: Site, D: Deleter, W: Caller<B>>(
     mut chain: Chain<'d, P, Tabled, B, D>,
     chains: Vec<Chain<'d, P, Tabled, B, D>>,
@@ -137,12 +140,12 @@ pub(crate) fn direct<'d, P: GracePlan + Drop, B: Site, D: Deleter, W: Caller<B>>
 ) -> (Directory<'d, P, B, D>, Vec<Chain<'d, P, Tabled, B, D>>)
     requires room { (lents.items ≡ []) × (vec_len chains ≤ vec_capacity lents) × (back.items ≡ []) × (vec_len chains ≤ vec_capacity back) }
     requires own { IsEmpty chain.seat.me.0 × IsAlone chain.seat.me.0 × IsLiveRun P.QSBR tabled chain.seat.me.0.seen }
-    requires range { (0 < vec_len chains) × (first + vec_len chains ≤ B.sizes.chains) × ((chain.number < first) ⊎ (first + vec_len chains ≤ chain.number)) }
-    requires chains { AreFrom first (map (λ c. c.seat.me.0) chains.items) × Each HasNothing (map (λ c. c.seat.me.0) chains.items) × Each (HasNote (chain.number + 1)) (map (λ c. c.seat.me.0) chains.items) × Each IsAlone (map (λ c. c.seat.me.0) chains.items) }
+    requires range { (0 < vec_len chains) × (first + vec_len chains ≤ B.sizes.chains) × ((chain.number < first) ⊎ (first + vec_len chains ≤ chain.number)) × (chain.number + 1 < 2 ^ 63) }
+    requires chains { AreFrom first (map (λ c. c.seat.me.0) chains.items) × Each HasNothing (map (λ c. c.seat.me.0) chains.items) × Each (HasNote (reserved (object_in owned.seat.me.0.object))) (map (λ c. c.seat.me.0) chains.items) × Each IsAlone (map (λ c. c.seat.me.0) chains.items) }
     requires record { payload_in owned.seat.me.0.object ≡ words_by first (vec_len chains) }
     ensures told { W.heard caller.new ≡ result.0.chain.seat.me.0.seen }
     ensures directory { result.0.naming ≡ record { directory = chain.entry.number; object = object_in owned.seat.me.0.object; first = first; buckets = vec_len chains.entry } }
-    ensures chains { (vec_len result.1 ≡ vec_len chains.entry) × AreFrom first (map (λ c. c.seat.me.0) result.1.items) × Each IsAlone (map (λ c. c.seat.me.0) result.1.items) × Each HasKeysIn (map (λ c. c.seat.me.0) result.1.items) × Each (IsNamedBy chain.entry.number (object_in owned.seat.me.0.object)) (map (λ c. c.seat.me.0) result.1.items) }
+    ensures chains { (vec_len result.1 ≡ vec_len chains.entry) × Each (IsBucket result.0.naming) (map (λ c. c.seat.me.0) result.1.items) }
     ensures map { (key : ℕ) → (directed_map B.sizes.chains chain.entry.number (W.heard caller.new) key ≡ None) × LeadsTo chain.entry.number (W.heard caller.new) key (bucket_of first (vec_len chains.entry) key) }
     ensures pushed { (cell : ℕ) × Writes P.QSBR tabled (W.seen caller.old) (W.heard caller.old) (Object (Push chain.entry.number (object_in owned.seat.me.0.object) cell (words_by first (vec_len chains.entry)))) (W.heard caller.new) }
     ensures heard { IsAfter P.QSBR tabled (W.seen caller.old) (W.heard caller.old) (W.heard caller.new) }
@@ -168,7 +171,8 @@ pub(crate) fn into_buckets<'d, P: GracePlan + Drop, B: Site, D: Deleter>(
     naming: Naming,
 ) -> Vec<Place<'d, P, B, D>>
     requires room { (buckets.items ≡ []) × (vec_len chains ≤ vec_capacity buckets) }
-    requires chains { Each IsAlone (map (λ c. c.seat.me.0) chains.items) × Each HasKeysIn (map (λ c. c.seat.me.0) chains.items) × Each (IsNamedBy naming.directory naming.object) (map (λ c. c.seat.me.0) chains.items) }
+    requires chains { Each (IsBucket naming) (map (λ c. c.seat.me.0) chains.items) }
+    requires fits { (0 < naming.buckets) × (naming.first + naming.buckets ≤ B.sizes.chains) }
     ensures { vec_len result ≡ vec_len chains.entry }
 {
     let many = chains.len();

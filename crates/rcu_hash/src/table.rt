@@ -1,10 +1,10 @@
 //! A hash table.
 
-ghost use Rattle.std.specs.Prelude.{◌≡◌, ◌⊎◌, ◌<◌, IfErr, IfOk, true};
+ghost use Rattle.std.specs.Prelude.{◌≡◌, ◌⊎◌, ◌+◌, ◌<◌, IfErr, IfOk, true};
 ghost use Rattle.std.specs.Sync.RwLock.{read_guard_value};
 ghost use Rattle.live_log.specs.Log.{Begins};
 ghost use Rattle.live_log.specs.Tables.{tabled};
-ghost use Rattle.rcu_list.specs.live_read.Hearing.{IsAfter, MakesLast, Stays};
+ghost use Rattle.rcu_list.specs.live_read.Hearing.{IsAfter, MakesLast, MakesMany, Stays};
 ghost use Rattle.rcu_list.specs.live_read.Reads.{Looks};
 ghost use Rattle.rcu_hash.specs.Directories.{AnswersReader, HasNoKeys, VisitsTable};
 ghost use Rattle.rcu_hash.specs.Freeing.{KeepsRecords};
@@ -16,7 +16,7 @@ ghost use Rattle.rcu_list.specs.Calls.{TakesOneRecord};
 
 use crate::bucket_array::BucketArray;
 use crate::directory::DirectoryLock;
-use crate::making::{direct, hold_all, hold_empty, into_buckets, note_all, room};
+use crate::making::{direct, hold_all, hold_empty, into_buckets, reserve_all, room};
 use crate::old_table::OldTable;
 use crate::view::TableView;
 use gp_memb::GracePlan;
@@ -44,9 +44,9 @@ pub(crate) fn fits(chains: usize, directory: usize, first: usize, buckets: usize
 
 /// A map from keys to values over the chains of a domain; liburcu's `cds_lfht`. One chain has a directory, which names
 /// as many chains that follow one another as there are buckets. A key lies in the bucket of its number modulo the
-/// number of buckets. A writer takes its bucket's lock, and the directory's twice: to hear its caller, and for its
-/// change; lookups take none. `grow` puts another directory in the place of this one while the table is read. Dropping
-/// the table gives its chains back with their keys and notes, so that no other table or list can be made over them.
+/// number of buckets. A writer takes its bucket's lock and no other; lookups take none. `grow` puts another directory in
+/// the place of this one while the table is read. Dropping the table gives its chains back with their keys and notes, so
+/// that no other table or list can be made over them.
 #[derive(Drop)]
 pub struct RcuHash<'d, P: GracePlan, B: Site, D: Drop = Callback> {
     /// The chain of its directory.
@@ -85,7 +85,7 @@ impl<'d, P: GracePlan + Drop, B: Site, D: Deleter> RcuHash<'d, P, B, D> {
         ensures later { Begins (W.heard caller.old) (W.heard caller.new) }
         ensures refused { IfErr result (λ e. IsNotMade W.Caller P.QSBR B.sizes caller.old caller.new directory first buckets e) }
         ensures looks { KeepsRecords W.Caller B.sizes caller.old caller.new result (λ _. 1) }
-        ensures changes { IfOk result (λ _. MakesLast W.Caller caller.old caller.new (W.heard caller.new)) × IfErr result (λ _. Stays W.Caller caller.old caller.new) }
+        ensures changes { IfOk result (λ _. MakesMany W.Caller caller.old caller.new (buckets + 1)) × IfErr result (λ _. Stays W.Caller caller.old caller.new) }
         ensures same { W.loads caller.new ≡ W.loads caller.old }
     {
         if !fits(domain.chains(), directory, first, buckets) {
@@ -106,7 +106,7 @@ impl<'d, P: GracePlan + Drop, B: Site, D: Deleter> RcuHash<'d, P, B, D> {
                 return Err(refusal);
             }
         };
-        let chains = note_all(chains, noted, caller, directory as u64 + 1);
+        let (owned, chains) = reserve_all(chains, noted, caller, owned);
         let (writer, chains) = direct(own, chains, lents, back, caller, owned, first);
         let naming = writer.naming;
         let buckets = into_buckets(chains, places, naming);
@@ -180,7 +180,7 @@ impl<'d, P: GracePlan + Drop, B: Site, D: Deleter> RcuHash<'d, P, B, D> {
     {
         let array = self.array(rt);
         let (mut place, mut bucket) = array.take(rt, array.bucket(key));
-        let answer = bucket.insert(rt, &self.lock, caller, key, value);
+        let answer = bucket.insert(rt, caller, key, value);
         *place = Some(bucket);
         answer
     }
@@ -206,7 +206,7 @@ impl<'d, P: GracePlan + Drop, B: Site, D: Deleter> RcuHash<'d, P, B, D> {
     {
         let array = self.array(rt);
         let (mut place, mut bucket) = array.take(rt, array.bucket(key));
-        let answer = bucket.replace(rt, &self.lock, caller, key, value, callback);
+        let answer = bucket.replace(rt, caller, key, value, callback);
         *place = Some(bucket);
         answer
     }
@@ -230,7 +230,7 @@ impl<'d, P: GracePlan + Drop, B: Site, D: Deleter> RcuHash<'d, P, B, D> {
     {
         let array = self.array(rt);
         let (mut place, mut bucket) = array.take(rt, array.bucket(key));
-        let answer = bucket.remove(rt, &self.lock, caller, key, callback);
+        let answer = bucket.remove(rt, caller, key, callback);
         *place = Some(bucket);
         answer
     }

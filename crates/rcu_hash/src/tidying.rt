@@ -9,7 +9,7 @@ ghost use Rattle.live_log.specs.Log.{Begins, Has, IsLiveRun, Log};
 ghost use Rattle.live_log.specs.Tables.{tabled};
 ghost use Rattle.rcu_list.specs.live_rule.declared.view.Look.{Look};
 ghost use Rattle.rcu_list.specs.live_table.Rights.{object_in};
-ghost use Rattle.rcu_list.specs.live_read.Hearing.{IsAfter, MakesMany, OnlyHears, Stays};
+ghost use Rattle.rcu_list.specs.live_read.Hearing.{IsAfter, MakesMany, OnlyHears, OnlyMakesLast, Stays};
 ghost use Rattle.rcu_list.specs.live_write.Chains.{list_in};
 ghost use Rattle.rcu_list.specs.domain.Waiting.{FindsMore};
 ghost use Rattle.rcu_hash.specs.Tidying.{ClearsNote, EndsTidying, HasWaited, IsLeft, IsLinked, IsRecord, IsRefused, IsRest, IsStopped, IsTidied, RetiresObject, StopsTidying, UsesUp, WasCleared, chains_in, objects_in};
@@ -142,7 +142,7 @@ impl<'d, P: GracePlan + Drop, B: Site, D: Deleter> DirectoryLock<'d, P, B, D> {
         requires nothing { HasNothing chain.seat.me.0 }
         ensures cleared { ClearsNote P.QSBR tabled B.sizes naming.directory (W.seen caller.old) (W.heard caller.old) (W.heard caller.new) }
         ensures own { WasCleared (W.heard caller.old) chain.entry.number (W.heard caller.new) }
-        ensures same { OnlyHears W.Caller caller.old caller.new }
+        ensures same { OnlyMakesLast W.Caller caller.old caller.new (W.heard caller.new) }
     {
         let mut chain = chain;
         let (mut place, directory) = self.take(rt, naming);

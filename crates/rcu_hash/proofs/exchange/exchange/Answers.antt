@@ -1,11 +1,11 @@
-use Rattle.std.proofs.Common.{◌≡◌, ◌+◌, ◌<◌, ◌≤◌, ◌++◌, ℕ, List, [], ◌∷◌, length, map, take, drop, vec_len, sym, ap, ◌∙◌, subst, inl, arith}
+use Rattle.std.proofs.Common.{◌≡◌, ◌+◌, ◌++◌, ℕ, List, [], ◌∷◌, length, map, take, drop, vec_len, refl, sym, ap, ◌∙◌, subst, inl, arith}
 use Rattle.std.proofs.lemmas.List.{length-map}
 use Rattle.rcu_model.specs.declared.event.ObjectId.{ObjectId}
 use Rattle.live_log.specs.declared.event.LiveEvent.{LiveEvent}
 use Rattle.live_log.specs.declared.event.LiveEvent.TheVariants.{Object}
 use Rattle.live_log.specs.declared.event.ObjectEvent.TheVariants.{Replace}
 use Rattle.live_log.specs.Log.{Log, Begins, Has, IsLiveRun, record_of, state_of}
-use Rattle.live_log.specs.Tables.{IsDirectory, IsFree, tabled}
+use Rattle.live_log.specs.Tables.{reserved, tabled}
 use Rattle.live_log.proofs.Lemmas.{begins_trans, run_of}
 use Rattle.rcu_list.specs.live_rule.Seats.{lent_chains}
 use Rattle.rcu_list.specs.live_rule.declared.rights.ChainRight.{ChainRight}
@@ -15,14 +15,15 @@ use Rattle.rcu_list.specs.live_write.Chains.{list_in}
 use Rattle.rcu_hash.specs.Copies.{value_in_bucket}
 use Rattle.rcu_hash.specs.Directories.{directed_map}
 use Rattle.rcu_hash.specs.Growing.{Exchanges}
-use Rattle.rcu_hash.specs.Naming.{words_by}
+use Rattle.rcu_hash.specs.Naming.{Directs, words_by}
 use Rattle.rcu_hash.specs.Tidying.{WasReplaced}
-use Rattle.rcu_hash.specs.Writers.{Each, HasNote, HasSeen, Noted, SawBefore, lengths_of, rights_of}
+use Rattle.rcu_hash.specs.Writers.{Each, HasNote, HasSeen, SawBefore, lengths_of, rights_of}
 use Rattle.rcu_hash.proofs.Emptying.{by_words}
 use Rattle.rcu_hash.proofs.Exchanging.{drop_first, each_all, take_first}
-use Rattle.rcu_hash.proofs.Holds.{all_named, drop_all, each_map, each_rights, from_rights, lengths_many, named_by, rights_many, take_all}
+use Rattle.rcu_hash.proofs.Buckets.{all_buckets}
+use Rattle.rcu_hash.proofs.Holds.{drop_all, each_rights, from_rights, lengths_many, rights_many, take_all}
 use Rattle.rcu_hash.proofs.Named.{leads_there}
-use Rattle.rcu_hash.proofs.Relinking.{alone_after, directory_by, first_only, free_named, keys_back, map_after, map_before, may_relink, noted_old, replaced_only, saw_on, words_after, words_since}
+use Rattle.rcu_hash.proofs.Relinking.{alone_after, first_only, keys_back, map_after, map_before, may_relink, replaced_only, saw_on, words_after, words_since}
 use Rattle.rcu_list.specs.live_read.Hearing.{OnlyMakesLast}
 use Rattle.rcu_hash.proofs.exchange.exchange.Goals as goal
 
@@ -46,11 +47,12 @@ replace-requires g c = record {
       let list : list_in three ≡ o ∷ [] = ap (λ (xs : List ChainRight). (own_in xs).objects) lent ∙ dir.alone in
       let own : x.chain ≡ d = dir.chain.owns.2 ∙ dir.own.0 in
       let is : o ≡ p = first_only o p (list_in three) list at in
-      let notes : Each (HasNote (d + 1)) us = each_map (Noted c.requires.noted.0 (d + 1)) (HasNote (d + 1)) (λ v n. n.is) us c.requires.noted.2 in
+      let many_old : length vs ≡ dir.naming.buckets = length-map c.args.olds.chains.items (λ x. x.seat.me.0) ∙ (sym c.args.olds.chains.ok.0 ∙ c.requires.olds.0) in
       let later : Begins zero.seen three.seen = begins_trans zero.seen one.seen three.seen looked.1.2.0 (begins_trans one.seen two.seen three.seen e1.later.0 e2.later.0) in
-      let directory : (log : Log) → Begins three.seen log → IsLiveRun q tabled log → IsDirectory (record_of log p) = λ log goes run.
-      subst (λ (z : ObjectId). IsDirectory (record_of log z)) is (directory_by log o dir.naming.first dir.naming.buckets (words_since q zero log o dir.naming.first dir.naming.buckets (begins_trans zero.seen three.seen log later goes) run dir.chain.owns.1 dir.alone dir.words)) in
-      may_relink q three owned x d first many vs us lent own dir.own.2 c.requires.record here c.requires.news.2 notes c.requires.apart.0 (g.W.Caller.seen c.args.caller.now) (g.W.Caller.heard c.args.caller.now) p directory;
+      let words : (log : Log) → Begins three.seen log → IsLiveRun q tabled log → (record_of log p).1 ≡ words_by dir.naming.first dir.naming.buckets = λ log goes run.
+      subst (λ (z : ObjectId). (record_of log z).1 ≡ words_by dir.naming.first dir.naming.buckets) is (words_since q zero log o dir.naming.first dir.naming.buckets (begins_trans zero.seen three.seen log later goes) run dir.chain.owns.1 dir.alone dir.words) in
+      may_relink q three owned x d first many dir.naming.first dir.naming.buckets vs us lent own dir.own.2 dir.fits.2 c.requires.record here c.requires.news.2 c.requires.noted.1 c.requires.apart.0 many_old c.requires.olds.1 c.requires.noted.0
+      (g.W.Caller.seen c.args.caller.now) (g.W.Caller.heard c.args.caller.now) p words;
 }
 
 pub take_all_back-left-requires-clause-room : goal.take_all_back-left-requires-clause-room
@@ -126,7 +128,7 @@ invariant_of-result g c =
       );
       alone = ap (λ (z : ChainRight). z.objects) back ∙ (s.list.0 ∙ (replaced_only left o new (list_in three) list (sym o_is) ∙ ap (λ (z : ObjectId). z ∷ []) (sym object)));
       words = ap (λ (l : Log). (record_of l c.object-object.result).1) (t2.from.1 ∙ t1.from.1) ∙ (ap (λ (z : ObjectId). (record_of log z).1) object ∙ (words_after q d o new cell first many before log wrote p.run ∙ ap (words_by first) (sym c.len-buckets.ensures)));
-      fits = let range = c.requires.news in let n = c.len-buckets.ensures in (omega arith, omega arith);
+      fits = let range = c.requires.news in let n = c.len-buckets.ensures in (omega arith, omega arith, dir.fits.2);
     }
 
 -- the record that was replaced
@@ -182,7 +184,7 @@ returns-clause-olds g c =
       from_rights dir.naming.first vs ws same c.requires.olds.1,
       t1.alone.0,
       keys_back q log vs ws same listed_old c.requires.olds.3 (saw_on before log goes vs saw_old) t1.alone.1 t1.runs,
-      each_rights (λ z. z.note ≡ d + 1) vs ws same (noted_old q d o new cell first many before log wrote p.run dir.naming.first dir.naming.buckets x vs us known own dir.alone words c.requires.olds.1 many_old c.requires.news.2 here c.requires.apart.0),
+      each_rights (λ z. z.note ≡ d + 1) vs ws same c.requires.noted.0,
     )
 
 pub returns-clause-news : goal.returns-clause-news
@@ -223,13 +225,11 @@ returns-clause-news g c =
     let from = from_rights first us ws same c.requires.news.2 in
     let seen : Each (HasSeen log) ws = subst (λ (l : Log). Each (HasSeen l) ws) t1.from.1 t2.alone.1 in
     let alone : (state_of log).chain d ≡ new ∷ [] = alone_after q d o new cell first many before log wrote p.run dir.naming.first dir.naming.buckets x vs us known own dir.alone words c.requires.olds.1 many_old c.requires.news.2 here c.requires.apart.0 in
-    let after : (record_of log new).1 ≡ words_by first many = words_after q d o new cell first many before log wrote p.run in
-    let free : (k : ℕ) → first ≤ k → k < first + many → IsFree log k = free_named q d o new cell first many before log wrote p.run dir.naming.first dir.naming.buckets x vs us known own dir.alone words c.requires.olds.1 many_old c.requires.news.2 here c.requires.apart.0 c.requires.noted.0 c.requires.noted.1 c.requires.apart.1 c.requires.noted.2 saw in (
+    let after : (record_of log new).1 ≡ words_by first many = words_after q d o new cell first many before log wrote p.run in (
       let a = c.take_all_back-named.result.ok in let b = length-map c.take_all_back-named.result.items (λ x. x.seat.me.0) in omega arith,
-      from,
-      t2.alone.0,
-      keys_back q log us ws same listed c.requires.news.4 (saw_on before log goes us saw) seen t2.runs,
-      all_named d new first many log (λ k v saw_it low high at. named_by log d new first many k v saw_it alone after low high at (free k low high)) ws there from seen,
+      all_buckets q (record { directory = d; object = c.object-object.result; first = first; buckets = c.len-buckets.result }) log (subst (λ (z : ObjectId). Directs d z first c.len-buckets.result log) (sym c.object-object.ensures) (alone, after ∙ ap (words_by first) (sym c.len-buckets.ensures))) first ws (omega arith) (omega arith) from seen t2.runs (each_all IsListed c.take_all_back-named.result.items (λ x. x.seat.me.0) (λ x. x.owns.1)) t2.alone.0
+          (keys_back q log us ws same listed c.requires.news.4 (saw_on before log goes us saw) seen t2.runs)
+          (subst (λ (z : ObjectId). Each (HasNote (reserved z)) ws) (sym c.object-object.ensures) (each_rights (λ z. z.note ≡ reserved new) us ws same c.requires.noted.1)),
     )
 
 pub returns-clause-grown : goal.returns-clause-grown
@@ -264,18 +264,21 @@ returns-clause-grown g c entries apart had =
     let by_old : (key : ℕ) → value_in_bucket (vec_len c.args.olds.chains) vs key ≡ value_in_bucket dir.naming.buckets vs key = λ key. ap (λ (n : ℕ). value_in_bucket n vs key) c.requires.olds.0 in
     let map_was : (key : ℕ) → directed_map chains d before key ≡ value_in_bucket dir.naming.buckets vs key = λ key. map_before q d o new cell first many before log wrote p.run dir.naming.first dir.naming.buckets x vs us known own dir.alone words c.requires.olds.1 many_old c.requires.news.2 here c.requires.apart.0 chains listed_old saw_old listed saw key dir.fits.0 dir.fits.1 in
     let map_is : (key : ℕ) → directed_map chains d log key ≡ value_in_bucket many us key = λ key. map_after q d o new cell first many before log wrote p.run dir.naming.first dir.naming.buckets x vs us known own dir.alone words c.requires.olds.1 many_old c.requires.news.2 here c.requires.apart.0 chains listed_old saw_old listed saw key c.requires.news.0 c.requires.news.1 in
-    subst (Exchanges q tabled chains d (w.seen w0) (w.heard w0) o first many entries) (sym s.heard) (record {
-      new = new;
-      cell = cell;
-      leaves = record {
-        writes = record { before = before; wrote = wrote; after = p.after.after_caller; run = p.run };
-        map = λ key. map_is key ∙ (c.requires.same key ∙ (by_old key ∙ sym (map_was key)));
-      };
-      linked = ap (state_of before).chain (sym own) ∙ (known.0.0 ∙ dir.alone);
-      leads = λ key. leads_there log d new first many key (alone_after q d o new cell first many before log wrote p.run dir.naming.first dir.naming.buckets x vs us known own dir.alone words c.requires.olds.1 many_old c.requires.news.2 here c.requires.apart.0) (words_after q d o new cell first many before log wrote p.run);
-      had = λ key. map_was key ∙ (sym (by_old key) ∙ had key);
-      apart = apart;
-    })
+    subst (λ (l : Log). (e : Exchanges q tabled chains d (w.seen w0) (w.heard w0) o first many entries l) × (e.new ≡ new)) (sym s.heard) (
+      record {
+        new = new;
+        cell = cell;
+        leaves = record {
+          writes = record { before = before; wrote = wrote; after = p.after.after_caller; run = p.run };
+          map = λ key. map_is key ∙ (c.requires.same key ∙ (by_old key ∙ sym (map_was key)));
+        };
+        linked = ap (state_of before).chain (sym own) ∙ (known.0.0 ∙ dir.alone);
+        leads = λ key. leads_there log d new first many key (alone_after q d o new cell first many before log wrote p.run dir.naming.first dir.naming.buckets x vs us known own dir.alone words c.requires.olds.1 many_old c.requires.news.2 here c.requires.apart.0) (words_after q d o new cell first many before log wrote p.run);
+        had = λ key. map_was key ∙ (sym (by_old key) ∙ had key);
+        apart = apart;
+      },
+      refl,
+    )
 
 pub returns-clause-same : goal.returns-clause-same
 returns-clause-same g c = let s = c.in-Ok.ensures in subst (OnlyMakesLast g.W.Caller c.args.caller.now c.replace.new.caller) (sym s.heard) s.same

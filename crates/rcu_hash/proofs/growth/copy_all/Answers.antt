@@ -7,10 +7,10 @@ use Rattle.rcu_list.specs.live_table.Rights.{cell_in}
 use Rattle.rcu_list.proofs.Lemmas.{stays_both}
 use Rattle.rcu_hash.specs.declared.directory.Naming.{Naming}
 use Rattle.rcu_hash.specs.Copies.{value_among, value_in_bucket}
-use Rattle.rcu_hash.specs.Writers.{AreFrom}
+use Rattle.rcu_hash.specs.Writers.{AreFrom, Each}
 use Rattle.rcu_hash.proofs.Copies.{found_more}
 use Rattle.rcu_hash.proofs.Freeing.{but_both}
-use Rattle.rcu_hash.proofs.Holds.{from_last, looks_both}
+use Rattle.rcu_hash.proofs.Holds.{each_last, from_last, looks_both}
 use Rattle.rcu_hash.proofs.Taking.{bucket_copied}
 use Rattle.rcu_hash.proofs.growth.copy_all.Goals as goal
 
@@ -25,6 +25,7 @@ loop-number-preserved g c =
     let own : c.take-place.result.1.naming.buckets ≡ array.naming.buckets = ap (λ (n : Naming). n.buckets) t.0 in record {
       room = (let len = p.len in let was = i.room.0 in omega arith, let same = p.capacity in let was = i.room.1 in omega arith);
       from = subst (AreFrom array.naming.first) (sym views) (from_last array.naming.first vs v i.from (one.chain.owns.2 ∙ (e.walked.3 ∙ (t.1 ∙ ap (λ (n : ℕ). array.naming.first + n) (sym many)))));
+      named = subst (Each (λ b. b.naming ≡ array.naming)) (sym p.items) (each_last (λ b. b.naming ≡ array.naming) had one i.named (e.walked.0 ∙ t.0));
       copied = subst (λ (us : List View). (key : ℕ) → value_among (map (λ x. (x.key, x.value)) c.copy-answer.new.copied.items) key ≡ value_in_bucket array.naming.buckets us key) (sym views)
           (bucket_copied array.naming.buckets number vs (map (λ x. (x.key, x.value)) c.loop-number.copied.items) many i.copied c.take-place.result.1.naming.buckets own v (map (λ x. (x.key, x.value)) c.copy-answer.new.copied.items) ok.copied);
       apart = ok.apart;

@@ -5,7 +5,7 @@ use Rattle.rcu_list.specs.live_rule.declared.view.Look.{Look}
 use Rattle.rcu_list.specs.live_table.Rights.{cell_in}
 use Rattle.rcu_hash.specs.Copies.{AreApart, AreRanked, value_among, value_in_bucket}
 use Rattle.rcu_hash.specs.Freeing.{FreesAllBut}
-use Rattle.rcu_hash.specs.Writers.{AreFrom}
+use Rattle.rcu_hash.specs.Writers.{AreFrom, Each}
 use Rattle.rcu_hash.proofs.growth.copy_all.Given as goal
 
 -- the buckets up to this number are taken, and their keys copied
@@ -13,6 +13,7 @@ abbrev pub invariant-loop-number : goal.invariant-loop-number
 invariant-loop-number g l = record {
   room : (vec_len l.taken ≡ l.number) × (l.fn.array.naming.buckets ≤ vec_capacity l.taken);
   from : AreFrom l.fn.array.naming.first (map (λ b. b.chain.seat.me.0) l.taken.items);
+  named : Each (λ b. b.naming ≡ l.fn.array.naming) l.taken.items;
   copied : (key : ℕ) → value_among (map (λ c. (c.key, c.value)) l.copied.items) key ≡ value_in_bucket l.fn.array.naming.buckets (map (λ b. b.chain.seat.me.0) l.taken.items) key;
   apart : AreApart (map (λ c. (c.key, c.value)) l.copied.items) × AreRanked 0 (map (λ c. c.rank) l.copied.items);
   heard : Begins (g.W.Caller.heard l.fn.caller) (g.W.Caller.heard l.caller);

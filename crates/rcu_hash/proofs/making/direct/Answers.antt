@@ -1,4 +1,4 @@
-use Rattle.std.proofs.Common.{◌≡◌, ◌≢◌, ◌⊎◌, ⊎_elim, ◌+◌, ◌<◌, ◌≤◌, ◌++◌, ℕ, List, [], ◌∷◌, None, length, map, take, drop, slice_index_or, vec_len, inl, refl, sym, ap, ◌∙◌, subst, arith}
+use Rattle.std.proofs.Common.{◌≡◌, ◌≢◌, ◌⊎◌, ⊎_elim, ◌+◌, ◌^◌, ◌<◌, ◌≤◌, ◌++◌, ℕ, List, [], ◌∷◌, None, length, map, take, drop, slice_index_or, vec_len, inl, refl, sym, ap, ◌∙◌, subst, arith}
 use Rattle.std.proofs.lemmas.List.{length-map}
 use Rattle.std.proofs.lemmas.Nat.{mod_below}
 use Rattle.rcu_model.specs.declared.event.ObjectId.{ObjectId}
@@ -7,22 +7,24 @@ use Rattle.live_log.specs.declared.event.LiveEvent.{LiveEvent}
 use Rattle.live_log.specs.declared.event.LiveEvent.TheVariants.{Object}
 use Rattle.live_log.specs.declared.event.ObjectEvent.TheVariants.{Push}
 use Rattle.live_log.specs.Log.{Log, Begins, Has, record_of, state_of}
-use Rattle.live_log.specs.Tables.{IsFree, tabled}
-use Rattle.live_log.proofs.Lemmas.{begins_trans, pushed_note, run_of}
+use Rattle.live_log.specs.Tables.{reserved, tabled}
+use Rattle.live_log.proofs.Lemmas.{begins_trans, pushed_note}
 use Rattle.rcu_list.specs.live_read.Hearing.{IsAfter}
 use Rattle.rcu_list.specs.live_rule.Seats.{lent_chains}
 use Rattle.rcu_list.specs.live_rule.declared.rights.ChainRight.{ChainRight}
-use Rattle.rcu_list.specs.live_table.Rights.{AreAsKnown, cell_in, object_in, own_in, payload_in}
+use Rattle.rcu_list.specs.live_table.Rights.{AreAsKnown, IsListed, cell_in, object_in, own_in, payload_in}
 use Rattle.rcu_list.specs.live_write.Chains.{push_by}
 use Rattle.rcu_list.specs.Maps.{map_of, value_in}
 use Rattle.rcu_list.proofs.Lemmas.{chain_known}
 use Rattle.rcu_hash.specs.Directories.{LeadsTo, directed_map}
 use Rattle.rcu_hash.specs.Leaving.{Writes}
-use Rattle.rcu_hash.specs.Naming.{IsNamedBy, words_by}
+use Rattle.rcu_hash.specs.Naming.{Directs, words_by}
 use Rattle.rcu_hash.specs.Tables.{bucket_of}
-use Rattle.rcu_hash.specs.Writers.{Each, HasKeysIn, HasNothing, lengths_of, rights_of}
+use Rattle.rcu_hash.specs.Writers.{Each, HasKeysIn, HasNote, HasNothing, lengths_of, rights_of}
 use Rattle.rcu_hash.proofs.Directing.{directed_is}
-use Rattle.rcu_hash.proofs.Holds.{all_named, drop_all, each_map, each_rights, free_after, from_rights, known_empty, known_note, lengths_many, may_direct, named_by, nothing_has_keys, rights_many, take_all, undirected_free}
+use Rattle.rcu_hash.proofs.Buckets.{all_buckets}
+use Rattle.rcu_hash.proofs.Exchanging.{each_all}
+use Rattle.rcu_hash.proofs.Holds.{drop_all, each_map, each_rights, from_rights, known_empty, lengths_many, may_direct, nothing_has_keys, rights_many, take_all}
 use Rattle.rcu_hash.proofs.Named.{leads_all, leads_there}
 use Rattle.rcu_list.specs.live_read.Hearing.{OnlyMakesLast}
 use Rattle.rcu_hash.proofs.making.direct.Goals as goal
@@ -39,7 +41,7 @@ push-object-requires g c = record {
       let lent : two.seat.me.0.chains ≡ own_in chain.seat.me.0.chains ∷ rights_of vs = e.chains ∙ ap (λ (xs : List ChainRight). xs ++ rights_of vs) (chain.owns.0 ∙ ap (λ (xs : List ChainRight). own_in chain.seat.me.0.chains ∷ xs) c.requires.own.1) in
       may_direct q two.seat.me.0 c.args.owned.seat.me.0 (own_in chain.seat.me.0.chains) chain.number c.args.first (length c.args.chains.items) vs lent chain.owns.2 c.requires.own.0.1
       (c.requires.record ∙ ap (words_by c.args.first) c.args.chains.ok.0) (length-map c.args.chains.items (λ x. x.seat.me.0)) c.requires.chains.0 c.requires.chains.2
-      (subst (λ (n : ℕ). (chain.number < c.args.first) ⊎ (c.args.first + n ≤ chain.number)) c.args.chains.ok.0 c.requires.range.2)
+      (subst (λ (n : ℕ). (chain.number < c.args.first) ⊎ (c.args.first + n ≤ chain.number)) c.args.chains.ok.0 c.requires.range.2) c.requires.range.3
       (g.W.Caller.seen c.args.caller.now) (g.W.Caller.heard c.args.caller.now) c.requires.own.0.0;
 }
 
@@ -74,7 +76,7 @@ invariant_of-result g c =
       );
       alone = ap (λ (x : ChainRight). x.objects) back ∙ (p.list.0 ∙ ap (λ (os : List ObjectId). c.push-object.result ∷ os) (ap (λ (x : ChainRight). x.objects) own ∙ c.requires.own.0.0));
       words = ap (λ (l : Log). (record_of l c.push-object.result).1) t.from.1 ∙ (ap (λ (x : ℕ × List ℕ). x.1) note ∙ (c.requires.record ∙ ap (words_by c.args.first) (sym c.len-buckets.ensures)));
-      fits = let range = c.requires.range in let n = c.len-buckets.ensures in (omega arith, omega arith);
+      fits = let range = c.requires.range in let n = c.len-buckets.ensures in (omega arith, omega arith, subst (λ (k : ℕ). k + 1 < 2 ^ 63) (sym (c.number.ensures.number ∙ (t.same.0 ∙ (p.list.3 ∙ e.same.0)))) range.3);
     }
 
 pub returns-clause-heard : goal.returns-clause-heard
@@ -134,18 +136,13 @@ returns-clause-chains g c =
     let words : (record_of log o).1 ≡ words_by first n = ap (λ (x : ℕ × List ℕ). x.1) (pushed_note q tabled log own_chain o (cell_in owned.object) (payload_in owned.object) p.pushed.run
     (subst (Has (Object (Push own_chain o (cell_in owned.object) (payload_in owned.object)))) (sym p.pushed.wrote) (inl (λ i. Object (Push own_chain (sym p.object i) (cell_in owned.object) (payload_in owned.object)))))) ∙ (c.requires.record ∙ ap (words_by first) size) in
     let alone : (state_of log).chain d ≡ o ∷ [] = chain_known three.seat.me.0 d three.owns.1 (three.owns.2 ∙ (p.list.3 ∙ e.same.0)) ∙ (p.list.0 ∙ ap (λ (os : List ObjectId). o ∷ os) (ap (λ (x : ChainRight). x.objects) own ∙ c.requires.own.0.0)) in
-    let known = subst (AreAsKnown before) lent p.pushed.known in
-    let run = run_of q tabled before log (_ ∷ [], p.pushed.wrote) p.pushed.run in
-    let none : (state_of before).chain d ≡ [] = ap (state_of before).chain (sym chain.owns.2) ∙ (known.0.0 ∙ c.requires.own.0.0) in
-    let free : (k : ℕ) → first ≤ k → k < first + n → IsFree log k = λ k low high.
-    free_after before log (Object (Push own_chain (object_in owned.object) (cell_in owned.object) (payload_in owned.object))) k p.pushed.wrote (λ a b f h j eq dir names. cc)
-    (undirected_free q before k d run (known_note before (d + 1) vs first k known.1 c.requires.chains.0 c.requires.chains.2 low (omega arith)) none) in (
+    let seen = t.alone.1 in let size_is : c.len-buckets.result ≡ n = c.len-buckets.ensures ∙ size in (
       let a = c.take_all_back-back.result.ok in let b = length-map c.take_all_back-back.result.items (λ x. x.seat.me.0) in omega arith,
-      from,
-      t.alone.0,
-      each_map HasNothing HasKeysIn nothing_has_keys ws (each_rights (λ x. x.objects ≡ []) vs ws same c.requires.chains.1),
-      subst (λ (x : ObjectId). Each (IsNamedBy d x) ws) p.object
-          (all_named d o first n log (λ k v saw low high at. named_by log d o first n k v saw alone words low high at (free k low high)) ws there from t.alone.1),
+      all_buckets q (record { directory = c.number.result; object = c.push-object.result; first = first; buckets = c.len-buckets.result }) log
+          (subst (λ (k : ℕ). Directs k o first c.len-buckets.result log) (sym (c.number.ensures.number ∙ (t.same.0 ∙ (p.list.3 ∙ e.same.0)))) (alone, words ∙ ap (words_by first) (sym size_is))) first ws (omega arith) (omega arith) from seen t.runs
+          (each_all IsListed c.take_all_back-back.result.items (λ x. x.seat.me.0) (λ x. x.owns.1)) t.alone.0
+          (each_map HasNothing HasKeysIn nothing_has_keys ws (each_rights (λ x. x.objects ≡ []) vs ws same c.requires.chains.1))
+          (subst (λ (x : ObjectId). Each (HasNote (reserved x)) ws) (sym p.object) (each_rights (λ x. x.note ≡ reserved (object_in owned.object)) vs ws same c.requires.chains.2)),
     )
 
 pub returns-clause-pushed : goal.returns-clause-pushed

@@ -1,12 +1,12 @@
 use Rattle.std.proofs.Common.{◌≡◌, ◌≤◌, ◌+◌, map, vec_len, vec_capacity}
 use Rattle.std.specs.Vec.Iter.{into_iter_items, into_iter_len}
-use Rattle.rcu_hash.specs.Naming.{IsNamedBy}
-use Rattle.rcu_hash.specs.Writers.{Each, HasKeysIn, IsAlone}
+use Rattle.rcu_hash.specs.Buckets.{IsBucket}
+use Rattle.rcu_hash.specs.Writers.{Each}
 use Rattle.rcu_hash.proofs.making.into_buckets.Given as goal
 
 abbrev pub invariant-loop : goal.invariant-loop
 invariant-loop g l = record {
   left : into_iter_len l.rest + l.counter ≡ l.many;
   room : (vec_len l.buckets ≡ l.counter) × (l.many ≤ vec_capacity l.buckets);
-  wait : Each IsAlone (map (λ c. c.seat.me.0) (into_iter_items l.rest)) × Each HasKeysIn (map (λ c. c.seat.me.0) (into_iter_items l.rest)) × Each (IsNamedBy l.naming.directory l.naming.object) (map (λ c. c.seat.me.0) (into_iter_items l.rest));
+  wait : Each (IsBucket l.naming) (map (λ c. c.seat.me.0) (into_iter_items l.rest));
 }

@@ -1,24 +1,21 @@
 use Rattle.std.proofs.Common.{◌≡◌, ◌≤◌, ◌+◌, ◌%◌, ◌==◌, ◌++◌, ℕ, List, [], ◌∷◌, Option, None, Some, IfNone, IfSome, if◌then◌else◌, length, map, vec_len, slice_index_or, append_assoc, sym, ap, ◌∙◌, subst, arith}
-use Rattle.std.proofs.Math.Logic.{∥∥₁_map}
 use Rattle.std.proofs.lemmas.List.{length-map, take_all}
 use Rattle.std.proofs.lemmas.Result.{err_from_is_err_and}
 use Rattle.live_log.specs.Log.{record_of}
 use Rattle.live_log.specs.Tables.{tabled}
 use Rattle.live_log.proofs.Lemmas.{begins_trans, run_of, tabled_maps}
-use Rattle.rcu_list.specs.live_rule.Seats.{lent_chains}
 use Rattle.rcu_list.specs.live_rule.declared.rights.ChainRight.{ChainRight}
 use Rattle.rcu_list.specs.live_rule.declared.view.Look.{Look}
-use Rattle.rcu_list.specs.live_rule.declared.view.View.{View}
 use Rattle.rcu_list.specs.live_table.Rights.{cell_in}
 use Rattle.rcu_list.specs.live_write.Chains.{list_in}
 use Rattle.rcu_list.proofs.live_write.Lemmas.{went_both}
 use Rattle.rcu_list.specs.Maps.{value_in}
-use Rattle.rcu_list.proofs.Lemmas.{KnowsKeys, keys_walked, same_own, stays_both}
+use Rattle.rcu_list.proofs.Lemmas.{same_own, stays_both}
+use Rattle.rcu_hash.specs.Buckets.{IsBucket}
 use Rattle.rcu_hash.specs.Copies.{AreRanked, value_among}
-use Rattle.rcu_hash.specs.Naming.{WasNamed}
+use Rattle.rcu_hash.proofs.Buckets.{bucket_walked}
 use Rattle.rcu_hash.proofs.Copies.{IsCopied, copied_more, copied_skip, falls_known, found_more, got_at, got_words, more_ranked, value_walked}
 use Rattle.rcu_hash.proofs.Freeing.{but_both}
-use Rattle.rcu_hash.proofs.Named.{named_later}
 use Rattle.rcu_hash.proofs.bucket.Bucket.copy.Goals as goal
 use Rattle.rcu_hash.proofs.bucket.Bucket.copy.Goals.{then-words-buckets+in_ok-copy_key, else-words-buckets}
 
@@ -28,20 +25,16 @@ by_option None P Q p q f h = h q
 
 pub invariant_of-self : goal.invariant_of-self
 invariant_of-self g c =
-    let q = g.P.GracePlan.QSBR in let b = c.args.self.now in let one = b.chain in let two = c.note.new.self in let l = c.note.ensures.looked in record {
-      alone = ap (λ (v : View). lent_chains v.chains) l.1.1 ∙ b.alone;
-      keys = keys_walked q tabled (tabled_maps q) one.number one.seat.me two.seat.me l.1 one.owns.1 one.owns.2 b.keys;
-      named = ∥∥₁_map b.named (λ n. subst (λ (k : ℕ). WasNamed b.naming.directory b.naming.object k two.seat.me.0.seen) (sym l.2) (named_later b.naming.directory b.naming.object one.number one.seat.me.0.seen two.seat.me.0.seen l.1.2.0 n));
-    }
+    let b = c.args.self.now in let one = b.chain in let two = c.note.new.self in
+    record { is = bucket_walked g.P.GracePlan.QSBR b.naming one.number one.seat.me two.seat.me c.note.ensures.looked.1 one.owns.1 one.owns.2 two.owns.1 b.is; fits = b.fits }
 
 pub invariant_of-self-in-loop-index : goal.invariant_of-self-in-loop-index
 invariant_of-self-in-loop-index g c =
-    let q = g.P.GracePlan.QSBR in let b = c.loop-index.self in let one = b.chain in let two = c.get.new.self in let e = c.get.ensures in record {
-      alone = by_option c.get.result _ _ e.walked e.none (λ x l. ap (λ (v : View). lent_chains v.chains) l.1.1 ∙ b.alone) (λ z. subst (λ y. lent_chains y.seat.me.0.chains ≡ []) (sym z.1) b.alone);
-      keys = by_option c.get.result _ _ e.walked e.none (λ x l. keys_walked q tabled (tabled_maps q) one.number one.seat.me two.seat.me l.1 one.owns.1 one.owns.2 b.keys) (λ z. subst (λ y. KnowsKeys y.seat.me.0) (sym z.1) b.keys);
-      named = by_option c.get.result _ _ e.walked e.none
-          (λ x l. ∥∥₁_map b.named (λ n. subst (λ (k : ℕ). WasNamed b.naming.directory b.naming.object k two.seat.me.0.seen) (sym l.2) (named_later b.naming.directory b.naming.object one.number one.seat.me.0.seen two.seat.me.0.seen l.1.2.0 n)))
-          (λ z. subst (λ y. ∥ WasNamed b.naming.directory b.naming.object y.number y.seat.me.0.seen ∥₁) (sym z.1) b.named);
+    let b = c.loop-index.self in let one = b.chain in let two = c.get.new.self in let e = c.get.ensures in record {
+      is = by_option c.get.result _ _ e.walked e.none
+          (λ x l. bucket_walked g.P.GracePlan.QSBR b.naming one.number one.seat.me two.seat.me l.1 one.owns.1 one.owns.2 two.owns.1 b.is)
+          (λ z. subst (λ y. IsBucket b.naming y.seat.me.0) (sym z.1) b.is);
+      fits = b.fits;
     }
 
 pub returns-in_err-copy_key-clause-looks : goal.returns-in_err-copy_key-clause-looks

@@ -4,7 +4,8 @@ use Rattle.live_log.specs.Tables.{tabled}
 use Rattle.live_log.proofs.Lemmas.{begins_trans}
 use Rattle.rcu_list.specs.live_table.Rights.{own_in}
 use Rattle.rcu_hash.specs.Tidying.{ClearsNote, IsLeft, Uses, WasCleared}
-use Rattle.rcu_hash.proofs.Emptying.{each_popped, each_pushed, finds_both, finds_none, heard_on, objects_pushed, only_finds, stays_none, uses_both, uses_no, uses_none, waited_later}
+use Rattle.rcu_list.proofs.live_read.Lemmas.{one_made}
+use Rattle.rcu_hash.proofs.Emptying.{each_popped, each_pushed, finds_both, finds_none, heard_on, makes_finds, objects_pushed, stays_none, uses_both, uses_no, uses_none, waited_later}
 use Rattle.rcu_hash.proofs.Tidied.{chains_popped, chains_pushed, cleared_since}
 use Rattle.rcu_hash.proofs.directory.DirectoryLock.clear_all.Goals as goal
 
@@ -64,7 +65,7 @@ loop-preserved g c =
       left = let fewer = c.in-Some.ensures.len in let was = i.left in omega arith;
       uses = uses_both q tabled sizes d (w.seen w0) w g.row.D.coded.code w0 w2 w3 first left left (w.heard w0) (w.heard w2) (w.heard w3)
           (uses_both q tabled sizes d (w.seen w0) w g.row.D.coded.code w0 w1 w2 first jobs left (w.heard w0) (w.heard w1) (w.heard w2) i.uses uses)
-          (uses_no q tabled sizes d (w.seen w0) w g.row.D.coded.code w2 w3 left (w.heard w2) (w.heard w3) b.same.0.0 clears);
+          (uses_no q tabled sizes d (w.seen w0) w g.row.D.coded.code w2 w3 left (w.heard w2) (w.heard w3) (one_made w w2 w3 (w.heard w3) b.same.0) clears);
       chains = (each_popped c.pop.new.self.items c.loop.chains.items c.in-Some.chain (λ x. x.seat.me.0) (IsLeft n.directory n.first n.buckets) c.in-Some.ensures.items i.chains).0;
       cleared = λ k h. ⊎_elim
           (λ (z : WasCleared (w.heard w0) k (w.heard w1)). inl (cleared_since (w.heard w0) (w.heard w1) (w.heard w3) k all z))
@@ -72,7 +73,7 @@ loop-preserved g c =
           (i.cleared k h);
       heard = begins_trans (w.heard w0) (w.heard w1) (w.heard w3) i.heard all;
       waited = waited_later d n.object (w.heard w2) (w.heard w3) goes e.waited;
-      same = finds_both w w0 w1 w3 i.same (finds_both w w1 w2 w3 e.same (only_finds w w2 w3 b.same));
+      same = finds_both w w0 w1 w3 i.same (finds_both w w1 w2 w3 e.same (makes_finds w w2 w3 (w.heard w3) b.same));
     }
 
 pub returns-in-Err-clause-cleared : goal.returns-in-Err-clause-cleared

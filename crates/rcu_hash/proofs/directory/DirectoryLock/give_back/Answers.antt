@@ -6,6 +6,7 @@ use Rattle.live_log.specs.Tables.{tabled}
 use Rattle.live_log.proofs.Lemmas.{begins_trans, run_of}
 use Rattle.rcu_list.specs.live_rule.declared.rights.ChainRight.{ChainRight}
 use Rattle.rcu_list.specs.live_table.Rights.{own_in}
+use Rattle.rcu_list.specs.live_read.Hearing.{OnlyMakesLast}
 use Rattle.rcu_hash.specs.declared.directory.Naming.{Naming}
 use Rattle.rcu_hash.specs.Naming.{words_by}
 use Rattle.rcu_hash.specs.Tidying.{ClearsNote, HasWaited, IsLeft}
@@ -25,7 +26,7 @@ set_note-requires g c = record {
       let was = lent_is s three.seat.me.0.chains _ _ n.object n.directory e.chains.0 e.known d.alone (d.chain.owns.2 ∙ d.own.0) in
       let outside = subst (λ (k : ℕ). ∥ (k < n.first) ⊎ (n.first + n.buckets ≤ k) ∥₁) (ap (λ (x : List ChainRight). (own_in x).chain) (sym e.chains.0)) left.3 in
       may_clear_left q three.seat.me.0 n.directory n.object (own_in one.seat.me.0.chains) (own_in d.chain.seat.me.0.chains) e.chains.0 (d.chain.owns.2 ∙ d.own.0) d.alone three.owns.0 three.owns.1 noted
-      (w.seen w0) (w.heard w0) waited three.number n.first n.buckets three.owns.2 nothing (lent_used q s n.directory n.object e.later.2 was) e.words outside;
+      (w.seen w0) (w.heard w0) waited three.number n.first n.buckets d.fits.2 three.owns.2 nothing (lent_used q s n.directory n.object e.later.2 was) e.words outside;
 }
 
 pub take_back-requires-clause-words : goal.take_back-requires-clause-words
@@ -75,3 +76,6 @@ returns-clause-own g c =
       after = k.after.after_caller.1;
       before = ([], c.set_note.ensures.heard ∙ (k.wrote ∙ (λ i. ChainNote (e.chains.1 i) 0 ∷ k.before)));
     }
+
+pub returns-clause-same : goal.returns-clause-same
+returns-clause-same g c = let k = c.set_note.ensures in subst (OnlyMakesLast g.W.Caller c.args.caller.now c.set_note.new.caller) (sym k.heard) k.same

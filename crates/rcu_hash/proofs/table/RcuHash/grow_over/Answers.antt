@@ -1,12 +1,15 @@
-use Rattle.std.proofs.Common.{rules, ◌≡◌, ◌+◌, ◌<◌, ⊎_elim, inl, inr, refl, false, arith, ℕ, List, [], ◌∷◌, ◌++◌, map, vec_len, sym, ap, ◌∙◌, subst}
+use Rattle.std.proofs.Common.{rules, ◌≡◌, ◌≢◌, ◌+◌, ◌<◌, ⊎_elim, inl, inr, refl, false, arith, ℕ, List, [], ◌∷◌, ◌++◌, length, map, vec_len, sym, ap, ◌∙◌, subst}
 use Rattle.std.proofs.lemmas.List.{length-map, nil_from_length}
 use Rattle.std.specs.Sync.RwLock.{write_guard_value}
-use Rattle.live_log.specs.Log.{Log, chain_note}
+use Rattle.live_log.specs.Log.{Log, chain_note, record_of}
 use Rattle.live_log.specs.Tables.{tabled}
 use Rattle.live_log.proofs.Lemmas.{begins_trans}
 use Rattle.rcu_list.specs.live_rule.declared.view.Look.{Look}
 use Rattle.rcu_list.specs.live_table.Rights.{cell_in}
+use Rattle.rcu_list.specs.live_read.Hearing.{MakesMany}
+use Rattle.rcu_list.proofs.live_read.Lemmas.{more_made, none_made}
 use Rattle.rcu_hash.specs.Copies.{value_in_bucket}
+use Rattle.rcu_hash.specs.Directories.{buckets_in}
 use Rattle.rcu_hash.specs.Growing.{Grows}
 use Rattle.rcu_hash.specs.Refusing.{IsUnused}
 use Rattle.rcu_hash.specs.Tables.{IsAmong, are_apart}
@@ -27,13 +30,21 @@ returns-clause-grown g c =
     let q = g.P.GracePlan.QSBR in let w = g.W.Caller in let w0 = c.args.caller.now in let wt = c.tell-left.new.caller in let w1 = c.ready.new.caller in let log : Log = w.heard c.commit-left.new.caller in
     let chains = g.B.Site.sizes.chains in let growth = c.in-Ok.growth in let e = c.in-Ok.ensures in let t = c.tell-left.ensures in let first = c.args.first in
     let entries : List (ℕ × ℕ) = map (λ y. (y.key, y.value)) growth.copied.items in
-    let directory : c.deref_mut.result.now.naming.directory ≡ c.args.self.now.directory = (λ i. (c.deref_mut.ensures.value i).naming.directory) ∙ (ap (λ (m : Naming). m.directory) c.own_array-array.ensures ∙ c.requires) in (
+    let size = c.deref_mut.result.now.naming.buckets in let all = c.commit-left.ensures.same.0 in
+    let directory : c.deref_mut.result.now.naming.directory ≡ c.args.self.now.directory = (λ i. (c.deref_mut.ensures.value i).naming.directory) ∙ (ap (λ (m : Naming). m.directory) c.own_array-array.ensures ∙ c.requires) in
+    let grown : (k : Grows q tabled chains c.args.self.now.directory (w.seen w0) (w.heard w0) first c.args.buckets entries log) × (buckets_in (record_of k.left k.old) ≡ size) =
+    subst (λ (d : ℕ). (k : Grows q tabled chains d (w.seen w0) (w.heard w0) first c.args.buckets entries log) × (buckets_in (record_of k.left k.old) ≡ size)) directory
+    (subst (λ (n : ℕ). (k : Grows q tabled chains c.deref_mut.result.now.naming.directory (w.seen w0) (w.heard w0) first n entries log) × (buckets_in (record_of k.left k.old) ≡ size)) e.chains.0
+    (grows_since q tabled chains c.deref_mut.result.now.naming.directory first (vec_len growth.chains) entries log (w.seen w0) (w.heard w0) (w.seen w1) (w.heard w1) size (e.same.0 ∙ t.same.0.0.0) (begins_trans (w.heard w0) (w.heard wt) (w.heard w1) t.heard.after_heard e.heard) c.commit-left.ensures.grown.0 c.commit-left.ensures.grown.1)) in
+    let many : vec_len growth.copied ≡ length entries = growth.copied.ok.0 ∙ sym (length-map growth.copied.items (λ y. (y.key, y.value))) in
+    let count : 0 + 0 + (vec_len growth.copied + vec_len growth.chains + size + 1) ≡ length entries + c.args.buckets + buckets_in (record_of grown.0.left grown.0.old) + 1 = let chains_are = e.chains.0 in let olds = grown.1 in omega arith in (
       entries,
-      subst (λ (d : ℕ). Grows q tabled chains d (w.seen w0) (w.heard w0) first c.args.buckets entries log) directory
-          (subst (λ (k : ℕ). Grows q tabled chains c.deref_mut.result.now.naming.directory (w.seen w0) (w.heard w0) first k entries log) e.chains.0
-          (grows_since q tabled chains c.deref_mut.result.now.naming.directory first (vec_len growth.chains) entries log (w.seen w0) (w.heard w0) (w.seen w1) (w.heard w1) (e.same.0 ∙ t.same.0.0.0) (begins_trans (w.heard w0) (w.heard wt) (w.heard w1) t.heard.after_heard e.heard) c.commit-left.ensures.grown)),
-      ap (λ (n : ℕ). n + 1) (c.len-many.ensures ∙ (growth.copied.ok.0 ∙ sym (length-map growth.copied.items (λ y. (y.key, y.value))))),
+      grown.0,
+      ap (λ (n : ℕ). n + 1) (c.len-many.ensures ∙ many),
       search rules,
+      subst (MakesMany w w0 c.commit-left.new.caller) count
+          (more_made w w0 w1 c.commit-left.new.caller (0 + 0) (vec_len growth.copied + vec_len growth.chains + size + 1)
+          (more_made w w0 wt w1 0 0 (none_made w w0 wt t.same.0.0) (none_made w wt w1 e.same)) all),
     )
 
 -- nothing was left when the caller heard of what is
@@ -53,7 +64,7 @@ pub returns-clause-heard : goal.returns-clause-heard
 returns-clause-heard g c =
     let w = g.W.Caller in let w0 = c.args.caller.now in let wt = c.tell-left.new.caller in let w1 = c.ready.new.caller in let log : Log = w.heard c.commit-left.new.caller in let growth = c.in-Ok.growth in
     let entries : List (ℕ × ℕ) = map (λ y. (y.key, y.value)) growth.copied.items in
-    begins_trans (w.heard w0) (w.heard wt) log c.tell-left.ensures.heard.after_heard (begins_trans (w.heard wt) (w.heard w1) log c.ready.ensures.heard (grows_go g.P.GracePlan.QSBR tabled g.B.Site.sizes.chains c.deref_mut.result.now.naming.directory c.args.first (vec_len growth.chains) entries log (w.seen w1) (w.heard w1) c.commit-left.ensures.grown))
+    begins_trans (w.heard w0) (w.heard wt) log c.tell-left.ensures.heard.after_heard (begins_trans (w.heard wt) (w.heard w1) log c.ready.ensures.heard (grows_go g.P.GracePlan.QSBR tabled g.B.Site.sizes.chains c.deref_mut.result.now.naming.directory c.args.first (vec_len growth.chains) entries log (w.seen w1) (w.heard w1) c.commit-left.ensures.grown.0))
 
 pub returns-clause-tidied : goal.returns-clause-tidied
 returns-clause-tidied g c =
@@ -62,7 +73,7 @@ returns-clause-tidied g c =
     let empty : l.chains.items ≡ [] = nil_from_length l.chains.items (let none = c.if-len-ne0.false in let len = c.len.ensures in let ok = l.chains.ok.0 in omega arith) in record {
       at = w.heard wt;
       after = t.heard;
-      before = begins_trans (w.heard wt) (w.heard w1) log c.ready.ensures.heard (grows_go g.P.GracePlan.QSBR tabled g.B.Site.sizes.chains c.deref_mut.result.now.naming.directory c.args.first (vec_len growth.chains) entries log (w.seen w1) (w.heard w1) c.commit-left.ensures.grown);
+      before = begins_trans (w.heard wt) (w.heard w1) log c.ready.ensures.heard (grows_go g.P.GracePlan.QSBR tabled g.B.Site.sizes.chains c.deref_mut.result.now.naming.directory c.args.first (vec_len growth.chains) entries log (w.seen w1) (w.heard w1) c.commit-left.ensures.grown.0);
       so = subst (λ (d : ℕ). IsTidied d (w.heard wt)) c.requires
           (rest_none l.naming.directory l.naming.object _ _ (w.heard wt) (ap (map (λ x. x.seat.me.0)) empty) (λ p is. let some = l.some (some_there _ l.unlinked p is) in let none = c.if-len-ne0.false in let len = c.len.ensures in absurd (omega (arith, some, none, len))) t.rest);
     }
@@ -72,10 +83,10 @@ returns-clause-free g c chain among =
     let q = g.P.GracePlan.QSBR in let w = g.W.Caller in let w0 = c.args.caller.now in let wt = c.tell-left.new.caller in let w1 = c.ready.new.caller in let w2 = c.commit-left.new.caller in let growth = c.in-Ok.growth in let t = c.tell-left.ensures in
     let entries : List (ℕ × ℕ) = map (λ y. (y.key, y.value)) growth.copied.items in
     during_earlier w q tabled w0 w1 w2 (IsUnused chain)
-    (grows_go q tabled g.B.Site.sizes.chains c.deref_mut.result.now.naming.directory c.args.first (vec_len growth.chains) entries (w.heard w2) (w.seen w1) (w.heard w1) c.commit-left.ensures.grown)
+    (grows_go q tabled g.B.Site.sizes.chains c.deref_mut.result.now.naming.directory c.args.first (vec_len growth.chains) entries (w.heard w2) (w.seen w1) (w.heard w1) c.commit-left.ensures.grown.0)
     (during_since w q tabled w0 wt w1 (IsUnused chain) t.same.0.0.0 t.heard.after_heard (c.in-Ok.ensures.free chain among))
 
--- a new chain was taken, or is one of the table's own, which have its note
+-- a new chain was taken, or is one of the table's own, which have notes
 pub returns-in-Err-clause-refused : goal.returns-in-Err-clause-refused
 returns-in-Err-clause-refused g c =
     let q = g.P.GracePlan.QSBR in let w = g.W.Caller in let t = c.tell-left.ensures in let first = c.args.first in let many = c.args.buckets in
@@ -95,8 +106,8 @@ returns-then-not-are_apart-clause-refused g c =
     let some : 0 < c.args.buckets = search rules in
     let here : 0 < n.buckets = subst (λ (m : Naming). 0 < m.buckets) c.own_array-array.ensures (write_guard_value c.own_array-array.result).many.0 in
     let both = in_both n.first n.buckets c.args.first c.args.buckets here some apart in
-    let note : chain_note both.0 log ≡ n.directory + 1 = h.noted both.0 both.1 in
-    inr (inl (refl, inr (record { chain = both.0; one = both.2; found = []; looks = h.same.0.1; why = inr (record { at = log; after = h.heard; before = ([], refl); so = inr (λ none. absurd (omega (arith, note, none))) }) })))
+    let noted : chain_note both.0 log ≢ 0 = h.noted both.0 both.1 in
+    inr (inl (refl, inr (record { chain = both.0; one = both.2; found = []; looks = h.same.0.1; why = inr (record { at = log; after = h.heard; before = ([], refl); so = inr noted }) })))
 
 -- a refused growth keeps no record, and an accepted one as many as it leaves for `tidy`
 pub returns-clause-looks : goal.returns-clause-looks

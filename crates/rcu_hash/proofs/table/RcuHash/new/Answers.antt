@@ -4,20 +4,21 @@ use Rattle.rcu_model.specs.declared.refusal.Refusal.TheVariants.{BadConfig, Memo
 use Rattle.live_log.specs.declared.event.LiveEvent.TheVariants.{Object}
 use Rattle.live_log.specs.declared.event.ObjectEvent.TheVariants.{Push}
 use Rattle.live_log.specs.Log.{Log, Begins}
-use Rattle.live_log.specs.Tables.{tabled}
+use Rattle.live_log.specs.Tables.{reserved, tabled}
 use Rattle.live_log.proofs.Lemmas.{begins_trans}
 use Rattle.rcu_list.specs.live_rule.declared.view.Look.TheVariants.{Loaded, Stored}
 use Rattle.rcu_list.specs.live_rule.Places.{hold_at}
-use Rattle.rcu_list.specs.live_table.Rights.{cell_in, object_in}
+use Rattle.rcu_list.specs.live_table.Rights.{cell_in, object_in, payload_in}
 use Rattle.rcu_hash.specs.Directories.{LeadsTo, directed_map}
-use Rattle.rcu_list.specs.live_read.Hearing.{IsAfter}
+use Rattle.rcu_list.specs.live_read.Hearing.{IsAfter, MakesMany}
+use Rattle.rcu_list.proofs.live_read.Lemmas.{more_made, none_made, one_made}
 use Rattle.rcu_hash.specs.Growing.{Founds, NotesAll}
 use Rattle.rcu_hash.specs.Leaving.{Writes}
 use Rattle.rcu_hash.specs.Naming.{words_by}
 use Rattle.rcu_hash.specs.Refusing.{IsUnused}
 use Rattle.rcu_hash.specs.Tables.{IsAmong, bucket_of}
 use Rattle.rcu_hash.specs.Tidying.{IsLinked, IsRest, LeavesOnly}
-use Rattle.rcu_hash.specs.Writers.{Each, HasNoNote, HasNote, HasNothing, IsEmpty, Noted}
+use Rattle.rcu_hash.specs.Writers.{Each, HasNoNote, HasNote, HasNothing, IsEmpty}
 use Rattle.rcu_hash.proofs.Emptying.{writes_weaker}
 use Rattle.rcu_hash.proofs.Filling.{notes_weaker}
 use Rattle.rcu_hash.proofs.Freeing.{but_after, frees_both, keeps_none, keeps_one, none_after, not_full}
@@ -95,32 +96,49 @@ returns-in-Err-clause-later g c =
     let w = g.W.Caller in let w0 = c.args.caller.now in let w1 = c.hold_empty.new.caller in let w2 = c.hold_all.new.caller in let w3 = c.alloc.new.caller in
     begins_trans (w.heard w0) (w.heard w1) (w.heard w3) c.hold_empty.ensures.heard.after_heard (begins_trans (w.heard w1) (w.heard w2) (w.heard w3) c.hold_all.ensures.heard c.alloc.ensures.heard.after_heard)
 
-pub note_all-chains-requires-clause-chains : goal.note_all-chains-requires-clause-chains
-note_all-chains-requires-clause-chains g c = let h = c.in_ok-chains-2.ensures.held in (each_map IsEmpty HasNoNote (λ v e. e.1) _ h.2, h.3)
+pub reserve_all-owned-requires-clause-chains : goal.reserve_all-owned-requires-clause-chains
+reserve_all-owned-requires-clause-chains g c = let h = c.in_ok-chains-2.ensures.held in (each_map IsEmpty HasNoNote (λ v e. e.1) _ h.2, h.3)
 
 pub direct-writer-requires-clause-chains : goal.direct-writer-requires-clause-chains
 direct-writer-requires-clause-chains g c =
-    let h = c.in_ok-chains-2.ensures.held in let n = c.note_all-chains.ensures.noted in let own = c.in_ok-own.ensures.held in let directory = c.args.directory in
-    let vs = map (λ x. x.seat.me.0) c.in_ok-chains-2.chains.items in let ws = map (λ x. x.seat.me.0) c.note_all-chains.result.items in (
+    let h = c.in_ok-chains-2.ensures.held in let n = c.reserve_all-owned.ensures.kept in
+    let vs = map (λ x. x.seat.me.0) c.in_ok-chains-2.chains.items in let ws = map (λ x. x.seat.me.0) c.reserve_all-owned.result.1.items in (
       pair_from c.args.first vs ws n.1 h.1,
       pair_nothing vs ws n.1 (each_map IsEmpty HasNothing (λ v e. e.0) vs h.2),
-      subst (λ (d : ℕ). Each (HasNote (d + 1)) ws) (sym own.0) (each_map (Noted (g.W.Caller.heard c.alloc.new.caller) (directory + 1)) (HasNote (directory + 1)) (λ v z. z.is) ws n.2),
+      subst (λ r. Each (HasNote (reserved (object_in r))) ws) (sym c.reserve_all-owned.ensures.owned) n.2,
       n.3,
+    )
+
+pub direct-writer-requires-clause-record : goal.direct-writer-requires-clause-record
+direct-writer-requires-clause-record g c =
+    ap payload_in c.reserve_all-owned.ensures.owned ∙ (c.in-Ok.ensures.owned.0 ∙ ap (words_by c.args.first) (sym (c.reserve_all-owned.ensures.kept.0 ∙ c.in_ok-chains-2.ensures.held.0)))
+
+pub returns-clause-changes : goal.returns-clause-changes
+returns-clause-changes g c =
+    let w = g.W.Caller in let w0 = c.args.caller.now in let w1 = c.hold_empty.new.caller in let w2 = c.hold_all.new.caller in let w3 = c.alloc.new.caller in let w4 = c.reserve_all-owned.new.caller in let w5 = c.direct-writer.new.caller in let w6 = c.split.new.caller in
+    let many = vec_len c.in_ok-chains-2.chains in let size = c.in_ok-chains-2.ensures.held.0 in let count : 0 + 0 + 0 + many + 1 + 0 ≡ c.args.buckets + 1 = omega arith in (
+      subst (MakesMany w w0 w6) count (more_made w w0 w5 w6 (0 + 0 + 0 + many + 1) 0
+          (more_made w w0 w4 w5 (0 + 0 + 0 + many) 1
+          (more_made w w0 w3 w4 (0 + 0 + 0) many
+          (more_made w w0 w2 w3 (0 + 0) 0 (more_made w w0 w1 w2 0 0 (none_made w w0 w1 c.hold_empty.ensures.same.0) (none_made w w1 w2 c.hold_all.ensures.same.0)) (none_made w w2 w3 c.alloc.ensures.same.0)) c.reserve_all-owned.ensures.same.0)
+          (one_made w w4 w5 (w.heard w5) c.direct-writer.ensures.same.0))
+          (none_made w w5 w6 c.split.ensures.same.0.0.0)),
+      tt,
     )
 
 pub returns-clause-map : goal.returns-clause-map
 returns-clause-map g c key =
-    let h = c.in_ok-chains-2.ensures.held in let n = c.note_all-chains.ensures.noted in let own = c.in_ok-own.ensures.held in let chains = g.B.Site.sizes.chains in let log : Log = g.W.Caller.heard c.direct-writer.new.caller in
+    let h = c.in_ok-chains-2.ensures.held in let n = c.reserve_all-owned.ensures.kept in let own = c.in_ok-own.ensures.held in let chains = g.B.Site.sizes.chains in let log : Log = g.W.Caller.heard c.direct-writer.new.caller in
     subst (λ (l : Log). (directed_map chains c.args.directory l key ≡ None) × LeadsTo c.args.directory l key (bucket_of c.args.first c.args.buckets key)) (sym c.split.ensures.same.1)
     (subst (λ (d : ℕ). (directed_map chains d log key ≡ None) × LeadsTo d log key (bucket_of c.args.first c.args.buckets key)) own.0
     (subst (λ (k : ℕ). (directed_map chains c.in_ok-own.own.number log key ≡ None) × LeadsTo c.in_ok-own.own.number log key (bucket_of c.args.first k key)) (n.0 ∙ h.0) (c.direct-writer.ensures.map key)))
 
 pub returns-clause-heard : goal.returns-clause-heard
 returns-clause-heard g c =
-    let w = g.W.Caller in let w0 = c.args.caller.now in let w1 = c.hold_empty.new.caller in let w2 = c.hold_all.new.caller in let w3 = c.alloc.new.caller in let w4 = c.note_all-chains.new.caller in let w5 = c.direct-writer.new.caller in
-    let a = c.hold_empty.ensures in let b = c.hold_all.ensures in let o = c.alloc.ensures in let n = c.note_all-chains.ensures in let d = c.direct-writer.ensures.heard in
+    let w = g.W.Caller in let w0 = c.args.caller.now in let w1 = c.hold_empty.new.caller in let w2 = c.hold_all.new.caller in let w3 = c.alloc.new.caller in let w4 = c.reserve_all-owned.new.caller in let w5 = c.direct-writer.new.caller in
+    let a = c.hold_empty.ensures in let b = c.hold_all.ensures in let o = c.alloc.ensures in let n = c.reserve_all-owned.ensures in let d = c.direct-writer.ensures.heard in
     subst (IsAfter g.P.GracePlan.QSBR tabled (w.seen w0) (w.heard w0)) (sym c.split.ensures.same.1) (record {
-      after_seen = subst (λ (l : Log). Begins l (w.heard w5)) (n.same.0.0.0 ∙ (o.same.0.0 ∙ (b.same.0.0 ∙ a.same.0.0))) d.after_seen;
+      after_seen = subst (λ (l : Log). Begins l (w.heard w5)) (n.same.0.made.0 ∙ (o.same.0.0 ∙ (b.same.0.0 ∙ a.same.0.0))) d.after_seen;
       after_heard = begins_trans (w.heard w0) (w.heard w1) (w.heard w5) a.heard.after_heard (begins_trans (w.heard w1) (w.heard w2) (w.heard w5) b.heard (begins_trans (w.heard w2) (w.heard w3) (w.heard w5) o.heard.after_heard (begins_trans (w.heard w3) (w.heard w4) (w.heard w5) n.heard d.after_heard)));
       run = d.run;
     })
@@ -130,10 +148,10 @@ returns-clause-later g c = (returns-clause-heard g c).after_heard
 
 pub returns-clause-looks : goal.returns-clause-looks
 returns-clause-looks g c =
-    let w = g.W.Caller in let one = c.hold_empty.ensures.same.2 in let two = c.hold_all.ensures.same.2 in let three = c.in-Ok.ensures.took in let n = c.note_all-chains.ensures.same in let d = c.direct-writer.ensures.same in let cell = cell_in c.in-Ok.owned.seat.me.0.object in
+    let w = g.W.Caller in let one = c.hold_empty.ensures.same.2 in let two = c.hold_all.ensures.same.2 in let three = c.in-Ok.ensures.took in let n = c.reserve_all-owned.ensures.same in let d = c.direct-writer.ensures.same in let cell = cell_in c.in-Ok.owned.seat.me.0.object in
     let held = looks_both (w.looks c.args.caller.now) (w.looks c.hold_empty.new.caller) (w.looks c.hold_all.new.caller) one.0 two.0 one.1 two.1 in (
       three.0 ++ (two.0 ++ one.0),
-      c.split.ensures.same.0.0.1 ∙ (d.1 ∙ (n.0.1 ∙ looks_both (w.looks c.args.caller.now) (w.looks c.hold_all.new.caller) (w.looks c.alloc.new.caller) (two.0 ++ one.0) three.0 held three.1)),
+      c.split.ensures.same.0.0.1 ∙ (d.1 ∙ (n.1 ∙ looks_both (w.looks c.args.caller.now) (w.looks c.hold_all.new.caller) (w.looks c.alloc.new.caller) (two.0 ++ one.0) three.0 held three.1)),
       (cell ∷ [], refl, but_after g.B.Site.sizes (two.0 ++ one.0) three.0 (cell ∷ []) (frees_both g.B.Site.sizes one.0 two.0 one.2 two.2) (keeps_one g.B.Site.sizes cell (object_in c.in-Ok.owned.seat.me.0.object).0 three.0 three.2)),
       tt,
     )
@@ -141,9 +159,9 @@ returns-clause-looks g c =
 -- the directory's chain was unused once it was held, and then each bucket's
 pub returns-clause-free : goal.returns-clause-free
 returns-clause-free g c chain one =
-    let q = g.P.GracePlan.QSBR in let w = g.W.Caller in let w0 = c.args.caller.now in let w1 = c.hold_empty.new.caller in let w2 = c.hold_all.new.caller in let w3 = c.alloc.new.caller in let w4 = c.note_all-chains.new.caller in let w5 = c.split.new.caller in let z5 : Log = w.heard c.direct-writer.new.caller in
+    let q = g.P.GracePlan.QSBR in let w = g.W.Caller in let w0 = c.args.caller.now in let w1 = c.hold_empty.new.caller in let w2 = c.hold_all.new.caller in let w3 = c.alloc.new.caller in let w4 = c.reserve_all-owned.new.caller in let w5 = c.split.new.caller in let z5 : Log = w.heard c.direct-writer.new.caller in
     let a = c.hold_empty.ensures in
-    let goes : Begins (w.heard w2) (w.heard w5) = subst (Begins (w.heard w2)) (sym c.split.ensures.same.1) (begins_trans (w.heard w2) (w.heard w3) z5 c.alloc.ensures.heard.after_heard (begins_trans (w.heard w3) (w.heard w4) z5 c.note_all-chains.ensures.heard c.direct-writer.ensures.heard.after_heard)) in
+    let goes : Begins (w.heard w2) (w.heard w5) = subst (Begins (w.heard w2)) (sym c.split.ensures.same.1) (begins_trans (w.heard w2) (w.heard w3) z5 c.alloc.ensures.heard.after_heard (begins_trans (w.heard w3) (w.heard w4) z5 c.reserve_all-owned.ensures.heard c.direct-writer.ensures.heard.after_heard)) in
     ⊎_elim
     (λ (is : chain ≡ c.args.directory). record {
       at = w.heard w1;
@@ -158,22 +176,23 @@ returns-clause-free g c chain one =
 -- each bucket got its note, and then the directory came
 pub returns-clause-founded : goal.returns-clause-founded
 returns-clause-founded g c =
-    let q = g.P.GracePlan.QSBR in let w = g.W.Caller in let w0 = c.args.caller.now in let w1 = c.hold_empty.new.caller in let w2 = c.hold_all.new.caller in let w3 = c.alloc.new.caller in let w4 = c.note_all-chains.new.caller in let w5 = c.direct-writer.new.caller in
-    let a = c.hold_empty.ensures in let b = c.hold_all.ensures in let o = c.alloc.ensures in let n = c.note_all-chains.ensures in let d = c.direct-writer.ensures.pushed in let h = c.in_ok-chains-2.ensures.held in let own = c.in_ok-own.ensures.held.0 in
-    let first = c.args.first in let directory = c.args.directory in let many = c.args.buckets in let object = object_in c.in-Ok.owned.seat.me.0.object in
+    let q = g.P.GracePlan.QSBR in let w = g.W.Caller in let w0 = c.args.caller.now in let w1 = c.hold_empty.new.caller in let w2 = c.hold_all.new.caller in let w3 = c.alloc.new.caller in let w4 = c.reserve_all-owned.new.caller in let w5 = c.direct-writer.new.caller in
+    let a = c.hold_empty.ensures in let b = c.hold_all.ensures in let o = c.alloc.ensures in let n = c.reserve_all-owned.ensures in let d = c.direct-writer.ensures.pushed in let h = c.in_ok-chains-2.ensures.held in let own = c.in_ok-own.ensures.held.0 in
+    let first = c.args.first in let directory = c.args.directory in let many = c.args.buckets in let object = object_in c.in-Ok.owned.seat.me.0.object in let its = object_in c.reserve_all-owned.result.0.seat.me.0.object in
     let seen : w.seen w3 ≡ w.seen w0 = o.same.0.0 ∙ (b.same.0.0 ∙ a.same.0.0) in
     let heard : Begins (w.heard w0) (w.heard w3) = begins_trans (w.heard w0) (w.heard w1) (w.heard w3) a.heard.after_heard (begins_trans (w.heard w1) (w.heard w2) (w.heard w3) b.heard o.heard.after_heard) in
-    let told : NotesAll (Writes q tabled (w.seen w0)) (directory + 1) first many (w.heard w3) (w.heard w4) =
-    subst (λ (k : ℕ). NotesAll (Writes q tabled (w.seen w0)) (directory + 1) first k (w.heard w3) (w.heard w4)) h.0
-    (subst (λ (s : Log). NotesAll (Writes q tabled s) (directory + 1) first (vec_len c.in_ok-chains-2.chains) (w.heard w3) (w.heard w4)) seen (n.told first h.1)) in
+    let told : NotesAll (Writes q tabled (w.seen w0)) (reserved object) first many (w.heard w3) (w.heard w4) =
+    subst (λ (k : ℕ). NotesAll (Writes q tabled (w.seen w0)) (reserved object) first k (w.heard w3) (w.heard w4)) h.0
+    (subst (λ (s : Log). NotesAll (Writes q tabled s) (reserved object) first (vec_len c.in_ok-chains-2.chains) (w.heard w3) (w.heard w4)) seen (n.told first h.1)) in
     subst (Founds q tabled directory (w.seen w0) (w.heard w0) first many) (sym c.split.ensures.same.1) (record {
       noted = w.heard w4;
       object = object;
       cell = d.0;
-      notes = notes_weaker (Writes q tabled (w.seen w0)) (writes_weaker q tabled (w.seen w0)) (directory + 1) first many (w.heard w0) (w.heard w3) (w.heard w4) heard told;
-      pushed = subst (λ (s : Log). Writes q tabled s (w.heard w4) (Object (Push directory object d.0 (words_by first many))) (w.heard w5)) (n.same.0.0.0 ∙ seen)
-          (subst (λ (k : ℕ). Writes q tabled (w.seen w4) (w.heard w4) (Object (Push k object d.0 (words_by first many))) (w.heard w5)) own
-          (subst (λ (k : ℕ). Writes q tabled (w.seen w4) (w.heard w4) (Object (Push c.in_ok-own.own.number object d.0 (words_by first k))) (w.heard w5)) (n.noted.0 ∙ h.0) d.1));
+      notes = notes_weaker (Writes q tabled (w.seen w0)) (writes_weaker q tabled (w.seen w0)) (reserved object) first many (w.heard w0) (w.heard w3) (w.heard w4) heard told;
+      pushed = subst (λ r. Writes q tabled (w.seen w0) (w.heard w4) (Object (Push directory (object_in r) d.0 (words_by first many))) (w.heard w5)) n.owned
+          (subst (λ (s : Log). Writes q tabled s (w.heard w4) (Object (Push directory its d.0 (words_by first many))) (w.heard w5)) (n.same.0.made.0 ∙ seen)
+          (subst (λ (k : ℕ). Writes q tabled (w.seen w4) (w.heard w4) (Object (Push k its d.0 (words_by first many))) (w.heard w5)) own
+          (subst (λ (k : ℕ). Writes q tabled (w.seen w4) (w.heard w4) (Object (Push c.in_ok-own.own.number its d.0 (words_by first k))) (w.heard w5)) (n.kept.0 ∙ h.0) d.1)));
     })
 
 -- the directory's chain, or a bucket's, was taken
@@ -204,7 +223,7 @@ pub invariant_of-left : goal.invariant_of-left
 invariant_of-left g c =
     let dir = c.direct-writer.result.0 in let n = dir.naming in let e = c.direct-writer.ensures in let log : Log = g.W.Caller.heard c.direct-writer.new.caller in let p = e.pushed.1 in
     let linked : IsLinked n.directory n.object log = subst (IsLinked n.directory n.object) (sym e.told) (linked_by dir.chain.seat.me.0 n.directory n.object n.first n.buckets dir.chain.owns.1 (dir.chain.owns.2 ∙ dir.own.0) dir.alone dir.words) in
-    let none = only_none g.P.GracePlan.QSBR c.in_ok-own.own.number p.before log (object_in c.in-Ok.owned.seat.me.0.object) e.pushed.0 c.args.first (vec_len c.note_all-chains.result) p.wrote p.run in
+    let none = only_none g.P.GracePlan.QSBR c.in_ok-own.own.number p.before log (object_in c.reserve_all-owned.result.0.seat.me.0.object) e.pushed.0 c.args.first (vec_len c.reserve_all-owned.result.1) p.wrote p.run in
     let all = subst (λ (d : ℕ). LeavesOnly d log (λ k. ⊥) (λ o. ⊥)) (sym (ap (λ (m : Naming). m.directory) e.directory)) none in let empty : c.new.result.items ≡ [] = search rules in record {
       some = λ no. cc;
       alone = rw empty tt;
