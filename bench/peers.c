@@ -528,13 +528,19 @@ extern const struct rcu_flavor_struct urcu_mb_flavor, urcu_memb_flavor, urcu_qsb
 		}                                                                                                      \
 		urcu_##name##_unregister_thread();                                                                     \
 	}                                                                                                              \
-	static void name##_insert(void)                                                                                \
+	static void name##_fill_none(void)                                                                             \
 	{                                                                                                              \
 		name##_fill(LARGE, 0);                                                                                 \
+	}                                                                                                              \
+	/* Each of the threads has keys, and so buckets, of its own. */                                                \
+	static void name##_insert(void)                                                                                \
+	{                                                                                                              \
+		pthread_once(&once, name##_fill_none);                                                                 \
+		unsigned long hand = atomic_fetch_add(&claimed, 1);                                                    \
 		urcu_##name##_register_thread();                                                                       \
 		for (unsigned long i = 0; i < count; i++) {                                                            \
 			urcu_##name##_read_lock();                                                                     \
-			add_entry(i);                                                                                  \
+			add_entry(i * threads + hand);                                                                 \
 			urcu_##name##_read_unlock();                                                                   \
 		}                                                                                                      \
 		urcu_##name##_unregister_thread();                                                                     \

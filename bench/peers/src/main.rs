@@ -193,14 +193,14 @@ fn insert(table: &Table, key: u64) {
     table.write().unwrap_or_else(PoisonError::into_inner).insert(key, key);
 }
 
-/// What one thread does with a table.
-fn part_of_table(kind: &str, table: &Table, count: u64) {
+/// What one of the threads does with a table.
+fn part_of_table(kind: &str, table: &Table, count: u64, hand: u64, threads: u64) {
     match kind {
         "hit" => look_up(table, FEW - 1, 0, count),
         "miss" => look_up(table, FEW - 1, OTHERS, count),
         "hit-large" => look_up(table, MANY, 0, count),
         "miss-large" => look_up(table, MANY, OTHERS, count),
-        "insert" => repeat(count, |key| insert(table, key)),
+        "insert" => repeat(count, |number| insert(table, number * threads + hand)),
         _ => repeat(count, |number| {
             insert(table, number ^ OTHERS);
             table.write().unwrap_or_else(PoisonError::into_inner).remove(&(number ^ OTHERS));
@@ -217,8 +217,9 @@ fn run_table(kind: &str, count: u64, threads: usize) {
     };
     let table = RwLock::new((0..keys).map(|key| (key, key)).collect());
     thread::scope(|scope| {
-        (0..threads).for_each(|_| {
-            scope.spawn(|| part_of_table(kind, &table, count));
+        (0..threads as u64).for_each(|hand| {
+            let table = &table;
+            scope.spawn(move || part_of_table(kind, table, count, hand, threads as u64));
         });
     });
 }

@@ -60,7 +60,7 @@ pub(crate) enum OnTable {
     Hit(Entries),
     /// A section that looks up a key that is not there.
     Miss(Entries),
-    /// A key gets a value, among at most 65,535 in 4,095 buckets.
+    /// A key gets a value, among at most 65,535 in 4,095 buckets. Each thread has keys of its own.
     Insert,
     /// A key gets a value and is taken out again, among 1,024 in 1,024 buckets.
     Remove,
@@ -82,7 +82,7 @@ pub(crate) enum Kind {
 }
 
 /// What each word of the command line names.
-const KINDS: [(&str, Kind); 35] = [
+const KINDS: [(&str, Kind); 36] = [
     ("section", Kind::Chains(OnChains::Section, 1)),
     ("section-by-two", Kind::Chains(OnChains::Section, 2)),
     ("nested", Kind::Chains(OnChains::Nested, 1)),
@@ -119,6 +119,7 @@ const KINDS: [(&str, Kind); 35] = [
         Kind::Table(OnTable::Miss(Entries::Many), 2),
     ),
     ("insert", Kind::Table(OnTable::Insert, 1)),
+    ("insert-by-two", Kind::Table(OnTable::Insert, 2)),
     ("remove", Kind::Table(OnTable::Remove, 1)),
     ("through", Kind::Table(OnTable::Through, 1)),
     ("grow", Kind::Table(OnTable::Grow, 1)),

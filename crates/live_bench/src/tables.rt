@@ -157,14 +157,17 @@ fn ticks(clock: &AtomicU64, done: &AtomicBool) -> u64 {
     u64::MAX
 }
 
-/// Gives so many keys a value each.
+/// Gives so many keys a value each: the first key, and then each key that lies a step further.
 fn insertions<P: GracePlan + Drop, B: Site, R: Wait>(
     rt: &R,
     map: &Map<'_, P, B>,
     record: &mut Handle<B>,
     count: u64,
+    first: u64,
+    step: u64,
 ) -> Result<u64, Refusal> {
-    for key in 0..count {
+    for number in 0..count {
+        let key = number.wrapping_mul(step).wrapping_add(first);
         put(rt, map, record, key, key)?;
     }
     Ok(count)
@@ -218,7 +221,14 @@ fn hand<P: GracePlan + Drop, B: Site, R: Wait>(
 ) -> Result<u64, Refusal> {
     let count = measured.count;
     match (measured.operation, number) {
-        (OnTable::Insert, _) => insertions(rt, measured.map, record, count),
+        (OnTable::Insert, _) => insertions(
+            rt,
+            measured.map,
+            record,
+            count,
+            number as u64,
+            measured.hands as u64,
+        ),
         (OnTable::Remove, _) => removals(rt, measured.map, record, count),
         (OnTable::Grow, _) => growths(rt, alloc, measured, record, count),
         (OnTable::HitWhileGrowing | OnTable::SlowestWhileGrowing, 0) => {
@@ -268,7 +278,7 @@ pub(crate) fn on_table<
     let (domain, mut record) = opened.into_domain::<B, RoundDone>(alloc)?;
     let home = &domain;
     let map = table(rt, alloc, home, &mut record, operation.buckets())?;
-    insertions(rt, &map, &mut record, operation.keys())?;
+    insertions(rt, &map, &mut record, operation.keys(), 0, 1)?;
     let root = Mutex::new(record);
     let measured = Measured {
         domain: home,
