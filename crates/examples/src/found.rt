@@ -12,6 +12,7 @@ pub(crate) struct Found {
     pub(crate) codes: u64,
     pub(crate) room: (u64, u64),
     pub(crate) reclaimed: u64,
+    pub(crate) stock: (u64, u64),
     pub(crate) free: (u64, u64),
 }
 
@@ -30,6 +31,7 @@ impl Found {
             self.room.0, self.room.1
         )?;
         println!(rt; "shutdown: {} records were reclaimed", self.reclaimed)?;
+        println!(rt; "stock: {} pieces of {} goods", self.stock.1, self.stock.0)?;
         println!(rt;
             "leases: room {} is free, and {} record was reclaimed",
             self.free.0, self.free.1

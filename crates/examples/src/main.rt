@@ -9,6 +9,7 @@ mod limits;
 mod polling;
 mod routes;
 mod shutdown;
+mod stock;
 
 use found::{Found, least, reclaimed};
 use rcu::{Config, Opened, Refusal, with_domain, with_threads};
@@ -39,6 +40,7 @@ fn show<R: Threads + Wait + Sync>(rt: &R, alloc: Global) -> Result<Found, Refusa
         codes: with_domain(rt, alloc, SMALL, callbacks::Files)??,
         room: with_domain(rt, alloc, SMALL, polling::Hotel)??,
         reclaimed: reclaimed(&stopped),
+        stock: with_domain(rt, alloc, SMALL, stock::Stock)??,
         free: leases::serve::<Brand, R>(rt, alloc, opened)?,
     })
 }

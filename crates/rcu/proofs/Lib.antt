@@ -5,3 +5,4 @@ pub mod Once
 pub mod Putting
 pub mod Refused
 pub mod Standing
+pub mod Walking

@@ -16,16 +16,20 @@ use Rattle.rcu_hash.specs.live_read.declared.reader_core.ReaderCore.{ReaderCore}
 use Rattle.rcu_hash.specs.live_read.declared.caller.Caller.{Ghosts}
 use Rattle.rcu_hash.specs.live_rule.declared.view.Sizes.{Sizes}
 use Rattle.rcu_hash.specs.rcu_list.Calls.{HandsOver}
-use Rattle.rcu_hash.specs.Directories.{directed_map}
+use Rattle.rcu_hash.specs.Directories.{VisitsTable, directed_map}
 use Rattle.rcu_hash.specs.Publishing.{ChangesThrough}
 use Rattle.rcu_hash.specs.Refusing.{RefusesInsertionThrough, RefusesReplacementThrough}
 use Rattle.rcu.specs.Reclaiming.{gone_code}
 use Rattle.rcu.specs.Trying.{StaysOn}
 
+-- the value that comes of this word
+abbrev pub HasWord : {T : Type 0} → (T → ℕ) → ℕ → T → Type 0
+HasWord packed word x = (y : _) → packed y ≡ word → x ≡ y
+
 -- By the word of a value: the key has this value in the log, or none.
 abbrev pub HasAt : {T : Type 0} → (T → ℕ) → ℕ → ℕ → Log → ℕ → Option T → Type 0
 HasAt packed chains d log key None = directed_map chains d log key ≡ None
-HasAt packed chains d log key (Some x) = (word : ℕ) × (directed_map chains d log key ≡ Some word) × ((y : _) → packed y ≡ word → x ≡ y)
+HasAt packed chains d log key (Some x) = (word : ℕ) × (directed_map chains d log key ≡ Some word) × HasWord packed word x
 
 -- A reader that had seen and heard of these logs, and has seen the new one at the end, found this: the key had it at a
 -- moment of the call.
@@ -39,6 +43,10 @@ pub record Gets {T : Type 0} (packed : T → ℕ) (chains d : ℕ) (seen heard n
 -- a reader found this for the key between these two moments of it
 abbrev pub GetsValue : {T P K : Type 0} {g : plan.Ghosts P} → (T → ℕ) → ℕ → ℕ → ReaderCore P K g → ReaderCore P K g → ℕ → Option T → Type 0
 GetsValue packed chains d r s key found = Gets packed chains d (log_of r) r.seat.me.0.heard (log_of s) key found
+
+-- or it went through the map, and a call was made with the key and the value of each entry that it met
+abbrev pub Meets : {T F P K : Type 0} {g : plan.Ghosts P} → (T → ℕ) → ℕ → ℕ → ReaderCore P K g → ReaderCore P K g → (F → ℕ → T → F → Type 0) → F → F → Type 0
+Meets packed chains d r s called = VisitsTable r s chains d (λ f e h. (x : _) × HasWord packed e.1 x × called f e.0 x h)
 
 -- by this event the object left its chain
 abbrev pub Unlinks : LiveEvent → ObjectId → Type 0

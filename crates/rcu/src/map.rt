@@ -14,7 +14,7 @@ ghost use Rattle.rcu_hash.specs.Refusing.{RefusesRemovalThrough};
 ghost use Rattle.rcu_hash.specs.Tidying.{IsTidied};
 ghost use Rattle.rcu_hash.specs.Writers.{Each};
 ghost use Rattle.rcu.specs.declared.reclaim.Reclaim.TheVariants.{Moved};
-ghost use Rattle.rcu.specs.Keys.{ChangesKey, GetsValue, IsNotSet};
+ghost use Rattle.rcu.specs.Keys.{ChangesKey, GetsValue, HasWord, IsNotSet, Meets};
 ghost use Rattle.rcu.specs.Resizing.{GrewTo, IsNotResized, IsNotTidied, IsResized, OnlyMoves};
 
 use crate::reclaim::Reclaim;
@@ -162,6 +162,30 @@ impl<'d, P: GracePlan + Drop, B: Site, F: Deleter + Copy, T: Word + Copy + Drop>
             Ok(_) => Ok(()),
             Err((refusal, _)) => Err(refusal),
         }
+    }
+
+    /// Goes through the map, as `RcuHash::for_each`: a call with the key and the value of each entry that it comes to. A
+    /// key that is there all along, from the call to the return, is met exactly once, also while its value is replaced
+    /// and while the map grows; one that never is there is not met; and each value is one that its key had meanwhile.
+    ///
+    /// It returns where each call does. It never waits and takes no memory.
+    pub fn for_each<V: FnMut(u64, T)>(&self, section: &mut Section<'_, P, Tabled, B>, visit: &mut V)
+        requires open_section { 0 < section.old.reader.now.core.depth }
+        requires callable { V.IsAlwaysCallable visit.old }
+        ensures reader { section.new.reader.ghost_name ≡ section.old.reader.ghost_name }
+        ensures looked { Looks P.QSBR tabled section.old.reader.now.core section.new.reader.now.core }
+        ensures callable { V.IsAlwaysCallable visit.new }
+        ensures met { Meets T.packed B.sizes.chains self.now.table.directory section.old.reader.now.core section.new.reader.now.core (λ f k v. V.step f k v tt) visit.old visit.new }
+    {
+        let mut unpacked = |key: u64, word: u64|
+            requires callable { V.IsAlwaysCallable visit.now }
+            ensures callable { V.IsAlwaysCallable visit.exit.now }
+            ensures same { visit.exit.ghost_name ≡ visit.entry.ghost_name }
+            ensures called { (value : T) × HasWord T.packed word value × V.step visit.entry.now key value tt visit.exit.now }
+        {
+            visit(key, T::unpack(word));
+        };
+        self.table.for_each(section, &mut unpacked);
     }
 
     /// Retires the records that earlier growths left, after a grace period, and gives the chains of earlier buckets back;
