@@ -1,5 +1,5 @@
 -- What a call of a chain's writer does.
-use Rattle.std.specs.Prelude.{◌≡◌, ◌⊎◌, Bool, ℕ, ◌*◌, ◌<◌, ◌≤◌, List, [], ◌∷◌, Some, slice_get}
+use Rattle.std.specs.Prelude.{◌≡◌, ◌⊎◌, Bool, ℕ, ◌+◌, ◌*◌, ◌^◌, ◌<◌, ◌≤◌, List, [], ◌∷◌, Some, slice_get}
 use Rattle.atomic_table.specs.Table.{Me}
 use Rattle.atomic_table.specs.declared.shared.Seat.{Seat}
 use Rattle.rcu_model.specs.declared.event.ObjectId.{ObjectId}
@@ -21,6 +21,10 @@ use Rattle.live_words.specs.live_chains.Chains.{cut_of}
 use Rattle.live_read.specs.Hearing.{IsAfter}
 use Rattle.live_read.specs.declared.caller.Caller.{Ghosts}
 use Rattle.live_write.specs.Chains.{MayPublish, MayReserve, Publishes, list_in, push_by, replace_by}
+
+-- the note of a chain that is reserved for the object of this seat's record
+abbrev pub reservation : View → ℕ
+reservation u = 2 ^ 63 + (object_in u.object).0
 
 -- by a seat before and after, and by the number of its chain
 module _ {T : Type 0} (qsbr : Bool) (allows : Log → LiveEvent → Type 0) (before after : Seat T View) (was is : ℕ) where
@@ -71,12 +75,12 @@ module _ {W S : Type 0} (w : Ghosts W S) (qsbr : Bool) (allows : Log → LiveEve
   abbrev pub PublishesPush : View → Log → Type 0
   PublishesPush u log = Publishes qsbr allows writer (w.seen old) (w.heard old) u.seen (push_by writer u) log
 
-  -- a note of its chain, before the object of this seat's record is linked
-  abbrev pub MayNoteFor : View → (chain note : ℕ) → Type 0
-  MayNoteFor u chain note = MayReserve qsbr allows writer (w.seen old) (w.heard old) u chain note
+  -- the note that reserves its chain for the object of this seat's record, before that is linked
+  abbrev pub MayReserveFor : View → ℕ → Type 0
+  MayReserveFor u chain = MayReserve qsbr allows writer (w.seen old) (w.heard old) u chain (reservation u)
 
-  abbrev pub PublishesNoteFor : View → (chain note : ℕ) → Log → Type 0
-  PublishesNoteFor u chain note log = Publishes qsbr allows writer (w.seen old) (w.heard old) u.seen (ChainNote chain note) log
+  abbrev pub PublishesReservation : View → ℕ → Log → Type 0
+  PublishesReservation u chain log = Publishes qsbr allows writer (w.seen old) (w.heard old) u.seen (ChainNote chain (reservation u)) log
 
   -- a cut of the object at an index
   abbrev pub MayCut : ℕ → Type 0

@@ -40,8 +40,8 @@ pub record GoesOn (writer : View) (seen heard owner log : Log) : Type 0 where
   pub after_caller : Begins seen log × Begins heard log
   pub after_owner : Begins owner log
 
--- the rule of chains allows this note of the writer's chain after every such log, in which no chain has linked the object
--- of another seat's record
+-- the rule of chains allows this note of the writer's chain after every such log, in which no chain has linked the
+-- object of another seat's record
 abbrev pub MayReserve : Bool → (Log → LiveEvent → Type 0) → (writer : View) (seen heard : Log) (owner : View) (chain note : ℕ) → Type 0
 MayReserve qsbr allows writer seen heard owner chain note = (log : Log) → GoesOn writer seen heard owner.seen log → IsLiveRun qsbr allows log → AreAsKnown log writer.chains → ¬ In (state_of log).used (object_in owner.object) → allows log (ChainNote chain note)
 

@@ -11,7 +11,7 @@ ghost use Rattle.live_words.specs.live_rule.Places.{hold_at};
 ghost use Rattle.live_words.specs.live_rule.Seats.{lent_chains};
 ghost use Rattle.live_words.specs.live_table.Rights.{AreAsKnown, IsListed, IsWriter, object_in, own_in};
 ghost use Rattle.live_read.specs.Hearing.{IsAfter, OnlyHears, OnlyMakesLast, Stays};
-ghost use Rattle.live_write.specs.Calls.{GetsNote, GetsObject, HasList, HearsAll, IsCutFrom, IsHad, IsNotHad, LosesObject, MayCut, MayNoteFor, MayPush, MayReplace, OnlyLooksIn, PublishesCut, PublishesNoteFor, PublishesPush, PublishesReplace, TakesIn};
+ghost use Rattle.live_write.specs.Calls.{GetsNote, GetsObject, HasList, HearsAll, IsCutFrom, IsHad, IsNotHad, LosesObject, MayCut, MayPush, MayReplace, MayReserveFor, OnlyLooksIn, PublishesCut, PublishesPush, PublishesReplace, PublishesReservation, TakesIn, reservation};
 ghost use Rattle.live_write.specs.Chains.{IsFirstWith, MayPublish, Publishes, first_word, list_in};
 
 use crate::lending::{Lent, take_right};
@@ -253,9 +253,9 @@ impl<'d, P: GracePlan, K: ChainRule, B: Site, H> Chain<'d, P, K, B, H> {
     /// and who allocated the record had seen, and the caller hears of it. The chain's rule has to allow it wherever it
     /// may come. It takes no memory and never waits.
     pub fn reserve<W: Caller<B>>(&mut self, caller: &mut W, owned: Owned<B>) -> Owned<B>
-        requires rule { MayNoteFor W.Caller P.QSBR K.allows caller.old self.old.seat.me.0 owned.seat.me.0 self.old.number (2 ^ 63 + (object_in owned.seat.me.0.object).0) }
-        ensures note { GetsNote self.old.seat self.new.seat self.old.number self.new.number self.old.home.now self.new.home.now (2 ^ 63 + (object_in owned.seat.me.0.object).0) }
-        ensures noted { PublishesNoteFor W.Caller P.QSBR K.allows caller.old self.old.seat.me.0 owned.seat.me.0 self.old.number (2 ^ 63 + (object_in owned.seat.me.0.object).0) self.new.seat.me.0.seen }
+        requires rule { MayReserveFor W.Caller P.QSBR K.allows caller.old self.old.seat.me.0 owned.seat.me.0 self.old.number }
+        ensures note { GetsNote self.old.seat self.new.seat self.old.number self.new.number self.old.home.now self.new.home.now (reservation owned.seat.me.0) }
+        ensures noted { PublishesReservation W.Caller P.QSBR K.allows caller.old self.old.seat.me.0 owned.seat.me.0 self.old.number self.new.seat.me.0.seen }
         ensures owned { (result.seat.me.0.object ≡ owned.seat.me.0.object) × (result.seat.me.0.seen ≡ self.new.seat.me.0.seen) }
         ensures heard { W.heard caller.new ≡ self.new.seat.me.0.seen }
         ensures same { OnlyMakesLast W.Caller caller.old caller.new self.new.seat.me.0.seen }

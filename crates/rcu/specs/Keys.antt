@@ -44,9 +44,9 @@ pub record Gets {T : Type 0} (packed : T → ℕ) (chains d : ℕ) (seen heard n
 abbrev pub GetsValue : {T P K : Type 0} {g : plan.Ghosts P} → (T → ℕ) → ℕ → ℕ → ReaderCore P K g → ReaderCore P K g → ℕ → Option T → Type 0
 GetsValue packed chains d r s key found = Gets packed chains d (log_of r) r.seat.me.0.heard (log_of s) key found
 
--- or it went through the map, and a call was made with the key and the value of each entry that it met
-abbrev pub Meets : {T F P K : Type 0} {g : plan.Ghosts P} → (T → ℕ) → ℕ → ℕ → ReaderCore P K g → ReaderCore P K g → (F → ℕ → T → F → Type 0) → F → F → Type 0
-Meets packed chains d r s called = VisitsTable r s chains d (λ f e h. (x : _) × HasWord packed e.1 x × called f e.0 x h)
+-- a reader went through the map, and a call was made with the key and the value of each entry that it met
+abbrev pub Walks : {T F P K : Type 0} {g : plan.Ghosts P} → (T → ℕ) → ℕ → ℕ → ReaderCore P K g → ReaderCore P K g → (F → ℕ → T → F → Type 0) → F → F → Type 0
+Walks packed chains d r s called = VisitsTable r s chains d (λ f e h. (x : _) × HasWord packed e.1 x × called f e.0 x h)
 
 -- by this event the object left its chain
 abbrev pub Unlinks : LiveEvent → ObjectId → Type 0

@@ -41,8 +41,8 @@ module _ {W S : Type 0} (w : Ghosts W S) (old new : W) where
 
 -- by the sizes of the domain, and the type of the map's deleter
 module _ {W S : Type 0} (w : Ghosts W S) (qsbr : Bool) (sizes : Sizes) (d : ℕ) (R : RattleType) (old new : W) where
-  -- No change was made for the caller but the cuts and notes of tidyings. Each step of these left the map as it was, and each
-  -- object that was cut is retired with the callback that does nothing.
+  -- No change was made for the caller but the cuts and notes of tidyings. Each step of these left the map as it was, and
+  -- each object that was cut is retired with the callback that does nothing.
   pub record OnlyMoves : Type 0 where
     pub hears : HearsMore w old new
     pub steps : List (Kind × Log)

@@ -14,7 +14,7 @@ ghost use Rattle.rcu_hash.specs.Refusing.{RefusesRemovalThrough};
 ghost use Rattle.rcu_hash.specs.Tidying.{IsTidied};
 ghost use Rattle.rcu_hash.specs.Writers.{Each};
 ghost use Rattle.rcu.specs.declared.reclaim.Reclaim.TheVariants.{Moved};
-ghost use Rattle.rcu.specs.Keys.{ChangesKey, GetsValue, HasWord, IsNotSet, Meets};
+ghost use Rattle.rcu.specs.Keys.{ChangesKey, GetsValue, HasWord, IsNotSet, Walks};
 ghost use Rattle.rcu.specs.Resizing.{GrewTo, IsNotResized, IsNotTidied, IsResized, OnlyMoves};
 
 use crate::reclaim::Reclaim;
@@ -111,8 +111,7 @@ impl<'d, P: GracePlan + Drop, B: Site, F: Deleter + Copy, T: Word + Copy + Drop>
     ///
     /// Refused with `PoolFull` as `Domain::alloc`, or where the ranks of the key's bucket are used up, and with `Closed`
     /// or `Memory` as `Domain::retire`. It tries again where another thread gives the key a value, or takes it away, at
-    /// the same time, and
-    /// waits for the locks of the table and of the queue.
+    /// the same time. It waits for the locks of the table and of the queue.
     pub fn set<W: Caller<B>, R: Wait>(
         &self,
         rt: &R,
@@ -165,8 +164,8 @@ impl<'d, P: GracePlan + Drop, B: Site, F: Deleter + Copy, T: Word + Copy + Drop>
     }
 
     /// Goes through the map, as `RcuHash::for_each`: a call with the key and the value of each entry that it comes to. A
-    /// key that is there all along, from the call to the return, is met exactly once, also while its value is replaced
-    /// and while the map grows; one that never is there is not met; and each value is one that its key had meanwhile.
+    /// key that is there from the call to the return is met exactly once, also while its value is replaced or the map
+    /// grows. One that never is there is not met. Each value is one that its key had meanwhile.
     ///
     /// It returns where each call does. It never waits and takes no memory.
     pub fn for_each<V: FnMut(u64, T)>(&self, section: &mut Section<'_, P, Tabled, B>, visit: &mut V)
@@ -175,7 +174,7 @@ impl<'d, P: GracePlan + Drop, B: Site, F: Deleter + Copy, T: Word + Copy + Drop>
         ensures reader { section.new.reader.ghost_name ≡ section.old.reader.ghost_name }
         ensures looked { Looks P.QSBR tabled section.old.reader.now.core section.new.reader.now.core }
         ensures callable { V.IsAlwaysCallable visit.new }
-        ensures met { Meets T.packed B.sizes.chains self.now.table.directory section.old.reader.now.core section.new.reader.now.core (λ f k v. V.step f k v tt) visit.old visit.new }
+        ensures met { Walks T.packed B.sizes.chains self.now.table.directory section.old.reader.now.core section.new.reader.now.core (λ f k v. V.step f k v tt) visit.old visit.new }
     {
         let mut unpacked = |key: u64, word: u64|
             requires callable { V.IsAlwaysCallable visit.now }

@@ -39,8 +39,8 @@ abbrev pub NotesAll : (Log → LiveEvent → Log → Type 0) → (note first man
 NotesAll Tells note first zero heard log = Begins heard log
 NotesAll Tells note first (suc many) heard log = (at : Log) × Tells heard (ChainNote first note) at × NotesAll Tells note (first + 1) many at log
 
--- Each bucket of a new table was reserved for an object, which then came into the directory's chain as the directory, all
--- after what the caller had seen and heard of.
+-- Each bucket of a new table was reserved for an object, which then came into the directory's chain as the directory. All
+-- that came after what the caller had seen and heard of.
 pub record Founds (qsbr : Bool) (allows : Log → LiveEvent → Type 0) (d : ℕ) (seen heard : Log) (first buckets : ℕ) (log : Log) : Type 0 where
   pub noted : Log
   pub object : ObjectId
@@ -61,9 +61,9 @@ module _ (qsbr : Bool) (allows : Log → LiveEvent → Type 0) (chains d : ℕ) 
     pub had : (key : ℕ) → directed_map chains d leaves.writes.before key ≡ value_among entries key
     pub apart : AreApart entries
 
-  -- Each key got a record in its new bucket, with ranks from 0 on; then each new bucket was reserved for an object, and
-  -- each bucket of the directory that was linked got the table's note; and then the object took that one's place. Each of
-  -- these events left the table's map as it was.
+  -- Each key got a record in its new bucket, with ranks from 0 on. Then each new bucket was reserved for an object, and
+  -- each bucket of the directory that was linked got the table's note. At last the object took that one's place. Each of
+  -- these events left the map as it was.
   pub record Grows (heard : Log) (first buckets : ℕ) (entries : List (ℕ × ℕ)) (log : Log) : Type 0 where
     pub copied : Log
     pub noted : Log
