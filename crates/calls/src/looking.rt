@@ -129,7 +129,7 @@ fn look<P: GracePlan + Drop, B: Site>(
     if !is_there(maps, is_list, number) {
         return Answer::Refused(Refusal::NoActor);
     }
-    if walker.reader.core.depth() == 0 {
+    if walker.reader.depth() == 0 {
         return Answer::Refused(Refusal::NotOpen);
     }
     let room = if verb == Verb::WalkList || verb == Verb::WalkTable {
@@ -140,7 +140,7 @@ fn look<P: GracePlan + Drop, B: Site>(
     } else {
         None
     };
-    if walker.reader.core.depth() == GREATEST_DEPTH {
+    if walker.reader.depth() == GREATEST_DEPTH {
         return Answer::Refused(Refusal::NestFull);
     }
     walker.held = None;

@@ -116,9 +116,9 @@ pub(crate) fn reader_line<P: GracePlan + Drop, K: ChainRule, B: Site, R: Wait>(
 /// Whether a reader's section stands in the way of a grace period.
 fn is_inside<P: GracePlan, K: ChainRule, B: Site>(walker: &Walker<P, K, B>) -> bool {
     if P::QSBR {
-        walker.reader.core.word() != 0
+        walker.reader.word() != 0
     } else {
-        walker.reader.core.depth() != 0
+        walker.reader.depth() != 0
     }
 }
 

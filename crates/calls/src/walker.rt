@@ -63,7 +63,7 @@ fn unlock<P: GracePlan, K: ChainRule, B: Site>(walker: &mut Walker<P, K, B>) -> 
     ensures { Stands walker.new.reader.core walker.new.held }
 {
     let made = walker.reader.unlock();
-    walker.held = kept(walker.reader.core.depth(), walker.held);
+    walker.held = kept(walker.reader.depth(), walker.held);
     done(made)
 }
 
@@ -72,7 +72,7 @@ fn first<P: GracePlan, K: ChainRule, B: Site>(walker: &mut Walker<P, K, B>, chai
     requires stands { Stands walker.old.reader.core walker.old.held }
     ensures { Stands walker.new.reader.core walker.new.held }
 {
-    if walker.reader.core.depth() == 0 {
+    if walker.reader.depth() == 0 {
         return Answer::Refused(Refusal::NotOpen);
     }
     match walker.reader.first(chain) {
@@ -134,7 +134,7 @@ fn announce<P: GracePlan, K: ChainRule, B: Site>(walker: &mut Walker<P, K, B>, v
         Verb::Quiescent => walker.reader.quiescent(),
         _ => walker.reader.offline(),
     };
-    if walker.reader.core.depth() == 0 {
+    if walker.reader.depth() == 0 {
         walker.held = None;
     }
     done(made)

@@ -1,6 +1,6 @@
 //! Readers that bear the name of their table.
 
-ghost use Rattle.std.specs.Prelude.{◌≡◌, ◌⊎◌, ◌≤◌, ◌+◌, ◌-◌, ◌<◌, [], true, false, None, IfOk, IfErr, IfSome, IfNone, MatchBool};
+ghost use Rattle.std.specs.Prelude.{◌≡◌, ◌≢◌, ◌⊎◌, ◌↔◌, ◌≤◌, ◌+◌, ◌-◌, ◌<◌, [], true, false, None, IfOk, IfErr, IfSome, IfNone, IsTrue, MatchBool};
 ghost use Rattle.std.specs.Arc.{arc_value};
 ghost use Rattle.rcu_model.specs.declared.refusal.Refusal.TheVariants.{NoPlace, NotOpen};
 ghost use Rattle.reader_word.specs.declared.layout.Layout.TheVariants.{Wide};
@@ -23,7 +23,7 @@ use std::sync::Arc;
 #[derive(Drop)]
 pub struct Reader<P: GracePlan, K: ChainRule, B: Site> {
     /// What it is and does, by its own table.
-    pub core: ReaderCore<P, K>,
+    pub(crate) core: ReaderCore<P, K>,
     pub(crate) site: PhantomData<B>,
     pub ghost named: { (core.seat.table_id ≡ B.table) × (core.seat.me.0.sizes ≡ B.sizes) },
 }
@@ -45,6 +45,36 @@ impl<P: GracePlan, K: ChainRule, B: Site> Reader<P, K, B> {
             core,
             site: PhantomData,
         }
+    }
+
+    /// Its slot.
+    pub fn slot(&self) -> usize
+        ensures { result ≡ self.now.core.slot }
+    {
+        self.core.slot()
+    }
+
+    /// The word that it stored last.
+    pub fn word(&self) -> u64
+        ensures { result ≡ self.now.core.word }
+    {
+        self.core.word()
+    }
+
+    /// How many locks and sections are open.
+    pub fn depth(&self) -> u64
+        ensures { result ≡ self.now.core.depth }
+    {
+        self.core.depth()
+    }
+
+    /// Whether its section of the log is open, liburcu's `rcu_read_ongoing`: in the general-purpose flavour while a lock
+    /// or a section is open, and in the quiescent-state flavour while it is online.
+    pub fn is_inside(&self) -> bool
+        ensures general { P.QSBR ≡ false → IsTrue result ↔ (0 < self.now.core.depth) }
+        ensures quiescent { P.QSBR ≡ true → IsTrue result ↔ (self.now.core.word ≢ 0) }
+    {
+        self.core.is_inside()
     }
 
     // One more section or lock, with so many locks of the standard's face. It never waits.

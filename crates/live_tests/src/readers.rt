@@ -30,7 +30,7 @@ fn first_reader<P: GracePlan, K: ChainRule, B: Site, R: Wait>(
 
 /// The word that a reader stored last.
 fn word_of<B: Site>(reader: &Reader<MembPlan, AnyChain, B>) -> u64 {
-    reader.core.word()
+    reader.word()
 }
 
 fn nests<B: Site>(reader: &mut Reader<MembPlan, AnyChain, B>) -> Result<([u64; 5], bool), Refusal>
@@ -53,9 +53,9 @@ fn nests<B: Site>(reader: &mut Reader<MembPlan, AnyChain, B>) -> Result<([u64; 5
 
 fn locks<B: Site>(reader: &mut Reader<MembPlan, AnyChain, B>) -> Result<[bool; 6], Refusal> {
     let none = matches!(reader.unlock(), Err(Refusal::NotOpen));
-    let locked = reader.try_lock() && reader.core.word() == 1;
+    let locked = reader.try_lock() && reader.word() == 1;
     reader.unlock()?;
-    let left = reader.core.word() == 0;
+    let left = reader.word() == 0;
     let online = matches!(reader.online(), Err(Refusal::WrongFlavour));
     let quiescent = matches!(reader.quiescent(), Err(Refusal::WrongFlavour));
     let offline = matches!(reader.offline(), Err(Refusal::WrongFlavour));
@@ -71,7 +71,7 @@ fn announces<B: Site>(
     let silent = matches!(reader.quiescent(), Err(Refusal::NotOpen));
     let gone = matches!(reader.offline(), Err(Refusal::NotOpen));
     reader.online()?;
-    let online = reader.core.word();
+    let online = reader.word();
     let again = matches!(reader.online(), Err(Refusal::Busy));
     reader.lock()?;
     let locked = matches!(reader.quiescent(), Err(Refusal::Busy));
@@ -83,12 +83,12 @@ fn announces<B: Site>(
     drop(nested);
     drop(section);
     reader.quiescent()?;
-    let announced = reader.core.word();
+    let announced = reader.word();
     reader.offline()?;
     Ok((
         [outside, unlocked, tried, silent, gone],
         [again, locked, inside, within],
-        [online, announced, reader.core.word()],
+        [online, announced, reader.word()],
     ))
 }
 

@@ -48,13 +48,13 @@ fn fills<B: Site, R: Wait>(
     let Some(last) = readers.pop() else {
         return Err(Refusal::NotOpen);
     };
-    let given_back = last.core.slot();
+    let given_back = last.slot();
     if let Err((refusal, _)) = last.unregister(&mut record) {
         return Err(refusal);
     }
     let again: Reader<MembPlan, AnyChain, B> = Reader::register(rt, words, &mut record)?;
     let full_again = is_full::<B, R>(rt, words, &mut record);
-    Ok((count, full, given_back, again.core.slot(), full_again))
+    Ok((count, full, given_back, again.slot(), full_again))
 }
 
 /// Whether there is no slot for another reader.
@@ -85,14 +85,14 @@ fn leaves<B: Site, R: Wait>(
     let Err((Refusal::Busy, mut reader)) = reader.unregister(&mut record) else {
         return Err(Refusal::NotOpen);
     };
-    let locked = reader.core.word() == 1;
+    let locked = reader.word() == 1;
     reader.unlock()?;
     let left = reader.unregister(&mut record).is_ok();
     let cleared = words.words.shared.peek(48) == 0;
     let dropped: Reader<MembPlan, AnyChain, B> = Reader::register(rt, words, &mut record)?;
     drop(dropped);
     let next: Reader<MembPlan, AnyChain, B> = Reader::register(rt, words, &mut record)?;
-    Ok([set, locked, left, cleared, next.core.slot() == 1])
+    Ok([set, locked, left, cleared, next.slot() == 1])
 }
 
 #[test]
