@@ -1,6 +1,6 @@
 -- What a worker keeps, and what it has run.
 use base.Stored.{Gv}
-use Rattle.std.proofs.Common.{Bool, true, false, ◌≡◌, ◌≢◌, ℕ, zero, suc, ◌+◌, ◌<◌, ◌≤◌, List, [], ◌∷◌, ◌++◌, length, reverse, append_assoc, sym, refl, ap, ◌∙◌, subst, arith, ⊎_elim, ◌==◌}
+use Rattle.std.proofs.Common.{Bool, true, false, ◌≡◌, ◌≢◌, ℕ, zero, suc, ◌+◌, ◌<◌, ◌≤◌, List, [], ◌∷◌, ◌++◌, length, reverse, append_assoc, sym, refl, ap, ◌∙◌, subst, arith, inl, inr, ⊎_elim, ◌==◌}
 use mathlib.Core.Option.{some, some-injective}
 use Rattle.std.proofs.lemmas.Bool.Decides.{eqb_tells}
 use lib.ListN.{get_elem?, length-append}
@@ -20,18 +20,20 @@ use Rattle.live_log.proofs.Lemmas.{begins_trans, grows_log, has_since, line_grow
 use Rattle.live_words.specs.live_rule.declared.view.Look.{Look}
 use Rattle.live_words.specs.live_rule.declared.view.Look.TheVariants.{Loaded, Stored}
 use Rattle.live_words.specs.live_rule.declared.view.View.{View}
-use Rattle.live_words.specs.live_rule.Places.{finished_at, work_at}
+use Rattle.live_words.specs.live_rule.Places.{closed_at, finished_at, queued_at, work_at}
 use Rattle.live_words.specs.live_rule.Steps.{Wrote}
 use Rattle.live_words.specs.live_rule.Views.{bare}
 use Rattle.live_words.specs.live_rule.declared.view.Sizes.{Sizes}
 use Rattle.live_words.specs.live_table.Steps.{IsKnown, Keeps, Went, looked_view}
 use Rattle.live_words.specs.live_queues.Queues.{IsAt}
-use Rattle.live_items.specs.Items.{InOrder, IsPlaced, JobValue}
-use Rattle.live_items.specs.Running.{KeepsFinds}
+use Rattle.live_items.specs.Items.{CountsQueued, InOrder, IsPlaced, JobValue}
 use Rattle.live_reclaim.specs.Batches.{AreRunAs, IsRunAs, Lists}
 pub use Rattle.live_reclaim.proofs.Lemmas.{all_and, all_later, due_later}
 use Rattle.domain.specs.declared.worker_end.Stop.{Stop}
-use Rattle.domain.specs.Working.{FoundUsedUp, GoesOn, HasMore, HasWorked, Looks, left_by}
+use Rattle.domain.specs.declared.working.Outcome.{Outcome}
+use Rattle.domain.specs.declared.working.Outcome.TheVariants.{Ran, Nothing}
+use Rattle.domain.specs.declared.working.Outcome.TheVariants as outcome
+use Rattle.domain.specs.Working.{FoundUsedUp, GoesOn, HasMore, HasWorked, IsRound, KeepsFinds, Looks, LooksOfNone, RanBatches, Rounds, TookNoMore, left_by}
 
 stands_later : (old new : Log) (q n : ℕ) (o : ObjectId) → Begins old new → IsAt q n o old → IsAt q n o new
 stands_later old new q n o b at = let g = line_grows old new q b in ap (λ (l : List ObjectId). get_elem? l n) g.1 ∙ at_longer (line_of old q) g.0 n o at
@@ -101,6 +103,92 @@ finds_trans u v w a b =
       (l ++ a.1.0, b.1.1 ∙ (ap (λ (x : List Log). l ++ x) a.1.1 ∙ sym (append_assoc l a.1.0 u.loads))),
     )
 
+-- of counts that differ
+other_count : (key : Sizes) (q : ℕ) → queued_at key q ≢ finished_at key q
+other_count key q = λ e. absurd (omega (arith, e))
+
+place_of : Look → ℕ
+place_of (Loaded a n) = a
+place_of (Stored a n) = a
+
+-- what is found that is no load of the finished count tells of no batch
+took_other : (key : Sizes) (q most place n : ℕ) (looks : Looks) → place ≢ finished_at key q → TookNoMore key q most looks → TookNoMore key q most (Loaded place n ∷ looks)
+unfolding place_of
+took_other key q most place n looks other took = (λ f m rest e s. absurd (other (ap place_of e)), took)
+
+took_weaker : (key : Sizes) (q less most : ℕ) (looks : Looks) → less ≤ most → TookNoMore key q less looks → TookNoMore key q most looks
+took_weaker key q less most [] low took = tt
+took_weaker key q less most (l ∷ ls) low took = (λ f n rest e s. let k = took.0 f n rest e s in omega (arith, low, k), took_weaker key q less most ls low took.1)
+
+-- a batch was taken
+count_of : Looks → ℕ
+count_of [] = 0
+count_of (Loaded a n ∷ ls) = n
+count_of (Stored a n ∷ ls) = n
+
+took_batch : (key : Sizes) (q less most f n : ℕ) (looks : Looks) → less ≤ most → n ≤ most → TookNoMore key q less looks → TookNoMore key q most (Loaded (finished_at key q) f ∷ Loaded (queued_at key q) n ∷ looks)
+unfolding count_of
+took_batch key q less most f n looks low here took =
+    (λ g m rest e s. let same = ap count_of s in omega (arith, here, same), took_other key q most (queued_at key q) n looks (other_count key q) (took_weaker key q less most looks low took))
+
+-- and more is found
+ran_later : (key : Sizes) (q first last : ℕ) (more looks : Looks) → RanBatches key q first last looks → RanBatches key q first last (more ++ looks)
+ran_later key q first last more looks (inl x) = inl x
+ran_later key q first last more looks (inr x) = inr (more ++ x.0, x.1, x.2, ap (λ (l : Looks). more ++ l) x.3 ∙ sym (append_assoc more x.0 (Loaded (finished_at key q) x.2 ∷ Loaded (queued_at key q) last ∷ x.1)))
+
+-- nothing was looked at
+pub rounds_none : (key : Sizes) (q first : ℕ) (old : Looks) → Rounds key q first first first old old
+rounds_none key q first old = record { found = []; looks = refl; kept = tt; ran = inl refl; took = tt }
+
+-- and then another count
+pub rounds_looked : (key : Sizes) (q first last most place n : ℕ) (old now new : Looks) → place ≢ finished_at key q → new ≡ Loaded place n ∷ now → Rounds key q first last most old now → Rounds key q first last most old new
+rounds_looked key q first last most place n old now new other e x = record {
+  found = Loaded place n ∷ x.found;
+  looks = e ∙ ap (λ (l : Looks). Loaded place n ∷ l) x.looks;
+  kept = x.kept;
+  ran = ran_later key q first last (Loaded place n ∷ []) x.found x.ran;
+  took = took_other key q most place n x.found other x.took;
+}
+
+-- both counts that tell whether a queue is emptied
+pub rounds_emptied : (key : Sizes) (q first last most closed queued : ℕ) (old now new : Looks) → new ≡ Loaded (queued_at key q) queued ∷ Loaded (closed_at key q) closed ∷ now → Rounds key q first last most old now → Rounds key q first last most old new
+rounds_emptied key q first last most closed queued old now new e x =
+    rounds_looked key q first last most (queued_at key q) queued old (Loaded (closed_at key q) closed ∷ now) new (other_count key q) e
+    (rounds_looked key q first last most (closed_at key q) closed old now (Loaded (closed_at key q) closed ∷ now) (λ k. absurd (omega (arith, k))) refl x)
+
+pub rounds_at : (key : Sizes) (q first last most more : ℕ) (old new : Looks) → most ≡ more → Rounds key q first last most old new → Rounds key q first last more old new
+rounds_at key q first last most more old new e = subst (λ (n : ℕ). Rounds key q first last n old new) e
+
+-- and then a round that took nothing
+rounds_none_taken : (key : Sizes) (q first now last many : ℕ) (old between new : Looks) → Rounds key q first now now old between → LooksOfNone key q between new × (last ≡ now) → Rounds key q first last (last + many) old new
+rounds_none_taken key q first now last many old between new x r =
+    let seen = rounds_looked key q first now now (queued_at key q) r.0.0 old between new (other_count key q) r.0.1 x in record {
+      found = seen.found;
+      looks = seen.looks;
+      kept = seen.kept;
+      ran = subst (λ (n : ℕ). RanBatches key q first n seen.found) (sym r.1) seen.ran;
+      took = let same = r.1 in took_weaker key q now (last + many) seen.found (omega (arith, same)) seen.took;
+    }
+
+-- and then a round
+pub rounds_on : (key : Sizes) (q first now last many : ℕ) (what : Outcome) (old between new : Looks) → Rounds key q first now now old between → IsRound key q now last many what between new → Rounds key q first last (last + many) old new
+rounds_on key q first now last many Ran old between new x r = record {
+  found = Loaded (finished_at key q) now ∷ Loaded (queued_at key q) last ∷ x.found;
+  looks = r.0 ∙ ap (λ (l : Looks). Loaded (finished_at key q) now ∷ Loaded (queued_at key q) last ∷ l) x.looks;
+  kept = x.kept;
+  ran = inr ([], x.found, now, refl);
+  took = let low = r.1 in took_batch key q now (last + many) now last x.found (omega (arith, low)) (omega arith) x.took;
+}
+rounds_on key q first now last many Nothing old between new x r = rounds_none_taken key q first now last many old between new x r
+rounds_on key q first now last many outcome.Exhausted old between new x r = record {
+  found = Loaded (finished_at key q) now ∷ Loaded (queued_at key q) (last + many) ∷ x.found;
+  looks = r.0 ∙ ap (λ (l : Looks). Loaded (finished_at key q) now ∷ Loaded (queued_at key q) (last + many) ∷ l) x.looks;
+  kept = x.kept;
+  ran = subst (λ (n : ℕ). RanBatches key q first n (Loaded (finished_at key q) now ∷ Loaded (queued_at key q) (last + many) ∷ x.found)) (sym r.1) (ran_later key q first now (Loaded (finished_at key q) now ∷ Loaded (queued_at key q) (last + many) ∷ []) x.found x.ran);
+  took = let same = r.1 in took_batch key q now (last + many) now (last + many) x.found (omega (arith, same)) (omega arith) x.took;
+}
+rounds_on key q first now last many outcome.Memory old between new x r = rounds_none_taken key q first now last many old between new x r
+
 -- the sequence number was used up, as one knows who loaded it before too
 pub used_up_since : (first start log : Log) (old between new : List Log) → Begins first start → (since : List Log) → between ≡ since ++ old → FoundUsedUp start log between new → FoundUsedUp first log old new
 used_up_since first start log old between new b since e x = record {
@@ -137,6 +225,9 @@ worked_for code answers qsbr allows key sizes q seen heard v looks found before 
       left = h.left;
       nothing = h.nothing;
       whole = h.whole;
+      kept = h.kept;
+      ran = h.ran;
+      took = h.took;
       closed = h.closed;
       served = h.served;
       memory = h.memory;
@@ -165,17 +256,17 @@ module _ {S : Type 0} (qsbr : Bool) (allows : Log → LiveEvent → Type 0) wher
   pub goes_same : (s : Seat S View) → IsLiveRun qsbr allows s.me.0.seen → GoesOn qsbr allows s s
   goes_same s run = record { keeps = (refl, refl); own = refl; sizes = refl; later = ([], refl); run = run; finds = (([], refl), ([], refl)) }
 
-  -- it hears of more
-  pub goes_heard : (s t : Seat S View) → Keeps s t → t.me ≡ (record s.me.0 { heard = t.me.0.heard }, s.me.1) → IsLiveRun qsbr allows s.me.0.seen → GoesOn qsbr allows s t
-  goes_heard s t keeps e run =
-      let view = ap (λ (m : Me S View). m.0) e in
-      let seen = ap (λ (v : View). v.seen) view in record {
-        keeps = keeps;
-        own = ap (λ (m : Me S View). m.1) e;
+  -- it looks how many were queued
+  pub goes_counted : (key : Sizes) (q : ℕ) (more : Looks) (s t : Seat S View) → CountsQueued qsbr allows key q more s t → GoesOn qsbr allows s t
+  goes_counted key q more s t c =
+      let view = ap (λ (m : Me S View). m.0) c.view in
+      let look : Look = Loaded (queued_at key q) (length (line_of c.at q)) in record {
+        keeps = c.keeps;
+        own = ap (λ (m : Me S View). m.1) c.view;
         sizes = ap (λ (v : View). v.sizes) view;
-        later = ([], seen);
-        run = subst (IsLiveRun qsbr allows) (sym seen) run;
-        finds = (([], ap (λ (v : View). v.looks) view), ([], ap (λ (v : View). v.loads) view));
+        later = begins_trans s.me.0.seen c.at t.me.0.seen c.after c.before;
+        run = c.run;
+        finds = ((more ++ look ∷ [], ap (λ (v : View). v.looks) view ∙ sym (append_assoc more (look ∷ []) s.me.0.looks)), ([], ap (λ (v : View). v.loads) view));
       }
 
   -- it loads the sequence number

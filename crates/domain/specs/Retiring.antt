@@ -36,7 +36,7 @@ pub record Retires (qsbr : Bool) (allows : Log → LiveEvent → Type 0) (old ne
   pub queued : Queues qsbr allows (Begins new.seen) object queue given callback log
 
 module _ {W S : Type 0} (w : Ghosts W S) (qsbr : Bool) (allows : Log → LiveEvent → Type 0) (key : Sizes) (old new : W) where
-  -- a cut object was retired after all that its caller and its seat had seen, and queued with the ticket and the callback
+  -- a cut object was retired after all that its caller and its seat had seen, and queued with ticket and callback
   abbrev pub RetiresCut : View → ℕ → ℕ → Gv → Type 0
   RetiresCut unlinked chain ticket callback = (given : ℕ) × (ticket ≡ given + 1) × Queues qsbr allows (IsAfterAll unlinked.seen (w.seen old) (w.heard old)) (object_in unlinked.object) (chain % key.queues) given callback (w.heard new)
 

@@ -1,6 +1,6 @@
 -- What a queue's worker did.
 use base.Stored.{Gv}
-use Rattle.std.specs.Prelude.{Bool, ◌≡◌, ◌≢◌, ℕ, ◌+◌, ◌^◌, ◌<◌, ◌≤◌, List, [], ◌∷◌, ◌++◌, length}
+use Rattle.std.specs.Prelude.{Bool, ◌≡◌, ◌≢◌, ◌⊎◌, ℕ, ◌+◌, ◌^◌, ◌<◌, ◌≤◌, List, [], ◌∷◌, ◌++◌, length}
 use Rattle.atomic_table.specs.declared.shared.Seat.{Seat}
 use Rattle.callback_queue.specs.declared.item.Item.{Item}
 use Rattle.callback_queue.specs.declared.item.Ripe.{Ripe}
@@ -11,13 +11,15 @@ use Rattle.live_words.specs.live_rule.declared.view.Look.{Look}
 use Rattle.live_words.specs.live_rule.declared.view.Look.TheVariants.{Loaded, Stored}
 use Rattle.live_words.specs.live_rule.declared.view.Sizes.{Sizes}
 use Rattle.live_words.specs.live_rule.declared.view.View.{View}
-use Rattle.live_words.specs.live_rule.Places.{finished_at, work_at}
+use Rattle.live_words.specs.live_rule.Places.{finished_at, queued_at, work_at}
 use Rattle.live_words.specs.live_table.Steps.{Keeps}
 use Rattle.live_read.specs.declared.caller.Caller.{Ghosts}
 use Rattle.live_items.specs.Items.{InOrder, JobValue}
-use Rattle.live_items.specs.Running.{KeepsFinds}
 use Rattle.live_reclaim.specs.Batches.{Lists}
 use Rattle.live_reclaim.specs.Working.{IsEmptied}
+use Rattle.domain.specs.declared.working.Outcome.{Outcome}
+use Rattle.domain.specs.declared.working.Outcome.TheVariants.{Ran, Nothing}
+use Rattle.domain.specs.declared.working.Outcome.TheVariants as outcome
 use Rattle.domain.specs.declared.worker_end.Stop.{Stop}
 use Rattle.domain.specs.declared.worker_end.Stop.TheVariants.{Closed, Served, Exhausted, Memory}
 
@@ -31,6 +33,10 @@ left_by Closed = 0
 left_by Served = 0
 left_by Exhausted = 2
 left_by Memory = 0
+
+-- no look and no load is forgotten
+abbrev pub KeepsFinds : View → View → Type 0
+KeepsFinds v w = ((found : Looks) × (w.looks ≡ found ++ v.looks)) × ((loaded : List Log) × (w.loads ≡ loaded ++ v.loads))
 
 -- it is the same seat, which has seen no less, and no look and no load is forgotten
 pub record GoesOn {S : Type 0} (qsbr : Bool) (allows : Log → LiveEvent → Type 0) (s t : Seat S View) : Type 0 where
@@ -50,6 +56,49 @@ pub record FoundUsedUp (start log : Log) (old new : List Log) : Type 0 where
   pub before : Begins at log
   pub used_up : 2 ^ 62 ≤ seq_of at
 
+-- a batch was taken, of all that was queued up to this number: a load of that count, and then one of the finished count
+abbrev pub LooksOfBatch : Sizes → (q finished last : ℕ) (old new : Looks) → Type 0
+LooksOfBatch key q finished last old new = new ≡ Loaded (finished_at key q) finished ∷ Loaded (queued_at key q) last ∷ old
+
+-- no batch was
+abbrev pub LooksOfNone : Sizes → (q : ℕ) (old new : Looks) → Type 0
+LooksOfNone key q old new = (n : ℕ) × (new ≡ Loaded (queued_at key q) n ∷ old)
+
+-- What a worker looked at that went from the first number to the last, and left so many: a batch that it ran or left, or
+-- none.
+abbrev pub IsRound : Sizes → (q first last many : ℕ) → Outcome → (old new : Looks) → Type 0
+IsRound key q first last many Ran old new = LooksOfBatch key q first last old new × (first ≤ last)
+IsRound key q first last many Nothing old new = LooksOfNone key q old new × (last ≡ first)
+IsRound key q first last many outcome.Exhausted old new = LooksOfBatch key q first (last + many) old new × (last ≡ first)
+IsRound key q first last many outcome.Memory old new = LooksOfNone key q old new × (last ≡ first)
+
+-- these looks tell of loads alone
+abbrev pub OnlyLoads : Looks → Type 0
+OnlyLoads [] = Unit {0}
+OnlyLoads (Loaded a n ∷ ls) = OnlyLoads ls
+OnlyLoads (Stored a n ∷ ls) = ⊥
+
+-- by these looks no batch was of more than so many
+abbrev pub TookNoMore : Sizes → (q most : ℕ) → Looks → Type 0
+TookNoMore key q most [] = Unit {0}
+TookNoMore key q most (l ∷ ls) = ((f n : ℕ) (rest : Looks) → l ≡ Loaded (finished_at key q) f → ls ≡ Loaded (queued_at key q) n ∷ rest → n ≤ most) × TookNoMore key q most ls
+
+-- by these looks a batch was taken of all that was queued up to this number
+abbrev pub TookUpTo : Sizes → (q n : ℕ) → Looks → Type 0
+TookUpTo key q n looks = (since rest : Looks) × (f : ℕ) × (looks ≡ since ++ (Loaded (finished_at key q) f ∷ Loaded (queued_at key q) n ∷ rest))
+
+-- what ran from the first number to the last, if anything, ended with a batch that was taken so
+abbrev pub RanBatches : Sizes → (q first last : ℕ) → Looks → Type 0
+RanBatches key q first last looks = (last ≡ first) ⊎ TookUpTo key q last looks
+
+-- what a worker looked at that ran batches from the first number to the last, and took no more than so many
+pub record Rounds (key : Sizes) (q first last most : ℕ) (old new : Looks) : Type 0 where
+  pub found : Looks
+  pub looks : new ≡ found ++ old
+  pub kept : OnlyLoads found
+  pub ran : RanBatches key q first last found
+  pub took : TookNoMore key q most found
+
 -- more were queued than so many
 abbrev pub HasMore : ℕ → ℕ → Log → Type 0
 HasMore q n log = n < length (line_of log q)
@@ -65,10 +114,11 @@ pub record IsWhole {D : Type 0} (code : D → Gv) (answers : D → Ripe → ℕ 
 
 module _ {D : Type 0} (code : D → Gv) (answers : D → Ripe → ℕ → Type 0) (qsbr : Bool) (allows : Log → LiveEvent → Type 0) (key : Sizes) (q : ℕ) where
   -- A worker began after all that had been seen and heard of, when the first so many were finished, and ran those that
-  -- came next, each in its turn: the deleter that it was queued with was called, and answered the code of its entry. Where it was closed,
-  -- no more were queued; where it was served, no more had been when it began; and where memory was refused, more were.
-  -- What is left comes next after them, and nothing is but where the numbers were used up. Then something is, and
-  -- with the entries it is all that had been queued in a log in which these had run.
+  -- came next, each in its turn: the deleter that it was queued with was called, and answered the code of its entry.
+  -- Where it was closed, no more were queued; where it was served, no more had been when it began; and where memory was
+  -- refused, more were. It kept the work all that time, and ran whole batches. What it took it ran or left. What is left
+  -- comes next after the entries, and nothing is but where the numbers were used up. Then something is, and with the
+  -- entries it is all that had been queued in a log in which these had run.
   pub record HasWorked (seen heard : Log) (old new : Looks) (old_loads new_loads : List Log) (entries : List Finished) (items : List (Item (JobValue D))) (stop : Stop) (log : Log) : Type 0 where
     pub start : Log
     pub first : ℕ
@@ -86,6 +136,9 @@ module _ {D : Type 0} (code : D → Gv) (answers : D → Ripe → ℕ → Type 0
     pub left : InOrder q log last items
     pub nothing : stop ≢ Exhausted → items ≡ []
     pub whole : stop ≡ Exhausted → IsWhole code answers q start log first last entries (length items)
+    pub kept : OnlyLoads looks_since
+    pub ran : RanBatches key q first last looks_since
+    pub took : TookNoMore key q (last + length items) looks_since
     pub closed : stop ≡ Closed → IsEmptied q last log
     pub served : stop ≡ Served → length (line_of start q) ≤ last
     pub memory : stop ≡ Memory → HasMore q last log

@@ -1,6 +1,6 @@
 //! How a program works for a queue.
 
-ghost use Rattle.std.specs.Prelude.{◌≡◌, ◌≢◌, ◌<◌, ◌≤◌, [], IfErr, IfOk, length};
+ghost use Rattle.std.specs.Prelude.{◌≡◌, ◌≢◌, ◌+◌, ◌<◌, ◌≤◌, [], IfErr, IfOk, length};
 ghost use Rattle.live_log.specs.Log.{IsLiveRun, line_of};
 ghost use Rattle.live_words.specs.live_rule.Places.{work_at};
 ghost use Rattle.live_words.specs.live_rule.Seats.{but_work};
@@ -12,7 +12,7 @@ ghost use Rattle.live_reclaim.specs.Batches.{Lists, WorksFor};
 ghost use Rattle.live_reclaim.specs.Working.{IsEmptied, RefusesWork};
 ghost use Rattle.domain.specs.declared.serving.Until.TheVariants as ends;
 ghost use Rattle.domain.specs.declared.worker_end.Stop.TheVariants as stopped;
-ghost use Rattle.domain.specs.Working.{FoundUsedUp, GoesOn, HasMore, HasWorked, IsWhole, left_by, HasWorkedFor};
+ghost use Rattle.domain.specs.Working.{FoundUsedUp, GoesOn, HasMore, HasWorked, IsWhole, Rounds, left_by, HasWorkedFor};
 
 use crate::domain::Domain;
 use crate::worker_end::{Stop, WorkerEnd};
@@ -57,6 +57,7 @@ impl<P: GracePlan + Drop, K: ChainRule, B: Site, D: Deleter> Domain<P, K, B, D> 
         ensures list { Lists D.row.coded.code D.answers queue seat.new.me.0.seen first result.0 list.new.items }
         ensures left { InOrder queue seat.new.me.0.seen result.0 left.new.items × (result.1 ≢ stopped.Exhausted → left.new.items ≡ []) }
         ensures whole { result.1 ≡ stopped.Exhausted → IsWhole D.row.coded.code D.answers queue seat.old.me.0.seen seat.new.me.0.seen first result.0 list.new.items (length left.new.items) }
+        ensures rounds { Rounds B.sizes queue first result.0 (result.0 + length left.new.items) seat.old.me.0.looks seat.new.me.0.looks }
         ensures served { result.1 ≡ stopped.Served → length (line_of seat.old.me.0.seen queue) ≤ result.0 }
         ensures exhausted { result.1 ≡ stopped.Exhausted → FoundUsedUp seat.old.me.0.seen seat.new.me.0.seen seat.old.me.0.loads seat.new.me.0.loads }
         ensures memory { result.1 ≡ stopped.Memory → IsKnown (HasMore queue result.0) seat.new.me.0 }
@@ -103,6 +104,7 @@ impl<P: GracePlan + Drop, K: ChainRule, B: Site, D: Deleter> Domain<P, K, B, D> 
         ensures list { Lists D.row.coded.code D.answers queue seat.new.me.0.seen first result.0 list.new.items }
         ensures left { InOrder queue seat.new.me.0.seen result.0 left.new.items × (result.1 ≢ stopped.Exhausted → left.new.items ≡ []) }
         ensures whole { result.1 ≡ stopped.Exhausted → IsWhole D.row.coded.code D.answers queue seat.old.me.0.seen seat.new.me.0.seen first result.0 list.new.items (length left.new.items) }
+        ensures rounds { Rounds B.sizes queue first result.0 (result.0 + length left.new.items) seat.old.me.0.looks seat.new.me.0.looks }
         ensures closed { result.1 ≡ stopped.Closed → IsEmptied queue result.0 seat.new.me.0.seen × (until ≡ ends.Closed) }
         ensures served { result.1 ≡ stopped.Served → (length (line_of seat.old.me.0.seen queue) ≤ result.0) × (until ≡ ends.Served) }
         ensures exhausted { result.1 ≡ stopped.Exhausted → FoundUsedUp seat.old.me.0.seen seat.new.me.0.seen seat.old.me.0.loads seat.new.me.0.loads }

@@ -1,14 +1,14 @@
 //! How batches of a queue are run.
 
 ghost use Rattle.std.specs.Prelude.{◌≡◌, ◌≢◌, ℕ, ◌+◌, ◌-◌, ◌<◌, ◌≤◌, [], IfErr, IfOk, length, reverse, vec_capacity, vec_len};
-ghost use Rattle.live_log.specs.Log.{Begins, IsLiveRun, line_of};
+ghost use Rattle.live_log.specs.Log.{IsLiveRun, line_of};
 ghost use Rattle.live_words.specs.live_table.Steps.{IsKnown};
 ghost use Rattle.live_items.specs.Items.{InOrder};
 ghost use Rattle.live_reclaim.specs.Batches.{IsDue, Lists, WorksFor};
 ghost use Rattle.live_reclaim.specs.Working.{IsEmptied};
 ghost use Rattle.domain.specs.declared.worker_end.Stop.TheVariants as stopped;
 ghost use Rattle.domain.specs.declared.working.Outcome.TheVariants as outcome;
-ghost use Rattle.domain.specs.Working.{FoundUsedUp, GoesOn, HasMore, IsWhole};
+ghost use Rattle.domain.specs.Working.{FoundUsedUp, GoesOn, HasMore, IsRound, IsWhole, Rounds};
 
 use crate::domain::Domain;
 use crate::worker_end::Stop;
@@ -66,6 +66,7 @@ impl<P: GracePlan + Drop, K: ChainRule, B: Site, D: Deleter> Domain<P, K, B, D> 
         requires list { Lists D.row.coded.code D.answers queue seat.old.me.0.seen first finished list.old.items × (vec_len list.old + (given - finished) ≤ vec_capacity list.old) }
         requires batch { InOrder queue seat.old.me.0.seen finished (reverse batch.old.items) × (finished + vec_len batch.old ≡ given) }
         ensures seat { GoesOn P.QSBR K.allows seat.old seat.new }
+        ensures looks { seat.new.me.0.looks ≡ seat.old.me.0.looks }
         ensures work { WorksFor queue given seat.new.me.0 }
         ensures list { Lists D.row.coded.code D.answers queue seat.new.me.0.seen first given list.new.items }
         ensures batch { batch.new.items ≡ [] }
@@ -79,14 +80,13 @@ impl<P: GracePlan + Drop, K: ChainRule, B: Site, D: Deleter> Domain<P, K, B, D> 
         }
     }
 
-    /// Waits for a grace period that begins after all that the worker has heard of.
+    /// Waits for a grace period that begins after all that the worker has seen.
     ///
     /// Refused with `Exhausted` where the sequence numbers are used up.
     fn wait_for_readers<R: Wait>(&self, rt: &R, seat: &mut LiveSeat) -> Result<(), Refusal>
         requires { seat.old.table_id ≡ B.table }
-        ensures seat { GoesOn P.QSBR K.allows seat.old seat.new × (seat.new.me.0.work ≡ seat.old.me.0.work) }
-        ensures heard { Begins seat.old.me.0.heard seat.new.me.0.seen }
-        ensures due { IfOk result (λ _. (q : ℕ) → IsDue q (length (line_of seat.old.me.0.heard q)) seat.new.me.0.seen) }
+        ensures seat { GoesOn P.QSBR K.allows seat.old seat.new × (seat.new.me.0.work ≡ seat.old.me.0.work) × (seat.new.me.0.looks ≡ seat.old.me.0.looks) }
+        ensures due { IfOk result (λ _. (q : ℕ) → IsDue q (length (line_of seat.old.me.0.seen q)) seat.new.me.0.seen) }
         ensures refused { IfErr result (λ _. FoundUsedUp seat.old.me.0.seen seat.new.me.0.seen seat.old.me.0.loads seat.new.me.0.loads) }
     {
         let asked = ask::<P, K>(&self.table, seat)?;
@@ -115,6 +115,7 @@ impl<P: GracePlan + Drop, K: ChainRule, B: Site, D: Deleter> Domain<P, K, B, D> 
         ensures list { Lists D.row.coded.code D.answers queue seat.new.me.0.seen first result.0 list.new.items }
         ensures left { InOrder queue seat.new.me.0.seen result.0 left.new.items × (result.1 ≢ outcome.Exhausted → left.new.items ≡ []) }
         ensures whole { result.1 ≡ outcome.Exhausted → IsWhole D.row.coded.code D.answers queue seat.old.me.0.seen seat.new.me.0.seen first result.0 list.new.items (length left.new.items) }
+        ensures round { IsRound B.sizes queue finished result.0 (length left.new.items) result.1 seat.old.me.0.looks seat.new.me.0.looks }
         ensures exhausted { result.1 ≡ outcome.Exhausted → FoundUsedUp seat.old.me.0.seen seat.new.me.0.seen seat.old.me.0.loads seat.new.me.0.loads }
         ensures memory { result.1 ≡ outcome.Memory → IsKnown (HasMore queue result.0) seat.new.me.0 }
     {
@@ -154,6 +155,7 @@ impl<P: GracePlan + Drop, K: ChainRule, B: Site, D: Deleter> Domain<P, K, B, D> 
         ensures list { Lists D.row.coded.code D.answers queue seat.new.me.0.seen first result.0 list.new.items }
         ensures left { InOrder queue seat.new.me.0.seen result.0 left.new.items × (result.1 ≢ stopped.Exhausted → left.new.items ≡ []) }
         ensures whole { result.1 ≡ stopped.Exhausted → IsWhole D.row.coded.code D.answers queue seat.old.me.0.seen seat.new.me.0.seen first result.0 list.new.items (length left.new.items) }
+        ensures rounds { Rounds B.sizes queue first result.0 (result.0 + length left.new.items) seat.old.me.0.looks seat.new.me.0.looks }
         ensures closed { result.1 ≡ stopped.Closed → IsEmptied queue result.0 seat.new.me.0.seen }
         ensures exhausted { result.1 ≡ stopped.Exhausted → FoundUsedUp seat.old.me.0.seen seat.new.me.0.seen seat.old.me.0.loads seat.new.me.0.loads }
         ensures memory { result.1 ≡ stopped.Memory → IsKnown (HasMore queue result.0) seat.new.me.0 }

@@ -1,3 +1,4 @@
+pub mod Counting
 pub mod Orders
 pub mod Retirings
 pub mod Runnings

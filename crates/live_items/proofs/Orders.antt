@@ -12,7 +12,7 @@ use Rattle.live_words.specs.live_rule.declared.rights.QueueRight.TheVariants.{Ow
 use Rattle.live_words.specs.live_rule.declared.rights.RecordRight.TheVariants.{Nothing}
 use Rattle.live_words.specs.live_table.Rights.{object_in}
 use Rattle.live_words.specs.live_queues.Queues.{IsAt, IsLast}
-use Rattle.live_items.specs.Items.{JobValue, Jobs, IsPlaced, InOrder, IsUnderLock, word_of}
+use Rattle.live_items.specs.Items.{JobValue, Jobs, IsBatch, IsPlaced, InOrder, IsUnderLock, word_of}
 
 in_order_later : {C : Type 0} (q : ℕ) (old new : Log) (n : ℕ) (items : List (Item (JobValue C))) → Begins old new → InOrder q old n items → InOrder q new n items
 in_order_later q old new n [] b x = x
@@ -72,3 +72,15 @@ under_looked key jobs v w q under size queue object later = record {
   placed = in_order_later q v.seen w.seen jobs.gone (items_of jobs) later under.placed;
   unsealed = under.unsealed;
 }
+
+-- a batch: all the items under the lock, of which so many were finished before, in a later log with as many in its line
+pub batch_of : {C : Type 0} (key : Sizes) (jobs : Jobs C) (v : View) (q : ℕ) (log : Log) (finished last : ℕ) → IsUnderLock key jobs v q → Begins v.seen log → finished + length jobs.fresh ≡ last → given_of jobs ≡ last → length (line_of log q) ≡ last → IsBatch q log finished last jobs.fresh
+batch_of {C} key jobs v q log finished last under later count given all =
+    let items : items_of jobs ≡ jobs.fresh = ap (λ (l : List (Item (JobValue C))). l ++ jobs.waiting ++ jobs.fresh) under.unsealed.0 ∙ ap (λ (l : List (Item (JobValue C))). l ++ jobs.fresh) under.unsealed.1 in
+    let many = ap (λ (l : List (Item (JobValue C))). length l) items in record {
+      placed = in_order_later q v.seen log finished jobs.fresh later
+          (subst (λ (n : ℕ). InOrder q v.seen n jobs.fresh) (omega (arith, count, given, many)) (subst (InOrder q v.seen jobs.gone) items under.placed));
+      count = count;
+      all = omega (arith, all);
+      known = λ _. omega (arith, all);
+    }

@@ -1,16 +1,15 @@
 //! What lies under a queue's lock.
-ghost use Rattle.std.specs.Prelude.{◌≡◌, ◌≢◌, ◌⊎◌, ◌+◌, ◌-◌, ◌<◌, ◌≤◌, ◌^◌, ◌∷◌, [], length, vec_capacity, vec_len, true, false, IfErr, IfOk, IsOk};
+ghost use Rattle.std.specs.Prelude.{◌≡◌, ◌≢◌, ◌⊎◌, ◌+◌, ◌-◌, ◌<◌, ◌≤◌, ◌^◌, ◌∷◌, [], vec_capacity, vec_len, true, false, IfErr, IfOk, IsOk};
 ghost use Rattle.rcu_model.specs.declared.refusal.Refusal.TheVariants.{Closed, Memory};
 ghost use Rattle.rcu_model.specs.declared.event.ObjectId.{ObjectId};
 ghost use Rattle.callback_queue.specs.Queue.{closed_queue, empty_queue, given_of, with_place};
 ghost use Rattle.live_log.specs.declared.event.LiveEvent.TheVariants.{CloseQueue};
-ghost use Rattle.live_log.specs.Log.{Begins, IsLiveRun, line_of};
 ghost use Rattle.live_words.specs.live_rule.declared.rights.QueueRight.TheVariants.{Owns};
+ghost use Rattle.live_words.specs.live_rule.declared.rights.WorkRight.TheVariants.{Works};
 ghost use Rattle.live_words.specs.live_rule.declared.rights.RecordRight.TheVariants.{Nothing};
 ghost use Rattle.live_words.specs.live_table.Rights.{object_in};
-ghost use Rattle.live_words.specs.live_table.Steps.{Keeps};
 ghost use Rattle.live_read.specs.Hearing.{OnlyHears};
-ghost use Rattle.live_items.specs.Items.{Closes, GetsNoPlace, HasNoBatch, IsBatch, IsPushed, IsTakenOut};
+ghost use Rattle.live_items.specs.Items.{Closes, FindsMore, FindsNone, GetsNoPlace, HasNoBatch, IsPushed, IsTakenOut, TakesBatch};
 ghost use Rattle.live_items.specs.Retiring.{QueuesFor};
 
 use crate::job::Job;
@@ -18,7 +17,9 @@ use crate::retiring::queue_object;
 use callback_queue::{CallbackQueue, Item, Ticket};
 use gp_memb::GracePlan;
 use live_read::{Caller, Site, tell_all};
-use live_words::{ChainRule, Identity, LiveSeat, LiveTable, load_queued, store_closed};
+use live_words::{
+    ChainRule, Identity, LiveSeat, LiveTable, load_finished, load_queued, store_closed,
+};
 use live_write::Unlinked;
 use rcu_model::{ObjectId, Refusal};
 use std::alloc::Global;
@@ -143,28 +144,10 @@ impl<B: Site, C: Drop> Items<B, C> {
         }
     }
 
-    // How many are queued, by a load of the queue's own seat. The worker's seat hears of the log of that load, which
-    // begins with all that it had seen.
-    fn tell_queued<P: GracePlan, K: ChainRule>(
-        &mut self,
-        table: &LiveTable<P, K>,
-        worker: &mut LiveSeat,
-    ) -> u64
-        requires { (table.now.words.shared.table_id ≡ B.table) × (table.now.words.shared.key ≡ B.sizes) × (worker.old.table_id ≡ B.table) }
-        ensures same { (self.new.0 ≡ self.old.0) × (self.new.2 ≡ self.old.2) }
-        ensures worker { Keeps worker.old worker.new × (worker.new.me ≡ (record worker.old.me.0 { heard = self.new.1.seen }, worker.old.me.1)) }
-        ensures heard { Begins worker.old.me.0.seen self.new.1.seen × IsLiveRun P.QSBR K.allows self.new.1.seen }
-        ensures count { result ≡ length (line_of self.new.1.seen self.old.2) }
-    {
-        table.learn(&mut self.seat, table.tell(worker));
-        let queued = load_queued(table, &mut self.seat, self.number);
-        table.learn(worker, table.tell(&mut self.seat));
-        queued
-    }
-
     /// Takes all that is queued and not finished, for a worker that waits for a grace period and then runs it, as
-    /// liburcu's thread of `call_rcu` splices its queue. Answers how many were queued in the log that the worker's seat
-    /// hears of, which begins with all that it had seen. The other list gets room for an entry for each.
+    /// liburcu's thread of `call_rcu` splices its queue. Answers how many were queued at the worker's load of that count.
+    /// Where it takes something, the worker then loads how many are finished: its looks tell each batch. The other list
+    /// gets room for an entry for each.
     ///
     /// Refused with `Memory` where room is refused, or where the items are not those that come next after so many that
     /// are finished; then they are as they were. It waits for nobody.
@@ -177,22 +160,24 @@ impl<B: Site, C: Drop> Items<B, C> {
         list: &mut Vec<T>,
         batch: &mut Vec<Item<Job<B, C>>>,
     ) -> Result<u64, Refusal>
-        requires site { (table.now.words.shared.table_id ≡ B.table) × (table.now.words.shared.key ≡ B.sizes) × (worker.old.table_id ≡ B.table) }
+        requires site { (table.now.words.shared.table_id ≡ B.table) × (table.now.words.shared.key ≡ B.sizes) }
+        requires worker { (worker.old.table_id ≡ B.table) × (worker.old.me.0.sizes ≡ B.sizes) × (worker.old.me.0.work ≡ Works queue finished) }
         requires queue { self.old.2 ≡ queue }
         requires batch { batch.old.items ≡ [] }
-        ensures worker { Keeps worker.old worker.new × (worker.new.me ≡ (record worker.old.me.0 { heard = worker.new.me.0.heard }, worker.old.me.1)) }
-        ensures heard { Begins worker.old.me.0.seen worker.new.me.0.heard × IsLiveRun P.QSBR K.allows worker.new.me.0.heard }
         ensures list { list.new.items ≡ list.old.items }
         ensures room { IfOk result (λ n. vec_len list.new + (n - finished) ≤ vec_capacity list.new) }
-        ensures taken { IfOk result (λ n. IsBatch queue worker.new.me.0.heard finished n batch.new.items) }
+        ensures least { IfOk result (λ n. finished ≤ n) }
+        ensures taken { IfOk result (λ n. finished < n → TakesBatch P.QSBR K.allows B.sizes queue finished n batch.new.items worker.old worker.new) }
         ensures moved { IfOk result (λ n. finished < n → IsTakenOut self.old.0 self.new.0 batch.new.items) }
+        ensures found { IfOk result (λ n. n ≡ finished → FindsNone P.QSBR K.allows B.sizes queue finished worker.old worker.new) }
         ensures none { IfOk result (λ n. n ≡ finished → (batch.new.items ≡ []) × (self.new.0 ≡ self.old.0)) }
-        ensures refused { IfErr result (λ e. (e ≡ Memory) × (finished < length (line_of worker.new.me.0.heard queue))) }
-        ensures lacks { IfErr result (λ _. HasNoBatch self.old.0 queue finished worker.new.me.0.heard (vec_len list.old, vec_capacity list.old) (vec_capacity batch.old)) }
+        ensures refused { IfErr result (λ e. (e ≡ Memory) × FindsMore P.QSBR K.allows B.sizes queue finished worker.old worker.new) }
+        ensures lacks { IfErr result (λ _. HasNoBatch self.old.0 queue finished worker.new.me.0.seen (vec_len list.old, vec_capacity list.old) (vec_capacity batch.old)) }
         ensures back { IfErr result (λ _. (self.new.0 ≡ self.old.0) × (batch.new.items ≡ [])) }
         ensures queue { self.new.2 ≡ self.old.2 }
     {
-        let queued = self.tell_queued(table, worker);
+        table.learn(worker, table.tell(&mut self.seat));
+        let queued = load_queued(table, worker, queue);
         if queued <= finished {
             return Ok(finished);
         }
@@ -204,6 +189,7 @@ impl<B: Site, C: Drop> Items<B, C> {
         if list.reserve(count as usize).is_err() || batch.reserve(count as usize).is_err() {
             return Err(Refusal::Memory);
         }
+        let _finished = load_finished(table, worker, queue);
         self.queue.seal();
         self.queue.take_waiting(batch);
         Ok(queued)

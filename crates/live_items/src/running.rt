@@ -5,7 +5,7 @@ ghost use Rattle.live_log.specs.Log.{payload_of, state_of};
 ghost use Rattle.live_words.specs.live_table.Rights.{cell_in, object_in};
 ghost use Rattle.live_words.specs.live_table.Steps.{Keeps, Went};
 ghost use Rattle.live_words.specs.live_records.Records.{HasCut, IsRipe};
-ghost use Rattle.live_items.specs.Running.{KeepsFinds, OnlyHearsMore, Runs};
+ghost use Rattle.live_items.specs.Running.{OnlyHearsMore, Runs};
 
 use crate::job::Job;
 use callback_queue::Ripe;
@@ -47,7 +47,6 @@ impl<B: Site, C: Drop> Job<B, C> {
         requires object { object ≡ object_in self.0.object }
         requires ripe { IsRipe worker.old.me.0.seen object }
         ensures worker { OnlyHearsMore worker.old worker.new }
-        ensures finds { KeepsFinds worker.old.me.0 worker.new.me.0 }
         ensures run { Runs P.QSBR K.allows self.0.seen worker.old.me.0.seen object worker.new.me.0.heard }
         ensures ripe { (result.0.object ≡ object) × (result.0.payload ≡ payload_of worker.new.me.0.heard object) }
         ensures callback { result.1 ≡ self.2 }
@@ -64,7 +63,7 @@ impl<B: Site, C: Drop> Job<B, C> {
         table.learn(&mut seat, table.tell(worker));
         let payload = load_words(table, &mut seat, cell);
         store_run(table, &mut seat, cell);
-        table.learn(worker, seat);
+        table.learn(worker, table.tell(&mut seat));
         (Ripe { object, payload }, callback)
     }
 }

@@ -3,7 +3,6 @@ ghost use Rattle.std.specs.Prelude.{◌≡◌, ◌+◌, ◌<◌, ◌≤◌, ◌^
 ghost use Rattle.live_log.specs.Log.{Begins, IsLiveRun};
 ghost use Rattle.live_words.specs.live_table.Steps.{Keeps};
 ghost use Rattle.live_items.specs.Items.{IsPlaced};
-ghost use Rattle.live_items.specs.Running.{KeepsFinds};
 ghost use Rattle.live_reclaim.specs.Batches.{IsDue, IsRunAs, WorksFor, ripe_in};
 
 use crate::deleter::Deleter;
@@ -30,7 +29,7 @@ pub fn run_next<P: GracePlan, K: ChainRule, B: Site, D: Deleter>(
     requires item { IsPlaced queue seat.old.me.0.seen finished item }
     requires due { (finished < given) × (given < 2 ^ 64) × IsDue queue given seat.old.me.0.seen × IsLiveRun P.QSBR K.allows seat.old.me.0.seen }
     ensures seat { Keeps seat.old seat.new × (seat.new.me.1 ≡ seat.old.me.1) × (seat.new.me.0.sizes ≡ seat.old.me.0.sizes) × WorksFor queue (finished + 1) seat.new.me.0 }
-    ensures finds { KeepsFinds seat.old.me.0 seat.new.me.0 }
+    ensures finds { (seat.new.me.0.looks ≡ seat.old.me.0.looks) × (seat.new.me.0.loads ≡ seat.old.me.0.loads) }
     ensures seen { Begins seat.old.me.0.seen seat.new.me.0.seen × IsLiveRun P.QSBR K.allows seat.new.me.0.seen }
     ensures run { IsRunAs D.row.coded.code D.answers queue seat.new.me.0.seen finished result }
     ensures called { (result.object ≡ item.object) × D.answers item.job.2 (ripe_in seat.new.me.0.seen item.object) result.code }

@@ -3,8 +3,8 @@ ghost use Rattle.std.specs.Prelude.{◌≡◌, ◌<◌, ◌≤◌};
 ghost use Rattle.live_rule.specs.Places.{cell_at, head_at, words_of};
 
 use crate::plays::{
-    CutChains, CutGrace, CutLentChains, CutObject, CutSpareQueue, CutWork, JoinAll, Learn,
-    LearnChanges, NewSeat, TakeObject, Tell, TellChanges,
+    CutChains, CutGrace, CutLentChains, CutObject, CutSpareQueue, JoinAll, Learn, LearnChanges,
+    NewSeat, TakeObject, Tell, TellChanges,
 };
 use atomic_table::Table;
 use live_rule::{CallbackId, ChainRule, GracePlan, LiveRule, LiveSeat, Sizes, View};
@@ -36,7 +36,7 @@ impl<P: GracePlan, K: ChainRule> LiveTable<P, K> {
     ghost use Rattle.std.specs.Prelude.{ℕ, ◌+◌, ◌*◌, [], IfOk};
     ghost use Rattle.live_rule.specs.live_log.Log.{IsLiveRun};
     ghost use Rattle.live_rule.specs.Views.{bare, first_view};
-    ghost use Rattle.live_rule.specs.Seats.{IsSpareQueue, but_chains, but_first_queue, but_grace, but_lent, but_object, but_work, chains_alone, changed_view, first_queue, grace_alone, heard_changes_view, heard_view, lent_alone, merged, object_alone, taken_view, told_view, work_alone};
+    ghost use Rattle.live_rule.specs.Seats.{IsSpareQueue, but_chains, but_first_queue, but_grace, but_lent, but_object, chains_alone, changed_view, first_queue, grace_alone, heard_changes_view, heard_view, lent_alone, merged, object_alone, taken_view, told_view};
     ghost use Rattle.live_table.specs.Steps.{Cut, Joined};
 
     /// A table of these sizes whose words are all 0, and its first seat, which has every right that no hold word
@@ -170,13 +170,5 @@ impl<P: GracePlan, K: ChainRule> LiveTable<P, K> {
         ensures { Cut but_lent lent_alone seat.old seat.new result }
     {
         self.words.shared.split_seat::<CutLentChains>(seat)
-    }
-
-    /// Cuts off a seat with the right to a queue's work.
-    pub fn cut_work(&self, seat: &mut LiveSeat) -> LiveSeat
-        requires { seat.old.table_id ≡ self.now.words.shared.table_id }
-        ensures { Cut but_work work_alone seat.old seat.new result }
-    {
-        self.words.shared.split_seat::<CutWork>(seat)
     }
 }

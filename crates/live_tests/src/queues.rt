@@ -56,46 +56,45 @@ fn retires_two<P: GracePlan, B: Site, R: Wait>(
     Ok(())
 }
 
-/// How many were queued as a batch of two was taken, its objects in the order of their turns, what is to be called for
-/// the second, and how many were queued as the next batch was taken, in which nothing is; whether a batch is refused
-/// where one is finished before, and where none is afterwards.
+/// How many were queued as a batch was taken in which nothing is, and as one of two was taken. Then the objects of that
+/// one in their turns, and what is to be called for the second. And whether a third batch is refused.
 fn batches<P: GracePlan, B: Site, R: Wait>(
     rt: &R,
     memory: Global,
     table: &LiveTable<P, AnyChain>,
     mut root: LiveSeat,
-) -> Result<([u64; 5], [bool; 2]), Refusal>
+) -> Result<([u64; 5], bool), Refusal>
     requires site { (table.now.words.shared.table_id ≡ B.table) × (table.now.words.shared.key ≡ B.sizes) × (root.table_id ≡ B.table) × (root.me ≡ (first_view B.sizes, [])) }
     requires sizes { (table.now.chains ≡ 1) × (table.now.queues ≡ 1) × (table.now.pool ≡ 4) }
 {
     let queue = table.cut_spare_queue(&mut root);
     let mut items: Items<B, ObjectId> = Items::new(memory, queue, 0);
     let mut record: Handle<B> = Handle::new(root);
-    retires_two(rt, table, &mut items, &mut record)?;
     let mut worker = record.tell(table);
+    if hold_work(table, &mut worker, 0) != 0 {
+        return Err(Refusal::Busy);
+    }
+    let count = load_finished(table, &mut worker, 0);
     let mut list: Vec<u64> = Vec::new(memory);
+    let mut none: Vec<Item<Job<B, ObjectId>>> = Vec::new(memory);
+    let nothing = items.take_batch(table, &mut worker, 0, count, &mut list, &mut none)?;
+    if !none.is_empty() {
+        return Err(Refusal::NoPlace);
+    }
+    retires_two(rt, table, &mut items, &mut record)?;
     let mut batch: Vec<Item<Job<B, ObjectId>>> = Vec::new(memory);
-    let early = items
-        .take_batch(table, &mut worker, 0, 1, &mut list, &mut batch)
-        .is_err();
-    let mut batch: Vec<Item<Job<B, ObjectId>>> = Vec::new(memory);
-    let given = items.take_batch(table, &mut worker, 0, 0, &mut list, &mut batch)?;
+    let given = items.take_batch(table, &mut worker, 0, count, &mut list, &mut batch)?;
     let (Some(two), Some(one)) = (batch.pop(), batch.pop()) else {
         return Err(Refusal::NoPlace);
     };
     let mut none: Vec<Item<Job<B, ObjectId>>> = Vec::new(memory);
-    let late = items
-        .take_batch(table, &mut worker, 0, 0, &mut list, &mut none)
+    let again = items
+        .take_batch(table, &mut worker, 0, count, &mut list, &mut none)
         .is_err();
-    let mut none: Vec<Item<Job<B, ObjectId>>> = Vec::new(memory);
-    let next = items.take_batch(table, &mut worker, 0, 2, &mut list, &mut none)?;
-    if !none.is_empty() {
-        return Err(Refusal::NoPlace);
-    }
     let (first, second) = (one.object.0, two.object.0);
     Ok((
-        [given, first, second, two.job.into_callback().0, next],
-        [early, late],
+        [nothing, given, first, second, two.job.into_callback().0],
+        again,
     ))
 }
 
@@ -107,8 +106,8 @@ fn a_batch_is_taken_whole(rt: HostRuntime) {
     let (numbers, refused) = batches::<_, Brand, _>(&rt, rt.alloc(), &table, root).expect(
         &rt, "memory",
     );
-    assert_eq!(rt; numbers, [2, 1, 2, 9, 2]);
-    assert_eq!(rt; refused, [true; 2]);
+    assert_eq!(rt; numbers, [0, 2, 1, 2, 9]);
+    assert!(rt; refused);
 }
 
 #[test]
@@ -120,8 +119,8 @@ fn one_works_for_a_queue(rt: HostRuntime) {
     assert_eq!(rt; load_queued(&table, &mut other, 0), 0);
     assert_eq!(rt; load_finished(&table, &mut other, 0), 0);
     assert_eq!(rt; load_closed(&table, &mut other, 0), 0);
-    assert_eq!(rt; hold_work(&table, &mut other, 0), 0);
-    let mut worker = table.cut_work(&mut other);
+    let mut worker = table.tell(&mut root);
+    assert_eq!(rt; hold_work(&table, &mut worker, 0), 0);
     assert_eq!(rt; hold_work(&table, &mut other, 0), 1);
     assert_eq!(rt; table.words.shared.peek(121), 1);
     free_work(&table, &mut worker, 0);

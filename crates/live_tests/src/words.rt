@@ -118,7 +118,6 @@ fn seats_are_cut_and_joined(rt: HostRuntime) {
     let chains = table.cut_chains(&mut root);
     table.join(&mut root, chains);
     let _lent = table.cut_lent_chains(&mut root);
-    let _work = table.cut_work(&mut root);
     table.join(&mut root, queue);
     assert_eq!(rt; load_seq(&table, &mut root), 0);
 }

@@ -35,11 +35,8 @@ store_finished-requires-clause-has_run g c =
 pub returns-clause-finds : goal.returns-clause-finds
 returns-clause-finds g c =
     let done = c.store_finished.ensures.finished.1 in
-    let looks = c.run-deleter.ensures.finds.0 in
-    let loads = c.run-deleter.ensures.finds.1 in (
-      (looks.0, ap (λ (v : View). v.looks) done ∙ looks.1),
-      (loads.0, ap (λ (v : View). v.loads) done ∙ loads.1),
-    )
+    let ran = c.run-deleter.ensures.worker.1 in
+    (ap (λ (v : View). v.looks) done ∙ ap (λ m. m.0.looks) ran, ap (λ (v : View). v.loads) done ∙ ap (λ m. m.0.loads) ran)
 
 pub returns-clause-seen : goal.returns-clause-seen
 returns-clause-seen g c =

@@ -24,7 +24,7 @@ returns-clause-worked g c =
     let begun = c.in_ok-first.ensures.begun in
     let w = c.work_until-stop.ensures in
     let left = c.leave.ensures.left in
-    let finds = w.seat.finds.0 in
+    let rounds = w.rounds in
     let key : c.deref.result.now.words.shared.key ≡ g.B.Site.sizes = search rules in
     let look : Look = Stored (work_at g.B.Site.sizes q) (left_by c.work_until-stop.result.1) in
     let more : Begins between last = left.2.0 in
@@ -34,7 +34,7 @@ returns-clause-worked g c =
       start = start;
       first = first;
       last = n;
-      looks_since = finds.0;
+      looks_since = rounds.found;
       low = search rules;
       after_seen = begun.4.0;
       after_heard = begun.4.1;
@@ -47,6 +47,9 @@ returns-clause-worked g c =
       left = order_later q between last n c.work_until-stop.new.left.items more w.left.0;
       nothing = w.left.1;
       whole = λ x. let u = w.whole x in record { taken = u.taken; after = u.after; before = begins_trans u.taken between last u.before more; ran = u.ran; all = u.all; some = u.some };
+      kept = rounds.kept;
+      ran = rounds.ran;
+      took = rounds.took;
       closed = λ x. let e = (w.closed x).0 in let k = closed_stays g.P.GracePlan.QSBR g.K.ChainRule.allows between last q more left.2.2 e.0 in (k.0, ap (λ (l : List ObjectId). length l) k.1 ∙ e.1);
       served = λ x. (w.served x).0;
       memory = λ x. more_known q n c.work_until-stop.new.seat.me.0 last more left.2.1 (w.memory x);
@@ -59,5 +62,5 @@ returns-clause-worked g c =
         used_up = u.used_up;
       };
       looks = ap (λ (v : View). v.looks) left.1
-          ∙ ap (λ (l : Looks). look ∷ l) (finds.1 ∙ ap (λ (l : Looks). finds.0 ++ l) (begun.6 ∙ ap (λ (k : Sizes). Loaded (finished_at k q) first ∷ Stored (work_at k q) 1 ∷ Loaded (work_at k q) 0 ∷ old.looks) key));
+          ∙ ap (λ (l : Looks). look ∷ l) (rounds.looks ∙ ap (λ (l : Looks). rounds.found ++ l) (begun.6 ∙ ap (λ (k : Sizes). Loaded (finished_at k q) first ∷ Stored (work_at k q) 1 ∷ Loaded (work_at k q) 0 ∷ old.looks) key));
     }

@@ -1,4 +1,4 @@
-use Rattle.std.proofs.Common.{rules, ◌+◌, List, length, reverse, subst, sym, ap, ◌∙◌, arith}
+use Rattle.std.proofs.Common.{rules, ◌+◌, List, [], length, refl, reverse, subst, sym, ap, ◌∙◌, arith}
 use Rattle.std.proofs.lemmas.List.{length-append}
 use Rattle.call_rcu_worker.specs.declared.finished.Finished.{Finished}
 use Rattle.live_log.specs.Log.{Log}
@@ -10,7 +10,7 @@ use Rattle.domain.proofs.domain.Domain.run_all.Goals as goal
 pub loop-count-init : goal.loop-count-init
 loop-count-init g c =
     let r = c.requires in
-    (goes_same g.P.GracePlan.QSBR g.K.ChainRule.allows c.args.seat.now r.due.1, r.queue.1, r.due.0, r.list.0, r.list.1, r.batch.0, r.batch.1)
+    (goes_same g.P.GracePlan.QSBR g.K.ChainRule.allows c.args.seat.now r.due.1, r.queue.1, r.due.0, r.list.0, r.list.1, r.batch.0, r.batch.1, refl)
 
 pub run_next-done-requires-clause-item : goal.run_next-done-requires-clause-item
 run_next-done-requires-clause-item g c = (order_popped c.args.queue c.loop-count.seat.me.0.seen c.loop-count.count c.loop-count.batch.items c.pop.new.self.items c.in-Some.item c.in-Some.ensures.items c.loop-count.invariant.5).0
@@ -31,7 +31,7 @@ loop-count-preserved g c =
     let e = c.run_next-done.ensures in
     let now : Log = c.loop-count.seat.me.0.seen in
     let last : Log = c.run_next-done.new.seat.me.0.seen in
-    let step : GoesOn qsbr allows c.loop-count.seat c.run_next-done.new.seat = record { keeps = e.seat.0; own = e.seat.1; sizes = e.seat.2; later = e.seen.0; run = e.seen.1; finds = e.finds } in
+    let step : GoesOn qsbr allows c.loop-count.seat c.run_next-done.new.seat = record { keeps = e.seat.0; own = e.seat.1; sizes = e.seat.2; later = e.seen.0; run = e.seen.1; finds = (([], e.finds.0), ([], e.finds.1)) } in
     let items = c.push_reserved.ensures.items in
     let longer = ap (λ (l : List Finished). length l) items ∙ length-append c.loop-count.list.items _ in
     let len = c.push_reserved.ensures.len in
@@ -49,4 +49,5 @@ loop-count-preserved g c =
       omega (arith, len, room, had, low),
       order_later q now last (c.loop-count.count + 1) (reverse c.pop.new.self.items) step.later order,
       omega (arith, fewer, few),
+      e.finds.0 ∙ i.7,
     )

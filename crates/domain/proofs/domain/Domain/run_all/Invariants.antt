@@ -13,3 +13,4 @@ invariant-loop-count g l =
     × (vec_len l.list + (l.given - l.count) ≤ vec_capacity l.list)
     × InOrder l.queue l.seat.me.0.seen l.count (reverse l.batch.items)
     × (l.count + vec_len l.batch ≡ l.given)
+    × (l.seat.me.0.looks ≡ l.fn.seat.me.0.looks)

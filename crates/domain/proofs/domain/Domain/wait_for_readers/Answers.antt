@@ -1,7 +1,6 @@
 use Rattle.std.proofs.Common.{rules, [], ◌∷◌, IfErr, sym, refl, ap, ◌∙◌, subst}
 use Rattle.std.specs.Prelude.{Result, Ok, Err}
 use Rattle.live_log.specs.Log.{Log, Begins, HaveEnded}
-use Rattle.live_log.proofs.Lemmas.{begins_trans}
 use Rattle.live_words.specs.live_rule.declared.view.View.{View}
 use Rattle.domain.specs.Working.{GoesOn}
 use Rattle.domain.proofs.Running.{goes_loaded, goes_trans, line_longer}
@@ -14,12 +13,7 @@ if_err (Err e) X x = x
 pub returns-in_err-asked-clause-seat : goal.returns-in_err-asked-clause-seat
 returns-in_err-asked-clause-seat g c =
     let e = c.ask.ensures in
-    (goes_loaded g.P.GracePlan.QSBR g.K.ChainRule.allows c.args.seat.now c.ask.new.seat e.seat e.looked, ap (λ m. m.0.work) e.looked.0)
-
-pub returns-in_err-asked-clause-heard : goal.returns-in_err-asked-clause-heard
-returns-in_err-asked-clause-heard g c =
-    let looked = c.ask.ensures.looked.1 in
-    subst (Begins c.args.seat.now.me.0.heard) (sym looked.1) looked.3
+    (goes_loaded g.P.GracePlan.QSBR g.K.ChainRule.allows c.args.seat.now c.ask.new.seat e.seat e.looked, ap (λ m. m.0.work) e.looked.0, ap (λ m. m.0.looks) e.looked.0)
 
 pub returns-in_err-asked-clause-refused : goal.returns-in_err-asked-clause-refused
 returns-in_err-asked-clause-refused g c =
@@ -51,22 +45,16 @@ returns-clause-seat g c =
     } in (
       goes_trans qsbr allows c.args.seat.now c.ask.new.seat c.answer.new.seat (goes_loaded qsbr allows c.args.seat.now c.ask.new.seat asked.seat asked.looked) answered,
       e.rights.1 ∙ ap (λ m. m.0.work) asked.looked.0,
+      e.load.1 ∙ ap (λ m. m.0.looks) asked.looked.0,
     )
-
-pub returns-clause-heard : goal.returns-clause-heard
-returns-clause-heard g c =
-    let looked = c.ask.ensures.looked.1 in
-    let heard : Log = c.args.seat.now.me.0.heard in
-    let asked : Log = c.ask.new.seat.me.0.seen in
-    begins_trans heard asked c.answer.new.seat.me.0.seen (subst (Begins heard) (sym looked.1) looked.3) c.answer.ensures.later.0
 
 pub returns-clause-due : goal.returns-clause-due
 returns-clause-due g c q =
     let looked = c.ask.ensures.looked.1 in
-    let heard : Log = c.args.seat.now.me.0.heard in
+    let seen : Log = c.args.seat.now.me.0.seen in
     let mark : Log = c.ask.new.seat.me.0.seen in (
       mark,
       c.answer.ensures.later.0,
       subst (λ (log : Log). HaveEnded log c.answer.new.seat.me.0.seen) c.in_ok-asked.ensures.ask.0 c.answer.ensures.ended,
-      line_longer heard mark q (subst (Begins heard) (sym looked.1) looked.3),
+      line_longer seen mark q (subst (Begins seen) (sym looked.1) looked.2),
     )

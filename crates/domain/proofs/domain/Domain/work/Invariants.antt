@@ -1,6 +1,6 @@
 use Rattle.std.proofs.Common.{◌≡◌, []}
 use Rattle.live_reclaim.specs.Batches.{Lists, WorksFor}
-use Rattle.domain.specs.Working.{GoesOn}
+use Rattle.domain.specs.Working.{GoesOn, Rounds}
 use Rattle.domain.proofs.domain.Domain.work.Given as goal
 
 abbrev pub invariant-loop : goal.invariant-loop
@@ -9,3 +9,4 @@ invariant-loop g l =
     × WorksFor l.queue l.count l.seat.me.0
     × Lists g.row.D.coded.code g.D.Deleter.answers l.queue l.seat.me.0.seen l.first l.count l.list.items
     × (l.left.items ≡ [])
+    × Rounds g.B.Site.sizes l.queue l.first l.count l.count l.fn.seat.me.0.looks l.seat.me.0.looks

@@ -18,17 +18,13 @@ returns-clause-worker g c =
     let between : View = c.tell.new.seat.me.0 in
     let new : View = c.learn-2.new.seat.me.0 in
     let same : between ≡ old = ap (λ z. z.0) told.2 in
+    let job = ap (λ z. z.0) c.tell-2.ensures.4 in
     let view = ap (λ z. z.0) learned.2 in
     let rights = ap (λ z. z.1) learned.2 ∙ ap (λ z. z.1) told.2 in
-    let is : new ≡ record old { heard = new.heard; looks = new.looks; loads = new.loads } = view ∙ (λ i. record (same i) { heard = (sym view i).heard; looks = (sym view i).looks; loads = (sym view i).loads }) in
+    let found = ap (λ (v : View). v.looks ++ between.looks) job in
+    let loaded = ap (λ (v : View). v.loads ++ between.loads) job in
+    let is : new ≡ record old { heard = new.heard } = view ∙ (λ i. record (same i) { heard = (sym view i).heard; looks = (found ∙ ap (λ (v : View). v.looks) same) i; loads = (loaded ∙ ap (λ (v : View). v.loads) same) i }) in
     ((learned.0 ∙ told.0, learned.1 ∙ told.1), λ i. (is i, rights i))
-
-pub returns-clause-finds : goal.returns-clause-finds
-returns-clause-finds g c =
-    let same = ap (λ z. z.0) c.tell.ensures.2 in
-    let view = ap (λ z. z.0) c.learn-2.ensures.2 in
-    let job : View = c.store_run.new.seat.me.0 in
-    ((job.looks, ap (λ (v : View). v.looks) view ∙ ap (λ (v : View). job.looks ++ v.looks) same), (job.loads, ap (λ (v : View). v.loads) view ∙ ap (λ (v : View). job.loads ++ v.loads) same))
 
 pub returns-clause-run : goal.returns-clause-run
 returns-clause-run g c =
@@ -52,8 +48,9 @@ returns-clause-run g c =
       wrote = ran.2.1 ∙ ap (λ (p : ObjectId). Object (Run p) ∷ before) o;
       run = ran.2.4;
     } in
+    let last = ap (λ z. z.0.seen) c.tell-2.ensures.4 in
     subst (λ (j : JobValue g.row.C.Denot). Runs qsbr allows j.0.seen worker.seen c.args.object c.learn-2.new.seat.me.0.heard) c.self.view_is
-    (subst (Runs qsbr allows job.seen worker.seen c.args.object) (sym (ap (λ z. z.0.heard) c.learn-2.ensures.2)) here)
+    (subst (Runs qsbr allows job.seen worker.seen c.args.object) (sym (ap (λ z. z.0.heard) c.learn-2.ensures.2 ∙ last)) here)
 
 pub returns-clause-ripe : goal.returns-clause-ripe
 returns-clause-ripe g c =
@@ -69,4 +66,5 @@ returns-clause-ripe g c =
     let later : Begins second.seen log = subst (Begins second.seen) (sym ran.2.1) (begins_trans second.seen before (_ ∷ before) ran.2.2 (_ ∷ [], refl)) in
     let o : object_in first.object ≡ c.args.object = ap (λ (v : View). object_in v.object) learn ∙ (ap (λ (j : JobValue g.row.C.Denot). object_in j.0.object) c.self.view_is ∙ sym c.requires.object) in
     let kept = ap (λ (note : ℕ × List ℕ). words_in note.1) (sym (note_stays qsbr allows second.seen log (object_in first.object) later ran.2.4 words.1)) in
-    (refl, words.0 ∙ (kept ∙ (ap (payload_of log) o ∙ ap (λ (l : Log). payload_of l c.args.object) (sym (ap (λ z. z.0.heard) c.learn-2.ensures.2)))))
+    let last = ap (λ z. z.0.seen) c.tell-2.ensures.4 in
+    (refl, words.0 ∙ (kept ∙ (ap (payload_of log) o ∙ ap (λ (l : Log). payload_of l c.args.object) (sym (ap (λ z. z.0.heard) c.learn-2.ensures.2 ∙ last)))))

@@ -1,6 +1,0 @@
-use Rattle.std.proofs.Common.{arith}
-use Rattle.live_rule.proofs.Lemmas.{cuts_work}
-use Rattle.live_table.proofs.table.LiveTable.cut_work.Goals as goal
-
-pub split_seat-requires : goal.split_seat-requires
-split_seat-requires g c = let laid = c.args.self.now.laid in (c.requires, omega arith, cuts_work g.P.GracePlan.QSBR g.K.ChainRule.allows _ c.args.seat.now.id c.args.seat.now.me.0)
