@@ -1,13 +1,7 @@
 -- Lemmas on what sections got.
-use Rattle.std.proofs.Common.{◌≡◌, ◌≢◌, ◌⊎◌, ◌↔◌, inl, inr, ⊎_elim, Bool, true, false, ◌||◌, not, cond, List, ◌∷◌, Option, Some, None, IsTrue, sym, ap, ◌∙◌, true≢false}
-use Rattle.std.specs.List.{list_any}
-use Rattle.std.specs.HashMap.{HashMap, get}
+use Rattle.rcu_judge.proofs.Cited.{◌≡◌, ◌≢◌, ◌⊎◌, ◌↔◌, inl, inr, ⊎_elim, Bool, true, false, ◌||◌, not, cond, List, ◌∷◌, Option, Some, None, IsTrue, sym, ap, ◌∙◌, true≢false, list_any, HashMap, get, SectionId, ObjectId, same_section, same_object, Tells, section_tells, object_tells}
 use Rattle.rcu_judge.specs.declared.holdings.Got.{Got}
-use Rattle.rcu_model.specs.declared.event.SectionId.{SectionId}
-use Rattle.rcu_model.specs.declared.event.ObjectId.{ObjectId}
-use Rattle.rcu_model.specs.Sets.{same_section, same_object}
 use Rattle.rcu_judge.specs.Holdings.{objects_in}
-use Rattle.rcu_model.proofs.Lemmas.{Tells, section_tells, object_tells}
 
 -- whether an object is among those that a section got, where it got one
 abbrev has : Option Got → ObjectId → Bool

@@ -1,17 +1,14 @@
 -- Logs up to an event, and what a verdict says of the whole log.
-use Rattle.std.proofs.Common.{◌≡◌, ◌≢◌, ◌↔◌, ℕ, ◌+◌, Bool, true, false, List, [], ◌∷◌, ◌++◌, length, refl, sym, ap, ◌∙◌, subst, true≢false, append_assoc, length-append}
-use Rattle.rcu_model.specs.declared.event.Event.{Event}
+use Rattle.rcu_judge.proofs.Cited.{◌≡◌, ◌≢◌, ◌↔◌, ℕ, ◌+◌, Bool, true, false, List, [], ◌∷◌, ◌++◌, length, refl, sym, ap, ◌∙◌, subst, true≢false, append_assoc, length-append, Event, State, start, IsAllowed, AreAllowed, IsRun, after, after_all, state_after, allowed_append, after_append}
 use Rattle.rcu_judge.specs.declared.checker.Checker.{Checker}
 use Rattle.rcu_judge.specs.declared.judge.Judge.{Judge}
 use Rattle.rcu_judge.specs.declared.verdict.Rule.{Rule}
 use Rattle.rcu_judge.specs.declared.verdict.Verdict.{Verdict}
 use Rattle.rcu_judge.specs.declared.verdict.Verdict.TheVariants.{Yes, No}
-use Rattle.rcu_model.specs.Machine.{State, start, IsAllowed, AreAllowed, IsRun, after, after_all, state_after}
 use Rattle.rcu_judge.specs.Verdict.{IsFirstBreak, Judges, rule_of}
 use Rattle.rcu_judge.specs.Objects.{IsReached}
 use Rattle.rcu_judge.specs.Checker.{Follows, Goes, Answers, Keeps}
 use Rattle.rcu_judge.specs.Judge.{HasTaken}
-use Rattle.rcu_model.proofs.Lemmas.{allowed_append, after_append}
 
 -- a run begins with a run, and its next event is allowed
 next_allowed : (now : State) (before : List Event) (e : Event) (later : List Event) → AreAllowed now (before ++ e ∷ later) → IsAllowed (after_all now before) e

@@ -1,3 +1,4 @@
+mod Cited
 pub mod Rosters
 pub mod Places
 pub mod SectionLemmas

@@ -1,16 +1,11 @@
 -- What is known of objects whose callbacks have not run, and that the others are known by their numbers.
-use Rattle.std.proofs.Common.{◌≡◌, ◌≢◌, ◌⊎◌, ◌↔◌, inl, inr, ⊎_elim, ℕ, Bool, true, false, ◌&&◌, ◌==◌, IsTrue, List, ◌∷◌, is_some, Option, Some, None, refl, sym, ap, ◌∙◌, subst, true≢false}
-use Rattle.number_runs.specs.Runs.{Has}
-use Rattle.rcu_model.specs.declared.event.ObjectId.{ObjectId}
+use Rattle.rcu_judge.proofs.Cited.{◌≡◌, ◌≢◌, ◌⊎◌, ◌↔◌, inl, inr, ⊎_elim, ℕ, Bool, true, false, ◌&&◌, ◌==◌, IsTrue, List, ◌∷◌, is_some, Option, Some, None, refl, sym, ap, ◌∙◌, subst, true≢false, Has, ObjectId, State, has_object, HasObject, at_object, at_object_same, at_object_other, decide, decide_place, none_some}
 use Rattle.rcu_judge.specs.declared.object.Stage.{Stage}
 use Rattle.rcu_judge.specs.declared.object.Stage.TheVariants.{Linked, Cut as IsCut, Retired, Queued}
 use Rattle.rcu_judge.specs.declared.object.ObjectState.{ObjectState}
 use Rattle.rcu_judge.specs.declared.object.Splice.{Splice}
 use Rattle.rcu_judge.specs.declared.objects.Objects.{Objects}
-use Rattle.rcu_model.specs.Machine.{State}
-use Rattle.rcu_model.specs.Sets.{has_object, HasObject, at_object}
 use Rattle.rcu_judge.specs.Objects.{heads_of, states_of, is_linked, is_queued, says, says_linked, linked_state, Shows, AreKept, Knows, FindsSuccessor, FindsWaiting, written, entered, linked_states, marked_states, left_states, spliced_states}
-use Rattle.rcu_model.proofs.Lemmas.{at_object_same, at_object_other, decide, decide_place, none_some}
 use Rattle.rcu_judge.proofs.ObjectsTables.{written_other, written_same, written_keeps, written_at, entered_same, entered_other}
 use Rattle.rcu_judge.proofs.ObjectsStores.{has_first, has_past, has_more, not_there, linked_state_is, linked_state_none}
 use Rattle.rcu_judge.proofs.ObjectsStages.{found_successor, found_waiting}

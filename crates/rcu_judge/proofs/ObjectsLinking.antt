@@ -1,15 +1,10 @@
 -- What a store into a chain keeps of what is known of objects.
-use Rattle.std.proofs.Common.{◌≡◌, ◌≢◌, ◌⊎◌, inl, inr, ℕ, ◌==◌, Bool, true, false, ◌&&◌, List, is_some, Option, Some, None, refl, sym, ap, ◌∙◌, subst, true≢false}
-use Rattle.std.proofs.lemmas.Bool.Decides.{eqb_tells}
-use Rattle.std.specs.Option.{option_or}
-use Rattle.rcu_model.specs.declared.event.ObjectId.{ObjectId}
+use Rattle.rcu_judge.proofs.Cited.{◌≡◌, ◌≢◌, ◌⊎◌, inl, inr, ℕ, ◌==◌, Bool, true, false, ◌&&◌, List, is_some, Option, Some, None, refl, sym, ap, ◌∙◌, subst, true≢false, eqb_tells, option_or, ObjectId, has_object, HasObject, In, in_objects, has_object_in, at_number_same, at_number_other, Linking, IsPlace, follows, follows_has, none_some, decide_place, Spliced, ChainKept, Written, chain_framed, chain_spliced}
 use Rattle.rcu_judge.specs.declared.object.Stage.{Stage}
 use Rattle.rcu_judge.specs.declared.object.Stage.TheVariants.{Linked, Cut as IsCut, Retired, Queued}
 use Rattle.rcu_judge.specs.declared.object.ObjectState.{ObjectState}
 use Rattle.rcu_judge.specs.declared.object.Splice.{Splice}
-use Rattle.rcu_model.specs.Sets.{has_object, HasObject}
 use Rattle.rcu_judge.specs.Objects.{is_linked, is_cut, is_retired, is_queued, moment_of, ticket_of, says, number_in, says_linked, after_of, before_of, LeadsTo, Shows, stored, spliced_heads, linked_states, marked_states, left_states, entered, spliced_states}
-use Rattle.rcu_model.proofs.Lemmas.{In, in_objects, has_object_in, at_number_same, at_number_other, Linking, IsPlace, follows, follows_has, none_some, decide_place, Spliced, ChainKept, Written, chain_framed, chain_spliced}
 use Rattle.rcu_judge.proofs.ObjectsTables.{written_other, written_same, written_keeps, entered_same, entered_other}
 
 -- tests

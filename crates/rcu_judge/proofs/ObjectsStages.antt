@@ -1,14 +1,9 @@
 -- What a retirement, a queueing and a run make of what is known of objects.
-use Rattle.std.proofs.Common.{◌≡◌, ◌≢◌, ◌⊎◌, inl, inr, ℕ, Bool, true, false, ◌&&◌, ◌==◌, ◌↔◌, List, ◌∷◌, is_some, Option, Some, None, refl, sym, ap, ◌∙◌, subst, true≢false}
-use Rattle.rcu_model.specs.declared.event.ObjectId.{ObjectId}
-use Rattle.rcu_model.specs.declared.event.Event.TheVariants.{Retire, Queue}
+use Rattle.rcu_judge.proofs.Cited.{◌≡◌, ◌≢◌, ◌⊎◌, inl, inr, ℕ, Bool, true, false, ◌&&◌, ◌==◌, ◌↔◌, List, ◌∷◌, is_some, Option, Some, None, refl, sym, ap, ◌∙◌, subst, true≢false, ObjectId, Retire, Queue, State, IsSuccessor, after, start, has_object, HasObject, at_object, at_object_same, at_object_other, decide, some_is, none_some}
 use Rattle.rcu_judge.specs.declared.object.Stage.{Stage}
 use Rattle.rcu_judge.specs.declared.object.Stage.TheVariants.{Linked, Cut as IsCut, Retired, Queued}
 use Rattle.rcu_judge.specs.declared.object.ObjectState.{ObjectState}
-use Rattle.rcu_model.specs.Machine.{State, IsSuccessor, after, start}
-use Rattle.rcu_model.specs.Sets.{has_object, HasObject, at_object}
 use Rattle.rcu_judge.specs.Objects.{is_linked, is_cut, is_retired, is_queued, moment_of, ticket_of, says, number_in, says_linked, after_of, before_of, LeadsTo, Shows, FindsWaiting}
-use Rattle.rcu_model.proofs.Lemmas.{at_object_same, at_object_other, decide, some_is, none_some}
 use Rattle.rcu_judge.proofs.ObjectsLinking.{number_same}
 use Rattle.rcu_judge.proofs.ObjectsStores.{has_first, has_past, has_more}
 

@@ -1,13 +1,8 @@
 -- What a push, a replacement and a cut make of what is known of objects.
-use Rattle.std.proofs.Common.{◌≡◌, ◌≢◌, inl, inr, ℕ, Bool, true, false, ◌&&◌, ◌==◌, ◌↔◌, IsTrue, if◌then◌else◌, List, ◌∷◌, is_some, Option, Some, None, refl, sym, ap, ◌∙◌, subst, true≢false}
-use Rattle.rcu_model.specs.declared.event.ObjectId.{ObjectId}
-use Rattle.rcu_model.specs.declared.event.Event.TheVariants.{Push, Replace, Cut}
+use Rattle.rcu_judge.proofs.Cited.{◌≡◌, ◌≢◌, inl, inr, ℕ, Bool, true, false, ◌&&◌, ◌==◌, ◌↔◌, IsTrue, if◌then◌else◌, List, ◌∷◌, is_some, Option, Some, None, refl, sym, ap, ◌∙◌, subst, true≢false, ObjectId, Push, Replace, Cut, State, after, same_object, has_object, HasObject, without_object, at_number, at_object, next_of, replaced, In, Tells, object_tells, in_objects, has_object_in, at_number_same, at_number_other, at_object_same, at_object_other, Kept, kept_log, IsPlace, follows, some_is, none_some, Spliced, push_splices, replace_splices, cut_splices}
 use Rattle.rcu_judge.specs.declared.object.ObjectState.{ObjectState}
 use Rattle.rcu_judge.specs.declared.object.Splice.{Splice}
-use Rattle.rcu_model.specs.Machine.{State, after}
-use Rattle.rcu_model.specs.Sets.{same_object, has_object, HasObject, without_object, at_number, at_object, next_of, replaced}
 use Rattle.rcu_judge.specs.Objects.{is_linked, says_linked, linked_state, after_of, before_of, Shows, IsReached, spliced_heads, spliced_states}
-use Rattle.rcu_model.proofs.Lemmas.{In, Tells, object_tells, in_objects, has_object_in, at_number_same, at_number_other, at_object_same, at_object_other, Kept, kept_log, IsPlace, follows, some_is, none_some, Spliced, push_splices, replace_splices, cut_splices}
 use Rattle.rcu_judge.proofs.ObjectsLinking.{leads, shows_spliced}
 
 pub kept_reached : (now : State) → IsReached now → Kept now

@@ -1,13 +1,7 @@
 -- The tables of the checker as functions, and writes into them.
-use Rattle.std.proofs.Common.{◌≡◌, ◌≢◌, ◌⊎◌, inl, inr, ℕ, ◌==◌, cond, nat_eq, Option, Some, None, refl, sym, ap, ◌∙◌, subst, true≢false, Result, Ok, Err, OnErr, IsOk}
-use Rattle.std.specs.HashMap.{HashMap, IsEmpty, IsUnchanged, get}
-use Rattle.std.specs.Map.{lookup}
-use Rattle.std.proofs.lemmas.Bool.Decides.{eqb_tells}
-use Rattle.rcu_model.specs.declared.event.ObjectId.{ObjectId}
+use Rattle.rcu_judge.proofs.Cited.{◌≡◌, ◌≢◌, ◌⊎◌, inl, inr, ℕ, ◌==◌, cond, nat_eq, Option, Some, None, refl, sym, ap, ◌∙◌, subst, true≢false, Result, Ok, Err, OnErr, IsOk, HashMap, IsEmpty, IsUnchanged, get, lookup, eqb_tells, ObjectId, same_object, at_number, at_object, Tells, object_tells, at_number_same, at_number_other, at_object_same, at_object_other, decide, some_is, none_some}
 use Rattle.rcu_judge.specs.declared.object.ObjectState.{ObjectState}
-use Rattle.rcu_model.specs.Sets.{same_object, at_number, at_object}
 use Rattle.rcu_judge.specs.Objects.{states_of, heads_of, write_at, written, entered}
-use Rattle.rcu_model.proofs.Lemmas.{Tells, object_tells, at_number_same, at_number_other, at_object_same, at_object_other, decide, some_is, none_some}
 
 -- what holds at an error
 pub on_err : {T E P : Type 0} (r : Result T E) → P → OnErr r P

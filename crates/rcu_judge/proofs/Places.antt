@@ -1,24 +1,9 @@
 -- Lemmas on the places of a roster.
-use Rattle.std.proofs.Common.{◌≡◌, ◌≢◌, ◌⊎◌, ◌↔◌, inl, inr, ⊎_elim, ℕ, ◌+◌, ◌-◌, ◌≤◌, ◌<◌, Bool, true, false, ◌&&◌, ◌==◌, cond, List, [], ◌∷◌, ◌++◌, length, take, set, map, min, get_or, refl, sym, ap, ◌∙◌, subst, arith, true≢false, Option, Some, None, Result, Ok, Err, zero, suc, IsSome, length-append, length-set, get_or-set_same, get_or-set_other, eqb, ◌||◌}
-use Rattle.std.specs.Option.{option_to_list}
-use Rattle.std.specs.List.{filter, range_with_len}
-use Rattle.std.proofs.lemmas.List.{get_or_append_left, get_or_past, get_or_default, ext_get_or, append-nil, set-get_or}
-use Rattle.std.proofs.lemmas.List.FromFn.{length-map-range_with_len, get_or-map-range_with_len, map-range_with_len_more}
-use Rattle.std.proofs.lemmas.List.Folds.{list_any_at, Any-from_list_any}
-use Rattle.std.proofs.lemmas.List.Elements.{filter_passes}
-use Rattle.std.proofs.Math.Seq.{take-append_seam, get_or-append_seam}
-use Rattle.std.proofs.lemmas.Bool.{cases_lt, cases_Bool, eqb-true, eq-eqb}
-use Rattle.std.proofs.lemmas.Bool.Decides.{eqb_tells, nat_tests}
-use Rattle.std.specs.Cmp.Derive.{both_true}
-use Rattle.std.specs.declared.cmp.Ordering.TheVariants.{Less, Greater}
-use Rattle.std.specs.Cmp.{ranks}
-use Rattle.std.specs.Ordering.{nat_cmp, ordering_index, MatchOrdering}
-use Rattle.std.specs.List.Sorted.{IsBinarySearchResult, IsPartitionPoint, IsSearchInRange}
-use Rattle.std.specs.Result.{result_ok}
+use Rattle.rcu_judge.proofs.Cited.{◌≡◌, ◌≢◌, ◌⊎◌, ◌↔◌, inl, inr, ⊎_elim, ℕ, ◌+◌, ◌≤◌, ◌<◌, Bool, true, false, ◌&&◌, ◌==◌, cond, List, [], ◌∷◌, ◌++◌, length, set, map, get_or, refl, sym, ap, ◌∙◌, subst, arith, true≢false, Result, Ok, Err, zero, suc, length-append, length-set, get_or-set_same, get_or-set_other, eqb, ◌||◌, filter, range_with_len, get_or_append_left, get_or_past, get_or_default, ext_get_or, set-get_or, length-map-range_with_len, get_or-map-range_with_len, map-range_with_len_more, list_any_at, Any-from_list_any, filter_passes, get_or-append_seam, cases_lt, cases_Bool, eqb-true, eq-eqb, eqb_tells, nat_tests, both_true, Less, Greater, ranks, nat_cmp, ordering_index, MatchOrdering, IsBinarySearchResult, IsPartitionPoint, IsSearchInRange, result_ok}
 use Rattle.rcu_judge.specs.declared.roster.Kept.{Kept}
 use Rattle.rcu_judge.specs.Roster.{IsThere, HaveLeft, AreInOrder, IsFoundAt, IsNext, is_kept, kept_at, all_places}
 
-abbrev nobody : Kept
+abbrev pub nobody : Kept
 nobody = record { place = 0; is_there = false }
 
 -- ---- the order of the places
@@ -36,12 +21,12 @@ at_least from to [] i o less = absurd (omega arith)
 at_least from to (k ∷ ks) zero o less = o.0
 at_least from to (k ∷ ks) (suc i) o less = let a = o.0 in let l = at_least (k.place + 1) to ks i o.1 (omega arith) in omega arith
 
-below : (from to : ℕ) (ks : List Kept) (i : ℕ) → AreInOrder from to ks → i < length ks → (kept_at ks i).place < to
+pub below : (from to : ℕ) (ks : List Kept) (i : ℕ) → AreInOrder from to ks → i < length ks → (kept_at ks i).place < to
 below from to [] i o less = absurd (omega arith)
 below from to (k ∷ ks) zero o less = let e = ends (k.place + 1) to ks o.1 in omega arith
 below from to (k ∷ ks) (suc i) o less = below (k.place + 1) to ks i o.1 (omega arith)
 
-rises : (from to : ℕ) (ks : List Kept) (i j : ℕ) → AreInOrder from to ks → i < j → j < length ks → (kept_at ks i).place < (kept_at ks j).place
+pub rises : (from to : ℕ) (ks : List Kept) (i j : ℕ) → AreInOrder from to ks → i < j → j < length ks → (kept_at ks i).place < (kept_at ks j).place
 rises from to [] i j o before less = absurd (omega arith)
 rises from to (k ∷ ks) i zero o before less = absurd (omega arith)
 rises from to (k ∷ ks) zero (suc j) o before less = let l = at_least (k.place + 1) to ks j o.1 (omega arith) in omega arith
@@ -50,10 +35,6 @@ rises from to (k ∷ ks) (suc i) (suc j) o before less = rises (k.place + 1) to 
 pub in_order_push : (from n : ℕ) (ks : List Kept) (b : Bool) → AreInOrder from n ks → AreInOrder from (n + 1) (ks ++ record { place = n; is_there = b } ∷ [])
 in_order_push from n [] b o = (o, omega arith)
 in_order_push from n (k ∷ ks) b o = (o.0, in_order_push (k.place + 1) n ks b o.1)
-
-in_order_pop : (from to : ℕ) (rest : List Kept) (last : Kept) → AreInOrder from to (rest ++ last ∷ []) → AreInOrder from (to - 1) rest
-in_order_pop from to [] last o = let a = o.0 in let b = o.1 in omega arith
-in_order_pop from to (k ∷ rest) last o = (o.0, in_order_pop (k.place + 1) to rest last o.1)
 
 in_order_filter : (p : Kept → Bool) (from to : ℕ) (ks : List Kept) → AreInOrder from to ks → AreInOrder from to (filter p ks)
 in_order_filter p from to [] o = o
@@ -123,7 +104,7 @@ same_places n f g same =
 
 -- ---- one more is kept, last
 
-abbrev arrival : ℕ → Kept
+abbrev pub arrival : ℕ → Kept
 arrival n = record { place = n; is_there = true }
 
 kept_before : (ks : List Kept) (k : Kept) (i : ℕ) → i < length ks → kept_at (ks ++ k ∷ []) i ≡ kept_at ks i
@@ -176,91 +157,6 @@ next_push ks n oldest f = record {
     by l (inr past) =
         let e : oldest ≡ length ks = let w = f.within in omega arith in
         ap (λ j. (kept_at (ks ++ arrival n ∷ []) j).is_there) e ∙ ap (λ (x : Kept). x.is_there) (kept_last ks (arrival n))
-
--- ---- the last one is taken back
-
-same_front : (xs ys : List Bool) (a b : Bool) → xs ++ a ∷ [] ≡ ys ++ b ∷ [] → (xs ≡ ys) × (a ≡ b)
-same_front xs ys a b e =
-    let n : length xs ≡ length ys = omega (arith, length-append xs (a ∷ []), length-append ys (b ∷ []), ap length e) in (
-      sym (take-append_seam xs (a ∷ [])) ∙ ap (take (length xs)) e ∙ ap (λ n. take n (ys ++ b ∷ [])) n ∙ take-append_seam ys (b ∷ []),
-      sym (get_or-append_seam xs a [] false) ∙ ap (λ (zs : List Bool). get_or zs (length xs) false) e ∙ ap (λ n. get_or (ys ++ b ∷ []) n false) n ∙ get_or-append_seam ys b [] false,
-    )
-
-pub forgotten : (n m : ℕ) (ks rest : List Kept) (last : Option Kept) (before : List Bool) → AreInOrder 0 n ks → ks ≡ rest ++ option_to_list last → (0 < length ks → IsSome last) → m ≡ n - 1 → all_places n ks ≡ before ++ true ∷ []
-    → all_places m rest ≡ before
-forgotten n m ks rest last before o e some less whole = by last e some
-  where
-    more : n ≡ m + 1
-    more = omega (arith, less, count_places n ks, ap length whole, length-append before (true ∷ []))
-
-    parts : (all_places m ks ≡ before) × (is_kept ks m ≡ true)
-    parts = same_front (all_places m ks) before (is_kept ks m) true (sym (map-range_with_len_more (is_kept ks) 0 m m (omega arith)) ∙ ap (λ i. all_places i ks) (sym more) ∙ whole)
-
-    found : (i : ℕ) × StandsAt ks m i
-    found = stands ks m parts.1
-
-    by : (last : Option Kept) → ks ≡ rest ++ option_to_list last → (0 < length ks → IsSome last) → all_places m rest ≡ before
-    by None e some = absurd (true≢false (sym (some (let l = found.1.0 in omega arith))))
-    by (Some k) e some =
-        same_places m (is_kept rest) (is_kept ks) (λ i less. sym (ap (λ (xs : List Kept). is_kept xs i) e ∙ stands_still rest k i (λ f. let g = last_is in omega (arith, f))))
-        ∙ parts.0
-      where
-        order : AreInOrder 0 n (rest ++ k ∷ [])
-        order = subst (AreInOrder 0 n) e o
-
-        at : (kept_at (rest ++ k ∷ []) found.0).place ≡ m
-        at = ap (λ (xs : List Kept). (kept_at xs found.0).place) (sym e) ∙ found.1.1
-
-        last_at : (kept_at (rest ++ k ∷ []) (length rest)).place ≡ k.place
-        last_at = ap (λ (x : Kept). x.place) (kept_last rest k)
-
-        in_rest : (found.0 < length rest) ⊎ (length rest ≤ found.0) → k.place ≡ m
-        in_rest (inl l) =
-            let r = rises 0 n (rest ++ k ∷ []) found.0 (length rest) order l (omega (arith, one_more rest k)) in
-            let b = below 0 n (rest ++ k ∷ []) (length rest) order (omega (arith, one_more rest k)) in
-            absurd (omega (arith, at, last_at, more))
-        in_rest (inr l) =
-            let w : found.0 < length ks = found.1.0 in
-            let f : found.0 ≡ length rest = omega (arith, one_more rest k, ap length e) in
-            sym last_at ∙ ap (λ j. (kept_at (rest ++ k ∷ []) j).place) (sym f) ∙ at
-
-        last_is : k.place ≡ m
-        last_is = in_rest (cases_lt found.0 (length rest))
-
-pub in_order_popped : (n m : ℕ) (ks rest : List Kept) (last : Option Kept) → AreInOrder 0 n ks → ks ≡ rest ++ option_to_list last → (0 < length ks → IsSome last) → m ≡ n - 1 → AreInOrder 0 m rest
-in_order_popped n m ks rest None o e some less = by rest (e ∙ append-nil rest)
-  where
-    by : (rest : List Kept) → ks ≡ rest → AreInOrder 0 m rest
-    by [] f = omega arith
-    by (k ∷ rest) f = absurd (true≢false (sym (some (omega (arith, ap length f)))))
-in_order_popped n m ks rest (Some k) o e some less = subst (λ i. AreInOrder 0 i rest) (sym less) (in_order_pop 0 n rest k (subst (AreInOrder 0 n) e o))
-
-pub next_pop : (ks rest : List Kept) (last : Option Kept) (oldest new : ℕ) → ks ≡ rest ++ option_to_list last → new ≡ min oldest (length rest) → IsNext ks 0 oldest → IsNext rest 0 new
-next_pop ks rest last oldest new e least f = by (cases_lt oldest (length rest))
-  where
-    same : (i : ℕ) → i < length rest → kept_at ks i ≡ kept_at rest i
-    same i less = ap (λ (xs : List Kept). kept_at xs i) e ∙ get_or_append_left rest (option_to_list last) nobody i less
-
-    passed : new ≤ oldest → new ≤ length rest → (i : ℕ) → 0 ≤ i → i < new → (kept_at rest i).is_there ≢ true
-    passed l m i from less h = f.passed i from (omega arith) (ap (λ (x : Kept). x.is_there) (same i (omega arith)) ∙ h)
-
-    by : (oldest < length rest) ⊎ (length rest ≤ oldest) → IsNext rest 0 new
-    by (inl less) =
-        let at : new ≡ oldest = grind (arith, least) in
-        record {
-          on = omega arith;
-          within = omega arith;
-          passed = passed (omega arith) (omega arith);
-          there = λ _. ap (λ j. (kept_at rest j).is_there) at ∙ ap (λ (x : Kept). x.is_there) (sym (same oldest less)) ∙ f.there (omega (arith, ap length e, length-append rest (option_to_list last)));
-        }
-    by (inr past) =
-        let at : new ≡ length rest = grind (arith, least) in
-        record {
-          on = omega arith;
-          within = omega arith;
-          passed = passed (omega arith) (omega arith);
-          there = λ less. absurd (omega arith);
-        }
 
 -- ---- those that have left are dropped
 
@@ -372,6 +268,16 @@ left_at n ks i p o less at =
         (λ t. let s = stands ks j t in from j a.1 s.0 s.1 (eqb_tells s.0 i))
         ∙ sym (get_or-set_other (all_places n ks) p j false false a.1 ∙ place_is n ks j m)
 
+was_there : (ks : List Kept) (i j : ℕ) → i < length ks → (kept_at (marked ks i) j).is_there ≡ true → (kept_at ks j).is_there ≡ true
+was_there ks i j less h = by (eqb_tells j i)
+  where
+    gone : Kept
+    gone = record { place = (kept_at ks i).place; is_there = false }
+
+    by : ((eqb j i ≡ true) × (j ≡ i)) ⊎ ((eqb j i ≡ false) × (j ≢ i)) → (kept_at ks j).is_there ≡ true
+    by (inl y) = absurd (true≢false (sym h ∙ ap (λ k. (kept_at (marked ks i) k).is_there) y.1 ∙ ap (λ (x : Kept). x.is_there) (get_or-set_same ks i gone nobody less)))
+    by (inr n) = ap (λ (x : Kept). x.is_there) (sym (get_or-set_other ks i j gone nobody n.1)) ∙ h
+
 pub next_left : (ks : List Kept) (i oldest new : ℕ) → i < length ks → IsNext ks 0 oldest → IsNext (marked ks i) oldest new → IsNext (marked ks i) 0 new
 next_left ks i oldest new less f g = record {
   on = omega arith;
@@ -380,14 +286,21 @@ next_left ks i oldest new less f g = record {
   there = g.there;
 }
   where
-    was : (j : ℕ) → (kept_at (marked ks i) j).is_there ≡ true → ((eqb j i ≡ true) × (j ≡ i)) ⊎ ((eqb j i ≡ false) × (j ≢ i)) → (kept_at ks j).is_there ≡ true
-    was j h (inl y) =
-        absurd (true≢false (sym h ∙ ap (λ k. (kept_at (marked ks i) k).is_there) y.1 ∙ ap (λ (x : Kept). x.is_there) (get_or-set_same ks i (record { place = (kept_at ks i).place; is_there = false }) nobody less)))
-    was j h (inr n) = ap (λ (x : Kept). x.is_there) (sym (get_or-set_other ks i j (record { place = (kept_at ks i).place; is_there = false }) nobody n.1)) ∙ h
-
     by : (j : ℕ) → j < new → (kept_at (marked ks i) j).is_there ≡ true → (j < oldest) ⊎ (oldest ≤ j) → ⊥
-    by j l h (inl before) = f.passed j (omega arith) before (was j h (eqb_tells j i))
+    by j l h (inl before) = f.passed j (omega arith) before (was_there ks i j less h)
     by j l h (inr past) = g.passed j past l h
+
+-- another one leaves than the first
+pub next_stays : (ks : List Kept) (i oldest : ℕ) → i < length ks → oldest ≢ i → IsNext ks 0 oldest → IsNext (marked ks i) 0 oldest
+next_stays ks i oldest less apart f = record {
+  on = omega arith;
+  within = let w = f.within in omega (arith, length-set ks i gone);
+  passed = λ j from l h. f.passed j from l (was_there ks i j less h);
+  there = λ l. ap (λ (x : Kept). x.is_there) (get_or-set_other ks i oldest gone nobody apart) ∙ f.there (omega (arith, length-set ks i gone));
+}
+  where
+    gone : Kept
+    gone = record { place = (kept_at ks i).place; is_there = false }
 
 -- ---- who is awaited
 

@@ -1,45 +1,24 @@
 -- What a refused allocation leaves of what the checker knows.
-use Rattle.std.proofs.Common.{◌≡◌, ◌↔◌, ℕ, List, Bool, Option, IsSome, sym, subst, ◌↔◌, ◌∙◌}
-use Rattle.std.specs.Option.{unwrap_or}
-use Rattle.number_runs.specs.Runs.{Has}
-use Rattle.rcu_model.specs.declared.event.SectionId.{SectionId}
-use Rattle.rcu_model.specs.declared.event.ObjectId.{ObjectId}
+use Rattle.rcu_judge.proofs.Cited.{◌≡◌, ◌↔◌, ℕ, List, Bool, Option, IsSome, sym, subst, ◌∙◌, Has, SectionId, ObjectId, HasNumber}
 use Rattle.rcu_judge.specs.declared.checker.Checker.{Checker}
 use Rattle.rcu_judge.specs.declared.holdings.Holdings.{Holdings}
 use Rattle.rcu_judge.specs.declared.objects.Objects.{Objects}
 use Rattle.rcu_judge.specs.declared.sections.Sections.{Sections}
 use Rattle.rcu_judge.specs.declared.waits.Waits.{Waits}
-use Rattle.rcu_model.specs.Sets.{HasSection, HasNumber}
-use Rattle.rcu_judge.specs.Roster.{Rostered, Awaits}
-use Rattle.rcu_judge.specs.Sections.{found_place, AreSections, AwaitsSections, StaySections}
+use Rattle.rcu_judge.specs.Sections.{StaySections}
 use Rattle.rcu_judge.specs.Holdings.{HasGot}
 use Rattle.rcu_judge.specs.Waits.{IsPending, AreWaits, StayWaits}
 use Rattle.rcu_judge.specs.Objects.{heads_of, states_of, IsSame}
 use Rattle.rcu_judge.specs.Checker.{Follows, Keeps}
 pub use Rattle.rcu_judge.proofs.ObjectsTables.{on_err}
+use Rattle.rcu_judge.proofs.SectionLemmas.{awaits_stay}
 use Rattle.rcu_judge.proofs.ObjectsKept.{knows_at}
-
--- the same places
-module _ (old new : Sections) (same : StaySections old new) where
-  at_places : (P : (SectionId → Option ℕ) → List Bool → Type 0) → P (found_place old) old.roster → P (found_place new) new.roster
-  at_places P h = subst (λ (f : SectionId → Option ℕ). P f new.roster) (sym same.places) (subst (P (found_place old)) (sym same.roster) h)
-
-  sections_stay : (seen still : List SectionId) → AreSections old seen still → AreSections new seen still
-  sections_stay seen still a = record {
-    known = λ s. let b = a.known s in ((λ h. (same.seen s).1 (b.0 h)), (λ h. b.1 ((same.seen s).0 h)));
-    placed = at_places (λ f _. (s : SectionId) → HasSection still s ↔ IsSome (f s)) a.placed;
-    came = a.came;
-    rostered = at_places (λ f present. Rostered (HasSection still) (HasSection still) (λ s. unwrap_or (f s) 0) present) a.rostered;
-  }
-
-  awaits_stay : (still awaited : List SectionId) (moment : ℕ) → AwaitsSections old still awaited moment → AwaitsSections new still awaited moment
-  awaits_stay still awaited moment w = at_places (λ f present. Awaits (HasSection still) (HasSection awaited) (λ s. unwrap_or (f s) 0) present moment) w
 
 pub keeps_sections : (k : Checker) (s : Sections) → StaySections k.sections s → Keeps k (record k { sections = s })
 keeps_sections k s same now f = record {
   moments = f.moments;
   tickets = f.tickets;
-  sections = sections_stay k.sections s same now.seen now.sections f.sections;
+  sections = same.are now.seen now.sections f.sections;
   holdings = f.holdings;
   objects = f.objects;
   retired = λ o h. awaits_stay k.sections s same now.sections (now.awaited o) (f.moments o) (f.retired o h);

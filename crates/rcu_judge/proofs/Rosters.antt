@@ -1,8 +1,5 @@
--- Lemmas on those that came, and those of them that are still here.
-use Rattle.std.proofs.Common.{◌≡◌, ◌≢◌, ◌⊎◌, ◌↔◌, inl, inr, ⊎_elim, ℕ, ◌+◌, ◌≤◌, ◌<◌, Bool, true, false, List, [], ◌∷◌, ◌++◌, length, set, refl, sym, ap, ◌∙◌, subst, arith, true≢false, length-set, get_or-set_same, get_or-set_other, eqb}
-use Rattle.std.proofs.lemmas.List.{length_push, get_or_append_left, get_or_push, get_or_past}
-use Rattle.std.proofs.lemmas.Bool.{cases_lt}
-use Rattle.std.proofs.lemmas.Bool.Decides.{eqb_tells}
+-- Lemmas on those that came, those of them that are still here, and who is awaited.
+use Rattle.rcu_judge.proofs.Cited.{◌≡◌, ◌≢◌, ◌⊎◌, ◌↔◌, inl, inr, ⊎_elim, ℕ, ◌+◌, ◌≤◌, ◌<◌, Bool, true, false, List, [], ◌∷◌, ◌++◌, length, set, refl, sym, ap, ◌∙◌, subst, arith, true≢false, length-set, get_or-set_same, get_or-set_other, eqb, length_push, get_or_append_left, get_or_push, get_or_past, cases_lt, eqb_tells}
 use Rattle.rcu_judge.specs.Roster.{IsThere, HaveLeft, Rostered, Awaits}
 
 -- what is there came
@@ -33,22 +30,15 @@ gone_set present i less h = true≢false (sym h ∙ get_or-set_same present i fa
 
 module _ {X : Type 0} (Came Here : X → Type 0) (place : X → ℕ) (present : List Bool) where
   -- where all that came before the moment have left, none of them is here, and the other way round
-  pub none_awaited : (Awaited : X → Type 0) (moment : ℕ) → Rostered Came Here place present → Awaits Here Awaited place present moment → HaveLeft present moment → (x : X) → ¬ Awaited x
+  pub none_awaited : (Awaited : X → Type 0) (moment : ℕ) → Rostered Came Here place present → Awaits Here Awaited place (length present) moment → HaveLeft present moment → (x : X) → ¬ Awaited x
   none_awaited Awaited moment r a left x h =
       let k = (a.exact x).0 h in
       left (place x) k.1 ((r.marked x (r.came x k.0)).0 k.0)
 
-  pub all_have_left : (Awaited : X → Type 0) (moment : ℕ) → Rostered Came Here place present → Awaits Here Awaited place present moment → ((x : X) → ¬ Awaited x) → HaveLeft present moment
+  pub all_have_left : (Awaited : X → Type 0) (moment : ℕ) → Rostered Came Here place present → Awaits Here Awaited place (length present) moment → ((x : X) → ¬ Awaited x) → HaveLeft present moment
   all_have_left Awaited moment r a none i less there =
       let n = r.named i there in
       none n.0 ((a.exact n.0).1 (n.1.0, subst (λ j. j < moment) (sym n.1.1) less))
-
-  -- all that are here came before now
-  pub awaits_here : Rostered Came Here place present → Awaits Here Here place present (length present)
-  awaits_here r = record {
-    past = omega arith;
-    exact = λ x. ((λ h. (h, r.placed x (r.came x h))), (λ h. h.0));
-  }
 
   -- one more comes, last
   module _ (x : X) (Came' Here' : X → Type 0) (place' : X → ℕ) (fresh : ¬ Came x) (more : (y : X) → Came' y ↔ ((x ≡ y) ⊎ Came y)) (here : (y : X) → Here' y ↔ ((x ≡ y) ⊎ Here y))
@@ -100,16 +90,6 @@ module _ {X : Type 0} (Came Here : X → Type 0) (place : X → ℕ) (present : 
             was y h (inl e) = absurd (fresh (subst Came (sym e) h))
             was y h (inr k) = k
 
-    pub awaits_arrive : (Awaited : X → Type 0) (moment : ℕ) → Rostered Came Here place present → Awaits Here Awaited place present moment → Awaits Here' Awaited place' (present ++ true ∷ []) moment
-    awaits_arrive Awaited moment r a = record {
-      past = let l = a.past in omega (arith, length_push present true);
-      exact = λ y. ((λ h. let k = (a.exact y).0 h in ((here y).1 (inr k.0), subst (λ i. i < moment) (sym (keeps y (r.came y k.0))) k.1)), (λ h. back y ((here y).0 h.0) h.1));
-    }
-      where
-        back : (y : X) → (x ≡ y) ⊎ Here y → place' y < moment → Awaited y
-        back y (inl e) less = let at : place' y ≡ length present = sym (ap place' e) ∙ last in let l = a.past in absurd (omega arith)
-        back y (inr h) less = (a.exact y).1 (h, subst (λ i. i < moment) (keeps y (r.came y h)) less)
-
   -- one that is here leaves
   module _ (x : X) (Here' : X → Type 0) (is_here : Here x) (less : (y : X) → Here' y ↔ (Here y × (y ≢ x))) where
     pub rostered_leave : Rostered Came Here place present → Rostered Came Here' place (set present (place x) false)
@@ -136,26 +116,39 @@ module _ {X : Type 0} (Came Here : X → Type 0) (place : X → ℕ) (present : 
             let m = r.marked y h in
             ((λ k. p.1 (m.0 (((less y).0 k).0))), (λ t. (less y).1 (m.1 (p.0 t), λ e. n.1 (ap place e))))
 
-    pub awaits_leave : (Awaited Awaited' : X → Type 0) (moment : ℕ) → ((y : X) → Awaited' y ↔ (Awaited y × (y ≢ x))) → Awaits Here Awaited place present moment → Awaits Here' Awaited' place (set present (place x) false) moment
-    awaits_leave Awaited Awaited' moment aw a = record {
-      past = subst (λ n. moment ≤ n) (sym (length-set present (place x) false)) a.past;
-      exact = λ y. (
-        (λ h. let k = (aw y).0 h in let b = (a.exact y).0 k.0 in ((less y).1 (b.0, k.1), b.1)),
-        (λ h. let k = (less y).0 h.0 in (aw y).1 ((a.exact y).1 (k.0, h.1), k.1)),
-      );
-    }
-
-  -- of those that left, the places may be forgotten, and those of the others may be kept elsewhere
-  pub rostered_only : (place' : X → ℕ) → ((x : X) → Here x → place' x ≡ place x) → Rostered Came Here place present → Rostered Here Here place' present
-  rostered_only place' same r = record {
-    placed = λ x h. subst (λ i. i < length present) (sym (same x h)) (r.placed x (r.came x h));
-    apart = λ x y h k e. r.apart x y (r.came x h) (r.came y k) (sym (same x h) ∙ e ∙ same y k);
-    named = λ i there. let n = r.named i there in (n.0, (n.1.0, same n.0 n.1.0 ∙ n.1.1));
-    marked = λ x h. ((λ k. subst (IsThere present) (sym (same x k)) ((r.marked x (r.came x k)).0 k)), (λ _. h));
-    came = λ x h. h;
+module _ {X : Type 0} (Here : X → Type 0) (place : X → ℕ) (came : ℕ) where
+  -- all that are here came before now
+  pub awaits_here : ((x : X) → Here x → place x < came) → Awaits Here Here place came came
+  awaits_here placed = record {
+    past = omega arith;
+    exact = λ x. ((λ h. (h, placed x h)), (λ h. h.0));
   }
 
-  pub awaits_at : (place' : X → ℕ) → ((x : X) → Here x → place' x ≡ place x) → (Awaited : X → Type 0) (moment : ℕ) → Awaits Here Awaited place present moment → Awaits Here Awaited place' present moment
+  -- who comes last is not awaited
+  pub awaits_arrive : (x : X) (Here' : X → Type 0) (place' : X → ℕ) → ((y : X) → Here' y ↔ ((x ≡ y) ⊎ Here y)) → place' x ≡ came → ((y : X) → Here y → place' y ≡ place y) →
+      (Awaited : X → Type 0) (moment : ℕ) → Awaits Here Awaited place came moment → Awaits Here' Awaited place' (came + 1) moment
+  awaits_arrive x Here' place' here last keeps Awaited moment a = record {
+    past = let l = a.past in omega arith;
+    exact = λ y. ((λ h. let k = (a.exact y).0 h in ((here y).1 (inr k.0), subst (λ i. i < moment) (sym (keeps y k.0)) k.1)), (λ h. back y ((here y).0 h.0) h.1));
+  }
+    where
+      back : (y : X) → (x ≡ y) ⊎ Here y → place' y < moment → Awaited y
+      back y (inl e) less = let at : place' y ≡ came = sym (ap place' e) ∙ last in let l = a.past in absurd (omega arith)
+      back y (inr h) less = (a.exact y).1 (h, subst (λ i. i < moment) (keeps y h) less)
+
+  -- who leaves is no more awaited
+  pub awaits_leave : (x : X) (Here' : X → Type 0) → ((y : X) → Here' y ↔ (Here y × (y ≢ x))) → (Awaited Awaited' : X → Type 0) (moment : ℕ) → ((y : X) → Awaited' y ↔ (Awaited y × (y ≢ x))) →
+      Awaits Here Awaited place came moment → Awaits Here' Awaited' place came moment
+  awaits_leave x Here' less Awaited Awaited' moment aw a = record {
+    past = a.past;
+    exact = λ y. (
+      (λ h. let k = (aw y).0 h in let b = (a.exact y).0 k.0 in ((less y).1 (b.0, k.1), b.1)),
+      (λ h. let k = (less y).0 h.0 in (aw y).1 ((a.exact y).1 (k.0, h.1), k.1)),
+    );
+  }
+
+  -- the places of those that are here may be kept elsewhere
+  pub awaits_at : (place' : X → ℕ) → ((x : X) → Here x → place' x ≡ place x) → (Awaited : X → Type 0) (moment : ℕ) → Awaits Here Awaited place came moment → Awaits Here Awaited place' came moment
   awaits_at place' same Awaited moment a = record {
     past = a.past;
     exact = λ x. (

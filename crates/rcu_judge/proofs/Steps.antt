@@ -1,18 +1,11 @@
 -- What an event leaves, the checker knows.
-use Rattle.std.proofs.Common.{◌≡◌, ◌≢◌, ◌⊎◌, ◌↔◌, inl, inr, ⊎_elim, ℕ, Bool, true, false, not, List, [], ◌∷◌, ◌++◌, length, set, filter, Option, Some, None, is_some, arith, refl, sym, ap, ◌∙◌, subst, true≢false, IsTrue}
-use Rattle.std.specs.Option.{option_eq}
-use Rattle.std.proofs.lemmas.List.{get_or_past}
-use Rattle.rcu_model.specs.declared.event.SectionId.{SectionId}
-use Rattle.rcu_model.specs.declared.event.ObjectId.{ObjectId}
-use Rattle.rcu_model.specs.declared.event.Event.{Event}
-use Rattle.rcu_model.specs.declared.event.Event.TheVariants.{Open, Close, First, Next, Touch, Push, Replace, Cut, Retire, Queue, Run, Ask, Answer, Bar, Clear}
+use Rattle.rcu_judge.proofs.Cited.{◌≡◌, ◌≢◌, ◌⊎◌, ◌↔◌, inl, inr, ⊎_elim, ℕ, ◌+◌, Bool, true, false, not, List, [], ◌∷◌, ◌++◌, length, length-set, set, Option, Some, None, is_some, arith, refl, sym, ap, ◌∙◌, subst, true≢false, IsTrue, option_eq, get_or_past, length_push, SectionId, ObjectId, Event, Open, Close, First, Next, Touch, Push, Replace, Cut, Retire, Queue, Run, Ask, Answer, Bar, Clear, same_section, same_object, has_object, HasSection, HasObject, HasNumber, without_section, without_object, at_number, at_section, at_object, first_of, next_of, replaced, State, start, IsAllowed, IsSuccessor, after, not_run, got, In, Tells, section_tells, object_tells, in_sections, has_section_in, in_objects, has_object_in, empty_from, filter_has, has_filter, without_object_has, has_without_object, at_number_same, at_number_other, at_section_same, at_section_other, at_object_same, at_object_other, Kept, kept_log, SafeIn, linked, cut_last, cut_before, not_reclaimed}
+use Rattle.std.proofs.Common.{filter}
 use Rattle.rcu_judge.specs.declared.checker.Checker.{Checker}
 use Rattle.rcu_judge.specs.declared.holdings.Holdings.{Holdings}
 use Rattle.rcu_judge.specs.declared.objects.Objects.{Objects}
 use Rattle.rcu_judge.specs.declared.sections.Sections.{Sections}
 use Rattle.rcu_judge.specs.declared.waits.Waits.{Waits}
-use Rattle.rcu_model.specs.Sets.{same_section, same_object, has_object, HasSection, HasObject, HasNumber, without_section, without_object, at_number, at_section, at_object, first_of, next_of, replaced}
-use Rattle.rcu_model.specs.Machine.{State, start, IsAllowed, IsSuccessor, after, not_run, got}
 use Rattle.rcu_judge.specs.Roster.{IsThere, HaveLeft, Rostered, Awaits}
 use Rattle.rcu_judge.specs.Sections.{AreSections, AwaitsSections, Opens, Closes}
 use Rattle.rcu_judge.specs.Holdings.{HasGot}
@@ -20,9 +13,8 @@ use Rattle.rcu_judge.specs.Waits.{AreWaits, IsPending, Begins, Ends}
 use Rattle.rcu_judge.specs.declared.object.Waiting.{Waiting}
 use Rattle.rcu_judge.specs.Objects.{Knows, IsReached, FindsSuccessor, FindsWaiting}
 use Rattle.rcu_judge.specs.Checker.{AreHeld, Follows, Goes, Gets, GetsIn}
-use Rattle.rcu_model.proofs.Lemmas.{In, Tells, section_tells, object_tells, in_sections, has_section_in, in_objects, has_object_in, empty_from, filter_has, has_filter, without_object_has, has_without_object, at_number_same, at_number_other, at_section_same, at_section_other, at_object_same, at_object_other, Kept, kept_log, SafeIn, linked, cut_last, cut_before, not_reclaimed}
 use Rattle.rcu_judge.proofs.Rosters.{none_awaited, all_have_left, awaits_here, rostered_arrive, awaits_arrive, rostered_leave, awaits_leave}
-use Rattle.rcu_judge.proofs.SectionLemmas.{has_last, has_without}
+use Rattle.rcu_judge.proofs.SectionLemmas.{has_last, has_without, was_opened}
 
 kept_reached : (now : State) → IsReached now → Kept now
 kept_reached now r = subst Kept r.leads (kept_log r.log r.run)
@@ -54,7 +46,7 @@ open_goes k new s opened does now r f = record {
     moments = f.moments;
     tickets = f.tickets;
     sections = o.open_now t;
-    holdings = open_held k.holdings now s (kept_reached now r) f.holdings f.sections.came (o.fresh.0 t);
+    holdings = open_held k.holdings now s (kept_reached now r) f.holdings (was_opened k.sections now.seen now.sections f.sections) (o.fresh.0 t);
     objects = f.objects;
     retired = λ p h. o.awaits t (now.awaited p) (f.moments p) (f.retired p h);
     queued = f.queued;
@@ -134,7 +126,7 @@ get_follows k new s (Some o) g now is_open f = subst (λ c. Follows c (got now s
   moments = f.moments;
   tickets = f.tickets;
   sections = f.sections;
-  holdings = get_held k.holdings new.holdings now s o is_open (f.sections.came s is_open) g.got f.holdings;
+  holdings = get_held k.holdings new.holdings now s o is_open (was_opened k.sections now.seen now.sections f.sections s is_open) g.got f.holdings;
   objects = f.objects;
   retired = f.retired;
   queued = f.queued;
@@ -200,9 +192,9 @@ queue_goes k objects present o q ticket done at came does now f = record {
     asks = f.asks;
     asked = f.asked;
     barriers = f.barriers;
-    noted = λ b m h. subst (λ present. Awaits (HasObject (not_run (after now (Queue o q)))) (HasObject (now.noted_objects b)) (at_object o ticket f.tickets) present m) (sym came)
-        (awaits_arrive (HasObject now.queued) (HasObject (not_run now)) f.tickets k.queued o (HasObject (o ∷ now.queued)) (HasObject (not_run (after now (Queue o q)))) (at_object o ticket f.tickets)
-        (d.0.0 t).1 (has_more o now.queued) (queued_here now o (not_ran t)) last (keeps t) (HasObject (now.noted_objects b)) m f.queued (f.noted b m h));
+    noted = λ b m h. subst (λ n. Awaits (HasObject (not_run (after now (Queue o q)))) (HasObject (now.noted_objects b)) (at_object o ticket f.tickets) n m) (sym grown)
+        (awaits_arrive (HasObject (not_run now)) f.tickets (length k.queued) o (HasObject (not_run (after now (Queue o q)))) (at_object o ticket f.tickets)
+        (queued_here now o (not_ran t)) last (λ p i. keeps t p (f.queued.came p i)) (HasObject (now.noted_objects b)) m (f.noted b m h));
   };
 }
   where
@@ -211,6 +203,9 @@ queue_goes k objects present o q ticket done at came does now f = record {
 
     not_ran : IsTrue done → ¬ HasObject now.reclaimed o
     not_ran t h = (d.0.0 t).1 (f.objects.shows.was_run o h)
+
+    grown : length present ≡ length k.queued + 1
+    grown = ap length came ∙ length_push k.queued true
 
     last : at_object o ticket f.tickets o ≡ length k.queued
     last = at_object_same o ticket f.tickets ∙ at
@@ -254,8 +249,8 @@ module _ (k : Checker) (o : ObjectId) (w : Waiting) (closed : Bool)
       asks = f.asks;
       asked = f.asked;
       barriers = f.barriers;
-      noted = λ b m h. subst (λ present. Awaits (HasObject (not_run (after now (Run o)))) (HasObject (without_object o (now.noted_objects b))) f.tickets present m) (sym at)
-          (awaits_leave (HasObject now.queued) (HasObject (not_run now)) f.tickets k.queued o (HasObject (not_run (after now (Run o)))) is_here (reclaimed_here now o)
+      noted = λ b m h. subst (λ n. Awaits (HasObject (not_run (after now (Run o)))) (HasObject (without_object o (now.noted_objects b))) f.tickets n m) (sym as_many)
+          (awaits_leave (HasObject (not_run now)) f.tickets (length k.queued) o (HasObject (not_run (after now (Run o)))) (reclaimed_here now o)
           (HasObject (now.noted_objects b)) (HasObject (without_object o (now.noted_objects b))) m (has_without_object_is o (now.noted_objects b)) (f.noted b m h));
     };
   }
@@ -271,6 +266,9 @@ module _ (k : Checker) (o : ObjectId) (w : Waiting) (closed : Bool)
 
       at : present ≡ set k.queued (f.tickets o) false
       at = gone ∙ ap (λ n. set k.queued n false) waits.is.1
+
+      as_many : length present ≡ length k.queued
+      as_many = ap length at ∙ length-set k.queued (f.tickets o) false
 
 -- what a test of two findings tells
 option_tells : {X : Type 0} (same : X → X → Bool) → ((x y : X) → Tells (same x y) x y) → (a b : Option X) → Tells (option_eq same a b) a b
@@ -405,7 +403,7 @@ clear_goes k barriers b moment gone ends told now f = record {
     p : HasNumber now.noted b × ¬ HasNumber now.cleared b
     p = e.pending.0 refl
 
-    awaits : Awaits (HasObject (not_run now)) (HasObject (now.noted_objects b)) f.tickets k.queued moment
+    awaits : Awaits (HasObject (not_run now)) (HasObject (now.noted_objects b)) f.tickets (length k.queued) moment
     awaits = f.noted b moment (e.since moment refl)
 
     nobody : IsTrue gone ↔ (now.noted_objects b ≡ [])
@@ -438,16 +436,16 @@ bar_goes k barriers b moment fresh at begins now f = record {
     e : Begins k.barriers barriers now.noted now.cleared b moment fresh
     e = begins now.noted now.cleared f.barriers
 
-    here : Awaits (HasObject (not_run now)) (HasObject (not_run now)) f.tickets k.queued (length k.queued)
-    here = awaits_here (HasObject now.queued) (HasObject (not_run now)) f.tickets k.queued f.queued
+    here : Awaits (HasObject (not_run now)) (HasObject (not_run now)) f.tickets (length k.queued) (length k.queued)
+    here = awaits_here (HasObject (not_run now)) f.tickets (length k.queued) (λ p h. f.queued.placed p (f.queued.came p h))
 
-    noted : (c m : ℕ) → ((c ≡ b) × (m ≡ moment)) ⊎ ((c ≢ b) × IsPending k.barriers c m) → Awaits (HasObject (not_run now)) (HasObject (at_number b (not_run now) now.noted_objects c)) f.tickets k.queued m
+    noted : (c m : ℕ) → ((c ≡ b) × (m ≡ moment)) ⊎ ((c ≢ b) × IsPending k.barriers c m) → Awaits (HasObject (not_run now)) (HasObject (at_number b (not_run now) now.noted_objects c)) f.tickets (length k.queued) m
     noted c m (inl y) =
-        subst (λ i. Awaits (HasObject (not_run now)) (HasObject (at_number b (not_run now) now.noted_objects i)) f.tickets k.queued m) (sym y.0)
-        (subst (λ (os : List ObjectId). Awaits (HasObject (not_run now)) (HasObject os) f.tickets k.queued m) (sym (at_number_same b (not_run now) now.noted_objects))
-        (subst (λ i. Awaits (HasObject (not_run now)) (HasObject (not_run now)) f.tickets k.queued i) (sym (y.1 ∙ at)) here))
+        subst (λ i. Awaits (HasObject (not_run now)) (HasObject (at_number b (not_run now) now.noted_objects i)) f.tickets (length k.queued) m) (sym y.0)
+        (subst (λ (os : List ObjectId). Awaits (HasObject (not_run now)) (HasObject os) f.tickets (length k.queued) m) (sym (at_number_same b (not_run now) now.noted_objects))
+        (subst (λ i. Awaits (HasObject (not_run now)) (HasObject (not_run now)) f.tickets (length k.queued) i) (sym (y.1 ∙ at)) here))
     noted c m (inr o) =
-        subst (λ (os : List ObjectId). Awaits (HasObject (not_run now)) (HasObject os) f.tickets k.queued m) (sym (at_number_other b c (not_run now) now.noted_objects o.0)) (f.noted c m o.1)
+        subst (λ (os : List ObjectId). Awaits (HasObject (not_run now)) (HasObject os) f.tickets (length k.queued) m) (sym (at_number_other b c (not_run now) now.noted_objects o.0)) (f.noted c m o.1)
 
 -- an ask begins
 pub ask_goes : (k : Checker) (asks : Waits) (a moment : ℕ) (fresh : Bool) → ((seen still : List SectionId) → AreSections k.sections seen still → AwaitsSections k.sections still still moment) →

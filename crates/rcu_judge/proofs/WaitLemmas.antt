@@ -1,11 +1,7 @@
 -- Lemmas on the waits that the checker keeps.
-use Rattle.std.proofs.Common.{◌≡◌, ◌≢◌, ◌⊎◌, ◌↔◌, inl, inr, ⊎_elim, ℕ, ◌==◌, nat_eq, true, false, cond, List, ◌∷◌, Option, Some, None, is_some, IsSome, refl, sym, ap, ◌∙◌, subst, true≢false}
-use Rattle.std.proofs.lemmas.Bool.Decides.{eqb_tells}
-use Rattle.number_runs.specs.Runs.{Has}
+use Rattle.rcu_judge.proofs.Cited.{◌≡◌, ◌≢◌, ◌⊎◌, ◌↔◌, inl, inr, ⊎_elim, ℕ, ◌==◌, nat_eq, true, false, cond, List, ◌∷◌, Option, Some, None, is_some, IsSome, refl, sym, ap, ◌∙◌, subst, true≢false, eqb_tells, Has, HasNumber, In, in_numbers, has_number_in}
 use Rattle.rcu_judge.specs.declared.waits.Waits.{Waits}
-use Rattle.rcu_model.specs.Sets.{HasNumber}
 use Rattle.rcu_judge.specs.Waits.{moment_of, IsPending, AreWaits, Begins, Ends}
-use Rattle.rcu_model.proofs.Lemmas.{In, in_numbers, has_number_in}
 
 pub has_number_first : (n : ℕ) (ns : List ℕ) (k : ℕ) → HasNumber (n ∷ ns) k ↔ ((n ≡ k) ⊎ HasNumber ns k)
 has_number_first n ns k = (

@@ -1,5 +1,5 @@
 -- What the checker knows, against the state of the machine.
-use Rattle.std.specs.Prelude.{◌≡◌, ◌⊎◌, ◌↔◌, ℕ, Bool, List, Option, Some, None, IsTrue}
+use Rattle.std.specs.Prelude.{◌≡◌, ◌⊎◌, ◌↔◌, ℕ, Bool, List, length, Option, Some, None, IsTrue}
 use Rattle.rcu_model.specs.declared.event.SectionId.{SectionId}
 use Rattle.rcu_model.specs.declared.event.ObjectId.{ObjectId}
 use Rattle.rcu_model.specs.declared.event.Event.{Event}
@@ -30,7 +30,7 @@ AsksAwait asks k sections awaited = (a moment : ℕ) → IsPending asks a moment
 
 -- a pending barrier awaits the objects that were queued before its moment
 abbrev pub BarriersAwait : Waits → List Bool → (ObjectId → ℕ) → List ObjectId → (ℕ → List ObjectId) → Type 0
-BarriersAwait barriers queued tickets here awaited = (b moment : ℕ) → IsPending barriers b moment → Awaits (HasObject here) (HasObject (awaited b)) tickets queued moment
+BarriersAwait barriers queued tickets here awaited = (b moment : ℕ) → IsPending barriers b moment → Awaits (HasObject here) (HasObject (awaited b)) tickets (length queued) moment
 
 -- the checker knows the state
 pub record Follows (k : Checker) (now : State) : Type 0 where

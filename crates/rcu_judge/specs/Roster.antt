@@ -53,7 +53,7 @@ pub record Rostered {X : Type 0} (Came Here : X → Type 0) (place : X → ℕ) 
   pub marked : (x : X) → Came x → Here x ↔ IsThere present (place x)
   pub came : (x : X) → Here x → Came x
 
--- the awaited ones are those here that came before the moment
-pub record Awaits {X : Type 0} (Here Awaited : X → Type 0) (place : X → ℕ) (present : List Bool) (moment : ℕ) : Type 0 where
-  pub past : moment ≤ length present
+-- the awaited ones are those here that came before the moment, and this many came by now
+pub record Awaits {X : Type 0} (Here Awaited : X → Type 0) (place : X → ℕ) (came moment : ℕ) : Type 0 where
+  pub past : moment ≤ came
   pub exact : (x : X) → Awaited x ↔ (Here x × (place x < moment))

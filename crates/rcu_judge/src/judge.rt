@@ -16,9 +16,8 @@ use std::alloc::Global;
 /// A judge of a log that is told event by event: whether the events that it has taken are a run of the abstract
 /// machine, or else the first of them that breaks its rule. It keeps what is present: open sections and what they got,
 /// objects whose callbacks have not run, asks and barriers that are not over. What is past it knows by the runs of its
-/// numbers. Beside a search among these runs, and one among the open sections or queued objects once most of those that
-/// came beside them are gone, an event takes constant time, amortized and on the average (its maps hash without a
-/// secret).
+/// numbers. Beside a search among these runs, and one among the queued objects once most of those that came beside them
+/// are gone, an event takes constant time, amortized and on the average (its maps hash without a secret).
 #[derive(Drop)]
 pub struct Judge {
     checker: Checker,

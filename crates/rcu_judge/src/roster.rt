@@ -6,10 +6,10 @@ ghost use Rattle.rcu_judge.specs.Roster.{IsThere, HaveLeft, AreInOrder, IsFoundA
 use std::alloc::{AllocError, Global};
 use std::marker::Model;
 
-// Those that have left are dropped once they are so many at least,
-const FEW: usize = 64;
+// Those that have left are dropped once they are this many at least,
+pub(crate) const FEW: usize = 64;
 
-// and at most one of so many that are kept is still there: until then most are found without a search.
+// and at most one of this many that are kept is still there: until then most are found without a search.
 const SHARE: usize = 8;
 
 /// Those that came, each at its place, in the order of their coming, from 0: whether they are still there. Memory is
@@ -28,9 +28,9 @@ pub(crate) struct Roster {
 
 /// One that came, and whether it is still there.
 #[derive(Clone, Copy, Drop)]
-struct Kept {
-    place: usize,
-    is_there: bool,
+pub(crate) struct Kept {
+    pub(crate) place: usize,
+    pub(crate) is_there: bool,
 }
 
 impl Model for Roster {
@@ -76,15 +76,6 @@ impl Roster {
         })?;
         self.came += 1;
         Ok(place)
-    }
-
-    /// The one that came last was never there.
-    pub(crate) fn forget_last(&mut self)
-        ensures { (before : List Bool) → self.old ≡ before ++ true ∷ [] → self.new ≡ before }
-    {
-        self.kept.pop();
-        self.came = self.came.saturating_sub(1);
-        self.oldest = self.oldest.min(self.kept.len());
     }
 
     /// The one at the place leaves: whether it was there.
@@ -152,7 +143,7 @@ fn find(kept: &[Kept], came: usize, place: usize) -> Option<usize>
 
 // The first from here on that is still there, or the number of those kept. What `leave` passes over it never passes
 // over again.
-fn first_present(kept: &[Kept], from: usize) -> usize
+pub(crate) fn first_present(kept: &[Kept], from: usize) -> usize
     requires within { from ≤ length kept.now }
     ensures front { IsNext kept.now from result }
 {

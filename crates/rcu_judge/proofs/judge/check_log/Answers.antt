@@ -1,7 +1,4 @@
-use Rattle.std.proofs.Common.{arith, sym, subst, take}
-use Rattle.std.proofs.lemmas.Grind.{common_steps}
-use Rattle.std.proofs.lemmas.List.{take_more}
-use Rattle.rcu_model.specs.declared.event.Event.TheVariants.{Open}
+use Rattle.rcu_judge.proofs.Cited.{arith, sym, subst, take, common_steps, take_more, Open}
 use Rattle.rcu_judge.specs.Judge.{HasTaken}
 use Rattle.rcu_judge.specs.Verdict.{Judges}
 use Rattle.rcu_judge.proofs.Judging.{yes_exactly}

@@ -1,5 +1,4 @@
-use Rattle.std.proofs.Common.{sym, subst, rules}
-use Rattle.std.proofs.lemmas.List.Sorted.{answers_always}
+use Rattle.rcu_judge.proofs.Cited.{sym, subst, rules, answers_always}
 use Rattle.rcu_judge.specs.declared.roster.Kept.{Kept}
 use Rattle.rcu_judge.specs.Roster.{IsFoundAt}
 use Rattle.rcu_judge.proofs.Places.{searched_at}

@@ -1,5 +1,4 @@
-use Rattle.std.proofs.Common.{◌≡◌, Some, None, sym, subst}
-use Rattle.rcu_model.specs.Sets.{at_number}
+use Rattle.rcu_judge.proofs.Cited.{◌≡◌, Some, None, sym, subst, at_number}
 use Rattle.rcu_judge.specs.Objects.{heads_of}
 use Rattle.rcu_judge.proofs.ObjectsTables.{heads_put, heads_unchanged, on_err}
 use Rattle.rcu_judge.proofs.states.put_head.Goals as goal

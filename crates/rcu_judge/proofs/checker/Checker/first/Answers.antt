@@ -1,5 +1,4 @@
-use Rattle.std.specs.Option.{option_eq}
-use Rattle.rcu_model.specs.Sets.{same_object}
+use Rattle.rcu_judge.proofs.Cited.{option_eq, same_object}
 use Rattle.rcu_judge.proofs.Steps.{first_goes, first_stops, found_tells, not_different}
 use Rattle.rcu_judge.proofs.checker.Checker.first.Goals as goal
 

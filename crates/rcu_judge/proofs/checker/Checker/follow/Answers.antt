@@ -1,5 +1,4 @@
-use Rattle.std.proofs.Common.{ℕ, Result, Ok, Err, IfOk}
-use Rattle.rcu_model.specs.declared.event.Event.TheVariants.{Queue}
+use Rattle.rcu_judge.proofs.Cited.{ℕ, Result, Ok, Err, IfOk, Queue}
 use Rattle.rcu_judge.specs.Checker.{Answers}
 use Rattle.rcu_judge.proofs.checker.Checker.follow.Goals as goal
 

@@ -1,6 +1,4 @@
-use Rattle.std.proofs.Common.{Some}
-use Rattle.std.specs.Option.{option_eq}
-use Rattle.rcu_model.specs.Sets.{same_object}
+use Rattle.rcu_judge.proofs.Cited.{Some, option_eq, same_object}
 use Rattle.rcu_judge.proofs.Steps.{next_goes, next_stops, next_tells, not_different, different}
 use Rattle.rcu_judge.proofs.checker.Checker.next.Goals as goal
 

@@ -1,8 +1,5 @@
-use Rattle.std.proofs.Common.{cond, ◌||◌, true, ap, sym, is_some, Some, refl, ◌∙◌}
-use Rattle.std.specs.List.{list_any}
-use Rattle.std.specs.HashMap.{get}
+use Rattle.rcu_judge.proofs.Cited.{cond, ◌||◌, true, ap, sym, is_some, Some, refl, ◌∙◌, list_any, get, same_section, same_object}
 use Rattle.rcu_judge.specs.declared.holdings.Got.{Got}
-use Rattle.rcu_model.specs.Sets.{same_section, same_object}
 use Rattle.rcu_judge.specs.Holdings.{objects_in}
 use Rattle.rcu_judge.proofs.HoldingLemmas.{gets, stays, newest_moves, newest_again, newest_alone, not_apart}
 use Rattle.rcu_judge.proofs.ObjectsTables.{on_err}

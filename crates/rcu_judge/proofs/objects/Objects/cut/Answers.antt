@@ -1,9 +1,6 @@
-use Rattle.std.proofs.Common.{Some, None, sym}
-use Rattle.rcu_model.specs.declared.event.Event.TheVariants.{Cut}
+use Rattle.rcu_judge.proofs.Cited.{Some, None, sym, Cut, after, none_some}
 use Rattle.rcu_judge.specs.declared.object.Splice.{Splice}
-use Rattle.rcu_model.specs.Machine.{after}
 use Rattle.rcu_judge.specs.Objects.{heads_of, states_of, spliced_heads, spliced_states}
-use Rattle.rcu_model.proofs.Lemmas.{none_some}
 use Rattle.rcu_judge.proofs.ObjectsStores.{kept_reached, done, has_old, shows_cut}
 use Rattle.rcu_judge.proofs.ObjectsKept.{linked_found, kept_spliced, knows_at}
 use Rattle.rcu_judge.proofs.objects.Objects.cut.Goals as goal

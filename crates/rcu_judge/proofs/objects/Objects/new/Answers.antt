@@ -1,9 +1,7 @@
-use Rattle.std.proofs.Common.{ℕ, refl, sym, true≢false, subst, List, []}
-use Rattle.number_runs.specs.Runs.{Has}
+use Rattle.rcu_judge.proofs.Cited.{ℕ, refl, sym, true≢false, subst, List, [], Has, none_some}
 use Rattle.rcu_judge.specs.Objects.{heads_of, states_of}
 use Rattle.rcu_judge.proofs.ObjectsTables.{states_empty, heads_empty}
 use Rattle.rcu_judge.proofs.ObjectsStages.{shows_nothing}
-use Rattle.rcu_model.proofs.Lemmas.{none_some}
 use Rattle.rcu_judge.proofs.objects.Objects.new.Goals as goal
 
 nothing : (n : ℕ) → ¬ Has [] n

@@ -1,10 +1,6 @@
-use Rattle.std.proofs.Common.{Some, None, sym, true≢false, subst, ◌∙◌}
-use Rattle.rcu_model.specs.declared.event.Event.TheVariants.{Push}
+use Rattle.rcu_judge.proofs.Cited.{Some, None, sym, true≢false, subst, ◌∙◌, Push, after, HasObject, some_is}
 use Rattle.rcu_judge.specs.declared.object.Splice.{Splice}
-use Rattle.rcu_model.specs.Machine.{after}
-use Rattle.rcu_model.specs.Sets.{HasObject}
 use Rattle.rcu_judge.specs.Objects.{heads_of, states_of, spliced_heads, spliced_states}
-use Rattle.rcu_model.proofs.Lemmas.{some_is}
 use Rattle.rcu_judge.proofs.ObjectsStores.{kept_reached, refused, done, shows_pushed}
 use Rattle.rcu_judge.proofs.ObjectsKept.{new_is, kept_spliced, knows_at}
 use Rattle.rcu_judge.proofs.objects.Objects.push.Goals as goal

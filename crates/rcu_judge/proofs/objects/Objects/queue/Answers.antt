@@ -1,9 +1,6 @@
-use Rattle.std.proofs.Common.{Some, sym, refl}
-use Rattle.rcu_model.specs.declared.event.Event.TheVariants.{Queue}
+use Rattle.rcu_judge.proofs.Cited.{Some, sym, refl, Queue, after, at_object}
 use Rattle.rcu_judge.specs.declared.object.ObjectState.{ObjectState}
 use Rattle.rcu_judge.specs.declared.object.Stage.TheVariants.{Queued}
-use Rattle.rcu_model.specs.Machine.{after}
-use Rattle.rcu_model.specs.Sets.{at_object}
 use Rattle.rcu_judge.specs.Objects.{heads_of, states_of, written}
 use Rattle.rcu_judge.proofs.ObjectsStores.{done}
 use Rattle.rcu_judge.proofs.ObjectsStages.{may_queue, shows_queued}

@@ -1,7 +1,4 @@
-use Rattle.std.proofs.Common.{None, refl}
-use Rattle.rcu_model.specs.declared.event.Event.TheVariants.{Run}
-use Rattle.rcu_model.specs.Machine.{after}
-use Rattle.rcu_model.specs.Sets.{at_object}
+use Rattle.rcu_judge.proofs.Cited.{None, refl, Run, after, at_object}
 use Rattle.rcu_judge.specs.Objects.{heads_of, states_of}
 use Rattle.rcu_judge.proofs.ObjectsTables.{states_put}
 use Rattle.rcu_judge.proofs.ObjectsStages.{shows_run}

@@ -1,10 +1,6 @@
-use Rattle.std.proofs.Common.{Some, sym, true≢false, subst, ◌∙◌}
-use Rattle.rcu_model.specs.declared.event.Event.TheVariants.{Replace}
+use Rattle.rcu_judge.proofs.Cited.{Some, sym, true≢false, subst, ◌∙◌, Replace, after, HasObject, some_is}
 use Rattle.rcu_judge.specs.declared.object.Splice.{Splice}
-use Rattle.rcu_model.specs.Machine.{after}
-use Rattle.rcu_model.specs.Sets.{HasObject}
 use Rattle.rcu_judge.specs.Objects.{heads_of, states_of, spliced_heads, spliced_states}
-use Rattle.rcu_model.proofs.Lemmas.{some_is}
 use Rattle.rcu_judge.proofs.ObjectsStores.{kept_reached, refused, done, has_old, shows_replaced}
 use Rattle.rcu_judge.proofs.ObjectsKept.{new_is, linked_found, kept_spliced, knows_at}
 use Rattle.rcu_judge.proofs.objects.Objects.replace.Goals as goal

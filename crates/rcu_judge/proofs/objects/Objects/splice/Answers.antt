@@ -1,6 +1,4 @@
-use Rattle.std.proofs.Common.{◌≡◌, ◌∙◌, ◌<◌, sym, subst}
-use Rattle.std.proofs.lemmas.Result.{on_ok_weaker}
-use Rattle.std.specs.HashMap.{spare}
+use Rattle.rcu_judge.proofs.Cited.{◌≡◌, ◌∙◌, ◌<◌, sym, subst, on_ok_weaker, spare}
 use Rattle.rcu_judge.specs.declared.object.Stage.TheVariants.{Linked, Cut}
 use Rattle.rcu_judge.specs.Objects.{states_of, written, entered, linked_states, marked_states, left_states}
 use Rattle.rcu_judge.proofs.ObjectsTables.{never_err}

@@ -1,5 +1,4 @@
-use Rattle.std.proofs.Common.{◌≡◌, ◌≤◌, ◌<◌, ◌↔◌, length, ap, sym, subst, arith, rules, List, Bool}
-use Rattle.std.proofs.lemmas.Bool.{leb-true, le-leb}
+use Rattle.rcu_judge.proofs.Cited.{◌≡◌, ◌≤◌, ◌<◌, ◌↔◌, length, ap, sym, subst, arith, rules, List, Bool, leb-true, le-leb}
 use Rattle.rcu_judge.specs.declared.roster.Kept.{Kept}
 use Rattle.rcu_judge.specs.Roster.{HaveLeft, kept_at}
 use Rattle.rcu_judge.proofs.Places.{none_is_older, none_is_there}

@@ -1,6 +1,4 @@
-use Rattle.std.proofs.Common.{◌≡◌, ◌∙◌, sym, ap, subst, List, rules}
-use Rattle.std.specs.List.{filter}
-use Rattle.std.proofs.lemmas.Fn.{filter_same}
+use Rattle.rcu_judge.proofs.Cited.{◌≡◌, ◌∙◌, sym, ap, subst, List, rules, filter, filter_same}
 use Rattle.rcu_judge.specs.declared.roster.Kept.{Kept}
 use Rattle.rcu_judge.specs.Roster.{IsKept, all_places}
 use Rattle.rcu_judge.proofs.Places.{dropped, in_order_dropped, next_dropped}
