@@ -14,7 +14,7 @@ use world::Flavour;
 pub enum Scenario {
     /// Worlds are made.
     New,
-    /// A worked schedule is stepped, after so many other events that each of its events meets a full log once.
+    /// A worked schedule is stepped after other events, in such numbers that each of its events meets a full log once.
     Step(Flavour),
     /// Many objects are retired and drained.
     Drain(Flavour),

@@ -34,7 +34,7 @@ pub struct Stepped {
 }
 
 impl Stepped {
-    /// A world in which nothing has happened, and whose steps will tell at most so many events.
+    /// A world in which nothing has happened, and whose steps will tell at most this many events.
     pub fn new(
         alloc: Global,
         ledger: &mut Ledger,

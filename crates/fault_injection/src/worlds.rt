@@ -56,7 +56,7 @@ fn step_row(ledger: &mut Ledger, world: &mut Stepped, row: Row) -> Result<(), Fi
     }
 }
 
-/// Steps a section of the spare reader that tells so many events, at least two. Answers how many lines that were.
+/// Steps a section of the spare reader that tells this many events, at least two. Answers how many lines that were.
 fn step_spare(
     ledger: &mut Ledger,
     world: &mut Stepped,
@@ -85,7 +85,7 @@ fn step_rows(
     Ok(rows.len() as u64)
 }
 
-/// Steps the worked schedule after so many other events. The log then has them, and the events of its answers.
+/// Steps the worked schedule after this many other events. The log then has them, and the events of its answers.
 fn step_after(
     alloc: Global,
     ledger: &mut Ledger,

@@ -2,7 +2,7 @@
 use Rattle.std.specs.Prelude.{ℕ, zero, suc, ◌+◌, ◌*◌, ◌/◌, ◌%◌, min, if◌then◌else◌, Option, Some, None}
 use Rattle.gp_memb.specs.Plan.{bit_of}
 
--- how many groups so many slots have
+-- how many groups this many slots have
 abbrev pub groups_of : ℕ → ℕ
 groups_of slots = (slots + 63) / 64
 
@@ -10,7 +10,7 @@ groups_of slots = (slots + 63) / 64
 abbrev pub group_end : ℕ → ℕ → ℕ
 group_end slots group = min (64 * group + 64) slots
 
--- the first slot from this one on, of so many, whose bit is set
+-- the first slot from this one on, of this many, whose bit is set
 abbrev pub first_claimed : ℕ → ℕ → ℕ → Option ℕ
 first_claimed bits from zero = None
 first_claimed bits from (suc count) = if bit_of bits (from % 64) then Some from else first_claimed bits (from + 1) count

@@ -122,7 +122,7 @@ abbrev pub FinishesAfter : {P : Type 0} → (P → Action) → (P → ℕ → Tu
 FinishesAfter action turn taken counts plan count =
     (words : List ℕ) → (action (after_loads taken plan words) ≡ Finished) ↔ (count ≤ steps action turn taken counts plan words)
 
--- the turns of a grace period that go on, each of whose scans takes so many
+-- the turns of a grace period that go on, each of whose scans takes this many
 abbrev pub turn_count : Bool → ℕ → ℕ
 turn_count false scan = 2 * scan + 4
 turn_count true scan = scan + 3

@@ -1,4 +1,4 @@
--- What the plans of one kind keep, begun for words of one layout over so many slots: the trait's laws in one record,
+-- What the plans of one kind keep, begun for words of one layout over this many slots: the trait's laws in one record,
 -- for proofs that speak of any plan.
 use Rattle.std.specs.Prelude.{◌≡◌, ◌≤◌, ℕ, Bool, true, List}
 use Rattle.reader_word.specs.declared.layout.Layout.{Layout}

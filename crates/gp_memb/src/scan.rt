@@ -48,7 +48,7 @@ impl Look {
 impl Scan {
     ghost use Rattle.gp_memb.specs.Scan.{scan_of, first_look, look_behind, next_slot_of, in_group};
 
-    /// A scan of so many slots: of each, or, where it is grouped, of each group word and of the slots whose bit was
+    /// A scan of this many slots: of each, or, where it is grouped, of each group word and of the slots whose bit was
     /// set.
     pub fn new(slots: usize, grouped: bool) -> Scan
         ensures { result ≡ scan_of slots grouped }

@@ -162,7 +162,8 @@ fn writers_may_take_one_byte_at_a_time(rt: HostRuntime) {
     }
 }
 
-/// The command ends with 3 where its writer fails after so many bytes, or takes nothing then, and is not called again.
+/// The command ends with 3 where its writer fails after this many bytes, or takes nothing then, and is not called
+/// again.
 fn check_broken(
     rt: &impl Abort,
     alloc: Global,
@@ -216,7 +217,7 @@ fn writers_that_fail_end_with_three(rt: HostRuntime) {
     check_long_text(&rt, rt.alloc());
 }
 
-/// The command ends with 3 where its reader fails after so many bytes, each of them read alone.
+/// The command ends with 3 where its reader fails after this many bytes, each of them read alone.
 fn check_cut_off(
     rt: &impl Abort,
     alloc: Global,

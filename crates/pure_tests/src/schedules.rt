@@ -25,7 +25,7 @@ struct Row<'a> {
     fault: &'a str,
 }
 
-/// Gives its text in pieces of at most so many bytes.
+/// Gives its text in pieces of at most this many bytes.
 #[derive(Drop)]
 struct Pieces<'a> {
     text: &'a [u8],
@@ -42,7 +42,7 @@ impl Read for Pieces<'_> {
     }
 }
 
-/// Takes at most so many bytes at once.
+/// Takes at most this many bytes at once.
 #[derive(Drop)]
 struct Sink {
     bytes: Vec<u8>,

@@ -103,8 +103,8 @@ const LAST_EVENTS: [Event; 4] = [
     Event::Answer(2),
 ];
 
-/// Two updaters share the last grace periods; each row has the answer of so many steps. The plan of the flavour makes
-/// so many steps between its two stores of the sequence number.
+/// Two updaters share the last grace periods; each row has the answer of this many steps. The plan of the flavour makes
+/// this many steps between its two stores of the sequence number.
 fn check_the_end(rt: &impl Abort, alloc: Global, flavour: Flavour, between: u32) {
     let config = Config {
         flavour,

@@ -1,9 +1,6 @@
 -- Reading as the bytes come, for any language that is read exactly.
-use Rattle.std.proofs.Common.{◌≡◌, ℕ, ◌+◌, ◌≤◌, List, [], ◌∷◌, ◌++◌, length, Ok, Err, ap, ◌∙◌, arith}
-use Rattle.std.proofs.lemmas.List.{length-append}
-use Rattle.schedule_text.specs.Reading.{Reading}
+use Rattle.schedule.proofs.Cited.{◌≡◌, ℕ, ◌+◌, ◌≤◌, List, [], ◌∷◌, ◌++◌, length, Ok, Err, ap, ◌∙◌, arith, length-append, Reading, Reads, bad_within, some_read, ok_more, err_more, last_byte, reads_partial}
 use Rattle.schedule.specs.Next.{IsIncremental}
-use Rattle.schedule_text.proofs.Lemmas.{Reads, bad_within, some_read, ok_more, err_more, last_byte, reads_partial}
 
 -- a byte that is bad stays so
 pub next_bad : {A : Type 0} (read : List ℕ → Reading A) → IsIncremental read → (text after all bad : List ℕ) (column : ℕ) → all ≡ text ++ after

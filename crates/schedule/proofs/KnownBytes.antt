@@ -1,7 +1,5 @@
 -- What readers and writers tell, one call after another.
-use Rattle.std.proofs.Common.{◌≡◌, ℕ, List, [], ◌∷◌, ◌++◌, length, take, drop, Option, None, Some, refl, sym, ap, subst, ◌∙◌, append_assoc, arith}
-use Rattle.std.specs.Io.KnownBytes.{Appends, Consumes, Keeps, IsAtEnd}
-use Rattle.std.proofs.lemmas.List.{append-nil, take-append-drop}
+use Rattle.schedule.proofs.Cited.{◌≡◌, ℕ, List, [], ◌∷◌, ◌++◌, length, take, drop, Option, None, Some, refl, sym, ap, subst, ◌∙◌, append_assoc, arith, Appends, Consumes, Keeps, IsAtEnd, append-nil, take-append-drop}
 use Rattle.schedule.specs.Ports.{Tells, WroteFront}
 
 pub appends_none : (o : Option (List ℕ)) → Appends o o []

@@ -1,3 +1,4 @@
+mod Cited
 pub mod Short
 pub mod Bytes
 pub mod Playing

@@ -1,22 +1,6 @@
 -- Each text prints one thing.
-use Rattle.std.proofs.Common.{◌≡◌, ℕ, ◌+◌, ◌<◌, true, false, List, [], ◌∷◌, ◌++◌, length, Result, Ok, Err, refl, sym, ap, subst, ◌∙◌, append_assoc, arith, inl, inr, ◌⊎◌}
-use Rattle.std.specs.Prelude.{All}
-use Rattle.std.proofs.lemmas.List.{append-nil}
-use Rattle.std.proofs.lemmas.List.Elements.{All-head, All-tail}
-use Rattle.world_state.specs.declared.config.Config.{Config}
-use Rattle.world_state.specs.declared.line.Line.{Line}
-use Rattle.world.specs.Steps.{fresh_world, is_supported, log_of, world_after_lines}
-use Rattle.schedule_text.specs.declared.counts.Counts.{Counts}
-use Rattle.schedule_text.specs.declared.fault.ReplayFault.{ReplayFault}
-use Rattle.schedule_text.specs.declared.fault.ReplayFault.TheVariants.{BadText, BadConfig, Read, Write, Memory}
-use Rattle.schedule_text.specs.Spelling.{spelling, IsLine, LineText, IsLineText, lines_text}
-use Rattle.schedule_text.specs.Header.{header, IsHeader, HeaderText, IsHeaderText}
-use Rattle.schedule_text.specs.Reading.{Reading}
-use Rattle.schedule_text.specs.Grammar.{line_at, header_at}
-use Rattle.schedule_text.specs.Answers.{counts_of, end_line}
+use Rattle.schedule.proofs.Cited.{◌≡◌, ℕ, ◌+◌, ◌<◌, true, false, List, [], ◌∷◌, ◌++◌, length, Result, Ok, Err, refl, sym, ap, subst, ◌∙◌, append_assoc, arith, inl, inr, ◌⊎◌, All, append-nil, All-head, All-tail, Config, Line, fresh_world, is_supported, log_of, world_after_lines, Counts, ReplayFault, BadText, BadConfig, Read, Write, Memory, spelling, IsLine, LineText, IsLineText, lines_text, header, IsHeader, HeaderText, IsHeaderText, Reading, line_at, header_at, counts_of, end_line, line_after, IsBad, Reads, ok_is, not_both, result_cases, bad_within, line_reads, no_line, header_reads, bad_byte, bad_end, column_once, whole}
 use Rattle.schedule.specs.Printed.{answers_of, Prints, IsBeginning}
-use Rattle.schedule_text.specs.Fault.{line_after, IsBad}
-use Rattle.schedule_text.proofs.Lemmas.{Reads, ok_is, not_both, result_cases, bad_within, line_reads, no_line, header_reads, bad_byte, bad_end, column_once, whole}
 use Rattle.schedule.proofs.Standing.{column_at, header_begins}
 
 -- ---- some thing

@@ -1,11 +1,5 @@
 -- What is written of what a replay gives.
-use Rattle.std.proofs.Common.{◌≡◌, ℕ, ◌^◌, ◌<◌, List, [], ◌++◌, length, Option, Result, Ok, Err, sym, ap, subst, ◌∙◌, append_assoc}
-use Rattle.std.specs.Prelude.{OnOk}
-use Rattle.std.specs.Io.KnownBytes.{Appends, Consumes, Keeps, IsAtEnd}
-use Rattle.std.proofs.lemmas.List.{append-nil}
-use Rattle.schedule_text.specs.declared.counts.Counts.{Counts}
-use Rattle.schedule_text.specs.declared.fault.ReplayFault.{ReplayFault}
-use Rattle.schedule_text.specs.declared.fault.ReplayFault.TheVariants.{BadText, BadConfig, Read, Write, Memory}
+use Rattle.schedule.proofs.Cited.{◌≡◌, ℕ, ◌^◌, ◌<◌, List, [], ◌++◌, length, Option, Result, Ok, Err, sym, ap, subst, ◌∙◌, append_assoc, OnOk, Appends, Consumes, Keeps, IsAtEnd, append-nil, Counts, ReplayFault, BadText, BadConfig, Read, Write, Memory}
 use Rattle.schedule.specs.Printed.{Prints, IsBeginning, Ends}
 use Rattle.schedule.specs.Safety.{IsSafelyPrinted}
 use Rattle.schedule.specs.Stream.{Progress, Header, Lines, Failed, Stands, LeadsTo, LeadsToEnd, IsSound}

@@ -1,19 +1,8 @@
 -- One line more.
-use Rattle.std.proofs.Common.{◌≡◌, ℕ, zero, suc, ◌+◌, ◌-◌, ◌^◌, List, [], ◌∷◌, ◌++◌, length, Result, Ok, Err, refl, sym, ap, ◌∙◌, append_assoc, inl, inr, arith}
-use Rattle.std.specs.Prelude.{min}
-use Rattle.std.proofs.lemmas.List.{append-nil, length_push, flat_map_more}
-use Rattle.std.proofs.lemmas.List.Elements.{All-nil, All-push}
-use Rattle.world_state.specs.declared.line.Line.{Line}
-use Rattle.world.specs.Steps.{Outcome, WorldView, Meets, step_of, world_after_lines}
-use Rattle.world_state.specs.declared.line.Answer.{Answer}
-use Rattle.rcu_model.specs.declared.refusal.Refusal.{Refusal}
+use Rattle.schedule.proofs.Cited.{◌≡◌, ℕ, zero, suc, ◌+◌, ◌-◌, ◌^◌, List, [], ◌∷◌, ◌++◌, length, Result, Ok, Err, refl, sym, ap, ◌∙◌, append_assoc, inl, inr, arith, min, append-nil, length_push, flat_map_more, All-nil, All-push, Line, Outcome, WorldView, Meets, step_of, world_after_lines, Answer, Refusal, spelling, IsLine, lines_text, line_at, answer_line, line_reads}
 use Rattle.rcu_model.specs.declared.refusal.Refusal.TheVariants.{Memory}
-use Rattle.schedule_text.specs.Spelling.{spelling, IsLine, lines_text}
-use Rattle.schedule_text.specs.Grammar.{line_at}
-use Rattle.schedule_text.specs.Answers.{answer_line}
 use Rattle.schedule.specs.Printed.{answers_of}
 use Rattle.schedule.specs.Play.{Point, number_on, Plays}
-use Rattle.schedule_text.proofs.Lemmas.{line_reads}
 
 number_more : (n k : ℕ) → number_on n (k + 1) ≡ number_on (number_on n k) 1
 number_more n zero = refl

@@ -1,31 +1,11 @@
 -- The answers to lines are lines of answers, and tell the events of the answers.
-use Rattle.std.proofs.Common.{◌≡◌, ℕ, ◌*◌, ◌^◌, ◌<◌, ◌≤◌, List, [], ◌∷◌, ◌++◌, length, Option, Some, None, Result, Ok, Err, refl, sym, ap, ◌∙◌, subst, append_assoc, arith, lit<, lit≤, length-append}
-use Rattle.std.specs.Prelude.{All, codes}
-use Rattle.std.specs.Fmt.{decimal}
-use Rattle.std.specs.List.{flat_map, AllByRecursion as Every}
-use Rattle.std.proofs.lemmas.List.{append-nil, flat_map_more}
-use Rattle.std.proofs.lemmas.List.Elements.{All-from_recursion, recursion_from_All, All-push}
-use Rattle.std.proofs.lemmas.List.Sums.{count_by-le-length}
-use Rattle.rcu_model.specs.declared.event.Event.{Event}
-use Rattle.rcu_model.specs.declared.event.Event.TheVariants.{Open, Close, First, Next, Touch, Push, Replace, Cut, Retire, Queue, Run, Ask, Answer as EventAnswer, Bar, Clear}
-use Rattle.rcu_model.specs.declared.event.ObjectId.{ObjectId}
-use Rattle.rcu_model.specs.declared.refusal.Refusal.{Refusal}
+use Rattle.schedule.proofs.Cited.{◌≡◌, ℕ, ◌*◌, ◌^◌, ◌<◌, ◌≤◌, List, [], ◌∷◌, ◌++◌, length, Option, Some, None, Result, Ok, Err, refl, sym, ap, ◌∙◌, subst, append_assoc, arith, lit<, lit≤, All, codes, decimal, flat_map, append-nil, flat_map_more, All-from_recursion, recursion_from_All, All-push, count_by-le-length, Event, Open, Close, First, Next, Touch, Push, Replace, Cut, Retire, Queue, Run, Ask, Bar, Clear, ObjectId, Refusal, text_of, number_of, Answer, Events, Quiet, Wait, Blocked, Idle, Line, IsFoundWithin, IsNumberedWithin, WorldView, step_of, world_after_lines, events_of, answered_events, Counts, AnswerLine, answer_line, opens, retires, runs, counts_of, end_line, IsNumber, IsLong, IsFound, IsEvent, IsAnswerLine, IsAnswerText, spelled, line_of, told_by, TellsLog, answer_spelled}
+use Rattle.std.proofs.Common.{length-append}
+use Rattle.std.specs.List.{AllByRecursion as Every}
+use Rattle.rcu_model.specs.declared.event.Event.TheVariants.{Answer as EventAnswer}
 use Rattle.rcu_model.specs.declared.refusal.Refusal.TheVariants as refusals
-use Rattle.rcu_model.specs.EventText.{text_of}
-use Rattle.rcu_model.specs.Refusal.{number_of}
-use Rattle.world_state.specs.declared.line.Answer.{Answer}
-use Rattle.world_state.specs.declared.line.Answer.TheVariants.{Events, Quiet, Wait, Blocked, Idle}
-use Rattle.world_state.specs.declared.line.Line.{Line}
-use Rattle.world.specs.Numbering.{IsFoundWithin, IsNumberedWithin}
-use Rattle.world.specs.Steps.{WorldView, step_of, world_after_lines, events_of, answered_events}
-use Rattle.schedule_text.specs.declared.counts.Counts.{Counts}
-use Rattle.schedule_text.specs.declared.answer_line.AnswerLine.{AnswerLine}
 use Rattle.schedule_text.specs.declared.answer_line.AnswerLine.TheVariants as line
-use Rattle.schedule_text.specs.Answers.{answer_line, opens, retires, runs, counts_of, end_line}
-use Rattle.schedule_text.specs.Spelling.{IsNumber}
 use Rattle.schedule.specs.Printed.{answers_of}
-use Rattle.schedule_text.specs.AnswerLines.{IsLong, IsFound, IsEvent, IsAnswerLine, IsAnswerText, spelled, line_of, told_by, TellsLog}
-use Rattle.schedule_text.proofs.Lemmas.{answer_spelled}
 
 answer_told : (a : Result Answer Refusal) → events_of a ≡ told_by (line_of a)
 answer_told (Ok (Events first None)) = refl

@@ -1,9 +1,5 @@
 -- What a replay prints tells one safe log, however it ends.
-use Rattle.std.proofs.Common.{ℕ, ◌^◌, ◌<◌, List, [], ◌++◌, length, Option, Result, Ok, Err}
-use Rattle.std.specs.Prelude.{OnOk}
-use Rattle.schedule_text.specs.declared.counts.Counts.{Counts}
-use Rattle.schedule_text.specs.declared.fault.ReplayFault.{ReplayFault}
-use Rattle.schedule_text.specs.declared.fault.ReplayFault.TheVariants.{BadText, BadConfig, Read, Write, Memory}
+use Rattle.schedule.proofs.Cited.{ℕ, ◌^◌, ◌<◌, List, [], ◌++◌, length, Option, Result, Ok, Err, OnOk, Counts, ReplayFault, BadText, BadConfig, Read, Write, Memory}
 use Rattle.schedule.specs.Ports.{IsAnsweredSoFar, Closed, Replayed}
 use Rattle.schedule.specs.Printed.{Prints, IsBeginning, Ends}
 use Rattle.schedule.specs.Safety.{TellsSafeLog, BeginsSafely, IsSafelyPrinted, AppendsSafely}

@@ -1,25 +1,11 @@
 -- What is printed tells one log, and that log keeps all its promises.
-use Rattle.std.proofs.Common.{◌≡◌, inl, inr, ℕ, ◌+◌, ◌*◌, ◌^◌, ◌<◌, true, List, [], ◌∷◌, ◌++◌, length, Result, Ok, Err, refl, sym, ap, ◌∙◌, subst, append_assoc, arith, length-append}
-use Rattle.std.specs.Prelude.{All, codes}
-use Rattle.std.proofs.lemmas.List.{append-nil}
-use Rattle.std.proofs.lemmas.List.Elements.{All-nil}
-use Rattle.rcu_model.specs.Promises.{IsSafeLog}
-use Rattle.world_state.specs.declared.config.Config.{Config}
-use Rattle.world_state.specs.declared.line.Line.{Line}
-use Rattle.world.specs.Numbering.{IsNumberedWithin}
-use Rattle.world.specs.Steps.{WorldView, fresh_world, is_supported, step_of, log_of, world_after_lines, answered_events}
+use Rattle.schedule.proofs.Cited.{◌≡◌, inl, inr, ℕ, ◌+◌, ◌*◌, ◌^◌, ◌<◌, true, List, [], ◌∷◌, ◌++◌, length, Result, Ok, Err, refl, sym, ap, ◌∙◌, subst, append_assoc, arith, All, codes, append-nil, All-nil, IsSafeLog, Config, Line, IsNumberedWithin, WorldView, fresh_world, is_supported, step_of, log_of, world_after_lines, answered_events, Counts, ReplayFault, BadText, BadConfig, Read, Write, Memory, IsLong, IsAnswerLine, IsAnswerText, TellsLog, answer_line, counts_of, end_line, IsPartial, tells_once, seam}
+use Rattle.std.proofs.Common.{length-append}
 use Rattle.schedule_text.specs.declared.answer_line.AnswerLine.TheVariants as line
-use Rattle.schedule_text.specs.declared.counts.Counts.{Counts}
-use Rattle.schedule_text.specs.declared.fault.ReplayFault.{ReplayFault}
-use Rattle.schedule_text.specs.declared.fault.ReplayFault.TheVariants.{BadText, BadConfig, Read, Write, Memory}
-use Rattle.schedule_text.specs.AnswerLines.{IsLong, IsAnswerLine, IsAnswerText, TellsLog}
-use Rattle.schedule_text.specs.Answers.{answer_line, counts_of, end_line}
 use Rattle.schedule.specs.Ports.{IsAnsweredSoFar}
-use Rattle.schedule_text.specs.Fault.{IsPartial}
 use Rattle.schedule.specs.Printed.{answers_of, Prints, IsBeginning}
 use Rattle.schedule.specs.Safety.{TellsSafeLog, BeginsSafely}
 use Rattle.schedule.specs.Stream.{Progress, Header, Lines, Failed, Stands, IsSound}
-use Rattle.schedule_text.proofs.Lemmas.{tells_once, seam}
 use Rattle.schedule.proofs.RoundTrip.{lines_short, lines_in, answer_is_text, tells_answers, end_is_text, tells_all}
 
 -- ---- a beginning of answers: whole ones, and less than one more

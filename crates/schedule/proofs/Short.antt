@@ -1,27 +1,9 @@
 -- How long a line and a header can be.
-use Rattle.std.proofs.Common.{◌≡◌, ℕ, ◌+◌, ◌≤◌, List, [], ◌∷◌, ◌++◌, length, ap, arith, lit<}
-use Rattle.std.specs.Prelude.{codes}
-use Rattle.std.specs.Fmt.{decimal}
-use Rattle.std.proofs.lemmas.Fmt.{length-decimal-le}
-use Rattle.std.proofs.lemmas.List.{length-append}
-use Rattle.schedule_text.specs.Spelling.{reader_verb, updater_verb, worker_verb, spelling, IsNumber, IsReaderVerb, IsUpdaterVerb, IsLine, LineText}
-use Rattle.schedule_text.specs.Header.{version, flavour_text, field, header, IsHeader, HeaderText}
-use Rattle.schedule_text.specs.Grammar.{line_at, header_at}
-use Rattle.reader_word.specs.declared.layout.Layout.{Layout}
-use Rattle.reader_word.specs.declared.layout.Layout.TheVariants.{Narrow, Wide}
-use Rattle.world_state.specs.declared.config.Config.{Config}
-use Rattle.world_state.specs.declared.config.Flavour.{Flavour}
-use Rattle.world_state.specs.declared.config.Flavour.TheVariants.{Memb, Qsbr}
-use Rattle.world_state.specs.declared.line.Line.{Line}
-use Rattle.world_state.specs.declared.line.Line.TheVariants.{Reader, Updater, Worker}
-use Rattle.world_state.specs.declared.line.ReaderVerb.{ReaderVerb}
+use Rattle.schedule.proofs.Cited.{◌≡◌, ℕ, ◌+◌, ◌≤◌, List, [], ◌∷◌, ◌++◌, length, ap, arith, lit<, codes, decimal, length-decimal-le, length-append, reader_verb, updater_verb, worker_verb, spelling, IsNumber, IsReaderVerb, IsUpdaterVerb, IsLine, LineText, version, flavour_text, field, header, IsHeader, HeaderText, line_at, header_at, Layout, Narrow, Wide, Config, Flavour, Memb, Qsbr, Line, Reader, Updater, Worker, ReaderVerb, UpdaterVerb, WorkerVerb, line_reads, no_line, header_reads, no_header}
 use Rattle.world_state.specs.declared.line.ReaderVerb.TheVariants as reader
-use Rattle.world_state.specs.declared.line.UpdaterVerb.{UpdaterVerb}
 use Rattle.world_state.specs.declared.line.UpdaterVerb.TheVariants as updater
-use Rattle.world_state.specs.declared.line.WorkerVerb.{WorkerVerb}
 use Rattle.world_state.specs.declared.line.WorkerVerb.TheVariants as worker
 use Rattle.schedule.specs.Next.{IsIncremental}
-use Rattle.schedule_text.proofs.Lemmas.{line_reads, no_line, header_reads, no_header}
 use Rattle.schedule.proofs.Bytes.{incremental}
 
 short : (n : ℕ) → IsNumber n → length (decimal n) ≤ 9

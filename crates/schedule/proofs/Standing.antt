@@ -1,23 +1,8 @@
 -- Where a replay stands after more text, and that each text prints something.
-use Rattle.std.proofs.Common.{◌≡◌, ℕ, zero, suc, ◌+◌, ◌-◌, ◌^◌, ◌<◌, ◌≤◌, Bool, true, false, List, [], ◌∷◌, ◌++◌, length, Result, Ok, Err, refl, sym, ap, subst, ◌∙◌, append_assoc, arith, inl, inr, ◌⊎◌}
-use Rattle.std.specs.Prelude.{min, All, IsTrue}
-use Rattle.std.proofs.lemmas.List.{append-nil, length-append}
-use Rattle.std.proofs.lemmas.List.Elements.{All-nil, All-cons, All-head, All-tail}
-use Rattle.world_state.specs.declared.config.Config.{Config}
-use Rattle.world_state.specs.declared.line.Line.{Line}
-use Rattle.world.specs.Steps.{WorldView, fresh_world, is_supported, log_of, world_after_lines}
-use Rattle.schedule_text.specs.declared.fault.ReplayFault.{ReplayFault}
-use Rattle.schedule_text.specs.declared.fault.ReplayFault.TheVariants.{BadText, BadConfig, Read, Write, Memory}
-use Rattle.schedule_text.specs.declared.counts.Counts.{Counts}
-use Rattle.schedule_text.specs.Spelling.{spelling, IsLine, LineText, IsLineText, lines_text}
-use Rattle.schedule_text.specs.Header.{header, HeaderText, IsHeaderText, BeginsWithinLimits}
-use Rattle.schedule_text.specs.Grammar.{line_at, header_at}
-use Rattle.schedule_text.specs.Answers.{counts_of, end_line}
+use Rattle.schedule.proofs.Cited.{◌≡◌, ℕ, zero, suc, ◌+◌, ◌-◌, ◌^◌, ◌<◌, ◌≤◌, Bool, true, false, List, [], ◌∷◌, ◌++◌, length, Result, Ok, Err, refl, sym, ap, subst, ◌∙◌, append_assoc, arith, inl, inr, ◌⊎◌, min, All, IsTrue, append-nil, length-append, All-nil, All-cons, All-head, All-tail, Config, Line, WorldView, fresh_world, is_supported, log_of, world_after_lines, ReplayFault, BadText, BadConfig, Read, Write, Memory, Counts, spelling, IsLine, LineText, IsLineText, lines_text, header, HeaderText, IsHeaderText, BeginsWithinLimits, line_at, header_at, counts_of, end_line, line_after, IsBad, result_cases, bad_within, line_reads, no_line, header_reads, err_more, partial_reads, reads_partial, bad_byte, bad_end, some_read}
 use Rattle.schedule.specs.Printed.{answers_of, IsSchedule, OutOfLimits, Prints, IsBeginning, Ends}
-use Rattle.schedule_text.specs.Fault.{line_after, IsBad}
 use Rattle.schedule.specs.Play.{point, number_on, Plays, PlaysAll, EndsLines}
 use Rattle.schedule.specs.Stream.{Progress, Header, Lines, Failed, Stands, Leads, LeadsTo, LeadsToEnd}
-use Rattle.schedule_text.proofs.Lemmas.{result_cases, bad_within, line_reads, no_line, header_reads, err_more, partial_reads, reads_partial, bad_byte, bad_end, some_read}
 use Rattle.schedule.proofs.Playing.{after_append, answers_append}
 
 -- a header and lines were taken from the text, and this is left

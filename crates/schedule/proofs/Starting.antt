@@ -1,7 +1,5 @@
 -- A world of the limits begins at 0.
-use Rattle.std.proofs.Common.{◌≡◌, ◌&&◌, Bool, true, false, refl, sym, true≢false}
-use Rattle.world_state.specs.declared.config.Config.{Config}
-use Rattle.world.specs.Steps.{is_supported, is_supported_at}
+use Rattle.schedule.proofs.Cited.{◌≡◌, ◌&&◌, Bool, true, false, refl, sym, true≢false, Config, is_supported, is_supported_at}
 
 pub begins_at_zero : (config : Config) → is_supported config ≡ true → is_supported_at config 0 ≡ true
 begins_at_zero config e = by (is_supported config) e

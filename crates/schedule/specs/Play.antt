@@ -20,7 +20,7 @@ pub record Point : Type 0 where
 abbrev pub point : WorldView → ℕ → List ℕ → List ℕ → Point
 point w n t p = record { world = w; line = n; text = t; printed = p }
 
--- the number of a line, so many lines on
+-- the number of a line, this many lines on
 abbrev pub number_on : ℕ → ℕ → ℕ
 number_on line zero = line
 number_on line (suc more) = number_on (min (line + 1) (2 ^ 64 - 1)) more

@@ -18,7 +18,7 @@ pub fn read_whole<R: Read>(alloc: Global, reader: &mut R) -> Result<Vec<u8>, Rep
 {
     let mut text = Vec::new(alloc);
     let mut buffer = [0u8; PIECE];
-    // The language wants a bound for each loop. No input has so many pieces.
+    // The language wants a bound for each loop. No input has that many pieces.
     for _ in 0..u64::MAX {
         match reader.read(&mut buffer) {
             Ok(0) => return Ok(text),

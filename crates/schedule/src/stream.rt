@@ -54,7 +54,7 @@ pub fn replay<R: Read, W: Write>(
     let mut replay = Replay::new(alloc);
     let mut out = Vec::new(alloc);
     let mut buffer = [0u8; PIECE];
-    // The language wants a bound for each loop. No input has so many pieces.
+    // The language wants a bound for each loop. No input has that many pieces.
     for _ in 0..u64::MAX {
         match reader.read(&mut buffer) {
             Ok(0) => return close(&mut replay, &mut out, writer),

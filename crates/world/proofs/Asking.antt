@@ -1,33 +1,10 @@
 -- What the steps of grace periods keep, and that what they tell may come, whoever asks.
-use Rattle.std.proofs.Common.{◌≡◌, ◌≢◌, ◌⊎◌, ◌↔◌, inl, inr, ⊎_elim, ℕ, ◌+◌, ◌^◌, ◌<◌, ◌≤◌, leb, ltb, cond, Bool, true, false, List, [], ◌∷◌, ◌++◌, length, slice_get, Option, Some, None, Result, Ok, Err, refl, sym, ap, ◌∙◌, subst, arith, true≢false}
-use Rattle.std.proofs.lemmas.Bool.Decides.{leb_tells, Decides-ltb}
-use Rattle.world_state.proofs.Lemmas.{decide_number, get_past, past_or_within}
-use Rattle.std.proofs.lemmas.Option.{slice_get-get_or, slice_get_past}
+use Rattle.world.proofs.Cited.{◌≡◌, ◌≢◌, ◌⊎◌, ◌↔◌, ⊎_elim, ℕ, true≢false, inl, inr, ◌+◌, ◌^◌, ◌<◌, ◌≤◌, leb, ltb, cond, Bool, true, false, List, [], ◌∷◌, ◌++◌, length, slice_get, Option, Some, None, Result, Ok, Err, refl, sym, ap, ◌∙◌, subst, arith, ltb-true, leb-true, leb-false, cond_both, decide_number, get_past, past_or_within, slice_get-get_or, slice_get_past, SectionId, Refusal, Exhausted, at_number, State, AreAllowed, In, in_numbers, has_number_in, at_number_same, at_number_other, Layout, Action, Load, LoadGroup, StorePhase, StoreSeq, Finished, Turn, IsPresent, StoresInOrder, MayStore, present_after, even_below, cookie_for, SyncCore, turned, is_finished, Answer, Events, Quiet, Wait, Blocked, ReaderState, GraceState, Holder, new_reader, Plans, BoardView, told}
 use Rattle.rcu_model.specs.declared.event.Event.TheVariants as events
-use Rattle.rcu_model.specs.declared.event.SectionId.{SectionId}
-use Rattle.rcu_model.specs.declared.refusal.Refusal.{Refusal}
-use Rattle.rcu_model.specs.declared.refusal.Refusal.TheVariants.{Exhausted}
-use Rattle.rcu_model.specs.Sets.{at_number}
-use Rattle.rcu_model.specs.Machine.{State, AreAllowed}
-use Rattle.rcu_model.proofs.Lemmas.{In, in_numbers, has_number_in, at_number_same, at_number_other}
-use Rattle.reader_word.specs.declared.layout.Layout.{Layout}
-use Rattle.gp_memb.specs.declared.plan.Action.{Action}
-use Rattle.gp_memb.specs.declared.plan.Action.TheVariants.{Load, LoadGroup, StorePhase, StoreSeq, Finished}
-use Rattle.gp_memb.specs.declared.plan.Turn.{Turn}
 use Rattle.gp_memb.specs.declared.plan.Turn.TheVariants as turns
-use Rattle.gp_memb.specs.Plan.{StoresInOrder, MayStore, present_after}
-use Rattle.poll_cookie.specs.Cookie.{even_below, cookie_for}
-use Rattle.call_rcu_worker.specs.declared.sync.SyncCore.{SyncCore}
 use Rattle.call_rcu_worker.specs.declared.sync.SyncCore.TheVariants as core
 use Rattle.call_rcu_worker.specs.declared.sync.Told.TheVariants as what
-use Rattle.call_rcu_worker.specs.Sync.{telling, turned, asked_with, is_finished}
-use Rattle.world_state.specs.declared.line.Answer.{Answer}
-use Rattle.world_state.specs.declared.line.Answer.TheVariants.{Events, Quiet, Wait, Blocked}
-use Rattle.world_state.specs.declared.reader.ReaderState.{ReaderState}
-use Rattle.world_state.specs.declared.updater.GraceState.{GraceState}
-use Rattle.world_state.specs.declared.updater.Holder.{Holder}
-use Rattle.world_state.specs.Readers.{new_reader}
-use Rattle.world_state.specs.View.{Plans, BoardView, told}
+use Rattle.call_rcu_worker.specs.Sync.{telling, asked_with as asking}
 use Rattle.world.specs.declared.grace.GraceStep.{GraceStep}
 use Rattle.world.specs.Grace.{stepped, loaded_word, action_effect, lock_effect, done_with, plan_now, grace_row}
 use Rattle.world.proofs.Fence.{Work, Rests, Waits, Checks, Starts, Runs, Frees, Pending, RunsNone, Laws, Sets, Running, runs_no_group, cookie-above, cookie-near, cookie-even}
@@ -73,9 +50,6 @@ module _ {P : Type 0} (plans : Plans P) (layout : Layout) (slots : ℕ) (laws : 
       ((has_number_in now.asked ask p.0, (λ h. p.1 (in_numbers now.answered ask h)), none), tt)
 
   -- an ask is made, with the cookie of the present sequence number
-  pub asked_grace : GraceState
-  asked_grace = record w.grace { asks = w.grace.asks + 1 }
-
   pub asked_kept : (y : Asker) → RunsNone (works y) → w.grace.seq < 2 ^ 62 →
       StepKept y (Waits (w.grace.asks + 1) (even_below (w.grace.seq + 3))) (record w.grace { asks = w.grace.asks + 1 }) (Events (events.Ask (w.grace.asks + 1)) None)
       ((w.grace.asks + 1) ∷ now.asked) now.answered (at_number (w.grace.asks + 1) now.sections now.asked_sections)
@@ -128,31 +102,34 @@ module _ {P : Type 0} (plans : Plans P) (layout : Layout) (slots : ℕ) (laws : 
     part = part;
   }
 
-  below_seq : (n : ℕ) → n ≤ w.grace.seq → ltb w.grace.seq n ≡ true → ⊥
-  below_seq n le lt = let h : w.grace.seq < n = (Decides-ltb w.grace.seq n).0 lt in omega (arith, h, le)
-
-  -- an ask is made, or comes too late
-  pub asked_or : {X : Type 0} (Owed : Result X Refusal → Type 0) (make : ℕ → X) → ((e : Refusal) → Owed (Err e)) → (w.grace.seq < 2 ^ 62 → Owed (Ok (make (even_below (w.grace.seq + 3))))) →
-      (f : Result ℕ Refusal → Result X Refusal) → ((c : ℕ) → f (Ok c) ≡ Ok (make c)) → ((e : Refusal) → f (Err e) ≡ Err e) → Owed (f (cookie_for w.grace.seq))
-  asked_or {X} Owed make refused done f good bad = by (ltb w.grace.seq (2 ^ 62)) (leb_tells (2 ^ 62) w.grace.seq) refl
+  -- with whatever cookie the present sequence number gives
+  pub asked_with : (y : Asker) → RunsNone (works y) → (c : ℕ) → cookie_for w.grace.seq ≡ Ok c →
+      StepKept y (Waits (w.grace.asks + 1) c) (record w.grace { asks = w.grace.asks + 1 }) (Events (events.Ask (w.grace.asks + 1)) None) ((w.grace.asks + 1) ∷ now.asked) now.answered (at_number (w.grace.asks + 1) now.sections now.asked_sections)
+  asked_with y none c is = by (ltb w.grace.seq (2 ^ 62)) refl is
     where
-      c : ℕ
-      c = even_below (w.grace.seq + 3)
-
-      by : (b : Bool) → ((leb (2 ^ 62) w.grace.seq ≡ true) × (2 ^ 62 ≤ w.grace.seq)) ⊎ ((leb (2 ^ 62) w.grace.seq ≡ false) × (w.grace.seq < 2 ^ 62)) → ltb w.grace.seq (2 ^ 62) ≡ b → Owed (f (cond b (Ok c) (Err Exhausted)))
-      by false d e = subst Owed (sym (bad Exhausted)) (refused Exhausted)
-      by true (inr n) e = subst Owed (sym (good c)) (done n.1)
-      by true (inl y) e = absurd (below_seq (2 ^ 62) y.1 e)
+      by : (b : Bool) → ltb w.grace.seq (2 ^ 62) ≡ b → cond b (Ok (even_below (w.grace.seq + 3))) (Err Exhausted) ≡ Ok c →
+          StepKept y (Waits (w.grace.asks + 1) c) (record w.grace { asks = w.grace.asks + 1 }) (Events (events.Ask (w.grace.asks + 1)) None) ((w.grace.asks + 1) ∷ now.asked) now.answered (at_number (w.grace.asks + 1) now.sections now.asked_sections)
+      by true below e =
+          let same : even_below (w.grace.seq + 3) ≡ c = cc in
+          subst (λ d. StepKept y (Waits (w.grace.asks + 1) d) (record w.grace { asks = w.grace.asks + 1 }) (Events (events.Ask (w.grace.asks + 1)) None) ((w.grace.asks + 1) ∷ now.asked) now.answered (at_number (w.grace.asks + 1) now.sections now.asked_sections)) same
+          (asked_kept y none (ltb-true w.grace.seq (2 ^ 62) below))
+      by false late e = absurd (cc)
 
   -- what is owed of a step of this ask, by what comes of it
   abbrev pub IsOn : Asker → SyncCore P → Type 0
-  IsOn y core.Asks = ⊥
-  IsOn y (core.Waits c) = ⊥
   IsOn y (core.Checks c) = Unit {0}
   IsOn y (core.Starts c) = Unit {0}
   IsOn y (core.Runs c p) = Unit {0}
-  IsOn y core.Frees = ⊥
   IsOn y core.Done = works y ≡ Frees
+  IsOn y _ = ⊥
+
+  -- the present phase is one, or the present number is any
+  pub is_present : IsPresent plans.qsbr w.grace.word
+  is_present = by plans.qsbr refl
+    where
+      by : (b : Bool) → plans.qsbr ≡ b → IsPresent plans.qsbr w.grace.word
+      by true q = subst (λ b. IsPresent b w.grace.word) (sym q) tt
+      by false q = subst (λ b. IsPresent b w.grace.word) (sym q) (k.phase_low q)
 
   pub record Owing (y : Asker) (ask : ℕ) (Owed : Result (GraceStep P) Refusal → Type 0) : Type 0 where
     pub refused : (e : Refusal) → Owed (Err e)
@@ -179,16 +156,12 @@ module _ {P : Type 0} (plans : Plans P) (layout : Layout) (slots : ℕ) (laws : 
 
     -- the ask
     pub owes_ask : works y ≡ Rests → ask ≡ w.grace.asks + 1 → Owed (grace_row plans w me ask core.Asks)
-    owes_ask rests is = asked_or Owed (λ c. record { core = core.Waits c; grace = record w.grace { asks = ask }; answer = Events (events.Ask ask) None }) o.refused done
-        (λ x. stepped (record w.grace { asks = ask }) ask (asked_with x)) (λ c. refl) (λ e. refl)
+    owes_ask rests is = by (cookie_for w.grace.seq) refl
       where
-        c : ℕ
-        c = even_below (w.grace.seq + 3)
-
-        done : w.grace.seq < 2 ^ 62 → Owed (Ok (record { core = core.Waits c; grace = record w.grace { asks = ask }; answer = Events (events.Ask ask) None }))
-        done below = o.asks c (record w.grace { asks = ask }) rests is
-            (subst (λ n. StepKept y (Waits n c) (record w.grace { asks = n }) (Events (events.Ask n) None) (n ∷ now.asked) now.answered (at_number n now.sections now.asked_sections)) (sym is)
-            (asked_kept y (rests_runs (works y) rests) below))
+        by : (cookie : Result ℕ Refusal) → cookie_for w.grace.seq ≡ cookie → Owed (stepped (record w.grace { asks = ask }) ask (asking cookie))
+        by (Err e) f = o.refused e
+        by (Ok c) f = o.asks c (record w.grace { asks = ask }) rests is
+            (subst (λ n. StepKept y (Waits n c) (record w.grace { asks = n }) (Events (events.Ask n) None) (n ∷ now.asked) now.answered (at_number n now.sections now.asked_sections)) (sym is) (asked_with y (rests_runs (works y) rests) c f))
 
     -- a step that tells nothing
     quietly : (work : Work P) (grace : GraceState) → (plans.qsbr ≡ true → w.grace.word ≤ grace.word) → (plans.qsbr ≡ false → grace.word ≤ 1) → grace.seq ≤ 2 ^ 62 + 2 → grace.asks ≡ w.grace.asks →
@@ -217,7 +190,8 @@ module _ {P : Type 0} (plans : Plans P) (layout : Layout) (slots : ℕ) (laws : 
 
     -- the check
     owes_check : (c : ℕ) → works y ≡ Checks ask c → Owed (grace_row plans w me ask (core.Checks c))
-    owes_check c is = by (leb c w.grace.seq) (leb_tells c w.grace.seq) refl
+    owes_check c is = cond_both (leb c w.grace.seq) (telling {P = P} what.Answered core.Frees) (telling what.Quiet (core.Starts c)) (λ t. Owed (stepped w.grace ask t))
+        (λ e. reached (leb-true c w.grace.seq e)) (λ e. needed (leb-false c w.grace.seq e))
       where
         pending : Pending (works y) ask c
         pending = pending_at y (Checks ask c) ask c is (refl, refl)
@@ -232,13 +206,6 @@ module _ {P : Type 0} (plans : Plans P) (layout : Layout) (slots : ℕ) (laws : 
             (quietly (Starts ask c) w.grace steady k.phase_low k.seq_low refl
             (λ works' s. part_checked plans layout slots laws decide_asker (holder_of w.grace.holder) works works' words w.grace.asks w.grace.seq w.grace.word now.asked now.answered now.asked_sections now.sections y ask c is s low k.part))
 
-        by : (b : Bool) → ((leb c w.grace.seq ≡ true) × (c ≤ w.grace.seq)) ⊎ ((leb c w.grace.seq ≡ false) × (w.grace.seq < c)) → leb c w.grace.seq ≡ b →
-            Owed (stepped w.grace ask (cond b (telling what.Answered core.Frees) (telling what.Quiet (core.Starts c))))
-        by true (inl z) e = reached z.1
-        by true (inr n) e = absurd (true≢false (sym e ∙ n.0))
-        by false (inl z) e = absurd (true≢false (sym z.0 ∙ e))
-        by false (inr n) e = needed n.1
-
     -- the lock is freed
     owes_free : works y ≡ Frees → Owed (grace_row plans w me ask core.Frees)
     owes_free is = o.goes core.Done (record w.grace { holder = None }) is (λ b d h. absurd h)
@@ -249,19 +216,11 @@ module _ {P : Type 0} (plans : Plans P) (layout : Layout) (slots : ℕ) (laws : 
     owes_turn : (grace : GraceState) (c : ℕ) (p q : P) → (is_finished (plans.action q) ≡ true → Owed (stepped grace ask (telling what.Answered core.Frees))) → (is_finished (plans.action q) ≡ false → Owed (stepped grace ask (telling what.Quiet (core.Runs c q)))) →
         (turn : Turn) → Owed (stepped grace ask (turned plans.action c p q turn))
     owes_turn grace c p q ends goes turns.Wait = o.stays (core.Runs c p) grace
-    owes_turn grace c p q ends goes turns.Step = by (is_finished (plans.action q)) ends goes
-      where
-        by : (b : Bool) → (b ≡ true → Owed (stepped grace ask (telling what.Answered core.Frees))) → (b ≡ false → Owed (stepped grace ask (telling what.Quiet (core.Runs c q)))) →
-            Owed (stepped grace ask (cond b (telling what.Answered core.Frees) (telling what.Quiet (core.Runs c q))))
-        by true on off = on refl
-        by false on off = off refl
+    owes_turn grace c p q ends goes turns.Step = cond_both (is_finished (plans.action q)) (telling {P = P} what.Answered core.Frees) (telling what.Quiet (core.Runs c q)) (λ t. Owed (stepped grace ask t)) ends goes
 
     finished_from : (a : Action) → is_finished a ≡ true → a ≡ Finished
-    finished_from (Load s) e = absurd (true≢false (sym e))
-    finished_from (LoadGroup g) e = absurd (true≢false (sym e))
-    finished_from (StorePhase v) e = absurd (true≢false (sym e))
-    finished_from (StoreSeq v) e = absurd (true≢false (sym e))
     finished_from Finished e = refl
+    finished_from _ e = absurd (true≢false (sym e))
 
     -- the first turn
     owes_begin : (c : ℕ) → works y ≡ Starts ask c → Owed (grace_row plans w me ask (core.Starts c))
@@ -301,7 +260,7 @@ module _ {P : Type 0} (plans : Plans P) (layout : Layout) (slots : ℕ) (laws : 
         goes e = o.goes (core.Runs c (plans.taken p 0)) (record w.grace { seq = seq + 1 }) tt (λ b d f. same_pending (Starts ask c) ask c b d is (refl, refl) f)
             (quietly (Runs ask c (plans.taken p 0)) (record w.grace { seq = seq + 1 }) steady k.phase_low low refl
             (λ works' s. part_begun plans layout slots laws decide_asker (holder_of w.grace.holder) works works' words w.grace.asks seq w.grace.word now.asked now.answered now.asked_sections now.sections y ask c is
-            (subst (λ (z : P). Sets works works' y (Runs ask c (plans.taken z 0))) same s) marks k.part))
+            (subst (λ (z : P). Sets works works' y (Runs ask c (plans.taken z 0))) same s) marks is_present k.part))
 
     -- the word that a scan loads
     loaded_is : (slot : ℕ) → loaded_word (slice_get w.readers slot) ≡ words slot
@@ -416,7 +375,7 @@ module _ {P : Type 0} (plans : Plans P) (layout : Layout) (slots : ℕ) (laws : 
           phase_load s e = cc
 
           rises : plans.qsbr ≡ true → w.grace.word ≤ value
-          rises q = subst (λ n. n ≤ value) (running.present q) (laws.all.keeps.rises p value q does)
+          rises q = subst (λ n. n ≤ value) running.present (laws.all.keeps.rises p value q does)
 
           phase : plans.qsbr ≡ false → value ≤ 1
           phase f =

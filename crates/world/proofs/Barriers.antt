@@ -1,38 +1,10 @@
 -- What the steps of `barrier` keep, and that what they tell may come.
-use Rattle.std.proofs.Common.{◌≡◌, ◌≢◌, ◌⊎◌, inl, inr, ⊎_elim, ℕ, ◌+◌, ◌<◌, ◌≤◌, leb, ltb, cond, not, Bool, true, false, List, [], ◌∷◌, ◌++◌, length, get_or, slice_get, slice_set, replicate, Option, None, Result, Ok, refl, sym, ap, ◌∙◌, subst, arith, true≢false, length-append, get_or-set_other, get_or-set_same}
-use Rattle.std.proofs.Math.ListN.{length-set}
-use Rattle.std.proofs.lemmas.Bool.Decides.{leb_tells, Decides-ltb}
-use Rattle.std.proofs.lemmas.Option.{slice_get-get_or, slice_get_past}
-use Rattle.rcu_model.specs.declared.event.Event.{Event}
+use Rattle.world.proofs.Cited.{◌≡◌, ◌≢◌, ◌⊎◌, ⊎_elim, ℕ, true≢false, inl, inr, ◌+◌, ◌<◌, ◌≤◌, nat_le, nat_lt, ltb, not, true, false, List, [], ◌∷◌, ◌++◌, length, get_or, slice_get, slice_set, replicate, Option, None, Result, Ok, refl, sym, ap, ◌∙◌, subst, arith, length-append, get_or-set_other, get_or-set_same, length-set, leb-true, ltb-true, ltb-false, cond_both, slice_get-get_or, slice_get_past, Event, ObjectId, SectionId, Refusal, ObjectState, has_object, at_number, State, not_run, In, has_object_in, has_number_in, in_numbers, empty_from, at_number_same, at_number_other, filter_has, Layout, items_of, WorkerCore, Quiet, Life, QueueState, Barrier, BarrierStep, Note, Check, UpdaterPlace, Idle, Retires, Bars, UpdaterState, Change, Bar, empty_queue_state, Plans, BoardView, get_past, past_or_within, decide_number, life_of, Items, InQueue, queue_at, stands_above, stands_within}
 use Rattle.rcu_model.specs.declared.event.Event.TheVariants as events
-use Rattle.rcu_model.specs.declared.event.ObjectId.{ObjectId}
-use Rattle.rcu_model.specs.declared.event.SectionId.{SectionId}
-use Rattle.rcu_model.specs.declared.refusal.Refusal.{Refusal}
-use Rattle.world_state.specs.declared.object.ObjectState.{ObjectState}
-use Rattle.rcu_model.specs.Sets.{has_object, at_number}
-use Rattle.rcu_model.specs.Machine.{State, not_run}
-use Rattle.rcu_model.proofs.Lemmas.{In, has_object_in, has_number_in, in_numbers, empty_from, at_number_same, at_number_other, filter_has}
-use Rattle.reader_word.specs.declared.layout.Layout.{Layout}
-use Rattle.callback_queue.specs.Queue.{items_of}
-use Rattle.call_rcu_worker.specs.declared.worker.WorkerCore.{WorkerCore}
 use Rattle.call_rcu_worker.specs.declared.worker.WorkerCore.TheVariants as worker
-use Rattle.world_state.specs.declared.line.Answer.TheVariants.{Quiet, Wait}
-use Rattle.world_state.specs.declared.object.Life.{Life}
 use Rattle.world_state.specs.declared.object.Life.TheVariants as life
-use Rattle.world_state.specs.declared.queue.QueueState.{QueueState}
-use Rattle.world_state.specs.declared.updater.Barrier.{Barrier}
-use Rattle.world_state.specs.declared.updater.BarrierStep.{BarrierStep}
-use Rattle.world_state.specs.declared.updater.BarrierStep.TheVariants.{Note, Check}
-use Rattle.world_state.specs.declared.updater.UpdaterPlace.{UpdaterPlace}
-use Rattle.world_state.specs.declared.updater.UpdaterPlace.TheVariants.{Idle, Publishes, Syncs, Retires, Bars}
-use Rattle.world_state.specs.declared.updater.UpdaterState.{UpdaterState}
-use Rattle.world_state.specs.declared.change.Change.{Change}
-use Rattle.world_state.specs.declared.change.Change.TheVariants.{Bar, Stay}
-use Rattle.world_state.specs.Queues.{empty_queue_state}
-use Rattle.world_state.specs.View.{Plans, BoardView}
-use Rattle.world_state.proofs.Lemmas.{get_past, past_or_within, decide_number, life_of, Items, InQueue, queue_at, stands_above, stands_within}
 use Rattle.world.specs.Answers.{one}
-use Rattle.world.specs.Queues.{at_place, queued_in, finished_in, after_note, noted_at, barrier_row, checked, barrier_on}
+use Rattle.world.specs.Queues.{at_place, queued_in, finished_in, after_note, noted_at, barrier_row}
 use Rattle.world.proofs.Fence.{Laws}
 use Rattle.world.proofs.State.{place_work, updater_at, worker_at, Kept}
 use Rattle.world.proofs.KeptPublishing.{There}
@@ -68,34 +40,22 @@ finished_low ready waiting noted gone finished asked awaited asked_sections ask 
 bar_beside : {P : Type 0} (qs : List QueueState) (noted noted' cleared cleared' : List ℕ) (noted_objects noted_objects' : ℕ → List ObjectId) (p : UpdaterPlace P) →
     ((n : ℕ) → Barring p n → In noted n → In noted' n × (¬ In cleared n → ¬ In cleared' n) × ((o : ObjectId) → In (noted_objects' n) o → In (noted_objects n) o)) →
     BarKept qs noted cleared noted_objects p → BarKept qs noted' cleared' noted_objects' p
-bar_beside qs noted noted' cleared cleared' noted_objects noted_objects' Idle f h = tt
-bar_beside qs noted noted' cleared cleared' noted_objects noted_objects' (Publishes what) f h = tt
-bar_beside qs noted noted' cleared cleared' noted_objects noted_objects' (Syncs ask place) f h = tt
-bar_beside qs noted noted' cleared cleared' noted_objects noted_objects' (Retires o d) f h = tt
 bar_beside qs noted noted' cleared cleared' noted_objects noted_objects' (Bars b) f h =
     let g = f b.number refl h.0 in (g.0, g.1 h.1, h.2, h.3, λ o i. h.4 o (g.2 o i))
+bar_beside qs noted noted' cleared cleared' noted_objects noted_objects' _ f h = tt
 
 barring_noted : {P : Type 0} (qs : List QueueState) (noted cleared : List ℕ) (noted_objects : ℕ → List ObjectId) (p : UpdaterPlace P) (n : ℕ) → BarKept qs noted cleared noted_objects p → Barring p n → In noted n
-barring_noted qs noted cleared noted_objects Idle n h b = absurd b
-barring_noted qs noted cleared noted_objects (Publishes what) n h b = absurd b
-barring_noted qs noted cleared noted_objects (Syncs ask place) n h b = absurd b
-barring_noted qs noted cleared noted_objects (Retires o d) n h b = absurd b
 barring_noted qs noted cleared noted_objects (Bars c) n h b = subst (In noted) b h.0
+barring_noted qs noted cleared noted_objects _ n h b = absurd b
 
 -- the updater is idle or waits for all
 abbrev RetiresNone : {P : Type 0} → UpdaterPlace P → Type 0
-RetiresNone Idle = Unit {0}
-RetiresNone (Publishes what) = Unit {0}
-RetiresNone (Syncs ask place) = Unit {0}
 RetiresNone (Retires o d) = ⊥
-RetiresNone (Bars b) = Unit {0}
+RetiresNone _ = Unit {0}
 
 retires_none : {P : Type 0} (os : List ObjectState) (qs : List QueueState) (count u : ℕ) (p : UpdaterPlace P) → RetiresNone p → RetireKept os qs count u p
-retires_none os qs count u Idle h = tt
-retires_none os qs count u (Publishes what) h = tt
-retires_none os qs count u (Syncs ask place) h = tt
 retires_none os qs count u (Retires o d) h = absurd h
-retires_none os qs count u (Bars b) h = tt
+retires_none os qs count u _ h = tt
 
 module _ {P : Type 0} (plans : Plans P) (layout : Layout) (slots : ℕ) (laws : Laws plans layout slots) (w : BoardView P) (now : State) (kept : Kept plans layout slots laws w now) (k : Callbacks w now)
     (u : ℕ) (x : UpdaterState P) (t : There plans layout slots laws w now kept u x) where
@@ -145,7 +105,9 @@ module _ {P : Type 0} (plans : Plans P) (layout : Layout) (slots : ℕ) (laws : 
 
   -- a count is noted, and the barrier faces the same objects
   note_faces : (counts : List ℕ) (i : ℕ) (o : ObjectId) → count ≤ length counts → i < count → Faces qs counts (Note i) o → Faces qs (noted_at w counts i) (after_note w i) o
-  note_faces counts i o room at (j, s, low, here, facing) = by (ltb (i + 1) count) (leb_tells count (i + 1)) refl
+  note_faces counts i o room at (j, s, low, here, facing) = cond_both (ltb (i + 1) count) (Note (i + 1)) (Check 0) (λ d. Faces qs (noted_at w counts i) d o)
+      (λ more. (j, s, low, here, noted))
+      (λ e. let last = ltb-false (i + 1) count e in (j, s, low, here, (omega arith, noted (omega (arith, low, last)))))
     where
       noted : j < i + 1 → s ≤ get_or (noted_at w counts i) j 0
       noted up = at_count (decide_number j i)
@@ -159,17 +121,8 @@ module _ {P : Type 0} (plans : Plans P) (layout : Layout) (slots : ℕ) (laws : 
               subst (λ n. s ≤ n) (sym is) (omega (arith, given, announced))
           at_count (inr n) = subst (λ m. s ≤ m) (sym (get_or-set_other counts i j (queued_in (slice_get qs i)) 0 n)) (facing (omega (arith, up, n)))
 
-      by : (b : Bool) → ((leb count (i + 1) ≡ true) × (count ≤ i + 1)) ⊎ ((leb count (i + 1) ≡ false) × (i + 1 < count)) → ltb (i + 1) count ≡ b → Faces qs (noted_at w counts i) (cond b (Note (i + 1)) (Check 0)) o
-      by true d e = (j, s, low, here, noted)
-      by false (inl y) e = let last = y.1 in (j, s, low, here, (omega arith, noted (omega (arith, low, last))))
-      by false (inr n) e = absurd (true≢false (sym ((Decides-ltb (i + 1) count).1 n.1) ∙ e))
-
   note_at : (i : ℕ) → IsAt (after_note w i) count
-  note_at i = by (ltb (i + 1) count) refl
-    where
-      by : (b : Bool) → ltb (i + 1) count ≡ b → IsAt (cond b (Note (i + 1)) (Check 0)) count
-      by true e = (Decides-ltb (i + 1) count).0 e
-      by false e = let some = k.some in omega (arith, some)
+  note_at i = cond_both (ltb (i + 1) count) (Note (i + 1)) (Check 0) (λ d. IsAt d count) (λ e. ltb-true (i + 1) count e) (λ e. let some = k.some in omega (arith, some))
 
   -- who is queued and was not run stands in a queue
   facing_all : (o : ObjectId) → In (not_run now) o → Faces qs (replicate 8 0) (Note 0) o
@@ -251,7 +204,7 @@ module _ {P : Type 0} (plans : Plans P) (layout : Layout) (slots : ℕ) (laws : 
     )
 
     -- a count is noted
-    owes_note : (i : ℕ) → b.due ≡ Note i → Owed (Ok (barrier_on w u x b (Note i)))
+    pub owes_note : (i : ℕ) → b.due ≡ Note i → Owed (Ok (Bar u (at_place x (Bars (record b { counts = noted_at w b.counts i; due = after_note w i }))) w.barriers Quiet))
     owes_note i is = goes_on (record b { counts = noted_at w b.counts i; due = after_note w i }) refl
         (subst (λ n. count ≤ n) (sym (length-set b.counts i (queued_in (slice_get qs i)))) mine.2) (note_at i)
         (λ o h. note_faces b.counts i o mine.2 (subst (λ (d : BarrierStep). IsAt d count) is mine.3) (subst (λ (d : BarrierStep). Faces qs b.counts d o) is (mine.4 o h)))
@@ -268,48 +221,30 @@ module _ {P : Type 0} (plans : Plans P) (layout : Layout) (slots : ℕ) (laws : 
             let above = stands_above q.items.gone (items_of q.items) s o here in
             omega (arith, finished, gone, above, facing.1)
 
-    owes_check : (i : ℕ) → b.due ≡ Check i → Owed (Ok (barrier_on w u x b (Check i)))
-    owes_check i is = by (leb (get_or b.counts i 0) (finished_in (slice_get qs i))) (leb_tells (get_or b.counts i 0) (finished_in (slice_get qs i))) refl
-      where
-        facing : (o : ObjectId) → In (now.noted_objects b.number) o → Faces qs b.counts (Check i) o
-        facing o h = subst (λ (d : BarrierStep). Faces qs b.counts d o) is (mine.4 o h)
+    module _ (i : ℕ) (is : b.due ≡ Check i) (reached : nat_le (get_or b.counts i 0) (finished_in (slice_get qs i)) ≡ true) where
+      done : get_or b.counts i 0 ≤ finished_in (slice_get qs i)
+      done = leb-true (get_or b.counts i 0) (finished_in (slice_get qs i)) reached
 
-        clears : get_or b.counts i 0 ≤ finished_in (slice_get qs i) → count ≤ i + 1 → Owed (Ok (Bar u (at_place x Idle) w.barriers (one (events.Clear b.number))))
-        clears done last = (
-          ((has_number_in now.noted b.number mine.0, (λ h. mine.1 (in_numbers now.cleared b.number h)), empty_from (now.noted_objects b.number) none), tt),
-          beside plans layout slots laws _ now (kept_updater plans layout slots laws w now kept u x (at_place x Idle) qs None w.barriers (w.log ++ events.Clear b.number ∷ []) t (longer (events.Clear b.number ∷ [])) (λ os. tt) refl (ap place_work was) refl)
-              now.retired now.queued now.reclaimed now.awaited now.noted (b.number ∷ now.cleared) now.noted_objects,
-          bar_step (at_place x Idle) w.barriers (length (w.log ++ events.Clear b.number ∷ [])) now.noted (b.number ∷ now.cleared) now.noted_objects (longer (events.Clear b.number ∷ [])) tt tt
-              (λ v apart. bar_beside qs now.noted now.noted now.cleared (b.number ∷ now.cleared) now.noted_objects now.noted_objects (place_of v)
-              (λ n g h. (h, (λ c d. ⊎_elim (λ (e : b.number ≡ n). alone n v apart e g) (λ (i : In now.cleared n). c i) d), λ o i. i)) (k.barring v))
-              (λ n v apart e theirs. e) k.noted_low (λ n h. ⊎_elim (λ (e : b.number ≡ n). subst (In now.noted) e mine.0) (λ (g : In now.cleared n). k.cleared_noted n g) h)
-              (let low = k.barriers_low in let more = longer (events.Clear b.number ∷ []) in omega (arith, low, more)),
-        )
-          where
-            past : (o : ObjectId) → Faces qs b.counts (Check (i + 1)) o → ⊥
-            past o (j, s, low, here, facing') = let up = facing'.0 in omega (arith, low, up, last)
+      facing : (o : ObjectId) → In (now.noted_objects b.number) o → Faces qs b.counts (Check i) o
+      facing o h = subst (λ (d : BarrierStep). Faces qs b.counts d o) is (mine.4 o h)
 
-            none : (o : ObjectId) → ¬ In (now.noted_objects b.number) o
-            none o h = past o (passed i done o (facing o h))
+      pub owes_check : nat_lt (i + 1) count ≡ true → Owed (Ok (Bar u (at_place x (Bars (record b { due = Check (i + 1) }))) w.barriers Quiet))
+      owes_check more = goes_on (record b { due = Check (i + 1) }) refl mine.2 (ltb-true (i + 1) count more) (λ o h. passed i done o (facing o h))
 
-        goes : get_or b.counts i 0 ≤ finished_in (slice_get qs i) → Owed (Ok (checked w u x b i))
-        goes done = at_last (ltb (i + 1) count) (leb_tells count (i + 1)) refl
-          where
-            at_last : (c : Bool) → ((leb count (i + 1) ≡ true) × (count ≤ i + 1)) ⊎ ((leb count (i + 1) ≡ false) × (i + 1 < count)) → ltb (i + 1) count ≡ c →
-                Owed (Ok (cond c (Bar u (at_place x (Bars (record b { due = Check (i + 1) }))) w.barriers Quiet) (Bar u (at_place x Idle) w.barriers (one (events.Clear b.number)))))
-            at_last true d e = goes_on (record b { due = Check (i + 1) }) refl mine.2 ((Decides-ltb (i + 1) count).0 e) (λ o h. passed i done o (facing o h))
-            at_last false (inl y) e = clears done y.1
-            at_last false (inr n) e = absurd (true≢false (sym ((Decides-ltb (i + 1) count).1 n.1) ∙ e))
+      pub owes_clear : nat_lt (i + 1) count ≡ false → Owed (Ok (Bar u (at_place x Idle) w.barriers (one (events.Clear b.number))))
+      owes_clear last = (
+        ((has_number_in now.noted b.number mine.0, (λ h. mine.1 (in_numbers now.cleared b.number h)), empty_from (now.noted_objects b.number) none), tt),
+        beside plans layout slots laws _ now (kept_updater plans layout slots laws w now kept u x (at_place x Idle) qs None w.barriers (w.log ++ events.Clear b.number ∷ []) t (longer (events.Clear b.number ∷ [])) (λ os. tt) refl (ap place_work was) refl)
+            now.retired now.queued now.reclaimed now.awaited now.noted (b.number ∷ now.cleared) now.noted_objects,
+        bar_step (at_place x Idle) w.barriers (length (w.log ++ events.Clear b.number ∷ [])) now.noted (b.number ∷ now.cleared) now.noted_objects (longer (events.Clear b.number ∷ [])) tt tt
+            (λ v apart. bar_beside qs now.noted now.noted now.cleared (b.number ∷ now.cleared) now.noted_objects now.noted_objects (place_of v)
+            (λ n g h. (h, (λ c d. ⊎_elim (λ (e : b.number ≡ n). alone n v apart e g) (λ (i : In now.cleared n). c i) d), λ o i. i)) (k.barring v))
+            (λ n v apart e theirs. e) k.noted_low (λ n h. ⊎_elim (λ (e : b.number ≡ n). subst (In now.noted) e mine.0) (λ (g : In now.cleared n). k.cleared_noted n g) h)
+            (let low = k.barriers_low in let more = longer (events.Clear b.number ∷ []) in omega (arith, low, more)),
+      )
+        where
+          past : (o : ObjectId) → Faces qs b.counts (Check (i + 1)) o → ⊥
+          past o (j, s, low, here, facing') = let up = facing'.0 in let end = ltb-false (i + 1) count last in omega (arith, low, up, end)
 
-        by : (c : Bool) → ((leb (get_or b.counts i 0) (finished_in (slice_get qs i)) ≡ true) × (get_or b.counts i 0 ≤ finished_in (slice_get qs i))) ⊎ ((leb (get_or b.counts i 0) (finished_in (slice_get qs i)) ≡ false) × (finished_in (slice_get qs i) < get_or b.counts i 0)) →
-            leb (get_or b.counts i 0) (finished_in (slice_get qs i)) ≡ c → Owed (Ok (cond c (checked w u x b i) (Stay Wait)))
-        by true (inl y) e = goes y.1
-        by true (inr n) e = absurd (true≢false (sym e ∙ n.0))
-        by false y e = (tt, kept, k)
-
-    pub owes_bars : Owed (Ok (barrier_on w u x b b.due))
-    owes_bars = by b.due refl
-      where
-        by : (d : BarrierStep) → b.due ≡ d → Owed (Ok (barrier_on w u x b d))
-        by (Note i) is = owes_note i is
-        by (Check i) is = owes_check i is
+          none : (o : ObjectId) → ¬ In (now.noted_objects b.number) o
+          none o h = past o (passed i done o (facing o h))

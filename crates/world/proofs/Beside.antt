@@ -1,20 +1,5 @@
 -- What steps with queues, objects' headers and barriers leave of all else.
-use Rattle.std.proofs.Common.{◌≡◌, ◌≢◌, ⊎_elim, ℕ, ◌+◌, ◌^◌, ◌<◌, ◌≤◌, true, false, List, length, slice_set, Option, refl, sym, ap, ◌∙◌, subst, arith, get_or-set_other, get_or-set_same}
-use Rattle.rcu_model.specs.declared.event.Event.{Event}
-use Rattle.rcu_model.specs.declared.event.ObjectId.{ObjectId}
-use Rattle.rcu_model.specs.declared.event.SectionId.{SectionId}
-use Rattle.rcu_model.specs.Machine.{State}
-use Rattle.reader_word.specs.declared.layout.Layout.{Layout}
-use Rattle.world_state.specs.declared.object.Mark.{Mark}
-use Rattle.world_state.specs.declared.object.ObjectState.{ObjectState}
-use Rattle.world_state.specs.declared.queue.QueueState.{QueueState}
-use Rattle.world_state.specs.declared.updater.GraceState.{GraceState}
-use Rattle.world_state.specs.declared.updater.UpdaterState.{UpdaterState}
-use Rattle.world_state.specs.declared.worker.WorkerState.{WorkerState}
-use Rattle.world_state.specs.Objects.{marked_life}
-use Rattle.world_state.specs.Queues.{new_worker}
-use Rattle.world_state.specs.View.{Plans, BoardView}
-use Rattle.world_state.proofs.Lemmas.{readers_over, links_marked, place_marked, stage_marked}
+use Rattle.world.proofs.Cited.{◌≡◌, ◌≢◌, ⊎_elim, ℕ, ◌+◌, ◌^◌, ◌<◌, ◌≤◌, true, false, List, length, slice_set, Option, refl, sym, ap, ◌∙◌, subst, arith, get_or-set_other, get_or-set_same, Event, ObjectId, SectionId, State, Layout, Mark, ObjectState, QueueState, GraceState, UpdaterState, WorkerState, marked_life, new_worker, Plans, BoardView, readers_over, links_marked, place_marked, stage_marked}
 use Rattle.world.proofs.Fence.{Work, Rests, Laws, Sets}
 use Rattle.world.proofs.Periods.{Part}
 use Rattle.world.proofs.State.{Asker, Syncing, Polling, Working, decide_asker, place_work, worker_work, worker_at, updater_at, work_of, holder_of, word_at, UpdaterKept, Kept}

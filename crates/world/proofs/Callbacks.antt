@@ -1,33 +1,11 @@
 -- What the world keeps of retired objects, queues, workers and barriers beside the machine.
-use Rattle.std.proofs.Common.{◌≡◌, ◌≢◌, ◌⊎◌, inl, inr, ℕ, ◌+◌, ◌%◌, ◌<◌, ◌≤◌, Bool, true, false, List, [], ◌∷◌, ◌++◌, length, get_or, slice_get, slice_set, Option, Some, None, sym, ap, subst, arith, get_or-set_other, get_or-set_same}
-use Rattle.rcu_model.specs.declared.event.Event.{Event}
-use Rattle.rcu_model.specs.declared.event.Event.TheVariants.{Open, Close, First, Next, Touch, Push, Replace, Cut, Retire, Queue, Run, Ask, Answer, Bar, Clear}
-use Rattle.rcu_model.specs.declared.event.ObjectId.{ObjectId}
-use Rattle.rcu_model.specs.declared.event.SectionId.{SectionId}
-use Rattle.rcu_model.specs.Sets.{without_section, at_number}
-use Rattle.rcu_model.specs.Machine.{State, IsAllowed, after}
-use Rattle.rcu_model.proofs.Lemmas.{In, in_left, has_number_in, without_section_has, has_without_section, at_number_other}
-use Rattle.callback_queue.specs.Queue.{given_of}
-use Rattle.call_rcu_worker.specs.declared.sync.SyncCore.{SyncCore}
+use Rattle.world.proofs.Cited.{◌≡◌, ◌≢◌, ◌⊎◌, inl, inr, ℕ, ◌+◌, ◌%◌, ◌<◌, ◌≤◌, Bool, true, false, List, [], ◌∷◌, ◌++◌, length, get_or, slice_get, slice_set, Option, Some, None, sym, ap, subst, arith, get_or-set_other, get_or-set_same, Event, Open, Close, First, Next, Retire, Queue, Run, Ask, Clear, ObjectId, SectionId, without_section, at_number, State, IsAllowed, after, In, in_left, has_number_in, without_section_has, has_without_section, at_number_other, given_of, SyncCore, WorkerCore, Life, ObjectState, QueueState, BarrierStep, Note, Check, RetireStep, UpdaterPlace, Retires, Bars, UpdaterState, WorkerState, new_worker, changed_at, BoardView, idle, stage_of, chain_of, decide_number, life_of, Items, Has, InQueue, queue_at, changed_here, changed_else}
+use Rattle.rcu_model.specs.declared.event.Event.TheVariants.{Bar}
 use Rattle.call_rcu_worker.specs.declared.sync.SyncCore.TheVariants as core
-use Rattle.call_rcu_worker.specs.declared.worker.WorkerCore.{WorkerCore}
 use Rattle.call_rcu_worker.specs.declared.worker.WorkerCore.TheVariants as worker
-use Rattle.world_state.specs.declared.object.Life.{Life}
 use Rattle.world_state.specs.declared.object.Life.TheVariants as life
 use Rattle.world_state.specs.declared.object.Stage.TheVariants as stage
-use Rattle.world_state.specs.declared.object.ObjectState.{ObjectState}
-use Rattle.world_state.specs.declared.queue.QueueState.{QueueState}
-use Rattle.world_state.specs.declared.updater.BarrierStep.{BarrierStep}
-use Rattle.world_state.specs.declared.updater.BarrierStep.TheVariants.{Note, Check}
-use Rattle.world_state.specs.declared.updater.RetireStep.{RetireStep}
 use Rattle.world_state.specs.declared.updater.RetireStep.TheVariants as due
-use Rattle.world_state.specs.declared.updater.UpdaterPlace.{UpdaterPlace}
-use Rattle.world_state.specs.declared.updater.UpdaterPlace.TheVariants.{Idle, Publishes, Syncs, Retires, Bars}
-use Rattle.world_state.specs.declared.updater.UpdaterState.{UpdaterState}
-use Rattle.world_state.specs.declared.worker.WorkerState.{WorkerState}
-use Rattle.world_state.specs.Queues.{new_worker, changed_at}
-use Rattle.world_state.specs.View.{BoardView, idle}
-use Rattle.world_state.proofs.Lemmas.{stage_of, chain_of, decide_number, life_of, Items, Has, InQueue, queue_at, changed_here, changed_else}
 use Rattle.world.proofs.State.{updater_at, worker_at}
 
 -- what was done with an object, in the table and in the machine
@@ -64,11 +42,8 @@ abbrev pub Retiring : List ObjectState → QueueState → ℕ → ℕ → Object
 Retiring os q count u o d = (q.holder ≡ Some u) × DueKept os q.items.reserved q.queued (given_of q.items) count u o d
 
 abbrev pub RetireKept : {P : Type 0} → List ObjectState → List QueueState → ℕ → ℕ → UpdaterPlace P → Type 0
-RetireKept os qs count u Idle = Unit {0}
-RetireKept os qs count u (Publishes what) = Unit {0}
-RetireKept os qs count u (Syncs ask place) = Unit {0}
 RetireKept os qs count u (Retires o d) = Retiring os (queue_at qs (u % length qs)) count u o d
-RetireKept os qs count u (Bars b) = Unit {0}
+RetireKept os qs count u _ = Unit {0}
 
 -- the sections that an object awaits are awaited by the ask
 abbrev pub Covered : (ObjectId → List SectionId) → (ℕ → List SectionId) → ObjectId → ℕ → Type 0
@@ -117,20 +92,14 @@ IsAt (Note q) n = q < n
 IsAt (Check q) n = q < n
 
 abbrev pub BarKept : {P : Type 0} → List QueueState → List ℕ → List ℕ → (ℕ → List ObjectId) → UpdaterPlace P → Type 0
-BarKept qs noted cleared noted_objects Idle = Unit {0}
-BarKept qs noted cleared noted_objects (Publishes what) = Unit {0}
-BarKept qs noted cleared noted_objects (Syncs ask place) = Unit {0}
-BarKept qs noted cleared noted_objects (Retires o due) = Unit {0}
 BarKept qs noted cleared noted_objects (Bars b) =
     In noted b.number × (¬ In cleared b.number) × (length qs ≤ length b.counts) × IsAt b.due (length qs) × ((o : ObjectId) → In (noted_objects b.number) o → Faces qs b.counts b.due o)
+BarKept qs noted cleared noted_objects _ = Unit {0}
 
 -- the barrier of this number is under way there
 abbrev pub Barring : {P : Type 0} → UpdaterPlace P → ℕ → Type 0
-Barring Idle n = ⊥
-Barring (Publishes what) n = ⊥
-Barring (Syncs ask place) n = ⊥
-Barring (Retires o due) n = ⊥
 Barring (Bars b) n = b.number ≡ n
+Barring _ n = ⊥
 
 pub record CallbacksKept {P : Type 0} (os : List ObjectState) (qs : List QueueState) (updaters : List (UpdaterState P)) (workers : List (WorkerState P)) (barriers logged : ℕ)
     (sections : List SectionId) (retired queued reclaimed : List ObjectId) (awaited : ObjectId → List SectionId) (asked : List ℕ) (asked_sections : ℕ → List SectionId) (noted cleared : List ℕ) (noted_objects : ℕ → List ObjectId) : Type 0 where
@@ -154,19 +123,18 @@ Callbacks w now =
     now.sections now.retired now.queued now.reclaimed now.awaited now.asked now.asked_sections now.noted now.cleared now.noted_objects
 
 -- one of a list is set, and what holds of each still holds
-pub at_updaters : {P : Type 0} (F : ℕ → UpdaterState P → Type 0) (updaters : List (UpdaterState P)) (u : ℕ) (x : UpdaterState P) → u < length updaters → F u x → ((v : ℕ) → v ≢ u → F v (updater_at updaters v)) → (v : ℕ) → F v (updater_at (slice_set updaters u x) v)
-at_updaters {P} F updaters u x inside mine others v = by (decide_number v u)
+at_each : {X : Type 0} (d : X) (F : ℕ → X → Type 0) (xs : List X) (u : ℕ) (x : X) → u < length xs → F u x → ((v : ℕ) → v ≢ u → F v (get_or xs v d)) → (v : ℕ) → F v (get_or (slice_set xs u x) v d)
+at_each d F xs u x inside mine others v = by (decide_number v u)
   where
-    by : (v ≡ u) ⊎ (v ≢ u) → F v (updater_at (slice_set updaters u x) v)
-    by (inl e) = subst (λ n. F n (updater_at (slice_set updaters u x) n)) (sym e) (subst (F u) (sym (get_or-set_same updaters u x idle inside)) mine)
-    by (inr n) = subst (F v) (sym (get_or-set_other updaters u v x idle n)) (others v n)
+    by : (v ≡ u) ⊎ (v ≢ u) → F v (get_or (slice_set xs u x) v d)
+    by (inl e) = subst (λ n. F n (get_or (slice_set xs u x) n d)) (sym e) (subst (F u) (sym (get_or-set_same xs u x d inside)) mine)
+    by (inr n) = subst (F v) (sym (get_or-set_other xs u v x d n)) (others v n)
+
+pub at_updaters : {P : Type 0} (F : ℕ → UpdaterState P → Type 0) (updaters : List (UpdaterState P)) (u : ℕ) (x : UpdaterState P) → u < length updaters → F u x → ((v : ℕ) → v ≢ u → F v (updater_at updaters v)) → (v : ℕ) → F v (updater_at (slice_set updaters u x) v)
+at_updaters = at_each idle
 
 pub at_workers : {P : Type 0} (F : ℕ → WorkerState P → Type 0) (workers : List (WorkerState P)) (u : ℕ) (x : WorkerState P) → u < length workers → F u x → ((v : ℕ) → v ≢ u → F v (worker_at workers v)) → (v : ℕ) → F v (worker_at (slice_set workers u x) v)
-at_workers {P} F workers u x inside mine others v = by (decide_number v u)
-  where
-    by : (v ≡ u) ⊎ (v ≢ u) → F v (worker_at (slice_set workers u x) v)
-    by (inl e) = subst (λ n. F n (worker_at (slice_set workers u x) n)) (sym e) (subst (F u) (sym (get_or-set_same workers u x new_worker inside)) mine)
-    by (inr n) = subst (F v) (sym (get_or-set_other workers u v x new_worker n)) (others v n)
+at_workers = at_each new_worker
 
 pub at_queues : (F : ℕ → QueueState → Type 0) (f : QueueState → QueueState) (qs : List QueueState) (j : ℕ) → j < length qs → F j (f (queue_at qs j)) → ((i : ℕ) → i ≢ j → F i (queue_at qs i)) → (i : ℕ) → F i (queue_at (changed_at f qs j (slice_get qs j)) i)
 at_queues F f qs j inside mine others i = by (decide_number i j)
@@ -200,12 +168,10 @@ module _ (asked asked' : List ℕ) (awaited awaited' : ObjectId → List Section
   batch_kept ready waiting noted ask tickets core.Done covers b = absurd b
 
   work_kept : {P : Type 0} (ready waiting : Items) (noted : Option ℕ) (gone finished ask : ℕ) (place : WorkerCore P Unit) → Covers waiting → WorkKept ready waiting noted gone finished asked awaited asked_sections ask place → WorkKept ready waiting noted gone finished asked' awaited' asked_sections' ask place
-  work_kept ready waiting noted gone finished ask worker.Idle covers b = b
   work_kept ready waiting noted gone finished ask (worker.Syncs place tickets) covers b = (batch_kept ready waiting noted ask tickets.left place covers b.0, b.1, b.2)
-  work_kept ready waiting noted gone finished ask (worker.Pops tickets) covers b = b
   work_kept ready waiting noted gone finished ask (worker.Runs tickets ticket item) covers b = absurd b
-  work_kept ready waiting noted gone finished ask (worker.Ran tickets ticket item) covers b = b
   work_kept ready waiting noted gone finished ask (worker.Counts tickets ticket) covers b = absurd b
+  work_kept ready waiting noted gone finished ask _ covers b = b
 
   pub work_at : {P : Type 0} (q : QueueState) (x : WorkerState P) → Covers q.items.waiting → WorkAt q asked awaited asked_sections x → WorkAt q asked' awaited' asked_sections' x
   work_at q x covers b = work_kept q.items.ready q.items.waiting q.items.cookie q.items.gone q.finished x.ask x.core covers b
@@ -222,21 +188,12 @@ queue_kept q logged logged' awaited awaited' longer frees k = record {
 
 -- events of readers, of those who publish and of those who ask
 abbrev pub IsOther : Event → Type 0
-IsOther (Open s) = Unit {0}
-IsOther (Close s) = Unit {0}
-IsOther (First s c found) = Unit {0}
-IsOther (Next s o found) = Unit {0}
-IsOther (Touch s o) = Unit {0}
-IsOther (Push c o) = Unit {0}
-IsOther (Replace c old new) = Unit {0}
-IsOther (Cut c o) = Unit {0}
 IsOther (Retire o) = ⊥
 IsOther (Queue o q) = ⊥
 IsOther (Run o) = ⊥
-IsOther (Ask a) = Unit {0}
-IsOther (Answer a) = Unit {0}
 IsOther (Bar b) = ⊥
 IsOther (Clear b) = ⊥
+IsOther _ = Unit {0}
 
 module _ {P : Type 0} (w : BoardView P) (now : State) (k : Callbacks w now) where
   over_sections : (sections' : List SectionId) (awaited' : ObjectId → List SectionId) (asked' : List ℕ) (asked_sections' : ℕ → List SectionId) →
@@ -266,19 +223,15 @@ module _ {P : Type 0} (w : BoardView P) (now : State) (k : Callbacks w now) wher
       (λ o t h. let had = without_section_has s (now.awaited o) t h in has_without_section s now.sections t (k.awaits_open o t had.0) had.1)
       (λ o e. ap (without_section s) e) (λ a h. h)
       (λ o a h c t g. let had = without_section_has s (now.awaited o) t g in has_without_section s (now.asked_sections a) t (c t had.0) had.1)
-  over_event (First s c None) is allowed = k
-  over_event (First s c (Some o)) is allowed = k
-  over_event (Next s o None) is allowed = k
-  over_event (Next s o (Some p)) is allowed = k
-  over_event (Touch s o) is allowed = k
-  over_event (Push c o) is allowed = k
-  over_event (Replace c old new) is allowed = k
-  over_event (Cut c o) is allowed = k
   over_event (Retire o) is allowed = absurd is
   over_event (Queue o q) is allowed = absurd is
   over_event (Run o) is allowed = absurd is
   over_event (Ask a) is allowed = over_sections now.sections now.awaited (a ∷ now.asked) (at_number a now.sections now.asked_sections) k.awaits_open (λ o e. e) (λ b h. inr h)
       (λ o b h c t g. subst (λ (l : List SectionId). In l t) (sym (at_number_other a b now.sections now.asked_sections (λ e. allowed (has_number_in now.asked a (subst (In now.asked) e h))))) (c t g))
-  over_event (Answer a) is allowed = k
   over_event (Bar b) is allowed = absurd is
   over_event (Clear b) is allowed = absurd is
+  over_event (First s c None) is allowed = k
+  over_event (First s c (Some o)) is allowed = k
+  over_event (Next s o None) is allowed = k
+  over_event (Next s o (Some p)) is allowed = k
+  over_event _ is allowed = k

@@ -1,46 +1,20 @@
 -- The numbers of a log are at most twice the number of lines.
-use Rattle.std.proofs.Common.{◌≡◌, ◌⊎◌, inl, inr, ℕ, ◌+◌, ◌*◌, ◌%◌, ◌^◌, ◌<◌, ◌≤◌, nat_le, leb, ◌&&◌, Bool, true, false, List, [], ◌∷◌, ◌++◌, length, Option, Some, None, Result, Ok, Err, refl, sym, ap, ◌∙◌, subst, arith, length-append, true≢false}
-use Rattle.std.specs.Prelude.{All}
+use Rattle.world.proofs.Cited.{◌≡◌, inl, ℕ, ◌+◌, ◌*◌, ◌%◌, ◌^◌, ◌<◌, ◌≤◌, true, List, [], ◌∷◌, ◌++◌, length, Option, Some, None, Result, Ok, refl, sym, ap, ◌∙◌, subst, arith, length-append, All, length-replicate, All-from_recursion, Event, Open, Close, First, Next, Touch, Push, Replace, Cut, Retire, Queue, Run, Ask, Clear, ObjectId, SectionId, Refusal, State, start, IsAllowed, AreAllowed, after, after_all, In, in_objects, after_append, at_number_same, Layout, Config, Answer, Events, Line, Change, Read, Begin, Publish, Grace, Work, Mark, ObjectState, is_within_limits, marked_life, Plans, BoardView, told, fresh_at, within, length_heads, spliced_length, length_written}
 use Rattle.std.specs.List.{AllByRecursion as Every}
-use Rattle.std.proofs.lemmas.List.{length-replicate}
-use Rattle.std.proofs.lemmas.List.Elements.{All-from_recursion}
-use Rattle.std.proofs.lemmas.Bool.Decides.{leb_tells}
-use Rattle.rcu_model.specs.declared.event.Event.{Event}
-use Rattle.rcu_model.specs.declared.event.Event.TheVariants.{Open, Close, First, Next, Touch, Push, Replace, Cut, Retire, Queue, Run, Ask, Answer as EventAnswer, Bar, Clear}
-use Rattle.rcu_model.specs.declared.event.ObjectId.{ObjectId}
-use Rattle.rcu_model.specs.declared.event.SectionId.{SectionId}
-use Rattle.rcu_model.specs.declared.refusal.Refusal.{Refusal}
-use Rattle.rcu_model.specs.Machine.{State, start, IsAllowed, AreAllowed, after, after_all}
-use Rattle.rcu_model.proofs.Lemmas.{In, in_objects, after_append, at_number_same}
-use Rattle.reader_word.specs.declared.layout.Layout.{Layout}
-use Rattle.world_state.specs.declared.config.Config.{Config}
-use Rattle.world_state.specs.declared.line.Answer.{Answer}
-use Rattle.world_state.specs.declared.line.Answer.TheVariants.{Events, Quiet, Wait, Blocked, Idle as NothingThere}
-use Rattle.world_state.specs.declared.line.Line.{Line}
-use Rattle.world_state.specs.declared.change.Change.{Change}
-use Rattle.world_state.specs.declared.change.Change.TheVariants.{Read, Begin, Publish, Grace, Hold, Retire as Retiring, Bar as Barring, Work, Stay}
-use Rattle.world_state.specs.declared.object.Mark.{Mark}
-use Rattle.world_state.specs.declared.object.ObjectState.{ObjectState}
-use Rattle.world_state.specs.Limits.{is_in, is_within_limits}
-use Rattle.world_state.specs.Objects.{marked_life}
-use Rattle.world_state.specs.View.{Plans, BoardView, told, fresh_at}
-use Rattle.world_state.proofs.Lemmas.{within, length_heads, spliced_length, length_written}
+use Rattle.rcu_model.specs.declared.event.Event.TheVariants.{Answer as EventAnswer, Bar}
+use Rattle.world_state.specs.declared.change.Change.TheVariants.{Retire as Retiring, Bar as Barring}
 use Rattle.world.specs.Lines.{change_of, with_change, outcome_of, world_after}
 use Rattle.world.specs.Numbering.{IsFoundWithin, IsNumberedWithin}
 use Rattle.world.proofs.Fence.{Laws}
 use Rattle.world.proofs.State.{Kept}
-use Rattle.world.proofs.Logged.{Logged, logged_step, logged_fresh, some_reader, few_workers}
-use Rattle.world.proofs.Sweeping.{Each}
+use Rattle.world.proofs.Logged.{Logged, logged_step, within_limits, at_first}
+use Rattle.world.proofs.Rows.{IsPublishing, Each, by_law}
 use Rattle.world.proofs.Naming.{every_append, FoundIn, Knows, knows_log}
-use Rattle.world.proofs.Placing.{IsPlaced, IsPublishing, Places, places_line}
+use Rattle.world.proofs.Placing.{IsPlaced, Places, places}
 
 told_few : (a : Answer) → length (told a) ≤ 2
 told_few (Events first None) = omega arith
-told_few (Events first (Some second)) = omega arith
-told_few Quiet = omega arith
-told_few Wait = omega arith
-told_few Blocked = omega arith
-told_few NothingThere = omega arith
+told_few _ = omega arith
 
 log_low : (log : List Event) (a : Answer) (n : ℕ) → length log ≤ 2 * n → length (log ++ told a) ≤ 2 * (n + 1)
 log_low log a n low = let few = told_few a in let long = length-append log (told a) in omega (arith, low, few, long)
@@ -58,7 +32,7 @@ allowed_after now [] fs a = a
 allowed_after now (e ∷ es) fs a = allowed_after (after now e) es fs a.1
 
 module _ {P : Type 0} (plans : Plans P) (layout : Layout) (slots : ℕ) (laws : Laws plans layout slots) where
-  -- after so many lines
+  -- after this many lines
   pub record Counted (w : BoardView P) (n : ℕ) : Type 0 where
     pub logged : Logged plans layout slots laws w
     pub few_chains : length w.heads ≤ 64
@@ -86,27 +60,15 @@ module _ {P : Type 0} (plans : Plans P) (layout : Layout) (slots : ℕ) (laws : 
           let there : c < length w'.heads = (l'.kept.links_kept.linked c o has).2 in omega (arith, there, few')
       by (Replace c old new) same h = linked c old (in_objects (now.chain c) old (allowed (Replace c old new) same).0)
       by (Cut c o) same h = linked c o (in_objects (now.chain c) o (allowed (Cut c o) same))
-      by (Open s) same h = absurd h
-      by (Close s) same h = absurd h
-      by (First s c found) same h = absurd h
-      by (Next s o found) same h = absurd h
-      by (Touch s o) same h = absurd h
-      by (Retire o) same h = absurd h
-      by (Queue o q) same h = absurd h
-      by (Run o) same h = absurd h
-      by (Ask a) same h = absurd h
-      by (EventAnswer a) same h = absurd h
-      by (Bar b) same h = absurd h
-      by (Clear b) same h = absurd h
+      by _ same h = absurd h
 
   counted_step : slots ≤ 64 → (w : BoardView P) (n : ℕ) (line : Line) → Counted w n → Counted ((outcome_of plans w line).world) (n + 1)
   counted_step most w n line c = by (change_of plans w line) placed (logged_step plans layout slots laws w line c.logged)
     where
-      placed : Each Places (change_of plans w line)
-      placed = places_line plans w (let same = c.logged.kept.sized in omega (arith, same, most)) c.few_chains c.logged.callbacks.some c.logged.callbacks.few line
+      placed : Each plans w (λ l. Places) line (change_of plans w line)
+      placed = by_law plans w (λ l. Places) (places plans w (let same = c.logged.kept.sized in omega (arith, same, most)) c.few_chains c.logged.callbacks.some c.logged.callbacks.few) line
 
-      by : (x : Result (Change P) Refusal) → Each Places x → Logged plans layout slots laws ((with_change w x).world) → Counted ((with_change w x).world) (n + 1)
-      by (Err e) p l = record { logged = l; few_chains = c.few_chains; log = let low = c.log in omega (arith, low); objects = objects_low w.objects w.objects n refl c.objects; placed = c.placed }
+      by : (x : Result (Change P) Refusal) → Each plans w (λ l. Places) line x → Logged plans layout slots laws ((with_change w x).world) → Counted ((with_change w x).world) (n + 1)
       by (Ok (Read r step)) p l =
           record { logged = l; few_chains = c.few_chains; log = log_low w.log step.answer n c.log; objects = objects_low w.objects w.objects n refl c.objects; placed = every_append IsPlaced w.log (told step.answer) c.placed p }
       by (Ok (Begin u x y)) p l = record {
@@ -129,7 +91,6 @@ module _ {P : Type 0} (plans : Plans P) (layout : Layout) (slots : ℕ) (laws : 
           }
       by (Ok (Grace u x grace answer)) p l =
           record { logged = l; few_chains = c.few_chains; log = log_low w.log answer n c.log; objects = objects_low w.objects w.objects n refl c.objects; placed = every_append IsPlaced w.log (told answer) c.placed p }
-      by (Ok (Hold u x q)) p l = record { logged = l; few_chains = c.few_chains; log = let low = c.log in omega (arith, low); objects = objects_low w.objects w.objects n refl c.objects; placed = c.placed }
       by (Ok (Retiring u x q act mark answer)) p l = record {
         logged = l;
         few_chains = c.few_chains;
@@ -146,7 +107,7 @@ module _ {P : Type 0} (plans : Plans P) (layout : Layout) (slots : ℕ) (laws : 
         objects = objects_low w.objects _ n (marked_length w.objects mark) c.objects;
         placed = every_append IsPlaced w.log (told answer) c.placed p;
       }
-      by (Ok (Stay answer)) p l = record { logged = l; few_chains = c.few_chains; log = let low = c.log in omega (arith, low); objects = objects_low w.objects w.objects n refl c.objects; placed = c.placed }
+      by _ p l = record { logged = l; few_chains = c.few_chains; log = let low = c.log in omega (arith, low); objects = objects_low w.objects w.objects n refl c.objects; placed = c.placed }
 
   counted_lines : slots ≤ 64 → (w : BoardView P) (n : ℕ) (lines : List Line) → Counted w n → Counted (world_after plans w lines) (n + length lines)
   counted_lines most w n [] c = subst (Counted w) (omega arith) c
@@ -203,38 +164,20 @@ module _ {P : Type 0} (plans : Plans P) (layout : Layout) (slots : ℕ) (laws : 
     pub log_numbered : All (IsNumberedWithin (2 * n)) w.log
     log_numbered = All-from_recursion (IsNumberedWithin (2 * n)) w.log (all_numbered w.log c.placed (knows_log w.log c.logged.run))
 
--- the limits of a config
-both : (a b : Bool) → (a && b) ≡ true → (a ≡ true) × (b ≡ true)
-both true b e = (refl, e)
-both false b e = absurd (true≢false (sym e))
-
-at_most : (low high n : ℕ) → is_in low high n ≡ true → n ≤ high
-at_most low high n e = by (leb_tells n high) (both (nat_le low n) (nat_le n high) e).1
-  where
-    by : ((leb n high ≡ true) × (n ≤ high)) ⊎ ((leb n high ≡ false) × (high < n)) → nat_le n high ≡ true → n ≤ high
-    by (inl y) f = y.1
-    by (inr m) f = absurd (true≢false (sym f ∙ m.0))
-
-few_readers : (config : Config) → is_within_limits config ≡ true → config.readers ≤ 64
-few_readers config e = at_most 1 64 config.readers (both (is_in 1 64 config.readers) (is_in 1 16 config.updaters) (both _ (is_in 1 8 config.workers) (both _ (is_in 1 64 config.chains) e).0).0).0
-
-few_chains_of : (config : Config) → is_within_limits config ≡ true → config.chains ≤ 64
-few_chains_of config e = at_most 1 64 config.chains (both _ (is_in 1 64 config.chains) e).1
-
 module _ {P : Type 0} (plans : Plans P) (laws : (layout : Layout) (slots : ℕ) → Laws plans layout slots) where
   pub numbers : (config : Config) (seq : ℕ) (lines : List Line) → is_within_limits config ≡ true → seq % 2 ≡ 0 → seq ≤ 2 ^ 62 → All (IsNumberedWithin (2 * length lines)) (world_after plans (fresh_at config seq) lines).log
   numbers config seq lines limits even low =
       subst (λ n. All (IsNumberedWithin (2 * n)) (world_after plans (fresh_at config seq) lines).log) (omega arith)
       (log_numbered plans config.layout config.readers mine (world_after plans (fresh_at config seq) lines) (0 + length lines)
-      (counted_lines plans config.layout config.readers mine (few_readers config limits) (fresh_at config seq) 0 lines fresh))
+      (counted_lines plans config.layout config.readers mine (within_limits config limits).readers.1 (fresh_at config seq) 0 lines fresh))
     where
       mine : Laws plans config.layout config.readers
       mine = laws config.layout config.readers
 
       fresh : Counted plans config.layout config.readers mine (fresh_at config seq) 0
       fresh = record {
-        logged = logged_fresh plans config.layout config.readers mine config seq refl refl (some_reader config limits) (few_workers config limits).0 (few_workers config limits).1 even low;
-        few_chains = let long = length-replicate {A = Option ObjectId} config.chains None in let few = few_chains_of config limits in omega (arith, long, few);
+        logged = at_first plans laws config seq limits even low;
+        few_chains = let long = length-replicate {A = Option ObjectId} config.chains None in let few = (within_limits config limits).chains in omega (arith, long, few);
         log = omega arith;
         objects = omega arith;
         placed = tt;

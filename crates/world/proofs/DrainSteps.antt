@@ -1,54 +1,21 @@
 -- A drain's steps: where a worker stands alone, its next line is made, and leads to where it stands with one step less.
-use Rattle.std.proofs.Common.{◌≡◌, ◌≢◌, ◌⊎◌, inl, inr, ℕ, zero, suc, ◌+◌, ◌*◌, ◌%◌, ◌^◌, ◌<◌, ◌≤◌, ltb, leb, cond, Bool, true, false, ◌==◌, not, ◌&&◌, ◌||◌, List, [], ◌∷◌, ◌++◌, length, slice_get, slice_set, Option, Some, None, Result, Ok, Err, refl, sym, ap, ◌∙◌, subst, arith, true≢false}
-use Rattle.std.proofs.lemmas.Bool.Decides.{leb_tells, Decides-ltb}
+use Rattle.world.proofs.Cited.{◌≡◌, ◌≢◌, ℕ, zero, suc, ◌+◌, ◌*◌, ◌%◌, ◌^◌, ◌<◌, ◌≤◌, ltb, cond, Bool, true, false, ◌==◌, not, ◌&&◌, List, [], ◌∷◌, ◌++◌, length, slice_get, slice_set, Option, Some, None, Result, Ok, Err, refl, sym, ap, ◌∙◌, subst, arith, or_parts, le-leb, lt-leb, lt-ltb, Refusal, Exhausted, Layout, Narrow, Wide, announced, phase_in, is_open_of, differ, Item, Ticket, after_advance, is_due, object_with, without_first, Action, Load, StoreSeq, Finished, Turn, after_loads, StoresInOrder, FinishesAfter, each_turn, turn_at, turn_count, steps, went_on, after_snoc, even_below, SyncCore, Tickets, WorkerCore, rest_of, told_of, turned, asked_with, is_finished, Change, Work, Answer, Events, Quiet, Worker, Mark, QueueAct, QueueState, ReaderState, GraceState, Holder, WorkerState, acted, changed_at, is_open_in, Plans, BoardView, changed, told}
 use Rattle.rcu_model.specs.declared.event.Event.TheVariants as events
-use Rattle.rcu_model.specs.declared.refusal.Refusal.{Refusal}
-use Rattle.rcu_model.specs.declared.refusal.Refusal.TheVariants.{Exhausted}
-use Rattle.reader_word.specs.declared.layout.Layout.{Layout}
-use Rattle.reader_word.specs.declared.layout.Layout.TheVariants.{Narrow, Wide}
-use Rattle.reader_word.specs.Quiescent.{announced}
-use Rattle.reader_word.specs.Word.{phase_in, is_open_of, differ}
-use Rattle.callback_queue.specs.declared.item.Item.{Item}
-use Rattle.callback_queue.specs.declared.item.Ticket.{Ticket}
-use Rattle.callback_queue.specs.Queue.{Queue, after_advance, is_due, object_with, without_first}
-use Rattle.gp_memb.specs.declared.plan.Action.{Action}
-use Rattle.gp_memb.specs.declared.plan.Action.TheVariants.{Load, LoadGroup, StorePhase, StoreSeq, Finished}
-use Rattle.gp_memb.specs.declared.plan.Turn.{Turn}
+use Rattle.callback_queue.specs.Queue.{Queue}
 use Rattle.gp_memb.specs.declared.plan.Turn.TheVariants as turns
-use Rattle.gp_memb.specs.Plan.{after_loads, StoresInOrder, FinishesAfter, each_turn, turn_at, turn_count, steps, went_on}
-use Rattle.gp_memb.specs.lemmas.History.{after_snoc}
-use Rattle.poll_cookie.specs.Cookie.{even_below}
-use Rattle.call_rcu_worker.specs.declared.sync.SyncCore.{SyncCore}
 use Rattle.call_rcu_worker.specs.declared.sync.SyncCore.TheVariants as core
 use Rattle.call_rcu_worker.specs.declared.sync.Told.TheVariants as what
-use Rattle.call_rcu_worker.specs.declared.worker.Tickets.{Tickets}
-use Rattle.call_rcu_worker.specs.declared.worker.WorkerCore.{WorkerCore}
 use Rattle.call_rcu_worker.specs.declared.worker.WorkerCore.TheVariants as worker
-use Rattle.call_rcu_worker.specs.Worker.{rest_of}
-use Rattle.call_rcu_worker.specs.Sync.{telling, told_of, turned, asked_with, is_finished}
-use Rattle.world_state.specs.declared.change.Change.{Change}
-use Rattle.world_state.specs.declared.change.Change.TheVariants.{Work}
-use Rattle.world_state.specs.declared.line.Answer.{Answer}
-use Rattle.world_state.specs.declared.line.Answer.TheVariants.{Events, Quiet}
-use Rattle.world_state.specs.declared.line.Line.TheVariants.{Worker}
+use Rattle.call_rcu_worker.specs.Sync.{telling}
 use Rattle.world_state.specs.declared.line.WorkerVerb.TheVariants as verb
 use Rattle.world_state.specs.declared.object.Life.TheVariants as life
-use Rattle.world_state.specs.declared.object.Mark.{Mark}
-use Rattle.world_state.specs.declared.queue.QueueAct.{QueueAct}
 use Rattle.world_state.specs.declared.queue.QueueAct.TheVariants as act
-use Rattle.world_state.specs.declared.queue.QueueState.{QueueState}
-use Rattle.world_state.specs.declared.reader.ReaderState.{ReaderState}
-use Rattle.world_state.specs.declared.updater.GraceState.{GraceState}
-use Rattle.world_state.specs.declared.updater.Holder.{Holder}
 use Rattle.world_state.specs.declared.updater.Holder.TheVariants as holder
-use Rattle.world_state.specs.declared.worker.WorkerState.{WorkerState}
-use Rattle.world_state.specs.Queues.{acted, changed_at}
-use Rattle.world_state.specs.Readers.{is_open_in}
-use Rattle.world_state.specs.View.{Plans, BoardView, changed, told}
 use Rattle.world.specs.Grace.{stepped, loaded_word, action_effect, lock_effect, done_with, plan_now, planned}
-use Rattle.world.specs.Lines.{change_of, of_worker}
+use Rattle.world.specs.Lines.{operation_test, change_of, of_worker}
+use Rattle.world.specs.Row.{after, made}
 use Rattle.world.specs.Steps.{IsPrompt}
-use Rattle.world.specs.Workers.{worked, worker_on, run_row, first_in}
+use Rattle.world.specs.Workers.{worked, worker_on, run_row, first_in, is_resting}
 use Rattle.world.specs.Drain.{some_open}
 
 abbrev pub Items : Type 0
@@ -63,14 +30,6 @@ pub record Sound {P : Type 0} (plans : Plans P) (layout : Layout) (slots seq : �
 abbrev pub AreSound : {P : Type 0} → Plans P → Type 0
 AreSound plans = (layout : Layout) (slots seq word : ℕ) → Sound plans layout slots seq (plans.made layout slots seq word)
 
-or_left : (a b : Bool) → (a || b) ≡ false → a ≡ false
-or_left true b e = e
-or_left false b e = refl
-
-or_right : (a b : Bool) → (a || b) ≡ false → b ≡ false
-or_right true b e = absurd (true≢false e)
-or_right false b e = e
-
 none_open : (qsbr : Bool) (layout : Layout) → is_open_in qsbr layout 0 ≡ false
 none_open true layout = refl
 none_open false Narrow = refl
@@ -79,8 +38,8 @@ none_open false Wide = refl
 -- where nobody is in a section, every loaded word says so
 pub closed_at : (qsbr : Bool) (layout : Layout) (vs : List ReaderState) (slot : ℕ) → some_open qsbr layout vs ≡ false → is_open_in qsbr layout (loaded_word (slice_get vs slot)) ≡ false
 closed_at qsbr layout [] slot e = none_open qsbr layout
-closed_at qsbr layout (v ∷ vs) zero e = or_left (is_open_in qsbr layout v.word) _ e
-closed_at qsbr layout (v ∷ vs) (suc slot) e = closed_at qsbr layout vs slot (or_right (is_open_in qsbr layout v.word) _ e)
+closed_at qsbr layout (v ∷ vs) zero e = (or_parts (is_open_in qsbr layout v.word) _ e).0
+closed_at qsbr layout (v ∷ vs) (suc slot) e = closed_at qsbr layout vs slot (or_parts (is_open_in qsbr layout v.word) _ e).1
 
 pub set_there : {X : Type 0} (xs : List X) (k : ℕ) (x y : X) → slice_get xs k ≡ Some x → slice_get (slice_set xs k y) k ≡ Some y
 set_there [] zero x y e = absurd (cc)
@@ -89,7 +48,7 @@ set_there (z ∷ zs) zero x y e = refl
 set_there (z ∷ zs) (suc k) x y e = set_there zs k x y e
 
 -- turns with one more load
-steps_snoc : {P : Type 0} (action : P → Action) (turn : P → ℕ → Turn) (taken : P → ℕ → P) (p : P) (xs : List ℕ) (x : ℕ) → turn (after_loads taken p xs) x ≡ turns.Step →
+pub steps_snoc : {P : Type 0} (action : P → Action) (turn : P → ℕ → Turn) (taken : P → ℕ → P) (p : P) (xs : List ℕ) (x : ℕ) → turn (after_loads taken p xs) x ≡ turns.Step →
     steps action turn taken each_turn p (xs ++ x ∷ []) ≡ steps action turn taken each_turn p xs + 1
 steps_snoc action turn taken p [] x e = rw e refl
 steps_snoc action turn taken p (y ∷ ys) x e = ap (λ n. went_on (turn p y) + n) (steps_snoc action turn taken (taken p y) ys x e) ∙ omega arith
@@ -98,10 +57,7 @@ steps_snoc action turn taken p (y ∷ ys) x e = ap (λ n. went_on (turn p y) + n
 closed_step : (qsbr : Bool) (mine layout : Layout) (present word : ℕ) (a : Action) → (qsbr ≡ false → mine ≡ layout) → is_open_in qsbr layout word ≡ false → turn_at qsbr mine present a word ≡ turns.Step
 closed_step false mine layout present word (Load slot) same closed = ap (λ (b : Bool). cond (b && differ (phase_in mine word) (present == 1)) turns.Wait turns.Step) (ap (λ (l : Layout). is_open_of l word) (same refl) ∙ closed)
 closed_step true mine layout present word (Load slot) same closed = ap (λ (b : Bool). cond (b && not (word == announced present)) turns.Wait turns.Step) closed
-closed_step qsbr mine layout present word (LoadGroup group) same closed = refl
-closed_step qsbr mine layout present word (StorePhase value) same closed = refl
-closed_step qsbr mine layout present word (StoreSeq value) same closed = refl
-closed_step qsbr mine layout present word Finished same closed = refl
+closed_step qsbr mine layout present word _ same closed = refl
 
 -- so a plan does whose turns wait exactly where the law says it, and which keeps its layout
 pub sound_goes_on : {P : Type 0} (qsbr : Bool) (action : P → Action) (turn : P → ℕ → Turn) (taken : P → ℕ → P) (layout_of : P → Layout) (present : P → ℕ) →
@@ -124,7 +80,7 @@ pub record Noted (i : Queue (Item Unit)) (tickets cookie seq : ℕ) : Type 0 whe
   pub noted : i.cookie ≡ Some cookie
   pub reached : cookie ≡ seq + 2
 
--- so many steps and events are left of a drain
+-- this many steps and events are left of a drain
 pub record Left (left steps told events : ℕ) : Type 0 where
   pub steps_left : left ≡ steps
   pub events_left : told ≡ events
@@ -133,7 +89,7 @@ module _ {P : Type 0} (plans : Plans P) (layout : Layout) (slots : ℕ) where
   abbrev count : ℕ
   count = turn_count plans.qsbr slots
 
-  -- a plan with so many turns left
+  -- a plan with this many turns left
   pub record Turns (p : P) (seq rest : ℕ) : Type 0 where
     pub from : P
     pub sound : Sound plans layout slots seq from
@@ -168,7 +124,7 @@ module _ {P : Type 0} (plans : Plans P) (layout : Layout) (slots : ℕ) where
     pub is : slice_get w.workers k ≡ Some x
     pub has : slice_get w.queues k ≡ Some q
 
-  -- so many steps and events are left of a drain
+  -- this many steps and events are left of a drain
   pub record Drain (w : BoardView P) (k left told : ℕ) : Type 0 where
     pub x : WorkerState P
     pub q : QueueState
@@ -193,18 +149,11 @@ module _ {P : Type 0} (plans : Plans P) (layout : Layout) (slots : ℕ) where
   some_turns false n = omega arith
 
   unfinished : (a : Action) → a ≢ Finished → is_finished a ≡ false
-  unfinished (Load slot) n = refl
-  unfinished (LoadGroup group) n = refl
-  unfinished (StorePhase value) n = refl
-  unfinished (StoreSeq value) n = refl
   unfinished Finished n = absurd (n refl)
+  unfinished _ n = refl
 
   advanced : (i : Queue (Item Unit)) (c n : ℕ) → i.cookie ≡ Some c → c ≤ n → after_advance i n ≡ record i { ready = i.ready ++ i.waiting; waiting = []; cookie = None }
-  advanced i c n is le = ap (λ (b : Bool). cond b (record i { ready = i.ready ++ i.waiting; waiting = []; cookie = None }) i) (ap (λ (o : Option ℕ). is_due o n) is ∙ reached (leb_tells c n))
-    where
-      reached : ((leb c n ≡ true) × (c ≤ n)) ⊎ ((leb c n ≡ false) × (n < c)) → leb c n ≡ true
-      reached (inl y) = y.0
-      reached (inr m) = let gt = m.1 in absurd (omega (arith, gt, le))
+  advanced i c n is le = ap (λ (b : Bool). cond b (record i { ready = i.ready ++ i.waiting; waiting = []; cookie = None }) i) (ap (λ (o : Option ℕ). is_due o n) is ∙ le-leb c n le)
 
   module _ (sound : AreSound plans) (w : BoardView P) (k : ℕ) (laid : w.layout ≡ layout) (sized : length w.readers ≡ slots) (some_slot : 1 ≤ slots) (closed : some_open plans.qsbr layout w.readers ≡ false)
       (x : WorkerState P) (q : QueueState) (has : slice_get w.queues k ≡ Some q) (left told_before : ℕ) where
@@ -213,12 +162,9 @@ module _ {P : Type 0} (plans : Plans P) (layout : Layout) (slots : ℕ) where
 
     loaded_closed : (a : Action) → is_open_in plans.qsbr layout (action_effect w a).loaded ≡ false
     loaded_closed (Load slot) = closed_at plans.qsbr layout w.readers slot closed
-    loaded_closed (LoadGroup group) = none_open plans.qsbr layout
-    loaded_closed (StorePhase value) = none_open plans.qsbr layout
-    loaded_closed (StoreSeq value) = none_open plans.qsbr layout
-    loaded_closed Finished = none_open plans.qsbr layout
+    loaded_closed _ = none_open plans.qsbr layout
 
-    asks : (t : Tickets) → Syncing w.grace q.items t.left (suc left) told_before core.Asks → Made (worker_on plans w k x (worker.Syncs core.Asks t))
+    asks : (t : Tickets) → Syncing w.grace q.items t.left (suc left) told_before core.Asks → Made (made (worker_on plans w k x (worker.Syncs core.Asks t)))
     asks t s =
         let b = s.0 in
         let even = s.2 in
@@ -232,8 +178,8 @@ module _ {P : Type 0} (plans : Plans P) (layout : Layout) (slots : ℕ) where
           mark = None;
           answer = Events (events.Ask (w.grace.asks + 1)) None;
           makes = ap
-              (λ (r : Result ℕ Refusal). worked k (w.grace.asks + 1) t (stepped (record w.grace { asks = w.grace.asks + 1 }) (w.grace.asks + 1) (asked_with r)))
-              (ap (λ (b : Bool). cond b (Ok (even_below (w.grace.seq + 3))) (Err Exhausted)) ((Decides-ltb w.grace.seq (2 ^ 62)).1 s.3));
+              (λ (r : Result ℕ Refusal). made (worked k (w.grace.asks + 1) t (stepped (record w.grace { asks = w.grace.asks + 1 }) (w.grace.asks + 1) (asked_with r))))
+              (ap (λ (b : Bool). cond b (Ok (even_below (w.grace.seq + 3))) (Err Exhausted)) (lt-ltb w.grace.seq (2 ^ 62) s.3));
           prompt = tt;
           later = t.left + 1;
           tells = omega (arith, events_left);
@@ -248,7 +194,7 @@ module _ {P : Type 0} (plans : Plans P) (layout : Layout) (slots : ℕ) where
           );
         }
 
-    waits : (c : ℕ) (t : Tickets) → Syncing w.grace q.items t.left (suc left) told_before (core.Waits c) → Made (worker_on plans w k x (worker.Syncs (core.Waits c) t))
+    waits : (c : ℕ) (t : Tickets) → Syncing w.grace q.items t.left (suc left) told_before (core.Waits c) → Made (made (worker_on plans w k x (worker.Syncs (core.Waits c) t)))
     waits c t s =
         let l = s.2 in
         let steps_left = l.steps_left in
@@ -258,14 +204,14 @@ module _ {P : Type 0} (plans : Plans P) (layout : Layout) (slots : ℕ) where
           done = act.Leave;
           mark = None;
           answer = Quiet;
-          makes = ap (λ (h : Option Holder). worked k x.ask t (done_with plans w x.ask (core.Waits c) (lock_effect w (holder.Worker k) h))) s.1;
+          makes = ap (λ (h : Option Holder). made (worked k x.ask t (done_with plans w x.ask (core.Waits c) (lock_effect w (holder.Worker k) h)))) s.1;
           prompt = tt;
           later = told_before;
           tells = omega arith;
           stands = (s.0, record { steps_left = omega (arith, steps_left); events_left = l.events_left });
         }
 
-    checks : (c : ℕ) (t : Tickets) → Syncing w.grace q.items t.left (suc left) told_before (core.Checks c) → Made (worker_on plans w k x (worker.Syncs (core.Checks c) t))
+    checks : (c : ℕ) (t : Tickets) → Syncing w.grace q.items t.left (suc left) told_before (core.Checks c) → Made (made (worker_on plans w k x (worker.Syncs (core.Checks c) t)))
     checks c t s =
         let l = s.1 in
         let steps_left = l.steps_left in
@@ -275,19 +221,15 @@ module _ {P : Type 0} (plans : Plans P) (layout : Layout) (slots : ℕ) where
           done = act.Leave;
           mark = None;
           answer = Quiet;
-          makes = ap (λ (b : Bool). worked k x.ask t (stepped w.grace x.ask (cond b (telling {P = P} what.Answered core.Frees) (telling what.Quiet (core.Starts c))))) (above (leb_tells c w.grace.seq));
+          makes = ap (λ (b : Bool). made (worked k x.ask t (stepped w.grace x.ask (cond b (telling {P = P} what.Answered core.Frees) (telling what.Quiet (core.Starts c)))))) (let noted = s.0 in let reached = noted.reached in lt-leb c w.grace.seq (omega (arith, reached)));
           prompt = tt;
           later = told_before;
           tells = omega arith;
           stands = (s.0, record { steps_left = omega (arith, steps_left); events_left = l.events_left });
         }
-      where
-        above : ((leb c w.grace.seq ≡ true) × (c ≤ w.grace.seq)) ⊎ ((leb c w.grace.seq ≡ false) × (w.grace.seq < c)) → leb c w.grace.seq ≡ false
-        above (inl y) = let n = s.0 in let reached = n.reached in let low = y.1 in absurd (omega (arith, reached, low))
-        above (inr m) = m.0
 
     turning : (c : ℕ) (t : Tickets) (ask seq rest : ℕ) (p : P) → Noted q.items t.left c seq → Turns p seq rest → Left (suc left) (rest + 1 + 2 * t.left) told_before (t.left + 1) →
-        Made (worked k ask t (stepped (action_effect w (plans.action p)).grace ask (turned plans.action c p (plans.taken p (action_effect w (plans.action p)).loaded) (plans.turn p (action_effect w (plans.action p)).loaded))))
+        Made (made (worked k ask t (stepped (action_effect w (plans.action p)).grace ask (turned plans.action c p (plans.taken p (action_effect w (plans.action p)).loaded) (plans.turn p (action_effect w (plans.action p)).loaded)))))
     turning c t ask seq rest p n u l = by rest refl
       where
         grace : GraceState
@@ -306,10 +248,10 @@ module _ {P : Type 0} (plans : Plans P) (layout : Layout) (slots : ℕ) where
         one_more = steps_snoc plans.action plans.turn plans.taken u.from u.loads load goes
 
         makes_with : (b : Bool) → is_finished (plans.action (plans.taken p load)) ≡ b →
-            worked k ask t (stepped grace ask (turned plans.action c p (plans.taken p load) (plans.turn p load))) ≡ worked k ask t (stepped grace ask (cond b (telling {P = P} what.Answered core.Frees) (telling what.Quiet (core.Runs c (plans.taken p load)))))
+            made (worked k ask t (stepped grace ask (turned plans.action c p (plans.taken p load) (plans.turn p load)))) ≡ made (worked k ask t (stepped grace ask (cond b (telling {P = P} what.Answered core.Frees) (telling what.Quiet (core.Runs c (plans.taken p load))))))
         makes_with b e =
-            ap (λ (z : Turn). worked k ask t (stepped grace ask (turned plans.action c p (plans.taken p load) z))) (ap (λ z. plans.turn z load) u.is ∙ goes)
-            ∙ ap (λ (d : Bool). worked k ask t (stepped grace ask (cond d (telling {P = P} what.Answered core.Frees) (telling what.Quiet (core.Runs c (plans.taken p load)))))) e
+            ap (λ (z : Turn). made (worked k ask t (stepped grace ask (turned plans.action c p (plans.taken p load) z)))) (ap (λ z. plans.turn z load) u.is ∙ goes)
+            ∙ ap (λ (d : Bool). made (worked k ask t (stepped grace ask (cond d (telling {P = P} what.Answered core.Frees) (telling what.Quiet (core.Runs c (plans.taken p load))))))) e
 
         going : plans.action p ≢ Finished
         going f =
@@ -319,7 +261,7 @@ module _ {P : Type 0} (plans : Plans P) (layout : Layout) (slots : ℕ) where
             omega (arith, done, counted, some)
 
         Here : Type 0
-        Here = Made (worked k ask t (stepped grace ask (turned plans.action c p (plans.taken p load) (plans.turn p load))))
+        Here = Made (made (worked k ask t (stepped grace ask (turned plans.action c p (plans.taken p load) (plans.turn p load)))))
 
         last : rest ≡ 1 → Here
         last e = record {
@@ -392,7 +334,7 @@ module _ {P : Type 0} (plans : Plans P) (layout : Layout) (slots : ℕ) where
         by (suc zero) e = last e
         by (suc (suc r)) e = more r e
 
-    starts : (c : ℕ) (t : Tickets) → Syncing w.grace q.items t.left (suc left) told_before (core.Starts c) → Made (worker_on plans w k x (worker.Syncs (core.Starts c) t))
+    starts : (c : ℕ) (t : Tickets) → Syncing w.grace q.items t.left (suc left) told_before (core.Starts c) → Made (made (worker_on plans w k x (worker.Syncs (core.Starts c) t)))
     starts c t s = turning c t x.ask w.grace.seq count (plan_now plans w) s.0 begun s.1
       where
         begun : Turns (plan_now plans w) w.grace.seq count
@@ -405,7 +347,7 @@ module _ {P : Type 0} (plans : Plans P) (layout : Layout) (slots : ℕ) where
           some = some_turns plans.qsbr slots;
         }
 
-    frees : (t : Tickets) → Syncing w.grace q.items t.left (suc left) told_before core.Frees → Made (worker_on plans w k x (worker.Syncs core.Frees t))
+    frees : (t : Tickets) → Syncing w.grace q.items t.left (suc left) told_before core.Frees → Made (made (worker_on plans w k x (worker.Syncs core.Frees t)))
     frees t s =
         let l = s.4 in
         let steps_left = l.steps_left in
@@ -422,10 +364,10 @@ module _ {P : Type 0} (plans : Plans P) (layout : Layout) (slots : ℕ) where
           stands = (s.0, s.1, s.2, s.3, record { steps_left = omega (arith, steps_left); events_left = l.events_left }, refl);
         }
 
-    pops : (t : Tickets) → Stands w.grace q.items (suc left) told_before (worker.Pops t) → Made (worker_on plans w k x (worker.Pops t))
+    pops : (t : Tickets) → Stands w.grace q.items (suc left) told_before (worker.Pops t) → Made (made (worker_on plans w k x (worker.Pops t)))
     pops t s = by q.items.ready refl
       where
-        by : (is : Items) → q.items.ready ≡ is → Made (worker_on plans w k x (worker.Pops t))
+        by : (is : Items) → q.items.ready ≡ is → Made (made (worker_on plans w k x (worker.Pops t)))
         by [] e = let some = s.0 in let all = s.1 ∙ ap length e in absurd (omega (arith, some, all))
         by (item ∷ items) e =
             let l = s.4 in
@@ -438,7 +380,7 @@ module _ {P : Type 0} (plans : Plans P) (layout : Layout) (slots : ℕ) where
               done = act.Pop;
               mark = Some (record { object = item.object; life = life.Reclaimed });
               answer = Events (events.Run item.object) None;
-              makes = ap (λ (o : Option QueueState). run_row w k x t (first_in o)) has ∙ ap (λ (is : Items). run_row w k x t (object_with (q.items.gone + 1) is)) e;
+              makes = ap (λ (o : Option QueueState). made (run_row w k x t (first_in o))) has ∙ ap (λ (is : Items). made (run_row w k x t (object_with (q.items.gone + 1) is))) e;
               prompt = tt;
               later = length items;
               tells = omega (arith, events_left, all);
@@ -451,13 +393,13 @@ module _ {P : Type 0} (plans : Plans P) (layout : Layout) (slots : ℕ) where
               );
             }
 
-    ran : (t : Tickets) (ticket : Ticket) (item : Item Unit) → Stands w.grace q.items (suc left) told_before (worker.Ran t ticket item) → Made (worker_on plans w k x (worker.Ran t ticket item))
+    ran : (t : Tickets) (ticket : Ticket) (item : Item Unit) → Stands w.grace q.items (suc left) told_before (worker.Ran t ticket item) → Made (made (worker_on plans w k x (worker.Ran t ticket item)))
     ran t ticket item s = by q.items.ready refl
       where
         counts : Bool → WorkerCore P Unit
         counts b = cond b (worker.Pops (rest_of t)) worker.Idle
 
-        made_with : (b : Bool) → ltb 1 t.left ≡ b → Stands w.grace q.items left told_before (counts b) → Made (worker_on plans w k x (worker.Ran t ticket item))
+        made_with : (b : Bool) → ltb 1 t.left ≡ b → Stands w.grace q.items left told_before (counts b) → Made (made (worker_on plans w k x (worker.Ran t ticket item)))
         made_with b e stands = record {
           x = record x { core = counts b };
           grace = w.grace;
@@ -471,7 +413,7 @@ module _ {P : Type 0} (plans : Plans P) (layout : Layout) (slots : ℕ) where
           stands = stands;
         }
 
-        by : (is : Items) → q.items.ready ≡ is → Made (worker_on plans w k x (worker.Ran t ticket item))
+        by : (is : Items) → q.items.ready ≡ is → Made (made (worker_on plans w k x (worker.Ran t ticket item)))
         by [] e =
             let l = s.3 in
             let none = ap length e in
@@ -485,16 +427,16 @@ module _ {P : Type 0} (plans : Plans P) (layout : Layout) (slots : ℕ) where
             let steps_left = l.steps_left in
             let events_left = l.events_left in
             let all = s.0 in
-            made_with true ((Decides-ltb 1 t.left).1 (let two : 1 < t.left = omega (arith, all, some) in two))
+            made_with true (lt-ltb 1 t.left (omega (arith, all, some)))
             (omega (arith, all, some), omega (arith, all), s.1, s.2, record { steps_left = omega (arith, steps_left, all); events_left = omega (arith, events_left, all) }, s.4)
 
-    goes_sync : (t : Tickets) (sync : SyncCore P) → Syncing w.grace q.items t.left (suc left) told_before sync → Made (worker_on plans w k x (worker.Syncs sync t))
+    goes_sync : (t : Tickets) (sync : SyncCore P) → Syncing w.grace q.items t.left (suc left) told_before sync → Made (made (worker_on plans w k x (worker.Syncs sync t)))
     goes_sync t core.Asks s = asks t s
     goes_sync t (core.Waits c) s = waits c t s
     goes_sync t (core.Checks c) s = checks c t s
     goes_sync t (core.Starts c) s = starts c t s
     goes_sync t (core.Runs c p) s = subst
-        (λ (z : SyncCore P). Made (worked k x.ask t (stepped (action_effect w (plans.action p)).grace x.ask (told_of plans.action plans.turn plans.taken z (action_effect w (plans.action p)).loaded))))
+        (λ (z : SyncCore P). Made (made (worked k x.ask t (stepped (action_effect w (plans.action p)).grace x.ask (told_of plans.action plans.turn plans.taken z (action_effect w (plans.action p)).loaded)))))
         (sym (unplanned (action_effect w (plans.action p)).plan)) (turning c t x.ask s.0 s.1 p s.2 s.3 s.4)
       where
         unplanned : (o : Option P) → planned (core.Runs c p) o ≡ core.Runs c p
@@ -503,7 +445,7 @@ module _ {P : Type 0} (plans : Plans P) (layout : Layout) (slots : ℕ) where
     goes_sync t core.Frees s = frees t s
     goes_sync t core.Done s = absurd s
 
-    pub goes_on : (c : WorkerCore P Unit) → Stands w.grace q.items (suc left) told_before c → Made (worker_on plans w k x c)
+    pub goes_on : (c : WorkerCore P Unit) → Stands w.grace q.items (suc left) told_before c → Made (made (after (operation_test true (not (is_resting c)) ∷ []) (worker_on plans w k x c)))
     goes_on worker.Idle s = let l = s.3 in let steps_left = l.steps_left in absurd (omega (arith, steps_left))
     goes_on (worker.Syncs sync t) s = goes_sync t sync s
     goes_on (worker.Pops t) s = pops t s
@@ -531,4 +473,4 @@ module _ {P : Type 0} (plans : Plans P) (layout : Layout) (slots : ℕ) where
   pub goes_at : (w : BoardView P) (k left told_before : ℕ) → AreSound plans → (d : Drain w k (suc left) told_before) → Goes w k left told_before d.q (change_of plans w (Worker k verb.GoOn))
   goes_at w k left told_before sound d =
       let a = d.alone in
-      subst (Goes w k left told_before d.q) (sym (ap (of_worker plans w k verb.GoOn) a.is)) (goes_on sound w k a.laid a.sized a.some_slot a.closed d.x d.q a.has left told_before d.x.core d.stands)
+      subst (Goes w k left told_before d.q) (sym (ap (λ (o : Option (WorkerState P)). made (of_worker plans w k verb.GoOn o)) a.is)) (goes_on sound w k a.laid a.sized a.some_slot a.closed d.x d.q a.has left told_before d.x.core d.stands)

@@ -1,54 +1,27 @@
 -- A drain from its `take` to its last count, on the board's definitions.
-use Rattle.std.proofs.Common.{◌≡◌, ◌≢◌, ◌⊎◌, inl, inr, ℕ, zero, suc, ◌+◌, ◌-◌, ◌*◌, ◌==◌, ◌^◌, ◌<◌, ◌≤◌, ltb, cond, Bool, true, false, not, ◌||◌, List, [], ◌∷◌, ◌++◌, length, replicate, slice_get, Option, Some, None, Result, Ok, Err, refl, sym, ap, ◌∙◌, subst, arith, true≢false, length-append}
+use Rattle.world.proofs.Cited.{◌≡◌, ◌≢◌, ℕ, true≢false, zero, suc, ◌+◌, ◌-◌, ◌*◌, ◌==◌, ◌^◌, ◌<◌, ◌≤◌, ltb, cond, Bool, true, false, not, List, [], ◌∷◌, ◌++◌, length, replicate, slice_get, Option, Some, None, Result, Ok, Err, refl, sym, ap, ◌∙◌, subst, arith, length-append, or_parts, lt-ltb, ltb-true, ne_eqb, Refusal, Busy, Exhausted, Item, Layout, items_of, turn_count, SyncCore, Tickets, WorkerCore, new_core, after_take, tickets_from, Change, Work, Stay, Quiet, Blocked, Line, Worker, QueueState, GraceState, WorkerState, Plans, BoardView, told}
 use Rattle.std.specs.Prelude.{is_some}
-use Rattle.std.proofs.lemmas.Bool.{lt-ltb, ltb-true}
-use Rattle.std.proofs.lemmas.Bool.Decides.{eqb_tells}
-use Rattle.rcu_model.specs.declared.refusal.Refusal.{Refusal}
-use Rattle.rcu_model.specs.declared.refusal.Refusal.TheVariants.{Busy, Exhausted}
-use Rattle.callback_queue.specs.declared.item.Item.{Item}
-use Rattle.reader_word.specs.declared.layout.Layout.{Layout}
-use Rattle.callback_queue.specs.Queue.{Queue, items_of}
-use Rattle.gp_memb.specs.Plan.{turn_count}
-use Rattle.call_rcu_worker.specs.declared.sync.SyncCore.{SyncCore}
+use Rattle.callback_queue.specs.Queue.{Queue}
 use Rattle.call_rcu_worker.specs.declared.sync.SyncCore.TheVariants as core
-use Rattle.call_rcu_worker.specs.declared.worker.Tickets.{Tickets}
-use Rattle.call_rcu_worker.specs.declared.worker.WorkerCore.{WorkerCore}
 use Rattle.call_rcu_worker.specs.declared.worker.WorkerCore.TheVariants as worker
-use Rattle.call_rcu_worker.specs.Sync.{new_core}
-use Rattle.call_rcu_worker.specs.Worker.{after_take, tickets_from}
-use Rattle.world_state.specs.declared.change.Change.{Change}
-use Rattle.world_state.specs.declared.change.Change.TheVariants.{Work, Stay}
-use Rattle.world_state.specs.declared.line.Answer.TheVariants.{Quiet, Blocked, Idle as NothingThere}
-use Rattle.world_state.specs.declared.line.Line.{Line}
-use Rattle.world_state.specs.declared.line.Line.TheVariants.{Worker}
+use Rattle.world_state.specs.declared.line.Answer.TheVariants.{Idle as NothingThere}
 use Rattle.world_state.specs.declared.line.WorkerVerb.TheVariants as verb
 use Rattle.world_state.specs.declared.queue.QueueAct.TheVariants as act
-use Rattle.world_state.specs.declared.queue.QueueState.{QueueState}
-use Rattle.world_state.specs.declared.updater.GraceState.{GraceState}
-use Rattle.world_state.specs.declared.worker.WorkerState.{WorkerState}
-use Rattle.world_state.specs.View.{Plans, BoardView, fresh_at, told}
 use Rattle.world.specs.Lines.{Outcome, change_of, of_worker, with_change, outcome_of, world_after}
+use Rattle.world.specs.Row.{made}
+use Rattle.world.specs.Steps.{IsMade}
 use Rattle.world.specs.Reached.{IsReached}
 use Rattle.world.specs.Workers.{first_fresh, is_none_left, is_resting, with_core, take_row}
-use Rattle.world.specs.Drain.{some_open, steps_of_flavour, steps_for, drain_lines, is_busy, items_in, items_to_drain, steps_with, IsWork, Rests, HasNone, IsMade, HasDrained, AreMadeFrom, Tells, Drains, IsSettled}
+use Rattle.world.specs.Drain.{some_open, steps_of_flavour, steps_for, drain_lines, is_busy, items_in, items_to_drain, steps_with, IsWork, Rests, HasNone, HasDrained, AreMadeFrom, Tells, Drains, IsSettled}
+use Rattle.world.proofs.Reaching.{after_snoc, reached_step}
+use Rattle.world.proofs.Rows.{rest_tells}
+use Rattle.world.proofs.Tests.{not_false}
 use Rattle.world.proofs.DrainSteps.{Items, AreSound, Syncing, Stands, Alone, Drain, Goes, after_going, goes_at}
 
 -- what a test that came out well tells
 past_test : {X : Type 0} (b : Bool) (e : Refusal) (r : Result X Refusal) (y : X) → cond b (Err e) r ≡ Ok y → (b ≡ false) × (r ≡ Ok y)
 past_test true e r y is = absurd (cc)
 past_test false e r y is = (refl, is)
-
-or_left : (a b : Bool) → (a || b) ≡ false → a ≡ false
-or_left true b e = e
-or_left false b e = refl
-
-or_right : (a b : Bool) → (a || b) ≡ false → b ≡ false
-or_right true b e = absurd (true≢false e)
-or_right false b e = e
-
-not_false : (b : Bool) → not b ≡ false → b ≡ true
-not_false true e = refl
-not_false false e = absurd (true≢false e)
 
 none_some : {X : Type 0} (o : Option X) → is_some o ≡ false → o ≡ None
 none_some None e = refl
@@ -67,14 +40,6 @@ empty_from [] e = refl
 empty_from (y ∷ ys) e = absurd (cc)
 
 module _ {P : Type 0} where
-  resting : (c : WorkerCore P Unit) → is_resting c ≡ true → c ≡ worker.Idle
-  resting worker.Idle e = refl
-  resting (worker.Syncs sync t) e = absurd (true≢false (sym e))
-  resting (worker.Pops t) e = absurd (true≢false (sym e))
-  resting (worker.Runs t ticket item) e = absurd (true≢false (sym e))
-  resting (worker.Ran t ticket item) e = absurd (true≢false (sym e))
-  resting (worker.Counts t ticket) e = absurd (true≢false (sym e))
-
   -- a drain can begin
   pub record Begins (qsbr : Bool) (w : BoardView P) (k items : ℕ) : Type 0 where
     pub x : WorkerState P
@@ -88,6 +53,13 @@ module _ {P : Type 0} where
     pub count : items ≡ length (items_of q.items)
     pub below : 1 ≤ items → w.grace.seq < 2 ^ 62
 
+  not_busy : (qsbr : Bool) (w : BoardView P) (x : WorkerState P) (q : QueueState) → is_busy qsbr w x q ≡ false → (some_open qsbr w.layout w.readers ≡ false) × (is_some w.grace.holder ≡ false) × (is_some q.holder ≡ false) × (x.core ≡ worker.Idle)
+  not_busy qsbr w x q quiet =
+      let a = or_parts (some_open qsbr w.layout w.readers) _ quiet in
+      let b = or_parts (is_some w.grace.holder) _ a.1 in
+      let c = or_parts (is_some q.holder) _ b.1 in
+      (a.0, b.0, c.0, rest_tells x.core (not_false c.1))
+
   pub begins : (qsbr : Bool) (w : BoardView P) (k items : ℕ) → items_to_drain qsbr w k ≡ Ok items → Begins qsbr w k items
   begins qsbr w k items = at (slice_get w.workers k) (slice_get w.queues k) refl refl
     where
@@ -99,16 +71,16 @@ module _ {P : Type 0} where
         q = q;
         is = is;
         has = has;
-        closed = or_left _ _ quiet;
-        free = none_some w.grace.holder (or_left _ _ (or_right _ _ quiet));
-        unlocked = none_some q.holder (or_left _ _ (or_right (is_some w.grace.holder) _ (or_right (some_open qsbr w.layout w.readers) _ quiet)));
-        idle = resting x.core (not_false _ (or_right (is_some q.holder) _ (or_right (is_some w.grace.holder) _ (or_right (some_open qsbr w.layout w.readers) _ quiet))));
+        closed = quiet.0;
+        free = none_some w.grace.holder quiet.1;
+        unlocked = none_some q.holder quiet.2;
+        idle = quiet.3;
         count = (counts (is_none_left (items_of q.items)) refl (past_test (is_busy qsbr w x q) Busy _ items e).1).0;
         below = (counts (is_none_left (items_of q.items)) refl (past_test (is_busy qsbr w x q) Busy _ items e).1).1;
       }
         where
-          quiet : is_busy qsbr w x q ≡ false
-          quiet = (past_test (is_busy qsbr w x q) Busy _ items e).0
+          quiet : (some_open qsbr w.layout w.readers ≡ false) × (is_some w.grace.holder ≡ false) × (is_some q.holder ≡ false) × (x.core ≡ worker.Idle)
+          quiet = not_busy qsbr w x q (past_test (is_busy qsbr w x q) Busy _ items e).0
 
           asks : (b : Bool) → ltb w.grace.seq (2 ^ 62) ≡ b → cond b (Ok (length (items_of q.items))) (Err Exhausted) ≡ Ok items → (items ≡ length (items_of q.items)) × (1 ≤ items → w.grace.seq < 2 ^ 62)
           asks true low d = (cc, λ _. ltb-true w.grace.seq (2 ^ 62) low)
@@ -127,10 +99,6 @@ module _ {P : Type 0} (plans : Plans P) where
   flavour_steps true slots n = omega arith
   flavour_steps false slots n = omega arith
 
-  after_snoc : (w : BoardView P) (lines : List Line) (line : Line) → world_after plans w (lines ++ line ∷ []) ≡ (outcome_of plans (world_after plans w lines) line).world
-  after_snoc w [] line = refl
-  after_snoc w (l ∷ ls) line = after_snoc ((outcome_of plans w l).world) ls line
-
   made_snoc : (w : BoardView P) (lines : List Line) (line : Line) → AreMadeFrom plans w lines → IsMade (outcome_of plans (world_after plans w lines) line).answer → AreMadeFrom plans w (lines ++ line ∷ [])
   made_snoc w [] line made last = (last, tt)
   made_snoc w (l ∷ ls) line made last = (made.0, made_snoc ((outcome_of plans w l).world) ls line made.1 last)
@@ -143,7 +111,7 @@ module _ {P : Type 0} (plans : Plans P) where
   lines_more k zero some = absurd (omega (arith, some))
   lines_more k (suc n) some = ap (drain_lines k) (let e : suc n + 1 ≡ suc (suc n) = omega arith in e) ∙ ap (λ (ls : List Line). Worker k verb.Take ∷ ls) (again_snoc n (Worker k verb.GoOn))
 
-  -- a drain under way: so many of its lines are done, and so many left
+  -- a drain under way: this many of its lines are done, and this many left
   pub record Trail (old w : BoardView P) (k done left goal : ℕ) : Type 0 where
     pub some : 1 ≤ done
     pub here : w ≡ world_after plans old (drain_lines k done)
@@ -190,7 +158,7 @@ module _ {P : Type 0} (plans : Plans P) where
   pub trail_on : AreSound plans → (old w : BoardView P) (k done left goal : ℕ) → Trail old w k done (suc left) goal → Trail old ((outcome_of plans w (Worker k verb.GoOn)).world) k (done + 1) left goal
   trail_on sound old w k done left goal t = record {
     some = omega arith;
-    here = ap (λ (v : BoardView P). (outcome_of plans v line).world) t.here ∙ sym (after_snoc old (drain_lines k done) line) ∙ ap (world_after plans old) (sym more);
+    here = ap (λ (v : BoardView P). (outcome_of plans v line).world) t.here ∙ sym (after_snoc plans old (drain_lines k done) line) ∙ ap (world_after plans old) (sym more);
     made = subst (AreMadeFrom plans old) (sym more) (made_snoc old (drain_lines k done) line t.made (subst (λ (v : BoardView P). IsMade (outcome_of plans v line).answer) t.here (trail_makes sound old w k done left goal t).made));
     told = then.events;
     drain = then.drain;
@@ -234,9 +202,9 @@ module _ {P : Type 0} (plans : Plans P) where
 
     takes : change_of plans w (Worker k verb.Take) ≡ taken all
     takes =
-        ap (of_worker plans w k verb.Take) b.is
-        ∙ ap (λ (r : Bool). cond r (take_row w k b.x (slice_get w.queues k)) (Err Busy)) (ap is_resting b.idle)
-        ∙ ap (take_row w k b.x) b.has
+        ap (λ (o : Option (WorkerState P)). made (of_worker plans w k verb.Take o)) b.is
+        ∙ ap (λ (r : Bool). cond (not r) (Err Busy) (made (take_row w k b.x (slice_get w.queues k)))) (ap is_resting b.idle)
+        ∙ ap (λ (o : Option QueueState). made (take_row w k b.x o)) b.has
         ∙ ap (λ (h : Option ℕ). cond (is_some h) (Ok (Stay Blocked)) after_lock) b.unlocked
         ∙ ap (λ (e : Bool). cond e (Ok (Stay NothingThere)) sealing) (some_left (items_of b.q.items) (let c = b.count in omega (arith, c, some_item)))
         ∙ ap (λ (c : WorkerCore P Unit). Ok (Work k (with_core b.x c) w.grace act.Seal None Quiet)) (ap (λ (c : WorkerCore P Unit). after_take c (first_fresh b.q.items) (length b.q.items.fresh)) b.idle ∙ ap (λ (m : Bool). cond m (worker.Syncs new_core all) worker.Idle) (lt-ltb 0 (length b.q.items.fresh) (let c = fresh_count in omega (arith, c, some_item))))
@@ -289,13 +257,11 @@ module _ {P : Type 0} (plans : Plans P) where
   -- once no step is left, the worker rests, and nothing is left
   module _ (layout : Layout) (slots : ℕ) where
     ended_sync : (g : GraceState) (i : Queue (Item Unit)) (t events : ℕ) (sync : SyncCore P) → Syncing plans layout slots g i t 0 events sync → ⊥
-    ended_sync g i t events core.Asks s = let l = s.4 in let e = l.steps_left in omega (arith, e)
     ended_sync g i t events (core.Waits c) s = let l = s.2 in let e = l.steps_left in omega (arith, e)
     ended_sync g i t events (core.Checks c) s = let l = s.1 in let e = l.steps_left in omega (arith, e)
     ended_sync g i t events (core.Starts c) s = let l = s.1 in let e = l.steps_left in omega (arith, e)
-    ended_sync g i t events (core.Runs c p) s = let l = s.4 in let e = l.steps_left in omega (arith, e)
-    ended_sync g i t events core.Frees s = let l = s.4 in let e = l.steps_left in omega (arith, e)
     ended_sync g i t events core.Done s = s
+    ended_sync g i t events _ s = let l = s.4 in let e = l.steps_left in omega (arith, e)
 
     ended : (g : GraceState) (i : Queue (Item Unit)) (events : ℕ) (c : WorkerCore P Unit) → Stands plans layout slots g i 0 events c → (c ≡ worker.Idle) × (items_of i ≡ []) × (events ≡ 0) × (g.holder ≡ None)
     ended g i events worker.Idle s = (refl, ap (λ (l : Items). l ++ i.waiting ++ i.fresh) s.0 ∙ ap (λ (l : Items). l ++ i.fresh) s.1 ∙ s.2, let l = s.3 in l.events_left, s.4)
@@ -326,18 +292,6 @@ module _ {P : Type 0} (plans : Plans P) where
       let r = trail_whole sound old ((outcome_of plans w (Worker k verb.GoOn)).world) k (done + 1) left goal (trail_on sound old w k done left goal t) in
       (r.0, subst (λ n. Trail old r.0 k n 0 goal) (let e : done + 1 + left ≡ done + suc left = omega arith in e) r.1)
 
-  -- a line leads from a reached board to a reached one
-  pub reached_line : (w : BoardView P) (line : Line) → IsReached plans w → IsReached plans ((outcome_of plans w line).world)
-  reached_line w line r = record {
-    config = r.config;
-    limits = r.limits;
-    seq = r.seq;
-    even = r.even;
-    low = r.low;
-    lines = r.lines ++ line ∷ [];
-    leads = after_snoc (fresh_at r.config r.seq) r.lines line ∙ ap (λ (v : BoardView P). (outcome_of plans v line).world) r.leads;
-  }
-
   -- the loop of a drain: the board is reached, and the log has room for all that is told
   pub record Under (old w : BoardView P) (k done left goal room : ℕ) : Type 0 where
     pub trail : Trail old w k done left goal
@@ -347,7 +301,7 @@ module _ {P : Type 0} (plans : Plans P) where
   pub under_on : AreSound plans → (old w : BoardView P) (k done left goal room : ℕ) → Under old w k done (suc left) goal room → Under old ((outcome_of plans w (Worker k verb.GoOn)).world) k (done + 1) left goal room
   under_on sound old w k done left goal room u = record {
     trail = trail_on sound old w k done left goal u.trail;
-    reached = reached_line w (Worker k verb.GoOn) u.reached;
+    reached = reached_step plans w (Worker k verb.GoOn) u.reached;
     fits = u.fits;
   }
 
@@ -371,11 +325,7 @@ module _ {P : Type 0} (plans : Plans P) where
 
   -- the number of steps
   is_some_number : (n : ℕ) → 1 ≤ n → (n == 0) ≡ false
-  is_some_number n h = by (eqb_tells n 0)
-    where
-      by : (((n == 0) ≡ true) × (n ≡ 0)) ⊎ (((n == 0) ≡ false) × (n ≢ 0)) → (n == 0) ≡ false
-      by (inl e) = let none = e.1 in absurd (omega (arith, none, h))
-      by (inr m) = m.0
+  is_some_number n h = ne_eqb n 0 (λ none. omega (arith, none, h))
 
   steps_count : (slots items : ℕ) → 1 ≤ items → steps_for plans.qsbr slots items ≡ turn_count plans.qsbr slots + 5 + 2 * items
   steps_count slots items some = ap (λ (b : Bool). cond b 0 (steps_of_flavour plans.qsbr slots items)) (is_some_number items some) ∙ flavour_steps plans.qsbr slots items
@@ -390,7 +340,7 @@ module _ {P : Type 0} (plans : Plans P) where
     pub first_under : IsReached plans w → (room : ℕ) → length w.log + (items + 2) ≤ room → Under w ((outcome_of plans w (Worker k verb.Take)).world) k 1 (number - 1) (length w.log + (items + 2)) room
     first_under reached room fits = record {
       trail = subst (λ n. Trail w ((outcome_of plans w (Worker k verb.Take)).world) k 1 n (length w.log + (items + 2))) (let c = steps_count (length w.readers) items some_item in omega (arith, c)) (trail_first w k items b s some_reader some_item);
-      reached = reached_line w (Worker k verb.Take) reached;
+      reached = reached_step plans w (Worker k verb.Take) reached;
       fits = fits;
     }
 
@@ -457,4 +407,4 @@ module _ {P : Type 0} (plans : Plans P) where
       some_there (y ∷ ys) n = refl
 
       empty : (q.items.ready ≡ []) × (q.items.waiting ≡ []) × (q.finished ≡ q.items.gone)
-      empty = s.rested k x q is has (resting x.core (not_false _ (or_right (is_some q.holder) _ (or_right (is_some w.grace.holder) _ (or_right (some_open qsbr w.layout w.readers) _ free)))))
+      empty = s.rested k x q is has (not_busy qsbr w x q free).3

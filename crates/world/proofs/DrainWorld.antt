@@ -1,16 +1,10 @@
 -- A drain of a board, as the world shows it.
-use Rattle.std.proofs.Common.{◌≡◌, ℕ, ◌<◌, inl, inr, ⊎_elim, List, [], ◌∷◌, length, Result, Ok, Err, refl, sym, ap, ◌∙◌, subst}
-use Rattle.rcu_model.specs.declared.refusal.Refusal.{Refusal}
-use Rattle.rcu_model.specs.declared.refusal.Refusal.TheVariants.{Memory}
-use Rattle.gp_memb.specs.declared.memb.MembPlan.{MembPlan}
-use Rattle.gp_qsbr.specs.declared.qsbr.QsbrPlan.{QsbrPlan}
-use Rattle.world_state.specs.declared.line.Line.{Line}
-use Rattle.world_state.specs.View.{Plans, BoardView}
+use Rattle.world.proofs.Cited.{◌≡◌, ℕ, ◌<◌, inl, inr, ⊎_elim, List, [], ◌∷◌, length, Result, Ok, Err, refl, sym, ap, ◌∙◌, subst, Refusal, Memory, MembPlan, QsbrPlan, Line, Plans, BoardView}
 use Rattle.world.specs.Lines.{outcome_of, world_after}
 use Rattle.world.specs.Reached.{IsReached}
 use Rattle.world.specs.Steps.{WorldView, OfMemb, OfQsbr, memb_plans, qsbr_plans, world_after_lines, log_of}
 use Rattle.world.specs.Drain.{drain_lines, steps_to_drain, AreMadeFrom, AreMade, Tells, TellsIn, Drains, MeetsDrain}
-use Rattle.world.proofs.DrainTrail.{reached_line}
+use Rattle.world.proofs.Reaching.{reached_step}
 
 memb_after : (w : BoardView MembPlan) (lines : List Line) → world_after_lines (OfMemb w) lines ≡ OfMemb (world_after memb_plans w lines)
 memb_after w [] = refl
@@ -45,7 +39,7 @@ qsbr_drain k old new (Err e) d = (ap OfQsbr d.0, ⊎_elim (λ (f : steps_to_drai
 -- a drain leads from a reached board to a reached one
 reached_lines : {P : Type 0} (plans : Plans P) (w : BoardView P) (lines : List Line) → IsReached plans w → IsReached plans (world_after plans w lines)
 reached_lines plans w [] r = r
-reached_lines plans w (line ∷ lines) r = reached_lines plans ((outcome_of plans w line).world) lines (reached_line plans w line r)
+reached_lines plans w (line ∷ lines) r = reached_lines plans ((outcome_of plans w line).world) lines (reached_step plans w line r)
 
 pub reached_drain : {P : Type 0} (plans : Plans P) (k : ℕ) (old new : BoardView P) (r : Result ℕ Refusal) → Drains plans k old new r → IsReached plans old → IsReached plans new
 reached_drain plans k old new (Ok steps) d reached = subst (IsReached plans) (sym d.1) (reached_lines plans old (drain_lines k steps) reached)

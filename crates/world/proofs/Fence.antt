@@ -1,14 +1,6 @@
 -- Asks, the grace lock and the running plan, whoever asks; and the fence: no pending ask's cookie is reached while a
 -- section that it awaits is open, and a running plan that would reach it waits for that section.
-use Rattle.std.proofs.Common.{◌≡◌, ◌≢◌, ◌⊎◌, inl, inr, ⊎_elim, ℕ, ◌+◌, ◌-◌, ◌%◌, ◌^◌, ◌<◌, ◌≤◌, true, List, ◌∷◌, Option, Some, sym, ap, ◌∙◌, subst, arith}
-use Rattle.rcu_model.specs.declared.event.SectionId.{SectionId}
-use Rattle.rcu_model.proofs.Lemmas.{In}
-use Rattle.reader_word.specs.declared.layout.Layout.{Layout}
-use Rattle.gp_memb.specs.declared.plan.Action.TheVariants.{Load, LoadGroup, Finished}
-use Rattle.gp_memb.specs.Plan.{Shows, after_loads}
-use Rattle.gp_memb.specs.PlanLaws.{MayBe}
-use Rattle.gp_memb.specs.lemmas.History.{may_turn, shows_slot}
-use Rattle.world_state.specs.View.{Plans}
+use Rattle.world.proofs.Cited.{◌≡◌, ◌≢◌, ◌⊎◌, inl, inr, ⊎_elim, ℕ, ◌+◌, ◌-◌, ◌%◌, ◌^◌, ◌<◌, ◌≤◌, true, List, ◌∷◌, Option, Some, sym, ap, ◌∙◌, subst, arith, SectionId, In, Layout, Load, LoadGroup, Finished, Shows, after_loads, MayBe, may_turn, shows_slot, Plans}
 use Rattle.world.specs.PlanLaws.{WorldPlanLaws}
 
 -- what an asker does: it rests, waits with an ask and its cookie, holds the grace lock and checks, is about to begin a
@@ -33,10 +25,7 @@ Pending Frees a c = ⊥
 abbrev pub Holds : {P : Type 0} → Work P → Type 0
 Holds Rests = ⊥
 Holds (Waits b d) = ⊥
-Holds (Checks b d) = Unit {0}
-Holds (Starts b d) = Unit {0}
-Holds (Runs b d p) = Unit {0}
-Holds Frees = Unit {0}
+Holds _ = Unit {0}
 
 abbrev pub RunsNone : {P : Type 0} → Work P → Type 0
 RunsNone {P} w = (a c : ℕ) (p : P) → w ≢ Runs a c p
@@ -110,6 +99,7 @@ module _ {P : Type 0} (plans : Plans P) (layout : Layout) (slots : ℕ) (laws : 
     pub from : ℕ
     pub word : ℕ
     pub plan : P
+    pub made : plan ≡ plans.made layout slots from word
     pub begun : laws.begun from word plan
     pub load : ℕ
     pub loads : List ℕ
@@ -118,7 +108,7 @@ module _ {P : Type 0} (plans : Plans P) (layout : Layout) (slots : ℕ) (laws : 
     pub odd : seq ≡ from + 1
     pub goes_on : plans.action p ≢ Finished
     pub cookie : c ≡ from + 2
-    pub present : plans.qsbr ≡ true → laws.present p ≡ number
+    pub present : laws.present p ≡ number
     pub low : plans.qsbr ≡ true → (word ≤ from) × (number ≤ from + 1)
 
   -- the plan of a running grace period loads no group word

@@ -1,15 +1,5 @@
 -- Lists of numbers that go up by one, and what updaters have made and not yet brought in.
-use Rattle.std.proofs.Common.{◌≡◌, ◌≢◌, ◌⊎◌, inl, inr, ℕ, zero, suc, ◌+◌, ◌==◌, true, false, List, [], ◌∷◌, ◌++◌, length, slice_get, slice_set, Option, Some, None, refl, sym, ap, ◌∙◌, subst, arith, IsPermutation, append-nil}
-use Rattle.std.specs.Prelude.{if◌then◌else◌}
-use Rattle.std.specs.List.{filter_map, cons_option, range_with_len}
-use Rattle.std.proofs.lemmas.List.Elements.{filter_map-append}
-use Rattle.std.proofs.lemmas.List.FromFn.{length-range_with_len}
-use Rattle.std.proofs.lemmas.List.Sorted.{IsPermutation-sym, IsPermutation-middle}
-use Rattle.std.proofs.lemmas.Bool.Decides.{eqb_tells}
-use Rattle.rcu_model.specs.declared.event.Event.{Event}
-use Rattle.rcu_model.specs.declared.event.Event.TheVariants.{Open}
-use Rattle.world_state.specs.declared.updater.UpdaterState.{UpdaterState}
-use Rattle.world_state.specs.Readers.{section_of}
+use Rattle.world.proofs.Cited.{◌≡◌, ◌≢◌, ◌⊎◌, inl, inr, ℕ, zero, suc, ◌+◌, ◌==◌, List, [], ◌∷◌, ◌++◌, length, slice_get, slice_set, Option, Some, None, refl, sym, ap, ◌∙◌, subst, arith, IsPermutation, append-nil, filter_map, cons_option, range_with_len, filter_map-append, length-range_with_len, IsPermutation-sym, IsPermutation-middle, eq-eqb, ne_eqb, cond-true, cond-false, none-some, same_Some, Event, Open, UpdaterState, section_of}
 use Rattle.world.specs.Given.{CountUp, ordinal_of, made_by}
 
 range_next : (a n : ℕ) → range_with_len a (suc n) ≡ range_with_len a n ++ (a + n) ∷ []
@@ -41,18 +31,10 @@ given_more f log es n n' (inr next) is =
 
 -- a section that opens is its reader's
 pub opened_here : (r n : ℕ) → filter_map (ordinal_of r) (Open (section_of r n) ∷ []) ≡ n ∷ []
-opened_here r n = by (eqb_tells r r)
-  where
-    by : (((r == r) ≡ true) × (r ≡ r)) ⊎ (((r == r) ≡ false) × (r ≢ r)) → cons_option (if r == r then Some n else None) [] ≡ n ∷ []
-    by (inl y) = ap (λ b. cons_option (if b then Some n else None) []) y.0
-    by (inr m) = absurd (m.1 refl)
+opened_here r n = ap (λ o. cons_option o []) (cond-true (r == r) (Some n) None (eq-eqb r r refl))
 
 pub opened_else : (r s n : ℕ) → s ≢ r → filter_map (ordinal_of s) (Open (section_of r n) ∷ []) ≡ []
-opened_else r s n other = by (eqb_tells r s)
-  where
-    by : (((r == s) ≡ true) × (r ≡ s)) ⊎ (((r == s) ≡ false) × (r ≢ s)) → cons_option (if r == s then Some n else None) [] ≡ []
-    by (inl y) = absurd (other (sym y.1))
-    by (inr m) = ap (λ b. cons_option (if b then Some n else None) []) m.0
+opened_else r s n other = ap (λ o. cons_option o []) (cond-false (r == s) (Some n) None (ne_eqb r s (λ e. other (sym e))))
 
 -- one of a list is there, and may be set
 record Split {X : Type 0} (xs : List X) (i : ℕ) (x : X) : Type 0 where
@@ -61,15 +43,9 @@ record Split {X : Type 0} (xs : List X) (i : ℕ) (x : X) : Type 0 where
   is : xs ≡ front ++ x ∷ back
   set : (y : X) → slice_set xs i y ≡ front ++ y ∷ back
 
-some_same : {X : Type 0} (x y : X) → Some x ≡ Some y → x ≡ y
-some_same x y e = cc
-
-none_some : {X : Type 0} (x : X) → None ≡ Some x → ⊥
-none_some x e = cc
-
 split : {X : Type 0} (xs : List X) (i : ℕ) (x : X) → slice_get xs i ≡ Some x → Split xs i x
-split [] i x e = absurd (none_some x e)
-split (y ∷ xs) zero x e = record { front = []; back = xs; is = ap (λ z. z ∷ xs) (some_same y x e); set = λ z. refl }
+split [] i x e = absurd (none-some x e)
+split (y ∷ xs) zero x e = record { front = []; back = xs; is = ap (λ z. z ∷ xs) (same_Some y x e); set = λ z. refl }
 split (y ∷ xs) (suc i) x e = let s = split xs i x e in record { front = y ∷ s.front; back = s.back; is = ap (λ l. y ∷ l) s.is; set = λ z. ap (λ l. y ∷ l) (s.set z) }
 
 module _ {P : Type 0} (us : List (UpdaterState P)) (u : ℕ) (x y : UpdaterState P) (was : slice_get us u ≡ Some x) where

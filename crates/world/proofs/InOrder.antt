@@ -1,54 +1,25 @@
 -- Sections, asks and barriers are numbered as they begin, and objects once each.
-use Rattle.std.proofs.Common.{◌≡◌, ◌≢◌, ◌⊎◌, inl, inr, ⊎_elim, ℕ, zero, suc, ◌+◌, ◌-◌, ◌%◌, ◌^◌, ◌≤◌, true, List, [], ◌∷◌, ◌++◌, length, slice_get, slice_set, replicate, Option, Some, None, Result, Ok, Err, refl, sym, ap, ◌∙◌, subst, arith, IsPermutation, append-nil, length-append, get_or-set_same, get_or-set_other}
-use Rattle.std.specs.List.{cons_option, filter_map, range_with_len}
-use Rattle.std.proofs.lemmas.List.Elements.{filter_map-append}
-use Rattle.std.proofs.lemmas.List.Sorted.{IsPermutation-refl, IsPermutation-sym, IsPermutation-trans, IsPermutation-middle, IsPermutation-append_right, IsPermutation-push_more, IsPermutation-pop_more}
-use Rattle.std.proofs.lemmas.Option.{get_or_from_slice_get, slice_get_within}
-use Rattle.rcu_model.specs.declared.event.Event.{Event}
+use Rattle.world.proofs.Cited.{◌≡◌, ◌≢◌, ◌⊎◌, inl, inr, ⊎_elim, ℕ, zero, suc, ◌+◌, ◌-◌, ◌%◌, ◌^◌, ◌≤◌, true, List, [], ◌∷◌, ◌++◌, length, slice_get, slice_set, replicate, Option, Some, None, Ok, refl, sym, ap, ◌∙◌, subst, arith, IsPermutation, length-append, get_or-set_same, get_or-set_other, cons_option, filter_map, range_with_len, filter_map-append, IsPermutation-refl, IsPermutation-sym, IsPermutation-trans, IsPermutation-middle, IsPermutation-append_right, IsPermutation-push_more, IsPermutation-pop_more, get_or_from_slice_get, slice_get_within, Event, ObjectId, Layout, SyncCore, new_core, step_of, SyncStep, Config, Line, ReaderState, ReaderStep, Holder, QueueAct, RetireStep, UpdaterPlace, Syncs, Retires, UpdaterState, WorkerState, WorkerCore, Change, Read, Work, is_within_limits, new_reader, section_of, Plans, BoardView, fresh_at, changed, idle, told, decide_number, reader_at, spliced_length}
 use Rattle.rcu_model.specs.declared.event.Event.TheVariants as events
-use Rattle.rcu_model.specs.declared.event.ObjectId.{ObjectId}
-use Rattle.rcu_model.specs.declared.refusal.Refusal.{Refusal}
-use Rattle.reader_word.specs.declared.layout.Layout.{Layout}
-use Rattle.call_rcu_worker.specs.declared.sync.SyncCore.{SyncCore}
 use Rattle.call_rcu_worker.specs.declared.sync.SyncCore.TheVariants as core
-use Rattle.call_rcu_worker.specs.Sync.{step_of}
-use Rattle.call_rcu_worker.specs.declared.sync.SyncStep.{SyncStep}
 use Rattle.call_rcu_worker.specs.declared.sync.SyncStep.TheVariants as due
-use Rattle.world_state.specs.declared.config.Config.{Config}
-use Rattle.world_state.specs.declared.line.Line.{Line}
 use Rattle.world_state.specs.declared.object.Life.TheVariants as life
-use Rattle.world_state.specs.declared.reader.ReaderState.{ReaderState}
-use Rattle.world_state.specs.declared.reader.ReaderStep.{ReaderStep}
 use Rattle.world_state.specs.declared.updater.Holder.TheVariants as holder
-use Rattle.world_state.specs.declared.queue.QueueAct.{QueueAct}
-use Rattle.world_state.specs.declared.updater.RetireStep.{RetireStep}
 use Rattle.world_state.specs.declared.updater.RetireStep.TheVariants as retire
-use Rattle.world_state.specs.declared.updater.UpdaterPlace.{UpdaterPlace}
-use Rattle.world_state.specs.declared.updater.UpdaterPlace.TheVariants.{Syncs, Retires}
-use Rattle.world_state.specs.declared.updater.UpdaterState.{UpdaterState}
-use Rattle.world_state.specs.declared.worker.WorkerState.{WorkerState}
-use Rattle.call_rcu_worker.specs.declared.worker.WorkerCore.{WorkerCore}
-use Rattle.world_state.specs.declared.change.Change.{Change}
-use Rattle.world_state.specs.declared.change.Change.TheVariants.{Read, Begin, Publish, Grace, Hold, Retire, Bar, Work, Stay}
-use Rattle.world_state.specs.Limits.{is_within_limits}
-use Rattle.world_state.specs.Readers.{new_reader, section_of}
-use Rattle.world_state.specs.View.{Plans, BoardView, fresh_at, changed, idle, told}
-use Rattle.world_state.proofs.Lemmas.{decide_number, reader_at, spliced_length}
 use Rattle.world.specs.declared.grace.GraceStep.{GraceStep}
 use Rattle.world.specs.Given.{ordinal_of, ask_of, barrier_of, object_of, IsCounted, made_at, made_by, AreGivenOnce}
-use Rattle.world.specs.Grace.{place_at, sync_place}
-use Rattle.world.specs.Lines.{with_change, outcome_of, world_after, change_of}
+use Rattle.world.specs.Grace.{place_at, sync_place, grace_row}
+use Rattle.world.specs.Lines.{grace_change, world_after}
 use Rattle.world.specs.Queues.{retire_on}
 use Rattle.world.specs.Workers.{ask_for}
 use Rattle.world.proofs.Counting.{marked_length}
 use Rattle.world.proofs.Fence.{Laws}
 use Rattle.world.proofs.Given.{range_more, counts_up, Grows, none_more, given_more, opened_here, opened_else, made_same, made_more, made_less}
-use Rattle.world.proofs.GraceRows.{Fits, fits_step}
-use Rattle.world.proofs.Logged.{get_replicate, Logged, logged_step, logged_fresh, some_reader, few_workers}
-use Rattle.world.proofs.Opening.{Opens, opens_step}
-use Rattle.world.proofs.Rows.{WasAt, SyncsAt, Rows, each_row}
-use Rattle.world.proofs.State.{told_by, UpdaterKept}
-use Rattle.world.proofs.Sweeping.{Each}
+use Rattle.world.proofs.GraceRows.{AsksNone, Fits, fits_step, tells}
+use Rattle.world.proofs.Logged.{get_replicate, Logged, always}
+use Rattle.world.proofs.Opening.{Opens, opens}
+use Rattle.world.proofs.Rows.{WasAt, Law, reads_by}
+use Rattle.world.proofs.State.{told_by, log_after, UpdaterKept}
 
 -- the updater's new object, or that none is in its hands
 module _ {P : Type 0} where
@@ -130,20 +101,10 @@ module _ {P : Type 0} where
         objects = objects.1;
       }
 
-  log_after : (w : BoardView P) (change : Change P) → (changed w change).log ≡ w.log ++ told_by change
-  log_after w (Read r step) = refl
-  log_after w (Begin u x object) = sym (append-nil w.log)
-  log_after w (Publish u x splice event) = refl
-  log_after w (Grace u x grace answer) = refl
-  log_after w (Hold u x q) = sym (append-nil w.log)
-  log_after w (Retire u x q act mark answer) = refl
-  log_after w (Bar u x barriers answer) = refl
-  log_after w (Work k x grace act mark answer) = refl
-  log_after w (Stay answer) = sym (append-nil w.log)
-
-  in_order_after : (w : BoardView P) (x : Result (Change P) Refusal) → Each (MovesBy w) x → InOrder w → InOrder ((with_change w x).world)
-  in_order_after w (Ok change) m k = moved w (changed w change) (told_by change) (log_after w change) m k
-  in_order_after w (Err e) m k = k
+  -- no number is given, but that of an object
+  unnumbered : (w w' : BoardView P) (es : List Event) → filter_map ask_of es ≡ [] → w'.grace.asks ≡ w.grace.asks → filter_map barrier_of es ≡ [] → w'.barriers ≡ w.barriers →
+      ((r : ℕ) → filter_map (ordinal_of r) es ≡ []) → ((r : ℕ) → (reader_at w'.readers r).ordinal ≡ (reader_at w.readers r).ordinal) → ObjectMoves w w' es → Moves w w' es
+  unnumbered w w' es no_ask asks no_barrier barriers no_section ordinals objects = record { asks = inl (no_ask, asks); barriers = inl (no_barrier, barriers); sections = λ r. inl (no_section r, ordinals r); objects = objects }
 
 -- ---- the rows
 
@@ -154,62 +115,47 @@ module _ {P : Type 0} (plans : Plans P) (layout : Layout) (slots : ℕ) (laws : 
       subst (λ (p : UpdaterPlace P). UpdaterKept w.heads w.objects (length w.updaters) u p)
       (ap (λ (y : UpdaterState P). y.place) (get_or_from_slice_get w.updaters u x idle at.was) ∙ at.at) (l.kept.places_kept u)
 
-  was_so : (u : ℕ) (x : UpdaterState P) (ask : ℕ) (sync : SyncCore P) → SyncsAt plans w u x ask sync → slice_get w.updaters u ≡ Some x
-  was_so u x ask sync (inl at) = at.0.was
-  was_so u x ask sync (inr at) = at.was
-
-  none_at : (u : ℕ) (x : UpdaterState P) (ask : ℕ) (sync : SyncCore P) → SyncsAt plans w u x ask sync → made_by x ≡ None
-  none_at u x ask sync (inl at) = ap made_at at.0.at
-  none_at u x ask sync (inr at) = ap made_at at.at
-
-  next_ask : (u : ℕ) (x : UpdaterState P) (ask : ℕ) (sync : SyncCore P) → SyncsAt plans w u x ask sync → sync ≡ core.Asks → ask ≡ w.grace.asks + 1
-  next_ask u x ask sync (inl at) e = at.1
-  next_ask u x ask sync (inr at) e = absurd (asked_before u x ask (record { was = at.was; at = at.at ∙ ap (Syncs ask) e }))
+  next_ask : (u : ℕ) (x : UpdaterState P) (ask : ℕ) (sync : SyncCore P) → WasAt plans w u x (Syncs ask sync) → sync ≡ core.Asks → ask ≡ w.grace.asks + 1
+  next_ask u x ask sync at e = absurd (asked_before u x ask (record { was = at.was; at = at.at ∙ ap (Syncs ask) e }))
 
   -- what a step of a grace period tells: an ask, an answer, or nothing
-  abbrev Tells : ℕ → ℕ → SyncCore P → List Event → Type 0
-  Tells ask asks sync es = ((sync ≡ core.Asks) × (asks ≡ ask) × (es ≡ events.Ask ask ∷ [])) ⊎ ((asks ≡ w.grace.asks) × ((es ≡ []) ⊎ (es ≡ events.Answer ask ∷ [])))
+  asks_tell : (me : Holder) (ask : ℕ) (sync : SyncCore P) (step : GraceStep P) → (sync ≡ core.Asks → ask ≡ w.grace.asks + 1) → Fits plans w me ask sync step → Grows ask_of (told step.answer) w.grace.asks step.grace.asks
+  asks_tell me ask sync step next fits = by fits.asks
+    where
+      by : ((sync ≡ core.Asks) × (step.grace.asks ≡ ask) × (told step.answer ≡ events.Ask ask ∷ [])) ⊎ AsksNone plans w me ask step.grace.asks (told step.answer) → Grows ask_of (told step.answer) w.grace.asks step.grace.asks
+      by (inl (is, now, e)) = inr (ap (filter_map ask_of) e ∙ ap (λ n. n ∷ []) (next is), now ∙ next is)
+      by (inr (same, inl e)) = inl (ap (filter_map ask_of) e, same)
+      by (inr (same, inr e)) = inl (ap (filter_map ask_of) e, same)
 
-  asks_tell : (ask asks : ℕ) (sync : SyncCore P) (es : List Event) → (sync ≡ core.Asks → ask ≡ w.grace.asks + 1) → Tells ask asks sync es → Grows ask_of es w.grace.asks asks
-  asks_tell ask asks sync es next (inl (is, now, e)) = inr (ap (filter_map ask_of) e ∙ ap (λ n. n ∷ []) (next is), now ∙ next is)
-  asks_tell ask asks sync es next (inr (same, inl e)) = inl (ap (filter_map ask_of) e, same)
-  asks_tell ask asks sync es next (inr (same, inr e)) = inl (ap (filter_map ask_of) e, same)
+  tells_none : (f : Event → Option ℕ) (me : Holder) (ask : ℕ) (sync : SyncCore P) (step : GraceStep P) → f (events.Ask ask) ≡ None → f (events.Answer ask) ≡ None → grace_row plans w me ask sync ≡ Ok step → filter_map f (told step.answer) ≡ []
+  tells_none f me ask sync step no_ask no_answer is = tells plans w me ask (λ es. filter_map f es ≡ []) refl (ap (λ o. cons_option o []) no_ask) (ap (λ o. cons_option o []) no_answer) sync step is
 
-  tells_none : (f : Event → Option ℕ) (ask asks : ℕ) (sync : SyncCore P) (es : List Event) → f (events.Ask ask) ≡ None → f (events.Answer ask) ≡ None → Tells ask asks sync es → filter_map f es ≡ []
-  tells_none f ask asks sync es no_ask no_answer (inl (is, now, e)) = ap (filter_map f) e ∙ ap (λ o. cons_option o []) no_ask
-  tells_none f ask asks sync es no_ask no_answer (inr (same, inl e)) = ap (filter_map f) e
-  tells_none f ask asks sync es no_ask no_answer (inr (same, inr e)) = ap (filter_map f) e ∙ ap (λ o. cons_option o []) no_answer
-
-  moves_sync : (u : ℕ) (x : UpdaterState P) (ask : ℕ) (sync : SyncCore P) (step : GraceStep P) → SyncsAt plans w u x ask sync → Fits plans w (holder.Updater u) ask sync step →
-      MovesBy w (Grace u (record x { place = sync_place plans ask step.core }) step.grace step.answer)
-  moves_sync u x ask sync step at fits = record {
-    asks = asks_tell ask step.grace.asks sync (told step.answer) (next_ask u x ask sync at) fits.asks;
-    barriers = inl (tells_none barrier_of ask step.grace.asks sync (told step.answer) refl refl fits.asks, refl);
-    sections = λ r. inl (tells_none (ordinal_of r) ask step.grace.asks sync (told step.answer) refl refl fits.asks, refl);
-    objects = inl (tells_none object_of ask step.grace.asks sync (told step.answer) refl refl fits.asks, refl, made_same w.updaters u x _ (was_so u x ask sync at) (none_made plans ask step.core ∙ sym (none_at u x ask sync at)));
+  moves_sync : (u : ℕ) (x : UpdaterState P) (ask : ℕ) (sync : SyncCore P) (step : GraceStep P) → slice_get w.updaters u ≡ Some x → made_by x ≡ None → (sync ≡ core.Asks → ask ≡ w.grace.asks + 1) → grace_row plans w (holder.Updater u) ask sync ≡ Ok step →
+      MovesBy w (grace_change plans u x ask step)
+  moves_sync u x ask sync step was none next is = record {
+    asks = asks_tell (holder.Updater u) ask sync step next (fits_step plans w (holder.Updater u) ask sync step is);
+    barriers = inl (tells_none barrier_of (holder.Updater u) ask sync step refl refl is, refl);
+    sections = λ r. inl (tells_none (ordinal_of r) (holder.Updater u) ask sync step refl refl is, refl);
+    objects = inl (tells_none object_of (holder.Updater u) ask sync step refl refl is, refl, made_same w.updaters u x _ was (none_made plans ask step.core ∙ sym none));
   }
 
-  moves_work : (k : ℕ) (x : WorkerState P) (sync : SyncCore P) (core : WorkerCore P Unit) (act : QueueAct) (step : GraceStep P) → Fits plans w (holder.Worker k) (ask_for w x.ask sync) sync step →
+  moves_work : (k : ℕ) (x : WorkerState P) (sync : SyncCore P) (core : WorkerCore P Unit) (act : QueueAct) (step : GraceStep P) → grace_row plans w (holder.Worker k) (ask_for w x.ask sync) sync ≡ Ok step →
       MovesBy w (Work k (record { ask = ask_for w x.ask sync; core = core }) step.grace act None step.answer)
-  moves_work k x sync core act step fits = record {
-    asks = asks_tell ask step.grace.asks sync (told step.answer) (λ e. ap (ask_for w x.ask) e) fits.asks;
-    barriers = inl (tells_none barrier_of ask step.grace.asks sync (told step.answer) refl refl fits.asks, refl);
-    sections = λ r. inl (tells_none (ordinal_of r) ask step.grace.asks sync (told step.answer) refl refl fits.asks, refl);
-    objects = inl (tells_none object_of ask step.grace.asks sync (told step.answer) refl refl fits.asks, refl, refl);
+  moves_work k x sync core act step is = record {
+    asks = asks_tell (holder.Worker k) ask sync step (λ e. ap (ask_for w x.ask) e) (fits_step plans w (holder.Worker k) ask sync step is);
+    barriers = inl (tells_none barrier_of (holder.Worker k) ask sync step refl refl is, refl);
+    sections = λ r. inl (tells_none (ordinal_of r) (holder.Worker k) ask sync step refl refl is, refl);
+    objects = inl (tells_none object_of (holder.Worker k) ask sync step refl refl is, refl, refl);
   }
     where
       ask : ℕ
       ask = ask_for w x.ask sync
 
   moves_retire : (u : ℕ) (x : UpdaterState P) (o : ObjectId) (step : RetireStep) → WasAt plans w u x (Retires o step) → MovesBy w (retire_on w u x o step)
-  moves_retire u x o retire.Mark at =
-      record { asks = inl (refl, refl); barriers = inl (refl, refl); sections = λ r. inl (refl, refl); objects = inl (refl, marked_length w.objects (Some (record { object = o; life = life.Retired })), made_same w.updaters u x _ at.was (sym (ap made_at at.at))) }
-  moves_retire u x o retire.Count at =
-      record { asks = inl (refl, refl); barriers = inl (refl, refl); sections = λ r. inl (refl, refl); objects = inl (refl, refl, made_same w.updaters u x _ at.was (sym (ap made_at at.at))) }
-  moves_retire u x o retire.Push at =
-      record { asks = inl (refl, refl); barriers = inl (refl, refl); sections = λ r. inl (refl, refl); objects = inl (refl, marked_length w.objects (Some (record { object = o; life = life.Queued })), made_same w.updaters u x _ at.was (sym (ap made_at at.at))) }
-  moves_retire u x o retire.Free at =
-      record { asks = inl (refl, refl); barriers = inl (refl, refl); sections = λ r. inl (refl, refl); objects = inl (refl, refl, made_same w.updaters u x _ at.was (sym (ap made_at at.at))) }
+  moves_retire u x o retire.Mark at = unnumbered w _ _ refl refl refl refl (λ r. refl) (λ r. refl) (inl (refl, marked_length w.objects (Some (record { object = o; life = life.Retired })), made_same w.updaters u x _ at.was (sym (ap made_at at.at))))
+  moves_retire u x o retire.Count at = unnumbered w _ _ refl refl refl refl (λ r. refl) (λ r. refl) (inl (refl, refl, made_same w.updaters u x _ at.was (sym (ap made_at at.at))))
+  moves_retire u x o retire.Push at = unnumbered w _ _ refl refl refl refl (λ r. refl) (λ r. refl) (inl (refl, marked_length w.objects (Some (record { object = o; life = life.Queued })), made_same w.updaters u x _ at.was (sym (ap made_at at.at))))
+  moves_retire u x o retire.Free at = unnumbered w _ _ refl refl refl refl (λ r. refl) (λ r. refl) (inl (refl, refl, made_same w.updaters u x _ at.was (sym (ap made_at at.at))))
 
   moves_read : (r : ℕ) (v : ReaderState) (step : ReaderStep) → slice_get w.readers r ≡ Some v → Opens r v step → MovesBy w (Read r step)
   moves_read r v step was o = record {
@@ -251,86 +197,34 @@ module _ {P : Type 0} (plans : Plans P) (layout : Layout) (slots : ℕ) (laws : 
       by s (inl e) = subst (λ t. Grows (ordinal_of t) (told step.answer) (reader_at w.readers t).ordinal (reader_at (slice_set w.readers r step.state) t).ordinal) (sym e) here
       by s (inr n) = inl (none s n, ap (λ (y : ReaderState). y.ordinal) (get_or-set_other w.readers r s step.state new_reader n))
 
-  rows : Rows plans w (MovesBy w)
-  rows = record {
-    stays = λ answer. record { asks = inl (refl, refl); barriers = inl (refl, refl); sections = λ r. inl (refl, refl); objects = inl (refl, refl, refl) };
-    reads = λ r v verb step was is. moves_read r v step was (opens_step plans.qsbr w r v verb step is);
-    begins = λ u x what object at next. record {
-      asks = inl (refl, refl);
-      barriers = inl (refl, refl);
-      sections = λ r. inl (refl, refl);
-      objects = inr (inl (refl, length-append w.objects (object ∷ []), made_more w.updaters u x _ at.was (length w.objects) (ap made_at at.at) (ap Some next)));
+  moves_law : Law plans w (λ line. MovesBy w)
+  moves_law = record {
+    stays = λ line answer never none. unnumbered w _ _ refl refl refl refl (λ r. refl) (λ r. refl) (inl (refl, refl, refl));
+    reads = λ r v verb was. reads_by plans.qsbr w.layout w r v (Opens r v) (λ step. MovesBy w (Read r step)) (λ step. moves_read r v step was) (opens plans.qsbr w.layout w r v);
+    updates = λ u x was. record {
+      pushes = λ c head at is mine. unnumbered w _ _ refl refl refl refl (λ r. refl) (λ r. refl) (inr (inl (refl, length-append w.objects _, made_more w.updaters u x _ at.was (length w.objects) (ap made_at at.at) refl)));
+      replaces = λ o y at is. unnumbered w _ _ refl refl refl refl (λ r. refl) (λ r. refl) (inr (inl (refl, length-append w.objects _, made_more w.updaters u x _ at.was (length w.objects) (ap made_at at.at) refl)));
+      cuts = λ o y at is. unnumbered w _ _ refl refl refl refl (λ r. refl) (λ r. refl) (inl (refl, spliced_length w.objects (record { chain = y.chain; before = y.before; after = y.link; leaves = Some o; enters = None }), made_same w.updaters u x x at.was refl));
+      pushed = λ new y at is. unnumbered w _ _ refl refl refl refl (λ r. refl) (λ r. refl) (inr (inr (new.0, refl, spliced_length w.objects (record { chain = y.chain; before = None; after = y.link; leaves = None; enters = Some new }), made_less w.updaters u x _ at.was new.0 (ap made_at at.at) refl)));
+      replaced = λ old new y at is. unnumbered w _ _ refl refl refl refl (λ r. refl) (λ r. refl) (inr (inr (new.0, refl, spliced_length w.objects (record { chain = y.chain; before = y.before; after = y.link; leaves = Some old; enters = Some new }), made_less w.updaters u x _ at.was new.0 (ap made_at at.at) refl)));
+      asks = λ step at is goes on. moves_sync u x (w.grace.asks + 1) new_core step at.was (ap made_at at.at) (λ e. refl) is;
+      turns = λ ask sync step at is goes on. moves_sync u x ask sync step at.was (ap made_at at.at) (next_ask u x ask sync at) is;
+      starts = λ cookie at is. record { asks = inr (refl, refl); barriers = inl (refl, refl); sections = λ r. inl (refl, refl); objects = inl (refl, refl, made_same w.updaters u x _ at.was refl) };
+      polls = λ s at is up. unnumbered w _ _ refl refl refl refl (λ r. refl) (λ r. refl) (inl (refl, refl, made_same w.updaters u x _ at.was refl));
+      holds = λ o q at may is free. unnumbered w _ _ refl refl refl refl (λ r. refl) (λ r. refl) (inl (refl, refl, made_same w.updaters u x _ at.was (sym (ap made_at at.at))));
+      retires = moves_retire u x;
+      bars = λ at. record { asks = inl (refl, refl); barriers = inr (refl, refl); sections = λ r. inl (refl, refl); objects = inl (refl, refl, made_same w.updaters u x _ at.was (sym (ap made_at at.at))) };
+      notes = λ b q at is. unnumbered w _ _ refl refl refl refl (λ r. refl) (λ r. refl) (inl (refl, refl, made_same w.updaters u x _ at.was (sym (ap made_at at.at))));
+      checks = λ b q at is up more. unnumbered w _ _ refl refl refl refl (λ r. refl) (λ r. refl) (inl (refl, refl, made_same w.updaters u x _ at.was (sym (ap made_at at.at))));
+      clears = λ b q at is up last. unnumbered w _ _ refl refl refl refl (λ r. refl) (λ r. refl) (inl (refl, refl, made_same w.updaters u x _ at.was (sym (ap made_at at.at))));
     };
-    cuts = λ u x splice c o at. record {
-      asks = inl (refl, refl);
-      barriers = inl (refl, refl);
-      sections = λ r. inl (refl, refl);
-      objects = inl (refl, spliced_length w.objects splice, made_same w.updaters u x x at.was refl);
+    works = λ k x was. record {
+      takes = λ q at is free some. unnumbered w _ _ refl refl refl refl (λ r. refl) (λ r. refl) (inl (refl, refl, refl));
+      works = λ sync tickets step at is goes on. moves_work k x sync _ _ step is;
+      runs = λ tickets first at is. unnumbered w _ _ refl refl refl refl (λ r. refl) (λ r. refl) (inl (refl, marked_length w.objects (Some (record { object = first.1; life = life.Reclaimed })), refl));
+      counts = λ tickets ticket item at. unnumbered w _ _ refl refl refl refl (λ r. refl) (λ r. refl) (inl (refl, refl, refl));
     };
-    pushes = λ u x new splice c at. record {
-      asks = inl (refl, refl);
-      barriers = inl (refl, refl);
-      sections = λ r. inl (refl, refl);
-      objects = inr (inr (new.0, refl, spliced_length w.objects splice, made_less w.updaters u x _ at.was new.0 (ap made_at at.at) refl));
-    };
-    replaces = λ u x old new splice c at. record {
-      asks = inl (refl, refl);
-      barriers = inl (refl, refl);
-      sections = λ r. inl (refl, refl);
-      objects = inr (inr (new.0, refl, spliced_length w.objects splice, made_less w.updaters u x _ at.was new.0 (ap made_at at.at) refl));
-    };
-    syncs = λ u x ask sync step at is. moves_sync u x ask sync step at (fits_step plans w (holder.Updater u) ask sync step is);
-    starts = λ u x started at. record {
-      asks = inr (refl, refl);
-      barriers = inl (refl, refl);
-      sections = λ r. inl (refl, refl);
-      objects = inl (refl, refl, made_same w.updaters u x _ at.was refl);
-    };
-    polls = λ u x started ask at. record {
-      asks = inl (refl, refl);
-      barriers = inl (refl, refl);
-      sections = λ r. inl (refl, refl);
-      objects = inl (refl, refl, made_same w.updaters u x _ at.was refl);
-    };
-    holds = λ u x o q at is. record {
-      asks = inl (refl, refl);
-      barriers = inl (refl, refl);
-      sections = λ r. inl (refl, refl);
-      objects = inl (refl, refl, made_same w.updaters u x _ at.was (sym (ap made_at at.at)));
-    };
-    retires = moves_retire;
-    bars = λ u x b at. record {
-      asks = inl (refl, refl);
-      barriers = inr (refl, refl);
-      sections = λ r. inl (refl, refl);
-      objects = inl (refl, refl, made_same w.updaters u x _ at.was (sym (ap made_at at.at)));
-    };
-    awaits = λ u x b b' at. record {
-      asks = inl (refl, refl);
-      barriers = inl (refl, refl);
-      sections = λ r. inl (refl, refl);
-      objects = inl (refl, refl, made_same w.updaters u x _ at.was (sym (ap made_at at.at)));
-    };
-    clears = λ u x b at. record {
-      asks = inl (refl, refl);
-      barriers = inl (refl, refl);
-      sections = λ r. inl (refl, refl);
-      objects = inl (refl, refl, made_same w.updaters u x _ at.was (sym (ap made_at at.at)));
-    };
-    takes = λ k x first count at. record { asks = inl (refl, refl); barriers = inl (refl, refl); sections = λ r. inl (refl, refl); objects = inl (refl, refl, refl) };
-    works = λ k x sync tickets step at is. moves_work k x sync _ _ step (fits_step plans w (holder.Worker k) (ask_for w x.ask sync) sync step is);
-    runs = λ k x tickets core mark first at is. record { asks = inl (refl, refl); barriers = inl (refl, refl); sections = λ r. inl (refl, refl); objects = inl (refl, marked_length w.objects mark, refl) };
-    counts = λ k x tickets ticket item core at. record { asks = inl (refl, refl); barriers = inl (refl, refl); sections = λ r. inl (refl, refl); objects = inl (refl, refl, refl) };
   }
-
-  in_order_step : (line : Line) → InOrder w → InOrder ((outcome_of plans w line).world)
-  in_order_step line k = in_order_after w (change_of plans w line) (each_row plans w (MovesBy w) rows line) k
-
-module _ {P : Type 0} (plans : Plans P) (layout : Layout) (slots : ℕ) (laws : Laws plans layout slots) where
-  in_order_lines : (w : BoardView P) (lines : List Line) → Logged plans layout slots laws w → InOrder w → InOrder (world_after plans w lines)
-  in_order_lines w [] l k = k
-  in_order_lines w (line ∷ lines) l k =
-      in_order_lines ((outcome_of plans w line).world) lines (logged_step plans layout slots laws w line l) (in_order_step plans layout slots laws w l line k)
 
 none_made_yet : (P : Type 0) (n : ℕ) → filter_map (made_by {P = P}) (replicate n idle) ≡ []
 none_made_yet P zero = refl
@@ -349,8 +243,7 @@ module _ {P : Type 0} (plans : Plans P) (laws : (layout : Layout) (slots : ℕ) 
   pub numbers_in_order : (config : Config) (seq : ℕ) (lines : List Line) → is_within_limits config ≡ true → seq % 2 ≡ 0 → seq ≤ 2 ^ 62 →
       IsCounted (world_after plans (fresh_at config seq) lines).log × AreGivenOnce (world_after plans (fresh_at config seq) lines)
   numbers_in_order config seq lines limits even low =
-      let k = in_order_lines plans config.layout config.readers mine (fresh_at config seq) lines
-      (logged_fresh plans config.layout config.readers mine config seq refl refl (some_reader config limits) (few_workers config limits).0 (few_workers config limits).1 even low) (fresh_in_order config seq) in (
+      let k = always plans laws config seq limits even low InOrder (λ w line. MovesBy w) (λ w line change m. moved w (changed w change) (told_by change) (log_after w change) m) (moves_law plans config.layout config.readers (laws config.layout config.readers)) lines (fresh_in_order config seq) in (
         record {
           sections = λ r. counts_up _ _ (k.sections r);
           asks = counts_up _ _ k.asks;
@@ -358,6 +251,3 @@ module _ {P : Type 0} (plans : Plans P) (laws : (layout : Layout) (slots : ℕ) 
         },
         k.objects,
       )
-    where
-      mine : Laws plans config.layout config.readers
-      mine = laws config.layout config.readers

@@ -1,31 +1,8 @@
 -- What the steps of updaters that publish, replace and cut keep, and that what they tell may come.
-use Rattle.std.proofs.Common.{◌≡◌, ◌≢◌, ◌⊎◌, inl, inr, ⊎_elim, ℕ, ◌<◌, ◌%◌, ◌&&◌, cond, Bool, true, false, List, [], ◌∷◌, ◌++◌, length, slice_get, slice_set, Option, Some, None, Ok, Err, refl, sym, ap, ◌∙◌, subst, arith, true≢false, get_or-set_other, get_or-set_same}
-use Rattle.std.proofs.Math.ListN.{length-set}
-use Rattle.std.proofs.lemmas.Bool.Decides.{eqb_tells}
-use Rattle.std.proofs.lemmas.Option.{slice_get_within, get_or_from_slice_get}
-use Rattle.rcu_model.specs.declared.event.Event.{Event}
-use Rattle.rcu_model.specs.declared.event.Event.TheVariants.{Push, Replace, Cut}
-use Rattle.rcu_model.specs.declared.event.ObjectId.{ObjectId}
-use Rattle.rcu_model.specs.declared.refusal.Refusal.TheVariants.{NoPlace}
-use Rattle.rcu_model.specs.Sets.{without_object, first_of, next_of, replaced, at_object}
-use Rattle.rcu_model.specs.Machine.{State, IsAllowed, after}
-use Rattle.rcu_model.proofs.Lemmas.{In, in_objects, has_object_in, at_number_same, at_number_other, at_object_same, at_object_other, follows, some_is, none_some, ChainKept, Spliced, push_splices, cut_splices, replace_splices}
-use Rattle.reader_word.specs.declared.layout.Layout.{Layout}
-use Rattle.world_state.specs.declared.object.Stage.{Stage}
-use Rattle.world_state.specs.declared.object.Stage.TheVariants.{Fresh, Linked, Cut as IsCut}
-use Rattle.world_state.specs.declared.object.ObjectState.{ObjectState}
-use Rattle.world_state.specs.declared.object.Splice.{Splice}
-use Rattle.world_state.specs.declared.updater.Publishing.{Publishing}
+use Rattle.world.proofs.Cited.{◌≡◌, ◌≢◌, ◌⊎◌, ⊎_elim, ℕ, true≢false, inl, inr, ◌<◌, ◌%◌, ◌&&◌, cond, Bool, true, false, List, [], ◌∷◌, ◌++◌, length, slice_get, slice_set, Option, Some, None, Ok, refl, sym, ap, ◌∙◌, subst, arith, get_or-set_other, get_or-set_same, length-set, eqb-true, and_parts, none-some, same_Some, slice_get_within, get_or_from_slice_get, Event, Push, Replace, Cut, ObjectId, without_object, first_of, next_of, replaced, at_object, State, IsAllowed, after, In, in_objects, has_object_in, at_number_same, at_number_other, at_object_same, at_object_other, follows, some_is, none_some, ChainKept, Spliced, push_splices, cut_splices, replace_splices, Layout, Stage, Fresh, Linked, ObjectState, Splice, Publishing, UpdaterState, UpdaterPlace, Idle, Publishes, Syncs, Change, Begin, Publish, fresh_object, is_linked, spliced_heads, spliced_objects, Plans, BoardView, idle, changed, no_object, object_at, head_of, link_of, before_of, stage_of, chain_of, grown_same, word_of, LinksKept, FreshIn, PlaceKept, decide_number, Fits, Follows, monotone, links_spliced, place_spliced, new_object, new_within, stage_grown, links_grown, place_grown, reader_at, readers_over}
+use Rattle.world_state.specs.declared.object.Stage.TheVariants.{Cut as IsCut}
 use Rattle.world_state.specs.declared.updater.Publishing.TheVariants as publishing
-use Rattle.world_state.specs.declared.updater.UpdaterState.{UpdaterState}
-use Rattle.world_state.specs.declared.updater.UpdaterPlace.{UpdaterPlace}
-use Rattle.world_state.specs.declared.updater.UpdaterPlace.TheVariants.{Idle, Publishes, Syncs, Retires, Bars}
-use Rattle.world_state.specs.declared.change.Change.{Change}
-use Rattle.world_state.specs.declared.change.Change.TheVariants.{Begin, Publish}
-use Rattle.world_state.specs.Objects.{fresh_object, is_linked, spliced_heads, spliced_objects}
-use Rattle.world_state.specs.View.{Plans, BoardView, idle, changed}
-use Rattle.world_state.proofs.Lemmas.{no_object, object_at, head_of, link_of, before_of, stage_of, chain_of, grown_same, word_of, LinksKept, FreshIn, PlaceKept, decide_number, Fits, Follows, monotone, links_spliced, place_spliced, new_object, new_within, stage_grown, links_grown, place_grown, reader_at, readers_over}
-use Rattle.world.specs.Chains.{writes, next_object, linked_by, push_row, replace_row, cut_row, pushed_row, replaced_row}
+use Rattle.world.specs.Chains.{writes, next_object, linked_by}
 use Rattle.world.proofs.Fence.{Work, Rests, Laws, Sets}
 use Rattle.world.proofs.Periods.{Part}
 use Rattle.world.proofs.State.{Asker, Syncing, decide_asker, place_work, updater_at, work_of, holder_of, word_at, UpdaterKept, Kept, Owes, work_set}
@@ -90,11 +67,9 @@ module _ {P : Type 0} (plans : Plans P) (layout : Layout) (slots : ℕ) (laws : 
   -- the same over places that publish nothing
   pub over_places : (heads' : List (Option ObjectId)) (os' : List ObjectState) (v : ℕ) → ((p : Publishing) → PlaceKept w.heads w.objects count v p → PlaceKept heads' os' count v p) →
       (p : UpdaterPlace P) → UpdaterKept w.heads w.objects count v p → UpdaterKept heads' os' count v p
-  over_places heads' os' v f Idle h = tt
   over_places heads' os' v f (Publishes p) h = f p h
   over_places heads' os' v f (Syncs ask core) h = h
-  over_places heads' os' v f (Retires o due) h = tt
-  over_places heads' os' v f (Bars b) h = tt
+  over_places heads' os' v f _ h = tt
 
   -- an operation begins
   owes_begin : (u : ℕ) (x x' : UpdaterState P) (y : ObjectState) → There u x → x'.started ≡ x.started → place_work x.place ≡ Rests → place_work x'.place ≡ Rests → y.stage ≡ Fresh → UpdaterKept w.heads (w.objects ++ y ∷ []) count u x'.place →
@@ -116,9 +91,14 @@ module _ {P : Type 0} (plans : Plans P) (layout : Layout) (slots : ℕ) (laws : 
     },
   )
 
-  pub owes_push : (u : ℕ) (x : UpdaterState P) (c : ℕ) → There u x → place_work x.place ≡ Rests → (h : Option (Option ObjectId)) → slice_get w.heads c ≡ h → Owes plans layout slots laws w now (push_row w u x c h)
-  owes_push u x c t was None at_c = tt
-  owes_push u x c t was (Some head) at_c = by_test (writes w u c) (eqb_tells (c % count) u)
+  pub owes_push : (u : ℕ) (x : UpdaterState P) (c : ℕ) (head : Option ObjectId) → There u x → place_work x.place ≡ Rests → slice_get w.heads c ≡ Some head → writes w u c ≡ true →
+      Owes plans layout slots laws w now (Ok (Begin u (record x { place = Publishes (publishing.Push (next_object w)) }) (fresh_object c head)))
+  owes_push u x c head t was at_c mine = owes_begin u x (record x { place = Publishes (publishing.Push m) }) y t refl was refl refl (
+    (ap (λ (o : ObjectState). o.stage) is, new_within w.objects y refl m refl),
+    subst (λ (o : ObjectState). o.chain % count ≡ u) (sym is) (eqb-true (c % count) u mine),
+    subst (λ (o : ObjectState). o.chain < length w.heads) (sym is) (slice_get_within w.heads c head at_c),
+    subst (λ (o : ObjectState). o.link ≡ head_of w.heads o.chain) (sym is) (sym (get_or_from_slice_get w.heads c head None at_c)),
+  )
     where
       y : ObjectState
       y = fresh_object c head
@@ -128,19 +108,6 @@ module _ {P : Type 0} (plans : Plans P) (layout : Layout) (slots : ℕ) (laws : 
 
       is : object_at (w.objects ++ y ∷ []) m ≡ y
       is = new_object w.objects y refl m refl
-
-      x' : UpdaterState P
-      x' = record x { place = Publishes (publishing.Push m) }
-
-      by_test : (b : Bool) → ((b ≡ true) × (c % count ≡ u)) ⊎ ((b ≡ false) × (c % count ≢ u)) → Owes plans layout slots laws w now (cond b (Ok (Begin u x' y)) (Err NoPlace))
-      by_test false n = tt
-      by_test true (inr n) = absurd (true≢false n.0)
-      by_test true (inl e) = owes_begin u x x' y t refl was refl refl (
-        (ap (λ (o : ObjectState). o.stage) is, new_within w.objects y refl m refl),
-        subst (λ (o : ObjectState). o.chain % count ≡ u) (sym is) e.1,
-        subst (λ (o : ObjectState). o.chain < length w.heads) (sym is) (slice_get_within w.heads c head at_c),
-        subst (λ (o : ObjectState). o.link ≡ head_of w.heads o.chain) (sym is) (sym (get_or_from_slice_get w.heads c head None at_c)),
-      )
 
   -- an object that may go
   record MayGo (u : ℕ) (o : ObjectId) (y : ObjectState) : Type 0 where
@@ -154,44 +121,27 @@ module _ {P : Type 0} (plans : Plans P) (layout : Layout) (slots : ℕ) (laws : 
   linked_tells Linked e = refl
   linked_tells IsCut e = absurd (true≢false (sym e))
 
-  both_tests : (a : Bool) (b : Bool) → (a && b) ≡ true → (a ≡ true) × (b ≡ true)
-  both_tests true b e = (refl, e)
-  both_tests false b e = absurd (true≢false (sym e))
-
   may_go : (u : ℕ) (o : ObjectId) (z : Option ObjectState) → slice_get w.objects o.0 ≡ z → (y : ObjectState) → linked_by w u z ≡ Some y → MayGo u o y
-  may_go u o None at_o y e = absurd (none_object y e)
-    where
-      none_object : (y : ObjectState) → None ≡ Some y → ⊥
-      none_object y e = cc
+  may_go u o None at_o y e = absurd (none-some y e)
   may_go u o (Some z) at_o y e = by_test (is_linked z.stage && writes w u z.chain) refl e
     where
-      none_object : (y : ObjectState) → None ≡ Some y → ⊥
-      none_object y e = cc
-
-      same_object : (y : ObjectState) → Some z ≡ Some y → z ≡ y
-      same_object y e = cc
-
       at_z : object_at w.objects o ≡ z
       at_z = get_or_from_slice_get w.objects o.0 z no_object at_o
 
-      home_of : ((writes w u z.chain ≡ true) × (z.chain % count ≡ u)) ⊎ ((writes w u z.chain ≡ false) × (z.chain % count ≢ u)) → writes w u z.chain ≡ true → z.chain % count ≡ u
-      home_of (inl y) f = y.1
-      home_of (inr n) f = absurd (true≢false (sym f ∙ n.0))
-
       by_test : (b : Bool) → (is_linked z.stage && writes w u z.chain) ≡ b → cond b (Some z) None ≡ Some y → MayGo u o y
-      by_test false t e = absurd (none_object y e)
+      by_test false t e = absurd (none-some y e)
       by_test true t e =
-          let b = both_tests (is_linked z.stage) (writes w u z.chain) t in
+          let b = and_parts (is_linked z.stage) (writes w u z.chain) t in
           record {
             inside = slice_get_within w.objects o.0 z at_o;
-            is = at_z ∙ same_object y e;
+            is = at_z ∙ same_Some z y e;
             linked = ap (λ (q : ObjectState). q.stage) at_z ∙ linked_tells z.stage b.0;
-            home = ap (λ (q : ObjectState). q.chain % count) at_z ∙ home_of (eqb_tells (z.chain % count) u) b.1;
+            home = ap (λ (q : ObjectState). q.chain % count) at_z ∙ eqb-true (z.chain % count) u b.1;
           }
 
-  pub owes_replace : (u : ℕ) (x : UpdaterState P) (o : ObjectId) → There u x → place_work x.place ≡ Rests → (z : Option ObjectState) → linked_by w u (slice_get w.objects o.0) ≡ z → Owes plans layout slots laws w now (replace_row w u x o z)
-  owes_replace u x o t was None e = tt
-  owes_replace u x o t was (Some z) e = owes_begin u x x' y t refl was refl refl (
+  pub owes_replace : (u : ℕ) (x : UpdaterState P) (o : ObjectId) (z : ObjectState) → There u x → place_work x.place ≡ Rests → linked_by w u (slice_get w.objects o.0) ≡ Some z →
+      Owes plans layout slots laws w now (Ok (Begin u (record x { place = Publishes (publishing.Replace o (next_object w)) }) (fresh_object z.chain z.link)))
+  owes_replace u x o z t was e = owes_begin u x (record x { place = Publishes (publishing.Replace o m) }) y t refl was refl refl (
     (ap (λ (q : ObjectState). q.stage) is, new_within w.objects y refl m refl),
     ap (λ (q : ObjectState). q.chain % count) is ∙ ap (λ (q : ObjectState). q.chain % count) (sym g.is) ∙ g.home,
     ap (λ (q : ObjectState). q.stage) at_o ∙ g.linked,
@@ -213,9 +163,6 @@ module _ {P : Type 0} (plans : Plans P) (layout : Layout) (slots : ℕ) (laws : 
 
       at_o : object_at (w.objects ++ y ∷ []) o ≡ object_at w.objects o
       at_o = grown_same w.objects y o g.inside
-
-      x' : UpdaterState P
-      x' = record x { place = Publishes (publishing.Replace o m) }
 
   -- a store into a chain
   owes_publish : (u : ℕ) (x x' : UpdaterState P) (s : Splice) (e : Event) (ys : List ObjectId) → There u x → x'.started ≡ x.started → place_work x.place ≡ Rests → x'.place ≡ Idle → s.chain % count ≡ u → Fits w.heads w.objects now.chain s ys →
@@ -245,9 +192,9 @@ module _ {P : Type 0} (plans : Plans P) (layout : Layout) (slots : ℕ) (laws : 
   linked_fresh : Linked ≡ Fresh → ⊥
   linked_fresh e = cc
 
-  pub owes_cut : (u : ℕ) (x : UpdaterState P) (o : ObjectId) → There u x → x.place ≡ Idle → (z : Option ObjectState) → linked_by w u (slice_get w.objects o.0) ≡ z → Owes plans layout slots laws w now (cut_row u x o z)
-  owes_cut u x o t was None e = tt
-  owes_cut u x o t was (Some z) e = subst (λ (y : ObjectState). Owes plans layout slots laws w now (Ok (change y))) g.is done
+  pub owes_cut : (u : ℕ) (x : UpdaterState P) (o : ObjectId) (z : ObjectState) → There u x → x.place ≡ Idle → linked_by w u (slice_get w.objects o.0) ≡ Some z →
+      Owes plans layout slots laws w now (Ok (Publish u x (record { chain = z.chain; before = z.before; after = z.link; leaves = Some o; enters = None }) (Cut z.chain o)))
+  owes_cut u x o z t was e = subst (λ (y : ObjectState). Owes plans layout slots laws w now (Ok (change y))) g.is done
     where
       g : MayGo u o z
       g = may_go u o (slice_get w.objects o.0) refl z e
@@ -293,10 +240,9 @@ module _ {P : Type 0} (plans : Plans P) (layout : Layout) (slots : ℕ) (laws : 
           refl
 
   -- the second step of `push`
-  pub owes_pushed : (u : ℕ) (x : UpdaterState P) (m : ObjectId) → There u x → place_work x.place ≡ Rests → PlaceKept w.heads w.objects count u (publishing.Push m) → (z : Option ObjectState) → slice_get w.objects m.0 ≡ z →
-      Owes plans layout slots laws w now (pushed_row u (record x { place = Idle }) m z)
-  owes_pushed u x m t was mine None at_m = tt
-  owes_pushed u x m t was mine (Some z) at_m = subst (λ (y : ObjectState). Owes plans layout slots laws w now (Ok (change y))) (get_or_from_slice_get w.objects m.0 z no_object at_m) done
+  pub owes_pushed : (u : ℕ) (x : UpdaterState P) (m : ObjectId) (z : ObjectState) → There u x → place_work x.place ≡ Rests → PlaceKept w.heads w.objects count u (publishing.Push m) → slice_get w.objects m.0 ≡ Some z →
+      Owes plans layout slots laws w now (Ok (Publish u (record x { place = Idle }) (record { chain = z.chain; before = None; after = z.link; leaves = None; enters = Some m }) (Push z.chain m)))
+  owes_pushed u x m z t was mine at_m = subst (λ (y : ObjectState). Owes plans layout slots laws w now (Ok (change y))) (get_or_from_slice_get w.objects m.0 z no_object at_m) done
     where
       x' : UpdaterState P
       x' = record x { place = Idle }
@@ -342,10 +288,9 @@ module _ {P : Type 0} (plans : Plans P) (layout : Layout) (slots : ℕ) (laws : 
           refl
 
   -- the second step of `replace`
-  pub owes_replaced : (u : ℕ) (x : UpdaterState P) (o m : ObjectId) → There u x → place_work x.place ≡ Rests → PlaceKept w.heads w.objects count u (publishing.Replace o m) → (z : Option ObjectState) → slice_get w.objects o.0 ≡ z →
-      Owes plans layout slots laws w now (replaced_row u (record x { place = Idle }) o m z)
-  owes_replaced u x o m t was mine None at_o = tt
-  owes_replaced u x o m t was mine (Some z) at_o = subst (λ (y : ObjectState). Owes plans layout slots laws w now (Ok (change y))) (get_or_from_slice_get w.objects o.0 z no_object at_o) done
+  pub owes_replaced : (u : ℕ) (x : UpdaterState P) (o m : ObjectId) (z : ObjectState) → There u x → place_work x.place ≡ Rests → PlaceKept w.heads w.objects count u (publishing.Replace o m) → slice_get w.objects o.0 ≡ Some z →
+      Owes plans layout slots laws w now (Ok (Publish u (record x { place = Idle }) (record { chain = z.chain; before = z.before; after = z.link; leaves = Some o; enters = Some m }) (Replace z.chain o m)))
+  owes_replaced u x o m z t was mine at_o = subst (λ (y : ObjectState). Owes plans layout slots laws w now (Ok (change y))) (get_or_from_slice_get w.objects o.0 z no_object at_o) done
     where
       x' : UpdaterState P
       x' = record x { place = Idle }

@@ -1,38 +1,11 @@
 -- What the steps of readers keep, and that what they tell may come.
-use Rattle.std.proofs.Common.{◌≡◌, ◌≢◌, ◌⊎◌, inl, inr, ⊎_elim, ℕ, ◌+◌, ◌<◌, ◌≤◌, ◌==◌, cond, not, Bool, true, false, List, [], ◌∷◌, ◌++◌, length, slice_get, slice_set, Option, Some, None, Result, Ok, Err, refl, sym, ap, ◌∙◌, subst, arith, true≢false, length-append, get_or-set_other, get_or-set_same}
-use Rattle.std.proofs.Math.ListN.{length-set}
-use Rattle.std.proofs.lemmas.Bool.Decides.{eqb_tells}
-use Rattle.std.proofs.lemmas.Option.{slice_get_within, get_or_from_slice_get}
-use Rattle.rcu_model.specs.declared.event.Event.{Event}
-use Rattle.rcu_model.specs.declared.event.Event.TheVariants.{Open, Close, First, Next, Touch}
-use Rattle.rcu_model.specs.declared.event.ObjectId.{ObjectId}
-use Rattle.rcu_model.specs.declared.event.SectionId.{SectionId}
-use Rattle.rcu_model.specs.declared.refusal.Refusal.{Refusal}
-use Rattle.rcu_model.specs.declared.refusal.Refusal.TheVariants.{NotOpen, Busy}
-use Rattle.rcu_model.specs.Sets.{without_section, at_section, first_of, next_of}
-use Rattle.rcu_model.specs.Machine.{State, got, IsSuccessor}
-use Rattle.rcu_model.proofs.Lemmas.{In, in_sections, has_section_in, in_objects, has_object_in, in_left, in_last, in_more, section_tells, Tells, without_section_has, has_without_section, at_section_same, at_section_other, some_is, none_some, first_has, follows_has}
-use Rattle.rcu_model.specs.Sets.{same_section}
-use Rattle.reader_word.specs.declared.layout.Layout.{Layout}
-use Rattle.reader_word.specs.Word.{count_of, phase_in, is_open_of, entered_of, left_of}
-use Rattle.reader_word.specs.Quiescent.{is_online, announced}
-use Rattle.reader_word.proofs.Lemmas.{NestsDeeper, entered_of-nests, entered_of-opens, left_of-nests}
-use Rattle.gp_memb.specs.Plan.{Shows}
-use Rattle.world_state.specs.declared.line.Answer.{Answer}
-use Rattle.world_state.specs.declared.line.Answer.TheVariants.{Events, Quiet}
-use Rattle.world_state.specs.declared.reader.ReaderState.{ReaderState}
-use Rattle.world_state.specs.declared.reader.ReaderStep.{ReaderStep}
-use Rattle.world_state.specs.declared.object.ObjectState.{ObjectState}
-use Rattle.world_state.specs.declared.object.Stage.{Stage}
-use Rattle.world_state.specs.declared.object.Stage.TheVariants.{Fresh, Linked, Cut as IsCut}
-use Rattle.world_state.specs.declared.change.Change.TheVariants.{Read}
-use Rattle.world_state.specs.View.{Plans, BoardView, told, changed}
-use Rattle.world_state.specs.Readers.{section_of, new_reader, is_open_in, quietly, telling, with_word, opened, closed, with_cursor, stores, lock_row, enter_row, unlock_row, online_row, go_online_row, quiescent_row, announce_row, offline_row, touch_row}
-use Rattle.world_state.proofs.Lemmas.{no_object, link_of, stage_of, chain_of, LinksKept, decide_number, reader_at, ReaderKept, readers_set}
-use Rattle.world.specs.Chains.{first_row, next_row, next_from}
+use Rattle.world.proofs.Cited.{◌≡◌, ◌≢◌, ◌⊎◌, inl, inr, ⊎_elim, ℕ, ◌+◌, ◌<◌, ◌≤◌, ◌==◌, not, Bool, true, false, List, [], ◌∷◌, ◌++◌, length, slice_get, slice_set, Option, Some, None, Ok, refl, sym, ap, ◌∙◌, subst, arith, true≢false, length-append, get_or-set_other, get_or-set_same, length-set, eqb-true, eqb-false, ne_eqb, slice_get_within, get_or_from_slice_get, Event, Open, Close, First, Next, Touch, ObjectId, SectionId, without_section, at_section, first_of, next_of, State, got, IsSuccessor, In, in_sections, has_section_in, in_objects, has_object_in, in_left, in_last, in_more, section_tells, Tells, without_section_has, has_without_section, at_section_same, at_section_other, some_is, none_some, first_has, follows_has, same_section, Layout, count_of, phase_in, is_open_of, left_of, is_online, announced, entered_of-nests, entered_of-opens, left_of-nests, Shows, Answer, Events, Quiet, ReaderState, ReaderStep, ObjectState, Stage, Fresh, Linked, Read, Plans, BoardView, told, changed, section_of, new_reader, is_open_in, quietly, telling, with_word, opened, closed, with_cursor, found_row, no_object, link_of, stage_of, chain_of, LinksKept, decide_number, reader_at, ReaderKept, readers_set}
+use Rattle.world_state.specs.declared.object.Stage.TheVariants.{Cut as IsCut}
 use Rattle.world.proofs.Fence.{Laws}
 use Rattle.world.proofs.Periods.{part_words}
+use Rattle.world.proofs.Rows.{ReaderRows}
 use Rattle.world.proofs.State.{decide_asker, holder_of, work_of, word_at, Kept, Owes}
+use Rattle.world.proofs.Tests.{not_false}
 
 -- a section is that of its reader and its ordinal
 decide_section : (s t : SectionId) → (s ≡ t) ⊎ (s ≢ t)
@@ -140,9 +113,8 @@ module _ {P : Type 0} (plans : Plans P) (layout : Layout) (slots : ℕ) (laws : 
           subst (λ (y : ReaderState). y.ordinal ≤ length (w.log ++ told answer)) (sym (get_or-set_other w.readers r x v' new_reader n))
           (log_longer w.log (told answer) (reader_at w.readers x).ordinal (k.ordinals x))
 
-  abbrev pub OwesRead : ℕ → Result ReaderStep Refusal → Type 0
-  OwesRead r (Err e) = Unit {0}
-  OwesRead r (Ok step) = Owes plans layout slots laws w now (Ok (Read r step))
+  abbrev pub OwesRead : ℕ → ReaderStep → Type 0
+  OwesRead r step = Owes plans layout slots laws w now (Ok (Read r step))
 
   -- nothing of the sections changes
   same_sections : (r : ℕ) (v v' : ReaderState) (answer : Answer) → There r v → ReaderKept plans.qsbr layout r v' number w.objects now.sections now.seen now.held →
@@ -162,7 +134,7 @@ module _ {P : Type 0} (plans : Plans P) (layout : Layout) (slots : ℕ) (laws : 
       (subst (λ n. n ≤ length (w.log ++ told answer)) (sym same) (log_longer w.log (told answer) v.ordinal t.ordinal))
 
   -- a phase or number is loaded
-  pub owes_copy : (r : ℕ) (v : ReaderState) → There r v → (plans.qsbr ≡ false → is_in v.word ≡ false) → OwesRead r (Ok (quietly (record v { copy = Some number })))
+  owes_copy : (r : ℕ) (v : ReaderState) → There r v → (plans.qsbr ≡ false → is_in v.word ≡ false) → OwesRead r (quietly (record v { copy = Some number }))
   owes_copy r v t idle = (
     tt,
     same_sections r v (record v { copy = Some number }) Quiet t
@@ -178,8 +150,8 @@ module _ {P : Type 0} (plans : Plans P) (layout : Layout) (slots : ℕ) (laws : 
   )
 
   -- the word changes while its section stays open
-  pub owes_word : (r : ℕ) (v : ReaderState) (word : ℕ) → There r v → is_in v.word ≡ true → is_in word ≡ true → ((mark : ℕ) → shows mark v.word → shows mark word) → (plans.qsbr ≡ true → word ≤ number + 1) →
-      OwesRead r (Ok (quietly (with_word v word)))
+  owes_word : (r : ℕ) (v : ReaderState) (word : ℕ) → There r v → is_in v.word ≡ true → is_in word ≡ true → ((mark : ℕ) → shows mark v.word → shows mark word) → (plans.qsbr ≡ true → word ≤ number + 1) →
+      OwesRead r (quietly (with_word v word))
   owes_word r v word t was is marks low = (
     tt,
     same_sections r v (with_word v word) Quiet t
@@ -195,8 +167,8 @@ module _ {P : Type 0} (plans : Plans P) (layout : Layout) (slots : ℕ) (laws : 
   )
 
   -- a section opens
-  pub owes_open : (r : ℕ) (v : ReaderState) (word : ℕ) → There r v → is_in v.word ≡ false → is_in word ≡ true → (plans.qsbr ≡ true → word ≤ number + 1) →
-      OwesRead r (Ok (telling (Open (section_of r (v.ordinal + 1))) (opened v word)))
+  owes_open : (r : ℕ) (v : ReaderState) (word : ℕ) → There r v → is_in v.word ≡ false → is_in word ≡ true → (plans.qsbr ≡ true → word ≤ number + 1) →
+      OwesRead r (telling (Open (section_of r (v.ordinal + 1))) (opened v word))
   owes_open r v word t was is low = (
     ((λ h. let l = t.mine.low (v.ordinal + 1) (in_sections now.seen new h) in omega (arith, l)), tt),
     kept_read r v (opened v word) (Events (Open new) None) (new ∷ now.seen) (now.sections ++ new ∷ []) now.held now.awaited now.asked_sections t
@@ -261,7 +233,7 @@ module _ {P : Type 0} (plans : Plans P) (layout : Layout) (slots : ℕ) (laws : 
     asked_open : (a : ℕ) (s : SectionId) → In (asked_left a) s → In now.sections s → In left s
     asked_open a s h o = has_without_section gone now.sections s o (without_section_has gone (now.asked_sections a) s h).1
 
-    pub owes_close : (word : ℕ) → is_in word ≡ false → (plans.qsbr ≡ true → word ≤ number + 1) → OwesRead r (Ok (telling (Close (section_of r v.ordinal)) (closed v word)))
+    owes_close : (word : ℕ) → is_in word ≡ false → (plans.qsbr ≡ true → word ≤ number + 1) → OwesRead r (telling (Close (section_of r v.ordinal)) (closed v word))
     owes_close word is low = (
       (has_section_in now.sections gone (t.mine.opened was), tt),
       kept_read r v (closed v word) (Events (Close gone) None) now.seen left (at_section gone [] now.held) awaited_left asked_left t
@@ -285,8 +257,8 @@ module _ {P : Type 0} (plans : Plans P) (layout : Layout) (slots : ℕ) (laws : 
     )
 
     -- one section closes and the next one opens
-    pub owes_announce : (word : ℕ) → is_in word ≡ true → (plans.qsbr ≡ true → word ≤ number + 1) →
-        OwesRead r (Ok (record { state = opened v word; answer = Events (Close (section_of r v.ordinal)) (Some (Open (section_of r (v.ordinal + 1)))) }))
+    owes_announce : (word : ℕ) → is_in word ≡ true → (plans.qsbr ≡ true → word ≤ number + 1) →
+        OwesRead r (record { state = opened v word; answer = Events (Close (section_of r v.ordinal)) (Some (Open (section_of r (v.ordinal + 1)))) })
     owes_announce word is low = (
       (has_section_in now.sections gone (t.mine.opened was), ((λ h. let l = t.mine.low (v.ordinal + 1) (in_sections now.seen new h) in omega (arith, l)), tt)),
       kept_read r v (opened v word) (Events (Close gone) (Some (Open new))) (new ∷ now.seen) (left ++ new ∷ []) (at_section gone [] now.held) awaited_left asked_left t
@@ -351,9 +323,8 @@ module _ {P : Type 0} (plans : Plans P) (layout : Layout) (slots : ℕ) (laws : 
   open_section : (r : ℕ) (v : ReaderState) → There r v → is_in v.word ≡ true → In now.sections (section_of r v.ordinal)
   open_section r v t is = t.mine.opened is
 
-  pub owes_first : (r : ℕ) (v : ReaderState) (c : ℕ) → There r v → is_in v.word ≡ true → (x : Option (Option ObjectId)) → slice_get w.heads c ≡ x → OwesRead r (first_row r v c x)
-  owes_first r v c t is None at_c = tt
-  owes_first r v c t is (Some head) at_c =
+  owes_first : (r : ℕ) (v : ReaderState) (c : ℕ) (head : Option ObjectId) → There r v → is_in v.word ≡ true → slice_get w.heads c ≡ Some head → OwesRead r (found_row v head (First (section_of r v.ordinal) c head))
+  owes_first r v c head t is at_c =
       let first : first_of (now.chain c) ≡ head = sym ((k.links_kept.chains c).words None tt) ∙ get_or_from_slice_get w.heads c head None at_c in (
         ((has_section_in now.sections (section_of r v.ordinal) (open_section r v t is), first), tt),
         kept_got r v (First (section_of r v.ordinal) c head) head t is
@@ -395,37 +366,24 @@ module _ {P : Type 0} (plans : Plans P) (layout : Layout) (slots : ℕ) (laws : 
           (next, λ f e s. linked_fresh (sym (links.linked (chain_of w.objects o) f (follows_has (now.chain (chain_of w.objects o)) (Some o) f (in_its_chain (chain_of w.objects o) h ∙ e))).0 ∙ s))
       by IsCut is = (next, λ f e. links.targets o f is e)
 
-  pub owes_next : (r : ℕ) (v : ReaderState) → There r v → is_in v.word ≡ true → (from : Option ObjectId) → v.cursor ≡ from → OwesRead r (next_from w r v from)
-  owes_next r v t is None e = tt
-  owes_next r v t is (Some o) e = found_at (slice_get w.objects o.0) refl
-    where
-      found_at : (x : Option ObjectState) → slice_get w.objects o.0 ≡ x → OwesRead r (next_row r v o x)
-      found_at None at_o = tt
-      found_at (Some x) at_o =
-          let same : link_of w.objects o ≡ x.link = ap (λ (y : ObjectState). y.link) (get_or_from_slice_get w.objects o.0 x no_object at_o) in
-          let held = t.mine.holds o e in
-          let next = successor_at o held.2 in (
-            ((has_section_in now.sections (section_of r v.ordinal) (open_section r v t is), has_object_in (now.held (section_of r v.ordinal)) o held.1, subst (IsSuccessor now o) same next.0), tt),
-            kept_got r v (Next (section_of r v.ordinal) o x.link) x.link t is (λ f g. next.1 f (same ∙ g)),
-          )
+  owes_next : (r : ℕ) (v : ReaderState) (o : ObjectId) (x : ObjectState) → There r v → is_in v.word ≡ true → v.cursor ≡ Some o → slice_get w.objects o.0 ≡ Some x → OwesRead r (found_row v x.link (Next (section_of r v.ordinal) o x.link))
+  owes_next r v o x t is from at_o =
+      let same : link_of w.objects o ≡ x.link = ap (λ (y : ObjectState). y.link) (get_or_from_slice_get w.objects o.0 x no_object at_o) in
+      let held = t.mine.holds o from in
+      let next = successor_at o held.2 in (
+        ((has_section_in now.sections (section_of r v.ordinal) (open_section r v t is), has_object_in (now.held (section_of r v.ordinal)) o held.1, subst (IsSuccessor now o) same next.0), tt),
+        kept_got r v (Next (section_of r v.ordinal) o x.link) x.link t is (λ f g. next.1 f (same ∙ g)),
+      )
 
-  pub owes_touch : (r : ℕ) (v : ReaderState) → There r v → is_in v.word ≡ true → (from : Option ObjectId) → v.cursor ≡ from → OwesRead r (touch_row r v from)
-  owes_touch r v t is None e = tt
-  owes_touch r v t is (Some o) e = (
-    ((has_section_in now.sections (section_of r v.ordinal) (open_section r v t is), has_object_in (now.held (section_of r v.ordinal)) o (t.mine.holds o e).1), tt),
+  owes_touch : (r : ℕ) (v : ReaderState) (o : ObjectId) → There r v → is_in v.word ≡ true → v.cursor ≡ Some o → OwesRead r (telling (Touch (section_of r v.ordinal) o) v)
+  owes_touch r v o t is from = (
+    ((has_section_in now.sections (section_of r v.ordinal) (open_section r v t is), has_object_in (now.held (section_of r v.ordinal)) o (t.mine.holds o from).1), tt),
     same_sections r v v (Events (Touch (section_of r v.ordinal) o) None) t t.mine (λ mark s _ _ h. h) refl,
   )
 
-  -- the rows of the two flavours, by what the word functions give
-  closed_count : (word : ℕ) → count_of layout word ≡ 0 → is_open_of layout word ≡ false
-  closed_count word e = ap (λ n. not (n == 0)) e
-
+  -- the two flavours, by what the word functions give
   open_count : (word : ℕ) → count_of layout word ≢ 0 → is_open_of layout word ≡ true
-  open_count word n = by (eqb_tells (count_of layout word) 0)
-    where
-      by : (((count_of layout word == 0) ≡ true) × (count_of layout word ≡ 0)) ⊎ (((count_of layout word == 0) ≡ false) × (count_of layout word ≢ 0)) → is_open_of layout word ≡ true
-      by (inl y) = absurd (n y.1)
-      by (inr m) = ap not m.0
+  open_count word n = ap not (ne_eqb (count_of layout word) 0 n)
 
   in_memb : (word : ℕ) (b : Bool) → plans.qsbr ≡ false → is_open_of layout word ≡ b → is_in word ≡ b
   in_memb word b f e = subst (λ (q : Bool). is_open_in q layout word ≡ b) (sym f) e
@@ -442,100 +400,39 @@ module _ {P : Type 0} (plans : Plans P) (layout : Layout) (slots : ℕ) (laws : 
       subst (λ (q : Bool). Shows q layout mark deeper) (sym f)
       (let s = subst (λ (q : Bool). Shows q layout mark word) f shown in (more, same ∙ s.1))
 
-  pub owes_lock : (r : ℕ) (v : ReaderState) → plans.qsbr ≡ false → There r v → OwesRead r (lock_row layout number v)
-  owes_lock r v f t = by (count_of layout v.word == 0) (eqb_tells (count_of layout v.word) 0)
-    where
-      deeper : count_of layout v.word ≢ 0 → (x : Result ℕ Refusal) → entered_of layout v.word false ≡ x → OwesRead r (stores (λ word. quietly (with_word v word)) x)
-      deeper n (Err e) is = tt
-      deeper n (Ok word) is =
-          let d = entered_of-nests layout v.word false word n is in
-          let more : count_of layout word ≢ 0 = λ e. let c = d.count in omega (arith, c, e) in
-          owes_word r v word t (in_memb v.word true f (open_count v.word n)) (in_memb word true f (open_count word more)) (memb_marks v.word word f d.phase more) (memb_only f number word)
+  -- what is owed of each step of a reader
+  module _ (r : ℕ) (v : ReaderState) (t : There r v) where
+    was_open : (word : ℕ) → plans.qsbr ≡ false → left_of layout v.word ≡ Ok word → is_in v.word ≡ true
+    was_open word f is = let d = left_of-nests layout v.word word is in in_memb v.word true f (open_count v.word (λ e. let c = d.count in omega (arith, c, e)))
 
-      by : (b : Bool) → ((b ≡ true) × (count_of layout v.word ≡ 0)) ⊎ ((b ≡ false) × (count_of layout v.word ≢ 0)) →
-          OwesRead r (cond b (Ok (quietly (record v { copy = Some number }))) (stores (λ word. quietly (with_word v word)) (entered_of layout v.word false)))
-      by true (inl y) = owes_copy r v t (λ _. in_memb v.word false f (closed_count v.word y.1))
-      by true (inr n) = absurd (true≢false n.0)
-      by false (inl y) = absurd (true≢false (sym y.0))
-      by false (inr n) = deeper n.1 (entered_of layout v.word false) refl
+    was_closed : (copied : ℕ) → v.copy ≡ Some copied → plans.qsbr ≡ false → is_open_of layout v.word ≡ false
+    was_closed copied has f = subst (λ (q : Bool). is_open_in q layout v.word ≡ false) f ((t.mine.copying copied has).0 f)
 
-  pub owes_enter : (r : ℕ) (v : ReaderState) (copy : ℕ) → plans.qsbr ≡ false → There r v → v.copy ≡ Some copy → OwesRead r (enter_row layout copy r v)
-  owes_enter r v copy f t has = by (entered_of layout v.word (copy == 1)) refl
-    where
-      idle : is_open_of layout v.word ≡ false
-      idle = subst (λ (q : Bool). is_open_in q layout v.word ≡ false) f ((t.mine.copying copy has).0 f)
+    announced_low : (copied : ℕ) → v.copy ≡ Some copied → plans.qsbr ≡ true → announced copied ≤ number + 1
+    announced_low copied has e = let l = (t.mine.copying copied has).1 e in omega (arith, l)
 
-      closed' : count_of layout v.word ≡ 0
-      closed' = zero_count (eqb_tells (count_of layout v.word) 0)
-        where
-          zero_count : (((count_of layout v.word == 0) ≡ true) × (count_of layout v.word ≡ 0)) ⊎ (((count_of layout v.word == 0) ≡ false) × (count_of layout v.word ≢ 0)) → count_of layout v.word ≡ 0
-          zero_count (inl y) = y.1
-          zero_count (inr n) = absurd (true≢false (sym (ap not n.0) ∙ idle))
+    announced_open : (copied : ℕ) → plans.qsbr ≡ true → is_in (announced copied) ≡ true
+    announced_open copied q = in_qsbr (announced copied) true q
+        (ap not (ne_eqb (copied + 1) 0 (λ e. omega (arith, e))))
 
-      by : (x : Result ℕ Refusal) → entered_of layout v.word (copy == 1) ≡ x → OwesRead r (stores (λ word. telling (Open (section_of r (v.ordinal + 1))) (opened v word)) x)
-      by (Err e) is = tt
-      by (Ok word) is =
-          let o = entered_of-opens layout v.word (copy == 1) word closed' is in
-          owes_open r v word t (in_memb v.word false f idle) (in_memb word true f (open_count word (λ e. let one = o.0 in omega (arith, one, e)))) (memb_only f number word)
-
-  pub owes_unlock : (r : ℕ) (v : ReaderState) → plans.qsbr ≡ false → There r v → OwesRead r (unlock_row layout r v)
-  owes_unlock r v f t = by (left_of layout v.word) refl
-    where
-      last : (word : ℕ) → NestsDeeper layout word v.word → (b : Bool) → ((b ≡ true) × (count_of layout word ≡ 0)) ⊎ ((b ≡ false) × (count_of layout word ≢ 0)) →
-          OwesRead r (Ok (cond b (telling (Close (section_of r v.ordinal)) (closed v word)) (quietly (with_word v word))))
-      last word d b tells = by_test b tells
-        where
-          was : is_in v.word ≡ true
-          was = in_memb v.word true f (open_count v.word (λ e. let c = d.count in omega (arith, c, e)))
-
-          by_test : (b : Bool) → ((b ≡ true) × (count_of layout word ≡ 0)) ⊎ ((b ≡ false) × (count_of layout word ≢ 0)) → OwesRead r (Ok (cond b (telling (Close (section_of r v.ordinal)) (closed v word)) (quietly (with_word v word))))
-          by_test true (inl y) = owes_close r v t was word (in_memb word false f (closed_count word y.1)) (memb_only f number word)
-          by_test true (inr n) = absurd (true≢false n.0)
-          by_test false (inl y) = absurd (true≢false (sym y.0))
-          by_test false (inr n) = owes_word r v word t was (in_memb word true f (open_count word n.1)) (memb_marks v.word word f (sym d.phase) n.1) (memb_only f number word)
-
-      by : (x : Result ℕ Refusal) → left_of layout v.word ≡ x → OwesRead r (stores (λ word. cond (count_of layout word == 0) (telling (Close (section_of r v.ordinal)) (closed v word)) (quietly (with_word v word))) x)
-      by (Err e) is = tt
-      by (Ok word) is = last word (left_of-nests layout v.word word is) (count_of layout word == 0) (eqb_tells (count_of layout word) 0)
-
-  -- the quiescent-state flavour
-  qsbr_any : plans.qsbr ≡ true → (word : ℕ) → plans.qsbr ≡ false → is_in word ≡ false
-  qsbr_any q word f = absurd (true≢false (sym q ∙ f))
-
-  pub owes_online : (r : ℕ) (v : ReaderState) → plans.qsbr ≡ true → There r v → OwesRead r (online_row number v)
-  owes_online r v q t = by (is_online v.word)
-    where
-      by : (b : Bool) → OwesRead r (cond b (Err Busy) (Ok (quietly (record v { copy = Some number }))))
-      by true = tt
-      by false = owes_copy r v t (qsbr_any q v.word)
-
-  pub owes_quiescent : (r : ℕ) (v : ReaderState) → plans.qsbr ≡ true → There r v → OwesRead r (quiescent_row number v)
-  owes_quiescent r v q t = by (is_online v.word)
-    where
-      by : (b : Bool) → OwesRead r (cond b (Ok (quietly (record v { copy = Some number }))) (Err NotOpen))
-      by true = owes_copy r v t (qsbr_any q v.word)
-      by false = tt
-
-  pub owes_offline : (r : ℕ) (v : ReaderState) → plans.qsbr ≡ true → There r v → OwesRead r (offline_row r v)
-  owes_offline r v q t = by (is_online v.word) refl
-    where
-      by : (b : Bool) → is_online v.word ≡ b → OwesRead r (cond b (Ok (telling (Close (section_of r v.ordinal)) (closed v 0))) (Err NotOpen))
-      by true is = owes_close r v t (in_qsbr v.word true q is) 0 (in_qsbr 0 false q refl) (λ _. omega arith)
-      by false is = tt
-
-  pub owes_announced : (r : ℕ) (v : ReaderState) (copy : ℕ) → plans.qsbr ≡ true → There r v → v.copy ≡ Some copy → OwesRead r (Ok (cond (is_online v.word) (announce_row copy r v) (go_online_row copy r v)))
-  owes_announced r v copy q t has = by (is_online v.word) refl
-    where
-      low : plans.qsbr ≡ true → announced copy ≤ number + 1
-      low e = let l = (t.mine.copying copy has).1 e in omega (arith, l)
-
-      online' : is_in (announced copy) ≡ true
-      online' = in_qsbr (announced copy) true q (above (eqb_tells (copy + 1) 0))
-        where
-          above : (((copy + 1 == 0) ≡ true) × (copy + 1 ≡ 0)) ⊎ (((copy + 1 == 0) ≡ false) × (copy + 1 ≢ 0)) → is_online (announced copy) ≡ true
-          above (inl y) = let e = y.1 in absurd (omega (arith, e))
-          above (inr n) = ap not n.0
-
-      by : (b : Bool) → is_online v.word ≡ b → OwesRead r (Ok (cond b (announce_row copy r v) (go_online_row copy r v)))
-      by true is = owes_announce r v t (in_qsbr v.word true q is) (announced copy) online' low
-      by false is = owes_open r v (announced copy) t (in_qsbr v.word false q is) online' low
+    pub owes_reads : ReaderRows plans.qsbr layout w r v (OwesRead r)
+    owes_reads = record {
+      copies = λ none zero. owes_copy r v t (λ f. in_memb v.word false f (ap not (zero f)));
+      nests = λ word none f more is.
+          let d = entered_of-nests layout v.word false word (eqb-false (count_of layout v.word) 0 more) is in
+          let deeper : count_of layout word ≢ 0 = λ e. let c = d.count in omega (arith, c, e) in
+          owes_word r v word t (in_memb v.word true f (ap not more)) (in_memb word true f (open_count word deeper)) (memb_marks v.word word f d.phase deeper) (memb_only f number word);
+      unnests = λ word none f is more.
+          owes_word r v word t (was_open word f is) (in_memb word true f (ap not more)) (memb_marks v.word word f (sym (left_of-nests layout v.word word is).phase) (eqb-false (count_of layout word) 0 more)) (memb_only f number word);
+      unlocks = λ word none f is zero. owes_close r v t (was_open word f is) word (in_memb word false f (ap not zero)) (memb_only f number word);
+      leaves = λ none q online. owes_close r v t (in_qsbr v.word true q online) 0 (in_qsbr 0 false q refl) (λ _. omega arith);
+      enters = λ copied word has f is.
+          let idle = was_closed copied has f in
+          let o = entered_of-opens layout v.word (copied == 1) word (eqb-true (count_of layout v.word) 0 (not_false idle)) is in
+          owes_open r v word t (in_memb v.word false f idle) (in_memb word true f (open_count word (λ e. let one = o.0 in omega (arith, one, e)))) (memb_only f number word);
+      goes_online = λ copied has q offline. owes_open r v (announced copied) t (in_qsbr v.word false q offline) (announced_open copied q) (announced_low copied has);
+      announces = λ copied has q online. owes_announce r v t (in_qsbr v.word true q online) (announced copied) (announced_open copied q) (announced_low copied has);
+      firsts = λ c head none is at_c. owes_first r v c head t is at_c;
+      nexts = λ o x none is from at_o. owes_next r v o x t is from at_o;
+      touches = λ o none is from. owes_touch r v o t is from;
+    }

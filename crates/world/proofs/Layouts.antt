@@ -1,18 +1,9 @@
 -- In the quiescent-state flavour words of both layouts lead to the same answers.
-use Rattle.std.proofs.Common.{◌≡◌, ℕ, List, [], ◌∷◌, Result, Ok, Err, refl, ap, ◌∙◌}
-use Rattle.rcu_model.specs.declared.refusal.Refusal.{Refusal}
-use Rattle.reader_word.specs.declared.layout.Layout.{Layout}
-use Rattle.gp_qsbr.specs.declared.qsbr.QsbrPlan.{QsbrPlan}
-use Rattle.world_state.specs.declared.config.Config.{Config}
-use Rattle.world_state.specs.declared.config.Flavour.{Flavour}
-use Rattle.world_state.specs.declared.config.Flavour.TheVariants.{Memb, Qsbr}
-use Rattle.world_state.specs.declared.line.Answer.{Answer}
-use Rattle.world_state.specs.declared.line.Line.{Line}
-use Rattle.world_state.specs.declared.change.Change.{Change}
-use Rattle.world_state.specs.declared.change.Change.TheVariants.{Read, Begin, Publish, Grace, Hold, Retire, Bar, Work, Stay}
-use Rattle.world_state.specs.View.{BoardView, fresh_at}
+use Rattle.world.proofs.Cited.{◌≡◌, ℕ, true, List, [], ◌∷◌, slice_get, Option, Some, None, Result, Ok, Err, refl, ap, ◌∙◌, Refusal, Layout, QsbrPlan, Config, Flavour, Memb, Qsbr, Answer, Line, Change, Read, BoardView, fresh_at, Reader, Updater, Worker, ReaderVerb, ReaderState}
 use Rattle.world.specs.Layouts.{answers_to, laid_out}
-use Rattle.world.specs.Lines.{change_of, with_change, outcome_of}
+use Rattle.world.specs.Lines.{of_reader, change_of, with_change, outcome_of}
+use Rattle.world.specs.Row.{made}
+use Rattle.world_state.specs.declared.line.ReaderVerb.TheVariants as reader
 use Rattle.world.specs.Steps.{OfQsbr, qsbr_plans, fresh_in}
 
 abbrev laid : Layout → BoardView QsbrPlan → BoardView QsbrPlan
@@ -25,19 +16,25 @@ module _ (layout : Layout) where
 
   same_world : (w : BoardView QsbrPlan) (x : Result (Change QsbrPlan) Refusal) → (with_change (laid layout w) x).world ≡ laid layout (with_change w x).world
   same_world w (Ok (Read r step)) = refl
-  same_world w (Ok (Begin u x object)) = refl
-  same_world w (Ok (Publish u x splice event)) = refl
-  same_world w (Ok (Grace u x grace answer)) = refl
-  same_world w (Ok (Hold u x q)) = refl
-  same_world w (Ok (Retire u x q act mark answer)) = refl
-  same_world w (Ok (Bar u x barriers answer)) = refl
-  same_world w (Ok (Work k x grace act mark answer)) = refl
-  same_world w (Ok (Stay answer)) = refl
-  same_world w (Err e) = refl
+  same_world w _ = refl
 
   -- a step of this flavour looks at no layout
   same_change : (w : BoardView QsbrPlan) (line : Line) → change_of qsbr_plans (laid layout w) line ≡ change_of qsbr_plans w line
-  same_change w line = refl
+  same_change w (Reader r verb) = by (slice_get w.readers r) verb
+    where
+      by : (v : Option ReaderState) (verb : ReaderVerb) → made (of_reader true (laid layout w) r verb v) ≡ made (of_reader true w r verb v)
+      by None verb = refl
+      by (Some v) reader.Lock = refl
+      by (Some v) reader.Unlock = refl
+      by (Some v) reader.Online = refl
+      by (Some v) reader.Quiescent = refl
+      by (Some v) reader.Offline = refl
+      by (Some v) (reader.First c) = refl
+      by (Some v) reader.Next = refl
+      by (Some v) reader.Touch = refl
+      by (Some v) reader.GoOn = refl
+  same_change w (Updater u verb) = refl
+  same_change w (Worker k verb) = refl
 
   all_alike : (w : BoardView QsbrPlan) (lines : List Line) → answers_to (OfQsbr (laid layout w)) lines ≡ answers_to (OfQsbr w) lines
   all_alike w [] = refl

@@ -1,3 +1,4 @@
+mod Cited
 pub mod Fence
 pub mod Periods
 pub mod State
@@ -5,7 +6,6 @@ pub mod Callbacks
 pub mod QueueChanges
 pub mod Plain
 pub mod KeptReaders
-pub mod KeptReading
 pub mod KeptPublishing
 pub mod Asking
 pub mod Beside
@@ -14,11 +14,9 @@ pub mod Barriers
 pub mod WorkerSteps
 pub mod WorkerAsks
 pub mod KeptWaiting
-pub mod PlainLines
 pub mod Logged
 pub mod TheLaws
 pub mod Reaching
-pub mod ReaderAnswers
 pub mod Prompt
 pub mod Telling
 mod DrainSteps
@@ -27,7 +25,7 @@ mod DrainWorld
 mod DrainSettled
 pub mod Making
 pub mod Ranging
-pub mod Sweeping
+pub mod Tests
 pub mod Naming
 pub mod Placing
 pub mod Counting
@@ -39,11 +37,10 @@ pub mod Opening
 pub mod InGrace
 pub mod InOrder
 pub mod LockHolders
-pub mod Tests
-pub mod TestsOfScans
-pub mod TestsOfGrace
-pub mod TestsOfUpdaters
-pub mod TestsOfLines
+pub mod Found
+pub mod Moves
+pub mod Standing
+pub mod Moving
 pub mod TestsOfSteps
 pub mod RunOrder
 pub mod NotesOfReaders

@@ -1,48 +1,15 @@
 -- What a section's word is made of: the phase or number that was present at its reader's line before.
-use Rattle.std.proofs.Common.{◌≡◌, ◌≢◌, ◌⊎◌, inl, inr, ℕ, ◌==◌, cond, Bool, true, false, is_some, IsTrue, List, [], ◌∷◌, ◌++◌, get_or, slice_get, slice_set, Option, Some, None, Result, Ok, Err, refl, sym, ap, ◌∙◌, subst, true≢false, get_or-set_same, get_or-set_other}
-use Rattle.std.proofs.lemmas.Bool.Decides.{eqb_tells}
-use Rattle.std.proofs.lemmas.Option.{get_or_from_slice_get, slice_get_within}
-use Rattle.rcu_model.specs.declared.event.ObjectId.{ObjectId}
-use Rattle.rcu_model.specs.declared.refusal.Refusal.{Refusal}
-use Rattle.rcu_model.specs.declared.refusal.Refusal.TheVariants.{NoActor}
-use Rattle.reader_word.specs.declared.layout.Layout.{Layout}
-use Rattle.reader_word.specs.Word.{count_of, fresh, entered_of, left_of}
-use Rattle.reader_word.specs.Quiescent.{is_online, announced}
-use Rattle.world_state.specs.declared.config.Config.{Config}
-use Rattle.world_state.specs.declared.line.Line.{Line}
-use Rattle.world_state.specs.declared.line.Line.TheVariants.{Reader, Updater, Worker}
-use Rattle.world_state.specs.declared.line.ReaderVerb.{ReaderVerb}
-use Rattle.world_state.specs.declared.line.ReaderVerb.TheVariants as reader
-use Rattle.world_state.specs.declared.object.ObjectState.{ObjectState}
-use Rattle.world_state.specs.declared.reader.ReaderState.{ReaderState}
-use Rattle.world_state.specs.declared.reader.ReaderStep.{ReaderStep}
-use Rattle.world_state.specs.declared.updater.UpdaterState.{UpdaterState}
-use Rattle.world_state.specs.declared.updater.RetireStep.{RetireStep}
-use Rattle.world_state.specs.declared.updater.RetireStep.TheVariants as retire
-use Rattle.world_state.specs.declared.change.Change.{Change}
-use Rattle.world_state.specs.declared.change.Change.TheVariants.{Read, Begin, Publish, Grace, Hold, Retire, Bar, Work, Stay}
-use Rattle.world_state.specs.Readers.{new_reader, is_open_in, quietly, with_word, stores, touch_row, announce_row, go_online_row}
-use Rattle.world_state.specs.View.{Plans, BoardView, changed, fresh_at}
-use Rattle.world.specs.Chains.{first_row, next_row, next_from}
-use Rattle.world.specs.Lines.{reader_line, reader_begins, reader_on, read_by, of_reader, with_change, outcome_of, change_of}
+use Rattle.world.proofs.Cited.{◌≡◌, ◌≢◌, ◌⊎◌, ℕ, true≢false, inl, inr, ◌==◌, cond, Bool, true, false, IsTrue, List, [], ◌∷◌, ◌++◌, get_or, slice_get, slice_set, Option, Some, None, Result, Ok, Err, refl, sym, ap, ◌∙◌, subst, get_or-set_same, get_or-set_other, cond-true, cond-false, eqb_tells, get_or_from_slice_get, slice_get_within, Refusal, Layout, count_of, fresh, entered_of, announced, Config, Answer, Line, Reader, Updater, Worker, ReaderState, ReaderStep, Change, Read, Stay, new_reader, quietly, with_word, announce_row, go_online_row, Plans, BoardView, changed, told, fresh_at}
+use Rattle.world.specs.Lines.{with_change, outcome_of, change_of}
 use Rattle.world.specs.Loads.{Move, opens_section, word_for, StoresWhatItLoaded, made_by, move_of, moves_of}
-use Rattle.world.specs.Queues.{retire_on}
 use Rattle.world.specs.Steps.{IsOfReader}
 use Rattle.world.proofs.Logged.{get_replicate}
-use Rattle.world.proofs.Sweeping.{Each, OfOthers, OfWork, each_worker, each_line}
-
-picked : {X : Type 0} (b : Bool) (x y z : X) → b ≡ true → cond b x y ≡ z → x ≡ z
-picked true x y z e f = f
-picked false x y z e f = absurd (true≢false (sym e))
+use Rattle.world.proofs.Rows.{ReaderRows, reads_by, IsUpdate, any_retires, any_updates, any_works, Each, Law, by_law}
 
 -- a lock of a closed word stores a fresh one
 entered_fresh : (layout : Layout) (word after : ℕ) (phase : Bool) → (count_of layout word == 0) ≡ true → entered_of layout word phase ≡ Ok after → after ≡ fresh layout phase
 entered_fresh layout word after phase closed entered =
-    let is = picked (count_of layout word == 0) _ _ _ closed entered in cc
-
-no_copy : (copy : Option ℕ) → is_some copy ≡ false → copy ≡ None
-no_copy None e = refl
-no_copy (Some n) e = absurd (true≢false e)
+    let is : Ok (fresh layout phase) ≡ Ok after = sym (cond-true (count_of layout word == 0) _ _ closed) ∙ entered in cc
 
 -- ---- a reader's row
 
@@ -56,22 +23,6 @@ module _ {P : Type 0} (qsbr : Bool) (w : BoardView P) (r : ℕ) (v : ReaderState
     pub opens : IsTrue (opens_section step.answer) → (copied : ℕ) × (v.copy ≡ Some copied) × (IsClosed v → step.state.word ≡ word_for qsbr w.layout copied)
     pub copies : (copied : ℕ) → step.state.copy ≡ Some copied → (copied ≡ w.grace.word) × IsClosed step.state
 
-  abbrev EachLoads : Result ReaderStep Refusal → Type 0
-  EachLoads (Ok step) = Loads step
-  EachLoads (Err e) = Unit {0}
-
-  either : (b : Bool) (x y : Result ReaderStep Refusal) → (b ≡ true → EachLoads x) → (b ≡ false → EachLoads y) → EachLoads (cond b x y)
-  either true x y p q = p refl
-  either false x y p q = q refl
-
-  either_step : (b : Bool) (x y : ReaderStep) → Loads x → Loads y → Loads (cond b x y)
-  either_step true x y p q = p
-  either_step false x y p q = q
-
-  stored : (step : ℕ → ReaderStep) (x : Result ℕ Refusal) → ((word : ℕ) → x ≡ Ok word → Loads (step word)) → EachLoads (stores step x)
-  stored step (Ok word) p = p word refl
-  stored step (Err e) p = tt
-
   -- a step that opens nothing and copies nothing
   plain : (step : ReaderStep) → opens_section step.answer ≡ false → step.state.copy ≡ None → Loads step
   plain step quiet none = record {
@@ -79,73 +30,28 @@ module _ {P : Type 0} (qsbr : Bool) (w : BoardView P) (r : ℕ) (v : ReaderState
     copies = λ copied e. let clash = sym none ∙ e in cc;
   }
 
-  -- the loads of `lock`, `online` and `quiescent`
-  loads : IsClosed v → Loads (quietly (record v { copy = Some w.grace.word }))
-  loads closed = record { opens = λ h. absurd (true≢false (sym h)); copies = λ copied e. (cc, closed) }
-
-  -- it goes online, or announces
-  announces : (step : ReaderStep) (copied : ℕ) → qsbr ≡ true → v.copy ≡ Some copied → step.state.word ≡ announced copied → step.state.copy ≡ None → Loads step
-  announces step copied flavour is word none = record {
-    opens = λ h. (copied, is, λ closed. word ∙ sym (ap (λ (b : Bool). cond b (announced copied) (fresh w.layout (copied == 1))) flavour));
+  -- one that opens a section
+  opening : (step : ReaderStep) (copied : ℕ) → v.copy ≡ Some copied → (IsClosed v → step.state.word ≡ word_for qsbr w.layout copied) → step.state.copy ≡ None → Loads step
+  opening step copied has word none = record {
+    opens = λ h. (copied, has, word);
     copies = λ c e. let clash = sym none ∙ e in cc;
   }
 
-  -- it enters
-  enters : (step : ReaderStep) (copied word : ℕ) → qsbr ≡ false → v.copy ≡ Some copied → entered_of w.layout v.word (copied == 1) ≡ Ok word → step.state.word ≡ word → step.state.copy ≡ None → Loads step
-  enters step copied word flavour is entered stored none = record {
-    opens = λ h. (copied, is, λ closed. stored ∙ entered_fresh w.layout v.word word (copied == 1) (closed flavour) entered ∙ sym (ap (λ (b : Bool). cond b (announced copied) (fresh w.layout (copied == 1))) flavour));
-    copies = λ c e. let clash = sym none ∙ e in cc;
+  loads : ReaderRows qsbr w.layout w r v Loads
+  loads = record {
+    copies = λ none zero. record { opens = λ h. absurd (true≢false (sym h)); copies = λ copied e. (cc, zero) };
+    nests = λ word none flavour more is. plain (quietly (with_word v word)) refl none;
+    unnests = λ word none flavour is more. plain (quietly (with_word v word)) refl none;
+    unlocks = λ word none flavour is zero. plain _ refl none;
+    leaves = λ none flavour online. plain _ refl none;
+    enters = λ copied word has flavour is.
+        opening _ copied has (λ closed. entered_fresh w.layout v.word word (copied == 1) (closed flavour) is ∙ sym (cond-false qsbr (announced copied) (fresh w.layout (copied == 1)) flavour)) refl;
+    goes_online = λ copied has flavour offline. opening (go_online_row copied r v) copied has (λ closed. sym (cond-true qsbr (announced copied) (fresh w.layout (copied == 1)) flavour)) refl;
+    announces = λ copied has flavour online. opening (announce_row copied r v) copied has (λ closed. sym (cond-true qsbr (announced copied) (fresh w.layout (copied == 1)) flavour)) refl;
+    firsts = λ c head none open' is. plain _ refl none;
+    nexts = λ o x none open' from is. plain _ refl none;
+    touches = λ o none open' from. plain _ refl none;
   }
-
-  on : (copy : Option ℕ) → v.copy ≡ copy → EachLoads (reader_on qsbr w r v copy)
-  on None is = tt
-  on (Some copied) is =
-      either qsbr _ _
-      (λ flavour. either_step (is_online v.word) (announce_row copied r v) (go_online_row copied r v) (announces (announce_row copied r v) copied flavour is refl refl) (announces (go_online_row copied r v) copied flavour is refl refl))
-      (λ flavour. stored _ (entered_of w.layout v.word (copied == 1)) (λ word entered. enters _ copied word flavour is entered refl refl))
-
-  module _ (free : v.copy ≡ None) where
-    of_first : (c : ℕ) (head : Option (Option ObjectId)) → EachLoads (first_row r v c head)
-    of_first c None = tt
-    of_first c (Some head) = plain _ refl free
-
-    of_next : (from : Option ObjectId) → EachLoads (next_from w r v from)
-    of_next None = tt
-    of_next (Some o) = by (slice_get w.objects o.0)
-      where
-        by : (x : Option ObjectState) → EachLoads (next_row r v o x)
-        by None = tt
-        by (Some x) = plain _ refl free
-
-    of_touch : (from : Option ObjectId) → EachLoads (touch_row r v from)
-    of_touch None = tt
-    of_touch (Some o) = plain _ refl free
-
-    begins : (verb : ReaderVerb) → EachLoads (reader_begins qsbr w r v verb)
-    begins reader.Lock =
-        either qsbr _ _ (λ e. tt)
-        (λ flavour. either (count_of w.layout v.word == 0) _ _ (λ closed. loads (λ _. closed)) (λ nested. stored _ (entered_of w.layout v.word false) (λ word e. plain (quietly (with_word v word)) refl free)))
-    begins reader.Unlock =
-        either qsbr _ _ (λ e. tt)
-        (λ flavour. stored _ (left_of w.layout v.word) (λ word e. either_step (count_of w.layout word == 0) _ _ (plain _ refl free) (plain (quietly (with_word v word)) refl free)))
-    begins reader.Online = either qsbr _ _ (λ flavour. either (is_online v.word) _ _ (λ e. tt) (λ e. loads (λ other. absurd (true≢false (sym flavour ∙ other))))) (λ e. tt)
-    begins reader.Quiescent = either qsbr _ _ (λ flavour. either (is_online v.word) _ _ (λ e. loads (λ other. absurd (true≢false (sym flavour ∙ other)))) (λ e. tt)) (λ e. tt)
-    begins reader.Offline = either qsbr _ _ (λ flavour. either (is_online v.word) _ _ (λ e. plain _ refl free) (λ e. tt)) (λ e. tt)
-    begins (reader.First c) = either (is_open_in qsbr w.layout v.word) _ _ (λ e. of_first c (slice_get w.heads c)) (λ e. tt)
-    begins reader.Next = either (is_open_in qsbr w.layout v.word) _ _ (λ e. of_next v.cursor) (λ e. tt)
-    begins reader.Touch = either (is_open_in qsbr w.layout v.word) _ _ (λ e. of_touch v.cursor) (λ e. tt)
-    begins reader.GoOn = tt
-
-  line : (verb : ReaderVerb) → EachLoads (reader_line qsbr w r v verb)
-  line reader.GoOn = on v.copy refl
-  line reader.Lock = either (is_some v.copy) _ _ (λ e. tt) (λ e. begins (no_copy v.copy e) reader.Lock)
-  line reader.Unlock = either (is_some v.copy) _ _ (λ e. tt) (λ e. begins (no_copy v.copy e) reader.Unlock)
-  line reader.Online = either (is_some v.copy) _ _ (λ e. tt) (λ e. begins (no_copy v.copy e) reader.Online)
-  line reader.Quiescent = either (is_some v.copy) _ _ (λ e. tt) (λ e. begins (no_copy v.copy e) reader.Quiescent)
-  line reader.Offline = either (is_some v.copy) _ _ (λ e. tt) (λ e. begins (no_copy v.copy e) reader.Offline)
-  line (reader.First c) = either (is_some v.copy) _ _ (λ e. tt) (λ e. begins (no_copy v.copy e) (reader.First c))
-  line reader.Next = either (is_some v.copy) _ _ (λ e. tt) (λ e. begins (no_copy v.copy e) reader.Next)
-  line reader.Touch = either (is_some v.copy) _ _ (λ e. tt) (λ e. begins (no_copy v.copy e) reader.Touch)
 
 -- ---- all lines
 
@@ -157,145 +63,132 @@ module _ {P : Type 0} (plans : Plans P) where
   abbrev Fits : BoardView P → ℕ → Option ℕ → Type 0
   Fits w r loaded = (copied : ℕ) → (reader_of w r).copy ≡ Some copied → (loaded ≡ Some copied) × (plans.qsbr ≡ false → (count_of w.layout (reader_of w r).word == 0) ≡ true)
 
+  layout_over : (w : BoardView P) (change : Change P) → (changed w change).layout ≡ w.layout
+  layout_over w (Stay answer) = refl
+  layout_over w _ = refl
+
   same_layout : (w : BoardView P) (x : Result (Change P) Refusal) → (with_change w x).world.layout ≡ w.layout
-  same_layout w (Ok (Read r step)) = refl
-  same_layout w (Ok (Begin u x object)) = refl
-  same_layout w (Ok (Publish u x splice event)) = refl
-  same_layout w (Ok (Grace u x grace answer)) = refl
-  same_layout w (Ok (Hold u x q)) = refl
-  same_layout w (Ok (Retire u x q act mark answer)) = refl
-  same_layout w (Ok (Bar u x barriers answer)) = refl
-  same_layout w (Ok (Work k x grace act mark answer)) = refl
-  same_layout w (Ok (Stay answer)) = refl
+  same_layout w (Ok change) = layout_over w change
   same_layout w (Err e) = refl
 
-  -- lines of others leave readers as they are
-  abbrev LeavesReaders : BoardView P → Change P → Type 0
-  LeavesReaders w change = (changed w change).readers ≡ w.readers
+  same_readers : (w : BoardView P) (change : Change P) → IsUpdate change → (changed w change).readers ≡ w.readers
+  same_readers w (Read r step) is = absurd is
+  same_readers w _ is = refl
 
-  module _ (w : BoardView P) where
-    others : OfOthers (LeavesReaders w) ⊥
-    others = record {
-      reads = λ none r step. absurd none;
-      begins = λ u x object. refl;
-      publishes = λ u x splice event. refl;
-      asks = λ u x grace answer. refl;
-      holds = λ u x q. refl;
-      bars = λ u x barriers answer. refl;
-      waits = refl;
-      blocked = refl;
-    }
+  -- what a line of a reader makes is a step of it; lines of others leave readers as they are
+  record ReadsBy (w : BoardView P) (k : ℕ) (change : Change P) : Type 0 where
+    state : ReaderState
+    was : slice_get w.readers k ≡ Some state
+    step : ReaderStep
+    is : Read k step ≡ change
+    loads_by : Loads plans.qsbr w k state step
 
-    of_retire : (u : ℕ) (x : UpdaterState P) (o : ObjectId) (step : RetireStep) → LeavesReaders w (retire_on w u x o step)
-    of_retire u x o retire.Mark = refl
-    of_retire u x o retire.Count = refl
-    of_retire u x o retire.Push = refl
-    of_retire u x o retire.Free = refl
+  abbrev ReadsOver : BoardView P → Line → Change P → Type 0
+  ReadsOver w (Reader k verb) change = ReadsBy w k change
+  ReadsOver w _ change = (changed w change).readers ≡ w.readers
 
-    of_work : OfWork (LeavesReaders w)
-    of_work = record { works = λ k x grace act mark answer. refl; waits = refl; blocked = refl; idles = refl }
+  stays_over : (w : BoardView P) (line : Line) (answer : Answer) → (IsOfReader line → ⊥) → told answer ≡ [] → ReadsOver w line (Stay answer)
+  stays_over w (Reader k verb) answer never none = absurd (never tt)
+  stays_over w _ answer never none = refl
 
-    left_alone : (x : Result (Change P) Refusal) → Each (LeavesReaders w) x → (with_change w x).world.readers ≡ w.readers
-    left_alone (Ok change) same = same
-    left_alone (Err e) same = refl
+  reads_law : (w : BoardView P) → Law plans w (ReadsOver w)
+  reads_law w = record {
+    stays = stays_over w;
+    reads = λ k v verb was. reads_by plans.qsbr w.layout w k v (Loads plans.qsbr w k v) (λ step. ReadsBy w k (Read k step)) (λ step l. record { state = v; was = was; step = step; is = refl; loads_by = l }) (loads plans.qsbr w k v);
+    updates = λ u x was. any_updates plans w u x (λ v. ReadsOver w (Updater u v)) (λ v. same_readers w) (any_retires plans w u x (λ v. ReadsOver w (Updater u v)) (λ y q act mark answer. refl));
+    works = λ k x was. any_works plans w k x (λ v. ReadsOver w (Worker k v)) (λ v y grace act mark answer. refl);
+  }
 
-    of_else : (l : Line) → (IsOfReader l → ⊥) → (outcome_of plans w l).world.readers ≡ w.readers
-    of_else l never = left_alone (change_of plans w l) (each_line plans w (LeavesReaders w) ⊥ others (λ u x o step e place. of_retire u x o step) (λ k v x e. each_worker plans w (LeavesReaders w) of_work k x v) l never)
-
-  -- what a reader noted fits what it loaded last, after its own line and after those of others
-  module _ (w : BoardView P) (r : ℕ) where
-    same_fits : (new : BoardView P) (loaded : Option ℕ) → new.layout ≡ w.layout → reader_of new r ≡ reader_of w r → Fits w r loaded → Fits new r loaded
-    same_fits new loaded layout same fits = λ copied e.
-        let f = fits copied (sym (ap (λ (v : ReaderState). v.copy) same) ∙ e) in
-        (f.0, λ flavour. ap (λ (l : Layout). count_of l (reader_of new r).word == 0) layout ∙ ap (λ (v : ReaderState). count_of w.layout v.word == 0) same ∙ f.1 flavour)
+  abbrev moves_by : ℕ → BoardView P → Line → Result (Change P) Refusal → List Move
+  moves_by r w (Reader k verb) x = cond (k == r) (made_by plans r w (with_change w x).world (with_change w x).answer) []
+  moves_by r w _ x = []
 
   -- what follows a line, where the reader fits
-  record Goes (w : BoardView P) (r : ℕ) (loaded : Option ℕ) (l : Line) : Type 0 where
+  record Goes (w : BoardView P) (r : ℕ) (loaded : Option ℕ) (l : Line) (x : Result (Change P) Refusal) : Type 0 where
     pub later : Option ℕ
-    pub fits : Fits (outcome_of plans w l).world r later
-    pub stores : (ms : List Move) → StoresWhatItLoaded plans.qsbr w.layout later ms → StoresWhatItLoaded plans.qsbr w.layout loaded (move_of plans r w l ++ ms)
+    pub fits : Fits (with_change w x).world r later
+    pub stores : (ms : List Move) → StoresWhatItLoaded plans.qsbr w.layout later ms → StoresWhatItLoaded plans.qsbr w.layout loaded (moves_by r w l x ++ ms)
 
-  goes_by_others : (w : BoardView P) (r : ℕ) (loaded : Option ℕ) (l : Line) → move_of plans r w l ≡ [] → reader_of (outcome_of plans w l).world r ≡ reader_of w r → Fits w r loaded → Goes w r loaded l
-  goes_by_others w r loaded l none same fits = record {
+  -- it makes no move, and is as it was
+  no_move : (w : BoardView P) (r : ℕ) (loaded : Option ℕ) (l : Line) (x : Result (Change P) Refusal) → moves_by r w l x ≡ [] → reader_of (with_change w x).world r ≡ reader_of w r → Fits w r loaded → Goes w r loaded l x
+  no_move w r loaded l x none same fits = record {
     later = loaded;
-    fits = same_fits w r (outcome_of plans w l).world loaded (same_layout w (change_of plans w l)) same fits;
+    fits = λ copied e.
+        let f = fits copied (sym (ap (λ (v : ReaderState). v.copy) same) ∙ e) in
+        (f.0, λ flavour. ap (λ (l : Layout). count_of l (reader_of (with_change w x).world r).word == 0) (same_layout w x) ∙ ap (λ (v : ReaderState). count_of w.layout v.word == 0) same ∙ f.1 flavour);
     stores = λ ms h. subst (λ (xs : List Move). StoresWhatItLoaded plans.qsbr w.layout loaded (xs ++ ms)) (sym none) h;
   }
 
-  -- the reader's own line
-  module _ (w : BoardView P) (r : ℕ) (verb : ReaderVerb) (loaded : Option ℕ) (fits : Fits w r loaded) where
-    abbrev GoesBy : Result (Change P) Refusal → Type 0
-    GoesBy x =
-        (later : Option ℕ) × Fits (with_change w x).world r later
-        × ((ms : List Move) → StoresWhatItLoaded plans.qsbr w.layout later ms → StoresWhatItLoaded plans.qsbr w.layout loaded (made_by plans r w (with_change w x).world (with_change w x).answer ++ ms))
-
-    own_step : (v : ReaderState) → slice_get w.readers r ≡ Some v → (step : ReaderStep) → Loads plans.qsbr w r v step → GoesBy (Ok (Read r step))
-    own_step v was step l =
-        let old : reader_of w r ≡ v = get_or_from_slice_get w.readers r v new_reader was in
-        let new : get_or (slice_set w.readers r step.state) r new_reader ≡ step.state = get_or-set_same w.readers r step.state new_reader (slice_get_within w.readers r v was) in (
-          Some w.grace.word,
-          (λ copied e.
-              let c = l.copies copied (sym (ap (λ (x : ReaderState). x.copy) new) ∙ e) in
-              (sym (ap (λ (n : ℕ). Some n) c.0), λ flavour. ap (λ (x : ReaderState). count_of w.layout x.word == 0) new ∙ c.1 flavour)),
-          (λ ms h. (
-            (λ opens.
-                let o = l.opens opens in
-                let f = fits o.0 (ap (λ (x : ReaderState). x.copy) old ∙ o.1) in
-                (o.0, f.0, ap (λ (x : ReaderState). x.word) new ∙ o.2 (λ flavour. sym (ap (λ (x : ReaderState). count_of w.layout x.word == 0) old) ∙ f.1 flavour))),
-            h,
-          )),
-        )
-
-    own_refused : (e : Refusal) → GoesBy (Err e)
-    own_refused e = (loaded, fits, λ ms h. h)
-
-    own_read : (v : ReaderState) → slice_get w.readers r ≡ Some v → (x : Result ReaderStep Refusal) → EachLoads plans.qsbr w r v x → GoesBy (read_by r x)
-    own_read v was (Ok step) l = own_step v was step l
-    own_read v was (Err e) l = own_refused e
-
-    own : (x : Option ReaderState) → slice_get w.readers r ≡ x → GoesBy (of_reader plans.qsbr w r verb x)
-    own None was = own_refused NoActor
-    own (Some v) was = own_read v was (reader_line plans.qsbr w r v verb) (line plans.qsbr w r v verb)
-
-  -- a reader's line, its own or another's
-  goes_reader : (w : BoardView P) (r k : ℕ) (verb : ReaderVerb) (loaded : Option ℕ) → Fits w r loaded → Goes w r loaded (Reader k verb)
-  goes_reader w r k verb loaded fits = by (eqb_tells k r)
+  -- its own move
+  own_move : (w : BoardView P) (r : ℕ) (loaded : Option ℕ) (change : Change P) → ReadsBy w r change → Fits w r loaded →
+      (later : Option ℕ) × Fits (changed w change) r later
+      × ((ms : List Move) → StoresWhatItLoaded plans.qsbr w.layout later ms → StoresWhatItLoaded plans.qsbr w.layout loaded (made_by plans r w (with_change w (Ok change)).world (with_change w (Ok change)).answer ++ ms))
+  own_move w r loaded change by fits = subst (λ (x : Change P).
+      (later : Option ℕ) × Fits (changed w x) r later
+      × ((ms : List Move) → StoresWhatItLoaded plans.qsbr w.layout later ms → StoresWhatItLoaded plans.qsbr w.layout loaded (made_by plans r w (with_change w (Ok x)).world (with_change w (Ok x)).answer ++ ms))) by.is (
+        Some w.grace.word,
+        (λ copied e.
+            let c = l.copies copied (sym (ap (λ (x : ReaderState). x.copy) new) ∙ e) in
+            (sym (ap (λ (n : ℕ). Some n) c.0), λ flavour. ap (λ (x : ReaderState). count_of w.layout x.word == 0) new ∙ c.1 flavour)),
+        (λ ms h. (
+          (λ opens.
+              let o = l.opens opens in
+              let f = fits o.0 (ap (λ (x : ReaderState). x.copy) old ∙ o.1) in
+              (o.0, f.0, ap (λ (x : ReaderState). x.word) new ∙ o.2 (λ flavour. sym (ap (λ (x : ReaderState). count_of w.layout x.word == 0) old) ∙ f.1 flavour))),
+          h,
+        )),
+      )
     where
-      kept : (x : Option ReaderState) → slice_get w.readers k ≡ x → r ≢ k → reader_of (with_change w (of_reader plans.qsbr w k verb x)).world r ≡ reader_of w r
-      kept None was apart = refl
-      kept (Some v) was apart = each (reader_line plans.qsbr w k v verb)
-        where
-          each : (x : Result ReaderStep Refusal) → reader_of (with_change w (read_by k x)).world r ≡ reader_of w r
-          each (Ok step) = get_or-set_other w.readers k r step.state new_reader apart
-          each (Err e) = refl
+      l : Loads plans.qsbr w r by.state by.step
+      l = by.loads_by
 
-      by : (((k == r) ≡ true) × (k ≡ r)) ⊎ (((k == r) ≡ false) × (k ≢ r)) → Goes w r loaded (Reader k verb)
-      by (inl same) = subst (λ (n : ℕ). Goes w n loaded (Reader k verb)) same.1 (here (subst (λ (n : ℕ). Fits w n loaded) (sym same.1) fits) (ap (λ (n : ℕ). k == n) same.1 ∙ same.0))
-        where
-          here : Fits w k loaded → (k == k) ≡ true → Goes w k loaded (Reader k verb)
-          here at same_number =
-              let g = own w k verb loaded at (slice_get w.readers k) refl in
-              record {
-                later = g.0;
-                fits = g.1;
-                stores = λ ms h. subst (λ (b : Bool). StoresWhatItLoaded plans.qsbr w.layout loaded (cond b (made_by plans k w (with_change w (change_of plans w (Reader k verb))).world (with_change w (change_of plans w (Reader k verb))).answer) [] ++ ms)) (sym same_number) (g.2 ms h);
-              }
-      by (inr other) =
-          goes_by_others w r loaded (Reader k verb) (ap (λ (b : Bool). cond b (made_by plans r w (outcome_of plans w (Reader k verb)).world (outcome_of plans w (Reader k verb)).answer) []) other.0)
-          (kept (slice_get w.readers k) refl (λ e. other.1 (sym e))) fits
+      old : reader_of w r ≡ by.state
+      old = get_or_from_slice_get w.readers r by.state new_reader by.was
 
-  goes : (w : BoardView P) (r : ℕ) (loaded : Option ℕ) (l : Line) → Fits w r loaded → Goes w r loaded l
-  goes w r loaded (Reader k verb) fits = goes_reader w r k verb loaded fits
-  goes w r loaded (Updater u verb) fits = goes_by_others w r loaded (Updater u verb) refl (ap (λ (vs : List ReaderState). get_or vs r new_reader) (of_else w (Updater u verb) (λ none. none))) fits
-  goes w r loaded (Worker k verb) fits = goes_by_others w r loaded (Worker k verb) refl (ap (λ (vs : List ReaderState). get_or vs r new_reader) (of_else w (Worker k verb) (λ none. none))) fits
+      new : get_or (slice_set w.readers r by.step.state) r new_reader ≡ by.step.state
+      new = get_or-set_same w.readers r by.step.state new_reader (slice_get_within w.readers r by.state by.was)
+
+  goes_over : (w : BoardView P) (r : ℕ) (loaded : Option ℕ) (l : Line) (change : Change P) → ReadsOver w l change → Fits w r loaded → Goes w r loaded l (Ok change)
+  goes_over w r loaded (Reader k verb) change by fits = this (eqb_tells k r)
+    where
+      this : (((k == r) ≡ true) × (k ≡ r)) ⊎ (((k == r) ≡ false) × (k ≢ r)) → Goes w r loaded (Reader k verb) (Ok change)
+      this (inl same) =
+          let g = own_move w r loaded change (subst (λ (n : ℕ). ReadsBy w n change) same.1 by) fits in
+          record {
+            later = g.0;
+            fits = g.1;
+            stores = λ ms h. subst (λ (b : Bool). StoresWhatItLoaded plans.qsbr w.layout loaded (cond b (made_by plans r w (with_change w (Ok change)).world (with_change w (Ok change)).answer) [] ++ ms)) (sym same.0) (g.2 ms h);
+          }
+      this (inr other) = no_move w r loaded (Reader k verb) (Ok change) (cond-false (k == r) _ _ other.0)
+          (subst (λ (x : Change P). reader_of (changed w x) r ≡ reader_of w r) by.is (get_or-set_other w.readers k r by.step.state new_reader (λ e. other.1 (sym e)))) fits
+  goes_over w r loaded (Updater u v) change same fits = no_move w r loaded (Updater u v) (Ok change) refl (ap (λ (vs : List ReaderState). get_or vs r new_reader) same) fits
+  goes_over w r loaded (Worker k v) change same fits = no_move w r loaded (Worker k v) (Ok change) refl (ap (λ (vs : List ReaderState). get_or vs r new_reader) same) fits
+
+  goes_by : (w : BoardView P) (r : ℕ) (loaded : Option ℕ) (l : Line) (x : Result (Change P) Refusal) → Each plans w (ReadsOver w) l x → Fits w r loaded → Goes w r loaded l x
+  goes_by w r loaded l (Ok change) over fits = goes_over w r loaded l change over fits
+  goes_by w r loaded l (Err e) over fits = no_move w r loaded l (Err e) (by l) refl fits
+    where
+      none : (b : Bool) → cond b (let ms : List Move = [] in ms) [] ≡ []
+      none true = refl
+      none false = refl
+
+      by : (l : Line) → moves_by r w l (Err e) ≡ []
+      by (Reader k verb) = none (k == r)
+      by _ = refl
+
+  move_is : (r : ℕ) (w : BoardView P) (l : Line) → moves_by r w l (change_of plans w l) ≡ move_of plans r w l
+  move_is r w (Reader k verb) = refl
+  move_is r w _ = refl
 
   all_stored : (w : BoardView P) (r : ℕ) (layout : Layout) (loaded : Option ℕ) (lines : List Line) → w.layout ≡ layout → Fits w r loaded → StoresWhatItLoaded plans.qsbr layout loaded (moves_of plans r w lines)
   all_stored w r layout loaded [] same fits = tt
   all_stored w r layout loaded (l ∷ ls) same fits =
-      let g = goes w r loaded l fits in
-      let rest = all_stored (outcome_of plans w l).world r layout g.later ls (same_layout w (change_of plans w l) ∙ same) g.fits in
-      subst (λ (at : Layout). StoresWhatItLoaded plans.qsbr at loaded (moves_of plans r w (l ∷ ls))) same
-      (g.stores (moves_of plans r (outcome_of plans w l).world ls) (subst (λ (at : Layout). StoresWhatItLoaded plans.qsbr at g.later (moves_of plans r (outcome_of plans w l).world ls)) (sym same) rest))
+      let g = goes_by w r loaded l (change_of plans w l) (by_law plans w (ReadsOver w) (reads_law w) l) fits in
+      let next = (outcome_of plans w l).world in
+      let rest = all_stored next r layout g.later ls (same_layout w (change_of plans w l) ∙ same) g.fits in
+      subst (λ (ms : List Move). StoresWhatItLoaded plans.qsbr layout loaded (ms ++ moves_of plans r next ls)) (move_is r w l)
+      (subst (λ (at : Layout). StoresWhatItLoaded plans.qsbr at loaded (moves_by r w l (change_of plans w l) ++ moves_of plans r next ls)) same
+      (g.stores (moves_of plans r next ls) (subst (λ (at : Layout). StoresWhatItLoaded plans.qsbr at g.later (moves_of plans r next ls)) (sym same) rest)))
 
   pub stored_from_fresh : (config : Config) (seq : ℕ) (lines : List Line) (r : ℕ) → StoresWhatItLoaded plans.qsbr config.layout None (moves_of plans r (fresh_at config seq) lines)
   stored_from_fresh config seq lines r =

@@ -1,49 +1,23 @@
 -- Each lock is held by just who is inside.
-use Rattle.std.proofs.Common.{◌≡◌, ◌≢◌, inl, inr, ℕ, ◌%◌, ◌^◌, ◌<◌, ◌≤◌, true, List, [], ◌∷◌, length, slice_get, slice_set, Option, Some, None, Result, Ok, Err, refl, sym, ap, ◌∙◌, subst, arith, get_or-set_same}
-use Rattle.std.proofs.lemmas.Nat.{mod_below}
-use Rattle.std.proofs.lemmas.Option.{get_or_from_slice_get, slice_get_within}
-use Rattle.rcu_model.specs.declared.event.ObjectId.{ObjectId}
-use Rattle.rcu_model.specs.declared.refusal.Refusal.{Refusal}
-use Rattle.reader_word.specs.declared.layout.Layout.{Layout}
-use Rattle.call_rcu_worker.specs.declared.sync.SyncCore.{SyncCore}
+use Rattle.world.proofs.Cited.{◌≡◌, ◌≢◌, inl, inr, ℕ, ◌+◌, ◌%◌, ◌^◌, ◌<◌, ◌≤◌, true, List, length, slice_get, slice_set, Option, Some, None, refl, sym, ap, ◌∙◌, subst, arith, get_or-set_same, mod_below, none-some, same_Some, get_or_from_slice_get, slice_get_within, ObjectId, Layout, SyncCore, Tickets, WorkerCore, new_core, Config, Line, ObjectState, QueueAct, QueueState, Holder, RetireStep, UpdaterPlace, Idle, Syncs, Retires, UpdaterState, WorkerState, Change, Read, Grace, Work, is_within_limits, new_worker, empty_queue_state, acted, held_by, changed_at, acted_at, held_at, Plans, BoardView, fresh_at, changed, idle, queue_at, changed_length}
 use Rattle.call_rcu_worker.specs.declared.sync.SyncCore.TheVariants as core
-use Rattle.call_rcu_worker.specs.declared.worker.Tickets.{Tickets}
-use Rattle.call_rcu_worker.specs.declared.worker.WorkerCore.{WorkerCore}
 use Rattle.call_rcu_worker.specs.declared.worker.WorkerCore.TheVariants as worker
 use Rattle.call_rcu_worker.specs.Worker.{synced as synced_to}
-use Rattle.world_state.specs.declared.config.Config.{Config}
-use Rattle.world_state.specs.declared.line.Line.{Line}
-use Rattle.world_state.specs.declared.object.ObjectState.{ObjectState}
-use Rattle.world_state.specs.declared.queue.QueueAct.{QueueAct}
 use Rattle.world_state.specs.declared.queue.QueueAct.TheVariants as act
-use Rattle.world_state.specs.declared.queue.QueueState.{QueueState}
-use Rattle.world_state.specs.declared.updater.Holder.{Holder}
 use Rattle.world_state.specs.declared.updater.Holder.TheVariants as holder
-use Rattle.world_state.specs.declared.updater.RetireStep.{RetireStep}
 use Rattle.world_state.specs.declared.updater.RetireStep.TheVariants as due
-use Rattle.world_state.specs.declared.updater.UpdaterPlace.{UpdaterPlace}
-use Rattle.world_state.specs.declared.updater.UpdaterPlace.TheVariants.{Idle, Publishes, Syncs, Retires, Bars}
-use Rattle.world_state.specs.declared.updater.UpdaterState.{UpdaterState}
-use Rattle.world_state.specs.declared.worker.WorkerState.{WorkerState}
-use Rattle.world_state.specs.declared.change.Change.{Change}
-use Rattle.world_state.specs.declared.change.Change.TheVariants.{Grace, Work}
-use Rattle.world_state.specs.Limits.{is_within_limits}
-use Rattle.world_state.specs.Queues.{new_worker, empty_queue_state, acted, held_by, changed_at, acted_at, held_at}
-use Rattle.world_state.specs.View.{Plans, BoardView, fresh_at, changed, idle}
-use Rattle.world_state.proofs.Lemmas.{queue_at, changed_length}
 use Rattle.world.specs.declared.grace.GraceStep.{GraceStep}
 use Rattle.world.specs.Grace.{sync_place}
-use Rattle.world.specs.Lines.{with_change, outcome_of, world_after, change_of}
+use Rattle.world.specs.Lines.{world_after}
 use Rattle.world.specs.Locks.{IsInside, SyncsInside, WorksInside, IsInsideNow, IsRetiring, AreHeldInside}
 use Rattle.world.specs.Queues.{queue_of, retire_on}
 use Rattle.world.specs.Workers.{ask_for, act_for, worker_act}
 use Rattle.world.proofs.Callbacks.{RetireKept, at_updaters, at_workers, at_queues}
 use Rattle.world.proofs.Fence.{Laws, Holds}
 use Rattle.world.proofs.GraceRows.{LockMoves, Fits, fits_step}
-use Rattle.world.proofs.Logged.{get_replicate, Logged, logged_step, logged_lines, logged_fresh, some_reader, few_workers}
-use Rattle.world.proofs.Rows.{WasAt, WorkedAt, SyncsAt, Rows, each_row}
-use Rattle.world.proofs.State.{Asker, Syncing, Working, asker_of, holder_of, core_work, place_work, worker_work, updater_at, worker_at}
-use Rattle.world.proofs.Sweeping.{Each}
+use Rattle.world.proofs.Logged.{get_replicate, Logged, logged, always}
+use Rattle.world.proofs.Rows.{WasAt, WorkedAt, SyncsAt, Law, any_reads}
+use Rattle.world.proofs.State.{Syncing, Working, asker_of, holder_of, core_work, place_work, worker_work, updater_at, worker_at}
 
 -- ---- who holds a lock is inside
 
@@ -61,24 +35,6 @@ IsOwned w = Owned w.updaters w.workers w.queues w.grace.holder
 abbrev StaysOwned : {P : Type 0} → BoardView P → Change P → Type 0
 StaysOwned w change = IsOwned w → IsOwned (changed w change)
 
-same_holder : (g h : Holder) → Some g ≡ Some h → g ≡ h
-same_holder g h e = cc
-
-same_updater : (u v : ℕ) → holder.Updater u ≡ holder.Updater v → u ≡ v
-same_updater u v e = cc
-
-same_worker : (u v : ℕ) → holder.Worker u ≡ holder.Worker v → u ≡ v
-same_worker u v e = cc
-
-other_holder : (u k : ℕ) → holder.Updater u ≡ holder.Worker k → ⊥
-other_holder u k e = cc
-
-no_holder : (h : Holder) → None ≡ Some h → ⊥
-no_holder h e = cc
-
-none_some : (u : ℕ) → None ≡ Some u → ⊥
-none_some u e = cc
-
 -- the act leaves the queue's lock as it is
 abbrev KeepsHolder : QueueAct → Type 0
 KeepsHolder act = (q : QueueState) → (acted act q).holder ≡ q.holder
@@ -92,39 +48,20 @@ holders_kept act keeps qs j i = by (slice_get qs j) refl
 
 sync_keeps : {P : Type 0} (seq : ℕ) (sync : SyncCore P) → KeepsHolder (act_for seq sync)
 sync_keeps seq core.Asks = λ q. refl
-sync_keeps seq (core.Waits cookie) = λ q. refl
-sync_keeps seq (core.Checks cookie) = λ q. refl
-sync_keeps seq (core.Starts cookie) = λ q. refl
-sync_keeps seq (core.Runs cookie plan) = λ q. refl
-sync_keeps seq core.Frees = λ q. refl
-sync_keeps seq core.Done = λ q. refl
+sync_keeps seq _ = λ q. refl
 
 worker_keeps : {P : Type 0} (seq : ℕ) (core : WorkerCore P Unit) → KeepsHolder (worker_act seq core)
-worker_keeps seq worker.Idle = λ q. refl
 worker_keeps seq (worker.Syncs sync tickets) = sync_keeps seq sync
-worker_keeps seq (worker.Pops tickets) = λ q. refl
-worker_keeps seq (worker.Runs tickets ticket item) = λ q. refl
-worker_keeps seq (worker.Ran tickets ticket item) = λ q. refl
-worker_keeps seq (worker.Counts tickets ticket) = λ q. refl
+worker_keeps seq _ = λ q. refl
 
 -- a grace period that is inside rests so
 inside_place : {P : Type 0} (plans : Plans P) (ask : ℕ) (sync : SyncCore P) → IsInside sync → SyncsInside (sync_place plans ask sync)
 inside_place plans ask core.Asks h = h
-inside_place plans ask (core.Waits cookie) h = h
-inside_place plans ask (core.Checks cookie) h = h
-inside_place plans ask (core.Starts cookie) h = h
-inside_place plans ask (core.Runs cookie plan) h = h
-inside_place plans ask core.Frees h = h
-inside_place plans ask core.Done h = h
+inside_place plans ask _ h = h
 
 inside_worker : {P : Type 0} (sync : SyncCore P) (tickets : Tickets) → IsInside sync → WorksInside {P = P} (synced_to sync tickets)
 inside_worker core.Asks tickets h = h
-inside_worker (core.Waits cookie) tickets h = h
-inside_worker (core.Checks cookie) tickets h = h
-inside_worker (core.Starts cookie) tickets h = h
-inside_worker (core.Runs cookie plan) tickets h = h
-inside_worker core.Frees tickets h = h
-inside_worker core.Done tickets h = h
+inside_worker _ tickets h = h
 
 module _ {P : Type 0} (plans : Plans P) (w : BoardView P) where
   -- who held the lock, or has taken it
@@ -135,15 +72,15 @@ module _ {P : Type 0} (plans : Plans P) (w : BoardView P) where
         by : LockMoves plans w me ask was held is → is
         by (inl stays) = stays.1 (old (sym stays.0 ∙ e))
         by (inr (inl taken)) = taken.1
-        by (inr (inr freed)) = absurd (no_holder me (sym freed ∙ e))
+        by (inr (inr freed)) = absurd (none-some me (sym freed ∙ e))
 
     theirs : (h : Holder) → (h ≡ me → ⊥) → held ≡ Some h → w.grace.holder ≡ Some h
     theirs h other e = by moves
       where
         by : LockMoves plans w me ask was held is → w.grace.holder ≡ Some h
         by (inl stays) = sym stays.0 ∙ e
-        by (inr (inl taken)) = absurd (other (same_holder h me (sym e ∙ taken.0)))
-        by (inr (inr freed)) = absurd (no_holder h (sym freed ∙ e))
+        by (inr (inl taken)) = absurd (other (same_Some h me (sym e ∙ taken.0)))
+        by (inr (inr freed)) = absurd (none-some h (sym freed ∙ e))
 
   module _ (u : ℕ) (x y : UpdaterState P) (there : slice_get w.updaters u ≡ Some x) where
     inside : u < length w.updaters
@@ -153,11 +90,11 @@ module _ {P : Type 0} (plans : Plans P) (w : BoardView P) where
     now = get_or_from_slice_get w.updaters u x idle there
 
     grace_owned : (ask : ℕ) (held : Option Holder) → LockMoves plans w (holder.Updater u) ask (SyncsInside x.place) held (SyncsInside y.place) → IsOwned w → (h : Holder) → held ≡ Some h → InsideOf (slice_set w.updaters u y) w.workers h
-    grace_owned ask held moves k (holder.Worker j) e = k.grace (holder.Worker j) (theirs (holder.Updater u) ask _ _ held moves (holder.Worker j) (λ e. other_holder u j (sym e)) e)
+    grace_owned ask held moves k (holder.Worker j) e = k.grace (holder.Worker j) (theirs (holder.Updater u) ask _ _ held moves (holder.Worker j) (λ clash. cc) e)
     grace_owned ask held moves k (holder.Updater v) e =
         at_updaters (λ n z. held ≡ Some (holder.Updater n) → SyncsInside z.place) w.updaters u y inside
         (mine (holder.Updater u) ask _ _ held moves (λ f. subst (λ (z : UpdaterState P). SyncsInside z.place) now (k.grace (holder.Updater u) f)))
-        (λ n apart f. k.grace (holder.Updater n) (theirs (holder.Updater u) ask _ _ held moves (holder.Updater n) (λ same. apart (same_updater n u same)) f)) v e
+        (λ n apart f. k.grace (holder.Updater n) (theirs (holder.Updater u) ask _ _ held moves (holder.Updater n) (λ same. apart (cc)) f)) v e
 
     abbrev Into : List (UpdaterState P) → ℕ → ℕ → Type 0
     Into updaters q v = (v % length w.queues ≡ q) × IsRetiring (updater_at updaters v).place
@@ -198,11 +135,11 @@ module _ {P : Type 0} (plans : Plans P) (w : BoardView P) where
     works ask held act moves keeps k = record { grace = grace; queues = queues }
       where
         grace : (h : Holder) → held ≡ Some h → InsideOf w.updaters (slice_set w.workers n y) h
-        grace (holder.Updater u) e = k.grace (holder.Updater u) (theirs (holder.Worker n) ask _ _ held moves (holder.Updater u) (other_holder u n) e)
+        grace (holder.Updater u) e = k.grace (holder.Updater u) (theirs (holder.Worker n) ask _ _ held moves (holder.Updater u) (λ clash. cc) e)
         grace (holder.Worker j) e =
             at_workers (λ i z. held ≡ Some (holder.Worker i) → WorksInside z.core) w.workers n y (slice_get_within w.workers n x there)
             (mine (holder.Worker n) ask _ _ held moves (λ f. subst (λ (z : WorkerState P). WorksInside z.core) (get_or_from_slice_get w.workers n x new_worker there) (k.grace (holder.Worker n) f)))
-            (λ i apart f. k.grace (holder.Worker i) (theirs (holder.Worker n) ask _ _ held moves (holder.Worker i) (λ same. apart (same_worker i n same)) f)) j e
+            (λ i apart f. k.grace (holder.Worker i) (theirs (holder.Worker n) ask _ _ held moves (holder.Worker i) (λ same. apart (cc)) f)) j e
 
         queues : (q u : ℕ) → (queue_at (acted_at w.queues n act) q).holder ≡ Some u → (u % length (acted_at w.queues n act) ≡ q) × IsRetiring (updater_at w.updaters u).place
         queues q u e =
@@ -235,7 +172,7 @@ module _ {P : Type 0} (plans : Plans P) (layout : Layout) (slots : ℕ) (laws : 
           by_lock (inr (inr freed)) = inr (inr freed)
 
       by : SyncsAt plans w u x ask sync → Owned (slice_set w.updaters u (record x { place = sync_place plans ask step.core })) w.workers w.queues step.grace.holder
-      by (inl i) = steps plans w u x _ i.0.was ask step.grace.holder (moves (SyncsInside x.place) (λ h. absurd (not_inside i.0 (λ n. n) h))) (λ h. absurd (not_retiring i.0 (λ n. n) h)) k
+      by (inl i) = steps plans w u x _ i.was ask step.grace.holder (moves (SyncsInside x.place) (λ h. absurd (not_inside i (λ n. n) h))) (λ h. absurd (not_retiring i (λ n. n) h)) k
       by (inr i) = steps plans w u x _ i.was ask step.grace.holder (moves (SyncsInside x.place) (λ h. subst (λ (p : UpdaterPlace P). SyncsInside p) i.at h)) (λ h. absurd (not_retiring i (λ n. n) h)) k
 
   owned_work : (n : ℕ) (x : WorkerState P) (sync : SyncCore P) (tickets : Tickets) (step : GraceStep P) → WorkedAt plans w n x (worker.Syncs sync tickets) → Fits plans w (holder.Worker n) (ask_for w x.ask sync) sync step →
@@ -271,96 +208,71 @@ module _ {P : Type 0} (plans : Plans P) (layout : Layout) (slots : ℕ) (laws : 
   owned_retire u x o due.Push at k = owned_going u x _ o due.Push (act.Push o) at tt (λ q. refl) k
   owned_retire u x o due.Free at k =
       queue_changed plans w u x _ at.was (acted act.Free) (queue_of w u) (own_queue u) (not_inside at (λ n. n))
-      (λ v e. absurd (none_some v e)) (λ i apart same h. absurd (apart (sym same))) k
+      (λ v e. absurd (none-some v e)) (λ i apart same h. absurd (apart (sym same))) k
 
   owned_hold : (u : ℕ) (x y : UpdaterState P) → WasAt plans w u x Idle → IsRetiring y.place → IsOwned w → Owned (slice_set w.updaters u y) w.workers (held_at w.queues (queue_of w u) u) w.grace.holder
   owned_hold u x y at retires k =
       queue_changed plans w u x y at.was (held_by u) (queue_of w u) (own_queue u) (not_inside at (λ n. n))
-      (λ v e. subst (λ n. (n % length w.queues ≡ queue_of w u) × IsRetiring (updater_at (slice_set w.updaters u y) n).place) (same_number u v e) (
+      (λ v e. subst (λ n. (n % length w.queues ≡ queue_of w u) × IsRetiring (updater_at (slice_set w.updaters u y) n).place) (same_Some u v e) (
         refl,
         subst (λ (z : UpdaterState P). IsRetiring z.place) (sym (get_or-set_same w.updaters u y idle (slice_get_within w.updaters u x at.was))) retires,
       ))
       (λ i apart same h. absurd (not_retiring at (λ n. n) h)) k
-    where
-      same_number : (n v : ℕ) → Some n ≡ Some v → n ≡ v
-      same_number n v e = cc
 
-  rows : Rows plans w (StaysOwned w)
-  rows = record {
-    stays = λ answer k. k;
-    reads = λ r v verb step was is k. record { grace = k.grace; queues = k.queues };
-    begins = λ u x what object at next k. beside at _ (λ n. n) (λ n. n) k;
-    cuts = λ u x splice c o at k. beside at _ (λ n. n) (λ n. n) k;
-    pushes = λ u x new splice c at k. beside at _ (λ n. n) (λ n. n) k;
-    replaces = λ u x old new splice c at k. beside at _ (λ n. n) (λ n. n) k;
-    syncs = λ u x ask sync step at is. owned_sync u x ask sync step at (fits_step plans w (holder.Updater u) ask sync step is);
-    starts = λ u x started at k. beside at _ (λ n. n) (λ n. n) k;
-    polls = λ u x started ask at k. beside at _ (λ n. n) (λ n. n) k;
-    holds = λ u x o q at is k. owned_hold u x _ at tt k;
-    retires = owned_retire;
-    bars = λ u x b at k. beside at _ (λ n. n) (λ n. n) k;
-    awaits = λ u x b b' at k. beside at _ (λ n. n) (λ n. n) k;
-    clears = λ u x b at k. beside at _ (λ n. n) (λ n. n) k;
-    takes = λ n x first count at k. owned_item n x _ worker.Idle act.Seal at (λ h. h) (λ q. refl) k;
-    works = λ n x sync tickets step at is. owned_work n x sync tickets step at (fits_step plans w (holder.Worker n) (ask_for w x.ask sync) sync step is);
-    runs = λ n x tickets core mark first at is k. owned_item n x _ (worker.Pops tickets) act.Pop at (λ h. h) (λ q. refl) k;
-    counts = λ n x tickets ticket item core at k. owned_item n x _ (worker.Ran tickets ticket item) act.Finish at (λ h. h) (λ q. refl) k;
+  owned_law : Law plans w (λ line. StaysOwned w)
+  owned_law = record {
+    stays = λ line answer never none k. k;
+    reads = λ r v verb was. any_reads plans.qsbr w.layout w r v (λ step. StaysOwned w (Read r step)) (λ step k. record { grace = k.grace; queues = k.queues });
+    updates = λ u x was. record {
+      pushes = λ c head at is mine k. beside at _ (λ n. n) (λ n. n) k;
+      replaces = λ o y at is k. beside at _ (λ n. n) (λ n. n) k;
+      cuts = λ o y at is k. beside at _ (λ n. n) (λ n. n) k;
+      pushed = λ new y at is k. beside at _ (λ n. n) (λ n. n) k;
+      replaced = λ old new y at is k. beside at _ (λ n. n) (λ n. n) k;
+      asks = λ step at is goes on. owned_sync u x (w.grace.asks + 1) new_core step (inl at) (fits_step plans w (holder.Updater u) (w.grace.asks + 1) new_core step is);
+      turns = λ ask sync step at is goes on. owned_sync u x ask sync step (inr at) (fits_step plans w (holder.Updater u) ask sync step is);
+      starts = λ cookie at is k. beside at _ (λ n. n) (λ n. n) k;
+      polls = λ s at is up k. beside at _ (λ n. n) (λ n. n) k;
+      holds = λ o q at may is free k. owned_hold u x _ at tt k;
+      retires = owned_retire u x;
+      bars = λ at k. beside at _ (λ n. n) (λ n. n) k;
+      notes = λ b q at is k. beside at _ (λ n. n) (λ n. n) k;
+      checks = λ b q at is up more k. beside at _ (λ n. n) (λ n. n) k;
+      clears = λ b q at is up last k. beside at _ (λ n. n) (λ n. n) k;
+    };
+    works = λ n x was. record {
+      takes = λ q at is free some k. owned_item n x _ worker.Idle act.Seal at (λ h. h) (λ q. refl) k;
+      works = λ sync tickets step at is goes on. owned_work n x sync tickets step at (fits_step plans w (holder.Worker n) (ask_for w x.ask sync) sync step is);
+      runs = λ tickets first at is k. owned_item n x _ (worker.Pops tickets) act.Pop at (λ h. h) (λ q. refl) k;
+      counts = λ tickets ticket item at k. owned_item n x _ (worker.Ran tickets ticket item) act.Finish at (λ h. h) (λ q. refl) k;
+    };
   }
-
-  owned_step : (line : Line) → IsOwned w → IsOwned ((outcome_of plans w line).world)
-  owned_step line k = by (change_of plans w line) (each_row plans w (StaysOwned w) rows line)
-    where
-      by : (x : Result (Change P) Refusal) → Each (StaysOwned w) x → IsOwned ((with_change w x).world)
-      by (Ok change) stays = stays k
-      by (Err e) stays = k
 
 -- ---- and who is inside holds it
 
 module _ {P : Type 0} (plans : Plans P) (layout : Layout) (slots : ℕ) (laws : Laws plans layout slots) where
-  owned_lines : (w : BoardView P) (lines : List Line) → Logged plans layout slots laws w → IsOwned w → IsOwned (world_after plans w lines)
-  owned_lines w [] l k = k
-  owned_lines w (line ∷ lines) l k = owned_lines ((outcome_of plans w line).world) lines (logged_step plans layout slots laws w line l) (owned_step plans layout slots laws w l line k)
-
   inside_holds : (ask : ℕ) (sync : SyncCore P) → IsInside sync → Holds (core_work ask sync)
   inside_holds ask core.Asks h = h
-  inside_holds ask (core.Waits cookie) h = h
-  inside_holds ask (core.Checks cookie) h = h
-  inside_holds ask (core.Starts cookie) h = h
-  inside_holds ask (core.Runs cookie plan) h = h
-  inside_holds ask core.Frees h = h
-  inside_holds ask core.Done h = h
+  inside_holds ask _ h = h
 
   place_holds : (place : UpdaterPlace P) → SyncsInside place → Holds (place_work place)
-  place_holds Idle h = h
-  place_holds (Publishes what) h = h
   place_holds (Syncs ask sync) h = inside_holds ask sync h
-  place_holds (Retires o step) h = h
-  place_holds (Bars b) h = h
+  place_holds _ h = h
 
   worker_holds : (ask : ℕ) (core : WorkerCore P Unit) → WorksInside core → Holds (worker_work ask core)
-  worker_holds ask worker.Idle h = h
   worker_holds ask (worker.Syncs sync tickets) h = inside_holds ask sync h
-  worker_holds ask (worker.Pops tickets) h = h
-  worker_holds ask (worker.Runs tickets ticket item) h = h
-  worker_holds ask (worker.Ran tickets ticket item) h = h
-  worker_holds ask (worker.Counts tickets ticket) h = h
+  worker_holds ask _ h = h
 
   asks_as : (held : Option Holder) (h : Holder) → holder_of held ≡ Some (asker_of h) → held ≡ Some h
-  asks_as None h e = absurd (none_asks (asker_of h) e)
-    where
-      none_asks : (x : Asker) → None ≡ Some x → ⊥
-      none_asks x e = cc
+  asks_as None h e = absurd (none-some (asker_of h) e)
   asks_as (Some (holder.Updater u)) (holder.Updater v) e = cc
   asks_as (Some (holder.Worker u)) (holder.Worker v) e = cc
   asks_as (Some (holder.Updater u)) (holder.Worker v) e = cc
   asks_as (Some (holder.Worker u)) (holder.Updater v) e = cc
 
   retiring_holds : (os : List ObjectState) (qs : List QueueState) (count u : ℕ) (place : UpdaterPlace P) → RetireKept os qs count u place → IsRetiring place → (queue_at qs (u % length qs)).holder ≡ Some u
-  retiring_holds os qs count u Idle k h = absurd h
-  retiring_holds os qs count u (Publishes what) k h = absurd h
-  retiring_holds os qs count u (Syncs ask sync) k h = absurd h
   retiring_holds os qs count u (Retires o step) k h = k.0
-  retiring_holds os qs count u (Bars b) k h = absurd h
+  retiring_holds os qs count u _ k h = absurd h
 
   held_inside : (w : BoardView P) → Logged plans layout slots laws w → IsOwned w → AreHeldInside w
   held_inside w l k = record {
@@ -378,19 +290,12 @@ module _ {P : Type 0} (plans : Plans P) (layout : Layout) (slots : ℕ) (laws : 
 
 fresh_owned : {P : Type 0} (config : Config) (seq : ℕ) → IsOwned (fresh_at {P = P} config seq)
 fresh_owned {P} config seq = record {
-  grace = λ h e. absurd (no_holder h e);
-  queues = λ q u e. absurd (none_some u (sym (ap (λ (x : QueueState). x.holder) (get_replicate empty_queue_state config.workers q)) ∙ e));
+  grace = λ h e. absurd (none-some h e);
+  queues = λ q u e. absurd (none-some u (sym (ap (λ (x : QueueState). x.holder) (get_replicate empty_queue_state config.workers q)) ∙ e));
 }
 
 module _ {P : Type 0} (plans : Plans P) (laws : (layout : Layout) (slots : ℕ) → Laws plans layout slots) where
   pub locks_held : (config : Config) (seq : ℕ) (lines : List Line) → is_within_limits config ≡ true → seq % 2 ≡ 0 → seq ≤ 2 ^ 62 → AreHeldInside (world_after plans (fresh_at config seq) lines)
   locks_held config seq lines limits even low =
-      held_inside plans config.layout config.readers mine (world_after plans (fresh_at config seq) lines)
-      (logged_lines plans config.layout config.readers mine (fresh_at config seq) lines fresh)
-      (owned_lines plans config.layout config.readers mine (fresh_at config seq) lines fresh (fresh_owned config seq))
-    where
-      mine : Laws plans config.layout config.readers
-      mine = laws config.layout config.readers
-
-      fresh : Logged plans config.layout config.readers mine (fresh_at config seq)
-      fresh = logged_fresh plans config.layout config.readers mine config seq refl refl (some_reader config limits) (few_workers config limits).0 (few_workers config limits).1 even low
+      held_inside plans config.layout config.readers (laws config.layout config.readers) (world_after plans (fresh_at config seq) lines) (logged plans laws config seq limits even low lines)
+      (always plans laws config seq limits even low IsOwned (λ v line. StaysOwned v) (λ v line change stays. stays) (owned_law plans config.layout config.readers (laws config.layout config.readers)) lines (fresh_owned config seq))

@@ -1,60 +1,26 @@
 -- The world's log is a run, and the world stands as the machine does after it: for every line, and every list of lines.
-use Rattle.std.proofs.Common.{◌≡◌, ◌⊎◌, inl, inr, ℕ, zero, suc, ◌+◌, ◌%◌, ◌^◌, ◌<◌, ◌≤◌, nat_le, ◌&&◌, leb, cond, Bool, true, false, List, [], ◌∷◌, ◌++◌, length, get_or, replicate, slice_get, Option, Some, None, Result, Ok, Err, refl, sym, ap, ◌∙◌, subst, arith, true≢false}
-use Rattle.std.proofs.lemmas.Bool.Decides.{leb_tells}
-use Rattle.rcu_model.specs.declared.event.Event.{Event}
-use Rattle.rcu_model.specs.declared.event.ObjectId.{ObjectId}
-use Rattle.rcu_model.specs.declared.refusal.Refusal.{Refusal}
-use Rattle.rcu_model.specs.declared.refusal.Refusal.TheVariants.{Busy}
-use Rattle.rcu_model.specs.Machine.{State, start, AreAllowed, after_all, IsRun}
-use Rattle.rcu_model.proofs.Lemmas.{IsPlace, follows, none_some, allowed_append, after_append}
-use Rattle.reader_word.specs.declared.layout.Layout.{Layout}
-use Rattle.world_state.specs.declared.config.Config.{Config}
-use Rattle.world_state.specs.declared.line.Line.{Line}
-use Rattle.world_state.specs.declared.line.Line.TheVariants.{Reader, Updater, Worker}
-use Rattle.world_state.specs.declared.line.UpdaterVerb.{UpdaterVerb}
-use Rattle.world_state.specs.declared.line.UpdaterVerb.TheVariants as updater
-use Rattle.world_state.specs.declared.line.WorkerVerb.{WorkerVerb}
-use Rattle.world_state.specs.declared.object.Stage.TheVariants.{Fresh, Linked, Cut as IsCut}
-use Rattle.world_state.specs.declared.reader.ReaderState.{ReaderState}
+use Rattle.world.proofs.Cited.{◌≡◌, ℕ, true≢false, zero, suc, ◌+◌, ◌%◌, ◌^◌, ◌≤◌, nat_le, true, false, List, [], ◌∷◌, ◌++◌, length, get_or, replicate, slice_get, Option, Some, None, Result, Ok, Err, refl, sym, ap, ◌∙◌, subst, arith, and_parts, leb-true, Event, ObjectId, Refusal, State, start, after_all, IsRun, IsPlace, follows, none_some, allowed_append, after_append, Layout, Config, Line, Fresh, Linked, ReaderState, UpdaterState, UpdaterPlace, Idle, Publishes, Syncs, Change, Read, Begin, Publish, is_in, is_within_limits, new_reader, fresh_object, Plans, BoardView, idle, fresh_at, told, changed, no_object, word_of, ReaderKept, not_new, InQueue, queue_at, WorkerState, new_worker, Life, QueueState, empty_queue_state}
+use Rattle.rcu_model.specs.declared.event.Event.TheVariants as events
+use Rattle.world_state.specs.declared.object.Stage.TheVariants.{Cut as IsCut}
 use Rattle.world_state.specs.declared.updater.Publishing.TheVariants as publishing
-use Rattle.world_state.specs.declared.updater.UpdaterState.{UpdaterState}
-use Rattle.world_state.specs.declared.updater.UpdaterPlace.{UpdaterPlace}
-use Rattle.world_state.specs.declared.updater.UpdaterPlace.TheVariants.{Idle, Publishes, Syncs, Retires, Bars}
-use Rattle.world_state.specs.declared.change.Change.{Change}
-use Rattle.world_state.specs.declared.change.Change.TheVariants.{Read, Begin, Publish, Grace, Hold, Retire, Bar, Work as Works, Stay}
-use Rattle.world_state.specs.Limits.{is_in, is_within_limits}
-use Rattle.world_state.specs.Readers.{new_reader}
-use Rattle.world_state.specs.Objects.{fresh_object}
-use Rattle.world_state.specs.View.{Plans, BoardView, idle, fresh_at, told, changed}
-use Rattle.world_state.proofs.Lemmas.{no_object, word_of, ReaderKept, not_new, InQueue, queue_at}
-use Rattle.poll_cookie.specs.Cookie.{cookie_for}
-use Rattle.world.specs.Chains.{linked_by, push_row, replace_row, cut_row, published}
-use Rattle.world.specs.Grace.{start_row, poll_row}
-use Rattle.world.specs.Queues.{may_retire}
+use Rattle.world.specs.Chains.{next_object}
+use Rattle.world.specs.Workers.{ask_for}
 use Rattle.world_state.specs.declared.updater.Holder.TheVariants as holder
-use Rattle.world.specs.Lines.{synced, updater_on, updater_begins, is_idle, updater_line, of_updater, of_reader, of_worker, change_of, with_change, outcome_of, world_after}
+use Rattle.world.specs.Lines.{change_of, with_change, outcome_of, world_after}
+use Rattle.world.proofs.Rows.{ReaderRows, reads_both, UpdaterRows, Each, Law, by_law, over_line}
 use Rattle.world.proofs.Fence.{Work, Rests, Starts, Runs, Pending, Holds, Laws}
-use Rattle.world_state.specs.declared.worker.WorkerState.{WorkerState}
-use Rattle.world_state.specs.Queues.{new_worker}
-use Rattle.world.proofs.State.{Asker, Syncing, Polling, Working, place_work, started_work, worker_work, updater_at, worker_at, work_of, UpdaterKept, Kept, Owes}
-use Rattle.world.proofs.KeptReading.{kept_reader}
+use Rattle.world.proofs.State.{Asker, Syncing, Polling, Working, place_work, started_work, worker_work, updater_at, worker_at, work_of, UpdaterKept, told_by, log_after, Kept, Owes}
+use Rattle.world.proofs.KeptReaders.{there as reader_there, OwesRead, owes_reads}
 use Rattle.world.proofs.KeptPublishing.{There, there, owes_push, owes_replace, owes_cut, owes_pushed, owes_replaced}
 use Rattle.world.proofs.Asking.{owes_ask, owes_sync}
-use Rattle.world.proofs.KeptWaiting.{owes_start, owes_poll}
+use Rattle.world.proofs.KeptWaiting.{OwesTurn, syncing, owes_start, owes_poll}
 use Rattle.world.proofs.Callbacks.{LifeKept, QueueKept, RetireKept, WorkAt, BarKept, Barring, Callbacks}
-use Rattle.world.proofs.Plain.{OwesAll}
-use Rattle.world.proofs.PlainLines.{PlainResult, plain_reader, plain_push, plain_replace, plain_published, plain_cut, plain_start, plain_poll, all_of, syncing_all}
-use Rattle.world.proofs.Retirements.{owes_retire, owes_on}
-use Rattle.world.proofs.Barriers.{owes_barrier, owes_bars}
-use Rattle.world.proofs.WorkerAsks.{owes_worker}
-use Rattle.world_state.specs.declared.object.Life.{Life}
+use Rattle.world.proofs.Plain.{IsPlain, AreOther, other_reads, PlainChange, OwesAll, plainly}
+use Rattle.world.proofs.Retirements.{owes_hold, owes_on}
+use Rattle.world.proofs.Barriers.{owes_barrier, owes_note, owes_check, owes_clear}
+use Rattle.world.proofs.WorkerAsks.{OwesTurn as WorkerTurn, owes_batch}
+use Rattle.world.proofs.WorkerSteps.{owes_take, owes_run, owes_count}
 use Rattle.world_state.specs.declared.object.Life.TheVariants as life
-use Rattle.world_state.specs.declared.queue.QueueState.{QueueState}
-use Rattle.world_state.specs.Queues.{empty_queue_state}
-
-append_none : {X : Type 0} (xs : List X) → xs ≡ xs ++ []
-append_none [] = refl
-append_none (x ∷ xs) = ap (λ (ys : List _). x ∷ ys) (append_none xs)
 
 pub get_replicate : {X : Type 0} (x : X) (n i : ℕ) → get_or (replicate n x) i x ≡ x
 get_replicate x zero i = refl
@@ -73,74 +39,62 @@ module _ {P : Type 0} (plans : Plans P) (layout : Layout) (slots : ℕ) (laws : 
     abbrev Here : ℕ → UpdaterState P → Type 0
     Here u x = There plans layout slots laws w now k u x
 
-    -- a line that callbacks do not notice
-    plain : (x : Result (Change P) Refusal) → PlainResult w x → Owes plans layout slots laws w now x → OwesNow x
-    plain = all_of plans layout slots laws w now k c
+    -- a change that callbacks do not notice
+    plain : (change : Change P) → PlainChange w change → Owes plans layout slots laws w now (Ok change) → OwesNow (Ok change)
+    plain = plainly plans layout slots laws w now k c
 
-    -- the work of an updater that is there
-    its_work : (u : ℕ) (x : UpdaterState P) → Here u x → work_of w.updaters w.workers (Syncing u) ≡ place_work x.place
-    its_work u x t = ap (λ (z : UpdaterState P). place_work z.place) t.is
+    reads : (r : ℕ) (v : ReaderState) → slice_get w.readers r ≡ Some v → ReaderRows plans.qsbr w.layout w r v (λ step. OwesNow (Ok (Read r step)))
+    reads r v was = reads_both plans.qsbr w.layout w r v (λ step. AreOther (told step.answer)) (OwesRead plans layout slots laws w now k r) (λ step. OwesNow (Ok (Read r step))) (λ step. plain (Read r step)) (other_reads plans.qsbr w.layout w r v)
+        (subst (λ (l : Layout). ReaderRows plans.qsbr l w r v (OwesRead plans layout slots laws w now k r)) (sym k.laid) (owes_reads plans layout slots laws w now k r v (reader_there plans layout slots laws w now k r v was)))
 
-    kept_on : (u : ℕ) (x : UpdaterState P) (place : UpdaterPlace P) → x.place ≡ place → Here u x → OwesNow (updater_on plans w u x place)
-    kept_on u x Idle is t = tt
-    kept_on u x (Publishes (publishing.Push m)) is t = plain (published w u x (publishing.Push m)) (plain_published w u x t.inside (publishing.Push m))
-        (owes_pushed plans layout slots laws w now k u x m t (ap place_work is) (subst (UpdaterKept w.heads w.objects (length w.updaters) u) is t.mine) (slice_get w.objects m.0) refl)
-    kept_on u x (Publishes (publishing.Replace o m)) is t = plain (published w u x (publishing.Replace o m)) (plain_published w u x t.inside (publishing.Replace o m))
-        (owes_replaced plans layout slots laws w now k u x o m t (ap place_work is) (subst (UpdaterKept w.heads w.objects (length w.updaters) u) is t.mine) (slice_get w.objects o.0) refl)
-    kept_on u x (Syncs ask place) is t =
-        owes_sync plans layout slots laws w now k (holder.Updater u) ask (λ r. OwesNow (synced plans u x ask r)) (syncing_all plans layout slots laws w now k c u x ask t) place (its_work u x t ∙ ap place_work is)
-        (subst (UpdaterKept w.heads w.objects (length w.updaters) u) is t.mine)
-    kept_on u x (Retires o due) is t = owes_on plans layout slots laws w now k c u x t o due is
-    kept_on u x (Bars b) is t = owes_bars plans layout slots laws w now k c u x t b is
+    module _ (u : ℕ) (x : UpdaterState P) (t : Here u x) where
+      -- the work of an updater that is there
+      its_work : work_of w.updaters w.workers (Syncing u) ≡ place_work x.place
+      its_work = ap (λ (z : UpdaterState P). place_work z.place) t.is
 
-    kept_begins : (u : ℕ) (x : UpdaterState P) (verb : UpdaterVerb) → x.place ≡ Idle → Here u x → OwesNow (updater_begins plans w u x verb)
-    kept_begins u x (updater.Push h) is t = plain (push_row w u x h (slice_get w.heads h)) (plain_push w u x t.inside h (slice_get w.heads h)) (owes_push plans layout slots laws w now k u x h t (ap place_work is) (slice_get w.heads h) refl)
-    kept_begins u x (updater.Replace o) is t = plain (replace_row w u x o (linked_by w u (slice_get w.objects o.0))) (plain_replace w u x t.inside o (linked_by w u (slice_get w.objects o.0)))
-        (owes_replace plans layout slots laws w now k u x o t (ap place_work is) (linked_by w u (slice_get w.objects o.0)) refl)
-    kept_begins u x (updater.Cut o) is t = plain (cut_row u x o (linked_by w u (slice_get w.objects o.0))) (plain_cut w u x t.inside is o (linked_by w u (slice_get w.objects o.0)))
-        (owes_cut plans layout slots laws w now k u x o t is (linked_by w u (slice_get w.objects o.0)) refl)
-    kept_begins u x (updater.Retire o) is t = owes_retire plans layout slots laws w now k c u x t o is (may_retire w u (slice_get w.objects o.0)) refl
-    kept_begins u x updater.Sync is t =
-        owes_ask plans layout slots laws w now k (holder.Updater u) (w.grace.asks + 1) (λ r. OwesNow (synced plans u x (w.grace.asks + 1) r)) (syncing_all plans layout slots laws w now k c u x (w.grace.asks + 1) t) (its_work u x t ∙ ap place_work is) refl
-    kept_begins u x updater.Start is t = plain (start_row w u x (cookie_for w.grace.seq)) (plain_start w u x t.inside is (cookie_for w.grace.seq)) (owes_start plans layout slots laws w now k u x t)
-    kept_begins u x updater.Poll is t = plain (poll_row w u x x.started) (plain_poll w u x t.inside is x.started) (owes_poll plans layout slots laws w now k u x t x.started refl)
-    kept_begins u x updater.Barrier is t = owes_barrier plans layout slots laws w now k c u x t is
-    kept_begins u x updater.GoOn is t = tt
+      mine : (place : UpdaterPlace P) → x.place ≡ place → UpdaterKept w.heads w.objects (length w.updaters) u place
+      mine place is = subst (UpdaterKept w.heads w.objects (length w.updaters) u) is t.mine
 
-    idle_tells : (place : UpdaterPlace P) → is_idle place ≡ true → place ≡ Idle
-    idle_tells Idle e = refl
-    idle_tells (Publishes what) e = absurd (true≢false (sym e))
-    idle_tells (Syncs ask place) e = absurd (true≢false (sym e))
-    idle_tells (Retires o due) e = absurd (true≢false (sym e))
-    idle_tells (Bars b) e = absurd (true≢false (sym e))
+      rests : x.place ≡ Idle → IsPlain x.place
+      rests is = subst (λ (p : UpdaterPlace P). IsPlain p) (sym is) tt
 
-    busy_or : (u : ℕ) (x : UpdaterState P) (verb : UpdaterVerb) → Here u x → (b : Bool) → is_idle x.place ≡ b → OwesNow (cond b (updater_begins plans w u x verb) (Err Busy))
-    busy_or u x verb t true is = kept_begins u x verb (idle_tells x.place is) t
-    busy_or u x verb t false is = tt
+      updates : UpdaterRows plans w u x (λ v change. OwesNow (Ok change))
+      updates = record {
+        pushes = λ h head at is writes'. plain (Begin u (record x { place = Publishes (publishing.Push (next_object w)) }) (fresh_object h head)) (t.inside, tt, refl, refl) (owes_push plans layout slots laws w now k u x h head t (ap place_work at.at) is writes');
+        replaces = λ o y at is. plain (Begin u (record x { place = Publishes (publishing.Replace o (next_object w)) }) (fresh_object y.chain y.link)) (t.inside, tt, refl, refl) (owes_replace plans layout slots laws w now k u x o y t (ap place_work at.at) is);
+        cuts = λ o y at is. plain (Publish u x (record { chain = y.chain; before = y.before; after = y.link; leaves = Some o; enters = None }) (events.Cut y.chain o)) (t.inside, rests at.at, tt) (owes_cut plans layout slots laws w now k u x o y t at.at is);
+        pushed = λ m y at is. plain (Publish u (record x { place = Idle }) (record { chain = y.chain; before = None; after = y.link; leaves = None; enters = Some m }) (events.Push y.chain m)) (t.inside, tt, tt)
+            (owes_pushed plans layout slots laws w now k u x m y t (ap place_work at.at) (mine (Publishes (publishing.Push m)) at.at) is);
+        replaced = λ o m y at is. plain (Publish u (record x { place = Idle }) (record { chain = y.chain; before = y.before; after = y.link; leaves = Some o; enters = Some m }) (events.Replace y.chain o m)) (t.inside, tt, tt)
+            (owes_replaced plans layout slots laws w now k u x o m y t (ap place_work at.at) (mine (Publishes (publishing.Replace o m)) at.at) is);
+        asks = λ step at is goes on.
+            subst (OwesTurn plans layout slots laws w now k c u x (w.grace.asks + 1)) is
+            (owes_ask plans layout slots laws w now k (holder.Updater u) (w.grace.asks + 1) (OwesTurn plans layout slots laws w now k c u x (w.grace.asks + 1)) (syncing plans layout slots laws w now k c u x (w.grace.asks + 1) t) (its_work ∙ ap place_work at.at) refl) goes on;
+        turns = λ ask place step at is goes on.
+            subst (OwesTurn plans layout slots laws w now k c u x ask) is
+            (owes_sync plans layout slots laws w now k (holder.Updater u) ask (OwesTurn plans layout slots laws w now k c u x ask) (syncing plans layout slots laws w now k c u x ask t) place (its_work ∙ ap place_work at.at) (mine (Syncs ask place) at.at)) goes on;
+        starts = λ cookie at is. owes_start plans layout slots laws w now k c u x t cookie at.at is;
+        polls = λ s at is up. owes_poll plans layout slots laws w now k c u x t s at.at is up;
+        holds = λ o q at may is free. owes_hold plans layout slots laws w now k c u x t o at.at may q is free;
+        retires = λ o due at. owes_on plans layout slots laws w now k c u x t o due at.at;
+        bars = λ at. owes_barrier plans layout slots laws w now k c u x t at.at;
+        notes = λ b q at is. owes_note plans layout slots laws w now k c u x t b at.at q is;
+        checks = λ b q at is up more. owes_check plans layout slots laws w now k c u x t b at.at q is up more;
+        clears = λ b q at is up last. owes_clear plans layout slots laws w now k c u x t b at.at q is up last;
+      }
 
-    kept_updater_line : (u : ℕ) (x : UpdaterState P) (verb : UpdaterVerb) → Here u x → OwesNow (updater_line plans w u x verb)
-    kept_updater_line u x updater.GoOn t = kept_on u x x.place refl t
-    kept_updater_line u x (updater.Push h) t = busy_or u x (updater.Push h) t (is_idle x.place) refl
-    kept_updater_line u x (updater.Replace o) t = busy_or u x (updater.Replace o) t (is_idle x.place) refl
-    kept_updater_line u x (updater.Cut o) t = busy_or u x (updater.Cut o) t (is_idle x.place) refl
-    kept_updater_line u x (updater.Retire o) t = busy_or u x (updater.Retire o) t (is_idle x.place) refl
-    kept_updater_line u x updater.Sync t = busy_or u x updater.Sync t (is_idle x.place) refl
-    kept_updater_line u x updater.Start t = busy_or u x updater.Start t (is_idle x.place) refl
-    kept_updater_line u x updater.Poll t = busy_or u x updater.Poll t (is_idle x.place) refl
-    kept_updater_line u x updater.Barrier t = busy_or u x updater.Barrier t (is_idle x.place) refl
-
-    kept_updater : (u : ℕ) (verb : UpdaterVerb) (x : Option (UpdaterState P)) → slice_get w.updaters u ≡ x → OwesNow (of_updater plans w u verb x)
-    kept_updater u verb None is = tt
-    kept_updater u verb (Some x) is = kept_updater_line u x verb (there plans layout slots laws w now k u x is)
-
-    kept_worker : (n : ℕ) (verb : WorkerVerb) (x : Option (WorkerState P)) → slice_get w.workers n ≡ x → OwesNow (of_worker plans w n verb x)
-    kept_worker n verb None is = tt
-    kept_worker n verb (Some x) is = owes_worker plans layout slots laws w now k c n x is verb
-
-    kept_line : (line : Line) → OwesNow (change_of plans w line)
-    kept_line (Reader r verb) = plain (of_reader plans.qsbr w r verb (slice_get w.readers r)) (plain_reader plans.qsbr w r verb (slice_get w.readers r)) (kept_reader plans layout slots laws w now k r verb (slice_get w.readers r) refl)
-    kept_line (Updater u verb) = kept_updater u verb (slice_get w.updaters u) refl
-    kept_line (Worker n verb) = kept_worker n verb (slice_get w.workers n) refl
+    owes : Law plans w (λ line change. OwesNow (Ok change))
+    owes = record {
+      stays = λ line answer never none. (tt, k, c);
+      reads = λ r v verb was. reads r v was;
+      updates = λ u x was. updates u x (there plans layout slots laws w now k u x was);
+      works = λ n x was. record {
+        takes = λ q at is free some. owes_take plans layout slots laws w now k c n x was at.at q is some;
+        works = λ sync tickets step at is goes on. subst (WorkerTurn plans layout slots laws w now k c n x was sync tickets at.at (ask_for w x.ask sync)) is (owes_batch plans layout slots laws w now k c n x was sync tickets at.at) goes on;
+        runs = λ tickets first at is. owes_run plans layout slots laws w now k c n x was tickets at.at first is;
+        counts = λ tickets ticket item at. owes_count plans layout slots laws w now k c n x was tickets ticket item at.at;
+      };
+    }
 
   -- the log so far is a run, and the world is kept beside the machine after it
   pub record Logged (w : BoardView P) : Type 0 where
@@ -148,30 +102,25 @@ module _ {P : Type 0} (plans : Plans P) (layout : Layout) (slots : ℕ) (laws : 
     pub kept : Kept plans layout slots laws w (after_all start w.log)
     pub callbacks : Callbacks w (after_all start w.log)
 
-  logged_more : (w w' : BoardView P) (es : List Event) → w'.log ≡ w.log ++ es → IsRun w.log → AreAllowed (after_all start w.log) es × Kept plans layout slots laws w' (after_all (after_all start w.log) es) × Callbacks w' (after_all (after_all start w.log) es) → Logged w'
-  logged_more w w' es log was owed = record {
-    run = subst (λ (l : List Event). IsRun l) (sym log) (allowed_append start w.log es was owed.0);
-    kept = subst (Kept plans layout slots laws w') (sym after) owed.1;
-    callbacks = subst (Callbacks w') (sym after) owed.2;
+  logged_change : (w : BoardView P) (l : Logged w) (change : Change P) → OwesNow w (after_all start w.log) l.kept l.callbacks (Ok change) → Logged (changed w change)
+  logged_change w l change owed = record {
+    run = subst (λ (es : List Event). IsRun es) (sym log) (allowed_append start w.log (told_by change) l.run owed.0);
+    kept = subst (Kept plans layout slots laws (changed w change)) (sym after) owed.1;
+    callbacks = subst (Callbacks (changed w change)) (sym after) owed.2;
   }
     where
-      after : after_all start w'.log ≡ after_all (after_all start w.log) es
-      after = ap (after_all start) log ∙ after_append start w.log es
+      log : (changed w change).log ≡ w.log ++ told_by change
+      log = log_after w change
+
+      after : after_all start (changed w change).log ≡ after_all (after_all start w.log) (told_by change)
+      after = ap (after_all start) log ∙ after_append start w.log (told_by change)
 
   pub logged_step : (w : BoardView P) (line : Line) → Logged w → Logged ((outcome_of plans w line).world)
-  logged_step w line l = by (change_of plans w line) (kept_line w (after_all start w.log) l.kept l.callbacks line)
+  logged_step w line l = by (change_of plans w line) (by_law plans w (λ line change. OwesNow w (after_all start w.log) l.kept l.callbacks (Ok change)) (owes w (after_all start w.log) l.kept l.callbacks) line)
     where
-      by : (x : Result (Change P) Refusal) → OwesAll plans layout slots laws w (after_all start w.log) l.kept l.callbacks x → Logged ((with_change w x).world)
+      by : (x : Result (Change P) Refusal) → Each plans w (λ line change. OwesNow w (after_all start w.log) l.kept l.callbacks (Ok change)) line x → Logged ((with_change w x).world)
       by (Err e) owed = l
-      by (Ok (Read r step)) owed = logged_more w (changed w (Read r step)) (told step.answer) refl l.run owed
-      by (Ok (Begin u x y)) owed = logged_more w (changed w (Begin u x y)) [] (append_none w.log) l.run owed
-      by (Ok (Publish u x s e)) owed = logged_more w (changed w (Publish u x s e)) (e ∷ []) refl l.run owed
-      by (Ok (Grace u x grace answer)) owed = logged_more w (changed w (Grace u x grace answer)) (told answer) refl l.run owed
-      by (Ok (Hold u x q)) owed = logged_more w (changed w (Hold u x q)) [] (append_none w.log) l.run owed
-      by (Ok (Retire u x q act mark answer)) owed = logged_more w (changed w (Retire u x q act mark answer)) (told answer) refl l.run owed
-      by (Ok (Bar u x barriers answer)) owed = logged_more w (changed w (Bar u x barriers answer)) (told answer) refl l.run owed
-      by (Ok (Works n x grace act mark answer)) owed = logged_more w (changed w (Works n x grace act mark answer)) (told answer) refl l.run owed
-      by (Ok (Stay answer)) owed = l
+      by (Ok change) owed = logged_change w l change owed
 
   pub logged_lines : (w : BoardView P) (lines : List Line) → Logged w → Logged (world_after plans w lines)
   logged_lines w [] l = l
@@ -297,25 +246,40 @@ module _ {P : Type 0} (plans : Plans P) (layout : Layout) (slots : ℕ) (laws : 
       words c (Some o) h = absurd h
 
 -- the limits of a config leave a reader
-both : (a b : Bool) → (a && b) ≡ true → (a ≡ true) × (b ≡ true)
-both true b e = (refl, e)
-both false b e = absurd (true≢false (sym e))
-
 in_limits : (low high n : ℕ) → is_in low high n ≡ true → (low ≤ n) × (n ≤ high)
-in_limits low high n e = let b = both (nat_le low n) (nat_le n high) e in (at_most low n b.0, at_most n high b.1)
-  where
-    at_most : (a b : ℕ) → nat_le a b ≡ true → a ≤ b
-    at_most a b f = by (leb_tells a b) f
-      where
-        by : ((leb a b ≡ true) × (a ≤ b)) ⊎ ((leb a b ≡ false) × (b < a)) → nat_le a b ≡ true → a ≤ b
-        by (inl y) f = y.1
-        by (inr n) f = absurd (true≢false (sym f ∙ n.0))
+in_limits low high n e = let b = and_parts (nat_le low n) (nat_le n high) e in (leb-true low n b.0, leb-true n high b.1)
 
-pub some_reader : (config : Config) → is_within_limits config ≡ true → 1 ≤ config.readers
-some_reader config e =
-    let three = (both _ (is_in 1 64 config.chains) e).0 in
-    let two = (both _ (is_in 1 8 config.workers) three).0 in
-    (in_limits 1 64 config.readers (both (is_in 1 64 config.readers) (is_in 1 16 config.updaters) two).0).0
+pub record Within (config : Config) : Type 0 where
+  pub readers : (1 ≤ config.readers) × (config.readers ≤ 64)
+  pub workers : (1 ≤ config.workers) × (config.workers ≤ 8)
+  pub chains : config.chains ≤ 64
 
-pub few_workers : (config : Config) → is_within_limits config ≡ true → (1 ≤ config.workers) × (config.workers ≤ 8)
-few_workers config e = in_limits 1 8 config.workers (both _ (is_in 1 8 config.workers) (both _ (is_in 1 64 config.chains) e).0).1
+pub within_limits : (config : Config) → is_within_limits config ≡ true → Within config
+within_limits config e =
+    let three = and_parts _ (is_in 1 64 config.chains) e in
+    let two = and_parts _ (is_in 1 8 config.workers) three.0 in
+    record {
+      readers = in_limits 1 64 config.readers (and_parts (is_in 1 64 config.readers) (is_in 1 16 config.updaters) two.0).0;
+      workers = in_limits 1 8 config.workers two.1;
+      chains = (in_limits 1 64 config.chains three.1).1;
+    }
+
+-- a world that lines led to
+module _ {P : Type 0} (plans : Plans P) (laws : (layout : Layout) (slots : ℕ) → Laws plans layout slots) (config : Config) (seq : ℕ) (limits : is_within_limits config ≡ true) (even : seq % 2 ≡ 0) (low : seq ≤ 2 ^ 62) where
+  abbrev pub LoggedNow : BoardView P → Type 0
+  LoggedNow w = Logged plans config.layout config.readers (laws config.layout config.readers) w
+
+  pub at_first : LoggedNow (fresh_at config seq)
+  at_first = logged_fresh plans config.layout config.readers (laws config.layout config.readers) config seq refl refl (within_limits config limits).readers.0 (within_limits config limits).workers.0 (within_limits config limits).workers.1 even low
+
+  pub logged : (lines : List Line) → LoggedNow (world_after plans (fresh_at config seq) lines)
+  logged lines = logged_lines plans config.layout config.readers (laws config.layout config.readers) (fresh_at config seq) lines at_first
+
+  -- what is so at first, and what each change keeps, is so
+  module _ (I : BoardView P → Type 0) (F : BoardView P → Line → Change P → Type 0) (keeps : (w : BoardView P) (line : Line) (change : Change P) → F w line change → I w → I (changed w change)) (law : (w : BoardView P) → LoggedNow w → Law plans w (F w)) where
+    from : (w : BoardView P) (lines : List Line) → LoggedNow w → I w → I (world_after plans w lines)
+    from w [] l i = i
+    from w (line ∷ lines) l i = from ((outcome_of plans w line).world) lines (logged_step plans config.layout config.readers (laws config.layout config.readers) w line l) (over_line plans I F keeps w (law w l) line i)
+
+    pub always : (lines : List Line) → I (fresh_at config seq) → I (world_after plans (fresh_at config seq) lines)
+    always lines i = from (fresh_at config seq) lines at_first i

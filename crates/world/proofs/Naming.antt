@@ -1,12 +1,7 @@
 -- Each section, object, ask and barrier that an event of a run names is one of the state after the run.
-use Rattle.std.proofs.Common.{◌≡◌, inl, inr, ⊎_elim, ℕ, List, [], ◌∷◌, ◌++◌, Option, Some, None, refl, sym, subst}
+use Rattle.world.proofs.Cited.{◌≡◌, inl, inr, ⊎_elim, ℕ, List, [], ◌∷◌, ◌++◌, Option, Some, None, refl, sym, subst, Event, Open, Close, First, Next, Touch, Push, Replace, Cut, Retire, Queue, Run, Ask, Clear, SectionId, ObjectId, State, start, IsAllowed, AreAllowed, after, after_all, got, IsRun, In, in_sections, in_objects, in_numbers, in_more, without_section_has, at_section_same, Kept, SafeIn, linked, cut_last, cut_before, kept_step, kept_start}
 use Rattle.std.specs.List.{AllByRecursion as Every}
-use Rattle.rcu_model.specs.declared.event.Event.{Event}
-use Rattle.rcu_model.specs.declared.event.Event.TheVariants.{Open, Close, First, Next, Touch, Push, Replace, Cut, Retire, Queue, Run, Ask, Answer, Bar, Clear}
-use Rattle.rcu_model.specs.declared.event.SectionId.{SectionId}
-use Rattle.rcu_model.specs.declared.event.ObjectId.{ObjectId}
-use Rattle.rcu_model.specs.Machine.{State, start, IsAllowed, AreAllowed, after, after_all, got, IsRun}
-use Rattle.rcu_model.proofs.Lemmas.{In, in_sections, in_objects, in_numbers, in_more, without_section_has, at_section_same, Kept, SafeIn, linked, cut_last, cut_before, kept_step, kept_start}
+use Rattle.rcu_model.specs.declared.event.Event.TheVariants.{Answer, Bar}
 
 pub every_append : {X : Type 0} (F : X → Type 0) (xs ys : List X) → Every F xs → Every F ys → Every F (xs ++ ys)
 every_append F [] ys p q = q
@@ -50,20 +45,14 @@ grown_got now s (Some o) = record { seen = λ t h. h; used = λ p h. h; asked = 
 
 grown_after : (now : State) (e : Event) → Grown now (after now e)
 grown_after now (Open s) = record { seen = λ t h. inr h; used = λ p h. h; asked = λ a h. h; noted = λ b h. h }
-grown_after now (Close s) = record { seen = λ t h. h; used = λ p h. h; asked = λ a h. h; noted = λ b h. h }
 grown_after now (First s c found) = grown_got now s found
 grown_after now (Next s o found) = grown_got now s found
 grown_after now (Touch s o) = grown_same now
 grown_after now (Push c o) = record { seen = λ t h. h; used = λ p h. inr h; asked = λ a h. h; noted = λ b h. h }
 grown_after now (Replace c old new) = record { seen = λ t h. h; used = λ p h. inr h; asked = λ a h. h; noted = λ b h. h }
-grown_after now (Cut c o) = record { seen = λ t h. h; used = λ p h. h; asked = λ a h. h; noted = λ b h. h }
-grown_after now (Retire o) = record { seen = λ t h. h; used = λ p h. h; asked = λ a h. h; noted = λ b h. h }
-grown_after now (Queue o q) = record { seen = λ t h. h; used = λ p h. h; asked = λ a h. h; noted = λ b h. h }
-grown_after now (Run o) = record { seen = λ t h. h; used = λ p h. h; asked = λ a h. h; noted = λ b h. h }
 grown_after now (Ask n) = record { seen = λ t h. h; used = λ p h. h; asked = λ a h. inr h; noted = λ b h. h }
-grown_after now (Answer n) = record { seen = λ t h. h; used = λ p h. h; asked = λ a h. h; noted = λ b h. h }
 grown_after now (Bar n) = record { seen = λ t h. h; used = λ p h. h; asked = λ a h. h; noted = λ b h. inr h }
-grown_after now (Clear n) = record { seen = λ t h. h; used = λ p h. h; asked = λ a h. h; noted = λ b h. h }
+grown_after now _ = record { seen = λ t h. h; used = λ p h. h; asked = λ a h. h; noted = λ b h. h }
 
 grown_all : (now : State) (es : List Event) → Grown now (after_all now es)
 grown_all now [] = grown_same now
@@ -110,17 +99,7 @@ open_after now (Open s) o = λ t h. ⊎_elim (λ (was : In now.sections t). inr 
 open_after now (Close s) o = λ t h. o t ((without_section_has s now.sections t h).0)
 open_after now (First s c found) o = open_got now s found o
 open_after now (Next s p found) o = open_got now s found o
-open_after now (Touch s p) o = o
-open_after now (Push c p) o = o
-open_after now (Replace c old new) o = o
-open_after now (Cut c p) o = o
-open_after now (Retire p) o = o
-open_after now (Queue p q) o = o
-open_after now (Run p) o = o
-open_after now (Ask a) o = o
-open_after now (Answer a) o = o
-open_after now (Bar b) o = o
-open_after now (Clear b) o = o
+open_after now _ o = o
 
 -- what a section holds was put into a chain
 safe_used : (now : State) (s : SectionId) (o : ObjectId) → Kept now → SafeIn now s o → In now.used o
@@ -136,7 +115,6 @@ found_used now s None k = tt
 found_used now s (Some o) k = held_used (got now s (Some o)) s o k (subst (λ (os : List ObjectId). In os o) (sym (at_section_same s (o ∷ now.held s) now.held)) (inl refl))
 
 knows_after : (now : State) (e : Event) → Kept now → OpenSeen now → IsAllowed now e → Knows (after now e) e
-knows_after now (Open s) k o a = inl refl
 knows_after now (Close s) k o a = o s (in_sections now.sections s a)
 knows_after now (First s c found) k o a =
     ((grown_got now s found).seen s (o s (in_sections now.sections s a.0)), found_used now s found (kept_step now (First s c found) k a))
@@ -146,16 +124,14 @@ knows_after now (Next s p found) k o a = (
   found_used now s found (kept_step now (Next s p found) k a),
 )
 knows_after now (Touch s p) k o a = (o s (in_sections now.sections s a.0), held_used now s p k (in_objects (now.held s) p a.1))
-knows_after now (Push c p) k o a = inl refl
 knows_after now (Replace c old new) k o a = (inr (k.linking.linked_used c old (in_objects (now.chain c) old a.0)), inl refl)
 knows_after now (Cut c p) k o a = k.linking.linked_used c p (in_objects (now.chain c) p a)
 knows_after now (Retire p) k o a = k.linking.cut_used p (in_objects now.cut p a.0)
 knows_after now (Queue p q) k o a = k.linking.cut_used p (k.linking.retired_cut p (in_objects now.retired p a.0))
 knows_after now (Run p) k o a = k.linking.cut_used p (k.linking.retired_cut p (k.queued_retired p (in_objects now.queued p a.0)))
-knows_after now (Ask n) k o a = inl refl
 knows_after now (Answer n) k o a = in_numbers now.asked n a.0
-knows_after now (Bar n) k o a = inl refl
 knows_after now (Clear n) k o a = in_numbers now.noted n a.0
+knows_after now _ k o a = inl refl
 
 knows_events : (now : State) (es : List Event) → Kept now → OpenSeen now → AreAllowed now es → Every (Knows (after_all now es)) es
 knows_events now [] k o a = tt

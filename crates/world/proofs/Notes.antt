@@ -1,12 +1,5 @@
 -- What readers and updaters note is what their latest lines were answered.
-use Rattle.std.proofs.Common.{◌≡◌, ℕ, List, Option, None, ap, subst}
-use Rattle.world_state.specs.declared.config.Config.{Config}
-use Rattle.world_state.specs.declared.line.Line.{Line}
-use Rattle.world_state.specs.declared.reader.ReaderState.{ReaderState}
-use Rattle.world_state.specs.declared.updater.Started.{Started}
-use Rattle.world_state.specs.declared.updater.UpdaterState.{UpdaterState}
-use Rattle.world_state.specs.Readers.{new_reader}
-use Rattle.world_state.specs.View.{Plans, BoardView, fresh_at, idle}
+use Rattle.world.proofs.Cited.{◌≡◌, ℕ, List, Option, None, ap, subst, Config, Line, ReaderState, Started, UpdaterState, new_reader, Plans, BoardView, fresh_at, idle}
 use Rattle.world.specs.Lines.{world_after}
 use Rattle.world.specs.Notes.{AreNoted, cursor_of, replies_to, started_by}
 use Rattle.world.proofs.Logged.{get_replicate}

@@ -1,13 +1,5 @@
 -- What each step of a grace period keeps of asks, the lock, the plan and the fence.
-use Rattle.std.proofs.Common.{◌≡◌, ◌≢◌, ◌⊎◌, ⊎_elim, ℕ, ◌+◌, ◌%◌, ◌^◌, ◌<◌, ◌≤◌, leb, Bool, true, false, List, [], ◌∷◌, ◌++◌, Option, Some, None, refl, sym, ap, ◌∙◌, subst, arith}
-use Rattle.std.proofs.lemmas.Bool.Decides.{leb_tells}
-use Rattle.rcu_model.specs.declared.event.SectionId.{SectionId}
-use Rattle.rcu_model.proofs.Lemmas.{In, empty_from}
-use Rattle.reader_word.specs.declared.layout.Layout.{Layout}
-use Rattle.gp_memb.specs.declared.plan.Action.TheVariants.{Load, StoreSeq, Finished}
-use Rattle.gp_memb.specs.Plan.{Shows, StoresInOrder, present_after, IsPresent}
-use Rattle.gp_memb.specs.lemmas.History.{after_snoc, may_begin, never_finished}
-use Rattle.world_state.specs.View.{Plans}
+use Rattle.world.proofs.Cited.{◌≡◌, ◌≢◌, ◌⊎◌, ◌+◌, ◌%◌, ◌^◌, ◌<◌, ◌≤◌, ⊎_elim, ℕ, leb, true, false, List, [], ◌∷◌, ◌++◌, Option, Some, None, refl, sym, ap, ◌∙◌, subst, arith, leb_tells, SectionId, In, empty_from, Layout, Load, StoreSeq, Finished, Shows, StoresInOrder, present_after, IsPresent, after_snoc, may_begin, never_finished, Plans}
 use Rattle.world.proofs.Fence.{Work, Rests, Waits, Checks, Starts, Runs, Frees, Pending, Holds, RunsNone, StartsNone, Laws, Sets, set_cases, AsksKept, slot_turn, runs_no_group, Old, Running, GraceKept, Fenced, fenced_words, even_at, grace_set, asks_set, fenced_set, asks_asked, asks_answered, asks_later, fenced_asked}
 
 module _ {P : Type 0} (plans : Plans P) (layout : Layout) (slots : ℕ) (laws : Laws plans layout slots) {A : Type 0} (decide : (x y : A) → (x ≡ y) ⊎ (x ≢ y)) where
@@ -220,6 +212,7 @@ module _ {P : Type 0} (plans : Plans P) (layout : Layout) (slots : ℕ) (laws : 
     from = r.from;
     word = r.word;
     plan = r.plan;
+    made = r.made;
     begun = r.begun;
     load = r.load;
     loads = r.loads ++ loaded ∷ [];
@@ -228,7 +221,7 @@ module _ {P : Type 0} (plans : Plans P) (layout : Layout) (slots : ℕ) (laws : 
     odd = r.odd;
     goes_on = not_last seq number c p loaded r none;
     cookie = r.cookie;
-    present = λ is. laws.all.keeps.presents p loaded ∙ ap (λ n. present_after n (plans.action p)) (r.present is) ∙ sym stored;
+    present = laws.all.keeps.presents p loaded ∙ ap (λ n. present_after n (plans.action p)) r.present ∙ sym stored;
     low = λ is. let l = low is in ((r.low is).0, omega (arith, l, r.odd));
   }
 
@@ -257,9 +250,9 @@ module _ {P : Type 0} (plans : Plans P) (layout : Layout) (slots : ℕ) (laws : 
 
   -- a plan is made, and takes its first turn: every open section is waited for from here on
   pub part_begun : (holder : Option A) (works works' : A → Work P) (words : ℕ → ℕ) (asks seq number : ℕ) (asked answered : List ℕ) (awaited : ℕ → List SectionId) (sections : List SectionId) (x : A) (a c : ℕ) →
-      works x ≡ Starts a c → Sets works works' x (Runs a c (plans.taken (plans.made layout slots seq number) 0)) → Marks words number sections →
+      works x ≡ Starts a c → Sets works works' x (Runs a c (plans.taken (plans.made layout slots seq number) 0)) → Marks words number sections → IsPresent plans.qsbr number →
       Part holder works words asks seq number asked answered awaited sections → Part holder works' words asks (seq + 1) number asked answered awaited sections
-  part_begun holder works works' words asks seq number asked answered awaited sections x a c is s marks k = record {
+  part_begun holder works works' words asks seq number asked answered awaited sections x a c is s marks now k = record {
     asks_kept = asks_set plans layout slots laws decide works works' asks (seq + 1) asked answered x (Runs a c taken) s same
         (asks_later plans layout slots laws decide works asks seq (seq + 1) asked answered (omega arith) k.asks_kept);
     grace_kept = grace_turn holder works works' seq (seq + 1) number number x a c taken mine s running (λ q. let l = k.grace_kept.number_low q in omega (arith, l)) k.grace_kept;
@@ -309,6 +302,7 @@ module _ {P : Type 0} (plans : Plans P) (layout : Layout) (slots : ℕ) (laws : 
         from = seq;
         word = number;
         plan = p;
+        made = refl;
         begun = laws.all.made seq number;
         load = 0;
         loads = [];
@@ -317,12 +311,9 @@ module _ {P : Type 0} (plans : Plans P) (layout : Layout) (slots : ℕ) (laws : 
         odd = refl;
         goes_on = λ e. first_second (sym order.first ∙ (order.last [] 0 (λ f. first_finished (sym order.first ∙ f))).0 e);
         cookie = cookie;
-        present = λ q. laws.all.keeps.presents p 0 ∙ ap (present_after (laws.present p)) order.first ∙ laws.all.keeps.begins seq number p (laws.all.made seq number) (present_any q);
+        present = laws.all.keeps.presents p 0 ∙ ap (present_after (laws.present p)) order.first ∙ laws.all.keeps.begins seq number p (laws.all.made seq number) now;
         low = λ q. let l = k.grace_kept.number_low q in (l, omega (arith, l));
       }
-        where
-          present_any : plans.qsbr ≡ true → IsPresent plans.qsbr number
-          present_any q = subst (λ (b : Bool). IsPresent b number) (sym q) tt
 
       old : (t : SectionId) → In sections t → Old plans layout slots laws taken t words
       old t h =

@@ -1,63 +1,34 @@
 -- What lines that retire nothing, await no barrier and are no worker's keep of callbacks.
-use Rattle.std.proofs.Common.{◌≡◌, inr, ℕ, ◌%◌, ◌<◌, ◌≤◌, Bool, List, [], ◌∷◌, ◌++◌, length, slice_set, Some, None, Result, Ok, Err, refl, sym, ap, ◌∙◌, subst, arith, length-append}
-use Rattle.std.proofs.Math.ListN.{length-set}
-use Rattle.rcu_model.specs.declared.event.Event.{Event}
+use Rattle.world.proofs.Cited.{◌≡◌, inr, ℕ, ◌%◌, ◌<◌, ◌≤◌, Bool, List, [], ◌∷◌, ◌++◌, length, slice_set, Some, None, Result, Ok, Err, refl, sym, ap, ◌∙◌, subst, arith, length-append, length-set, Event, ObjectId, SectionId, WorkerState, Refusal, State, after, AreAllowed, after_all, In, Layout, given_of, Life, ObjectState, QueueState, ReaderState, RetireStep, UpdaterPlace, Retires, Bars, UpdaterState, Change, Read, Begin, Publish, Grace, Stay, spliced_objects, Plans, BoardView, told, changed, stage_of, chain_of, within, grown_same, spliced_chain, stage_grown, life_of, life_within, life_grown, life_spliced, queue_at}
 use Rattle.rcu_model.specs.declared.event.Event.TheVariants as events
-use Rattle.rcu_model.specs.declared.event.ObjectId.{ObjectId}
-use Rattle.rcu_model.specs.declared.event.SectionId.{SectionId}
-use Rattle.world_state.specs.declared.worker.WorkerState.{WorkerState}
-use Rattle.rcu_model.specs.declared.refusal.Refusal.{Refusal}
-use Rattle.rcu_model.specs.Machine.{State, after, AreAllowed, after_all}
-use Rattle.rcu_model.proofs.Lemmas.{In}
-use Rattle.reader_word.specs.declared.layout.Layout.{Layout}
-use Rattle.callback_queue.specs.Queue.{given_of}
-use Rattle.world_state.specs.declared.object.Life.{Life}
 use Rattle.world_state.specs.declared.object.Life.TheVariants as life
 use Rattle.world_state.specs.declared.object.Stage.TheVariants as stage
-use Rattle.world_state.specs.declared.object.ObjectState.{ObjectState}
-use Rattle.world_state.specs.declared.queue.QueueState.{QueueState}
-use Rattle.world_state.specs.declared.updater.RetireStep.{RetireStep}
 use Rattle.world_state.specs.declared.updater.RetireStep.TheVariants as due
-use Rattle.world_state.specs.declared.updater.UpdaterPlace.{UpdaterPlace}
-use Rattle.world_state.specs.declared.updater.UpdaterPlace.TheVariants.{Idle, Publishes, Syncs, Retires, Bars}
-use Rattle.world_state.specs.declared.updater.UpdaterState.{UpdaterState}
-use Rattle.world_state.specs.declared.change.Change.{Change}
-use Rattle.world_state.specs.declared.change.Change.TheVariants.{Read, Begin, Publish, Grace, Hold, Retire, Bar, Work as Works, Stay}
-use Rattle.world_state.specs.Objects.{spliced_objects}
-use Rattle.world_state.specs.View.{Plans, BoardView, told, changed}
-use Rattle.world_state.proofs.Lemmas.{stage_of, chain_of, within, grown_same, spliced_chain, stage_grown, life_of, life_within, life_grown, life_spliced, queue_at}
 use Rattle.world.proofs.Fence.{Laws}
+use Rattle.world.proofs.Rows.{ReaderRows}
 use Rattle.world.proofs.State.{updater_at, told_by, Kept, Owes}
 use Rattle.world.proofs.Callbacks.{LifeKept, DueKept, RetireKept, BarKept, Barring, CallbacksKept, Callbacks, at_updaters, queue_kept, IsOther, over_event}
 
 -- the updater neither retires nor waits for all
 abbrev pub IsPlain : {P : Type 0} → UpdaterPlace P → Type 0
-IsPlain Idle = Unit {0}
-IsPlain (Publishes what) = Unit {0}
-IsPlain (Syncs ask place) = Unit {0}
 IsPlain (Retires o due) = ⊥
 IsPlain (Bars b) = ⊥
+IsPlain _ = Unit {0}
 
 pub plain_retire : {P : Type 0} (os : List ObjectState) (qs : List QueueState) (count u : ℕ) (p : UpdaterPlace P) → IsPlain p → RetireKept os qs count u p
-plain_retire os qs count u Idle h = tt
-plain_retire os qs count u (Publishes what) h = tt
-plain_retire os qs count u (Syncs ask place) h = tt
 plain_retire os qs count u (Retires o due) h = absurd h
 plain_retire os qs count u (Bars b) h = absurd h
+plain_retire os qs count u _ h = tt
 
 pub plain_bar : {P : Type 0} (qs : List QueueState) (noted cleared : List ℕ) (noted_objects : ℕ → List ObjectId) (p : UpdaterPlace P) → IsPlain p → BarKept qs noted cleared noted_objects p
-plain_bar qs noted cleared noted_objects Idle h = tt
-plain_bar qs noted cleared noted_objects (Publishes what) h = tt
-plain_bar qs noted cleared noted_objects (Syncs ask place) h = tt
 plain_bar qs noted cleared noted_objects (Retires o due) h = absurd h
 plain_bar qs noted cleared noted_objects (Bars b) h = absurd h
+plain_bar qs noted cleared noted_objects _ h = tt
 
 pub plain_none : {P : Type 0} (p : UpdaterPlace P) (n : ℕ) → IsPlain p → ¬ Barring p n
-plain_none Idle n h b = b
-plain_none (Publishes what) n h b = b
-plain_none (Syncs ask place) n h b = b
 plain_none (Retires o due) n h b = h
 plain_none (Bars b) n h c = h
+plain_none _ n h b = b
 
 -- one updater is set, of which no barrier was or is under way
 pub one_barrier_set : {P : Type 0} (updaters : List (UpdaterState P)) (u : ℕ) (x : UpdaterState P) → u < length updaters → ((n : ℕ) → ¬ Barring x.place n) →
@@ -90,11 +61,8 @@ due_over os os' reserved queued given count u o d lives chains cuts h = by d h
 
 pub retire_over : {P : Type 0} (os os' : List ObjectState) (qs : List QueueState) (count u : ℕ) (p : UpdaterPlace P) → ((p : ObjectId) → life_of os' p ≡ life_of os p) → ((p : ObjectId) → p.0 < length os → chain_of os' p ≡ chain_of os p) →
     ((p : ObjectId) → stage_of os p ≡ stage.Cut → stage_of os' p ≡ stage.Cut) → RetireKept os qs count u p → RetireKept os' qs count u p
-retire_over os os' qs count u Idle lives chains cuts h = tt
-retire_over os os' qs count u (Publishes what) lives chains cuts h = tt
-retire_over os os' qs count u (Syncs ask place) lives chains cuts h = tt
 retire_over os os' qs count u (Retires o d) lives chains cuts h = (h.0, due_over os os' (queue_at qs (u % length qs)).items.reserved (queue_at qs (u % length qs)).queued (given_of (queue_at qs (u % length qs)).items) count u o d lives chains cuts h.1)
-retire_over os os' qs count u (Bars b) lives chains cuts h = tt
+retire_over os os' qs count u _ lives chains cuts h = tt
 
 module _ {P : Type 0} (w : BoardView P) (now : State) (k : Callbacks w now) where
   -- only readers, chains and grace periods change
@@ -149,29 +117,35 @@ abbrev pub AreOther : List Event → Type 0
 AreOther [] = Unit {0}
 AreOther (e ∷ es) = IsOther e × AreOther es
 
+-- a reader's step tells of no queue and no barrier
+pub other_reads : {P : Type 0} (qsbr : Bool) (layout : Layout) (w : BoardView P) (r : ℕ) (v : ReaderState) → ReaderRows qsbr layout w r v (λ step. AreOther (told step.answer))
+other_reads qsbr layout w r v = record {
+  copies = λ none zero. tt;
+  nests = λ word none flavour more is. tt;
+  unnests = λ word none flavour is more. tt;
+  unlocks = λ word none flavour is zero. (tt, tt);
+  leaves = λ none flavour online. (tt, tt);
+  enters = λ copied word has flavour is. (tt, tt);
+  goes_online = λ copied has flavour offline. (tt, tt);
+  announces = λ copied has flavour online. (tt, (tt, tt));
+  firsts = λ c head none open' is. (tt, tt);
+  nexts = λ o x none open' from is. (tt, tt);
+  touches = λ o none open' from. (tt, tt);
+}
+
 over_events : {P : Type 0} (w : BoardView P) (now : State) (es : List Event) → AreOther es → AreAllowed now es → Callbacks w now → Callbacks w (after_all now es)
 over_events w now [] is allowed k = k
 over_events w now (e ∷ es) is allowed k = over_events w (after now e) es is.1 allowed.1 (over_event w now k e is.0 allowed.0)
 
 -- what was cut stays cut
 cut_grows : (now : State) (e : Event) (o : ObjectId) → In now.cut o → In (after now e).cut o
-cut_grows now (events.Open s) o h = h
-cut_grows now (events.Close s) o h = h
+cut_grows now (events.Replace c p q) o h = inr h
+cut_grows now (events.Cut c p) o h = inr h
 cut_grows now (events.First s c None) o h = h
 cut_grows now (events.First s c (Some p)) o h = h
 cut_grows now (events.Next s p None) o h = h
 cut_grows now (events.Next s p (Some q)) o h = h
-cut_grows now (events.Touch s p) o h = h
-cut_grows now (events.Push c p) o h = h
-cut_grows now (events.Replace c p q) o h = inr h
-cut_grows now (events.Cut c p) o h = inr h
-cut_grows now (events.Retire p) o h = h
-cut_grows now (events.Queue p q) o h = h
-cut_grows now (events.Run p) o h = h
-cut_grows now (events.Ask a) o h = h
-cut_grows now (events.Answer a) o h = h
-cut_grows now (events.Bar b) o h = h
-cut_grows now (events.Clear b) o h = h
+cut_grows now _ o h = h
 
 -- changes that callbacks do not notice
 abbrev pub PlainChange : {P : Type 0} → BoardView P → Change P → Type 0
@@ -179,11 +153,8 @@ PlainChange w (Read r step) = AreOther (told step.answer)
 PlainChange w (Begin u x y) = (u < length w.updaters) × IsPlain x.place × (y.life ≡ life.Kept) × (y.stage ≡ stage.Fresh)
 PlainChange w (Publish u x s e) = (u < length w.updaters) × IsPlain x.place × IsOther e
 PlainChange w (Grace u x grace answer) = (u < length w.updaters) × IsPlain x.place × AreOther (told answer)
-PlainChange w (Hold u x q) = ⊥
-PlainChange w (Retire u x q act mark answer) = ⊥
-PlainChange w (Bar u x barriers answer) = ⊥
-PlainChange w (Works n x grace act mark answer) = ⊥
 PlainChange w (Stay answer) = Unit {0}
+PlainChange w _ = ⊥
 
 module _ {P : Type 0} (plans : Plans P) (layout : Layout) (slots : ℕ) (laws : Laws plans layout slots) (w : BoardView P) (now : State) (kept : Kept plans layout slots laws w now) (k : Callbacks w now) where
   -- what a change owes, with its callbacks
@@ -213,8 +184,5 @@ module _ {P : Type 0} (plans : Plans P) (layout : Layout) (slots : ℕ) (laws : 
     owed.1,
     over_table w (after_all now (told answer)) (over_events w now (told answer) is.2 owed.0 k) w.objects u x (length (w.log ++ told answer)) is.0 is.1 (longer (told answer)) (λ o. refl) (λ o inside. refl) (λ o e. e),
   )
-  plainly (Hold u x q) is owed = absurd is
-  plainly (Retire u x q act mark answer) is owed = absurd is
-  plainly (Bar u x barriers answer) is owed = absurd is
-  plainly (Works n x grace act mark answer) is owed = absurd is
   plainly (Stay answer) is owed = (owed.0, owed.1, k)
+  plainly _ is owed = absurd is

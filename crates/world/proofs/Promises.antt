@@ -1,33 +1,19 @@
 -- The promises of the logs of worlds that lines led to.
-use Rattle.std.proofs.Common.{◌≡◌, ℕ, ◌%◌, ◌^◌, ◌≤◌, true, List, [], ◌++◌, Result, Ok, Err, refl, sym, ap, ◌∙◌, subst}
-use Rattle.std.specs.Prelude.{IfOk}
-use Rattle.rcu_model.specs.declared.refusal.Refusal.{Refusal}
-use Rattle.rcu_model.specs.Machine.{IsRun}
-use Rattle.rcu_model.specs.Promises.{IsSafeLog}
-use Rattle.world_state.specs.declared.config.Config.{Config}
-use Rattle.world_state.specs.declared.config.Flavour.{Flavour}
-use Rattle.world_state.specs.declared.config.Flavour.TheVariants.{Memb, Qsbr}
-use Rattle.world_state.specs.declared.line.Line.{Line}
-use Rattle.world_state.specs.Limits.{is_within_limits}
-use Rattle.world_state.specs.View.{Plans, BoardView, fresh_at}
+use Rattle.world.proofs.Cited.{◌≡◌, ℕ, ◌%◌, ◌^◌, ◌≤◌, true, List, [], ◌++◌, Result, Ok, Err, refl, sym, ap, ◌∙◌, subst, IfOk, Refusal, IsRun, IsSafeLog, Config, Flavour, Memb, Qsbr, Line, is_within_limits, Plans, BoardView, fresh_at}
 use Rattle.world.specs.Drain.{MeetsDrain, drain_lines}
 use Rattle.world.specs.Lines.{world_after}
 use Rattle.world.specs.Reached.{IsReached}
 use Rattle.world.specs.Steps.{WorldView, OfMemb, OfQsbr, memb_plans, qsbr_plans, IsReachedWorld, log_of, fresh_in, fresh_world_at, is_supported_at, world_after_lines, answered_events}
 use Rattle.world.proofs.Starting.{start_of}
-use Rattle.world.proofs.Telling.{memb_lines, qsbr_lines, lines_told}
+use Rattle.world.proofs.Telling.{in_flavour, lines_told}
 
 -- the world after lines is reached
-reached_in : (flavour : Flavour) (config : Config) (seq : ℕ) (lines : List Line) → is_supported_at config seq ≡ true → IsReachedWorld (world_after_lines (fresh_in flavour config seq) lines)
-reached_in Memb config seq lines good =
-    let begins = start_of config seq good in
-    subst IsReachedWorld (sym (memb_lines (fresh_at config seq) lines)) (record { config = config; limits = begins.0; seq = seq; even = begins.1; low = begins.2; lines = lines; leads = refl })
-reached_in Qsbr config seq lines good =
-    let begins = start_of config seq good in
-    subst IsReachedWorld (sym (qsbr_lines (fresh_at config seq) lines)) (record { config = config; limits = begins.0; seq = seq; even = begins.1; low = begins.2; lines = lines; leads = refl })
-
 pub reached_by : (config : Config) (seq : ℕ) (lines : List Line) → is_supported_at config seq ≡ true → IsReachedWorld (world_after_lines (fresh_world_at config seq) lines)
-reached_by config seq lines good = reached_in config.flavour config seq lines good
+reached_by config seq lines good =
+    let begins = start_of config seq good in
+    in_flavour IsReachedWorld config.flavour config seq lines
+    (record { config = config; limits = begins.0; seq = seq; even = begins.1; low = begins.2; lines = lines; leads = refl })
+    (record { config = config; limits = begins.0; seq = seq; even = begins.1; low = begins.2; lines = lines; leads = refl })
 
 -- the log of a board that lines led to is a run, where that of each world is
 abbrev EachIsRun : {P : Type 0} → Plans P → Type 0

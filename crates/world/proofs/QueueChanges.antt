@@ -1,20 +1,7 @@
 -- What a change of one queue keeps of items, of other updaters and of barriers.
-use Rattle.std.proofs.Common.{◌≡◌, ◌≢◌, ◌⊎◌, inl, inr, ℕ, ◌%◌, ◌<◌, ◌≤◌, Bool, List, length, slice_get, Some, sym, ap, ◌∙◌, subst}
-use Rattle.rcu_model.specs.declared.event.ObjectId.{ObjectId}
-use Rattle.callback_queue.specs.Queue.{items_of, given_of}
+use Rattle.world.proofs.Cited.{◌≡◌, ◌≢◌, ◌⊎◌, inl, inr, ℕ, ◌%◌, ◌<◌, ◌≤◌, Bool, List, length, slice_get, Some, sym, ap, ◌∙◌, subst, ObjectId, items_of, given_of, Mark, ObjectState, QueueState, BarrierStep, RetireStep, UpdaterPlace, Retires, Bars, marked_life, changed_at, chain_of, decide_number, life_of, life_else, stage_marked, chain_marked, Stands, InQueue, queue_at, changed_here, changed_else, changed_length, In}
 use Rattle.world_state.specs.declared.object.Life.TheVariants as life
-use Rattle.world_state.specs.declared.object.Mark.{Mark}
-use Rattle.world_state.specs.declared.object.ObjectState.{ObjectState}
-use Rattle.world_state.specs.declared.queue.QueueState.{QueueState}
-use Rattle.world_state.specs.declared.updater.BarrierStep.{BarrierStep}
-use Rattle.world_state.specs.declared.updater.RetireStep.{RetireStep}
 use Rattle.world_state.specs.declared.updater.RetireStep.TheVariants as due
-use Rattle.world_state.specs.declared.updater.UpdaterPlace.{UpdaterPlace}
-use Rattle.world_state.specs.declared.updater.UpdaterPlace.TheVariants.{Idle, Publishes, Syncs, Retires, Bars}
-use Rattle.world_state.specs.Objects.{marked_life}
-use Rattle.world_state.specs.Queues.{changed_at}
-use Rattle.world_state.proofs.Lemmas.{chain_of, decide_number, life_of, life_else, stage_marked, chain_marked, Stands, InQueue, queue_at, changed_here, changed_else, changed_length}
-use Rattle.rcu_model.proofs.Lemmas.{In}
 use Rattle.world.proofs.Callbacks.{ItemsKept, DueKept, Retiring, RetireKept, Faces, IsAt, BarKept, at_queues}
 
 -- a header that is stored is none that another updater's retirement looks at
@@ -43,12 +30,9 @@ due_marked os m reserved queued given count v o due.Free apart h = h
 
 pub retire_marked : {P : Type 0} (os : List ObjectState) (m : Mark) (qs : List QueueState) (count v : ℕ) (p : UpdaterPlace P) →
     ((o : ObjectId) → (life_of os o ≡ life.Kept) ⊎ (life_of os o ≡ life.Retired) → chain_of os o % count ≡ v → o ≢ m.object) → RetireKept os qs count v p → RetireKept (marked_life os (Some m)) qs count v p
-retire_marked os m qs count v Idle apart h = tt
-retire_marked os m qs count v (Publishes what) apart h = tt
-retire_marked os m qs count v (Syncs ask place) apart h = tt
 retire_marked os m qs count v (Retires o d) apart h =
     (h.0, due_marked os m (queue_at qs (v % length qs)).items.reserved (queue_at qs (v % length qs)).queued (given_of (queue_at qs (v % length qs)).items) count v o d (apart o) h.1)
-retire_marked os m qs count v (Bars b) apart h = tt
+retire_marked os m qs count v _ apart h = tt
 
 -- a barrier over other queues, in which each object that it waits for keeps its place
 pub faces_over : (qs qs' : List QueueState) (counts : List ℕ) (d : BarrierStep) (o : ObjectId) → length qs' ≡ length qs → ((j t : ℕ) → InQueue (queue_at qs j) t o → InQueue (queue_at qs' j) t o) → Faces qs counts d o → Faces qs' counts d o
@@ -57,10 +41,6 @@ faces_over qs qs' counts d o same stays (j, t, low, here, facing) = (j, t, subst
 pub bar_over : {P : Type 0} (qs qs' : List QueueState) (noted cleared : List ℕ) (noted_objects noted_objects' : ℕ → List ObjectId) (p : UpdaterPlace P) → length qs' ≡ length qs →
     ((b : ℕ) (o : ObjectId) → In (noted_objects' b) o → In (noted_objects b) o × ((j t : ℕ) → InQueue (queue_at qs j) t o → InQueue (queue_at qs' j) t o)) →
     BarKept qs noted cleared noted_objects p → BarKept qs' noted cleared noted_objects' p
-bar_over qs qs' noted cleared noted_objects noted_objects' Idle same stays h = tt
-bar_over qs qs' noted cleared noted_objects noted_objects' (Publishes what) same stays h = tt
-bar_over qs qs' noted cleared noted_objects noted_objects' (Syncs ask place) same stays h = tt
-bar_over qs qs' noted cleared noted_objects noted_objects' (Retires o d) same stays h = tt
 bar_over qs qs' noted cleared noted_objects noted_objects' (Bars b) same stays h = (
   h.0,
   h.1,
@@ -68,6 +48,7 @@ bar_over qs qs' noted cleared noted_objects noted_objects' (Bars b) same stays h
   subst (IsAt b.due) (sym same) h.3,
   λ o g. let was = stays b.number o g in faces_over qs qs' b.counts b.due o same was.1 (h.4 o was.0),
 )
+bar_over qs qs' noted cleared noted_objects noted_objects' _ same stays h = tt
 
 module _ (qs : List QueueState) (j : ℕ) (f : QueueState → QueueState) (inside : j < length qs) where
   abbrev pub qs' : List QueueState
@@ -78,22 +59,16 @@ module _ (qs : List QueueState) (j : ℕ) (f : QueueState → QueueState) (insid
 
   -- who does not hold the queue's lock is not concerned
   pub retire_apart : {P : Type 0} (os : List ObjectState) (count v : ℕ) (p : UpdaterPlace P) → (q.holder ≢ Some v) → RetireKept os qs count v p → RetireKept os qs' count v p
-  retire_apart os count v Idle other h = tt
-  retire_apart os count v (Publishes what) other h = tt
-  retire_apart os count v (Syncs ask place) other h = tt
   retire_apart os count v (Retires o d) other h = subst (λ n. Retiring os (queue_at qs' (v % n)) count v o d) (sym (changed_length f qs j)) (by (decide_number (v % length qs) j))
     where
       by : (v % length qs ≡ j) ⊎ (v % length qs ≢ j) → Retiring os (queue_at qs' (v % length qs)) count v o d
       by (inl e) = absurd (other (subst (λ n. (queue_at qs n).holder ≡ Some v) e h.0))
       by (inr n) = subst (λ (r : QueueState). Retiring os r count v o d) (sym (changed_else f qs j (v % length qs) n)) h
-  retire_apart os count v (Bars b) other h = tt
+  retire_apart os count v _ other h = tt
 
   -- nor is anybody where lock, place and counts stay
   pub retire_through : {P : Type 0} (os : List ObjectState) (count v : ℕ) (p : UpdaterPlace P) → (f q).holder ≡ q.holder → (f q).items.reserved ≡ q.items.reserved → (f q).queued ≡ q.queued → given_of (f q).items ≡ given_of q.items →
       RetireKept os qs count v p → RetireKept os qs' count v p
-  retire_through os count v Idle lock place count_same given h = tt
-  retire_through os count v (Publishes what) lock place count_same given h = tt
-  retire_through os count v (Syncs ask place') lock place count_same given h = tt
   retire_through os count v (Retires o d) lock place count_same given h = subst (λ n. Retiring os (queue_at qs' (v % n)) count v o d) (sym (changed_length f qs j)) (by (decide_number (v % length qs) j))
     where
       due_same : (reserved reserved' : Bool) (queued queued' given given' : ℕ) → reserved' ≡ reserved → queued' ≡ queued → given' ≡ given → DueKept os reserved queued given count v o d → DueKept os reserved' queued' given' count v o d
@@ -106,7 +81,7 @@ module _ (qs : List QueueState) (j : ℕ) (f : QueueState → QueueState) (insid
           subst (λ (r : QueueState). Retiring os r count v o d) (sym (ap (λ n. queue_at qs' n) e ∙ changed_here f qs j inside))
           (lock ∙ was.0, due_same q.items.reserved (f q).items.reserved q.queued (f q).queued (given_of q.items) (given_of (f q).items) place count_same given was.1)
       by (inr n) = subst (λ (r : QueueState). Retiring os r count v o d) (sym (changed_else f qs j (v % length qs) n)) h
-  retire_through os count v (Bars b) lock place count_same given h = tt
+  retire_through os count v _ lock place count_same given h = tt
 
   -- the updater that holds the lock
   pub retire_here : (os : List ObjectState) (count u : ℕ) (o : ObjectId) (d : RetireStep) → u % length qs ≡ j → Retiring os (f q) count u o d → Retiring os (queue_at qs' (u % length qs')) count u o d

@@ -1,35 +1,8 @@
 -- The numbers of a kept world are small enough for its next step.
-use Rattle.std.proofs.Common.{◌≡◌, ℕ, ◌+◌, ◌-◌, ◌%◌, ◌^◌, ◌<◌, ◌≤◌, Bool, true, false, List, [], ◌∷◌, length, slice_get, Option, Some, None, refl, sym, ap, ◌∙◌, subst, arith}
-use Rattle.std.proofs.lemmas.Option.{get_or_from_slice_get, slice_get_within, slice_get-get_or}
-use Rattle.rcu_model.specs.declared.event.ObjectId.{ObjectId}
-use Rattle.rcu_model.specs.Machine.{State}
-use Rattle.reader_word.specs.declared.layout.Layout.{Layout}
-use Rattle.gp_memb.specs.declared.plan.Action.{Action}
-use Rattle.gp_memb.specs.declared.plan.Action.TheVariants.{LoadGroup}
-use Rattle.callback_queue.specs.declared.item.Item.{Item}
-use Rattle.callback_queue.specs.declared.item.Ticket.{Ticket}
-use Rattle.callback_queue.specs.Queue.{given_of, object_with}
-use Rattle.call_rcu_worker.specs.declared.sync.SyncCore.{SyncCore}
+use Rattle.world.proofs.Cited.{◌≡◌, ℕ, ◌+◌, ◌-◌, ◌%◌, ◌^◌, ◌<◌, ◌≤◌, Bool, true, false, List, [], ◌∷◌, length, slice_get, Option, Some, None, refl, sym, ap, ◌∙◌, subst, arith, get_or_from_slice_get, slice_get_within, slice_get-get_or, ObjectId, State, Layout, Action, LoadGroup, Item, Ticket, given_of, object_with, SyncCore, Plan, Tickets, WorkerCore, step_of, QueueState, ReaderState, Barrier, BarrierStep, Note, Check, UpdaterPlace, Bars, UpdaterState, WorkerState, new_worker, empty_queue_state, new_reader, Plans, BoardView, idle, queue_at}
 use Rattle.call_rcu_worker.specs.declared.sync.SyncCore.TheVariants as core
-use Rattle.call_rcu_worker.specs.declared.sync.SyncStep.TheVariants.{Plan}
-use Rattle.call_rcu_worker.specs.declared.worker.Tickets.{Tickets}
-use Rattle.call_rcu_worker.specs.declared.worker.WorkerCore.{WorkerCore}
 use Rattle.call_rcu_worker.specs.declared.worker.WorkerCore.TheVariants as worker
-use Rattle.call_rcu_worker.specs.Sync.{step_of}
 use Rattle.call_rcu_worker.specs.Worker.{next_of}
-use Rattle.world_state.specs.declared.queue.QueueState.{QueueState}
-use Rattle.world_state.specs.declared.reader.ReaderState.{ReaderState}
-use Rattle.world_state.specs.declared.updater.Barrier.{Barrier}
-use Rattle.world_state.specs.declared.updater.BarrierStep.{BarrierStep}
-use Rattle.world_state.specs.declared.updater.BarrierStep.TheVariants.{Note, Check}
-use Rattle.world_state.specs.declared.updater.UpdaterPlace.{UpdaterPlace}
-use Rattle.world_state.specs.declared.updater.UpdaterPlace.TheVariants.{Bars}
-use Rattle.world_state.specs.declared.updater.UpdaterState.{UpdaterState}
-use Rattle.world_state.specs.declared.worker.WorkerState.{WorkerState}
-use Rattle.world_state.specs.Queues.{new_worker, empty_queue_state}
-use Rattle.world_state.specs.Readers.{new_reader}
-use Rattle.world_state.specs.View.{Plans, BoardView, idle}
-use Rattle.world_state.proofs.Lemmas.{queue_at}
 use Rattle.world.specs.Workers.{first_in}
 use Rattle.world.specs.Shown.{CanStart, LoadsNoGroup, IsAtQueue, IsInRange}
 use Rattle.world.proofs.Callbacks.{Callbacks, IsAt, BarKept, WorkAt, WorkKept}
@@ -71,16 +44,11 @@ module _ {P : Type 0} (plans : Plans P) (layout : Layout) (slots : ℕ) (laws : 
 
   -- a plan that runs loads no group word
   no_group : (x : Asker) (ask : ℕ) (core : SyncCore P) → work_of w.updaters w.workers x ≡ core_work ask core → LoadsNoGroup (step_of plans.action core)
-  no_group x ask core.Asks is group e = cc
-  no_group x ask (core.Waits c) is group e = cc
-  no_group x ask (core.Checks c) is group e = cc
-  no_group x ask (core.Starts c) is group e = cc
   no_group x ask (core.Runs c p) is group e = runs_no_group plans layout slots laws w.grace.seq w.grace.word c p (k.part.grace_kept.running x ask c p is) group (action_is (plans.action p) (LoadGroup group) e)
     where
       action_is : (a b : Action) → Plan a ≡ Plan b → a ≡ b
       action_is a b same = cc
-  no_group x ask core.Frees is group e = cc
-  no_group x ask core.Done is group e = cc
+  no_group x ask _ is group e = cc
 
   -- the first ready item has the ticket that its worker waits for
   at_first : (n : ℕ) (x : WorkerState P) (tickets : Tickets) (first : Ticket × ObjectId) → slice_get w.workers n ≡ Some x → x.core ≡ worker.Pops tickets → first_in (slice_get w.queues n) ≡ Some first → first.0 ≡ next_of tickets

@@ -1,18 +1,14 @@
 -- A step leads from a reached board to a reached one.
-use Rattle.std.proofs.Common.{◌≡◌, List, [], ◌∷◌, ◌++◌, Result, Ok, Err, refl, sym, ap, ◌∙◌, subst}
-use Rattle.rcu_model.specs.declared.refusal.Refusal.{Refusal}
-use Rattle.world_state.specs.declared.line.Answer.{Answer}
-use Rattle.world_state.specs.declared.line.Line.{Line}
-use Rattle.world_state.specs.View.{Plans, BoardView, fresh_at}
+use Rattle.world.proofs.Cited.{◌≡◌, List, [], ◌∷◌, ◌++◌, Result, Ok, Err, refl, sym, ap, ◌∙◌, subst, Refusal, Answer, Line, Plans, BoardView, fresh_at}
 use Rattle.world.specs.Lines.{outcome_of, world_after}
 use Rattle.world.specs.Shown.{Meets}
 use Rattle.world.specs.Reached.{IsReached}
 
-after_snoc : {P : Type 0} (plans : Plans P) (w : BoardView P) (lines : List Line) (line : Line) → world_after plans w (lines ++ line ∷ []) ≡ (outcome_of plans (world_after plans w lines) line).world
+pub after_snoc : {P : Type 0} (plans : Plans P) (w : BoardView P) (lines : List Line) (line : Line) → world_after plans w (lines ++ line ∷ []) ≡ (outcome_of plans (world_after plans w lines) line).world
 after_snoc plans w [] line = refl
 after_snoc plans w (l ∷ ls) line = after_snoc plans ((outcome_of plans w l).world) ls line
 
-reached_step : {P : Type 0} (plans : Plans P) (w : BoardView P) (line : Line) → IsReached plans w → IsReached plans ((outcome_of plans w line).world)
+pub reached_step : {P : Type 0} (plans : Plans P) (w : BoardView P) (line : Line) → IsReached plans w → IsReached plans ((outcome_of plans w line).world)
 reached_step plans w line r = record {
   config = r.config;
   limits = r.limits;

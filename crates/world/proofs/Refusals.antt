@@ -1,139 +1,43 @@
 -- A step is refused by one of eight refusals.
-use Rattle.std.proofs.Common.{⊎_elim, ℕ, ◌^◌, cond, Bool, true, false, nat_lt, List, [], ◌∷◌, Option, Some, None, Result, Ok, Err, slice_get, sym, subst}
-use Rattle.std.specs.Prelude.{IfErr, length, get_or}
-use Rattle.rcu_model.specs.declared.refusal.Refusal.{Refusal}
-use Rattle.callback_queue.specs.Queue.{items_of}
-use Rattle.gp_memb.specs.declared.plan.Action.{Action}
-use Rattle.gp_memb.specs.declared.plan.Action.TheVariants.{Load}
-use Rattle.call_rcu_worker.specs.declared.sync.SyncCore.{SyncCore}
-use Rattle.call_rcu_worker.specs.declared.sync.SyncCore.TheVariants.{Asks, Waits, Runs}
-use Rattle.call_rcu_worker.specs.declared.worker.WorkerCore.{WorkerCore}
-use Rattle.call_rcu_worker.specs.declared.worker.WorkerCore.TheVariants as works
-use Rattle.world_state.specs.declared.line.Answer.{Answer}
-use Rattle.world_state.specs.declared.line.Line.{Line}
-use Rattle.world_state.specs.declared.line.Line.TheVariants.{Reader, Updater, Worker}
-use Rattle.world_state.specs.declared.line.ReaderVerb.{ReaderVerb}
-use Rattle.world_state.specs.declared.line.ReaderVerb.TheVariants as reader
-use Rattle.world_state.specs.declared.line.UpdaterVerb.{UpdaterVerb}
-use Rattle.world_state.specs.declared.line.UpdaterVerb.TheVariants as updater
-use Rattle.world_state.specs.declared.line.WorkerVerb.{WorkerVerb}
-use Rattle.world_state.specs.declared.line.WorkerVerb.TheVariants as worker
-use Rattle.world_state.specs.declared.queue.QueueState.{QueueState}
-use Rattle.world_state.specs.declared.reader.ReaderState.{ReaderState}
-use Rattle.world_state.specs.declared.updater.Barrier.{Barrier}
-use Rattle.world_state.specs.declared.updater.BarrierStep.{BarrierStep}
-use Rattle.world_state.specs.declared.updater.BarrierStep.TheVariants.{Note, Check}
-use Rattle.world_state.specs.declared.updater.UpdaterPlace.{UpdaterPlace}
-use Rattle.world_state.specs.declared.updater.UpdaterPlace.TheVariants.{Syncs, Bars}
-use Rattle.world_state.specs.declared.updater.UpdaterState.{UpdaterState}
-use Rattle.world_state.specs.declared.worker.WorkerState.{WorkerState}
-use Rattle.world_state.specs.Queues.{new_worker}
-use Rattle.world_state.specs.Readers.{new_reader}
-use Rattle.world_state.specs.View.{Plans, BoardView, idle}
+use Rattle.world.proofs.Cited.{◌≡◌, ◌^◌, ⊎_elim, ℕ, cond, Bool, true, false, nat_lt, Option, Some, None, Result, Ok, Err, slice_get, refl, sym, subst, IfErr, Refusal, items_of, Answer, Line, Change, QueueState, WorkerState, Plans, BoardView}
+use Rattle.std.specs.Prelude.{length}
 use Rattle.world.specs.Drain.{items_in, items_to_drain, is_busy, steps_with, steps_in, MeetsDrain}
 use Rattle.world.specs.Refusals.{IsStepError}
+use Rattle.world.specs.Row.{Row, first_failing}
 use Rattle.world.specs.Steps.{WorldView, OfMemb, OfQsbr, memb_plans, qsbr_plans}
-use Rattle.world.specs.Tests.{Test, first_failing, tests_of_read, reader_tests, tests_of_action, tests_of_sync, tests_of_barrier, tests_of_place, tests_of_update, updater_tests, tests_of_work, worker_tests, line_tests, tests_of, MeetsTests}
+use Rattle.world.specs.Tests.{exact, tests_of, MeetsTests}
 use Rattle.world.specs.Workers.{is_none_left}
+use Rattle.world.proofs.Rows.{Fails, whichever, any_reads, any_retires, any_updates, any_works, Sweep, sweep}
 
--- each of the tests refuses by one of them, if it refuses
-abbrev Each : List Test → Type 0
-Each [] = Unit {0}
-Each (t ∷ ts) = IfErr t.answer IsStepError × Each ts
-
-module _ {P : Type 0} (plans : Plans P) (w : BoardView P) where
-  of_read : (v : ReaderState) (verb : ReaderVerb) → Each (tests_of_read plans w v verb)
-  of_read v reader.Lock = (tt, tt)
-  of_read v reader.Unlock = (tt, tt)
-  of_read v reader.Online = (tt, tt)
-  of_read v reader.Quiescent = (tt, tt)
-  of_read v reader.Offline = (tt, tt)
-  of_read v (reader.First c) = (tt, (tt, tt))
-  of_read v reader.Next = (tt, (tt, tt))
-  of_read v reader.Touch = (tt, (tt, tt))
-  of_read v reader.GoOn = tt
-
-  of_reader : (v : ReaderState) (verb : ReaderVerb) → Each (reader_tests plans w v verb)
-  of_reader v reader.GoOn = (tt, tt)
-  of_reader v verb = (tt, (tt, of_read v verb))
-
-  of_action : (action : Action) → Each (tests_of_action plans w action)
-  of_action (Load slot) = (tt, tt)
-  of_action action = tt
-
-  of_sync : (core : SyncCore P) → Each (tests_of_sync plans w core)
-  of_sync Asks = (tt, tt)
-  of_sync (Waits cookie) = (tt, tt)
-  of_sync (Runs cookie plan) = of_action (plans.action plan)
-  of_sync core = tt
-
-  of_barrier : (b : Barrier) (step : BarrierStep) → Each (tests_of_barrier plans w b step)
-  of_barrier b (Note q) = tt
-  of_barrier b (Check q) = (tt, tt)
-
-  of_place : (place : UpdaterPlace P) → Each (tests_of_place plans w place)
-  of_place (Syncs ask core) = of_sync core
-  of_place (Bars b) = of_barrier b b.due
-  of_place place = tt
-
-  of_update : (u : ℕ) (x : UpdaterState P) (verb : UpdaterVerb) → Each (tests_of_update plans w u x verb)
-  of_update u x (updater.Push c) = (tt, (tt, tt))
-  of_update u x (updater.Replace o) = (tt, tt)
-  of_update u x (updater.Cut o) = (tt, tt)
-  of_update u x (updater.Retire o) = (tt, (tt, tt))
-  of_update u x updater.Sync = (tt, tt)
-  of_update u x updater.Start = (tt, tt)
-  of_update u x updater.Poll = (tt, (tt, tt))
-  of_update u x updater.Barrier = tt
-  of_update u x updater.GoOn = tt
-
-  of_updater : (u : ℕ) (x : UpdaterState P) (verb : UpdaterVerb) → Each (updater_tests plans w u x verb)
-  of_updater u x updater.GoOn = (tt, of_place x.place)
-  of_updater u x verb = (tt, of_update u x verb)
-
-  of_work : (core : WorkerCore P Unit) → Each (tests_of_work plans w core)
-  of_work (works.Syncs core tickets) = of_sync core
-  of_work core = tt
-
-  of_worker : (k : ℕ) (x : WorkerState P) (verb : WorkerVerb) → Each (worker_tests plans w k x verb)
-  of_worker k x worker.GoOn = (tt, of_work x.core)
-  of_worker k x worker.Take = (tt, (tt, (tt, tt)))
-
-  of_line : (line : Line) → Each (line_tests plans w line)
-  of_line (Reader r verb) = (tt, of_reader (get_or w.readers r new_reader) verb)
-  of_line (Updater u verb) = (tt, of_updater u (get_or w.updaters u idle) verb)
-  of_line (Worker k verb) = (tt, of_worker k (get_or w.workers k new_worker) verb)
-
-of_tests : (w : WorldView) (line : Line) → Each (tests_of w line)
-of_tests (OfMemb w) line = of_line memb_plans w line
-of_tests (OfQsbr w) line = of_line qsbr_plans w line
-
-module _ (old new : WorldView) where
-  either : (fails : Bool) (answer r : Result Answer Refusal) (rest : Option (Result Answer Refusal)) → IfErr answer IsStepError → (MeetsTests rest old new r → IfErr r IsStepError) →
+module _ (old new : WorldView) (r : Result Answer Refusal) where
+  either : (fails : Bool) (answer : Result Answer Refusal) (rest : Option (Result Answer Refusal)) → IfErr answer IsStepError → (fails ≡ false → MeetsTests rest old new r → IfErr r IsStepError) →
       MeetsTests (cond fails (Some answer) rest) old new r → IfErr r IsStepError
-  either true answer r rest one others m = subst (λ (x : Result Answer Refusal). IfErr x IsStepError) (sym m.0) one
-  either false answer r rest one others m = others m
+  either true answer rest one others m = subst (λ (x : Result Answer Refusal). IfErr x IsStepError) (sym m.0) one
+  either false answer rest one others m = others refl m
 
-  none_failed : (r : Result Answer Refusal) → MeetsTests None old new r → IfErr r IsStepError
+  none_failed : (x : Result Answer Refusal) → MeetsTests None old new x → IfErr x IsStepError
   none_failed (Ok answer) m = tt
   none_failed (Err e) m = subst IsStepError (sym m.0) tt
 
-  refused : (tests : List Test) (r : Result Answer Refusal) → Each tests → MeetsTests (first_failing tests) old new r → IfErr r IsStepError
-  refused [] r each m = none_failed r m
-  refused (t ∷ ts) r each m = either t.fails t.answer r (first_failing ts) each.0 (refused ts r each.1) m
+  abbrev Refuses : {P : Type 0} → Line → Row (Change P) → Type 0
+  Refuses line row = MeetsTests (first_failing row.tests) old new r → IfErr r IsStepError
+
+  refuses : {P : Type 0} (plans : Plans P) (w : BoardView P) → Sweep plans w Refuses
+  refuses plans w = record {
+    stops = λ line fails e row h go. either fails (Err e) (first_failing row.tests) h go;
+    stalls = λ line fails answer row never none go. either fails (Ok answer) (first_failing row.tests) tt go;
+    lacks = λ line e h lack. none_failed r;
+    reads = λ n v verb was. any_reads plans.qsbr w.layout w n v (λ step. MeetsTests None old new r → IfErr r IsStepError) (λ step. none_failed r);
+    updates = λ u x was. any_updates plans w u x (λ v change. MeetsTests None old new r → IfErr r IsStepError) (λ v change is. none_failed r) (any_retires plans w u x (λ v change. MeetsTests None old new r → IfErr r IsStepError) (λ y q act mark answer. none_failed r));
+    works = λ k x was. any_works plans w k x (λ v change. MeetsTests None old new r → IfErr r IsStepError) (λ v y grace act mark answer. none_failed r);
+  }
 
 -- as the tests of a step say it
 pub step_refused : (old new : WorldView) (line : Line) (r : Result Answer Refusal) → MeetsTests (first_failing (tests_of old line)) old new r → IfErr r IsStepError
-step_refused old new line r m = refused old new (tests_of old line) r (of_tests old line) m
+step_refused (OfMemb w) new line r m = sweep (exact memb_plans w) w (Refuses (OfMemb w) new r) (refuses (OfMemb w) new r (exact memb_plans w) w) line m
+step_refused (OfQsbr w) new line r m = sweep (exact qsbr_plans w) w (Refuses (OfQsbr w) new r) (refuses (OfQsbr w) new r (exact qsbr_plans w) w) line m
 
 -- ---- a drain
-
-abbrev Fails : {X : Type 0} → Result X Refusal → Type 0
-Fails r = IfErr r IsStepError
-
-whichever : {X : Type 0} (b : Bool) (x y : Result X Refusal) → Fails x → Fails y → Fails (cond b x y)
-whichever true x y p q = p
-whichever false x y p q = q
 
 module _ {P : Type 0} (qsbr : Bool) (w : BoardView P) where
   of_items : (x : Option (WorkerState P)) (q : Option QueueState) → Fails (items_in qsbr w x q)

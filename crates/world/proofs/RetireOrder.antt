@@ -1,28 +1,13 @@
 -- The steps of a retirement, in their order.
-use Rattle.std.proofs.Common.{◌≡◌, ℕ, ◌<◌, Bool, true, false, cond, List, length, get_or, slice_get, slice_set, Option, Some, None, Result, Ok, refl, sym, ap, ◌∙◌, subst, get_or-set_same}
-use Rattle.std.specs.Option.{unwrap_or}
-use Rattle.std.proofs.lemmas.Option.{get_or_from_slice_get, slice_get_within, unwrap_or-slice_get}
-use Rattle.rcu_model.specs.declared.event.ObjectId.{ObjectId}
-use Rattle.rcu_model.specs.declared.refusal.Refusal.{Refusal}
-use Rattle.world_state.specs.declared.line.Answer.TheVariants.{Quiet}
+use Rattle.world.proofs.Cited.{◌≡◌, ◌<◌, ℕ, Bool, true, false, cond, not, is_some, List, [], ◌∷◌, length, get_or, slice_get, slice_set, Option, Some, None, Result, Ok, refl, sym, ap, ◌∙◌, subst, get_or-set_same, get_or_from_slice_get, slice_get_within, ObjectId, Refusal, Quiet, Blocked, QueueState, RetireStep, Count, Free, UpdaterPlace, Idle, Retires, UpdaterState, Change, Hold, Stay, empty_queue_state, held_by, Plans, BoardView, idle, changed_here}
 use Rattle.world_state.specs.declared.line.UpdaterVerb.TheVariants as verb
-use Rattle.world_state.specs.declared.queue.QueueState.{QueueState}
-use Rattle.world_state.specs.declared.updater.RetireStep.{RetireStep}
-use Rattle.world_state.specs.declared.updater.RetireStep.TheVariants.{Mark, Count, Push, Free}
-use Rattle.world_state.specs.declared.updater.UpdaterPlace.{UpdaterPlace}
-use Rattle.world_state.specs.declared.updater.UpdaterPlace.TheVariants.{Idle, Retires}
-use Rattle.world_state.specs.declared.updater.UpdaterState.{UpdaterState}
-use Rattle.world_state.specs.declared.change.Change.{Change}
-use Rattle.world_state.specs.Queues.{empty_queue_state, held_by}
-use Rattle.world_state.specs.View.{Plans, BoardView, idle}
-use Rattle.world_state.proofs.Lemmas.{changed_here}
-use Rattle.world.specs.Lines.{is_idle, updater_on, of_updater, with_change}
+use Rattle.world_state.specs.declared.updater.RetireStep.TheVariants.{Mark, Push}
+use Rattle.world.specs.Lines.{operation_test, is_idle, updater_on, of_updater, with_change}
+use Rattle.world.specs.Row.{after, made}
 use Rattle.world.specs.Locks.{lock_of}
-use Rattle.world.specs.Queues.{queue_of, at_place, retire_on, may_retire, lock_free, lock_row}
+use Rattle.world.specs.Queues.{queue_of, at_place, retire_on, may_retire, lock_row}
 use Rattle.world.specs.Retiring.{Due, due_at, due_of, DoesItsStep, RetiresInOrder}
-
-past : {X : Type 0} (xs : List X) (i : ℕ) (d : X) → slice_get xs i ≡ None → get_or xs i d ≡ d
-past xs i d none = sym (unwrap_or-slice_get xs i d) ∙ ap (λ o. unwrap_or o d) none
+use Rattle.world.proofs.Checks.{past}
 
 module _ {P : Type 0} (plans : Plans P) (w : BoardView P) (u : ℕ) (there : queue_of w u < length w.queues) where
   -- the updater and its queue once its step is made
@@ -36,13 +21,13 @@ module _ {P : Type 0} (plans : Plans P) (w : BoardView P) (u : ℕ) (there : que
   of_step x was o Push = record { answered = refl; due = set_place x was (Retires o Free); headers = refl; stored = changed_here _ w.queues (queue_of w u) there }
   of_step x was o Free = record { answered = refl; due = set_place x was Idle; headers = refl; stored = changed_here _ w.queues (queue_of w u) there }
 
-  of_place : (x : UpdaterState P) → slice_get w.updaters u ≡ Some x → (place : UpdaterPlace P) (due : Due) → due_at place ≡ Some due → DoesItsStep w u (queue_of w u) (with_change w (updater_on plans w u x place)) due.object due.step
+  of_place : (x : UpdaterState P) → slice_get w.updaters u ≡ Some x → (place : UpdaterPlace P) (due : Due) → due_at place ≡ Some due → DoesItsStep w u (queue_of w u) (with_change w (made (after (operation_test true (not (is_idle place)) ∷ []) (updater_on plans w u x place)))) due.object due.step
   of_place x was (Retires o step) due is =
       let same : record { object = o; step = step } ≡ due = cc in
       subst (λ (d : Due). DoesItsStep w u (queue_of w u) (with_change w (Ok (retire_on w u x o step))) d.object d.step) same (of_step x was o step)
   of_place x was place due is = cc
 
-  of_updaters : (y : Option (UpdaterState P)) → slice_get w.updaters u ≡ y → (due : Due) → due_of w u ≡ Some due → DoesItsStep w u (queue_of w u) (with_change w (of_updater plans w u verb.GoOn y)) due.object due.step
+  of_updaters : (y : Option (UpdaterState P)) → slice_get w.updaters u ≡ y → (due : Due) → due_of w u ≡ Some due → DoesItsStep w u (queue_of w u) (with_change w (made (of_updater plans w u verb.GoOn y))) due.object due.step
   of_updaters None was due is = let none = ap (λ (x : UpdaterState P). due_at x.place) (past w.updaters u idle was) in cc
   of_updaters (Some x) was due is = of_place x was x.place due (sym (ap (λ (y : UpdaterState P). due_at y.place) (get_or_from_slice_get w.updaters u x idle was)) ∙ is)
 
@@ -52,11 +37,11 @@ module _ {P : Type 0} (plans : Plans P) (w : BoardView P) (u : ℕ) (there : que
       (with_change w r).answer ≡ Ok Quiet →
       (lock_of w (queue_of w u) ≡ None) × (lock_of (with_change w r).world (queue_of w u) ≡ Some u) × (due_of (with_change w r).world u ≡ Some (record { object = o; step = Mark }))
 
-  of_lock : (x : UpdaterState P) → slice_get w.updaters u ≡ Some x → (o : ObjectId) (holder : Option ℕ) → lock_of w (queue_of w u) ≡ holder → Begins o (Ok (lock_free w u x o holder))
+  of_lock : (x : UpdaterState P) → slice_get w.updaters u ≡ Some x → (o : ObjectId) (holder : Option ℕ) → lock_of w (queue_of w u) ≡ holder → Begins o (cond (is_some holder) (Ok (Stay Blocked)) (Ok (Hold u (at_place x (Retires o Mark)) (queue_of w u))))
   of_lock x was o None is = λ _. (is, ap (λ (q : QueueState). q.holder) (changed_here (held_by u) w.queues (queue_of w u) there), set_place x was (Retires o Mark))
   of_lock x was o (Some other) is = λ e. cc
 
-  of_row : (x : UpdaterState P) → slice_get w.updaters u ≡ Some x → (o : ObjectId) (q : Option QueueState) → slice_get w.queues (queue_of w u) ≡ q → Begins o (lock_row w u x o q)
+  of_row : (x : UpdaterState P) → slice_get w.updaters u ≡ Some x → (o : ObjectId) (q : Option QueueState) → slice_get w.queues (queue_of w u) ≡ q → Begins o (made (lock_row w u x o q))
   of_row x was o None is = λ e. cc
   of_row x was o (Some q) is = of_lock x was o q.holder (ap (λ (y : QueueState). y.holder) (get_or_from_slice_get w.queues (queue_of w u) q empty_queue_state is))
 
@@ -64,12 +49,11 @@ module _ {P : Type 0} (plans : Plans P) (w : BoardView P) (u : ℕ) (there : que
   if_so true o x y p q = p
   if_so false o x y p q = q
 
-  of_first : (o : ObjectId) (y : Option (UpdaterState P)) → slice_get w.updaters u ≡ y → Begins o (of_updater plans w u (verb.Retire o) y)
+  of_first : (o : ObjectId) (y : Option (UpdaterState P)) → slice_get w.updaters u ≡ y → Begins o (made (of_updater plans w u (verb.Retire o) y))
   of_first o None was = λ e. cc
   of_first o (Some x) was =
-      if_so (is_idle x.place) o _ _
-      (if_so (may_retire w u (slice_get w.objects o.0)) o _ _ (of_row x was o (slice_get w.queues (queue_of w u)) refl) (λ e. cc))
-      (λ e. cc)
+      if_so (not (is_idle x.place)) o _ _ (λ e. cc)
+      (if_so (not (may_retire w u (slice_get w.objects o.0))) o _ _ (λ e. cc) (of_row x was o (slice_get w.queues (queue_of w u)) refl))
 
   pub in_order : RetiresInOrder plans w u
   in_order = record {

@@ -1,41 +1,12 @@
 -- What the steps of `retire` keep, and that what they tell may come.
-use Rattle.std.proofs.Common.{◌≡◌, ◌≢◌, ◌⊎◌, inl, inr, ⊎_elim, ℕ, ◌+◌, ◌%◌, ◌<◌, ◌≤◌, ◌&&◌, Bool, true, false, List, [], ◌∷◌, ◌++◌, length, slice_get, slice_set, Option, Some, None, Result, Ok, refl, sym, ap, ◌∙◌, subst, arith, true≢false, length-append}
-use Rattle.std.proofs.Math.ListN.{length-set}
-use Rattle.std.proofs.lemmas.Bool.Decides.{eqb_tells}
-use Rattle.std.proofs.lemmas.Nat.{mod_below}
-use Rattle.std.proofs.lemmas.Option.{get_or_from_slice_get}
-use Rattle.rcu_model.specs.declared.event.Event.{Event}
+use Rattle.world.proofs.Cited.{◌≡◌, ◌≢◌, ◌⊎◌, ⊎_elim, ℕ, true≢false, inl, inr, ◌+◌, ◌%◌, ◌<◌, ◌≤◌, ◌&&◌, is_some, true, false, List, [], ◌∷◌, ◌++◌, length, slice_get, slice_set, Option, Some, None, Result, Ok, refl, sym, ap, ◌∙◌, subst, arith, length-append, length-set, eqb-true, and_parts, mod_below, get_or_from_slice_get, Event, ObjectId, SectionId, Refusal, at_object, State, In, has_object_in, in_objects, at_object_same, at_object_other, decide, Layout, items_of, given_of, Life, Stage, Mark, ObjectState, QueueState, RetireStep, UpdaterPlace, Idle, Retires, Bars, UpdaterState, WorkerState, Change, Hold, marked_life, empty_queue_state, item_of, held_by, acted, changed_at, acted_at, held_at, Plans, BoardView, no_object, stage_of, chain_of, within, life_of, life_within, life_marked, life_else, chain_marked, Items, Has, Stands, InQueue, queue_at, has_left, has_right, has_stands, stands_left, stands_last, stands_more, changed_here, changed_length, items_pushed}
 use Rattle.rcu_model.specs.declared.event.Event.TheVariants as events
-use Rattle.rcu_model.specs.declared.event.ObjectId.{ObjectId}
-use Rattle.rcu_model.specs.declared.event.SectionId.{SectionId}
-use Rattle.rcu_model.specs.declared.refusal.Refusal.{Refusal}
-use Rattle.rcu_model.specs.Sets.{at_object}
-use Rattle.rcu_model.specs.Machine.{State}
-use Rattle.rcu_model.proofs.Lemmas.{In, has_object_in, in_objects, at_object_same, at_object_other, decide}
-use Rattle.reader_word.specs.declared.layout.Layout.{Layout}
-use Rattle.callback_queue.specs.Queue.{items_of, given_of}
-use Rattle.world_state.specs.declared.object.Life.{Life}
 use Rattle.world_state.specs.declared.object.Life.TheVariants as life
-use Rattle.world_state.specs.declared.object.Stage.{Stage}
 use Rattle.world_state.specs.declared.object.Stage.TheVariants as stage
-use Rattle.world_state.specs.declared.object.Mark.{Mark}
-use Rattle.world_state.specs.declared.object.ObjectState.{ObjectState}
 use Rattle.world_state.specs.declared.queue.QueueAct.TheVariants as act
-use Rattle.world_state.specs.declared.queue.QueueState.{QueueState}
-use Rattle.world_state.specs.declared.updater.RetireStep.{RetireStep}
 use Rattle.world_state.specs.declared.updater.RetireStep.TheVariants as due
-use Rattle.world_state.specs.declared.updater.UpdaterPlace.{UpdaterPlace}
-use Rattle.world_state.specs.declared.updater.UpdaterPlace.TheVariants.{Idle, Publishes, Syncs, Retires, Bars}
-use Rattle.world_state.specs.declared.updater.UpdaterState.{UpdaterState}
-use Rattle.world_state.specs.declared.worker.WorkerState.{WorkerState}
-use Rattle.world_state.specs.declared.change.Change.{Change}
-use Rattle.world_state.specs.declared.change.Change.TheVariants.{Hold}
-use Rattle.world_state.specs.Objects.{marked_life}
-use Rattle.world_state.specs.Queues.{empty_queue_state, item_of, held_by, acted, changed_at, acted_at, held_at}
-use Rattle.world_state.specs.View.{Plans, BoardView}
-use Rattle.world_state.proofs.Lemmas.{no_object, stage_of, chain_of, within, life_of, life_within, life_marked, life_else, chain_marked, Items, Has, Stands, InQueue, queue_at, has_left, has_right, has_stands, stands_left, stands_last, stands_more, changed_here, changed_length, items_pushed}
 use Rattle.world.specs.Chains.{writes}
-use Rattle.world.specs.Queues.{queue_of, at_place, is_cut, is_kept, may_retire, lock_free, lock_row, retire_row, retire_on}
+use Rattle.world.specs.Queues.{queue_of, at_place, is_cut, is_kept, may_retire, retire_on}
 use Rattle.world.proofs.Fence.{Laws}
 use Rattle.world.proofs.State.{place_work, updater_at, worker_at, Kept}
 use Rattle.world.proofs.KeptPublishing.{There}
@@ -51,25 +22,16 @@ ready_there q o h = has_stands q.items.gone (items_of q.items) o (has_left (q.it
 
 -- the updater is idle or retires: no barrier of it is under way
 abbrev pub BarsNone : {P : Type 0} → UpdaterPlace P → Type 0
-BarsNone Idle = Unit {0}
-BarsNone (Publishes what) = Unit {0}
-BarsNone (Syncs ask place) = Unit {0}
-BarsNone (Retires o d) = Unit {0}
 BarsNone (Bars b) = ⊥
+BarsNone _ = Unit {0}
 
 pub bars_none : {P : Type 0} (p : UpdaterPlace P) (n : ℕ) → BarsNone p → ¬ Barring p n
-bars_none Idle n h b = b
-bars_none (Publishes what) n h b = b
-bars_none (Syncs ask place) n h b = b
-bars_none (Retires o d) n h b = b
 bars_none (Bars b) n h c = h
+bars_none _ n h b = b
 
 pub bars_kept : {P : Type 0} (qs : List QueueState) (noted cleared : List ℕ) (noted_objects : ℕ → List ObjectId) (p : UpdaterPlace P) → BarsNone p → BarKept qs noted cleared noted_objects p
-bars_kept qs noted cleared noted_objects Idle h = tt
-bars_kept qs noted cleared noted_objects (Publishes what) h = tt
-bars_kept qs noted cleared noted_objects (Syncs ask place) h = tt
-bars_kept qs noted cleared noted_objects (Retires o d) h = tt
 bars_kept qs noted cleared noted_objects (Bars b) h = absurd h
+bars_kept qs noted cleared noted_objects _ h = tt
 
 -- one more object is retired, or queued, or reclaimed: the others are as before
 in_other : (o p : ObjectId) (os : List ObjectId) → p ≢ o → In (o ∷ os) p → In os p
@@ -78,9 +40,7 @@ in_other o p os apart (inr h) = h
 
 more_retired : (l : Life) (o p : ObjectId) (r q c : List ObjectId) → p ≢ o → LifeKept l p r q c → LifeKept l p (o ∷ r) q c
 more_retired life.Kept o p r q c apart h = ((λ i. h.0 (in_other o p r apart i)), h.1, h.2)
-more_retired life.Retired o p r q c apart h = (inr h.0, h.1, h.2)
-more_retired life.Queued o p r q c apart h = (inr h.0, h.1, h.2)
-more_retired life.Reclaimed o p r q c apart h = (inr h.0, h.1, h.2)
+more_retired _ o p r q c apart h = (inr h.0, h.1, h.2)
 
 more_queued : (l : Life) (o p : ObjectId) (r q c : List ObjectId) → p ≢ o → LifeKept l p r q c → LifeKept l p r (o ∷ q) c
 more_queued life.Kept o p r q c apart h = (h.0, (λ i. h.1 (in_other o p q apart i)), h.2)
@@ -89,10 +49,8 @@ more_queued life.Queued o p r q c apart h = (h.0, inr h.1, h.2)
 more_queued life.Reclaimed o p r q c apart h = (h.0, inr h.1, h.2)
 
 pub more_reclaimed : (l : Life) (o p : ObjectId) (r q c : List ObjectId) → p ≢ o → LifeKept l p r q c → LifeKept l p r q (o ∷ c)
-more_reclaimed life.Kept o p r q c apart h = (h.0, h.1, (λ i. h.2 (in_other o p c apart i)))
-more_reclaimed life.Retired o p r q c apart h = (h.0, h.1, (λ i. h.2 (in_other o p c apart i)))
-more_reclaimed life.Queued o p r q c apart h = (h.0, h.1, (λ i. h.2 (in_other o p c apart i)))
 more_reclaimed life.Reclaimed o p r q c apart h = (h.0, h.1, inr h.2)
+more_reclaimed _ o p r q c apart h = (h.0, h.1, (λ i. h.2 (in_other o p c apart i)))
 
 pub kept_queued : life.Kept ≡ life.Queued → ⊥
 kept_queued e = cc
@@ -259,10 +217,6 @@ module _ {P : Type 0} (plans : Plans P) (layout : Layout) (slots : ℕ) (laws : 
     was_kept : life_of w.objects o ≡ life.Kept
     home : chain_of w.objects o % count ≡ u
 
-  both : (a b : Bool) → (a && b) ≡ true → (a ≡ true) × (b ≡ true)
-  both true b e = (refl, e)
-  both false b e = absurd (true≢false (sym e))
-
   cut_tells : (s : Stage) → is_cut s ≡ true → s ≡ stage.Cut
   cut_tells stage.Fresh e = absurd (true≢false (sym e))
   cut_tells stage.Linked e = absurd (true≢false (sym e))
@@ -270,31 +224,22 @@ module _ {P : Type 0} (plans : Plans P) (layout : Layout) (slots : ℕ) (laws : 
 
   kept_tells : (l : Life) → is_kept l ≡ true → l ≡ life.Kept
   kept_tells life.Kept e = refl
-  kept_tells life.Retired e = absurd (true≢false (sym e))
-  kept_tells life.Queued e = absurd (true≢false (sym e))
-  kept_tells life.Reclaimed e = absurd (true≢false (sym e))
-
-  writes_tells : (c : ℕ) → writes w u c ≡ true → c % count ≡ u
-  writes_tells c e = by (eqb_tells (c % count) u) e
-    where
-      by : ((writes w u c ≡ true) × (c % count ≡ u)) ⊎ ((writes w u c ≡ false) × (c % count ≢ u)) → writes w u c ≡ true → c % count ≡ u
-      by (inl y) g = y.1
-      by (inr n) g = absurd (true≢false (sym g ∙ n.0))
+  kept_tells _ e = absurd (true≢false (sym e))
 
   may_go : (o : ObjectId) (y : Option ObjectState) → slice_get w.objects o.0 ≡ y → may_retire w u y ≡ true → MayGo o
   may_go o None at_o e = absurd (true≢false (sym e))
   may_go o (Some y) at_o e =
       let is = get_or_from_slice_get w.objects o.0 y no_object at_o in
-      let a = both (is_cut y.stage) (is_kept y.life && writes w u y.chain) e in
-      let b = both (is_kept y.life) (writes w u y.chain) a.1 in
+      let a = and_parts (is_cut y.stage) (is_kept y.life && writes w u y.chain) e in
+      let b = and_parts (is_kept y.life) (writes w u y.chain) a.1 in
       record {
         was_cut = ap (λ (z : ObjectState). z.stage) is ∙ cut_tells y.stage a.0;
         was_kept = ap (λ (z : ObjectState). z.life) is ∙ kept_tells y.life b.0;
-        home = ap (λ (z : ObjectState). z.chain % count) is ∙ writes_tells y.chain b.1;
+        home = ap (λ (z : ObjectState). z.chain % count) is ∙ eqb-true (y.chain % count) u b.1;
       }
 
-  owes_hold : (o : ObjectId) → MayGo o → x.place ≡ Idle → q.holder ≡ None → Owed (Ok (Hold u (at_place x (Retires o due.Mark)) j))
-  owes_hold o g was free = (
+  pub owes_hold : (o : ObjectId) → x.place ≡ Idle → may_retire w u (slice_get w.objects o.0) ≡ true → (r : QueueState) → slice_get qs j ≡ Some r → is_some r.holder ≡ false → Owed (Ok (Hold u (at_place x (Retires o due.Mark)) j))
+  owes_hold o was may r at_r unheld = (
     tt,
     kept_updater plans layout slots laws w now kept u x x' (held_at qs j u) None w.barriers w.log t (omega arith) (λ os. tt) refl (ap place_work was) refl,
     lock_step (held_by u) x' refl refl
@@ -306,23 +251,21 @@ module _ {P : Type 0} (plans : Plans P) (layout : Layout) (slots : ℕ) (laws : 
       x' : UpdaterState P
       x' = at_place x (Retires o due.Mark)
 
+      g : MayGo o
+      g = may_go o (slice_get w.objects o.0) refl may
+
+      none_of : (h : Option ℕ) → is_some h ≡ false → h ≡ None
+      none_of None e = refl
+      none_of (Some v) e = absurd (true≢false e)
+
+      free : q.holder ≡ None
+      free = ap (λ (z : QueueState). z.holder) (get_or_from_slice_get qs j r empty_queue_state at_r) ∙ none_of r.holder unheld
+
       some_none : (let h : Option ℕ = Some u in h) ≡ None → ⊥
       some_none e = cc
 
       none_some : (v : ℕ) → None ≡ Some v → ⊥
       none_some v e = cc
-
-  pub owes_retire : (o : ObjectId) → x.place ≡ Idle → (b : Bool) → may_retire w u (slice_get w.objects o.0) ≡ b → Owed (retire_row w u x o b)
-  owes_retire o was false e = tt
-  owes_retire o was true e = at_queue (slice_get qs j) refl
-    where
-      locks : (h : Option ℕ) → q.holder ≡ h → Owed (Ok (lock_free w u x o h))
-      locks None free = owes_hold o (may_go o (slice_get w.objects o.0) refl e) was free
-      locks (Some other) held = (tt, kept, k)
-
-      at_queue : (r : Option QueueState) → slice_get qs j ≡ r → Owed (lock_row w u x o r)
-      at_queue None is = tt
-      at_queue (Some r) is = locks r.holder (ap (λ (z : QueueState). z.holder) (get_or_from_slice_get qs j r empty_queue_state is))
 
   longer : (es : List Event) → length w.log ≤ length (w.log ++ es)
   longer es = omega (arith, length-append w.log es)

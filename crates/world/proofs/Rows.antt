@@ -1,79 +1,158 @@
--- Each row of the step table, with what stood there before the line.
-use Rattle.std.specs.Prelude.{if◌then◌else◌}
-use Rattle.std.proofs.Common.{◌≡◌, ◌⊎◌, inl, inr, ℕ, ◌+◌, cond, Bool, true, false, length, get_or, slice_get, nat_le, nat_lt, is_some, Option, Some, None, Result, Ok, Err, refl, sym, subst, true≢false}
+-- Each row of the step table, gone through once: what stood there before the line, and what the tests of the row say.
+use Rattle.world.proofs.Cited.{◌≡◌, ◌⊎◌, ℕ, true≢false, ◌+◌, ◌^◌, ◌==◌, cond, not, Bool, true, false, length, get_or, slice_get, nat_le, nat_lt, List, [], ◌∷◌, Option, Some, None, Result, Ok, Err, refl, sym, ◌∙◌, subst, IfErr, Event, ObjectId, Refusal, NoActor, NotOpen, Busy, WrongFlavour, NoPlace, Layout, count_of, greatest_count, entered_of, left_of, is_online, cookie_for, Item, Ticket, items_of, SyncCore, Tickets, WorkerCore, new_core, after_take, item_done, Answer, Events, Quiet, Wait, Blocked, Line, Reader, Updater, Worker, ReaderVerb, UpdaterVerb, WorkerVerb, Mark, ObjectState, QueueAct, QueueState, ReaderState, ReaderStep, Barrier, BarrierStep, Note, Check, GraceState, Holder, Publishing, RetireStep, Started, UpdaterPlace, Idle, Publishes, Syncs, Retires, Bars, UpdaterState, WorkerState, Change, Read, Begin, Publish, Grace, Hold, Bar, Work, Stay, fresh_object, item_of, section_of, is_open_in, quietly, telling, with_word, opened, closed, found_row, stores, lock_row, enter_row, unlock_row, online_row, quiescent_row, offline_row, announce_row, go_online_row, touch_row, Plans, BoardView, told, changed}
+use Rattle.std.specs.Prelude.{is_some}
+use Rattle.std.specs.List.{AllByRecursion as Every}
 use Rattle.rcu_model.specs.declared.event.Event.TheVariants as events
-use Rattle.rcu_model.specs.declared.event.ObjectId.{ObjectId}
-use Rattle.rcu_model.specs.declared.refusal.Refusal.{Refusal}
-use Rattle.rcu_model.specs.declared.refusal.Refusal.TheVariants.{Busy}
-use Rattle.poll_cookie.specs.Cookie.{cookie_for}
-use Rattle.callback_queue.specs.declared.item.Item.{Item}
-use Rattle.callback_queue.specs.declared.item.Ticket.{Ticket}
-use Rattle.callback_queue.specs.Queue.{items_of}
-use Rattle.call_rcu_worker.specs.declared.sync.SyncCore.{SyncCore}
-use Rattle.call_rcu_worker.specs.declared.worker.Tickets.{Tickets}
-use Rattle.call_rcu_worker.specs.declared.worker.WorkerCore.{WorkerCore}
 use Rattle.call_rcu_worker.specs.declared.worker.WorkerCore.TheVariants as worker
-use Rattle.call_rcu_worker.specs.Sync.{new_core}
-use Rattle.call_rcu_worker.specs.Worker.{after_take, synced as synced_to}
-use Rattle.world_state.specs.declared.line.Answer.{Answer}
-use Rattle.world_state.specs.declared.line.Answer.TheVariants.{Events, Quiet, Wait, Blocked, Idle as NothingThere}
-use Rattle.world_state.specs.declared.line.Line.{Line}
-use Rattle.world_state.specs.declared.line.Line.TheVariants.{Reader, Updater, Worker}
-use Rattle.world_state.specs.declared.line.ReaderVerb.{ReaderVerb}
-use Rattle.world_state.specs.declared.line.UpdaterVerb.{UpdaterVerb}
+use Rattle.world_state.specs.declared.line.Answer.TheVariants.{Idle as NothingThere}
+use Rattle.world_state.specs.declared.line.ReaderVerb.TheVariants as reader
 use Rattle.world_state.specs.declared.line.UpdaterVerb.TheVariants as updater
-use Rattle.world_state.specs.declared.line.WorkerVerb.{WorkerVerb}
 use Rattle.world_state.specs.declared.line.WorkerVerb.TheVariants as verb
-use Rattle.world_state.specs.declared.object.Mark.{Mark}
-use Rattle.world_state.specs.declared.object.ObjectState.{ObjectState}
-use Rattle.world_state.specs.declared.object.Splice.{Splice}
+use Rattle.world_state.specs.declared.object.Life.TheVariants as life
 use Rattle.world_state.specs.declared.queue.QueueAct.TheVariants as act
-use Rattle.world_state.specs.declared.queue.QueueState.{QueueState}
-use Rattle.world_state.specs.declared.reader.ReaderState.{ReaderState}
-use Rattle.world_state.specs.declared.reader.ReaderStep.{ReaderStep}
-use Rattle.world_state.specs.declared.updater.Barrier.{Barrier}
-use Rattle.world_state.specs.declared.updater.BarrierStep.{BarrierStep}
-use Rattle.world_state.specs.declared.updater.BarrierStep.TheVariants.{Note, Check}
 use Rattle.world_state.specs.declared.updater.Holder.TheVariants as holder
-use Rattle.world_state.specs.declared.updater.Publishing.{Publishing}
 use Rattle.world_state.specs.declared.updater.Publishing.TheVariants as publishing
-use Rattle.world_state.specs.declared.updater.RetireStep.{RetireStep}
 use Rattle.world_state.specs.declared.updater.RetireStep.TheVariants as due
-use Rattle.world_state.specs.declared.updater.Started.{Started}
-use Rattle.world_state.specs.declared.updater.UpdaterPlace.{UpdaterPlace}
-use Rattle.world_state.specs.declared.updater.UpdaterPlace.TheVariants.{Idle, Publishes, Syncs, Retires, Bars}
-use Rattle.world_state.specs.declared.updater.UpdaterState.{UpdaterState}
-use Rattle.world_state.specs.declared.worker.WorkerState.{WorkerState}
-use Rattle.world_state.specs.declared.change.Change.{Change}
-use Rattle.world_state.specs.declared.change.Change.TheVariants.{Read, Begin, Publish, Grace, Hold, Bar, Work, Stay}
-use Rattle.world_state.specs.View.{Plans, BoardView}
+use Rattle.world_state.specs.declared.change.Change.TheVariants.{Retire}
 use Rattle.world.specs.declared.grace.GraceStep.{GraceStep}
 use Rattle.world.specs.Answers.{one}
-use Rattle.world.specs.Chains.{writes, next_object, push_row, replace_row, cut_row, pushed_row, replaced_row, published, linked_by}
-use Rattle.world.specs.Given.{new_of}
-use Rattle.world.specs.Grace.{grace_row, sync_place, start_row, poll_row}
-use Rattle.world.specs.Lines.{reader_line, read_by, of_reader, is_idle, grace_change, synced, updater_on, updater_begins, updater_line, of_updater, worker_line, of_worker, change_of}
-use Rattle.world.specs.Queues.{queue_of, at_place, may_retire, lock_free, lock_row, retire_on, finished_in, barrier_on}
-use Rattle.world.specs.Workers.{is_none_left, first_in, take_row, with_core, ask_for, worker_act, work_change, worked, run_row, worker_on, is_resting}
-use Rattle.world.proofs.Sweeping.{Each, each_if}
+use Rattle.world.specs.Chains.{writes, next_object, first_row, next_row, next_from, push_row, replace_row, cut_row, pushed_row, replaced_row, published, linked_by}
+use Rattle.world.specs.Grace.{is_blocked, is_waiting, grace_row, sync_row, start_row, poll_row}
+use Rattle.world.specs.Lines.{of_memb, of_qsbr, in_section, reader_on, reader_verb, reader_line, of_reader, grace_change, is_idle, updater_on, updater_verb, updater_line, of_updater, worker_verb, worker_line, of_worker, row_of, change_of, with_change, outcome_of, world_after}
+use Rattle.world.specs.Queues.{queue_of, at_place, may_retire, lock_row as queue_lock_row, retire_on, finished_in, after_note, noted_at, barrier_row, checked, barrier_on}
+use Rattle.world.specs.Refusals.{IsStepError}
+use Rattle.world.specs.Row.{Row, refused_if, stalled_if, guarded, after, makes, refused, unreached, tried, read_by, made}
+use Rattle.world.specs.Steps.{IsOfReader}
+use Rattle.world.specs.Workers.{is_none_left, first_in, first_fresh, with_core, take_row, ask_for, work_change, run_row, worker_on, is_resting}
+use Rattle.world.proofs.GraceRows.{each_turn, tells}
+use Rattle.world.proofs.Tests.{not_false}
 
-idle_tells : {P : Type 0} (place : UpdaterPlace P) → is_idle place ≡ true → place ≡ Idle
+pub idle_tells : {P : Type 0} (place : UpdaterPlace P) → is_idle place ≡ true → place ≡ Idle
 idle_tells Idle e = refl
-idle_tells (Publishes what) e = absurd (true≢false (sym e))
-idle_tells (Syncs ask core) e = absurd (true≢false (sym e))
-idle_tells (Retires o step) e = absurd (true≢false (sym e))
-idle_tells (Bars b) e = absurd (true≢false (sym e))
+idle_tells _ e = absurd (true≢false (sym e))
 
-rest_tells : {P : Type 0} (core : WorkerCore P Unit) → is_resting core ≡ true → core ≡ worker.Idle
+pub rest_tells : {P : Type 0} (core : WorkerCore P Unit) → is_resting core ≡ true → core ≡ worker.Idle
 rest_tells worker.Idle e = refl
-rest_tells (worker.Syncs sync tickets) e = absurd (true≢false (sym e))
-rest_tells (worker.Pops tickets) e = absurd (true≢false (sym e))
-rest_tells (worker.Runs tickets ticket item) e = absurd (true≢false (sym e))
-rest_tells (worker.Ran tickets ticket item) e = absurd (true≢false (sym e))
-rest_tells (worker.Counts tickets ticket) e = absurd (true≢false (sym e))
+rest_tells _ e = absurd (true≢false (sym e))
+
+no_copy : (copy : Option ℕ) → is_some copy ≡ false → copy ≡ None
+no_copy None e = refl
+no_copy (Some n) e = absurd (true≢false e)
+
+-- ---- what words, cookies and steps of grace periods are refused by
+
+abbrev pub Fails : {X : Type 0} → Result X Refusal → Type 0
+Fails r = IfErr r IsStepError
+
+pub whichever : {X : Type 0} (b : Bool) (x y : Result X Refusal) → Fails x → Fails y → Fails (cond b x y)
+whichever true x y p q = p
+whichever false x y p q = q
+
+enter_fails : (layout : Layout) (word : ℕ) (phase : Bool) → Fails (entered_of layout word phase)
+enter_fails layout word phase = whichever (count_of layout word == 0) _ _ tt (whichever (count_of layout word == greatest_count layout) _ _ tt tt)
+
+leave_fails : (layout : Layout) (word : ℕ) → Fails (left_of layout word)
+leave_fails layout word = whichever (count_of layout word == 0) _ _ tt tt
+
+cookie_fails : (seq : ℕ) → Fails (cookie_for seq)
+cookie_fails seq = whichever (nat_lt seq (2 ^ 62)) _ _ tt tt
 
 module _ {P : Type 0} (plans : Plans P) (w : BoardView P) where
-  -- the updater is so now, and at this place
+  grace_fails : (me : Holder) (ask : ℕ) (sync : SyncCore P) → Fails (grace_row plans w me ask sync)
+  grace_fails me ask = each_turn plans w me ask (λ sync r. Fails r) (λ e late. subst (λ (r : Result ℕ Refusal). Fails r) late (cookie_fails w.grace.seq)) (record {
+    asks = λ c is. tt;
+    blocks = λ c other held. tt;
+    locks = λ c free. tt;
+    finds = λ c up. tt;
+    needs = λ c low. tt;
+    stands = λ from c p grace held asks. tt;
+    ends = λ from grace held asks. tt;
+    goes = λ from c p grace held asks. tt;
+    frees = tt;
+    rests = tt;
+  })
+
+-- ---- the rows
+
+-- a step of a reader
+module _ {P : Type 0} (qsbr : Bool) (layout : Layout) (w : BoardView P) (r : ℕ) (v : ReaderState) (H : ReaderStep → Type 0) where
+  pub record ReaderRows : Type 0 where
+    -- `lock`, `online` and `quiescent` load; in the general-purpose flavour no section is open then
+    pub copies : v.copy ≡ None → (qsbr ≡ false → (count_of layout v.word == 0) ≡ true) → H (quietly (record v { copy = Some w.grace.word }))
+    pub nests : (word : ℕ) → v.copy ≡ None → qsbr ≡ false → (count_of layout v.word == 0) ≡ false → entered_of layout v.word false ≡ Ok word → H (quietly (with_word v word))
+    pub unnests : (word : ℕ) → v.copy ≡ None → qsbr ≡ false → left_of layout v.word ≡ Ok word → (count_of layout word == 0) ≡ false → H (quietly (with_word v word))
+    pub unlocks : (word : ℕ) → v.copy ≡ None → qsbr ≡ false → left_of layout v.word ≡ Ok word → (count_of layout word == 0) ≡ true → H (telling (events.Close (section_of r v.ordinal)) (closed v word))
+    pub leaves : v.copy ≡ None → qsbr ≡ true → is_online v.word ≡ true → H (telling (events.Close (section_of r v.ordinal)) (closed v 0))
+    pub enters : (copied word : ℕ) → v.copy ≡ Some copied → qsbr ≡ false → entered_of layout v.word (copied == 1) ≡ Ok word → H (telling (events.Open (section_of r (v.ordinal + 1))) (opened v word))
+    pub goes_online : (copied : ℕ) → v.copy ≡ Some copied → qsbr ≡ true → is_online v.word ≡ false → H (go_online_row copied r v)
+    pub announces : (copied : ℕ) → v.copy ≡ Some copied → qsbr ≡ true → is_online v.word ≡ true → H (announce_row copied r v)
+    pub firsts : (c : ℕ) (head : Option ObjectId) → v.copy ≡ None → is_open_in qsbr layout v.word ≡ true → slice_get w.heads c ≡ Some head → H (found_row v head (events.First (section_of r v.ordinal) c head))
+    pub nexts : (o : ObjectId) (x : ObjectState) → v.copy ≡ None → is_open_in qsbr layout v.word ≡ true → v.cursor ≡ Some o → slice_get w.objects o.0 ≡ Some x → H (found_row v x.link (events.Next (section_of r v.ordinal) o x.link))
+    pub touches : (o : ObjectId) → v.copy ≡ None → is_open_in qsbr layout v.word ≡ true → v.cursor ≡ Some o → H (telling (events.Touch (section_of r v.ordinal) o) v)
+
+-- what follows of each step from two things that are so of those that have a row
+pub reads_both : {P : Type 0} (qsbr : Bool) (layout : Layout) (w : BoardView P) (r : ℕ) (v : ReaderState) (H H' H'' : ReaderStep → Type 0) → ((step : ReaderStep) → H step → H' step → H'' step) →
+    ReaderRows qsbr layout w r v H → ReaderRows qsbr layout w r v H' → ReaderRows qsbr layout w r v H''
+reads_both qsbr layout w r v H H' H'' f one other = record {
+  copies = λ none zero. f _ (one.copies none zero) (other.copies none zero);
+  nests = λ word none flavour more is. f _ (one.nests word none flavour more is) (other.nests word none flavour more is);
+  unnests = λ word none flavour is more. f _ (one.unnests word none flavour is more) (other.unnests word none flavour is more);
+  unlocks = λ word none flavour is zero. f _ (one.unlocks word none flavour is zero) (other.unlocks word none flavour is zero);
+  leaves = λ none flavour online. f _ (one.leaves none flavour online) (other.leaves none flavour online);
+  enters = λ copied word has flavour is. f _ (one.enters copied word has flavour is) (other.enters copied word has flavour is);
+  goes_online = λ copied has flavour offline. f _ (one.goes_online copied has flavour offline) (other.goes_online copied has flavour offline);
+  announces = λ copied has flavour online. f _ (one.announces copied has flavour online) (other.announces copied has flavour online);
+  firsts = λ c head none open' is. f _ (one.firsts c head none open' is) (other.firsts c head none open' is);
+  nexts = λ o x none open' from is. f _ (one.nexts o x none open' from is) (other.nexts o x none open' from is);
+  touches = λ o none open' from. f _ (one.touches o none open' from) (other.touches o none open' from);
+}
+
+any_read : {P : Type 0} (qsbr : Bool) (layout : Layout) (w : BoardView P) (r : ℕ) (v : ReaderState) → ReaderRows qsbr layout w r v (λ step. Unit {0})
+any_read qsbr layout w r v = record {
+  copies = λ none zero. tt;
+  nests = λ word none flavour more is. tt;
+  unnests = λ word none flavour is more. tt;
+  unlocks = λ word none flavour is zero. tt;
+  leaves = λ none flavour online. tt;
+  enters = λ copied word has flavour is. tt;
+  goes_online = λ copied has flavour offline. tt;
+  announces = λ copied has flavour online. tt;
+  firsts = λ c head none open' is. tt;
+  nexts = λ o x none open' from is. tt;
+  touches = λ o none open' from. tt;
+}
+
+pub reads_by : {P : Type 0} (qsbr : Bool) (layout : Layout) (w : BoardView P) (r : ℕ) (v : ReaderState) (H H' : ReaderStep → Type 0) → ((step : ReaderStep) → H step → H' step) → ReaderRows qsbr layout w r v H → ReaderRows qsbr layout w r v H'
+reads_by qsbr layout w r v H H' f rows = reads_both qsbr layout w r v H (λ step. Unit {0}) H' (λ step h none. f step h) rows (any_read qsbr layout w r v)
+
+pub any_reads : {P : Type 0} (qsbr : Bool) (layout : Layout) (w : BoardView P) (r : ℕ) (v : ReaderState) (H : ReaderStep → Type 0) → ((step : ReaderStep) → H step) → ReaderRows qsbr layout w r v H
+any_reads qsbr layout w r v H f = reads_by qsbr layout w r v (λ step. Unit {0}) H (λ step none. f step) (any_read qsbr layout w r v)
+
+-- events of those who publish, and of those who wait
+abbrev pub IsPublishing : Event → Type 0
+IsPublishing (events.Push c o) = Unit {0}
+IsPublishing (events.Replace c old new) = Unit {0}
+IsPublishing (events.Cut c o) = Unit {0}
+IsPublishing _ = ⊥
+
+abbrev pub IsWaiting : Event → Type 0
+IsWaiting (events.Ask a) = Unit {0}
+IsWaiting (events.Answer a) = Unit {0}
+IsWaiting (events.Bar b) = Unit {0}
+IsWaiting (events.Clear b) = Unit {0}
+IsWaiting _ = ⊥
+
+-- the change is an updater's, and no step of a retirement after its first one
+abbrev pub IsUpdate : {P : Type 0} → Change P → Type 0
+IsUpdate (Begin u x object) = Unit {0}
+IsUpdate (Publish u x splice event) = IsPublishing event
+IsUpdate (Grace u x grace answer) = Every IsWaiting (told answer)
+IsUpdate (Hold u x q) = Unit {0}
+IsUpdate (Bar u x barriers answer) = Every IsWaiting (told answer)
+IsUpdate _ = ⊥
+
+module _ {P : Type 0} (plans : Plans P) (w : BoardView P) where
+  -- the actor is so now, and at this place
   pub record WasAt (u : ℕ) (x : UpdaterState P) (place : UpdaterPlace P) : Type 0 where
     pub was : slice_get w.updaters u ≡ Some x
     pub at : x.place ≡ place
@@ -82,196 +161,368 @@ module _ {P : Type 0} (plans : Plans P) (w : BoardView P) where
     pub was : slice_get w.workers k ≡ Some x
     pub at : x.core ≡ core
 
-  -- the updater begins a grace period with the next ask, or goes on with one
+  -- the updater begins a grace period, or goes on with one
   abbrev pub SyncsAt : ℕ → UpdaterState P → ℕ → SyncCore P → Type 0
-  SyncsAt u x ask core = (WasAt u x Idle × (ask ≡ w.grace.asks + 1)) ⊎ WasAt u x (Syncs ask core)
+  SyncsAt u x ask core = WasAt u x Idle ⊎ WasAt u x (Syncs ask core)
 
-  module _ (F : Change P → Type 0) where
-    pub record Rows : Type 0 where
-      pub stays : (answer : Answer) → F (Stay answer)
-      pub reads : (r : ℕ) (v : ReaderState) (verb : ReaderVerb) (step : ReaderStep) → slice_get w.readers r ≡ Some v → reader_line plans.qsbr w r v verb ≡ Ok step → F (Read r step)
-      pub begins : (u : ℕ) (x : UpdaterState P) (what : Publishing) (object : ObjectState) → WasAt u x Idle → new_of what ≡ length w.objects → F (Begin u (record x { place = Publishes what }) object)
-      pub cuts : (u : ℕ) (x : UpdaterState P) (splice : Splice) (c : ℕ) (o : ObjectId) → WasAt u x Idle → F (Publish u x splice (events.Cut c o))
-      pub pushes : (u : ℕ) (x : UpdaterState P) (new : ObjectId) (splice : Splice) (c : ℕ) → WasAt u x (Publishes (publishing.Push new)) → F (Publish u (record x { place = Idle }) splice (events.Push c new))
-      pub replaces : (u : ℕ) (x : UpdaterState P) (old new : ObjectId) (splice : Splice) (c : ℕ) → WasAt u x (Publishes (publishing.Replace old new)) → F (Publish u (record x { place = Idle }) splice (events.Replace c old new))
-      pub syncs : (u : ℕ) (x : UpdaterState P) (ask : ℕ) (core : SyncCore P) (step : GraceStep P) → SyncsAt u x ask core → grace_row plans w (holder.Updater u) ask core ≡ Ok step →
-          F (Grace u (record x { place = sync_place plans ask step.core }) step.grace step.answer)
-      pub starts : (u : ℕ) (x : UpdaterState P) (started : Option Started) → WasAt u x Idle → F (Grace u (record x { started = started }) (record w.grace { asks = w.grace.asks + 1 }) (Events (events.Ask (w.grace.asks + 1)) None))
-      pub polls : (u : ℕ) (x : UpdaterState P) (started : Option Started) (ask : ℕ) → WasAt u x Idle → F (Grace u (record x { started = started }) w.grace (Events (events.Answer ask) None))
-      pub holds : (u : ℕ) (x : UpdaterState P) (o : ObjectId) (q : QueueState) → WasAt u x Idle → slice_get w.queues (queue_of w u) ≡ Some q → F (Hold u (at_place x (Retires o due.Mark)) (queue_of w u))
-      pub retires : (u : ℕ) (x : UpdaterState P) (o : ObjectId) (step : RetireStep) → WasAt u x (Retires o step) → F (retire_on w u x o step)
-      pub bars : (u : ℕ) (x : UpdaterState P) (b : Barrier) → WasAt u x Idle → F (Bar u (at_place x (Bars b)) (w.barriers + 1) (one (events.Bar (w.barriers + 1))))
-      pub awaits : (u : ℕ) (x : UpdaterState P) (b b' : Barrier) → WasAt u x (Bars b) → F (Bar u (at_place x (Bars b')) w.barriers Quiet)
-      pub clears : (u : ℕ) (x : UpdaterState P) (b : Barrier) → WasAt u x (Bars b) → F (Bar u (at_place x Idle) w.barriers (one (events.Clear b.number)))
-      pub takes : (k : ℕ) (x : WorkerState P) (first : Ticket) (count : ℕ) → WorkedAt k x worker.Idle → F (Work k (with_core x (after_take x.core first count)) w.grace act.Seal None Quiet)
-      pub works : (k : ℕ) (x : WorkerState P) (sync : SyncCore P) (tickets : Tickets) (step : GraceStep P) → WorkedAt k x (worker.Syncs sync tickets) → grace_row plans w (holder.Worker k) (ask_for w x.ask sync) sync ≡ Ok step →
-          F (Work k (record { ask = ask_for w x.ask sync; core = synced_to step.core tickets }) step.grace (worker_act step.grace.seq (synced_to step.core tickets)) None step.answer)
-      pub runs : (k : ℕ) (x : WorkerState P) (tickets : Tickets) (core : WorkerCore P Unit) (mark : Option Mark) (first : Ticket × ObjectId) → WorkedAt k x (worker.Pops tickets) → first_in (slice_get w.queues k) ≡ Some first →
-          F (Work k (with_core x core) w.grace act.Pop mark (one (events.Run first.1)))
-      pub counts : (k : ℕ) (x : WorkerState P) (tickets : Tickets) (ticket : Ticket) (item : Item Unit) (core : WorkerCore P Unit) → WorkedAt k x (worker.Ran tickets ticket item) → F (Work k (with_core x core) w.grace act.Finish None Quiet)
+  -- what is missing, as in no world that lines lead to
+  pub data Lack : Type 0 where
+    NoNext : (r : ℕ) (v : ReaderState) (o : ObjectId) → slice_get w.readers r ≡ Some v → v.cursor ≡ Some o → slice_get w.objects o.0 ≡ None → Lack
+    NoEntry : (r : ℕ) (v : ReaderState) (copied : ℕ) (e : Refusal) → slice_get w.readers r ≡ Some v → v.copy ≡ Some copied → plans.qsbr ≡ false → entered_of w.layout v.word (copied == 1) ≡ Err e → Lack
+    NoQueue : (u : ℕ) → slice_get w.queues (queue_of w u) ≡ None → Lack
+    NoPushed : (u : ℕ) (x : UpdaterState P) (new : ObjectId) → WasAt u x (Publishes (publishing.Push new)) → slice_get w.objects new.0 ≡ None → Lack
+    NoReplaced : (u : ℕ) (x : UpdaterState P) (old new : ObjectId) → WasAt u x (Publishes (publishing.Replace old new)) → slice_get w.objects old.0 ≡ None → Lack
+    NoBatch : (k : ℕ) (x : WorkerState P) → slice_get w.workers k ≡ Some x → slice_get w.queues k ≡ None → Lack
+    NoneReady : (k : ℕ) (x : WorkerState P) (tickets : Tickets) → WorkedAt k x (worker.Pops tickets) → first_in (slice_get w.queues k) ≡ None → Lack
+    NotRun : (k : ℕ) (x : WorkerState P) (tickets : Tickets) (ticket : Ticket) (item : Item Unit) → WorkedAt k x (worker.Runs tickets ticket item) → Lack
+    NotCounted : (k : ℕ) (x : WorkerState P) (tickets : Tickets) (ticket : Ticket) → WorkedAt k x (worker.Counts tickets ticket) → Lack
 
-    module _ (rows : Rows) where
-      each_reader : (r : ℕ) (v : ReaderVerb) (x : Option ReaderState) → slice_get w.readers r ≡ x → Each F (of_reader plans.qsbr w r v x)
-      each_reader r v None is = tt
-      each_reader r v (Some x) is = by (reader_line plans.qsbr w r x v) refl
-        where
-          by : (y : Result ReaderStep Refusal) → reader_line plans.qsbr w r x v ≡ y → Each F (read_by r y)
-          by (Ok step) e = rows.reads r x v step is e
-          by (Err e) f = tt
+  -- a step of an updater
+  module _ (u : ℕ) (x : UpdaterState P) (F : UpdaterVerb → Change P → Type 0) where
+    pub record UpdaterRows : Type 0 where
+      pub pushes : (c : ℕ) (head : Option ObjectId) → WasAt u x Idle → slice_get w.heads c ≡ Some head → writes w u c ≡ true →
+          F (updater.Push c) (Begin u (record x { place = Publishes (publishing.Push (next_object w)) }) (fresh_object c head))
+      pub replaces : (o : ObjectId) (y : ObjectState) → WasAt u x Idle → linked_by w u (slice_get w.objects o.0) ≡ Some y →
+          F (updater.Replace o) (Begin u (record x { place = Publishes (publishing.Replace o (next_object w)) }) (fresh_object y.chain y.link))
+      pub cuts : (o : ObjectId) (y : ObjectState) → WasAt u x Idle → linked_by w u (slice_get w.objects o.0) ≡ Some y →
+          F (updater.Cut o) (Publish u x (record { chain = y.chain; before = y.before; after = y.link; leaves = Some o; enters = None }) (events.Cut y.chain o))
+      pub pushed : (new : ObjectId) (y : ObjectState) → WasAt u x (Publishes (publishing.Push new)) → slice_get w.objects new.0 ≡ Some y →
+          F updater.GoOn (Publish u (record x { place = Idle }) (record { chain = y.chain; before = None; after = y.link; leaves = None; enters = Some new }) (events.Push y.chain new))
+      pub replaced : (old new : ObjectId) (y : ObjectState) → WasAt u x (Publishes (publishing.Replace old new)) → slice_get w.objects old.0 ≡ Some y →
+          F updater.GoOn (Publish u (record x { place = Idle }) (record { chain = y.chain; before = y.before; after = y.link; leaves = Some old; enters = Some new }) (events.Replace y.chain old new))
+      pub asks : (step : GraceStep P) → WasAt u x Idle → grace_row plans w (holder.Updater u) (w.grace.asks + 1) new_core ≡ Ok step → is_blocked step.answer ≡ false → is_waiting step.answer ≡ false →
+          F updater.Sync (grace_change plans u x (w.grace.asks + 1) step)
+      pub turns : (ask : ℕ) (core : SyncCore P) (step : GraceStep P) → WasAt u x (Syncs ask core) → grace_row plans w (holder.Updater u) ask core ≡ Ok step → is_blocked step.answer ≡ false → is_waiting step.answer ≡ false →
+          F updater.GoOn (grace_change plans u x ask step)
+      pub starts : (cookie : ℕ) → WasAt u x Idle → cookie_for w.grace.seq ≡ Ok cookie →
+          F updater.Start (Grace u (record x { started = Some (record { ask = w.grace.asks + 1; cookie = cookie }) }) (record w.grace { asks = w.grace.asks + 1 }) (Events (events.Ask (w.grace.asks + 1)) None))
+      pub polls : (s : Started) → WasAt u x Idle → x.started ≡ Some s → nat_le s.cookie w.grace.seq ≡ true → F updater.Poll (Grace u (record x { started = None }) w.grace (Events (events.Answer s.ask) None))
+      pub holds : (o : ObjectId) (q : QueueState) → WasAt u x Idle → may_retire w u (slice_get w.objects o.0) ≡ true → slice_get w.queues (queue_of w u) ≡ Some q → is_some q.holder ≡ false →
+          F (updater.Retire o) (Hold u (at_place x (Retires o due.Mark)) (queue_of w u))
+      pub retires : (o : ObjectId) (step : RetireStep) → WasAt u x (Retires o step) → F updater.GoOn (retire_on w u x o step)
+      pub bars : WasAt u x Idle → F updater.Barrier (barrier_row w u x)
+      pub notes : (b : Barrier) (q : ℕ) → WasAt u x (Bars b) → b.due ≡ Note q → F updater.GoOn (Bar u (at_place x (Bars (record b { counts = noted_at w b.counts q; due = after_note w q }))) w.barriers Quiet)
+      pub checks : (b : Barrier) (q : ℕ) → WasAt u x (Bars b) → b.due ≡ Check q → nat_le (get_or b.counts q 0) (finished_in (slice_get w.queues q)) ≡ true → nat_lt (q + 1) (length w.queues) ≡ true →
+          F updater.GoOn (Bar u (at_place x (Bars (record b { due = Check (q + 1) }))) w.barriers Quiet)
+      pub clears : (b : Barrier) (q : ℕ) → WasAt u x (Bars b) → b.due ≡ Check q → nat_le (get_or b.counts q 0) (finished_in (slice_get w.queues q)) ≡ true → nat_lt (q + 1) (length w.queues) ≡ false →
+          F updater.GoOn (Bar u (at_place x Idle) w.barriers (one (events.Clear b.number)))
 
-      module _ (u : ℕ) (x : UpdaterState P) where
-        each_synced : (ask : ℕ) (core : SyncCore P) → SyncsAt u x ask core → (r : Result (GraceStep P) Refusal) → grace_row plans w (holder.Updater u) ask core ≡ r → Each F (synced plans u x ask r)
-        each_synced ask core at (Err e) is = tt
-        each_synced ask core at (Ok step) is = by step.answer refl
+    pub any_retires : ((y : UpdaterState P) (q : ℕ) (a : QueueAct) (mark : Option Mark) (answer : Answer) → F updater.GoOn (Retire u y q a mark answer)) → (o : ObjectId) (step : RetireStep) → WasAt u x (Retires o step) → F updater.GoOn (retire_on w u x o step)
+    any_retires f o due.Mark at = f _ _ _ _ _
+    any_retires f o due.Count at = f _ _ _ _ _
+    any_retires f o due.Push at = f _ _ _ _ _
+    any_retires f o due.Free at = f _ _ _ _ _
+
+    -- what is so of each update, and of the steps of retirements
+    pub any_updates : ((v : UpdaterVerb) (change : Change P) → IsUpdate change → F v change) → ((o : ObjectId) (step : RetireStep) → WasAt u x (Retires o step) → F updater.GoOn (retire_on w u x o step)) → UpdaterRows
+    any_updates f retires = record {
+      pushes = λ c head at is mine. f _ _ tt;
+      replaces = λ o y at is. f _ _ tt;
+      cuts = λ o y at is. f _ _ tt;
+      pushed = λ new y at is. f _ _ tt;
+      replaced = λ old new y at is. f _ _ tt;
+      asks = λ step at is goes on. f _ _ (tells plans w (holder.Updater u) (w.grace.asks + 1) (Every IsWaiting) tt (tt, tt) (tt, tt) new_core step is);
+      turns = λ ask core step at is goes on. f _ _ (tells plans w (holder.Updater u) ask (Every IsWaiting) tt (tt, tt) (tt, tt) core step is);
+      starts = λ cookie at is. f _ _ (tt, tt);
+      polls = λ s at is up. f _ _ (tt, tt);
+      holds = λ o q at may is free. f _ _ tt;
+      retires = retires;
+      bars = λ at. f _ _ (tt, tt);
+      notes = λ b q at is. f _ _ tt;
+      checks = λ b q at is up more. f _ _ tt;
+      clears = λ b q at is up last. f _ _ (tt, tt);
+    }
+
+  -- a step of a worker
+  module _ (k : ℕ) (x : WorkerState P) (F : WorkerVerb → Change P → Type 0) where
+    pub record WorkerRows : Type 0 where
+      pub takes : (q : QueueState) → WorkedAt k x worker.Idle → slice_get w.queues k ≡ Some q → is_some q.holder ≡ false → is_none_left (items_of q.items) ≡ false →
+          F verb.Take (Work k (with_core x (after_take x.core (first_fresh q.items) (length q.items.fresh))) w.grace act.Seal None Quiet)
+      pub works : (sync : SyncCore P) (tickets : Tickets) (step : GraceStep P) → WorkedAt k x (worker.Syncs sync tickets) → grace_row plans w (holder.Worker k) (ask_for w x.ask sync) sync ≡ Ok step → is_blocked step.answer ≡ false → is_waiting step.answer ≡ false →
+          F verb.GoOn (work_change k (ask_for w x.ask sync) tickets step)
+      pub runs : (tickets : Tickets) (first : Ticket × ObjectId) → WorkedAt k x (worker.Pops tickets) → first_in (slice_get w.queues k) ≡ Some first →
+          F verb.GoOn (Work k (with_core x (worker.Ran tickets first.0 (item_of first.1))) w.grace act.Pop (Some (record { object = first.1; life = life.Reclaimed })) (one (events.Run first.1)))
+      pub counts : (tickets : Tickets) (ticket : Ticket) (item : Item Unit) → WorkedAt k x (worker.Ran tickets ticket item) → F verb.GoOn (Work k (with_core x (item_done (worker.Counts tickets ticket))) w.grace act.Finish None Quiet)
+
+    pub any_works : ((v : WorkerVerb) (y : WorkerState P) (grace : GraceState) (a : QueueAct) (mark : Option Mark) (answer : Answer) → F v (Work k y grace a mark answer)) → WorkerRows
+    any_works f = record {
+      takes = λ q at is free some. f _ _ _ _ _ _;
+      works = λ sync tickets step at is goes on. f _ _ _ _ _ _;
+      runs = λ tickets first at is. f _ _ _ _ _ _;
+      counts = λ tickets ticket item at. f _ _ _ _ _ _;
+    }
+
+  -- ---- the sweep
+
+  -- what holds of rows: it is carried over their tests, and holds where something is missing, and of what each row makes
+  module _ (G : Line → Row (Change P) → Type 0) where
+    pub record Sweep : Type 0 where
+      pub stops : (line : Line) (fails : Bool) (e : Refusal) (row : Row (Change P)) → IsStepError e → (fails ≡ false → G line row) → G line (after (refused_if fails e ∷ []) row)
+      pub stalls : (line : Line) (fails : Bool) (answer : Answer) (row : Row (Change P)) → (IsOfReader line → ⊥) → told answer ≡ [] → (fails ≡ false → G line row) → G line (after (stalled_if fails answer ∷ []) row)
+      pub lacks : (line : Line) (e : Refusal) → IsStepError e → Lack → G line (unreached e)
+      pub reads : (r : ℕ) (v : ReaderState) (verb : ReaderVerb) → slice_get w.readers r ≡ Some v → ReaderRows plans.qsbr w.layout w r v (λ step. G (Reader r verb) (makes (Read r step)))
+      pub updates : (u : ℕ) (x : UpdaterState P) → slice_get w.updaters u ≡ Some x → UpdaterRows u x (λ v change. G (Updater u v) (makes change))
+      pub works : (k : ℕ) (x : WorkerState P) → slice_get w.workers k ≡ Some x → WorkerRows k x (λ v change. G (Worker k v) (makes change))
+
+    module _ (s : Sweep) where
+      refuses : (line : Line) (e : Refusal) → IsStepError e → G line (refused e)
+      refuses line e h = s.stops line true e (unreached e) h (λ never. absurd (true≢false never))
+
+      one_of : (line : Line) (b : Bool) (y z : Change P) → (b ≡ true → G line (makes y)) → (b ≡ false → G line (makes z)) → G line (makes (cond b y z))
+      one_of line true y z p q = p refl
+      one_of line false y z p q = q refl
+
+      turn : (line : Line) → (IsOfReader line → ⊥) → (change : GraceStep P → Change P) (r : Result (GraceStep P) Refusal) → Fails r → ((step : GraceStep P) → r ≡ Ok step → is_blocked step.answer ≡ false → is_waiting step.answer ≡ false → G line (makes (change step))) → G line (sync_row change r)
+      turn line never change (Ok step) f h = s.stalls line (is_blocked step.answer) Blocked (guarded (stalled_if (is_waiting step.answer) Wait ∷ []) (Ok (change step))) never refl
+          (λ goes. s.stalls line (is_waiting step.answer) Wait (makes (change step)) never refl (λ on. h step refl goes on))
+      turn line never change (Err e) f h = refuses line e f
+
+      -- readers
+      module _ (r : ℕ) (v : ReaderState) (verb : ReaderVerb) (was : slice_get w.readers r ≡ Some v) where
+        abbrev R : Row ReaderStep → Type 0
+        R row = G (Reader r verb) (read_by r row)
+
+        rows : ReaderRows plans.qsbr w.layout w r v (λ step. R (makes step))
+        rows = s.reads r v verb was
+
+        stopped : (fails : Bool) (e : Refusal) (row : Row ReaderStep) → IsStepError e → (fails ≡ false → R row) → R (after (refused_if fails e ∷ []) row)
+        stopped fails e row h go = s.stops (Reader r verb) fails e (read_by r row) h go
+
+        fresh : (row : Row ReaderStep) → (v.copy ≡ None → R row) → R (after (refused_if (is_some v.copy) Busy ∷ []) row)
+        fresh row h = stopped (is_some v.copy) Busy row tt (λ free. h (no_copy v.copy free))
+
+        memb : (row : Row ReaderStep) → (plans.qsbr ≡ false → R row) → R (of_memb plans.qsbr row)
+        memb row h = stopped plans.qsbr WrongFlavour row tt h
+
+        qsbr : (row : Row ReaderStep) → (plans.qsbr ≡ true → R row) → R (of_qsbr plans.qsbr row)
+        qsbr row h = stopped (not plans.qsbr) WrongFlavour row tt (λ e. h (not_false e))
+
+        section : (row : Row ReaderStep) → (is_open_in plans.qsbr w.layout v.word ≡ true → R row) → R (in_section plans.qsbr w v row)
+        section row h = stopped (not (is_open_in plans.qsbr w.layout v.word)) NotOpen row tt (λ e. h (not_false e))
+
+        which : (b : Bool) (x y : Result ReaderStep Refusal) → (b ≡ true → R (tried x)) → (b ≡ false → R (tried y)) → R (tried (cond b x y))
+        which true x y p q = p refl
+        which false x y p q = q refl
+
+        which_step : (b : Bool) (x y : ReaderStep) → (b ≡ true → R (makes x)) → (b ≡ false → R (makes y)) → R (makes (cond b x y))
+        which_step true x y p q = p refl
+        which_step false x y p q = q refl
+
+        stored : (step : ℕ → ReaderStep) (x : Result ℕ Refusal) → Fails x → ((word : ℕ) → x ≡ Ok word → R (makes (step word))) → R (tried (stores step x))
+        stored step (Ok word) f h = h word refl
+        stored step (Err e) f h = refuses (Reader r verb) e f
+
+        other_flavour : plans.qsbr ≡ true → plans.qsbr ≡ false → (count_of w.layout v.word == 0) ≡ true
+        other_flavour q f = absurd (true≢false (sym q ∙ f))
+
+        on : (copy : Option ℕ) → v.copy ≡ copy → is_some copy ≡ true → R (guarded [] (reader_on plans.qsbr w r v copy))
+        on None has some = absurd (true≢false (sym some))
+        on (Some copied) has some = by plans.qsbr refl
           where
-            made : (a : Answer) → step.answer ≡ a → F (Grace u (record x { place = sync_place plans ask step.core }) step.grace a)
-            made a e = subst (λ (b : Answer). F (Grace u (record x { place = sync_place plans ask step.core }) step.grace b)) e (rows.syncs u x ask core step at is)
+            enter : plans.qsbr ≡ false → (x : Result ℕ Refusal) → entered_of w.layout v.word (copied == 1) ≡ x → Fails x → R (guarded [] (stores (λ word. telling (events.Open (section_of r (v.ordinal + 1))) (opened v word)) x))
+            enter flavour (Ok word) is f = rows.enters copied word has flavour is
+            enter flavour (Err e) is f = s.lacks (Reader r verb) e f (NoEntry r v copied e was has flavour is)
 
-            by : (a : Answer) → step.answer ≡ a → F (grace_change plans u x ask step a)
-            by (Events first second) e = made (Events first second) e
-            by Quiet e = made Quiet e
-            by Wait e = rows.stays Wait
-            by Blocked e = rows.stays Blocked
-            by NothingThere e = made NothingThere e
+            by : (b : Bool) → plans.qsbr ≡ b → R (guarded [] (cond b (Ok (cond (is_online v.word) (announce_row copied r v) (go_online_row copied r v))) (enter_row w.layout copied r v)))
+            by true flavour = which_step (is_online v.word) (announce_row copied r v) (go_online_row copied r v) (λ online. rows.announces copied has flavour online) (λ offline. rows.goes_online copied has flavour offline)
+            by false flavour = enter flavour (entered_of w.layout v.word (copied == 1)) refl (enter_fails w.layout v.word (copied == 1))
 
-        each_pushed : (new : ObjectId) → WasAt u x (Publishes (publishing.Push new)) → (o : Option ObjectState) → Each F (pushed_row u (record x { place = Idle }) new o)
-        each_pushed new at None = tt
-        each_pushed new at (Some y) = rows.pushes u x new _ y.chain at
+        first : (c : ℕ) (head : Option (Option ObjectId)) → v.copy ≡ None → is_open_in plans.qsbr w.layout v.word ≡ true → slice_get w.heads c ≡ head → R (first_row r v c head)
+        first c None none open' is = refuses (Reader r verb) NoPlace tt
+        first c (Some head) none open' is = rows.firsts c head none open' is
 
-        each_replaced : (old new : ObjectId) → WasAt u x (Publishes (publishing.Replace old new)) → (o : Option ObjectState) → Each F (replaced_row u (record x { place = Idle }) old new o)
-        each_replaced old new at None = tt
-        each_replaced old new at (Some y) = rows.replaces u x old new _ y.chain at
-
-        each_published : (what : Publishing) → WasAt u x (Publishes what) → Each F (published w u x what)
-        each_published (publishing.Push new) at = each_pushed new at (slice_get w.objects new.0)
-        each_published (publishing.Replace old new) at = each_replaced old new at (slice_get w.objects old.0)
-
-        each_lock : (o : ObjectId) → WasAt u x Idle → (q : Option QueueState) → slice_get w.queues (queue_of w u) ≡ q → Each F (lock_row w u x o q)
-        each_lock o at None is = tt
-        each_lock o at (Some q) is = by q.holder
+        next : (from : Option ObjectId) → v.copy ≡ None → is_open_in plans.qsbr w.layout v.word ≡ true → v.cursor ≡ from → R (next_from w r v from)
+        next None none open' from = refuses (Reader r verb) NoPlace tt
+        next (Some o) none open' from = by (slice_get w.objects o.0) refl
           where
-            by : (held : Option ℕ) → F (lock_free w u x o held)
-            by None = rows.holds u x o q at is
-            by (Some other) = rows.stays Blocked
+            by : (x : Option ObjectState) → slice_get w.objects o.0 ≡ x → R (next_row r v o x)
+            by None is = s.lacks (Reader r verb) NoPlace tt (NoNext r v o was from is)
+            by (Some x) is = rows.nexts o x none open' from is
 
-        one_if : (b : Bool) (y z : Change P) → F y → F z → F (cond b y z)
-        one_if true y z p q = p
-        one_if false y z p q = q
+        touch : (from : Option ObjectId) → v.copy ≡ None → is_open_in plans.qsbr w.layout v.word ≡ true → v.cursor ≡ from → R (tried (touch_row r v from))
+        touch None none open' from = refuses (Reader r verb) NoPlace tt
+        touch (Some o) none open' from = rows.touches o none open' from
 
-        each_barrier : (b : Barrier) → WasAt u x (Bars b) → (step : BarrierStep) → F (barrier_on w u x b step)
-        each_barrier b at (Note q) = rows.awaits u x b _ at
-        each_barrier b at (Check q) =
-            one_if (nat_le (get_or b.counts q 0) (finished_in (slice_get w.queues q))) _ _
-            (one_if (nat_lt (q + 1) (length w.queues)) _ _ (rows.awaits u x b _ at) (rows.clears u x b at))
-            (rows.stays Wait)
+        sweep_read : (b : ReaderVerb) → R (reader_line plans.qsbr w r v b)
+        sweep_read reader.Lock = fresh (reader_verb plans.qsbr w r v reader.Lock) (λ none. memb (tried (lock_row w.layout w.grace.word v)) (λ flavour.
+            which (count_of w.layout v.word == 0) _ _ (λ zero. rows.copies none (λ _. zero))
+            (λ more. stored _ (entered_of w.layout v.word false) (enter_fails w.layout v.word false) (λ word is. rows.nests word none flavour more is))))
+        sweep_read reader.Unlock = fresh (reader_verb plans.qsbr w r v reader.Unlock) (λ none. memb (tried (unlock_row w.layout r v)) (λ flavour.
+            stored _ (left_of w.layout v.word) (leave_fails w.layout v.word)
+            (λ word is. which_step (count_of w.layout word == 0) _ _ (λ zero. rows.unlocks word none flavour is zero) (λ more. rows.unnests word none flavour is more))))
+        sweep_read reader.Online = fresh (reader_verb plans.qsbr w r v reader.Online) (λ none. qsbr (tried (online_row w.grace.word v)) (λ flavour.
+            which (is_online v.word) _ _ (λ online. refuses (Reader r verb) Busy tt) (λ offline. rows.copies none (other_flavour flavour))))
+        sweep_read reader.Quiescent = fresh (reader_verb plans.qsbr w r v reader.Quiescent) (λ none. qsbr (tried (quiescent_row w.grace.word v)) (λ flavour.
+            which (is_online v.word) _ _ (λ online. rows.copies none (other_flavour flavour)) (λ offline. refuses (Reader r verb) NotOpen tt)))
+        sweep_read reader.Offline = fresh (reader_verb plans.qsbr w r v reader.Offline) (λ none. qsbr (tried (offline_row r v)) (λ flavour.
+            which (is_online v.word) _ _ (λ online. rows.leaves none flavour online) (λ offline. refuses (Reader r verb) NotOpen tt)))
+        sweep_read (reader.First c) = fresh (reader_verb plans.qsbr w r v (reader.First c)) (λ none. section (first_row r v c (slice_get w.heads c)) (λ open'. first c (slice_get w.heads c) none open' refl))
+        sweep_read reader.Next = fresh (reader_verb plans.qsbr w r v reader.Next) (λ none. section (next_from w r v v.cursor) (λ open'. next v.cursor none open' refl))
+        sweep_read reader.Touch = fresh (reader_verb plans.qsbr w r v reader.Touch) (λ none. section (tried (touch_row r v v.cursor)) (λ open'. touch v.cursor none open' refl))
+        sweep_read reader.GoOn = stopped (not (is_some v.copy)) NotOpen (reader_verb plans.qsbr w r v reader.GoOn) tt (λ goes. on v.copy refl (not_false goes))
 
-        each_on : (place : UpdaterPlace P) → WasAt u x place → Each F (updater_on plans w u x place)
-        each_on Idle at = tt
-        each_on (Publishes what) at = each_published what at
-        each_on (Syncs ask core) at = each_synced ask core (inr at) (grace_row plans w (holder.Updater u) ask core) refl
-        each_on (Retires o step) at = rows.retires u x o step at
-        each_on (Bars b) at = each_barrier b at b.due
+      -- updaters
+      module _ (u : ℕ) (x : UpdaterState P) (was : slice_get w.updaters u ≡ Some x) where
+        abbrev U : UpdaterVerb → Row (Change P) → Type 0
+        U v row = G (Updater u v) row
 
-        module _ (at : WasAt u x Idle) where
-          each_push : (c : ℕ) (head : Option (Option ObjectId)) → Each F (push_row w u x c head)
-          each_push c None = tt
-          each_push c (Some head) = each_if F (writes w u c) _ _ (rows.begins u x (publishing.Push (next_object w)) _ at refl) tt
+        rows_of : UpdaterRows u x (λ v change. U v (makes change))
+        rows_of = s.updates u x was
 
-          each_replace : (o : ObjectId) (y : Option ObjectState) → Each F (replace_row w u x o y)
-          each_replace o None = tt
-          each_replace o (Some y) = rows.begins u x (publishing.Replace o (next_object w)) _ at refl
+        none : IsOfReader (Updater u updater.GoOn) → ⊥
+        none h = h
 
-          each_cut : (o : ObjectId) (y : Option ObjectState) → Each F (cut_row u x o y)
-          each_cut o None = tt
-          each_cut o (Some y) = rows.cuts u x _ y.chain o at
+        idle : (v : UpdaterVerb) (row : Row (Change P)) → (WasAt u x Idle → U v row) → U v (after (refused_if (not (is_idle x.place)) Busy ∷ []) row)
+        idle v row h = s.stops (Updater u v) (not (is_idle x.place)) Busy row tt (λ goes. h (record { was = was; at = idle_tells x.place (not_false goes) }))
 
-          each_start : (cookie : Result ℕ Refusal) → Each F (start_row w u x cookie)
-          each_start (Ok c) = rows.starts u x _ at
-          each_start (Err e) = tt
+        push : (c : ℕ) (head : Option (Option ObjectId)) → WasAt u x Idle → slice_get w.heads c ≡ head → U (updater.Push c) (push_row w u x c head)
+        push c None at is = refuses (Updater u (updater.Push c)) NoPlace tt
+        push c (Some head) at is = s.stops (Updater u (updater.Push c)) (not (writes w u c)) NoPlace (makes _) tt (λ mine. rows_of.pushes c head at is (not_false mine))
 
-          each_poll : (s : Option Started) → Each F (poll_row w u x s)
-          each_poll None = tt
-          each_poll (Some s) = each_if F (nat_le s.cookie w.grace.seq) _ _ (rows.polls u x None s.ask at) (rows.stays Wait)
+        replace : (o : ObjectId) (y : Option ObjectState) → WasAt u x Idle → linked_by w u (slice_get w.objects o.0) ≡ y → U (updater.Replace o) (replace_row w u x o y)
+        replace o None at is = refuses (Updater u (updater.Replace o)) NoPlace tt
+        replace o (Some y) at is = rows_of.replaces o y at is
 
-          each_begins : (v : UpdaterVerb) → Each F (updater_begins plans w u x v)
-          each_begins (updater.Push c) = each_push c (slice_get w.heads c)
-          each_begins (updater.Replace o) = each_replace o (linked_by w u (slice_get w.objects o.0))
-          each_begins (updater.Cut o) = each_cut o (linked_by w u (slice_get w.objects o.0))
-          each_begins (updater.Retire o) = each_if F (may_retire w u (slice_get w.objects o.0)) _ _ (each_lock o at (slice_get w.queues (queue_of w u)) refl) tt
-          each_begins updater.Sync = each_synced (w.grace.asks + 1) new_core (inl (at, refl)) (grace_row plans w (holder.Updater u) (w.grace.asks + 1) new_core) refl
-          each_begins updater.Start = each_start (cookie_for w.grace.seq)
-          each_begins updater.Poll = each_poll x.started
-          each_begins updater.Barrier = rows.bars u x _ at
-          each_begins updater.GoOn = tt
+        cut : (o : ObjectId) (y : Option ObjectState) → WasAt u x Idle → linked_by w u (slice_get w.objects o.0) ≡ y → U (updater.Cut o) (cut_row u x o y)
+        cut o None at is = refuses (Updater u (updater.Cut o)) NoPlace tt
+        cut o (Some y) at is = rows_of.cuts o y at is
 
-        idle_or_busy : (v : UpdaterVerb) → slice_get w.updaters u ≡ Some x → (b : Bool) → is_idle x.place ≡ b → Each F (if b then updater_begins plans w u x v else Err Busy)
-        idle_or_busy v was true is = each_begins (record { was = was; at = idle_tells x.place is }) v
-        idle_or_busy v was false is = tt
+        lock : (o : ObjectId) (q : Option QueueState) → WasAt u x Idle → may_retire w u (slice_get w.objects o.0) ≡ true → slice_get w.queues (queue_of w u) ≡ q → U (updater.Retire o) (queue_lock_row w u x o q)
+        lock o None at may is = s.lacks (Updater u (updater.Retire o)) NoPlace tt (NoQueue u is)
+        lock o (Some q) at may is = s.stalls (Updater u (updater.Retire o)) (is_some q.holder) Blocked (makes _) none refl (λ free. rows_of.holds o q at may is free)
 
-        each_updater : (v : UpdaterVerb) → slice_get w.updaters u ≡ Some x → Each F (updater_line plans w u x v)
-        each_updater updater.GoOn was = each_on x.place (record { was = was; at = refl })
-        each_updater (updater.Push c) was = idle_or_busy (updater.Push c) was (is_idle x.place) refl
-        each_updater (updater.Replace o) was = idle_or_busy (updater.Replace o) was (is_idle x.place) refl
-        each_updater (updater.Cut o) was = idle_or_busy (updater.Cut o) was (is_idle x.place) refl
-        each_updater (updater.Retire o) was = idle_or_busy (updater.Retire o) was (is_idle x.place) refl
-        each_updater updater.Sync was = idle_or_busy updater.Sync was (is_idle x.place) refl
-        each_updater updater.Start was = idle_or_busy updater.Start was (is_idle x.place) refl
-        each_updater updater.Poll was = idle_or_busy updater.Poll was (is_idle x.place) refl
-        each_updater updater.Barrier was = idle_or_busy updater.Barrier was (is_idle x.place) refl
+        start : (cookie : Result ℕ Refusal) → WasAt u x Idle → cookie_for w.grace.seq ≡ cookie → Fails cookie → U updater.Start (start_row w u x cookie)
+        start (Ok c) at is f = rows_of.starts c at is
+        start (Err e) at is f = refuses (Updater u updater.Start) e f
 
-      module _ (k : ℕ) (x : WorkerState P) where
-        each_take : WorkedAt k x worker.Idle → (q : Option QueueState) → Each F (take_row w k x q)
-        each_take at None = tt
-        each_take at (Some q) = each_if F (is_some q.holder) _ _ (rows.stays Blocked) (each_if F (is_none_left (items_of q.items)) _ _ (rows.stays NothingThere) (rows.takes k x _ _ at))
+        poll : (y : Option Started) → WasAt u x Idle → x.started ≡ y → U updater.Poll (poll_row w u x y)
+        poll None at is = refuses (Updater u updater.Poll) NotOpen tt
+        poll (Some y) at is = s.stalls (Updater u updater.Poll) (not (nat_le y.cookie w.grace.seq)) Wait (makes _) none refl (λ up. rows_of.polls y at is (not_false up))
 
-        each_worked : (sync : SyncCore P) (tickets : Tickets) → WorkedAt k x (worker.Syncs sync tickets) → (r : Result (GraceStep P) Refusal) → grace_row plans w (holder.Worker k) (ask_for w x.ask sync) sync ≡ r →
-            Each F (worked k (ask_for w x.ask sync) tickets r)
-        each_worked sync tickets at (Err e) is = tt
-        each_worked sync tickets at (Ok step) is = by step.answer refl
+        publish : (what : Publishing) → WasAt u x (Publishes what) → U updater.GoOn (published w u x what)
+        publish (publishing.Push new) at = by (slice_get w.objects new.0) refl
           where
-            after : Answer → Change P
-            after a = Work k (record { ask = ask_for w x.ask sync; core = synced_to step.core tickets }) step.grace (worker_act step.grace.seq (synced_to step.core tickets)) None a
-
-            made : (a : Answer) → step.answer ≡ a → F (after a)
-            made a e = subst (λ (b : Answer). F (after b)) e (rows.works k x sync tickets step at is)
-
-            by : (a : Answer) → step.answer ≡ a → F (work_change k (ask_for w x.ask sync) tickets step a)
-            by (Events first second) e = made (Events first second) e
-            by Quiet e = made Quiet e
-            by Wait e = rows.stays Wait
-            by Blocked e = rows.stays Blocked
-            by NothingThere e = made NothingThere e
-
-        each_run : (tickets : Tickets) → WorkedAt k x (worker.Pops tickets) → (first : Option (Ticket × ObjectId)) → first_in (slice_get w.queues k) ≡ first → Each F (run_row w k x tickets first)
-        each_run tickets at None is = tt
-        each_run tickets at (Some first) is = rows.runs k x tickets _ _ first at is
-
-        each_works : (core : WorkerCore P Unit) → WorkedAt k x core → Each F (worker_on plans w k x core)
-        each_works worker.Idle at = tt
-        each_works (worker.Syncs sync tickets) at = each_worked sync tickets at (grace_row plans w (holder.Worker k) (ask_for w x.ask sync) sync) refl
-        each_works (worker.Pops tickets) at = each_run tickets at (first_in (slice_get w.queues k)) refl
-        each_works (worker.Runs tickets ticket item) at = tt
-        each_works (worker.Ran tickets ticket item) at = rows.counts k x tickets ticket item _ at
-        each_works (worker.Counts tickets ticket) at = tt
-
-        each_worker : (v : WorkerVerb) → slice_get w.workers k ≡ Some x → Each F (worker_line plans w k x v)
-        each_worker verb.GoOn was = each_works x.core (record { was = was; at = refl })
-        each_worker verb.Take was = by (is_resting x.core) refl
+            by : (y : Option ObjectState) → slice_get w.objects new.0 ≡ y → U updater.GoOn (pushed_row u (record x { place = Idle }) new y)
+            by None is = s.lacks (Updater u updater.GoOn) NoPlace tt (NoPushed u x new at is)
+            by (Some y) is = rows_of.pushed new y at is
+        publish (publishing.Replace old new) at = by (slice_get w.objects old.0) refl
           where
-            by : (b : Bool) → is_resting x.core ≡ b → Each F (if b then take_row w k x (slice_get w.queues k) else Err Busy)
-            by true is = each_take (record { was = was; at = rest_tells x.core is }) (slice_get w.queues k)
-            by false is = tt
+            by : (y : Option ObjectState) → slice_get w.objects old.0 ≡ y → U updater.GoOn (replaced_row u (record x { place = Idle }) old new y)
+            by None is = s.lacks (Updater u updater.GoOn) NoPlace tt (NoReplaced u x old new at is)
+            by (Some y) is = rows_of.replaced old new y at is
 
-      each_of_updater : (u : ℕ) (v : UpdaterVerb) (x : Option (UpdaterState P)) → slice_get w.updaters u ≡ x → Each F (of_updater plans w u v x)
-      each_of_updater u v None is = tt
-      each_of_updater u v (Some x) is = each_updater u x v is
+        barrier : (b : Barrier) (step : BarrierStep) → WasAt u x (Bars b) → b.due ≡ step → U updater.GoOn (barrier_on w u x b step)
+        barrier b (Note q) at is = rows_of.notes b q at is
+        barrier b (Check q) at is = s.stalls (Updater u updater.GoOn) (not (nat_le (get_or b.counts q 0) (finished_in (slice_get w.queues q)))) Wait (makes (checked w u x b q)) none refl (λ up.
+            one_of (Updater u updater.GoOn) (nat_lt (q + 1) (length w.queues)) _ _ (λ more. rows_of.checks b q at is (not_false up) more) (λ last. rows_of.clears b q at is (not_false up) last))
 
-      each_of_worker : (k : ℕ) (v : WorkerVerb) (x : Option (WorkerState P)) → slice_get w.workers k ≡ x → Each F (of_worker plans w k v x)
-      each_of_worker k v None is = tt
-      each_of_worker k v (Some x) is = each_worker k x v is
+        go_on : (place : UpdaterPlace P) → WasAt u x place → not (is_idle place) ≡ true → U updater.GoOn (updater_on plans w u x place)
+        go_on Idle at busy = absurd (true≢false (sym busy))
+        go_on (Publishes what) at busy = publish what at
+        go_on (Syncs ask core) at busy = turn (Updater u updater.GoOn) none (grace_change plans u x ask) (grace_row plans w (holder.Updater u) ask core) (grace_fails plans w (holder.Updater u) ask core) (λ step is goes on. rows_of.turns ask core step at is goes on)
+        go_on (Retires o step) at busy = rows_of.retires o step at
+        go_on (Bars b) at busy = barrier b b.due at refl
 
-      -- of all lines, where it is so of all rows
-      pub each_row : (line : Line) → Each F (change_of plans w line)
-      each_row (Reader r v) = each_reader r v (slice_get w.readers r) refl
-      each_row (Updater u v) = each_of_updater u v (slice_get w.updaters u) refl
-      each_row (Worker k v) = each_of_worker k v (slice_get w.workers k) refl
+        sweep_update : (v : UpdaterVerb) → U v (updater_line plans w u x v)
+        sweep_update (updater.Push c) = idle (updater.Push c) (updater_verb plans w u x (updater.Push c)) (λ at. push c (slice_get w.heads c) at refl)
+        sweep_update (updater.Replace o) = idle (updater.Replace o) (updater_verb plans w u x (updater.Replace o)) (λ at. replace o (linked_by w u (slice_get w.objects o.0)) at refl)
+        sweep_update (updater.Cut o) = idle (updater.Cut o) (updater_verb plans w u x (updater.Cut o)) (λ at. cut o (linked_by w u (slice_get w.objects o.0)) at refl)
+        sweep_update (updater.Retire o) = idle (updater.Retire o) (updater_verb plans w u x (updater.Retire o)) (λ at. s.stops (Updater u (updater.Retire o)) (not (may_retire w u (slice_get w.objects o.0))) NoPlace
+            (queue_lock_row w u x o (slice_get w.queues (queue_of w u))) tt (λ may. lock o (slice_get w.queues (queue_of w u)) at (not_false may) refl))
+        sweep_update updater.Sync = idle updater.Sync (updater_verb plans w u x updater.Sync) (λ at. turn (Updater u updater.Sync) none (grace_change plans u x (w.grace.asks + 1)) (grace_row plans w (holder.Updater u) (w.grace.asks + 1) new_core)
+            (grace_fails plans w (holder.Updater u) (w.grace.asks + 1) new_core) (λ step is goes on. rows_of.asks step at is goes on))
+        sweep_update updater.Start = idle updater.Start (updater_verb plans w u x updater.Start) (λ at. start (cookie_for w.grace.seq) at refl (cookie_fails w.grace.seq))
+        sweep_update updater.Poll = idle updater.Poll (updater_verb plans w u x updater.Poll) (λ at. poll x.started at refl)
+        sweep_update updater.Barrier = idle updater.Barrier (updater_verb plans w u x updater.Barrier) (λ at. rows_of.bars at)
+        sweep_update updater.GoOn = s.stops (Updater u updater.GoOn) (not (not (is_idle x.place))) NotOpen (updater_verb plans w u x updater.GoOn) tt (λ goes. go_on x.place (record { was = was; at = refl }) (not_false goes))
+
+      -- workers
+      module _ (k : ℕ) (x : WorkerState P) (was : slice_get w.workers k ≡ Some x) where
+        abbrev W : WorkerVerb → Row (Change P) → Type 0
+        W v row = G (Worker k v) row
+
+        rows_for : WorkerRows k x (λ v change. W v (makes change))
+        rows_for = s.works k x was
+
+        no_reader : IsOfReader (Worker k verb.GoOn) → ⊥
+        no_reader h = h
+
+        take : (q : Option QueueState) → WorkedAt k x worker.Idle → slice_get w.queues k ≡ q → W verb.Take (take_row w k x q)
+        take None at is = s.lacks (Worker k verb.Take) NoActor tt (NoBatch k x was is)
+        take (Some q) at is = s.stalls (Worker k verb.Take) (is_some q.holder) Blocked (guarded (stalled_if (is_none_left (items_of q.items)) NothingThere ∷ []) (Ok _)) no_reader refl
+            (λ free. s.stalls (Worker k verb.Take) (is_none_left (items_of q.items)) NothingThere (makes _) no_reader refl (λ some. rows_for.takes q at is free some))
+
+        run : (tickets : Tickets) (first : Option (Ticket × ObjectId)) → WorkedAt k x (worker.Pops tickets) → first_in (slice_get w.queues k) ≡ first → W verb.GoOn (run_row w k x tickets first)
+        run tickets None at is = s.lacks (Worker k verb.GoOn) NotOpen tt (NoneReady k x tickets at is)
+        run tickets (Some first) at is = rows_for.runs tickets first at is
+
+        work_on : (place : WorkerCore P Unit) → WorkedAt k x place → not (is_resting place) ≡ true → W verb.GoOn (worker_on plans w k x place)
+        work_on worker.Idle at busy = absurd (true≢false (sym busy))
+        work_on (worker.Syncs sync tickets) at busy = turn (Worker k verb.GoOn) no_reader (work_change k (ask_for w x.ask sync) tickets) (grace_row plans w (holder.Worker k) (ask_for w x.ask sync) sync)
+            (grace_fails plans w (holder.Worker k) (ask_for w x.ask sync) sync) (λ step is goes on. rows_for.works sync tickets step at is goes on)
+        work_on (worker.Pops tickets) at busy = run tickets (first_in (slice_get w.queues k)) at refl
+        work_on (worker.Runs tickets ticket item) at busy = s.lacks (Worker k verb.GoOn) NotOpen tt (NotRun k x tickets ticket item at)
+        work_on (worker.Ran tickets ticket item) at busy = rows_for.counts tickets ticket item at
+        work_on (worker.Counts tickets ticket) at busy = s.lacks (Worker k verb.GoOn) NotOpen tt (NotCounted k x tickets ticket at)
+
+        sweep_work : (v : WorkerVerb) → W v (worker_line plans w k x v)
+        sweep_work verb.Take = s.stops (Worker k verb.Take) (not (is_resting x.core)) Busy (worker_verb plans w k x verb.Take) tt (λ rests. take (slice_get w.queues k) (record { was = was; at = rest_tells x.core (not_false rests) }) refl)
+        sweep_work verb.GoOn = s.stops (Worker k verb.GoOn) (not (not (is_resting x.core))) NotOpen (worker_verb plans w k x verb.GoOn) tt (λ goes. work_on x.core (record { was = was; at = refl }) (not_false goes))
+
+      of_reader_line : (r : ℕ) (verb : ReaderVerb) (v : Option ReaderState) → slice_get w.readers r ≡ v → G (Reader r verb) (of_reader plans.qsbr w r verb v)
+      of_reader_line r verb None is = refuses (Reader r verb) NoActor tt
+      of_reader_line r verb (Some v) is = sweep_read r v verb is verb
+
+      of_updater_line : (u : ℕ) (v : UpdaterVerb) (x : Option (UpdaterState P)) → slice_get w.updaters u ≡ x → G (Updater u v) (of_updater plans w u v x)
+      of_updater_line u v None is = refuses (Updater u v) NoActor tt
+      of_updater_line u v (Some x) is = sweep_update u x is v
+
+      of_worker_line : (k : ℕ) (v : WorkerVerb) (x : Option (WorkerState P)) → slice_get w.workers k ≡ x → G (Worker k v) (of_worker plans w k v x)
+      of_worker_line k v None is = refuses (Worker k v) NoActor tt
+      of_worker_line k v (Some x) is = sweep_work k x is v
+
+      pub sweep : (line : Line) → G line (row_of plans w line)
+      sweep (Reader r verb) = of_reader_line r verb (slice_get w.readers r) refl
+      sweep (Updater u v) = of_updater_line u v (slice_get w.updaters u) refl
+      sweep (Worker k v) = of_worker_line k v (slice_get w.workers k) refl
+
+  -- ---- laws of changes
+
+  module _ (F : Line → Change P → Type 0) where
+    -- what holds of the change that comes of a line, if one does
+    abbrev pub Each : Line → Result (Change P) Refusal → Type 0
+    Each line (Ok change) = F line change
+    Each line (Err e) = Unit {0}
+
+    pub record Law : Type 0 where
+      pub stays : (line : Line) (answer : Answer) → (IsOfReader line → ⊥) → told answer ≡ [] → F line (Stay answer)
+      pub reads : (r : ℕ) (v : ReaderState) (verb : ReaderVerb) → slice_get w.readers r ≡ Some v → ReaderRows plans.qsbr w.layout w r v (λ step. F (Reader r verb) (Read r step))
+      pub updates : (u : ℕ) (x : UpdaterState P) → slice_get w.updaters u ≡ Some x → UpdaterRows u x (λ v change. F (Updater u v) change)
+      pub works : (k : ℕ) (x : WorkerState P) → slice_get w.workers k ≡ Some x → WorkerRows k x (λ v change. F (Worker k v) change)
+
+    passes : (line : Line) (fails : Bool) (x y : Result (Change P) Refusal) → Each line x → (fails ≡ false → Each line y) → Each line (cond fails x y)
+    passes line true x y stop go = stop
+    passes line false x y stop go = go refl
+
+    pub by_law : Law → (line : Line) → Each line (change_of plans w line)
+    by_law law line = sweep (λ l row. Each l (made row)) (record {
+      stops = λ l fails e row h go. passes l fails (Err e) (made row) tt go;
+      stalls = λ l fails answer row never none go. passes l fails (Ok (Stay answer)) (made row) (law.stays l answer never none) go;
+      lacks = λ l e h lack. tt;
+      reads = law.reads;
+      updates = law.updates;
+      works = law.works;
+    }) line
+
+-- what each change keeps, all lines keep
+module _ {P : Type 0} (plans : Plans P) (I : BoardView P → Type 0) (F : BoardView P → Line → Change P → Type 0) (keeps : (w : BoardView P) (line : Line) (change : Change P) → F w line change → I w → I (changed w change)) where
+  over_change : (w : BoardView P) (line : Line) (x : Result (Change P) Refusal) → Each plans w (F w) line x → I w → I ((with_change w x).world)
+  over_change w line (Ok change) f i = keeps w line change f i
+  over_change w line (Err e) f i = i
+
+  pub over_line : (w : BoardView P) → Law plans w (F w) → (line : Line) → I w → I ((outcome_of plans w line).world)
+  over_line w law line i = over_change w line (change_of plans w line) (by_law plans w (F w) law line) i
+
+  pub over_lines : ((w : BoardView P) → Law plans w (F w)) → (w : BoardView P) (lines : List Line) → I w → I (world_after plans w lines)
+  over_lines law w [] i = i
+  over_lines law w (line ∷ lines) i = over_lines law ((outcome_of plans w line).world) lines (over_line w (law w) line i)

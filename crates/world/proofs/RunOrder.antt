@@ -1,102 +1,41 @@
 -- The callbacks of each queue run in the order in which they were queued.
-use Rattle.std.proofs.Common.{◌≡◌, ◌≢◌, ◌⊎◌, inl, inr, ⊎_elim, ℕ, ◌+◌, ◌%◌, ◌^◌, ◌<◌, ◌≤◌, true, List, [], ◌∷◌, ◌++◌, length, slice_get, Some, None, Result, Ok, Err, refl, sym, ap, ◌∙◌, subst, arith}
-use Rattle.std.specs.List.{cons_option, filter_map}
-use Rattle.std.proofs.lemmas.Nat.{mod_below}
-use Rattle.std.proofs.lemmas.Option.{get_or_from_slice_get, slice_get-get_or, slice_get_within}
-use Rattle.rcu_model.specs.declared.event.Event.{Event}
+use Rattle.world.proofs.Cited.{◌≡◌, ◌≢◌, ◌⊎◌, ⊎_elim, ℕ, inl, inr, ◌+◌, ◌%◌, ◌^◌, ◌<◌, ◌≤◌, true, List, [], ◌∷◌, ◌++◌, length, slice_get, Some, None, Ok, refl, sym, ap, ◌∙◌, subst, arith, cons_option, filter_map, mod_below, get_or_from_slice_get, slice_get-get_or, slice_get_within, Event, ObjectId, State, start, after, after_all, has_object, In, in_append, filter_has, runs_of, NoTurn, InTurn, quiet_turn, queued_turn, queued_elsewhere, run_turn, run_elsewhere, Item, Ticket, items_of, without_first, object_with, Layout, SyncCore, Tickets, WorkerCore, new_core, Config, Line, Life, QueueAct, QueueState, Holder, RetireStep, UpdaterPlace, Retires, UpdaterState, WorkerState, Change, Read, is_within_limits, new_worker, empty_queue_state, item_of, acted, held_by, changed_at, acted_at, Plans, BoardView, fresh_at, changed, idle, told, decide_number, life_of, Items, Has, InQueue, has_stands, queue_at, changed_here, changed_else, items_sealed, items_advanced, items_pushed, queued_by, run_by, queued_into, run_from}
 use Rattle.rcu_model.specs.declared.event.Event.TheVariants as events
-use Rattle.rcu_model.specs.declared.event.ObjectId.{ObjectId}
-use Rattle.rcu_model.specs.declared.refusal.Refusal.{Refusal}
-use Rattle.rcu_model.specs.Machine.{State, start, after, after_all}
-use Rattle.rcu_model.specs.Sets.{has_object}
-use Rattle.rcu_model.proofs.Lemmas.{In, in_append, filter_has, runs_of, NoTurn, InTurn, quiet_turn, queued_turn, queued_elsewhere, run_turn, run_elsewhere}
-use Rattle.callback_queue.specs.declared.item.Item.{Item}
-use Rattle.callback_queue.specs.declared.item.Ticket.{Ticket}
-use Rattle.callback_queue.specs.Queue.{items_of, without_first, object_with}
-use Rattle.reader_word.specs.declared.layout.Layout.{Layout}
-use Rattle.call_rcu_worker.specs.declared.sync.SyncCore.{SyncCore}
 use Rattle.call_rcu_worker.specs.declared.sync.SyncCore.TheVariants as core
-use Rattle.call_rcu_worker.specs.declared.worker.Tickets.{Tickets}
-use Rattle.call_rcu_worker.specs.declared.worker.WorkerCore.{WorkerCore}
 use Rattle.call_rcu_worker.specs.declared.worker.WorkerCore.TheVariants as worker
 use Rattle.call_rcu_worker.specs.Worker.{synced as synced_to}
-use Rattle.world_state.specs.declared.config.Config.{Config}
-use Rattle.world_state.specs.declared.line.Line.{Line}
-use Rattle.world_state.specs.declared.line.ReaderVerb.{ReaderVerb}
-use Rattle.world_state.specs.declared.object.Life.{Life}
 use Rattle.world_state.specs.declared.object.Life.TheVariants as life
-use Rattle.world_state.specs.declared.queue.QueueAct.{QueueAct}
 use Rattle.world_state.specs.declared.queue.QueueAct.TheVariants as act
-use Rattle.world_state.specs.declared.queue.QueueState.{QueueState}
-use Rattle.world_state.specs.declared.reader.ReaderState.{ReaderState}
-use Rattle.world_state.specs.declared.reader.ReaderStep.{ReaderStep}
-use Rattle.world_state.specs.declared.updater.Holder.{Holder}
 use Rattle.world_state.specs.declared.updater.Holder.TheVariants as holder
-use Rattle.world_state.specs.declared.updater.RetireStep.{RetireStep}
 use Rattle.world_state.specs.declared.updater.RetireStep.TheVariants as due
-use Rattle.world_state.specs.declared.updater.UpdaterPlace.{UpdaterPlace}
-use Rattle.world_state.specs.declared.updater.UpdaterPlace.TheVariants.{Retires}
-use Rattle.world_state.specs.declared.updater.UpdaterState.{UpdaterState}
-use Rattle.world_state.specs.declared.worker.WorkerState.{WorkerState}
-use Rattle.world_state.specs.declared.change.Change.{Change}
-use Rattle.world_state.specs.Limits.{is_within_limits}
-use Rattle.world_state.specs.Queues.{new_worker, empty_queue_state, item_of, acted, held_by, changed_at, acted_at}
-use Rattle.world_state.specs.View.{Plans, BoardView, fresh_at, changed, idle, told}
-use Rattle.world_state.proofs.Lemmas.{decide_number, life_of, Items, Has, InQueue, has_stands, queue_at, changed_here, changed_else, items_sealed, items_advanced, items_pushed}
 use Rattle.world.specs.declared.grace.GraceStep.{GraceStep}
-use Rattle.world.specs.Lines.{with_change, outcome_of, world_after, change_of, reader_line, read_by}
+use Rattle.world.specs.Lines.{world_after}
 use Rattle.world.specs.Queues.{queue_of, retire_on}
-use Rattle.rcu_model.specs.RunOrder.{queued_by, run_by, queued_into, run_from}
 use Rattle.world.specs.RunOrder.{RunInOrder}
 use Rattle.world.specs.Workers.{ask_for, act_for, worker_act, first_in}
 use Rattle.world.proofs.Callbacks.{IsOther, LifeKept, RetireKept, WorkAt, WorkKept, at_queues}
 use Rattle.world.proofs.Fence.{Laws}
-use Rattle.world.proofs.GraceRows.{AsksNone, Fits, fits_step}
-use Rattle.world.proofs.Logged.{get_replicate, Logged, logged_step, logged_fresh, some_reader, few_workers}
-use Rattle.world.proofs.Plain.{AreOther}
-use Rattle.world.proofs.PlainLines.{PlainResult, plain_reader}
-use Rattle.world.proofs.Rows.{WasAt, WorkedAt, Rows, each_row}
-use Rattle.world.proofs.Sweeping.{Each}
+use Rattle.world.specs.Grace.{grace_row}
+use Rattle.world.proofs.GraceRows.{tells}
+use Rattle.world.proofs.Logged.{get_replicate, Logged, always}
+use Rattle.world.proofs.Plain.{AreOther, other_reads}
+use Rattle.world.proofs.Rows.{WasAt, WorkedAt, Law, reads_by}
 
 -- ---- the log
 
 -- what ran is reclaimed
 stays_reclaimed : (now : State) (e : Event) (o : ObjectId) → In now.reclaimed o → In (after now e).reclaimed o
-stays_reclaimed now (events.Open s) o h = h
-stays_reclaimed now (events.Close s) o h = h
+stays_reclaimed now (events.Run p) o h = inr h
 stays_reclaimed now (events.First s c None) o h = h
 stays_reclaimed now (events.First s c (Some p)) o h = h
 stays_reclaimed now (events.Next s p None) o h = h
 stays_reclaimed now (events.Next s p (Some q)) o h = h
-stays_reclaimed now (events.Touch s p) o h = h
-stays_reclaimed now (events.Push c p) o h = h
-stays_reclaimed now (events.Replace c p q) o h = h
-stays_reclaimed now (events.Cut c p) o h = h
-stays_reclaimed now (events.Retire p) o h = h
-stays_reclaimed now (events.Queue p q) o h = h
-stays_reclaimed now (events.Run p) o h = inr h
-stays_reclaimed now (events.Ask a) o h = h
-stays_reclaimed now (events.Answer a) o h = h
-stays_reclaimed now (events.Bar b) o h = h
-stays_reclaimed now (events.Clear b) o h = h
+stays_reclaimed now _ o h = h
 
 one_reclaimed : (now : State) (e : Event) (es : List Event) (o : ObjectId) → In (runs_of (e ∷ es)) o → In (after now e).reclaimed o ⊎ In (runs_of es) o
-one_reclaimed now (events.Open s) es o h = inr h
-one_reclaimed now (events.Close s) es o h = inr h
-one_reclaimed now (events.First s c found) es o h = inr h
-one_reclaimed now (events.Next s p found) es o h = inr h
-one_reclaimed now (events.Touch s p) es o h = inr h
-one_reclaimed now (events.Push c p) es o h = inr h
-one_reclaimed now (events.Replace c p q) es o h = inr h
-one_reclaimed now (events.Cut c p) es o h = inr h
-one_reclaimed now (events.Retire p) es o h = inr h
-one_reclaimed now (events.Queue p q) es o h = inr h
 one_reclaimed now (events.Run p) es o (inl is) = inl (inl is)
 one_reclaimed now (events.Run p) es o (inr h) = inr h
-one_reclaimed now (events.Ask a) es o h = inr h
-one_reclaimed now (events.Answer a) es o h = inr h
-one_reclaimed now (events.Bar b) es o h = inr h
-one_reclaimed now (events.Clear b) es o h = inr h
+one_reclaimed now _ es o h = inr h
 
 all_reclaimed : (now : State) (es : List Event) (o : ObjectId) → In now.reclaimed o ⊎ In (runs_of es) o → In (after_all now es).reclaimed o
 all_reclaimed now [] o (inl h) = h
@@ -105,21 +44,12 @@ all_reclaimed now (e ∷ es) o (inl h) = all_reclaimed (after now e) es o (inl (
 all_reclaimed now (e ∷ es) o (inr h) = all_reclaimed (after now e) es o (one_reclaimed now e es o h)
 
 other_runs : (e : Event) → IsOther e → (run_by e ≡ None) × ((q : ℕ) → queued_by q e ≡ None)
-other_runs (events.Open s) h = (refl, λ q. refl)
-other_runs (events.Close s) h = (refl, λ q. refl)
-other_runs (events.First s c found) h = (refl, λ q. refl)
-other_runs (events.Next s o found) h = (refl, λ q. refl)
-other_runs (events.Touch s o) h = (refl, λ q. refl)
-other_runs (events.Push c o) h = (refl, λ q. refl)
-other_runs (events.Replace c old new) h = (refl, λ q. refl)
-other_runs (events.Cut c o) h = (refl, λ q. refl)
 other_runs (events.Retire o) h = absurd h
 other_runs (events.Queue o q) h = absurd h
 other_runs (events.Run o) h = absurd h
-other_runs (events.Ask a) h = (refl, λ q. refl)
-other_runs (events.Answer a) h = (refl, λ q. refl)
 other_runs (events.Bar b) h = absurd h
 other_runs (events.Clear b) h = absurd h
+other_runs _ h = (refl, λ q. refl)
 
 others_run : (es : List Event) → AreOther es → NoTurn es
 others_run [] h = record { runs = refl; queues = λ q. refl }
@@ -192,24 +122,18 @@ abbrev KeepsItems : QueueAct → Type 0
 KeepsItems act = (q : QueueState) → items_of (acted act q).items ≡ items_of q.items
 
 sync_keeps : {P : Type 0} (seq : ℕ) (sync : SyncCore P) → KeepsItems (act_for seq sync)
-sync_keeps seq core.Asks = λ q. refl
-sync_keeps seq (core.Waits cookie) = λ q. refl
-sync_keeps seq (core.Checks cookie) = λ q. refl
-sync_keeps seq (core.Starts cookie) = λ q. refl
-sync_keeps seq (core.Runs cookie plan) = λ q. refl
 sync_keeps seq core.Frees = λ q. items_advanced q.items seq
-sync_keeps seq core.Done = λ q. refl
+sync_keeps seq _ = λ q. refl
 
 worker_keeps : {P : Type 0} (seq : ℕ) (core : WorkerCore P Unit) → KeepsItems (worker_act seq core)
-worker_keeps seq worker.Idle = λ q. refl
 worker_keeps seq (worker.Syncs sync tickets) = sync_keeps seq sync
-worker_keeps seq (worker.Pops tickets) = λ q. refl
-worker_keeps seq (worker.Runs tickets ticket item) = λ q. refl
-worker_keeps seq (worker.Ran tickets ticket item) = λ q. refl
-worker_keeps seq (worker.Counts tickets ticket) = λ q. refl
+worker_keeps seq _ = λ q. refl
+
+abbrev IsInTurn : {P : Type 0} → BoardView P → Type 0
+IsInTurn w = AllInTurn w.log w.queues
 
 abbrev StaysInTurn : {P : Type 0} → BoardView P → Change P → Type 0
-StaysInTurn w change = AllInTurn w.log w.queues → AllInTurn (changed w change).log (changed w change).queues
+StaysInTurn w change = IsInTurn w → IsInTurn (changed w change)
 
 -- ---- the rows
 
@@ -240,16 +164,12 @@ module _ {P : Type 0} (plans : Plans P) (layout : Layout) (slots : ℕ) (laws : 
       (subst (λ (y : WorkerState P). WorkAt (mine k) now.asked now.awaited now.asked_sections y) (get_or_from_slice_get w.workers k x new_worker at.was) (l.callbacks.working k))
 
   -- a step of a grace period asks, or answers, or tells nothing
-  fits_quiet : (me : Holder) (ask : ℕ) (sync : SyncCore P) (step : GraceStep P) → Fits plans w me ask sync step → NoTurn (told step.answer)
-  fits_quiet me ask sync step fits = by fits.asks
-    where
-      by : ((sync ≡ core.Asks) × (step.grace.asks ≡ ask) × (told step.answer ≡ events.Ask ask ∷ [])) ⊎ AsksNone plans w me ask step.grace.asks (told step.answer) → NoTurn (told step.answer)
-      by (inl asks) = subst NoTurn (sym asks.2) (record { runs = refl; queues = λ q. refl })
-      by (inr (same, inl e)) = subst NoTurn (sym e) none
-      by (inr (same, inr e)) = subst NoTurn (sym e) (record { runs = refl; queues = λ q. refl })
+  grace_quiet : (me : Holder) (ask : ℕ) (sync : SyncCore P) (step : GraceStep P) → grace_row plans w me ask sync ≡ Ok step → NoTurn (told step.answer)
+  grace_quiet me ask sync step is = tells plans w me ask NoTurn none (record { runs = refl; queues = λ q. refl }) (record { runs = refl; queues = λ q. refl }) sync step is
 
-  reads_quiet : (r : ℕ) (v : ReaderState) (verb : ReaderVerb) (step : ReaderStep) → reader_line plans.qsbr w r v verb ≡ Ok step → NoTurn (told step.answer)
-  reads_quiet r v verb step is = others_run (told step.answer) (subst (λ (x : Result ReaderStep Refusal). PlainResult w (read_by r x)) is (plain_reader plans.qsbr w r verb (Some v)))
+  -- and one that tells nothing of queues leaves them
+  leaves : (es : List Event) → NoTurn es → AllInTurn w.log w.queues → AllInTurn (w.log ++ es) w.queues
+  leaves es no_turn = quiet w.log w.queues w.queues es no_turn (λ q. refl)
 
   turn_retire : (u : ℕ) (x : UpdaterState P) (o : ObjectId) (step : RetireStep) → WasAt plans w u x (Retires o step) → StaysInTurn w (retire_on w u x o step)
   turn_retire u x o due.Mark at = quiet w.log w.queues _ _ (record { runs = refl; queues = λ q. refl }) (waits_same (acted act.Leave) w.queues (queue_of w u) (own_queue u) refl)
@@ -319,50 +239,41 @@ module _ {P : Type 0} (plans : Plans P) (layout : Layout) (slots : ℕ) (laws : 
               let t = there k (subst (λ os. In os o) (sym was) (inl refl)) in
               (l.callbacks.items.one_place q k s.0 t.0 o s.1 t.1).0
 
-  rows : Rows plans w (StaysInTurn w)
-  rows = record {
-    stays = λ answer k. k;
-    reads = λ r v verb step was is. quiet w.log w.queues _ _ (reads_quiet r v verb step is) (λ q. refl);
-    begins = λ u x what object at next k. k;
-    cuts = λ u x splice c o at. quiet w.log w.queues _ _ (record { runs = refl; queues = λ q. refl }) (λ q. refl);
-    pushes = λ u x new splice c at. quiet w.log w.queues _ _ (record { runs = refl; queues = λ q. refl }) (λ q. refl);
-    replaces = λ u x old new splice c at. quiet w.log w.queues _ _ (record { runs = refl; queues = λ q. refl }) (λ q. refl);
-    syncs = λ u x ask sync step at is. quiet w.log w.queues _ _ (fits_quiet (holder.Updater u) ask sync step (fits_step plans w (holder.Updater u) ask sync step is)) (λ q. refl);
-    starts = λ u x started at. quiet w.log w.queues _ _ (record { runs = refl; queues = λ q. refl }) (λ q. refl);
-    polls = λ u x started ask at. quiet w.log w.queues _ _ (record { runs = refl; queues = λ q. refl }) (λ q. refl);
-    holds = λ u x o q at is k i. k i ∙ ap (λ os. run_from i w.log ++ os) (sym (waits_same (held_by u) w.queues (queue_of w u) (own_queue u) refl i));
-    retires = turn_retire;
-    bars = λ u x b at. quiet w.log w.queues _ _ (record { runs = refl; queues = λ q. refl }) (λ q. refl);
-    awaits = λ u x b b' at. quiet w.log w.queues _ _ none (λ q. refl);
-    clears = λ u x b at. quiet w.log w.queues _ _ (record { runs = refl; queues = λ q. refl }) (λ q. refl);
-    takes = λ k x first count at. let rests = its_work k x worker.Idle at in
-        quiet w.log w.queues _ _ none (waits_same (acted act.Seal) w.queues k (worker_queue k x at.was) (items_sealed (mine k).items rests.0 rests.1));
-    works = λ k x sync tickets step at is. quiet w.log w.queues _ _ (fits_quiet (holder.Worker k) (ask_for w x.ask sync) sync step (fits_step plans w (holder.Worker k) (ask_for w x.ask sync) sync step is))
-        (waits_same (acted (worker_act step.grace.seq (synced_to step.core tickets))) w.queues k (worker_queue k x at.was) (worker_keeps step.grace.seq (synced_to step.core tickets) (mine k)));
-    runs = λ k x tickets core mark first at is. turn_run k x tickets first at is;
-    counts = λ k x tickets ticket item core at. quiet w.log w.queues _ _ none (waits_same (acted act.Finish) w.queues k (worker_queue k x at.was) refl);
+  turn_law : Law plans w (λ line. StaysInTurn w)
+  turn_law = record {
+    stays = λ line answer never none_told k. k;
+    reads = λ r v verb was. reads_by plans.qsbr w.layout w r v (λ step. AreOther (told step.answer)) (λ step. StaysInTurn w (Read r step)) (λ step other. leaves (told step.answer) (others_run (told step.answer) other)) (other_reads plans.qsbr w.layout w r v);
+    updates = λ u x was. record {
+      pushes = λ c head at is mine k. k;
+      replaces = λ o y at is k. k;
+      cuts = λ o y at is. leaves _ (record { runs = refl; queues = λ q. refl });
+      pushed = λ new y at is. leaves _ (record { runs = refl; queues = λ q. refl });
+      replaced = λ old new y at is. leaves _ (record { runs = refl; queues = λ q. refl });
+      asks = λ step at is goes on. leaves _ (grace_quiet (holder.Updater u) (w.grace.asks + 1) new_core step is);
+      turns = λ ask sync step at is goes on. leaves _ (grace_quiet (holder.Updater u) ask sync step is);
+      starts = λ cookie at is. leaves _ (record { runs = refl; queues = λ q. refl });
+      polls = λ s at is up. leaves _ (record { runs = refl; queues = λ q. refl });
+      holds = λ o q at may is free k i. k i ∙ ap (λ os. run_from i w.log ++ os) (sym (waits_same (held_by u) w.queues (queue_of w u) (own_queue u) refl i));
+      retires = turn_retire u x;
+      bars = λ at. leaves _ (record { runs = refl; queues = λ q. refl });
+      notes = λ b q at is. leaves _ none;
+      checks = λ b q at is up more. leaves _ none;
+      clears = λ b q at is up last. leaves _ (record { runs = refl; queues = λ q. refl });
+    };
+    works = λ k x was. record {
+      takes = λ q at is free some. let rests = its_work k x worker.Idle at in
+          quiet w.log w.queues _ _ none (waits_same (acted act.Seal) w.queues k (worker_queue k x at.was) (items_sealed (mine k).items rests.0 rests.1));
+      works = λ sync tickets step at is goes on. quiet w.log w.queues _ _ (grace_quiet (holder.Worker k) (ask_for w x.ask sync) sync step is)
+          (waits_same (acted (worker_act step.grace.seq (synced_to step.core tickets))) w.queues k (worker_queue k x at.was) (worker_keeps step.grace.seq (synced_to step.core tickets) (mine k)));
+      runs = λ tickets first at is. turn_run k x tickets first at is;
+      counts = λ tickets ticket item at. quiet w.log w.queues _ _ none (waits_same (acted act.Finish) w.queues k (worker_queue k x at.was) refl);
+    };
   }
-
-  turn_step : (line : Line) → AllInTurn w.log w.queues → AllInTurn ((outcome_of plans w line).world).log ((outcome_of plans w line).world).queues
-  turn_step line k = by (change_of plans w line) (each_row plans w (StaysInTurn w) rows line)
-    where
-      by : (x : Result (Change P) Refusal) → Each (StaysInTurn w) x → AllInTurn ((with_change w x).world).log ((with_change w x).world).queues
-      by (Ok change) stays = stays k
-      by (Err e) stays = k
-
-module _ {P : Type 0} (plans : Plans P) (layout : Layout) (slots : ℕ) (laws : Laws plans layout slots) where
-  turn_lines : (w : BoardView P) (lines : List Line) → Logged plans layout slots laws w → AllInTurn w.log w.queues → AllInTurn (world_after plans w lines).log (world_after plans w lines).queues
-  turn_lines w [] l k = k
-  turn_lines w (line ∷ lines) l k = turn_lines ((outcome_of plans w line).world) lines (logged_step plans layout slots laws w line l) (turn_step plans layout slots laws w l line k)
 
 module _ {P : Type 0} (plans : Plans P) (laws : (layout : Layout) (slots : ℕ) → Laws plans layout slots) where
   pub callbacks_in_order : (config : Config) (seq : ℕ) (lines : List Line) → is_within_limits config ≡ true → seq % 2 ≡ 0 → seq ≤ 2 ^ 62 → RunInOrder (world_after plans (fresh_at config seq) lines).log
   callbacks_in_order config seq lines limits even low q = (
     waiting_in (queue_at (world_after plans (fresh_at config seq) lines).queues q),
-    turn_lines plans config.layout config.readers mine (fresh_at config seq) lines
-        (logged_fresh plans config.layout config.readers mine config seq refl refl (some_reader config limits) (few_workers config limits).0 (few_workers config limits).1 even low)
+    always plans laws config seq limits even low IsInTurn (λ v line. StaysInTurn v) (λ v line change stays. stays) (turn_law plans config.layout config.readers (laws config.layout config.readers)) lines
         (λ j. sym (ap waiting_in (get_replicate empty_queue_state config.workers j))) q,
   )
-    where
-      mine : Laws plans config.layout config.readers
-      mine = laws config.layout config.readers

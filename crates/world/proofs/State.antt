@@ -1,32 +1,9 @@
 -- What the world keeps beside the machine: one record of parts.
-use Rattle.std.proofs.Common.{◌≡◌, ◌≢◌, ◌⊎◌, inl, inr, ⊎_elim, ℕ, ◌+◌, ◌-◌, ◌^◌, ◌<◌, ◌≤◌, ◌==◌, not, Bool, true, false, List, [], ◌∷◌, length, get_or, slice_set, Option, Some, None, Result, Ok, Err, refl, sym, ap, ◌∙◌, subst, arith, true≢false, get_or-set_other, get_or-set_same}
-use Rattle.std.proofs.lemmas.Bool.Decides.{eqb_tells}
-use Rattle.rcu_model.specs.declared.event.Event.{Event}
-use Rattle.rcu_model.specs.declared.event.ObjectId.{ObjectId}
-use Rattle.rcu_model.specs.declared.refusal.Refusal.{Refusal}
-use Rattle.rcu_model.specs.Machine.{State, AreAllowed, after_all}
-use Rattle.reader_word.specs.declared.layout.Layout.{Layout}
-use Rattle.reader_word.specs.Word.{count_of, phase_in, number}
-use Rattle.gp_memb.specs.Plan.{Shows}
-use Rattle.call_rcu_worker.specs.declared.sync.SyncCore.{SyncCore}
+use Rattle.world.proofs.Cited.{◌≡◌, ◌≢◌, ◌⊎◌, inl, inr, ⊎_elim, ℕ, ◌+◌, ◌-◌, ◌^◌, ◌<◌, ◌≤◌, ◌==◌, Bool, true, false, List, [], ◌∷◌, ◌++◌, length, get_or, slice_set, Option, Some, None, Result, Ok, Err, refl, sym, ap, ◌∙◌, subst, arith, true≢false, append-nil, get_or-set_other, get_or-set_same, not-true, eqb-false, Event, ObjectId, Refusal, State, AreAllowed, after_all, Layout, count_of, phase_in, number, Shows, SyncCore, ReaderState, ObjectState, Holder, UpdaterPlace, Publishes, Syncs, Started, UpdaterState, Change, Read, Begin, Publish, Grace, Hold, Bar, Stay, WorkerCore, WorkerState, new_worker, Plans, BoardView, idle, told, changed, is_open_in, LinksKept, PlaceKept, decide_number, reader_at, ReadersKept, reader_there}
 use Rattle.call_rcu_worker.specs.declared.sync.SyncCore.TheVariants as core
-use Rattle.world_state.specs.declared.reader.ReaderState.{ReaderState}
-use Rattle.world_state.specs.declared.object.ObjectState.{ObjectState}
-use Rattle.world_state.specs.declared.updater.Holder.{Holder}
 use Rattle.world_state.specs.declared.updater.Holder.TheVariants as holder
-use Rattle.world_state.specs.declared.updater.UpdaterPlace.{UpdaterPlace}
-use Rattle.world_state.specs.declared.updater.UpdaterPlace.TheVariants.{Idle, Publishes, Syncs, Retires, Bars}
-use Rattle.world_state.specs.declared.updater.Started.{Started}
-use Rattle.world_state.specs.declared.updater.UpdaterState.{UpdaterState}
-use Rattle.world_state.specs.declared.change.Change.{Change}
-use Rattle.world_state.specs.declared.change.Change.TheVariants.{Read, Begin, Publish, Grace, Hold, Retire, Bar, Work as Works, Stay}
-use Rattle.call_rcu_worker.specs.declared.worker.WorkerCore.{WorkerCore}
+use Rattle.world_state.specs.declared.change.Change.TheVariants.{Retire, Work as Works}
 use Rattle.call_rcu_worker.specs.declared.worker.WorkerCore.TheVariants as worker
-use Rattle.world_state.specs.declared.worker.WorkerState.{WorkerState}
-use Rattle.world_state.specs.Queues.{new_worker}
-use Rattle.world_state.specs.View.{Plans, BoardView, idle, told, changed}
-use Rattle.world_state.specs.Readers.{is_open_in}
-use Rattle.world_state.proofs.Lemmas.{LinksKept, PlaceKept, decide_number, reader_at, ReadersKept, reader_there}
 use Rattle.world.proofs.Fence.{Work, Rests, Waits, Checks, Starts, Runs, Frees, Laws, Sets}
 use Rattle.world.proofs.Periods.{Part, Marks}
 
@@ -58,19 +35,12 @@ core_work ask core.Frees = Frees
 core_work ask core.Done = Rests
 
 abbrev pub place_work : {P : Type 0} → UpdaterPlace P → Work P
-place_work Idle = Rests
-place_work (Publishes what) = Rests
 place_work (Syncs ask core) = core_work ask core
-place_work (Retires o due) = Rests
-place_work (Bars b) = Rests
+place_work _ = Rests
 
 abbrev pub worker_work : {P : Type 0} → ℕ → WorkerCore P Unit → Work P
-worker_work ask worker.Idle = Rests
 worker_work ask (worker.Syncs core tickets) = core_work ask core
-worker_work ask (worker.Pops tickets) = Rests
-worker_work ask (worker.Runs tickets ticket item) = Rests
-worker_work ask (worker.Ran tickets ticket item) = Rests
-worker_work ask (worker.Counts tickets ticket) = Rests
+worker_work ask _ = Rests
 
 abbrev pub started_work : {P : Type 0} → Option Started → Work P
 started_work None = Rests
@@ -101,32 +71,30 @@ word_at readers r = (reader_at readers r).word
 -- a grace period that rests between two lines was asked for, and is not done
 abbrev pub IsUnderWay : {P : Type 0} → SyncCore P → Type 0
 IsUnderWay core.Asks = ⊥
-IsUnderWay (core.Waits cookie) = Unit {0}
-IsUnderWay (core.Checks cookie) = Unit {0}
-IsUnderWay (core.Starts cookie) = Unit {0}
-IsUnderWay (core.Runs cookie plan) = Unit {0}
-IsUnderWay core.Frees = Unit {0}
 IsUnderWay core.Done = ⊥
+IsUnderWay _ = Unit {0}
 
 -- where an updater stands between two steps of its operation
 abbrev pub UpdaterKept : {P : Type 0} → List (Option ObjectId) → List ObjectState → ℕ → ℕ → UpdaterPlace P → Type 0
-UpdaterKept heads os n u Idle = Unit {0}
 UpdaterKept heads os n u (Publishes what) = PlaceKept heads os n u what
 UpdaterKept heads os n u (Syncs ask core) = IsUnderWay core
-UpdaterKept heads os n u (Retires o due) = Unit {0}
-UpdaterKept heads os n u (Bars b) = Unit {0}
+UpdaterKept heads os n u _ = Unit {0}
 
 -- what a change tells
 abbrev pub told_by : {P : Type 0} → Change P → List Event
 told_by (Read r step) = told step.answer
-told_by (Begin u x object) = []
 told_by (Publish u x splice event) = event ∷ []
 told_by (Grace u x grace answer) = told answer
-told_by (Hold u x q) = []
 told_by (Retire u x q act mark answer) = told answer
 told_by (Bar u x barriers answer) = told answer
 told_by (Works k x grace act mark answer) = told answer
-told_by (Stay answer) = []
+told_by _ = []
+
+pub log_after : {P : Type 0} (w : BoardView P) (change : Change P) → (changed w change).log ≡ w.log ++ told_by change
+log_after w (Begin u x object) = sym (append-nil w.log)
+log_after w (Hold u x q) = sym (append-nil w.log)
+log_after w (Stay answer) = sym (append-nil w.log)
+log_after w _ = refl
 
 module _ {P : Type 0} (plans : Plans P) (layout : Layout) (slots : ℕ) (laws : Laws plans layout slots) where
   pub record Kept (w : BoardView P) (now : State) : Type 0 where
@@ -149,17 +117,9 @@ module _ {P : Type 0} (plans : Plans P) (layout : Layout) (slots : ℕ) (laws : 
 
   -- an open section's word shows a mark
   mark_shown : (b : Bool) (n word : ℕ) → is_open_in b layout word ≡ true → (b ≡ true → word ≤ n + 1) → (mark : ℕ) × Shows b layout mark word × (b ≡ true → mark ≤ n)
-  mark_shown true n word is low = (word - 1, above (eqb_tells word 0), λ _. let l = low refl in omega (arith, l))
+  mark_shown true n word is low = (word - 1, (let some = eqb-false word 0 (not-true (word == 0) is) in omega (arith, some)), λ _. let l = low refl in omega (arith, l))
+  mark_shown false n word is low = (number (phase_in layout word), (eqb-false (count_of layout word) 0 (not-true (count_of layout word == 0) is), same (phase_in layout word)), λ e. absurd (true≢false (sym e)))
     where
-      above : (((word == 0) ≡ true) × (word ≡ 0)) ⊎ (((word == 0) ≡ false) × (word ≢ 0)) → word ≡ word - 1 + 1
-      above (inl e) = absurd (true≢false (sym is ∙ ap not e.0))
-      above (inr m) = let ne = m.1 in omega (arith, ne)
-  mark_shown false n word is low = (number (phase_in layout word), (counts (eqb_tells (count_of layout word) 0), same (phase_in layout word)), λ e. absurd (true≢false (sym e)))
-    where
-      counts : (((count_of layout word == 0) ≡ true) × (count_of layout word ≡ 0)) ⊎ (((count_of layout word == 0) ≡ false) × (count_of layout word ≢ 0)) → count_of layout word ≢ 0
-      counts (inl e) = absurd (true≢false (sym is ∙ ap not e.0))
-      counts (inr m) = m.1
-
       same : (b : Bool) → b ≡ (number b == 1)
       same true = refl
       same false = refl

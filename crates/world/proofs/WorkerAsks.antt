@@ -1,47 +1,22 @@
 -- What the grace periods of workers keep, and any line of a worker.
-use Rattle.std.proofs.Common.{◌≡◌, inl, ⊎_elim, ℕ, ◌+◌, ◌<◌, ◌≤◌, leb, cond, Bool, true, false, List, [], ◌∷◌, ◌++◌, length, slice_get, slice_set, Option, Some, None, Result, Ok, Err, refl, sym, ap, ◌∙◌, subst, arith, true≢false}
-use Rattle.std.proofs.lemmas.Bool.Decides.{leb_tells}
-use Rattle.rcu_model.specs.declared.event.Event.{Event}
+use Rattle.world.proofs.Cited.{◌≡◌, ⊎_elim, ℕ, true≢false, inl, ◌+◌, ◌<◌, ◌≤◌, leb, cond, true, false, List, [], ◌∷◌, ◌++◌, length, slice_get, slice_set, Option, Some, None, Result, Ok, Err, refl, sym, ap, ◌∙◌, subst, le-leb, Event, ObjectId, SectionId, Refusal, at_number, State, after, In, empty_from, at_number_same, Layout, Item, items_of, given_of, is_due, after_advance, SyncCore, Tickets, WorkerCore, Answer, Events, Quiet, QueueState, GraceState, WorkerState, Change, acted, acted_at, Plans, BoardView, Items, Has, queue_at, has_either, items_advanced}
 use Rattle.rcu_model.specs.declared.event.Event.TheVariants as events
-use Rattle.rcu_model.specs.declared.event.ObjectId.{ObjectId}
-use Rattle.rcu_model.specs.declared.event.SectionId.{SectionId}
-use Rattle.rcu_model.specs.declared.refusal.Refusal.{Refusal}
-use Rattle.rcu_model.specs.declared.refusal.Refusal.TheVariants.{Busy}
-use Rattle.rcu_model.specs.Sets.{at_number}
-use Rattle.rcu_model.specs.Machine.{State, after}
-use Rattle.rcu_model.proofs.Lemmas.{In, empty_from, at_number_same}
-use Rattle.reader_word.specs.declared.layout.Layout.{Layout}
-use Rattle.callback_queue.specs.declared.item.Item.{Item}
-use Rattle.callback_queue.specs.Queue.{Queue, items_of, given_of, is_due, after_advance}
-use Rattle.call_rcu_worker.specs.declared.sync.SyncCore.{SyncCore}
+use Rattle.callback_queue.specs.Queue.{Queue}
 use Rattle.call_rcu_worker.specs.declared.sync.SyncCore.TheVariants as core
-use Rattle.call_rcu_worker.specs.declared.worker.Tickets.{Tickets}
-use Rattle.call_rcu_worker.specs.declared.worker.WorkerCore.{WorkerCore}
 use Rattle.call_rcu_worker.specs.declared.worker.WorkerCore.TheVariants as worker
-use Rattle.world_state.specs.declared.line.Answer.{Answer}
-use Rattle.world_state.specs.declared.line.Answer.TheVariants.{Events, Quiet}
-use Rattle.world_state.specs.declared.line.WorkerVerb.{WorkerVerb}
-use Rattle.world_state.specs.declared.line.WorkerVerb.TheVariants as verb
 use Rattle.world_state.specs.declared.queue.QueueAct.TheVariants as act
-use Rattle.world_state.specs.declared.queue.QueueState.{QueueState}
-use Rattle.world_state.specs.declared.updater.GraceState.{GraceState}
 use Rattle.world_state.specs.declared.updater.Holder.TheVariants as holder
-use Rattle.world_state.specs.declared.worker.WorkerState.{WorkerState}
-use Rattle.world_state.specs.declared.change.Change.{Change}
 use Rattle.world_state.specs.declared.change.Change.TheVariants.{Work as Works}
-use Rattle.world_state.specs.Queues.{acted, acted_at}
-use Rattle.world_state.specs.View.{Plans, BoardView}
-use Rattle.world_state.proofs.Lemmas.{Items, Has, queue_at, has_either, items_advanced}
-use Rattle.world.specs.Grace.{grace_row}
-use Rattle.world.specs.Workers.{take_row, ask_for, worked, worker_on, is_resting}
-use Rattle.world.specs.Lines.{worker_line}
+use Rattle.world.specs.declared.grace.GraceStep.{GraceStep}
+use Rattle.world.specs.Grace.{is_blocked, is_waiting, grace_row}
+use Rattle.world.specs.Workers.{ask_for, work_change}
 use Rattle.world.proofs.Fence.{Work, Rests, Waits, Frees, Pending, Laws}
 use Rattle.world.proofs.State.{Asker, Working, core_work, worker_work, work_of, Kept}
 use Rattle.world.proofs.Asking.{IsOn, StepKept, Owing, owes_ask, owes_sync}
 use Rattle.world.proofs.Callbacks.{QueueKept, BatchWaits, BatchKept, WorkKept, WorkAt, Callbacks, over_event}
 use Rattle.world.proofs.Plain.{OwesAll}
 use Rattle.world.proofs.Beside.{kept_work, worker_set}
-use Rattle.world.proofs.WorkerSteps.{waits_of, freed_of, asks_of, quiet_step, inside, my_work, work_is, longer, more_kept, owes_take, owes_run, owes_count}
+use Rattle.world.proofs.WorkerSteps.{waits_of, freed_of, asks_of, quiet_step, inside, my_work, work_is, longer, more_kept}
 
 module _ {P : Type 0} (plans : Plans P) (layout : Layout) (slots : ℕ) (laws : Laws plans layout slots) (w : BoardView P) (now : State) (kept : Kept plans layout slots laws w now) (k : Callbacks w now)
     (n : ℕ) (x : WorkerState P) (at : slice_get w.workers n ≡ Some x) where
@@ -67,6 +42,11 @@ module _ {P : Type 0} (plans : Plans P) (layout : Layout) (slots : ℕ) (laws : 
   still_kept es = more_kept plans layout slots laws w now kept k n x at es
 
   module _ (place : SyncCore P) (tickets : Tickets) (syncs : x.core ≡ worker.Syncs place tickets) where
+    -- what a step of its grace period owes that neither waits nor is blocked
+    abbrev pub OwesTurn : ℕ → Result (GraceStep P) Refusal → Type 0
+    OwesTurn ask (Err e) = Unit {0}
+    OwesTurn ask (Ok step) = is_blocked step.answer ≡ false → is_waiting step.answer ≡ false → Owed (Ok (work_change n ask tickets step))
+
     batch : BatchKept mine.items.ready mine.items.waiting mine.items.cookie now.asked now.awaited now.asked_sections x.ask tickets.left place × (mine.finished ≡ mine.items.gone) × (tickets.last.0 ≡ mine.items.gone + tickets.left)
     batch = subst (λ (p : WorkerCore P Unit). WorkKept mine.items.ready mine.items.waiting mine.items.cookie mine.items.gone mine.finished now.asked now.awaited now.asked_sections x.ask p) syncs (my_work plans layout slots laws w now kept k n x at)
 
@@ -90,21 +70,19 @@ module _ {P : Type 0} (plans : Plans P) (layout : Layout) (slots : ℕ) (laws : 
           x' = record { ask = ask; core = p }
 
       goes : (next : SyncCore P) (grace : GraceState) → IsOn plans layout slots laws w now kept (Working n) next → ((a c : ℕ) → Pending (core_work ask next) a c → Pending (works (Working n)) a c) →
-          Step (core_work ask next) grace now.asked now.answered now.asked_sections Quiet → Owed (worked n ask tickets (Ok (record { core = next; grace = grace; answer = Quiet })))
-      goes core.Asks grace on same s = absurd on
-      goes (core.Waits c) grace on same s = absurd on
-      goes (core.Checks c) grace on same s = quietly (worker.Syncs (core.Checks c) tickets) grace s (waiting_for c (same ask c (refl, refl)), batch.1, batch.2)
-      goes (core.Starts c) grace on same s = quietly (worker.Syncs (core.Starts c) tickets) grace s (waiting_for c (same ask c (refl, refl)), batch.1, batch.2)
-      goes (core.Runs c p) grace on same s = quietly (worker.Syncs (core.Runs c p) tickets) grace s (waiting_for c (same ask c (refl, refl)), batch.1, batch.2)
-      goes core.Frees grace on same s = absurd on
-      goes core.Done grace on same s =
+          Step (core_work ask next) grace now.asked now.answered now.asked_sections Quiet → OwesTurn ask (Ok (record { core = next; grace = grace; answer = Quiet }))
+      goes (core.Checks c) grace on same s moves passes = quietly (worker.Syncs (core.Checks c) tickets) grace s (waiting_for c (same ask c (refl, refl)), batch.1, batch.2)
+      goes (core.Starts c) grace on same s moves passes = quietly (worker.Syncs (core.Starts c) tickets) grace s (waiting_for c (same ask c (refl, refl)), batch.1, batch.2)
+      goes (core.Runs c p) grace on same s moves passes = quietly (worker.Syncs (core.Runs c p) tickets) grace s (waiting_for c (same ask c (refl, refl)), batch.1, batch.2)
+      goes core.Done grace on same s moves passes =
           let free = freed_of mine.items.ready mine.items.waiting mine.items.cookie now.asked now.awaited now.asked_sections x.ask tickets.left place batch.0 (sym asks_now ∙ on) in
           quietly (worker.Pops tickets) grace s (free.0, free.1, free.2, batch.1, batch.2)
+      goes _ grace on same s moves passes = absurd on
 
       asks : (c : ℕ) (grace : GraceState) → works (Working n) ≡ Rests → ask ≡ w.grace.asks + 1 →
           Step (Waits ask c) grace (ask ∷ now.asked) now.answered (at_number ask now.sections now.asked_sections) (Events (events.Ask ask) None) →
-          Owed (worked n ask tickets (Ok (record { core = core.Waits c; grace = grace; answer = Events (events.Ask ask) None })))
-      asks c grace rests is s = (
+          OwesTurn ask (Ok (record { core = core.Waits c; grace = grace; answer = Events (events.Ask ask) None }))
+      asks c grace rests is s moves passes = (
         s.allowed,
         kept_work plans layout slots laws w now kept n x' (acted_at w.queues n (act.Note c)) None grace (w.log ++ events.Ask ask ∷ []) (ask ∷ now.asked) now.answered awaited (more (events.Ask ask ∷ [])) s.rises s.phase_low s.seq_low s.asks_low
             (s.part (work_of w.updaters (slice_set w.workers n x')) (worker_set plans layout slots laws w now kept n x' within)),
@@ -137,8 +115,8 @@ module _ {P : Type 0} (plans : Plans P) (layout : Layout) (slots : ℕ) (laws : 
 
       answers : (c : ℕ) (grace : GraceState) → Pending (works (Working n)) ask c → c ≤ grace.seq → now.asked_sections ask ≡ [] →
           Step Frees grace now.asked (ask ∷ now.answered) now.asked_sections (Events (events.Answer ask) None) →
-          Owed (worked n ask tickets (Ok (record { core = core.Frees; grace = grace; answer = Events (events.Answer ask) None })))
-      answers c grace pending up none s = (
+          OwesTurn ask (Ok (record { core = core.Frees; grace = grace; answer = Events (events.Answer ask) None }))
+      answers c grace pending up none s moves passes = (
         s.allowed,
         kept_work plans layout slots laws w now kept n x' (acted_at w.queues n (act.Advance grace.seq)) None grace (w.log ++ events.Answer ask ∷ []) now.asked (ask ∷ now.answered) now.asked_sections (more (events.Answer ask ∷ [])) s.rises s.phase_low s.seq_low s.asks_low
             (s.part (work_of w.updaters (slice_set w.workers n x')) (worker_set plans layout slots laws w now kept n x' within)),
@@ -165,7 +143,7 @@ module _ {P : Type 0} (plans : Plans P) (layout : Layout) (slots : ℕ) (laws : 
           q = still_kept (events.Answer ask ∷ [])
 
           reached : leb c grace.seq ≡ true
-          reached = ⊎_elim (λ (y : (leb c grace.seq ≡ true) × (c ≤ grace.seq)). y.0) (λ (m : (leb c grace.seq ≡ false) × (grace.seq < c)). let below = m.1 in absurd (omega (arith, below, up))) (leb_tells c grace.seq)
+          reached = le-leb c grace.seq up
 
           is_due_now : is_due mine.items.cookie grace.seq ≡ true
           is_due_now = ap (λ (o : Option ℕ). is_due o grace.seq) b.is_noted ∙ reached
@@ -191,48 +169,22 @@ module _ {P : Type 0} (plans : Plans P) (layout : Layout) (slots : ℕ) (laws : 
               (λ (r : Has mine.items.waiting o). empty_from (now.awaited o) (λ t g. subst (λ (l : List SectionId). In l t) none (b.covered o r t g)))
               (has_either mine.items.ready mine.items.waiting o h)
 
-      syncing : Owing plans layout slots laws w now kept (Working n) ask (λ r. Owed (worked n ask tickets r))
+      syncing : Owing plans layout slots laws w now kept (Working n) ask (OwesTurn ask)
       syncing = record {
         refused = λ e. tt;
-        stays = λ next grace. (tt, kept, k);
-        blocks = λ next grace. (tt, kept, k);
+        stays = λ next grace moves passes. absurd (true≢false passes);
+        blocks = λ next grace moves passes. absurd (true≢false moves);
         goes = goes;
         asks = asks;
         answers = answers;
       }
 
   -- a step of a worker's grace period
-  owes_batch : (place : SyncCore P) (tickets : Tickets) → x.core ≡ worker.Syncs place tickets → Owed (worked n (ask_for w x.ask place) tickets (grace_row plans w (holder.Worker n) (ask_for w x.ask place) place))
-  owes_batch core.Asks tickets is =
-      owes_ask plans layout slots laws w now kept (holder.Worker n) (w.grace.asks + 1) (λ r. Owed (worked n (w.grace.asks + 1) tickets r)) (syncing core.Asks tickets is (w.grace.asks + 1)) (asks_now core.Asks tickets is) refl
-  owes_batch (core.Waits c) tickets is = owes_sync plans layout slots laws w now kept (holder.Worker n) x.ask (λ r. Owed (worked n x.ask tickets r)) (syncing (core.Waits c) tickets is x.ask) (core.Waits c) (asks_now (core.Waits c) tickets is) tt
-  owes_batch (core.Checks c) tickets is = owes_sync plans layout slots laws w now kept (holder.Worker n) x.ask (λ r. Owed (worked n x.ask tickets r)) (syncing (core.Checks c) tickets is x.ask) (core.Checks c) (asks_now (core.Checks c) tickets is) tt
-  owes_batch (core.Starts c) tickets is = owes_sync plans layout slots laws w now kept (holder.Worker n) x.ask (λ r. Owed (worked n x.ask tickets r)) (syncing (core.Starts c) tickets is x.ask) (core.Starts c) (asks_now (core.Starts c) tickets is) tt
-  owes_batch (core.Runs c p) tickets is = owes_sync plans layout slots laws w now kept (holder.Worker n) x.ask (λ r. Owed (worked n x.ask tickets r)) (syncing (core.Runs c p) tickets is x.ask) (core.Runs c p) (asks_now (core.Runs c p) tickets is) tt
-  owes_batch core.Frees tickets is = owes_sync plans layout slots laws w now kept (holder.Worker n) x.ask (λ r. Owed (worked n x.ask tickets r)) (syncing core.Frees tickets is x.ask) core.Frees (asks_now core.Frees tickets is) tt
+  pub owes_batch : (place : SyncCore P) (tickets : Tickets) (syncs : x.core ≡ worker.Syncs place tickets) → OwesTurn place tickets syncs (ask_for w x.ask place) (grace_row plans w (holder.Worker n) (ask_for w x.ask place) place)
+  owes_batch core.Asks tickets is = owes_ask plans layout slots laws w now kept (holder.Worker n) (w.grace.asks + 1) (OwesTurn core.Asks tickets is (w.grace.asks + 1)) (syncing core.Asks tickets is (w.grace.asks + 1)) (asks_now core.Asks tickets is) refl
   owes_batch core.Done tickets is = absurd (batch core.Done tickets is).0
-
-  resting_tells : (p : WorkerCore P Unit) → is_resting p ≡ true → p ≡ worker.Idle
-  resting_tells worker.Idle e = refl
-  resting_tells (worker.Syncs place tickets) e = absurd (true≢false (sym e))
-  resting_tells (worker.Pops tickets) e = absurd (true≢false (sym e))
-  resting_tells (worker.Runs tickets ticket item) e = absurd (true≢false (sym e))
-  resting_tells (worker.Ran tickets ticket item) e = absurd (true≢false (sym e))
-  resting_tells (worker.Counts tickets ticket) e = absurd (true≢false (sym e))
-
-  owes_on : (p : WorkerCore P Unit) → x.core ≡ p → Owed (worker_on plans w n x p)
-  owes_on worker.Idle is = tt
-  owes_on (worker.Syncs place tickets) is = owes_batch place tickets is
-  owes_on (worker.Pops tickets) is = owes_run plans layout slots laws w now kept k n x at tickets is
-  owes_on (worker.Runs tickets ticket item) is = tt
-  owes_on (worker.Ran tickets ticket item) is = owes_count plans layout slots laws w now kept k n x at tickets ticket item is
-  owes_on (worker.Counts tickets ticket) is = tt
-
-  -- any line of a worker
-  pub owes_worker : (v : WorkerVerb) → Owed (worker_line plans w n x v)
-  owes_worker verb.GoOn = owes_on x.core refl
-  owes_worker verb.Take = by (is_resting x.core) refl
-    where
-      by : (b : Bool) → is_resting x.core ≡ b → Owed (cond b (take_row w n x (slice_get w.queues n)) (Err Busy))
-      by true e = owes_take plans layout slots laws w now kept k n x at (resting_tells x.core e)
-      by false e = tt
+  owes_batch (core.Waits c) tickets is = owes_sync plans layout slots laws w now kept (holder.Worker n) x.ask (OwesTurn (core.Waits c) tickets is x.ask) (syncing (core.Waits c) tickets is x.ask) (core.Waits c) (asks_now (core.Waits c) tickets is) tt
+  owes_batch (core.Checks c) tickets is = owes_sync plans layout slots laws w now kept (holder.Worker n) x.ask (OwesTurn (core.Checks c) tickets is x.ask) (syncing (core.Checks c) tickets is x.ask) (core.Checks c) (asks_now (core.Checks c) tickets is) tt
+  owes_batch (core.Starts c) tickets is = owes_sync plans layout slots laws w now kept (holder.Worker n) x.ask (OwesTurn (core.Starts c) tickets is x.ask) (syncing (core.Starts c) tickets is x.ask) (core.Starts c) (asks_now (core.Starts c) tickets is) tt
+  owes_batch (core.Runs c p) tickets is = owes_sync plans layout slots laws w now kept (holder.Worker n) x.ask (OwesTurn (core.Runs c p) tickets is x.ask) (syncing (core.Runs c p) tickets is x.ask) (core.Runs c p) (asks_now (core.Runs c p) tickets is) tt
+  owes_batch core.Frees tickets is = owes_sync plans layout slots laws w now kept (holder.Worker n) x.ask (OwesTurn core.Frees tickets is x.ask) (syncing core.Frees tickets is x.ask) core.Frees (asks_now core.Frees tickets is) tt

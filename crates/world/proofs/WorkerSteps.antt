@@ -1,44 +1,14 @@
 -- What the lines of workers keep, and that what they tell may come.
-use Rattle.std.proofs.Common.{◌≡◌, ◌≢◌, ◌⊎◌, inl, inr, ⊎_elim, ℕ, ◌+◌, ◌%◌, ◌<◌, ◌≤◌, leb, ltb, cond, Bool, true, false, List, [], ◌∷◌, ◌++◌, length, slice_get, slice_set, Option, Some, None, Result, Ok, refl, sym, ap, ◌∙◌, subst, arith, true≢false, length-append}
-use Rattle.std.proofs.Math.ListN.{length-set}
-use Rattle.std.proofs.lemmas.Bool.Decides.{leb_tells, Decides-ltb}
-use Rattle.std.proofs.lemmas.Option.{slice_get_within, slice_get-get_or, get_or_from_slice_get}
-use Rattle.std.specs.Prelude.{is_some}
-use Rattle.rcu_model.specs.declared.event.Event.{Event}
+use Rattle.world.proofs.Cited.{◌≡◌, ◌≢◌, ◌⊎◌, ⊎_elim, ℕ, true≢false, inl, inr, ◌+◌, ◌%◌, ◌<◌, ◌≤◌, ltb, true, false, List, [], ◌∷◌, ◌++◌, length, slice_get, slice_set, Option, Some, None, Result, Ok, refl, sym, ap, ◌∙◌, subst, arith, length-append, length-set, lt-ltb, ltb-true, ltb-false, cond-true, cond_both, none-some, same_Some, slice_get_within, slice_get-get_or, get_or_from_slice_get, Event, ObjectId, SectionId, Refusal, without_object, State, has_object_in, in_objects, without_object_has, decide, Layout, Item, Ticket, items_of, given_of, sealed, popped, without_first, object_with, SyncCore, Tickets, WorkerCore, new_core, after_take, tickets_from, rest_of, item_done, Quiet, Life, Mark, ObjectState, QueueAct, QueueState, WorkerState, Change, marked_life, new_worker, empty_queue_state, item_of, acted, changed_at, acted_at, Plans, BoardView, chain_of, life_of, life_within, life_marked, life_else, Items, Has, Stands, InQueue, queue_at, stands_above, changed_here, changed_else, changed_length, items_sealed}
 use Rattle.rcu_model.specs.declared.event.Event.TheVariants as events
-use Rattle.rcu_model.specs.declared.event.ObjectId.{ObjectId}
-use Rattle.rcu_model.specs.declared.event.SectionId.{SectionId}
-use Rattle.rcu_model.specs.declared.refusal.Refusal.{Refusal}
-use Rattle.rcu_model.specs.Sets.{without_object}
-use Rattle.rcu_model.specs.Machine.{State}
-use Rattle.rcu_model.proofs.Lemmas.{has_object_in, in_objects, without_object_has, decide}
-use Rattle.reader_word.specs.declared.layout.Layout.{Layout}
-use Rattle.callback_queue.specs.declared.item.Item.{Item}
-use Rattle.callback_queue.specs.declared.item.Ticket.{Ticket}
-use Rattle.callback_queue.specs.Queue.{Queue, items_of, given_of, sealed, popped, without_first, object_with}
-use Rattle.call_rcu_worker.specs.declared.sync.SyncCore.{SyncCore}
+use Rattle.callback_queue.specs.Queue.{Queue}
 use Rattle.call_rcu_worker.specs.declared.sync.SyncCore.TheVariants as core
-use Rattle.call_rcu_worker.specs.declared.worker.Tickets.{Tickets}
-use Rattle.call_rcu_worker.specs.declared.worker.WorkerCore.{WorkerCore}
 use Rattle.call_rcu_worker.specs.declared.worker.WorkerCore.TheVariants as worker
-use Rattle.call_rcu_worker.specs.Sync.{new_core}
-use Rattle.call_rcu_worker.specs.Worker.{after_take, tickets_from, rest_of, item_done}
-use Rattle.world_state.specs.declared.line.Answer.TheVariants.{Quiet, Blocked, Idle as NothingThere}
-use Rattle.world_state.specs.declared.object.Life.{Life}
 use Rattle.world_state.specs.declared.object.Life.TheVariants as life
-use Rattle.world_state.specs.declared.object.Mark.{Mark}
-use Rattle.world_state.specs.declared.object.ObjectState.{ObjectState}
-use Rattle.world_state.specs.declared.queue.QueueAct.{QueueAct}
 use Rattle.world_state.specs.declared.queue.QueueAct.TheVariants as act
-use Rattle.world_state.specs.declared.queue.QueueState.{QueueState}
-use Rattle.world_state.specs.declared.worker.WorkerState.{WorkerState}
-use Rattle.world_state.specs.declared.change.Change.{Change}
-use Rattle.world_state.specs.declared.change.Change.TheVariants.{Work as Works, Stay}
-use Rattle.world_state.specs.Objects.{marked_life}
-use Rattle.world_state.specs.Queues.{new_worker, empty_queue_state, item_of, acted, changed_at, acted_at}
-use Rattle.world_state.specs.View.{Plans, BoardView}
-use Rattle.world_state.proofs.Lemmas.{chain_of, life_of, life_within, life_marked, life_else, Items, Has, Stands, InQueue, queue_at, stands_above, changed_here, changed_else, changed_length, items_sealed}
-use Rattle.world.specs.Workers.{first_fresh, with_core, is_none_left, take_row, first_in, run_row}
+use Rattle.world_state.specs.declared.change.Change.TheVariants.{Work as Works}
+use Rattle.world.specs.Answers.{one}
+use Rattle.world.specs.Workers.{first_fresh, with_core, is_none_left, first_in}
 use Rattle.world.proofs.Fence.{Work, Rests, Frees, Pending, Laws}
 use Rattle.world.proofs.State.{Asker, Working, core_work, worker_work, worker_at, work_of, updater_at, Kept}
 use Rattle.world.proofs.Callbacks.{LifeKept, ItemsKept, QueueKept, BatchWaits, BatchKept, WorkKept, WorkAt, CallbacksKept, Callbacks, at_workers, at_queues, queue_kept}
@@ -58,31 +28,21 @@ module _ {P : Type 0} (ready waiting : Items) (noted : Option ℕ) (asked : List
   BatchAt place = BatchKept ready waiting noted asked awaited asked_sections ask tickets place
 
   pub waits_of : (place : SyncCore P) (a c : ℕ) → BatchAt place → Pending (core_work ask place) a c → BatchWaits ready waiting noted asked awaited asked_sections a tickets c
-  waits_of core.Asks a c b h = absurd h
   waits_of (core.Waits d) a c b h = same_batch ready waiting noted asked awaited asked_sections ask tickets d a c b h
   waits_of (core.Checks d) a c b h = same_batch ready waiting noted asked awaited asked_sections ask tickets d a c b h
   waits_of (core.Starts d) a c b h = same_batch ready waiting noted asked awaited asked_sections ask tickets d a c b h
   waits_of (core.Runs d p) a c b h = same_batch ready waiting noted asked awaited asked_sections ask tickets d a c b h
-  waits_of core.Frees a c b h = absurd h
-  waits_of core.Done a c b h = absurd h
+  waits_of _ a c b h = absurd h
 
   pub freed_of : (place : SyncCore P) → BatchAt place → core_work ask place ≡ Frees → (waiting ≡ []) × (tickets ≡ length ready) × (1 ≤ tickets)
-  freed_of core.Asks b h = absurd (cc)
-  freed_of (core.Waits d) b h = absurd (cc)
-  freed_of (core.Checks d) b h = absurd (cc)
-  freed_of (core.Starts d) b h = absurd (cc)
-  freed_of (core.Runs d p) b h = absurd (cc)
   freed_of core.Frees b h = b
   freed_of core.Done b h = absurd b
+  freed_of _ b h = absurd (cc)
 
   pub asks_of : (place : SyncCore P) → BatchAt place → core_work ask place ≡ Rests → (ready ≡ []) × (tickets ≡ length waiting) × (1 ≤ tickets)
   asks_of core.Asks b h = b
-  asks_of (core.Waits d) b h = absurd (cc)
-  asks_of (core.Checks d) b h = absurd (cc)
-  asks_of (core.Starts d) b h = absurd (cc)
-  asks_of (core.Runs d p) b h = absurd (cc)
-  asks_of core.Frees b h = absurd (cc)
   asks_of core.Done b h = absurd b
+  asks_of _ b h = absurd (cc)
 
 -- a step of a worker that leaves items and objects where they are
 module _ {P : Type 0} (w : BoardView P) (now : State) (k : Callbacks w now) (n : ℕ) (inside : n < length w.workers) where
@@ -286,29 +246,29 @@ module _ {P : Type 0} (plans : Plans P) (layout : Layout) (slots : ℕ) (laws : 
         given = ap (λ (l : Items). mine.items.gone + length l) (items_sealed mine.items empty.0 empty.1)
 
     after_take_is : (first : Ticket) (m : ℕ) → 1 ≤ m → after_take x.core first m ≡ worker.Syncs new_core (tickets_from first m)
-    after_take_is first m some = ap (λ (p : WorkerCore P Unit). after_take p first m) idle ∙ ap (λ b. cond b (worker.Syncs new_core (tickets_from first m)) worker.Idle) ((Decides-ltb 0 m).1 (omega (arith, some)))
+    after_take_is first m some = ap (λ (p : WorkerCore P Unit). after_take p first m) idle ∙ cond-true (ltb 0 m) (worker.Syncs new_core (tickets_from first m)) worker.Idle (lt-ltb 0 m (omega (arith, some)))
 
-    pub owes_take : Owed (take_row w n x (slice_get queues n))
-    owes_take = subst (λ (r : Option QueueState). Owed (take_row w n x r)) (sym at_queue) (by (is_some mine.holder) (is_none_left (items_of mine.items)) refl)
+    pub owes_take : (q : QueueState) → slice_get queues n ≡ Some q → is_none_left (items_of q.items) ≡ false → Owed (Ok (Works n (with_core x (after_take x.core (first_fresh q.items) (length q.items.fresh))) w.grace act.Seal None Quiet))
+    owes_take q at_q left = subst Takes (get_or_from_slice_get queues n q empty_queue_state at_q) (λ e.
+        let some : 1 ≤ length mine.items.fresh = subst (λ (l : Items). 1 ≤ length l) all_fresh (some_left (items_of mine.items) e) in
+        subst (λ (p : WorkerCore P Unit). Owed (Ok (Works n (with_core x p) w.grace act.Seal None Quiet))) (sym (after_take_is (first_fresh mine.items) (length mine.items.fresh) some)) (takes some)) left
       where
+        Takes : QueueState → Type 0
+        Takes r = is_none_left (items_of r.items) ≡ false → Owed (Ok (Works n (with_core x (after_take x.core (first_fresh r.items) (length r.items.fresh))) w.grace act.Seal None Quiet))
+
         some_left : (l : Items) → is_none_left l ≡ false → 1 ≤ length l
         some_left [] e = absurd (true≢false e)
         some_left (i ∷ is') e = omega arith
-
-        by : (b : Bool) (c : Bool) → is_none_left (items_of mine.items) ≡ c →
-            Owed (cond b (Ok (Stay Blocked)) (cond c (Ok (Stay NothingThere)) (Ok (Works n (with_core x (after_take x.core (first_fresh mine.items) (length mine.items.fresh))) w.grace act.Seal None Quiet))))
-        by true c e = (tt, kept, k)
-        by false true e = (tt, kept, k)
-        by false false e =
-            let some : 1 ≤ length mine.items.fresh = subst (λ (l : Items). 1 ≤ length l) all_fresh (some_left (items_of mine.items) e) in
-            subst (λ (p : WorkerCore P Unit). Owed (Ok (Works n (with_core x p) w.grace act.Seal None Quiet))) (sym (after_take_is (first_fresh mine.items) (length mine.items.fresh) some)) (takes some)
 
   -- an item is run
   module _ (tickets : Tickets) (pops : x.core ≡ worker.Pops tickets) where
     batch : (mine.items.waiting ≡ []) × (tickets.left ≡ length mine.items.ready) × (1 ≤ tickets.left) × (mine.finished ≡ mine.items.gone) × (tickets.last.0 ≡ mine.items.gone + tickets.left)
     batch = subst (λ (p : WorkerCore P Unit). WorkKept mine.items.ready mine.items.waiting mine.items.cookie mine.items.gone mine.finished now.asked now.awaited now.asked_sections x.ask p) pops my_work
 
-    runs : (i : Item Unit) (rest : Items) → mine.items.ready ≡ i ∷ rest → Owed (run_row w n x tickets (Some (record { 0 = mine.items.gone + 1 }, i.object)))
+    abbrev Runs : Ticket × ObjectId → Type 0
+    Runs first = Owed (Ok (Works n (with_core x (worker.Ran tickets first.0 (item_of first.1))) w.grace act.Pop (Some (record { object = first.1; life = life.Reclaimed })) (one (events.Run first.1))))
+
+    runs : (i : Item Unit) (rest : Items) → mine.items.ready ≡ i ∷ rest → Runs (record { 0 = mine.items.gone + 1 }, i.object)
     runs i rest ready = (
       ((has_object_in now.queued o life_is.1, (λ h. life_is.2 (in_objects now.reclaimed o h)), (k.queues n).ready_free o (subst (λ (l : Items). Has l o) (sym ready) (inl refl))), tt),
       beside plans layout slots laws _ now (kept_worker plans layout slots laws w now kept n x' after' (Some m) (w.log ++ events.Run o ∷ []) inside (longer (events.Run o ∷ [])) (work_is ∙ ap (worker_work x.ask) pops) refl)
@@ -425,16 +385,25 @@ module _ {P : Type 0} (plans : Plans P) (layout : Layout) (slots : ℕ) (laws : 
             subst (λ (a : Items). Stands (f mine).items.gone a s p) (sym (popped_is (i ∷ rest) ready items_of)) (subst (λ g. Stands g tail s p) (sym gone_is) l))
             (subst (λ (a : Items). Stands mine.items.gone a s p) items_are h)) (λ j other' h. h) j
 
-    pub owes_run : Owed (run_row w n x tickets (first_in (slice_get queues n)))
-    owes_run = subst (λ (r : Option QueueState). Owed (run_row w n x tickets (first_in r))) (sym at_queue) (by mine.items.ready refl)
+    pub owes_run : (first : Ticket × ObjectId) → first_in (slice_get queues n) ≡ Some first → Runs first
+    owes_run first found = by mine.items.ready refl (sym (ap first_in at_queue) ∙ found)
       where
-        by : (l : Items) → mine.items.ready ≡ l → Owed (run_row w n x tickets (object_with (mine.items.gone + 1) l))
-        by [] e = tt
-        by (i ∷ rest) e = runs i rest e
+        by : (l : Items) → mine.items.ready ≡ l → object_with (mine.items.gone + 1) l ≡ Some first → Runs first
+        by [] e f = absurd (none-some first f)
+        by (i ∷ rest) e f = subst Runs (same_Some _ first f) (runs i rest e)
 
   -- and counted
   pub owes_count : (tickets : Tickets) (ticket : Ticket) (item : Item Unit) → x.core ≡ worker.Ran tickets ticket item → Owed (Ok (Works n (with_core x (item_done (worker.Counts tickets ticket))) w.grace act.Finish None Quiet))
-  owes_count tickets ticket item ran = by (ltb 1 tickets.left) (leb_tells tickets.left 1) refl
+  owes_count tickets ticket item ran = cond_both (ltb 1 tickets.left) (worker.Pops (rest_of tickets)) worker.Idle (λ (p : WorkerCore P Unit). Owed (Ok (Works n (with_core x p) w.grace act.Finish None Quiet)))
+      (λ e.
+      let some = ltb-true 1 tickets.left e in
+      let last = batch.3 in
+      let is' = batch.1 in
+      counts (worker.Pops (rest_of tickets)) refl (batch.0, omega (arith, is'), omega (arith, some), batch.2, omega (arith, last, some)))
+      (λ e.
+      let is' = batch.1 in
+      let low = ltb-false 1 tickets.left e in
+      counts worker.Idle refl (none_left mine.items.ready (omega (arith, is', low)), batch.0, batch.2))
     where
       batch : (mine.items.waiting ≡ []) × (tickets.left ≡ length mine.items.ready + 1) × (mine.finished + 1 ≡ mine.items.gone) × (tickets.last.0 + 1 ≡ mine.items.gone + tickets.left)
       batch = subst (λ (p : WorkerCore P Unit). WorkKept mine.items.ready mine.items.waiting mine.items.cookie mine.items.gone mine.finished now.asked now.awaited now.asked_sections x.ask p) ran my_work
@@ -447,15 +416,3 @@ module _ {P : Type 0} (plans : Plans P) (layout : Layout) (slots : ℕ) (laws : 
       counts p rests works' = still (with_core x p) act.Finish (ap (worker_work x.ask) ran) rests
           (quiet_step w now k n inside (acted act.Finish) (with_core x p) (length (w.log ++ [])) (longer []) refl refl
           (record { is_open = (more_kept []).is_open; given_low = (more_kept []).given_low; announced = (more_kept []).announced; at_rest = (more_kept []).at_rest; ready_free = (more_kept []).ready_free }) refl refl refl works')
-
-      by : (b : Bool) → ((leb tickets.left 1 ≡ true) × (tickets.left ≤ 1)) ⊎ ((leb tickets.left 1 ≡ false) × (1 < tickets.left)) → ltb 1 tickets.left ≡ b → Owed (Ok (Works n (with_core x (cond b (worker.Pops (rest_of tickets)) worker.Idle)) w.grace act.Finish None Quiet))
-      by true d e =
-          let some : 1 < tickets.left = (Decides-ltb 1 tickets.left).0 e in
-          let last = batch.3 in
-          let is' = batch.1 in
-          counts (worker.Pops (rest_of tickets)) refl (batch.0, omega (arith, is'), omega (arith, some), batch.2, omega (arith, last, some))
-      by false (inl y) e =
-          let is' = batch.1 in
-          let low = y.1 in
-          counts worker.Idle refl (none_left mine.items.ready (omega (arith, is', low)), batch.0, batch.2)
-      by false (inr y) e = absurd (true≢false (sym ((Decides-ltb 1 tickets.left).1 y.1) ∙ e))

@@ -5,7 +5,6 @@ use Rattle.rcu_model.specs.declared.refusal.Refusal.TheVariants.{NoActor, Busy, 
 use Rattle.reader_word.specs.declared.layout.Layout.{Layout}
 use Rattle.callback_queue.specs.Queue.{items_of}
 use Rattle.call_rcu_worker.specs.declared.worker.WorkerCore.TheVariants.{Idle}
-use Rattle.world_state.specs.declared.line.Answer.{Answer}
 use Rattle.world_state.specs.declared.line.Line.{Line}
 use Rattle.world_state.specs.declared.line.Line.TheVariants.{Worker}
 use Rattle.world_state.specs.declared.line.WorkerVerb.TheVariants.{Take, GoOn}
@@ -17,7 +16,7 @@ use Rattle.world_state.specs.Readers.{is_open_in}
 use Rattle.world_state.specs.View.{Plans, BoardView}
 use Rattle.world.specs.Lines.{outcome_of, world_after}
 use Rattle.world_kept.specs.Kept.{PartOf, Working}
-use Rattle.world.specs.Steps.{WorldView, OfMemb, OfQsbr, memb_plans, qsbr_plans, step_of, world_after_lines, log_of, IsPrompt}
+use Rattle.world.specs.Steps.{WorldView, OfMemb, OfQsbr, memb_plans, qsbr_plans, step_of, world_after_lines, log_of, IsMade}
 use Rattle.world.specs.Workers.{is_none_left, is_resting}
 
 -- some reader is in a section
@@ -34,7 +33,7 @@ steps_of_flavour true readers items = readers + 8 + 2 * items
 abbrev pub steps_for : Bool → ℕ → ℕ → ℕ
 steps_for qsbr readers items = if items == 0 then 0 else steps_of_flavour qsbr readers items
 
--- the lines of a drain with so many steps
+-- the lines of a drain with this many steps
 abbrev pub drain_lines : ℕ → ℕ → List Line
 drain_lines k zero = []
 drain_lines k (suc more) = Worker k Take ∷ replicate more (Worker k GoOn)
@@ -78,11 +77,6 @@ module _ {P : Type 0} where
 abbrev pub HasNone : Option QueueState → Type 0
 HasNone None = ⊥
 HasNone (Some q) = (items_of q.items ≡ []) × (q.finished ≡ q.items.gone)
-
--- the step was made: it told events or nothing, and did not wait, was not blocked, and found something to do
-abbrev pub IsMade : Result Answer Refusal → Type 0
-IsMade (Ok answer) = IsPrompt answer
-IsMade (Err e) = ⊥
 
 module _ {P : Type 0} where
   -- the worker is in no operation again, has run and counted all, and has freed the grace lock

@@ -1,5 +1,5 @@
 -- The step table's rows of a grace period.
-use Rattle.std.specs.Prelude.{◌≡◌, ℕ, ◌+◌, Bool, nat_le, if◌then◌else◌, length, slice_get, Option, Some, None, Result, Ok, Err}
+use Rattle.std.specs.Prelude.{◌≡◌, ◌+◌, ℕ, Bool, true, false, not, nat_le, [], ◌∷◌, length, slice_get, Option, Some, None, Result, Ok, Err}
 use Rattle.rcu_model.specs.declared.event.Event.TheVariants.{Ask as Asked, Answer as Answered}
 use Rattle.rcu_model.specs.declared.refusal.Refusal.{Refusal}
 use Rattle.rcu_model.specs.declared.refusal.Refusal.TheVariants.{NotOpen}
@@ -12,6 +12,7 @@ use Rattle.call_rcu_worker.specs.declared.sync.SyncStep.TheVariants.{Ask, TakeLo
 use Rattle.call_rcu_worker.specs.Sync.{Telling, step_of, told_of, HasJustBegun, begun_with}
 use Rattle.world.specs.declared.grace.Effect.{Effect}
 use Rattle.world.specs.declared.grace.GraceStep.{GraceStep}
+use Rattle.world_state.specs.declared.line.Answer.{Answer}
 use Rattle.world_state.specs.declared.line.Answer.TheVariants.{Events, Wait, Blocked}
 use Rattle.world_state.specs.declared.reader.ReaderState.{ReaderState}
 use Rattle.world_state.specs.declared.updater.GraceState.{GraceState}
@@ -21,9 +22,10 @@ use Rattle.world_state.specs.declared.updater.UpdaterPlace.TheVariants.{Idle, Sy
 use Rattle.world_state.specs.declared.updater.UpdaterState.{UpdaterState}
 use Rattle.world_state.specs.declared.updater.Started.{Started}
 use Rattle.world_state.specs.declared.change.Change.{Change}
-use Rattle.world_state.specs.declared.change.Change.TheVariants.{Grace, Stay}
+use Rattle.world_state.specs.declared.change.Change.TheVariants.{Grace}
 use Rattle.world_state.specs.View.{Plans, BoardView}
 use Rattle.world.specs.Answers.{answer_to}
+use Rattle.world.specs.Row.{Row, stalled_if, guarded, makes, refused}
 
 abbrev pub stepped : {P : Type 0} → GraceState → ℕ → Result (Telling P) Refusal → Result (GraceStep P) Refusal
 stepped grace ask (Ok t) = Ok (record { core = t.core; grace = grace; answer = answer_to ask t.told })
@@ -82,6 +84,21 @@ done_with plans w ask core (Some e) = stepped e.grace ask (told_of plans.action 
 abbrev pub grace_row : {P : Type 0} → Plans P → BoardView P → Holder → ℕ → SyncCore P → Result (GraceStep P) Refusal
 grace_row plans w me ask core = done_with plans w ask core (effect_of plans w me ask (step_of plans.action core))
 
+-- the step was not made: the lock is held, or it waits for a reader
+abbrev pub is_blocked : Answer → Bool
+is_blocked Blocked = true
+is_blocked answer = false
+
+abbrev pub is_waiting : Answer → Bool
+is_waiting Wait = true
+is_waiting answer = false
+
+-- the row of a step of a grace period; `change` is what it makes of whoever waits
+abbrev pub sync_row : {P : Type 0} → (GraceStep P → Change P) → Result (GraceStep P) Refusal → Row (Change P)
+sync_row change (Ok step) =
+    guarded (stalled_if (is_blocked step.answer) Blocked ∷ stalled_if (is_waiting step.answer) Wait ∷ []) (Ok (change step))
+sync_row change (Err e) = refused e
+
 -- the place of an updater whose grace period stands here
 abbrev pub place_at : {P : Type 0} → ℕ → SyncCore P → SyncStep → UpdaterPlace P
 place_at ask core Nothing = Idle
@@ -91,12 +108,14 @@ abbrev pub sync_place : {P : Type 0} → Plans P → ℕ → SyncCore P → Upda
 sync_place plans ask core = place_at ask core (step_of plans.action core)
 
 -- `start`, with the cookie of the number that it loads
-abbrev pub start_row : {P : Type 0} → BoardView P → ℕ → UpdaterState P → Result ℕ Refusal → Result (Change P) Refusal
+abbrev pub start_row : {P : Type 0} → BoardView P → ℕ → UpdaterState P → Result ℕ Refusal → Row (Change P)
 start_row w u x (Ok c) =
-    Ok (Grace u (record x { started = Some (record { ask = w.grace.asks + 1; cookie = c }) }) (record w.grace { asks = w.grace.asks + 1 }) (Events (Asked (w.grace.asks + 1)) None))
-start_row w u x (Err e) = Err e
+    makes (Grace u (record x { started = Some (record { ask = w.grace.asks + 1; cookie = c }) }) (record w.grace { asks = w.grace.asks + 1 }) (Events (Asked (w.grace.asks + 1)) None))
+start_row w u x (Err e) = refused e
 
 -- `poll`, which spends a cookie that is reached
-abbrev pub poll_row : {P : Type 0} → BoardView P → ℕ → UpdaterState P → Option Started → Result (Change P) Refusal
-poll_row w u x None = Err NotOpen
-poll_row w u x (Some s) = if nat_le s.cookie w.grace.seq then Ok (Grace u (record x { started = None }) w.grace (Events (Answered s.ask) None)) else Ok (Stay Wait)
+abbrev pub poll_row : {P : Type 0} → BoardView P → ℕ → UpdaterState P → Option Started → Row (Change P)
+poll_row w u x None = refused NotOpen
+poll_row w u x (Some s) =
+    guarded (stalled_if (not (nat_le s.cookie w.grace.seq)) Wait ∷ [])
+    (Ok (Grace u (record x { started = None }) w.grace (Events (Answered s.ask) None)))

@@ -1,4 +1,5 @@
 pub mod Answers
+pub mod Row
 pub mod Chains
 pub mod Grace
 pub mod Queues
@@ -16,6 +17,8 @@ pub mod Locks
 pub mod Actors
 pub mod Refusals
 pub mod Tests
+pub mod Standing
+pub mod Blocking
 pub mod RunOrder
 pub mod Notes
 pub mod Loads

@@ -1,8 +1,7 @@
 -- The step table's rows of retirements and barriers.
-use Rattle.std.specs.Prelude.{ℕ, ◌+◌, ◌%◌, ◌&&◌, Bool, true, false, nat_lt, nat_le, if◌then◌else◌, List, length, replicate, get_or, slice_get, slice_set, Option, Some, None, Result, Ok, Err}
+use Rattle.std.specs.Prelude.{◌+◌, ◌%◌, ◌&&◌, ℕ, Bool, true, false, not, nat_lt, nat_le, is_some, if◌then◌else◌, List, [], ◌∷◌, length, replicate, get_or, slice_get, slice_set, Option, Some, None, Ok}
 use Rattle.rcu_model.specs.declared.event.Event.TheVariants as events
 use Rattle.rcu_model.specs.declared.event.ObjectId.{ObjectId}
-use Rattle.rcu_model.specs.declared.refusal.Refusal.{Refusal}
 use Rattle.rcu_model.specs.declared.refusal.Refusal.TheVariants.{NoPlace}
 use Rattle.world_state.specs.declared.line.Answer.TheVariants.{Quiet, Wait, Blocked}
 use Rattle.world_state.specs.declared.object.Life.{Life}
@@ -21,10 +20,11 @@ use Rattle.world_state.specs.declared.updater.UpdaterPlace.{UpdaterPlace}
 use Rattle.world_state.specs.declared.updater.UpdaterPlace.TheVariants.{Idle, Retires, Bars}
 use Rattle.world_state.specs.declared.updater.UpdaterState.{UpdaterState}
 use Rattle.world_state.specs.declared.change.Change.{Change}
-use Rattle.world_state.specs.declared.change.Change.TheVariants.{Hold, Retire, Bar, Stay}
+use Rattle.world_state.specs.declared.change.Change.TheVariants.{Hold, Retire, Bar}
 use Rattle.world_state.specs.View.{BoardView}
 use Rattle.world.specs.Answers.{one}
 use Rattle.world.specs.Chains.{writes}
+use Rattle.world.specs.Row.{Row, refused_if, stalled_if, guarded, after, makes, unreached}
 
 -- the queue of an updater
 abbrev pub queue_of : {P : Type 0} → BoardView P → ℕ → ℕ
@@ -51,16 +51,12 @@ may_retire w u None = false
 may_retire w u (Some y) = is_cut y.stage && (is_kept y.life && writes w u y.chain)
 
 -- `retire`: the lock is taken, unless it is held
-abbrev pub lock_free : {P : Type 0} → BoardView P → ℕ → UpdaterState P → ObjectId → Option ℕ → Change P
-lock_free w u x o (Some other) = Stay Blocked
-lock_free w u x o None = Hold u (at_place x (Retires o Mark)) (queue_of w u)
+abbrev pub lock_row : {P : Type 0} → BoardView P → ℕ → UpdaterState P → ObjectId → Option QueueState → Row (Change P)
+lock_row w u x o None = unreached NoPlace
+lock_row w u x o (Some q) = guarded (stalled_if (is_some q.holder) Blocked ∷ []) (Ok (Hold u (at_place x (Retires o Mark)) (queue_of w u)))
 
-abbrev pub lock_row : {P : Type 0} → BoardView P → ℕ → UpdaterState P → ObjectId → Option QueueState → Result (Change P) Refusal
-lock_row w u x o None = Err NoPlace
-lock_row w u x o (Some q) = Ok (lock_free w u x o q.holder)
-
-abbrev pub retire_row : {P : Type 0} → BoardView P → ℕ → UpdaterState P → ObjectId → Bool → Result (Change P) Refusal
-retire_row w u x o may = if may then lock_row w u x o (slice_get w.queues (queue_of w u)) else Err NoPlace
+abbrev pub retire_row : {P : Type 0} → BoardView P → ℕ → UpdaterState P → ObjectId → Bool → Row (Change P)
+retire_row w u x o may = after (refused_if (not may) NoPlace ∷ []) (lock_row w u x o (slice_get w.queues (queue_of w u)))
 
 -- and its further steps
 abbrev pub retire_on : {P : Type 0} → BoardView P → ℕ → UpdaterState P → ObjectId → RetireStep → Change P
@@ -94,6 +90,7 @@ checked w u x b q =
     if nat_lt (q + 1) (length w.queues) then Bar u (at_place x (Bars (record b { due = Check (q + 1) }))) w.barriers Quiet
     else Bar u (at_place x Idle) w.barriers (one (events.Clear b.number))
 
-abbrev pub barrier_on : {P : Type 0} → BoardView P → ℕ → UpdaterState P → Barrier → BarrierStep → Change P
-barrier_on w u x b (Note q) = Bar u (at_place x (Bars (record b { counts = noted_at w b.counts q; due = after_note w q }))) w.barriers Quiet
-barrier_on w u x b (Check q) = if nat_le (get_or b.counts q 0) (finished_in (slice_get w.queues q)) then checked w u x b q else Stay Wait
+abbrev pub barrier_on : {P : Type 0} → BoardView P → ℕ → UpdaterState P → Barrier → BarrierStep → Row (Change P)
+barrier_on w u x b (Note q) = makes (Bar u (at_place x (Bars (record b { counts = noted_at w b.counts q; due = after_note w q }))) w.barriers Quiet)
+barrier_on w u x b (Check q) =
+    guarded (stalled_if (not (nat_le (get_or b.counts q 0) (finished_in (slice_get w.queues q)))) Wait ∷ []) (Ok (checked w u x b q))

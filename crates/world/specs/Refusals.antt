@@ -20,3 +20,11 @@ IsStepError Missing = ⊥
 IsStepError BadText = ⊥
 IsStepError BadConfig = ⊥
 IsStepError FewJobs = ⊥
+
+-- those that tell nothing of where the actor stands: a full count, nothing there, no number left, no memory
+abbrev pub IsOfVerb : Refusal → Type 0
+IsOfVerb NestFull = Unit {0}
+IsOfVerb NoPlace = Unit {0}
+IsOfVerb Exhausted = Unit {0}
+IsOfVerb Memory = Unit {0}
+IsOfVerb e = ⊥

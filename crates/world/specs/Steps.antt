@@ -1,5 +1,5 @@
 -- A world of either flavour, and the step table as its callers see it.
-use Rattle.std.specs.Prelude.{◌≡◌, ◌⊎◌, ◌%◌, ◌^◌, ℕ, ◌==◌, ◌&&◌, nat_le, Bool, true, false, List, [], ◌∷◌, ◌++◌, Result, Ok, Err}
+use Rattle.std.specs.Prelude.{◌≡◌, ◌⊎◌, ◌%◌, ◌^◌, ◌==◌, ◌&&◌, ℕ, nat_le, Bool, true, false, List, [], ◌∷◌, ◌++◌, Result, Ok, Err}
 use Rattle.rcu_model.specs.declared.event.Event.{Event}
 use Rattle.rcu_model.specs.declared.refusal.Refusal.{Refusal}
 use Rattle.rcu_model.specs.declared.refusal.Refusal.TheVariants.{Memory}
@@ -60,6 +60,19 @@ IsPrompt Quiet = Unit {0}
 IsPrompt Wait = ⊥
 IsPrompt Blocked = ⊥
 IsPrompt Idle = ⊥
+
+-- it was not made: it waits, is blocked, or finds nothing to do
+abbrev pub IsStalled : Answer → Type 0
+IsStalled (Events first second) = ⊥
+IsStalled Quiet = ⊥
+IsStalled Wait = Unit {0}
+IsStalled Blocked = Unit {0}
+IsStalled Idle = Unit {0}
+
+-- it told events or nothing, and did not wait, was not blocked, and found something to do
+abbrev pub IsMade : Result Answer Refusal → Type 0
+IsMade (Ok answer) = IsPrompt answer
+IsMade (Err e) = ⊥
 
 -- the world after a step, and the answer
 pub record Outcome : Type 0 where

@@ -1,5 +1,5 @@
 -- The step table's rows of workers.
-use Rattle.std.specs.Prelude.{ℕ, ◌+◌, ◌-◌, Bool, true, false, is_some, if◌then◌else◌, List, [], ◌∷◌, length, slice_get, Option, Some, None, Result, Ok, Err}
+use Rattle.std.specs.Prelude.{◌+◌, ◌-◌, ℕ, Bool, true, false, is_some, List, [], ◌∷◌, length, slice_get, Option, Some, None, Result, Ok}
 use Rattle.rcu_model.specs.declared.event.Event.TheVariants as events
 use Rattle.rcu_model.specs.declared.refusal.Refusal.{Refusal}
 use Rattle.rcu_model.specs.declared.refusal.Refusal.TheVariants.{NotOpen, NoActor}
@@ -13,8 +13,7 @@ use Rattle.call_rcu_worker.specs.declared.worker.Tickets.{Tickets}
 use Rattle.call_rcu_worker.specs.declared.worker.WorkerCore.{WorkerCore}
 use Rattle.call_rcu_worker.specs.declared.worker.WorkerCore.TheVariants as worker
 use Rattle.call_rcu_worker.specs.Worker.{after_take, synced, item_done}
-use Rattle.world_state.specs.declared.line.Answer.{Answer}
-use Rattle.world_state.specs.declared.line.Answer.TheVariants.{Quiet, Wait, Blocked, Idle as NothingThere}
+use Rattle.world_state.specs.declared.line.Answer.TheVariants.{Quiet, Blocked, Idle as NothingThere}
 use Rattle.world_state.specs.declared.object.Life.TheVariants as life
 use Rattle.world_state.specs.declared.queue.QueueAct.{QueueAct}
 use Rattle.world_state.specs.declared.queue.QueueAct.TheVariants as act
@@ -22,12 +21,13 @@ use Rattle.world_state.specs.declared.queue.QueueState.{QueueState}
 use Rattle.world_state.specs.declared.updater.Holder.TheVariants as holder
 use Rattle.world_state.specs.declared.worker.WorkerState.{WorkerState}
 use Rattle.world_state.specs.declared.change.Change.{Change}
-use Rattle.world_state.specs.declared.change.Change.TheVariants.{Work, Stay}
+use Rattle.world_state.specs.declared.change.Change.TheVariants.{Work}
 use Rattle.world_state.specs.Queues.{item_of}
 use Rattle.world_state.specs.View.{Plans, BoardView}
 use Rattle.world.specs.declared.grace.GraceStep.{GraceStep}
 use Rattle.world.specs.Answers.{one}
-use Rattle.world.specs.Grace.{grace_row}
+use Rattle.world.specs.Grace.{grace_row, sync_row}
+use Rattle.world.specs.Row.{Row, stalled_if, guarded, makes, unreached}
 
 abbrev pub is_none_left : {T : Type 0} → List T → Bool
 is_none_left [] = true
@@ -47,12 +47,11 @@ module _ {P : Type 0} where
   with_core x core = record x { core = core }
 
   -- `take`: all fresh items wait from now on
-  abbrev pub take_row : BoardView P → ℕ → WorkerState P → Option QueueState → Result (Change P) Refusal
-  take_row w k x None = Err NoActor
+  abbrev pub take_row : BoardView P → ℕ → WorkerState P → Option QueueState → Row (Change P)
+  take_row w k x None = unreached NoActor
   take_row w k x (Some q) =
-      if is_some q.holder then Ok (Stay Blocked)
-      else if is_none_left (items_of q.items) then Ok (Stay NothingThere)
-      else Ok (Work k (with_core x (after_take x.core (first_fresh q.items) (length q.items.fresh))) w.grace act.Seal None Quiet)
+      guarded (stalled_if (is_some q.holder) Blocked ∷ stalled_if (is_none_left (items_of q.items)) NothingThere ∷ [])
+      (Ok (Work k (with_core x (after_take x.core (first_fresh q.items) (length q.items.fresh))) w.grace act.Seal None Quiet))
 
   -- the number of the ask that the step is of
   abbrev pub ask_for : BoardView P → ℕ → SyncCore P → ℕ
@@ -82,29 +81,26 @@ module _ {P : Type 0} where
   worker_act seq (worker.Ran tickets ticket item) = act.Leave
   worker_act seq (worker.Counts tickets ticket) = act.Leave
 
-  -- a step of the worker's grace period, of which `wait` and `blocked` change nothing
-  abbrev pub work_change : ℕ → ℕ → Tickets → GraceStep P → Answer → Change P
-  work_change k ask tickets step Wait = Stay Wait
-  work_change k ask tickets step Blocked = Stay Blocked
-  work_change k ask tickets step answer = Work k (record { ask = ask; core = synced step.core tickets }) step.grace (worker_act step.grace.seq (synced step.core tickets)) None answer
+  -- a step of the worker's grace period
+  abbrev pub work_change : ℕ → ℕ → Tickets → GraceStep P → Change P
+  work_change k ask tickets step = Work k (record { ask = ask; core = synced step.core tickets }) step.grace (worker_act step.grace.seq (synced step.core tickets)) None step.answer
 
-  abbrev pub worked : ℕ → ℕ → Tickets → Result (GraceStep P) Refusal → Result (Change P) Refusal
-  worked k ask tickets (Ok step) = Ok (work_change k ask tickets step step.answer)
-  worked k ask tickets (Err e) = Err e
+  abbrev pub worked : ℕ → ℕ → Tickets → Result (GraceStep P) Refusal → Row (Change P)
+  worked k ask tickets step = sync_row (work_change k ask tickets) step
 
   -- the first ready item is popped and run, and then counted
-  abbrev pub run_row : BoardView P → ℕ → WorkerState P → Tickets → Option (Ticket × ObjectId) → Result (Change P) Refusal
-  run_row w k x tickets None = Err NotOpen
-  run_row w k x tickets (Some first) = Ok (Work k (with_core x (worker.Ran tickets first.0 (item_of first.1))) w.grace act.Pop (Some (record { object = first.1; life = life.Reclaimed })) (one (events.Run first.1)))
+  abbrev pub run_row : BoardView P → ℕ → WorkerState P → Tickets → Option (Ticket × ObjectId) → Row (Change P)
+  run_row w k x tickets None = unreached NotOpen
+  run_row w k x tickets (Some first) = makes (Work k (with_core x (worker.Ran tickets first.0 (item_of first.1))) w.grace act.Pop (Some (record { object = first.1; life = life.Reclaimed })) (one (events.Run first.1)))
 
   -- a worker's next step; between two lines it holds no item that it did not run
-  abbrev pub worker_on : Plans P → BoardView P → ℕ → WorkerState P → WorkerCore P Unit → Result (Change P) Refusal
-  worker_on plans w k x worker.Idle = Err NotOpen
+  abbrev pub worker_on : Plans P → BoardView P → ℕ → WorkerState P → WorkerCore P Unit → Row (Change P)
+  worker_on plans w k x worker.Idle = unreached NotOpen
   worker_on plans w k x (worker.Syncs sync tickets) = worked k (ask_for w x.ask sync) tickets (grace_row plans w (holder.Worker k) (ask_for w x.ask sync) sync)
   worker_on plans w k x (worker.Pops tickets) = run_row w k x tickets (first_in (slice_get w.queues k))
-  worker_on plans w k x (worker.Runs tickets ticket item) = Err NotOpen
-  worker_on plans w k x (worker.Ran tickets ticket item) = Ok (Work k (with_core x (item_done (worker.Counts tickets ticket))) w.grace act.Finish None Quiet)
-  worker_on plans w k x (worker.Counts tickets ticket) = Err NotOpen
+  worker_on plans w k x (worker.Runs tickets ticket item) = unreached NotOpen
+  worker_on plans w k x (worker.Ran tickets ticket item) = makes (Work k (with_core x (item_done (worker.Counts tickets ticket))) w.grace act.Finish None Quiet)
+  worker_on plans w k x (worker.Counts tickets ticket) = unreached NotOpen
 
   abbrev pub is_resting : WorkerCore P Unit → Bool
   is_resting worker.Idle = true

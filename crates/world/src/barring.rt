@@ -1,6 +1,6 @@
 //! The lines of updaters that wait until all that was queued has run.
 
-ghost use Rattle.std.specs.Prelude.{◌≡◌, ◌+◌, ◌<◌, ◌≤◌, length, slice_get};
+ghost use Rattle.std.specs.Prelude.{◌≡◌, ◌+◌, ◌<◌, ◌≤◌, length, slice_get, Ok};
 
 use crate::board::{Board, entry};
 use crate::grace::one_event;
@@ -12,6 +12,7 @@ use world_state::{
 impl<P: WorldPlan + Drop> Board<P> {
     ghost use Rattle.world.specs.Queues.{queued_in, finished_in, after_note, noted_at, checked, barrier_row, barrier_on};
     ghost use Rattle.world_state.specs.declared.updater.BarrierStep.TheVariants.{Check};
+    ghost use Rattle.world.specs.Row.{made};
     ghost use Rattle.world.specs.Shown.{shown, HasQueues, IsAtQueue};
 
     /// Notes the queued count of a queue.
@@ -65,7 +66,7 @@ impl<P: WorldPlan + Drop> Board<P> {
     ) -> Change<P>
         requires queues { HasQueues (shown self.now) }
         requires at { IsAtQueue (shown self.now) barrier.due }
-        ensures { result ≡ barrier_on (shown self.now) updater state barrier barrier.due }
+        ensures { Ok result ≡ made (barrier_on (shown self.now) updater state barrier barrier.due) }
     {
         match barrier.due {
             BarrierStep::Note(queue) => {
@@ -93,7 +94,7 @@ impl<P: WorldPlan + Drop> Board<P> {
     ) -> Change<P>
         requires queues { HasQueues (shown self.now) }
         requires at { queue < length (shown self.now).queues }
-        ensures { result ≡ barrier_on (shown self.now) updater state barrier (Check queue) }
+        ensures { Ok result ≡ made (barrier_on (shown self.now) updater state barrier (Check queue)) }
     {
         let noted = barrier.counts.get(queue as usize).copied().unwrap_or(0);
         let finished = entry(&self.kept.queues, queue as usize).map_or(0, |state| state.finished);

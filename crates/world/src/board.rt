@@ -34,7 +34,8 @@ pub(crate) fn entry<T>(items: &[T], place: usize) -> Option<&T>
 impl<P: WorldPlan + Drop> Board<P> {
     ghost use Rattle.world_state.specs.View.{fresh_at, plans_of};
     ghost use Rattle.world_state.specs.declared.line.Line.TheVariants.{Reader as ReaderLine};
-    ghost use Rattle.world.specs.Lines.{change_of, read_by, outcome_of};
+    ghost use Rattle.world.specs.Lines.{change_of, outcome_of};
+    ghost use Rattle.world.specs.Row.{read_step};
     ghost use Rattle.world.specs.Shown.{shown, Meets, IsInRange};
 
     /// A board on which nothing has happened. `Memory` where that was refused.
@@ -77,7 +78,7 @@ impl<P: WorldPlan + Drop> Board<P> {
     /// What a line of a reader makes of it, or why it is refused.
     fn reader_step(&self, reader: u32, verb: ReaderVerb) -> Result<ReaderStep, Refusal>
         requires { IsInRange (plans_of P.QSBR P.made P.action P.turn P.taken) (shown self.now) }
-        ensures { change_of (plans_of P.QSBR P.made P.action P.turn P.taken) (shown self.now) (ReaderLine reader verb) ≡ read_by reader result }
+        ensures { change_of (plans_of P.QSBR P.made P.action P.turn P.taken) (shown self.now) (ReaderLine reader verb) ≡ read_step reader result }
     {
         let Some(state) = at(&self.kept.readers, reader as usize) else {
             return Err(Refusal::NoActor);

@@ -43,8 +43,8 @@ pub fn readers_store_what_they_loaded()
     ensures { (config : Config) (seq : ℕ) (lines : List Line) → ReadersStoreWhatTheyLoaded (fresh_world_at config seq) lines }
 {}
 
-/// A check under the grace lock answers its ask exactly where the present sequence number has reached the cookie, and
-/// else tells nothing; of an updater and of a worker, in every world.
+/// A check under the grace lock, and a `poll`, answers its ask exactly where the present sequence number has reached
+/// the cookie. Else the check tells nothing, and the `poll` waits; of an updater and of a worker, in every world.
 pub fn checks_answer_by_their_cookie()
     ensures { (w : WorldView) (line : Line) → AnswersByItsCookie w line }
 {}

@@ -8,6 +8,7 @@ use world_state::{Change, ObjectState, Publishing, Splice, UpdaterPlace, Updater
 
 impl<P: WorldPlan + Drop> Board<P> {
     ghost use Rattle.world.specs.Chains.{writes, next_object, linked_by, push_row, replace_row, cut_row, published, pushed_row, replaced_row};
+    ghost use Rattle.world.specs.Row.{made};
     ghost use Rattle.world.specs.Shown.{shown};
 
     /// Whether the updater is the one that writes the chain.
@@ -45,7 +46,7 @@ impl<P: WorldPlan + Drop> Board<P> {
         chain: u32,
     ) -> Result<Change<P>, Refusal>
         requires { 0 < length (shown self.now).updaters }
-        ensures { result ≡ push_row (shown self.now) updater state chain (slice_get (shown self.now).heads chain) }
+        ensures { result ≡ made (push_row (shown self.now) updater state chain (slice_get (shown self.now).heads chain)) }
     {
         let Some(head) = at(&self.kept.heads, chain as usize) else {
             return Err(Refusal::NoPlace);
@@ -69,7 +70,7 @@ impl<P: WorldPlan + Drop> Board<P> {
         old: ObjectId,
     ) -> Result<Change<P>, Refusal>
         requires { 0 < length (shown self.now).updaters }
-        ensures { result ≡ replace_row (shown self.now) updater state old (linked_by (shown self.now) updater (slice_get (shown self.now).objects old.0)) }
+        ensures { result ≡ made (replace_row (shown self.now) updater state old (linked_by (shown self.now) updater (slice_get (shown self.now).objects old.0))) }
     {
         let Some(object) = self.linked(updater, old) else {
             return Err(Refusal::NoPlace);
@@ -91,7 +92,7 @@ impl<P: WorldPlan + Drop> Board<P> {
         object: ObjectId,
     ) -> Result<Change<P>, Refusal>
         requires { 0 < length (shown self.now).updaters }
-        ensures { result ≡ cut_row updater state object (linked_by (shown self.now) updater (slice_get (shown self.now).objects object.0)) }
+        ensures { result ≡ made (cut_row updater state object (linked_by (shown self.now) updater (slice_get (shown self.now).objects object.0))) }
     {
         let Some(
             ObjectState {
@@ -125,7 +126,7 @@ impl<P: WorldPlan + Drop> Board<P> {
         mut state: UpdaterState<P>,
         publishing: Publishing,
     ) -> Result<Change<P>, Refusal>
-        ensures { result ≡ published (shown self.now) updater state publishing }
+        ensures { result ≡ made (published (shown self.now) updater state publishing) }
     {
         state.place = UpdaterPlace::Idle;
         match publishing {
@@ -141,7 +142,7 @@ impl<P: WorldPlan + Drop> Board<P> {
         state: UpdaterState<P>,
         new: ObjectId,
     ) -> Result<Change<P>, Refusal>
-        ensures { result ≡ pushed_row updater state new (slice_get (shown self.now).objects new.0) }
+        ensures { result ≡ made (pushed_row updater state new (slice_get (shown self.now).objects new.0)) }
     {
         let Some(object) = at(&self.kept.objects, new.0 as usize) else {
             return Err(Refusal::NoPlace);
@@ -171,7 +172,7 @@ impl<P: WorldPlan + Drop> Board<P> {
         old: ObjectId,
         new: ObjectId,
     ) -> Result<Change<P>, Refusal>
-        ensures { result ≡ replaced_row updater state old new (slice_get (shown self.now).objects old.0) }
+        ensures { result ≡ made (replaced_row updater state old new (slice_get (shown self.now).objects old.0)) }
     {
         let Some(object) = at(&self.kept.objects, old.0 as usize) else {
             return Err(Refusal::NoPlace);

@@ -1,6 +1,6 @@
 //! The lines of readers.
 
-ghost use Rattle.std.specs.Prelude.{◌≡◌, ◌+◌, ◌≤◌, ◌<◌, ◌^◌, length, slice_get, Some};
+ghost use Rattle.std.specs.Prelude.{◌≡◌, ◌+◌, ◌≤◌, ◌<◌, ◌^◌, length, slice_get, Some, None};
 
 use crate::board::{Board, at};
 use rcu_model::Refusal;
@@ -8,11 +8,12 @@ use reader_word::qs_is_online;
 use world_state::{ReaderState, ReaderStep, ReaderVerb, WorldPlan};
 
 impl<P: WorldPlan + Drop> Board<P> {
+    ghost use Rattle.world_state.specs.declared.line.ReaderVerb.TheVariants.{GoOn};
     ghost use Rattle.world.specs.Chains.{first_row, next_from};
-    ghost use Rattle.world.specs.Lines.{reader_line, reader_begins, reader_on};
+    ghost use Rattle.world.specs.Lines.{reader_line, reader_verb};
+    ghost use Rattle.world.specs.Row.{read_step, read_by, made};
     ghost use Rattle.world.specs.Shown.{shown, IsInRange};
     ghost use Rattle.world_state.specs.View.{plans_of};
-    ghost use Rattle.world_state.specs.Readers.{touch_row};
 
     /// A line of a reader.
     pub fn reader_line(
@@ -23,7 +24,7 @@ impl<P: WorldPlan + Drop> Board<P> {
     ) -> Result<ReaderStep, Refusal>
         requires range { IsInRange (plans_of P.QSBR P.made P.action P.turn P.taken) (shown self.now) }
         requires there { slice_get (shown self.now).readers reader ≡ Some state }
-        ensures { result ≡ reader_line P.QSBR (shown self.now) reader state verb }
+        ensures { read_step {P = P} reader result ≡ made (read_by reader (reader_line P.QSBR (shown self.now) reader state verb)) }
     {
         if verb == ReaderVerb::GoOn {
             return self.reader_on(reader, state);
@@ -38,7 +39,7 @@ impl<P: WorldPlan + Drop> Board<P> {
     fn reader_on(&self, reader: u32, state: ReaderState) -> Result<ReaderStep, Refusal>
         requires range { IsInRange (plans_of P.QSBR P.made P.action P.turn P.taken) (shown self.now) }
         requires there { slice_get (shown self.now).readers reader ≡ Some state }
-        ensures { result ≡ reader_on P.QSBR (shown self.now) reader state state.copy }
+        ensures { read_step {P = P} reader result ≡ made (read_by reader (reader_line P.QSBR (shown self.now) reader state GoOn)) }
     {
         let Some(copy) = state.copy else {
             return Err(Refusal::NotOpen);
@@ -60,7 +61,8 @@ impl<P: WorldPlan + Drop> Board<P> {
         state: ReaderState,
         verb: ReaderVerb,
     ) -> Result<ReaderStep, Refusal>
-        ensures { result ≡ reader_begins P.QSBR (shown self.now) reader state verb }
+        requires { state.copy ≡ None }
+        ensures { read_step {P = P} reader result ≡ made (read_by reader (reader_verb P.QSBR (shown self.now) reader state verb)) }
     {
         match verb {
             ReaderVerb::Lock | ReaderVerb::Unlock if P::QSBR => Err(Refusal::WrongFlavour),
@@ -81,7 +83,7 @@ impl<P: WorldPlan + Drop> Board<P> {
     }
 
     fn first(&self, reader: u32, state: ReaderState, chain: u32) -> Result<ReaderStep, Refusal>
-        ensures { result ≡ first_row reader state chain (slice_get (shown self.now).heads chain) }
+        ensures { read_step {P = P} reader result ≡ made (read_by reader (first_row reader state chain (slice_get (shown self.now).heads chain))) }
     {
         let Some(found) = at(&self.kept.heads, chain as usize) else {
             return Err(Refusal::NoPlace);
@@ -90,7 +92,7 @@ impl<P: WorldPlan + Drop> Board<P> {
     }
 
     fn next(&self, reader: u32, state: ReaderState) -> Result<ReaderStep, Refusal>
-        ensures { result ≡ next_from (shown self.now) reader state state.cursor }
+        ensures { read_step {P = P} reader result ≡ made (read_by reader (next_from (shown self.now) reader state state.cursor)) }
     {
         let Some(from) = state.cursor else {
             return Err(Refusal::NoPlace);

@@ -11,6 +11,7 @@ use world_state::{
 
 impl<P: WorldPlan + Drop> Board<P> {
     ghost use Rattle.world.specs.Queues.{queue_of, may_retire, retire_row, retire_on};
+    ghost use Rattle.world.specs.Row.{made};
     ghost use Rattle.world.specs.Shown.{shown, HasQueues};
 
     /// The queue of an updater.
@@ -43,7 +44,7 @@ impl<P: WorldPlan + Drop> Board<P> {
     ) -> Result<Change<P>, Refusal>
         requires some { 0 < length (shown self.now).updaters }
         requires queues { HasQueues (shown self.now) }
-        ensures { result ≡ retire_row (shown self.now) updater state object (may_retire (shown self.now) updater (slice_get (shown self.now).objects object.0)) }
+        ensures { result ≡ made (retire_row (shown self.now) updater state object (may_retire (shown self.now) updater (slice_get (shown self.now).objects object.0))) }
     {
         if !self.may_retire(updater, object) {
             return Err(Refusal::NoPlace);

@@ -14,12 +14,15 @@ use world_state::{
 
 impl<P: WorldPlan + Drop> Board<P> {
     ghost use Rattle.call_rcu_worker.specs.declared.sync.SyncStep.TheVariants as due;
+    ghost use Rattle.world_state.specs.declared.line.UpdaterVerb.TheVariants.{GoOn};
+    ghost use Rattle.world_state.specs.declared.updater.UpdaterPlace.TheVariants.{Idle};
     ghost use Rattle.gp_memb.specs.declared.plan.Action.TheVariants.{LoadGroup};
     ghost use Rattle.call_rcu_worker.specs.Sync.{step_of};
     ghost use Rattle.world_state.specs.declared.updater.Holder.TheVariants.{Updater};
     ghost use Rattle.world_state.specs.View.{plans_of};
     ghost use Rattle.world.specs.Grace.{MayHand, HandsOver, action_effect, effect_of, plan_now, grace_row, sync_place, start_row, poll_row};
-    ghost use Rattle.world.specs.Lines.{updater_line, updater_begins, updater_on, synced};
+    ghost use Rattle.world.specs.Lines.{updater_line, updater_verb, synced};
+    ghost use Rattle.world.specs.Row.{made};
     ghost use Rattle.poll_cookie.specs.Cookie.{cookie_for};
     ghost use Rattle.world.specs.Shown.{shown, IsInRange, CanStart, LoadsNoGroup};
 
@@ -32,7 +35,7 @@ impl<P: WorldPlan + Drop> Board<P> {
     ) -> Result<Change<P>, Refusal>
         requires range { IsInRange (plans_of P.QSBR P.made P.action P.turn P.taken) (shown self.now) }
         requires there { slice_get (shown self.now).updaters updater ≡ Some state }
-        ensures { result ≡ updater_line (plans_of P.QSBR P.made P.action P.turn P.taken) (shown self.now) updater state verb }
+        ensures { result ≡ made (updater_line (plans_of P.QSBR P.made P.action P.turn P.taken) (shown self.now) updater state verb) }
     {
         if verb == UpdaterVerb::GoOn {
             return self.updater_on(updater, state);
@@ -47,7 +50,7 @@ impl<P: WorldPlan + Drop> Board<P> {
     fn updater_on(&self, updater: u32, state: UpdaterState<P>) -> Result<Change<P>, Refusal>
         requires range { IsInRange (plans_of P.QSBR P.made P.action P.turn P.taken) (shown self.now) }
         requires there { slice_get (shown self.now).updaters updater ≡ Some state }
-        ensures { result ≡ updater_on (plans_of P.QSBR P.made P.action P.turn P.taken) (shown self.now) updater state state.place }
+        ensures { result ≡ made (updater_line (plans_of P.QSBR P.made P.action P.turn P.taken) (shown self.now) updater state GoOn) }
     {
         let place = state.place;
         match place {
@@ -70,7 +73,8 @@ impl<P: WorldPlan + Drop> Board<P> {
     ) -> Result<Change<P>, Refusal>
         requires range { IsInRange (plans_of P.QSBR P.made P.action P.turn P.taken) (shown self.now) }
         requires some { 0 < length (shown self.now).updaters }
-        ensures { result ≡ updater_begins (plans_of P.QSBR P.made P.action P.turn P.taken) (shown self.now) updater state verb }
+        requires idle { state.place ≡ Idle }
+        ensures { result ≡ made (updater_verb (plans_of P.QSBR P.made P.action P.turn P.taken) (shown self.now) updater state verb) }
     {
         match verb {
             UpdaterVerb::Push(chain) => self.push(updater, state, chain),
@@ -91,7 +95,7 @@ impl<P: WorldPlan + Drop> Board<P> {
     /// Takes a cookie, in place of an older one.
     fn start(&self, updater: u32, mut state: UpdaterState<P>) -> Result<Change<P>, Refusal>
         requires range { IsInRange (plans_of P.QSBR P.made P.action P.turn P.taken) (shown self.now) }
-        ensures { result ≡ start_row (shown self.now) updater state (cookie_for (shown self.now).grace.seq) }
+        ensures { result ≡ made (start_row (shown self.now) updater state (cookie_for (shown self.now).grace.seq)) }
     {
         let cookie = cookie_of(self.kept.grace.seq)?;
         let mut grace = self.kept.grace;
@@ -108,7 +112,7 @@ impl<P: WorldPlan + Drop> Board<P> {
 
     /// Asks whether the cookie is reached, which is then spent.
     fn poll(&self, updater: u32, mut state: UpdaterState<P>) -> Result<Change<P>, Refusal>
-        ensures { result ≡ poll_row (shown self.now) updater state state.started }
+        ensures { result ≡ made (poll_row (shown self.now) updater state state.started) }
     {
         let noted = state.started;
         let Some(started) = noted else {
@@ -136,7 +140,7 @@ impl<P: WorldPlan + Drop> Board<P> {
     ) -> Result<Change<P>, Refusal>
         requires start { step_of P.action core ≡ due.Begin → CanStart (shown self.now).grace }
         requires groups { LoadsNoGroup (step_of P.action core) }
-        ensures { result ≡ synced (plans_of P.QSBR P.made P.action P.turn P.taken) updater state ask (grace_row (plans_of P.QSBR P.made P.action P.turn P.taken) (shown self.now) (Updater updater) ask core) }
+        ensures { result ≡ made (synced (plans_of P.QSBR P.made P.action P.turn P.taken) updater state ask (grace_row (plans_of P.QSBR P.made P.action P.turn P.taken) (shown self.now) (Updater updater) ask core)) }
     {
         let step = self.grace_step(Holder::Updater(updater), ask, core)?;
         if matches!(step.answer, Answer::Wait | Answer::Blocked) {

@@ -3,6 +3,7 @@
 ghost use Rattle.std.specs.Prelude.{◌≡◌, ◌+◌, ◌<◌, ◌≤◌, length, slice_get, slice_set, Some, None, Ok, true};
 ghost use Rattle.call_rcu_worker.specs.Sync.{told_of, step_of as sync_step};
 ghost use Rattle.world.specs.Grace.{MayHand, planned, stepped};
+ghost use Rattle.world.specs.Row.{made};
 ghost use Rattle.world.specs.Workers.{worker_act, worked};
 
 use crate::board::{Board, entry};
@@ -31,7 +32,7 @@ impl<P: WorldPlan + Drop> Board<P> {
     ghost use Rattle.world_state.specs.declared.change.Change.TheVariants.{Work};
     ghost use Rattle.world_state.specs.declared.line.Line.TheVariants.{Worker as WorkerLine};
     ghost use Rattle.world_state.specs.declared.line.WorkerVerb.TheVariants.{GoOn};
-    ghost use Rattle.world.specs.Workers.{take_row, ask_for, is_syncing, run_row, first_in, worker_on};
+    ghost use Rattle.world.specs.Workers.{take_row, ask_for, is_syncing, run_row, first_in};
     ghost use Rattle.world.specs.Lines.{change_of, outcome_of, worker_line};
     ghost use Rattle.world.specs.Shown.{shown, IsInRange, CanStart, LoadsNoGroup, Meets};
 
@@ -44,7 +45,7 @@ impl<P: WorldPlan + Drop> Board<P> {
     ) -> Result<Change<P>, Refusal>
         requires range { IsInRange (plans_of P.QSBR P.made P.action P.turn P.taken) (shown self.now) }
         requires there { slice_get (shown self.now).workers worker ≡ Some state }
-        ensures { result ≡ worker_line (plans_of P.QSBR P.made P.action P.turn P.taken) (shown self.now) worker state verb }
+        ensures { result ≡ made (worker_line (plans_of P.QSBR P.made P.action P.turn P.taken) (shown self.now) worker state verb) }
     {
         match verb {
             WorkerVerb::GoOn => self.worker_on(worker, state),
@@ -56,7 +57,7 @@ impl<P: WorldPlan + Drop> Board<P> {
     /// Takes all that is queued, unless the queue is locked or empty.
     fn take(&self, worker: u32, mut state: WorkerState<P>) -> Result<Change<P>, Refusal>
         requires given { (queue : QueueState) → slice_get (shown self.now).queues worker ≡ Some queue → given_of queue.items ≤ length (shown self.now).log }
-        ensures { result ≡ take_row (shown self.now) worker state (slice_get (shown self.now).queues worker) }
+        ensures { result ≡ made (take_row (shown self.now) worker state (slice_get (shown self.now).queues worker)) }
     {
         let Some(queue) = entry(&self.kept.queues, worker as usize) else {
             return Err(Refusal::NoActor);
@@ -84,7 +85,7 @@ impl<P: WorldPlan + Drop> Board<P> {
     fn worker_on(&self, worker: u32, mut state: WorkerState<P>) -> Result<Change<P>, Refusal>
         requires range { IsInRange (plans_of P.QSBR P.made P.action P.turn P.taken) (shown self.now) }
         requires there { slice_get (shown self.now).workers worker ≡ Some state }
-        ensures { result ≡ worker_on (plans_of P.QSBR P.made P.action P.turn P.taken) (shown self.now) worker state state.core }
+        ensures { result ≡ made (worker_line (plans_of P.QSBR P.made P.action P.turn P.taken) (shown self.now) worker state GoOn) }
     {
         let core = state.core;
         match core {
@@ -132,7 +133,7 @@ impl<P: WorldPlan + Drop> Board<P> {
     ) -> Result<Change<P>, Refusal>
         requires start { sync_step P.action sync ≡ due.Begin → CanStart (shown self.now).grace }
         requires groups { LoadsNoGroup (sync_step P.action sync) }
-        ensures { result ≡ worked worker ask tickets (grace_row (plans_of P.QSBR P.made P.action P.turn P.taken) (shown self.now) (Worker worker) ask sync) }
+        ensures { result ≡ made (worked worker ask tickets (grace_row (plans_of P.QSBR P.made P.action P.turn P.taken) (shown self.now) (Worker worker) ask sync)) }
     {
         let Some(effect) = self.effect(Holder::Worker(worker), ask, sync.next()) else {
             return Ok(Change::Stay(Answer::Blocked));
@@ -179,7 +180,7 @@ impl<P: WorldPlan + Drop> Board<P> {
         requires range { IsInRange (plans_of P.QSBR P.made P.action P.turn P.taken) (shown self.old) }
         requires start { sync_step P.action sync ≡ due.Begin → CanStart (shown self.old).grace }
         requires groups { LoadsNoGroup (sync_step P.action sync) }
-        requires change { change_of (plans_of P.QSBR P.made P.action P.turn P.taken) (shown self.old) (WorkerLine worker GoOn) ≡ worked worker ask tickets (grace_row (plans_of P.QSBR P.made P.action P.turn P.taken) (shown self.old) (Worker worker) ask sync) }
+        requires change { change_of (plans_of P.QSBR P.made P.action P.turn P.taken) (shown self.old) (WorkerLine worker GoOn) ≡ made (worked worker ask tickets (grace_row (plans_of P.QSBR P.made P.action P.turn P.taken) (shown self.old) (Worker worker) ask sync)) }
         ensures { Meets (outcome_of (plans_of P.QSBR P.made P.action P.turn P.taken) (shown self.old) (WorkerLine worker GoOn)) (shown self.old) (shown self.new) result }
     {
         let Some(effect) = self.effect(Holder::Worker(worker), ask, sync.next()) else {
@@ -200,7 +201,7 @@ impl<P: WorldPlan + Drop> Board<P> {
     ) -> Result<Answer, StepError>
         requires range { IsInRange (plans_of P.QSBR P.made P.action P.turn P.taken) (shown self.old) }
         requires plan { MayHand P.is_begun (sync_step P.action sync) effect.plan }
-        requires change { change_of (plans_of P.QSBR P.made P.action P.turn P.taken) (shown self.old) (WorkerLine worker GoOn) ≡ worked worker ask tickets (stepped effect.grace ask (told_of P.action P.turn P.taken (planned sync effect.plan) effect.loaded)) }
+        requires change { change_of (plans_of P.QSBR P.made P.action P.turn P.taken) (shown self.old) (WorkerLine worker GoOn) ≡ made (worked worker ask tickets (stepped effect.grace ask (told_of P.action P.turn P.taken (planned sync effect.plan) effect.loaded))) }
         ensures { Meets (outcome_of (plans_of P.QSBR P.made P.action P.turn P.taken) (shown self.old) (WorkerLine worker GoOn)) (shown self.old) (shown self.new) result }
     {
         if let Some(plan) = effect.plan {
@@ -223,7 +224,7 @@ impl<P: WorldPlan + Drop> Board<P> {
         }
     }
 
-    /// Makes a step of the grace period of a worker's batch, which tells something.
+    /// Commits a step of a worker's grace period that writes an event (ask or answer).
     fn make_sync(
         &mut self,
         worker: u32,
@@ -260,7 +261,7 @@ impl<P: WorldPlan + Drop> Board<P> {
     ) -> Result<Change<P>, Refusal>
         requires at { state.core ≡ place.Pops tickets }
         requires next { (first : Ticket × ObjectId) → first_in (slice_get (shown self.now).queues worker) ≡ Some first → first.0 ≡ next_of tickets }
-        ensures { result ≡ run_row (shown self.now) worker state tickets (first_in (slice_get (shown self.now).queues worker)) }
+        ensures { result ≡ made (run_row (shown self.now) worker state tickets (first_in (slice_get (shown self.now).queues worker))) }
     {
         let Some(queue) = entry(&self.kept.queues, worker as usize) else {
             return Err(Refusal::NotOpen);
@@ -293,7 +294,7 @@ fn work_told<P: WorldPlan + Drop>(
     effect: Effect<P>,
 ) -> Result<Change<P>, Refusal>
     requires { MayHand P.is_begun (sync_step P.action sync) effect.plan }
-    ensures { result ≡ worked worker ask tickets (stepped effect.grace ask (told_of P.action P.turn P.taken (planned sync effect.plan) effect.loaded)) }
+    ensures { result ≡ made (worked worker ask tickets (stepped effect.grace ask (told_of P.action P.turn P.taken (planned sync effect.plan) effect.loaded))) }
 {
     let mut core = WorkerCore::Syncs { sync, tickets };
     if let Some(plan) = effect.plan {

@@ -4,9 +4,12 @@ ghost use Rattle.std.specs.Prelude.{◌≡◌, ◌⊎◌, ◌≤◌, ◌%◌, �
 ghost use Rattle.rcu_model.specs.Promises.{IsSafeLog};
 ghost use Rattle.rcu_model.specs.declared.refusal.Refusal.TheVariants.{BadConfig, Memory};
 ghost use Rattle.world.specs.Actors.{is_in_operation, objects_given};
+ghost use Rattle.world.specs.Blocking.{is_locked_out, IsBlockedIf};
 ghost use Rattle.world.specs.Drain.{MeetsDrain, drain_lines};
 ghost use Rattle.world.specs.Refusals.{IsStepError};
-ghost use Rattle.world.specs.Tests.{first_failing, tests_of, MeetsTests};
+ghost use Rattle.world.specs.Row.{first_failing};
+ghost use Rattle.world.specs.Standing.{standing_refusal, MeetsStanding};
+ghost use Rattle.world.specs.Tests.{tests_of, MeetsTests};
 ghost use Rattle.world.specs.Steps.{fresh_world, fresh_world_at, is_supported, is_supported_at, step_of, Meets, log_of, events_of, answered_events, IsOfReader, IsPrompt};
 
 use crate::actor::Actor;
@@ -101,8 +104,13 @@ impl World {
     /// and last `Memory`, where the log, the list of objects or a queue would grow.
     pub fn step(&mut self, line: &Line) -> Result<Answer, StepError>
         ensures table { Meets (step_of self.old line.now) self.old self.new result }
-        // Its tests are made in their order, and the first that fails is the answer.
+        // Where no test fails, the step is made and the world is another, or memory was refused. Else the first that
+        // fails is the answer.
         ensures tests { MeetsTests (first_failing (tests_of self.old line.now)) self.old self.new result }
+        // What is refused where the actor stands: it is not there, in an operation or in none, in a section or in none.
+        ensures standing { MeetsStanding (standing_refusal self.old line.now) result }
+        // It is blocked exactly where a lock is held that it needs free, and nothing refuses it.
+        ensures blocked { IfOk result (IsBlockedIf (is_locked_out self.old line.now)) }
         // A reader waits for nobody.
         ensures prompt { IsOfReader line.now → IfOk result IsPrompt }
         // The log goes on with the events of the answer.

@@ -1,9 +1,5 @@
 -- A queue in which a place is reserved.
-use Rattle.std.proofs.Common.{◌≡◌, ℕ, ◌<◌, List, length, slice_get, slice_set, Option, Some, None, refl, sym, ap, ◌∙◌, subst, get_or-set_same}
-use Rattle.std.proofs.Math.ListN.{length-set}
-use Rattle.std.proofs.lemmas.Option.{slice_get-get_or, slice_get_within}
-use Rattle.world_state.specs.declared.queue.QueueState.{QueueState}
-use Rattle.world_state.specs.Queues.{empty_queue_state, held_by, changed_at, held_at, NeedsPlace}
+use Rattle.world_kept.proofs.Cited.{◌≡◌, ℕ, ◌<◌, List, length, slice_get, slice_set, Option, Some, None, refl, sym, ap, ◌∙◌, subst, get_or-set_same, length-set, slice_get-get_or, slice_get_within, QueueState, empty_queue_state, held_by, changed_at, held_at, NeedsPlace}
 use Rattle.world_kept.specs.Kept.{Reserves}
 
 set_there : (qs : List QueueState) (n : ℕ) (y : QueueState) → n < length qs → slice_get (slice_set qs n y) n ≡ Some y

@@ -1,8 +1,5 @@
 -- What a fresh object keeps.
-use Rattle.std.proofs.Common.{◌≡◌, ◌≢◌, ◌⊎◌, inl, inr, ℕ, zero, suc, ◌-◌, ◌<◌, ◌≤◌, ◌%◌, List, [], ◌∷◌, ◌++◌, length, get_or, Option, Some, None, refl, sym, ap, ◌∙◌, subst, arith, length-append}
-use Rattle.std.proofs.Math.Seq.{get_or-append_right, get_or-append_seam}
-use Rattle.rcu_model.specs.declared.event.ObjectId.{ObjectId}
-use Rattle.rcu_model.proofs.Lemmas.{In, IsPlace, chain_framed}
+use Rattle.world_state.proofs.Cited.{◌≡◌, ◌≢◌, ◌⊎◌, inl, inr, ℕ, zero, suc, ◌-◌, ◌<◌, ◌≤◌, ◌%◌, List, [], ◌∷◌, ◌++◌, length, get_or, Option, Some, None, refl, sym, ap, ◌∙◌, subst, arith, length-append, get_or-append_right, get_or-append_seam, ObjectId, In, IsPlace, chain_framed}
 use Rattle.world_state.specs.declared.object.Stage.TheVariants.{Fresh, Linked, Cut as IsCut}
 use Rattle.world_state.specs.declared.object.ObjectState.{ObjectState}
 use Rattle.world_state.specs.declared.updater.Publishing.{Publishing}

@@ -1,3 +1,4 @@
+mod Cited
 pub mod Writes
 pub mod Queueing
 pub mod Linking

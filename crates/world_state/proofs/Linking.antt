@@ -1,15 +1,11 @@
 -- The words and the bookkeeping of objects beside the machine's lists, and what a splice and a fresh object keep of it.
-use Rattle.std.proofs.Common.{◌≡◌, ◌≢◌, ◌⊎◌, inl, inr, ⊎_elim, ℕ, ◌<◌, ◌%◌, ◌==◌, true, false, List, length, Option, Some, None, refl, sym, ap, ◌∙◌, subst}
-use Rattle.std.proofs.lemmas.Bool.Decides.{eqb_tells}
-use Rattle.rcu_model.specs.declared.event.ObjectId.{ObjectId}
-use Rattle.rcu_model.proofs.Lemmas.{In, IsPlace, follows_has, decide_place, Spliced, ChainKept, Written, chain_framed, chain_spliced}
+use Rattle.world_state.proofs.Cited.{◌≡◌, ◌≢◌, ◌⊎◌, inl, inr, ⊎_elim, ℕ, ◌<◌, ◌%◌, ◌==◌, true, false, List, length, Option, Some, None, refl, sym, ap, ◌∙◌, subst, eqb_tells, ObjectId, In, IsPlace, follows_has, decide_place, Spliced, ChainKept, Written, chain_framed, chain_spliced, option_or}
 use Rattle.world_state.specs.declared.object.Stage.TheVariants.{Fresh, Linked, Cut as IsCut}
 use Rattle.world_state.specs.declared.object.ObjectState.{ObjectState}
 use Rattle.world_state.specs.declared.updater.Publishing.{Publishing}
 use Rattle.world_state.specs.declared.updater.Publishing.TheVariants.{Push as Pushes, Replace as Replaces}
 use Rattle.world_state.specs.declared.object.Splice.{Splice}
 use Rattle.world_state.specs.Objects.{spliced_objects, spliced_heads}
-use Rattle.std.specs.Option.{option_or}
 use Rattle.world_state.proofs.Writes.{head_of, link_of, before_of, stage_of, chain_of, within, head_same, head_kept, head_stored, length_heads, link_same, link_stored, before_entered, before_marked, before_same, stage_entered, stage_left, stage_same, spliced_chain, spliced_length}
 
 -- the head, or an object's link

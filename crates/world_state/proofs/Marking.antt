@@ -1,8 +1,5 @@
 -- What becomes of objects, and what that keeps of links and places.
-use Rattle.std.proofs.Common.{◌≡◌, ◌≢◌, ◌⊎◌, inl, inr, ⊎_elim, ℕ, zero, suc, ◌-◌, ◌%◌, ◌<◌, ◌≤◌, List, [], ◌∷◌, ◌++◌, length, get_or, Option, Some, None, refl, sym, ap, ◌∙◌, subst}
-use Rattle.std.proofs.Math.Seq.{get_or-append_right}
-use Rattle.rcu_model.specs.declared.event.ObjectId.{ObjectId}
-use Rattle.rcu_model.proofs.Lemmas.{In, chain_framed}
+use Rattle.world_state.proofs.Cited.{◌≡◌, ◌≢◌, ◌⊎◌, inl, inr, ⊎_elim, ℕ, zero, suc, ◌-◌, ◌%◌, ◌<◌, ◌≤◌, List, [], ◌∷◌, ◌++◌, length, get_or, Option, Some, None, refl, sym, ap, ◌∙◌, subst, get_or-append_right, ObjectId, In, chain_framed}
 use Rattle.world_state.specs.declared.object.Life.{Life}
 use Rattle.world_state.specs.declared.object.Life.TheVariants.{Kept}
 use Rattle.world_state.specs.declared.object.Mark.{Mark}

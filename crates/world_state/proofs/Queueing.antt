@@ -1,11 +1,5 @@
 -- Items in the order of their tickets, and what each change of a queue keeps of them.
-use Rattle.std.proofs.Common.{◌≡◌, ◌≢◌, ◌⊎◌, inl, inr, ⊎_elim, ℕ, ◌+◌, ◌<◌, ◌≤◌, cond, Bool, true, false, List, [], ◌∷◌, ◌++◌, length, get_or, slice_get, slice_set, None, refl, sym, ap, ◌∙◌, subst, arith, get_or-set_other, get_or-set_same}
-use Rattle.std.proofs.Math.ListN.{length-set}
-use Rattle.std.proofs.lemmas.List.{append-nil, append_assoc}
-use Rattle.std.proofs.lemmas.Option.{slice_get-get_or, slice_get_past}
-use Rattle.rcu_model.specs.declared.event.ObjectId.{ObjectId}
-use Rattle.callback_queue.specs.declared.item.Item.{Item}
-use Rattle.callback_queue.specs.Queue.{Queue, items_of, pushed, sealed, after_advance, is_due}
+use Rattle.world_state.proofs.Cited.{◌≡◌, ◌≢◌, ◌⊎◌, inl, inr, ⊎_elim, ℕ, ◌+◌, ◌<◌, ◌≤◌, cond, Bool, true, false, List, [], ◌∷◌, ◌++◌, length, get_or, slice_get, slice_set, None, refl, sym, ap, ◌∙◌, subst, arith, get_or-set_other, get_or-set_same, length-set, append-nil, append_assoc, slice_get-get_or, slice_get_past, ObjectId, Item, Queue, items_of, pushed, sealed, after_advance, is_due}
 use Rattle.world_state.specs.declared.queue.QueueState.{QueueState}
 use Rattle.world_state.specs.Queues.{empty_queue_state, changed_at}
 use Rattle.world_state.proofs.Writes.{past_or_within}

@@ -1,10 +1,5 @@
 -- Readers and their sections, and what a change of one reader keeps.
-use Rattle.std.proofs.Common.{◌≡◌, ◌≢◌, ◌⊎◌, inl, inr, ℕ, ◌+◌, ◌<◌, ◌≤◌, Bool, true, false, List, length, get_or, slice_set, Some, sym, ap, ◌∙◌, subst, get_or-set_other, get_or-set_same, refl, true≢false, arith}
-use Rattle.rcu_model.specs.declared.event.ObjectId.{ObjectId}
-use Rattle.rcu_model.specs.declared.event.SectionId.{SectionId}
-use Rattle.rcu_model.proofs.Lemmas.{In}
-use Rattle.reader_word.specs.declared.layout.Layout.{Layout}
-use Rattle.reader_word.specs.declared.layout.Layout.TheVariants.{Narrow, Wide}
+use Rattle.world_state.proofs.Cited.{◌≡◌, ◌≢◌, ◌⊎◌, inl, inr, ℕ, ◌+◌, ◌<◌, ◌≤◌, Bool, true, false, List, length, get_or, slice_set, Some, sym, ap, ◌∙◌, subst, get_or-set_other, get_or-set_same, refl, true≢false, arith, ObjectId, SectionId, In, Layout, Narrow, Wide}
 use Rattle.world_state.specs.declared.object.Stage.TheVariants.{Fresh}
 use Rattle.world_state.specs.declared.object.ObjectState.{ObjectState}
 use Rattle.world_state.specs.declared.reader.ReaderState.{ReaderState}

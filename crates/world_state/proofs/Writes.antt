@@ -1,16 +1,11 @@
 -- Reading the world's lists after a write.
-use Rattle.std.proofs.Common.{◌≡◌, ◌≢◌, ◌⊎◌, inl, inr, ⊎_elim, ℕ, zero, suc, ◌<◌, ◌≤◌, List, [], ◌∷◌, ◌++◌, length, get_or, slice_get, slice_set, Option, Some, None, refl, sym, ap, ◌∙◌, subst, arith, get_or-set_other, get_or-set_same}
-use Rattle.std.proofs.Math.ListN.{length-set, get_or-append}
-use Rattle.std.proofs.lemmas.Option.{slice_get-get_or, slice_get_past}
-use Rattle.rcu_model.specs.declared.event.ObjectId.{ObjectId}
+use Rattle.world_state.proofs.Cited.{◌≡◌, ◌≢◌, ◌⊎◌, inl, inr, ⊎_elim, ℕ, zero, suc, ◌<◌, ◌≤◌, List, [], ◌∷◌, ◌++◌, length, get_or, slice_get, slice_set, Option, Some, None, refl, sym, ap, ◌∙◌, subst, arith, get_or-set_other, get_or-set_same, length-set, get_or-append, slice_get-get_or, slice_get_past, ObjectId, option_or, decide}
 use Rattle.world_state.specs.declared.object.Stage.{Stage}
 use Rattle.world_state.specs.declared.object.Stage.TheVariants.{Fresh, Linked, Cut as IsCut}
 use Rattle.world_state.specs.declared.object.Life.{Life}
 use Rattle.world_state.specs.declared.object.ObjectState.{ObjectState}
 use Rattle.world_state.specs.declared.object.Splice.{Splice}
 use Rattle.world_state.specs.Objects.{fresh_object, write_at, written, stored, linked_objects, marked_objects, left_objects, spliced_objects, spliced_heads}
-use Rattle.std.specs.Option.{option_or}
-use Rattle.rcu_model.proofs.Lemmas.{decide}
 
 abbrev pub no_object : ObjectState
 no_object = fresh_object 0 None

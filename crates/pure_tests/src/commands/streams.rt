@@ -4,7 +4,7 @@ use std::alloc::Global;
 use std::io;
 use std::io::{Read, Write};
 
-/// Gives its text in pieces of at most so many bytes. A count of reads may stand before one that fails.
+/// Gives its text in pieces of at most this many bytes. A count of reads may stand before one that fails.
 #[derive(Drop)]
 pub struct Pieces<'a> {
     /// What is left of it.
@@ -47,7 +47,7 @@ impl Read for Pieces<'_> {
     }
 }
 
-/// Takes at most so many bytes at once. A count of writes may stand before one that fails, or takes nothing.
+/// Takes at most this many bytes at once. A count of writes may stand before one that fails, or takes nothing.
 #[derive(Drop)]
 pub struct Sink {
     /// What was written.

@@ -7,7 +7,7 @@ use std::io;
 use std::io::{Read, Write};
 use std::process::Abort;
 
-/// Gives so many pieces, and then fails.
+/// Gives this many pieces, and then fails.
 #[derive(Drop)]
 struct Broken<'a> {
     pieces: Pieces<'a>,
@@ -38,7 +38,7 @@ impl Read for Broken<'_> {
     }
 }
 
-/// Takes so many pieces, and then fails, or takes nothing.
+/// Takes this many pieces, and then fails, or takes nothing.
 #[derive(Drop)]
 struct Full {
     sink: Sink,
@@ -81,7 +81,7 @@ impl Write for Full {
     }
 }
 
-/// After so many bytes, of which these ended a line that is answered.
+/// After this many bytes, of which these ended a line that is answered.
 fn check_broken(rt: &impl Abort, alloc: Global, given: usize) {
     let line_feeds = QUIET.iter().take(given).filter(|it| **it == b'\n').count();
     let mut reader = Broken::after(given, QUIET);

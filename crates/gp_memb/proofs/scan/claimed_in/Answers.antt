@@ -22,7 +22,7 @@ further : (bits from count : ℕ) (claimed : Bool) → bit_of bits ((from + 0) %
     first_claimed bits from (suc count) ≡ (if claimed then Some from else first_claimed bits (from + 1) count)
 further bits from count claimed is = ap (λ b. if b then Some from else first_claimed bits (from + 1) count) (ap (λ s. bit_of bits (s % 64)) (omega arith) ∙ is)
 
--- none of so many slots is claimed
+-- none of this many slots is claimed
 none : (bits from count : ℕ) → ((i : ℕ) → i < count → bit_of bits ((from + i) % 64) ≡ false) → first_claimed bits from count ≡ None
 none bits from zero unset = refl
 none bits from (suc count) unset =

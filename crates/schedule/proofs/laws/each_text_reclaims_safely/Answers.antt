@@ -1,5 +1,4 @@
-use Rattle.std.proofs.Common.{subst, []}
-use Rattle.rcu_model.specs.Promises.{IsSafeLog}
+use Rattle.schedule.proofs.Cited.{subst, [], IsSafeLog}
 use Rattle.schedule.proofs.Safety.{whole_safe, begun_safe, so_far_safe}
 use Rattle.schedule.proofs.Starting.{begins_at_zero}
 use Rattle.schedule.proofs.laws.each_text_reclaims_safely.Goals as goal

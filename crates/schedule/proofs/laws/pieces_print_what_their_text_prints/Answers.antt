@@ -1,12 +1,6 @@
-use Rattle.std.proofs.Common.{◌≡◌, ℕ, List, [], ◌∷◌, ◌++◌, Result, Ok, Err, refl, sym, subst, append_assoc}
-use Rattle.std.specs.Prelude.{IfErr}
-use Rattle.std.specs.List.{flat_map}
-use Rattle.std.proofs.lemmas.List.{append-nil}
-use Rattle.std.proofs.lemmas.List.Concat.{concat_is}
-use Rattle.schedule_text.specs.declared.fault.ReplayFault.{ReplayFault}
+use Rattle.schedule.proofs.Cited.{◌≡◌, ℕ, List, [], ◌∷◌, ◌++◌, Result, Ok, Err, refl, sym, subst, append_assoc, IfErr, flat_map, append-nil, concat_is, ReplayFault, no_header}
 use Rattle.schedule.specs.Printed.{Ends}
 use Rattle.schedule.specs.Stream.{Progress, Failed, Stands, Leads, LeadsTo, AreFed}
-use Rattle.schedule_text.proofs.Lemmas.{no_header}
 use Rattle.schedule.proofs.Standing.{stands_header}
 use Rattle.schedule.proofs.laws.pieces_print_what_their_text_prints.Goals as goal
 

@@ -1,5 +1,4 @@
-use Rattle.std.proofs.Common.{inr}
-use Rattle.std.proofs.lemmas.Result.{err_from_is_err_and}
+use Rattle.schedule.proofs.Cited.{inr, err_from_is_err_and}
 use Rattle.schedule.proofs.KnownBytes.{consumes_more}
 use Rattle.schedule.proofs.ports.read_whole.Goals as goal
 

@@ -1,10 +1,5 @@
-use Rattle.std.proofs.Common.{ℕ, List, [], ◌++◌, sym, ap, ◌∙◌, subst}
-use Rattle.std.proofs.lemmas.List.{append-nil}
-use Rattle.rcu_model.specs.declared.event.Event.{Event}
-use Rattle.world.specs.Steps.{WorldView, fresh_world, world_after_lines, log_of}
-use Rattle.schedule_text.specs.Answers.{counts_of, end_line}
+use Rattle.schedule.proofs.Cited.{ℕ, List, [], ◌++◌, sym, ap, ◌∙◌, subst, append-nil, Event, WorldView, fresh_world, world_after_lines, log_of, counts_of, end_line, TellsLog}
 use Rattle.schedule.specs.Printed.{answers_of}
-use Rattle.schedule_text.specs.AnswerLines.{TellsLog}
 use Rattle.schedule.proofs.Starting.{begins_at_zero}
 use Rattle.schedule.proofs.RoundTrip.{lines_in, tells_answers, tells_all}
 use Rattle.schedule.proofs.round_trip.answers_tell_the_log.Goals as goal

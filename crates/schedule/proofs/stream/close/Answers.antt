@@ -1,6 +1,4 @@
-use Rattle.std.proofs.Common.{List, ℕ, subst, Err}
-use Rattle.std.specs.Io.KnownBytes.{Appends}
-use Rattle.std.proofs.lemmas.Result.{err_from_is_err_and}
+use Rattle.schedule.proofs.Cited.{List, ℕ, subst, Err, Appends, err_from_is_err_and}
 use Rattle.schedule.specs.Stream.{LeadsToEnd}
 use Rattle.schedule.specs.Ports.{Writes}
 use Rattle.schedule.proofs.Passing.{close_cut, close_whole}

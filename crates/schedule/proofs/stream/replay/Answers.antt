@@ -1,6 +1,4 @@
-use Rattle.std.proofs.Common.{rules, ◌<◌, ℕ, length, take, subst, arith}
-use Rattle.std.specs.Io.KnownBytes.{Consumes, Keeps}
-use Rattle.std.proofs.lemmas.Result.{err_from_is_err_and}
+use Rattle.schedule.proofs.Cited.{rules, ◌<◌, ℕ, length, take, subst, arith, Consumes, Keeps, err_from_is_err_and}
 use Rattle.schedule.proofs.Passing.{replays_end, replays_fault, replays_read, replaying_more}
 use Rattle.schedule.proofs.SafelyFed.{replayed_safe}
 use Rattle.schedule.proofs.stream.replay.Goals as goal

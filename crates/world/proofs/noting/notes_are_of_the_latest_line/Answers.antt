@@ -1,9 +1,4 @@
-use Rattle.std.proofs.Common.{ℕ, List, sym, subst}
-use Rattle.world_state.specs.declared.config.Config.{Config}
-use Rattle.world_state.specs.declared.config.Flavour.{Flavour}
-use Rattle.world_state.specs.declared.config.Flavour.TheVariants.{Memb, Qsbr}
-use Rattle.world_state.specs.declared.line.Line.{Line}
-use Rattle.world_state.specs.View.{fresh_at}
+use Rattle.world.proofs.Cited.{ℕ, List, sym, subst, Config, Flavour, Memb, Qsbr, Line, fresh_at}
 use Rattle.world.specs.Lines.{world_after}
 use Rattle.world.specs.Notes.{AreNoted, NotesAreOfTheLatest, replies_to, replies_of}
 use Rattle.world.specs.Steps.{WorldView, memb_plans, qsbr_plans, fresh_in, world_after_lines}

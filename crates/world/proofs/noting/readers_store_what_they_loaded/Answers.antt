@@ -1,8 +1,4 @@
-use Rattle.std.proofs.Common.{ℕ, List}
-use Rattle.world_state.specs.declared.config.Config.{Config}
-use Rattle.world_state.specs.declared.config.Flavour.{Flavour}
-use Rattle.world_state.specs.declared.config.Flavour.TheVariants.{Memb, Qsbr}
-use Rattle.world_state.specs.declared.line.Line.{Line}
+use Rattle.world.proofs.Cited.{ℕ, List, Config, Flavour, Memb, Qsbr, Line}
 use Rattle.world.specs.Loads.{ReadersStoreWhatTheyLoaded}
 use Rattle.world.specs.Steps.{memb_plans, qsbr_plans, fresh_in}
 use Rattle.world.proofs.Loads.{stored_from_fresh}

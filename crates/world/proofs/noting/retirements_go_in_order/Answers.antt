@@ -1,7 +1,4 @@
-use Rattle.std.proofs.Common.{ℕ, ◌<◌, length, arith}
-use Rattle.gp_memb.specs.declared.memb.MembPlan.{MembPlan}
-use Rattle.gp_qsbr.specs.declared.qsbr.QsbrPlan.{QsbrPlan}
-use Rattle.world_state.specs.View.{BoardView}
+use Rattle.world.proofs.Cited.{ℕ, ◌<◌, length, arith, MembPlan, QsbrPlan, BoardView}
 use Rattle.world.specs.Queues.{queue_of}
 use Rattle.world.specs.Reached.{IsReached}
 use Rattle.world.specs.Retiring.{RetirementsGoInOrder}

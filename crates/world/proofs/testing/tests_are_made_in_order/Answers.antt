@@ -1,6 +1,6 @@
 use Rattle.std.proofs.Common.{false}
 use Rattle.world.proofs.Fence.{laws_of}
-use Rattle.world.proofs.TestsOfLines.{all_tested}
+use Rattle.world.proofs.Moving.{all_tested}
 use Rattle.world.proofs.testing.tests_are_made_in_order.Goals as goal
 
 pub returns : goal.returns
@@ -15,3 +15,4 @@ returns g c =
       begins_layout = m.begins_layout layout false slots;
       keeps_layout = m.keeps_layout;
     })
+    (λ layout slots seq word. g.met.P.WorldPlan.finishes layout slots seq word)

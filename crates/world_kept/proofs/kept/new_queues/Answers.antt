@@ -1,6 +1,4 @@
-use Rattle.std.proofs.Common.{rules, ◌≡◌, ℕ, subst, replicate, arith}
-use Rattle.std.proofs.lemmas.List.{replicate_more}
-use Rattle.world_state.specs.Queues.{empty_queue_state}
+use Rattle.world_kept.proofs.Cited.{rules, ◌≡◌, ℕ, subst, replicate, arith, replicate_more, empty_queue_state}
 use Rattle.world_kept.proofs.kept.new_queues.Goals as goal
 
 pub loop-init : goal.loop-init

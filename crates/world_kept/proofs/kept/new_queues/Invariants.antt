@@ -1,5 +1,4 @@
-use Rattle.std.proofs.Common.{◌≡◌, replicate}
-use Rattle.world_state.specs.Queues.{empty_queue_state}
+use Rattle.world_kept.proofs.Cited.{◌≡◌, replicate, empty_queue_state}
 use Rattle.world_kept.proofs.kept.new_queues.Given as goal
 
 abbrev pub invariant-loop : goal.invariant-loop

@@ -1,6 +1,4 @@
-use Rattle.std.proofs.Common.{ap, ◌∙◌, List, Option}
-use Rattle.std.specs.Option.{option_or}
-use Rattle.rcu_model.specs.declared.event.ObjectId.{ObjectId}
+use Rattle.world_state.proofs.Cited.{ap, ◌∙◌, List, Option, option_or, ObjectId}
 use Rattle.world_state.specs.declared.object.Stage.TheVariants.{Linked, Cut}
 use Rattle.world_state.specs.declared.object.ObjectState.{ObjectState}
 use Rattle.world_state.specs.Objects.{written}

@@ -1,8 +1,4 @@
-use Rattle.std.proofs.Common.{◌≡◌, ℕ, ◌<◌, List, length, false, slice_get, slice_set, get_or, Result, Ok, Err, IfErr, sym, ap, ◌∙◌, subst}
-use Rattle.std.proofs.lemmas.List.{set-get_or}
-use Rattle.std.proofs.lemmas.Option.{slice_get-get_or}
-use Rattle.rcu_model.specs.declared.refusal.Refusal.{Refusal}
-use Rattle.rcu_model.specs.declared.refusal.Refusal.TheVariants.{Memory}
+use Rattle.world_state.proofs.Cited.{◌≡◌, ℕ, ◌<◌, List, length, false, slice_get, slice_set, get_or, Result, Ok, Err, IfErr, sym, ap, ◌∙◌, subst, set-get_or, slice_get-get_or, Refusal, Memory}
 use Rattle.world_state.specs.declared.queue.QueueState.{QueueState}
 use Rattle.world_state.specs.Queues.{NeedsPlace}
 use Rattle.world_state.proofs.queue.hold_queue.Goals as goal

@@ -1,5 +1,4 @@
-use Rattle.std.proofs.Common.{◌++◌, ap, sym, ◌∙◌, refl}
-use Rattle.std.proofs.lemmas.Result.{err_from_is_err_and}
+use Rattle.schedule.proofs.Cited.{◌++◌, ap, sym, ◌∙◌, refl, err_from_is_err_and}
 use Rattle.schedule.specs.Stream.{Header, Lines, Failed, progress_of}
 use Rattle.schedule.proofs.Standing.{from, header_partial, header_leads, header_runs, lines_run, no_world, stands_header, stands_bad_header, stays_failed}
 use Rattle.schedule.proofs.feeding.Replay.go_on.Goals as goal

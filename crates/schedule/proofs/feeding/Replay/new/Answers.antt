@@ -1,5 +1,4 @@
-use Rattle.std.proofs.Common.{[]}
-use Rattle.schedule_text.proofs.Lemmas.{no_header}
+use Rattle.schedule.proofs.Cited.{[], no_header}
 use Rattle.schedule.proofs.Standing.{stands_header}
 use Rattle.schedule.proofs.feeding.Replay.new.Goals as goal
 

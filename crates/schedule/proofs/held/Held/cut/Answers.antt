@@ -1,5 +1,4 @@
-use Rattle.std.proofs.Common.{◌≡◌, ◌+◌, ◌++◌, take, drop, get_or, set, arith}
-use Rattle.std.proofs.lemmas.Grind.{common_steps}
+use Rattle.schedule.proofs.Cited.{◌≡◌, ◌+◌, ◌++◌, take, drop, get_or, set, arith, common_steps}
 use Rattle.schedule.proofs.Bytes.{next_bad}
 use Rattle.schedule.proofs.held.Held.cut.Goals as goal
 

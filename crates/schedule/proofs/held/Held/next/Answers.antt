@@ -1,5 +1,4 @@
-use Rattle.std.proofs.Common.{◌≡◌, [], ◌++◌, arith}
-use Rattle.std.proofs.lemmas.Grind.{common_steps}
+use Rattle.schedule.proofs.Cited.{◌≡◌, [], ◌++◌, arith, common_steps}
 use Rattle.schedule.proofs.Bytes.{next_bad}
 use Rattle.schedule.proofs.held.Held.next.Goals as goal
 

@@ -1,6 +1,5 @@
-use Rattle.std.proofs.Common.{◌++◌, List, ℕ, ap, arith}
+use Rattle.schedule.proofs.Cited.{◌++◌, List, ℕ, ap, arith, no_line}
 use Rattle.schedule.specs.Play.{point}
-use Rattle.schedule_text.proofs.Lemmas.{no_line}
 use Rattle.schedule.proofs.Playing.{plays_more, met_answer}
 use Rattle.schedule.proofs.running.Running.feed.Goals as goal
 use Rattle.schedule.proofs.running.Running.feed.Goals.{in-Ok-Quiet+in_ok-print_answer-in-Ok-Quiet, in_default+in_ok-print_answer-in_default}

@@ -1,5 +1,4 @@
-use Rattle.std.proofs.Common.{◌≡◌, ◌++◌, [], Err, length}
-use Rattle.schedule_text.specs.Grammar.{line_at}
+use Rattle.schedule.proofs.Cited.{◌≡◌, ◌++◌, [], Err, length, line_at}
 use Rattle.schedule.specs.Play.{point, Plays}
 use Rattle.schedule.proofs.running.Running.feed.Given as goal
 

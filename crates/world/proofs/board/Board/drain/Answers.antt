@@ -1,7 +1,4 @@
-use Rattle.std.proofs.Common.{◌≡◌, ◌≤◌, ◌+◌, List, length, Result, Ok, Err, false, true≢false, inr, sym, ap, ◌∙◌, subst, refl, arith, vec_capacity}
-use Rattle.std.specs.Prelude.{is_err, OnOk}
-use Rattle.rcu_model.specs.declared.event.Event.{Event}
-use Rattle.world_state.specs.View.{Plans, plans_of}
+use Rattle.world.proofs.Cited.{◌≡◌, ◌≤◌, ◌+◌, List, length, Result, Ok, Err, false, true≢false, inr, sym, ap, ◌∙◌, subst, refl, arith, vec_capacity, is_err, OnOk, Event, Plans, plans_of}
 use Rattle.world.specs.Drain.{items_to_drain, steps_for}
 use Rattle.world.specs.Shown.{shown, IsInRange}
 use Rattle.world.proofs.DrainSteps.{AreSound, sound_goes_on}

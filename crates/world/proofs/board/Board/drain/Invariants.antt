@@ -1,5 +1,4 @@
-use Rattle.std.proofs.Common.{◌+◌, ◌-◌, length, vec_capacity}
-use Rattle.world_state.specs.View.{plans_of}
+use Rattle.world.proofs.Cited.{◌+◌, ◌-◌, length, vec_capacity, plans_of}
 use Rattle.world.specs.Shown.{shown}
 use Rattle.world.proofs.DrainTrail.{Under}
 use Rattle.world.proofs.board.Board.drain.Given as goal

@@ -1,6 +1,4 @@
-use Rattle.std.proofs.Common.{sym, subst, ◌≡◌, List, Some, slice_get}
-use Rattle.world_state.specs.declared.worker.WorkerState.{WorkerState}
-use Rattle.call_rcu_worker.specs.declared.sync.SyncCore.{SyncCore}
+use Rattle.world.proofs.Cited.{sym, subst, ◌≡◌, List, Some, slice_get, WorkerState, SyncCore}
 use Rattle.call_rcu_worker.specs.declared.worker.WorkerCore.TheVariants.{Syncs}
 use Rattle.world.proofs.InGrace.{starts_by_begin}
 use Rattle.world.proofs.board.Board.go_on_syncing.Goals as goal

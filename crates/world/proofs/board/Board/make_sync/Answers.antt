@@ -1,12 +1,5 @@
-use Rattle.std.proofs.Common.{refl, sym, subst, ◌∙◌, arith, ◌≡◌, Ok, Result, slice_get, slice_set, None}
-use Rattle.rcu_model.specs.declared.refusal.Refusal.{Refusal}
+use Rattle.world.proofs.Cited.{refl, sym, subst, ◌∙◌, arith, ◌≡◌, Ok, Result, slice_get, slice_set, None, Refusal, GoOn, Change, Work, marked_life, acted_at, MayActAt, BoardView}
 use Rattle.world_state.specs.declared.line.Line.TheVariants as the_lines
-use Rattle.world_state.specs.declared.line.WorkerVerb.TheVariants.{GoOn}
-use Rattle.world_state.specs.declared.change.Change.{Change}
-use Rattle.world_state.specs.declared.change.Change.TheVariants.{Work}
-use Rattle.world_state.specs.Objects.{marked_life}
-use Rattle.world_state.specs.Queues.{acted_at, MayActAt}
-use Rattle.world_state.specs.View.{BoardView}
 use Rattle.world.specs.Lines.{with_change}
 use Rattle.world.specs.Workers.{worker_act}
 use Rattle.world.specs.Shown.{shown}

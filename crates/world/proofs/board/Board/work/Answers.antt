@@ -1,5 +1,4 @@
-use Rattle.std.proofs.Common.{sym, ◌∙◌, arith}
-use Rattle.world_state.specs.declared.line.Line.TheVariants.{Worker}
+use Rattle.world.proofs.Cited.{sym, ◌∙◌, arith, Worker}
 use Rattle.world.proofs.board.Board.work.Goals as goal
 
 pub commit_work-requires-clause-may : goal.commit_work-requires-clause-may

@@ -1,5 +1,4 @@
-use Rattle.std.proofs.Common.{◌≡◌, ℕ, Result, sym, ap, ◌∙◌, subst}
-use Rattle.rcu_model.specs.declared.refusal.Refusal.{Refusal}
+use Rattle.world.proofs.Cited.{◌≡◌, ℕ, Result, sym, ap, ◌∙◌, subst, Refusal}
 use Rattle.world.specs.declared.world.Boards.{Boards}
 use Rattle.world.specs.declared.world.World.TheInside.{Inside}
 use Rattle.world.specs.Drain.{MeetsDrain}

@@ -1,4 +1,4 @@
-use Rattle.std.proofs.Common.{sym, subst}
+use Rattle.world.proofs.Cited.{sym, subst, IfOk, Refusal, Answer}
 use Rattle.world.specs.declared.world.Boards.{Boards}
 use Rattle.world.specs.declared.world.World.TheInside.{Inside}
 use Rattle.world.specs.Seen.{seen}
@@ -6,14 +6,13 @@ use Rattle.world.specs.Shown.{shown}
 use Rattle.world.specs.Reached.{IsReached}
 use Rattle.world.specs.Steps.{OfMemb, OfQsbr, memb_plans, qsbr_plans, IsReachedWorld, IsPrompt}
 use Rattle.world.specs.Tests.{IsTested}
-use Rattle.std.specs.Prelude.{Result, IfOk}
-use Rattle.rcu_model.specs.declared.refusal.Refusal.{Refusal}
-use Rattle.world_state.specs.declared.line.Answer.{Answer}
+use Rattle.std.specs.Prelude.{Result}
 use Rattle.world.proofs.Prompt.{prompt_meets}
 use Rattle.world.proofs.Reaching.{reached_after}
 use Rattle.world.proofs.Refusals.{step_refused}
+use Rattle.world.proofs.Standing.{meets_standing, meets_blocked}
 use Rattle.world.proofs.Telling.{log_meets}
-use Rattle.world.proofs.TestsOfSteps.{meets_tests}
+use Rattle.world.proofs.TestsOfSteps.{memb_alone, qsbr_alone, meets_tests}
 use Rattle.world.proofs.world.World.step.Goals.{in-Memb, in-Qsbr}
 use Rattle.world.proofs.world.World.step.Goals as goal
 
@@ -41,11 +40,11 @@ returns-clause-tests c =
       | in-Memb w ↦
           let r : IsReached memb_plans (shown w.in-Memb.board) = subst Reached w.in-Memb.is c.self.invariant in
           let tested = subst (λ v. IsTested memb_plans v c.args.line.now) r.leads (c.tests_are_made_in_order.ensures r.config r.seq r.lines c.args.line.now r.limits r.even r.low) in
-          rw (← c.self.view_is, w.in-Memb.is, w.self-inside-is, w.result-is) (meets_tests memb_plans OfMemb (shown w.in-Memb.board) (shown w.step.new.self) c.args.line.now tested w.step.result w.step.ensures)
+          rw (← c.self.view_is, w.in-Memb.is, w.self-inside-is, w.result-is) (meets_tests memb_plans OfMemb memb_alone (shown w.in-Memb.board) (shown w.step.new.self) c.args.line.now tested w.step.result w.step.ensures)
       | in-Qsbr w ↦
           let r : IsReached qsbr_plans (shown w.in-Qsbr.board) = subst Reached w.in-Qsbr.is c.self.invariant in
           let tested = subst (λ v. IsTested qsbr_plans v c.args.line.now) r.leads (c.tests_are_made_in_order-2.ensures r.config r.seq r.lines c.args.line.now r.limits r.even r.low) in
-          rw (← c.self.view_is, w.in-Qsbr.is, w.self-inside-is, w.result-is) (meets_tests qsbr_plans OfQsbr (shown w.in-Qsbr.board) (shown w.step-in-Qsbr.new.self) c.args.line.now tested w.step-in-Qsbr.result w.step-in-Qsbr.ensures)
+          rw (← c.self.view_is, w.in-Qsbr.is, w.self-inside-is, w.result-is) (meets_tests qsbr_plans OfQsbr qsbr_alone (shown w.in-Qsbr.board) (shown w.step-in-Qsbr.new.self) c.args.line.now tested w.step-in-Qsbr.result w.step-in-Qsbr.ensures)
     ]
 
 pub returns-clause-log : goal.returns-clause-log
@@ -59,3 +58,9 @@ returns-clause-safe c = c.reached_worlds_are_safe.ensures _ (invariant_of-self c
 
 pub returns-clause-refused : goal.returns-clause-refused
 returns-clause-refused c = step_refused c.args.self.now (seen c.match-self.self-inside.boards) c.args.line.now c.match-self.result (returns-clause-tests c)
+
+pub returns-clause-standing : goal.returns-clause-standing
+returns-clause-standing c = meets_standing c.args.self.now (seen c.match-self.self-inside.boards) c.args.line.now c.match-self.result (returns-clause-tests c)
+
+pub returns-clause-blocked : goal.returns-clause-blocked
+returns-clause-blocked c = meets_blocked c.args.self.now (seen c.match-self.self-inside.boards) c.args.line.now c.match-self.result (returns-clause-tests c)

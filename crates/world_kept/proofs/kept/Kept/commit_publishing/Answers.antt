@@ -1,6 +1,4 @@
-use Rattle.std.proofs.Common.{sym, ap, ◌∙◌, slice_set}
-use Rattle.world_state.specs.Objects.{spliced_heads, spliced_objects}
-use Rattle.world_state.specs.View.{BoardView, changed}
+use Rattle.world_kept.proofs.Cited.{sym, ap, ◌∙◌, slice_set, spliced_heads, spliced_objects, BoardView, changed}
 use Rattle.world_kept.specs.Kept.{shown}
 use Rattle.world_kept.proofs.kept.Kept.commit_publishing.Goals as goal
 

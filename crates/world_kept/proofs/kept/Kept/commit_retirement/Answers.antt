@@ -1,8 +1,4 @@
-use Rattle.std.proofs.Common.{sym, subst, inr, List, slice_get, rules}
-use Rattle.world_state.specs.declared.queue.QueueState.{QueueState}
-use Rattle.world_state.specs.Queues.{NeedsPlace}
-use Rattle.world_state.specs.declared.change.Change.{Change}
-use Rattle.world_state.specs.View.{changed}
+use Rattle.world_kept.proofs.Cited.{sym, subst, inr, List, slice_get, rules, QueueState, NeedsPlace, Change, changed}
 use Rattle.world_kept.specs.Kept.{shown, Grows}
 use Rattle.world_kept.proofs.Reserving.{reserves}
 use Rattle.world_kept.proofs.kept.Kept.commit_retirement.Goals as goal

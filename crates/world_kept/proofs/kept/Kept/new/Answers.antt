@@ -1,13 +1,5 @@
-use Rattle.std.proofs.Common.{◌≡◌, ℕ, refl, ap₂, Option, Some, None}
-use Rattle.call_rcu_worker.specs.declared.worker.WorkerCore.{WorkerCore}
+use Rattle.world_kept.proofs.Cited.{◌≡◌, ℕ, refl, ap₂, Option, Some, None, WorkerCore, WorkerState, new_worker, Started, UpdaterState, UpdaterPlace, Idle, Publishes, Syncs, Retires, Bars, idle}
 use Rattle.call_rcu_worker.specs.declared.worker.WorkerCore.TheVariants as worker
-use Rattle.world_state.specs.declared.worker.WorkerState.{WorkerState}
-use Rattle.world_state.specs.Queues.{new_worker}
-use Rattle.world_state.specs.declared.updater.Started.{Started}
-use Rattle.world_state.specs.declared.updater.UpdaterState.{UpdaterState}
-use Rattle.world_state.specs.declared.updater.UpdaterPlace.{UpdaterPlace}
-use Rattle.world_state.specs.declared.updater.UpdaterPlace.TheVariants.{Idle, Publishes, Syncs, Retires, Bars}
-use Rattle.world_state.specs.View.{idle}
 use Rattle.world_kept.proofs.kept.Kept.new.Goals as goal
 
 abbrev IsIdle : {P : Type 0} → UpdaterPlace P → Type 0

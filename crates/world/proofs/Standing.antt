@@ -1,0 +1,387 @@
+-- The first test that fails goes by where the actor stands, and by the lock that its step needs free.
+use Rattle.world.proofs.Cited.{◌≡◌, ◌≢◌, ◌+◌, ◌-◌, ◌^◌, ◌==◌, ◌&&◌, ℕ, nat_le, nat_lt, cond, not, Bool, true, false, is_some, List, [], ◌∷◌, slice_get, Option, Some, None, Result, Ok, Err, refl, sym, ap, subst, IfOk, IfErr, IfSome, option_map_or, get_or_from_slice_get, Close, ObjectId, Refusal, NotOpen, Busy, NestFull, NoActor, NoPlace, count_of, greatest_count, fresh, is_online, cookie_for, Turn, Ticket, items_of, SyncCore, Told, Tickets, WorkerCore, Telling, asked_with, is_finished, turned, told_of, Change, Answer, Events, Quiet, Wait, Blocked, Line, Reader, Updater, Worker, ReaderVerb, UpdaterVerb, WorkerVerb, ObjectState, QueueState, ReaderState, ReaderStep, Barrier, BarrierStep, Note, Check, GraceState, Holder, Publishing, Started, UpdaterPlace, Idle, Publishes, Syncs, Retires, Bars, UpdaterState, WorkerState, new_worker, empty_queue_state, section_of, is_open_in, quietly, telling, with_word, closed, stores, touch_row, Plans, BoardView, idle}
+use Rattle.gp_memb.specs.declared.plan.Turn.TheVariants as turns
+use Rattle.call_rcu_worker.specs.declared.sync.SyncCore.TheVariants as core
+use Rattle.call_rcu_worker.specs.declared.sync.Told.TheVariants as what
+use Rattle.call_rcu_worker.specs.declared.worker.WorkerCore.TheVariants as works
+use Rattle.world_state.specs.declared.line.Answer.TheVariants.{Idle as NothingThere}
+use Rattle.world_state.specs.declared.line.ReaderVerb.TheVariants as reader
+use Rattle.world_state.specs.declared.line.UpdaterVerb.TheVariants as updater
+use Rattle.world_state.specs.declared.line.WorkerVerb.TheVariants as worker
+use Rattle.world_state.specs.declared.updater.Holder.TheVariants as holder
+use Rattle.world_state.specs.declared.updater.Publishing.TheVariants as publishing
+use Rattle.world.specs.declared.grace.GraceStep.{GraceStep}
+use Rattle.world.specs.Answers.{answer_to}
+use Rattle.world.specs.Blocking.{is_to_lock, place_is_to_lock, core_is_to_lock, needs_held_lock, is_locked_out, IsBlockedIf}
+use Rattle.world.specs.Chains.{linked_by, first_row, next_row, next_from, push_row, replace_row, cut_row, pushed_row, replaced_row, published}
+use Rattle.world.specs.Grace.{stepped, lock_effect, action_effect, plan_now, planned, done_with, grace_row, sync_row, start_row, poll_row}
+use Rattle.world.specs.Lines.{operation_test, reads_on, reader_verb, reader_line, grace_change, is_idle, updater_on, updates_on, updater_verb, updater_line, works_on, worker_verb, worker_line, of_reader, of_updater, of_worker, row_of}
+use Rattle.world.specs.Locks.{lock_of}
+use Rattle.world.specs.Queues.{queue_of, may_retire, lock_row as queue_lock_row, barrier_on}
+use Rattle.world.specs.Refusals.{IsOfVerb}
+use Rattle.world.specs.Row.{Test, refused_if, stalled_if, first_failing, refusal_of}
+use Rattle.world.specs.Standing.{outside, by_section, by_cookie, by_operation, refusal_in, standing_refusal, MeetsStanding}
+use Rattle.world.specs.Steps.{WorldView, OfMemb, OfQsbr, memb_plans, qsbr_plans, IsPrompt, IsStalled}
+use Rattle.world.specs.Tests.{exact, tests_of, MeetsTests}
+use Rattle.world.specs.Workers.{is_none_left, first_in, take_row, run_row, worker_on, work_change, ask_for, is_resting}
+use Rattle.world.proofs.Checks.{past}
+
+-- what the first test that fails says: a refusal by where the actor stands, or whether a lock is held
+abbrev Tells : Option Refusal → Bool → Option (Result Answer Refusal) → Type 0
+Tells (Some e) locked first = first ≡ Some (Err e)
+Tells None locked None = locked ≡ false
+Tells None locked (Some (Ok answer)) = IsBlockedIf locked answer × IsStalled answer
+Tells None locked (Some (Err e)) = IsOfVerb e
+
+-- no test speaks of either
+abbrev Plain : Result Answer Refusal → Type 0
+Plain (Ok answer) = (answer ≢ Blocked) × IsStalled answer
+Plain (Err e) = IsOfVerb e
+
+abbrev ArePlain : List Test → Type 0
+ArePlain [] = Unit {0}
+ArePlain (test ∷ tests) = Plain test.answer × ArePlain tests
+
+plain : (tests : List Test) → ArePlain tests → Tells None false (first_failing tests)
+plain [] each = refl
+plain (t ∷ ts) each = by t.fails (plain ts each.1)
+  where
+    said : (answer : Result Answer Refusal) → Plain answer → Tells None false (Some answer)
+    said (Ok a) h = h
+    said (Err e) h = h
+
+    by : (b : Bool) → Tells None false (first_failing ts) → Tells None false (cond b (Some t.answer) (first_failing ts))
+    by true rest = said t.answer each.0
+    by false rest = rest
+
+waits : Plain (Ok Wait)
+waits = (λ e. let no : Wait ≡ Blocked = e in cc, tt)
+
+-- a verb begins an operation, and `.` goes on with one
+begins : (busy : Bool) (rests : Option Refusal) (locked : Bool) (tests : List Test) → Tells rests locked (first_failing tests) → Tells (by_operation false busy rests) locked (first_failing (operation_test false busy ∷ tests))
+begins true rests locked tests h = refl
+begins false rests locked tests h = h
+
+continues : (busy : Bool) (rests : Option Refusal) (locked : Bool) (tests : List Test) → Tells None locked (first_failing tests) → Tells (by_operation true busy rests) locked (first_failing (operation_test true busy ∷ tests))
+continues true rests locked tests h = h
+continues false rests locked tests h = refl
+
+-- a lock that has to be free
+locks : (held : Bool) (tests : List Test) → ArePlain tests → Tells None held (first_failing (stalled_if held Blocked ∷ tests))
+locks true tests each = (refl, tt)
+locks false tests each = plain tests each
+
+in_section : (is_open : Bool) (tests : List Test) → ArePlain tests → Tells (outside is_open) false (first_failing (refused_if (not is_open) NotOpen ∷ tests))
+in_section true tests each = plain tests each
+in_section false tests each = refl
+
+-- ---- readers
+
+module _ {P : Type 0} (w : BoardView P) (r : ℕ) (v : ReaderState) where
+  firsts : (c : ℕ) (head : Option (Option ObjectId)) → ArePlain (first_row r v c head).tests
+  firsts c None = (tt, tt)
+  firsts c (Some head) = tt
+
+  nexts : (from : Option ObjectId) → ArePlain (next_from w r v from).tests
+  nexts None = (tt, tt)
+  nexts (Some o) = by (slice_get w.objects o.0)
+    where
+      by : (x : Option ObjectState) → ArePlain (next_row r v o x).tests
+      by None = tt
+      by (Some x) = tt
+
+  touches : (from : Option ObjectId) → ArePlain (refusal_of (touch_row r v from))
+  touches None = (tt, tt)
+  touches (Some o) = tt
+
+  abbrev copied : ReaderStep
+  copied = quietly (record v { copy = Some w.grace.word })
+
+  abbrev left_with : ℕ → ReaderStep
+  left_with word = cond (count_of w.layout word == 0) (telling (Close (section_of r v.ordinal)) (closed v word)) (quietly (with_word v word))
+
+  enters : (outer full : Bool) →
+      Tells None false (first_failing (refusal_of (cond outer (Ok copied) (stores (λ word. quietly (with_word v word)) (cond outer (Ok (fresh w.layout false)) (cond full (Err NestFull) (Ok (v.word + 1))))))))
+  enters true full = refl
+  enters false true = tt
+  enters false false = refl
+
+  leaves : (none : Bool) → Tells (outside (not none)) false (first_failing (refusal_of (stores left_with (cond none (Err NotOpen) (Ok (v.word - 1))))))
+  leaves true = refl
+  leaves false = refl
+
+  goes_online : (is_open : Bool) → Tells (cond is_open (Some Busy) None) false (first_failing (refusal_of (cond is_open (Err Busy) (Ok copied))))
+  goes_online true = refl
+  goes_online false = refl
+
+  announces : (is_open : Bool) (step : ReaderStep) → Tells (outside is_open) false (first_failing (refusal_of (cond is_open (Ok step) (Err NotOpen))))
+  announces true step = refl
+  announces false step = refl
+
+  -- a verb, by its tests
+  verb_tells : (qsbr : Bool) (verb : ReaderVerb) → Tells (by_section qsbr (is_open_in qsbr w.layout v.word) verb) false (first_failing (reader_verb qsbr w r v verb).tests)
+  verb_tells true reader.Lock = refl
+  verb_tells false reader.Lock = enters (count_of w.layout v.word == 0) (count_of w.layout v.word == greatest_count w.layout)
+  verb_tells true reader.Unlock = refl
+  verb_tells false reader.Unlock = leaves (count_of w.layout v.word == 0)
+  verb_tells true reader.Online = goes_online (is_online v.word)
+  verb_tells false reader.Online = refl
+  verb_tells true reader.Quiescent = announces (is_online v.word) copied
+  verb_tells false reader.Quiescent = refl
+  verb_tells true reader.Offline = announces (is_online v.word) (telling (Close (section_of r v.ordinal)) (closed v 0))
+  verb_tells false reader.Offline = refl
+  verb_tells qsbr (reader.First c) = in_section (is_open_in qsbr w.layout v.word) (first_row r v c (slice_get w.heads c)).tests (firsts c (slice_get w.heads c))
+  verb_tells qsbr reader.Next = in_section (is_open_in qsbr w.layout v.word) (next_from w r v v.cursor).tests (nexts v.cursor)
+  verb_tells qsbr reader.Touch = in_section (is_open_in qsbr w.layout v.word) (refusal_of (touch_row r v v.cursor)) (touches v.cursor)
+  verb_tells qsbr reader.GoOn = refl
+
+  reads : (qsbr : Bool) (verb : ReaderVerb) → Tells (by_operation (reads_on verb) (is_some v.copy) (by_section qsbr (is_open_in qsbr w.layout v.word) verb)) false (first_failing (reader_line qsbr w r v verb).tests)
+  reads qsbr reader.GoOn = continues (is_some v.copy) None false [] refl
+  reads qsbr reader.Lock = begins (is_some v.copy) (by_section qsbr (is_open_in qsbr w.layout v.word) reader.Lock) false (reader_verb qsbr w r v reader.Lock).tests (verb_tells qsbr reader.Lock)
+  reads qsbr reader.Unlock = begins (is_some v.copy) (by_section qsbr (is_open_in qsbr w.layout v.word) reader.Unlock) false (reader_verb qsbr w r v reader.Unlock).tests (verb_tells qsbr reader.Unlock)
+  reads qsbr reader.Online = begins (is_some v.copy) (by_section qsbr (is_open_in qsbr w.layout v.word) reader.Online) false (reader_verb qsbr w r v reader.Online).tests (verb_tells qsbr reader.Online)
+  reads qsbr reader.Quiescent = begins (is_some v.copy) (by_section qsbr (is_open_in qsbr w.layout v.word) reader.Quiescent) false (reader_verb qsbr w r v reader.Quiescent).tests (verb_tells qsbr reader.Quiescent)
+  reads qsbr reader.Offline = begins (is_some v.copy) (by_section qsbr (is_open_in qsbr w.layout v.word) reader.Offline) false (reader_verb qsbr w r v reader.Offline).tests (verb_tells qsbr reader.Offline)
+  reads qsbr (reader.First c) = begins (is_some v.copy) (by_section qsbr (is_open_in qsbr w.layout v.word) (reader.First c)) false (reader_verb qsbr w r v (reader.First c)).tests (verb_tells qsbr (reader.First c))
+  reads qsbr reader.Next = begins (is_some v.copy) (by_section qsbr (is_open_in qsbr w.layout v.word) reader.Next) false (reader_verb qsbr w r v reader.Next).tests (verb_tells qsbr reader.Next)
+  reads qsbr reader.Touch = begins (is_some v.copy) (by_section qsbr (is_open_in qsbr w.layout v.word) reader.Touch) false (reader_verb qsbr w r v reader.Touch).tests (verb_tells qsbr reader.Touch)
+
+-- ---- steps of grace periods
+
+-- it is refused for want of a number alone
+abbrev Fine : {X : Type 0} → Result X Refusal → Type 0
+Fine r = IfErr r IsOfVerb
+
+either : {X : Type 0} (b : Bool) (x y : Result X Refusal) → Fine x → Fine y → Fine (cond b x y)
+either true x y p q = p
+either false x y p q = q
+
+fine_cookie : (seq : ℕ) → Fine (cookie_for seq)
+fine_cookie seq = either (nat_lt seq (2 ^ 62)) _ _ tt tt
+
+module _ {P : Type 0} (plans : Plans P) (w : BoardView P) where
+  fine_ask : (cookie : Result ℕ Refusal) → Fine cookie → Fine (asked_with {P = P} cookie)
+  fine_ask (Ok c) h = tt
+  fine_ask (Err e) h = h
+
+  fine_told : (sync : SyncCore P) (loaded : ℕ) → Fine (told_of plans.action plans.turn plans.taken sync loaded)
+  fine_told core.Asks loaded = fine_ask (cookie_for loaded) (fine_cookie loaded)
+  fine_told (core.Waits c) loaded = tt
+  fine_told (core.Checks c) loaded = either (nat_le c loaded) _ _ tt tt
+  fine_told (core.Starts c) loaded = tt
+  fine_told (core.Runs c p) loaded = by (plans.turn p loaded)
+    where
+      by : (turn : Turn) → Fine (turned plans.action c p (plans.taken p loaded) turn)
+      by turns.Wait = tt
+      by turns.Step = either (is_finished (plans.action (plans.taken p loaded))) _ _ tt tt
+  fine_told core.Frees loaded = tt
+  fine_told core.Done loaded = tt
+
+  -- a step that takes no lock
+  tells_step : (change : GraceStep P → Change P) (grace : GraceState) (ask : ℕ) (t : Result (Telling P) Refusal) → Fine t → Tells None false (first_failing (sync_row change (stepped grace ask t)).tests)
+  tells_step change grace ask (Err e) h = h
+  tells_step change grace ask (Ok t) h = by t.told
+    where
+      by : (told : Told) → Tells None false (first_failing (sync_row change (Ok (record { core = t.core; grace = grace; answer = answer_to ask told }))).tests)
+      by what.Quiet = refl
+      by what.Asked = refl
+      by what.Answered = refl
+      by what.Waiting = waits
+
+  tells_sync : (change : GraceStep P → Change P) (me : Holder) (ask : ℕ) (sync : SyncCore P) → Tells None (is_to_lock sync && is_some w.grace.holder) (first_failing (sync_row change (grace_row plans w me ask sync)).tests)
+  tells_sync change me ask core.Asks = tells_step change (record w.grace { asks = ask }) ask (asked_with (cookie_for w.grace.seq)) (fine_told core.Asks w.grace.seq)
+  tells_sync change me ask (core.Waits c) = by w.grace.holder
+    where
+      by : (held : Option Holder) → Tells None (true && is_some held) (first_failing (sync_row change (done_with plans w ask (core.Waits c) (lock_effect w me held))).tests)
+      by None = refl
+      by (Some other) = (refl, tt)
+  tells_sync change me ask (core.Checks c) = tells_step change w.grace ask (told_of plans.action plans.turn plans.taken (core.Checks c) w.grace.seq) (fine_told (core.Checks c) w.grace.seq)
+  tells_sync change me ask (core.Starts c) =
+      let p : P = plan_now plans w in
+      let loaded : ℕ = (action_effect {P = P} w (plans.action p)).loaded in
+      tells_step change (action_effect {P = P} w (plans.action p)).grace ask (told_of plans.action plans.turn plans.taken (core.Runs c p) loaded) (fine_told (core.Runs c p) loaded)
+  tells_sync change me ask (core.Runs c p) =
+      let loaded : ℕ = (action_effect {P = P} w (plans.action p)).loaded in
+      let sync : SyncCore P = planned (core.Runs c p) (action_effect {P = P} w (plans.action p)).plan in
+      tells_step change (action_effect {P = P} w (plans.action p)).grace ask (told_of plans.action plans.turn plans.taken sync loaded) (fine_told sync loaded)
+  tells_sync change me ask core.Frees = tells_step change (record w.grace { holder = None }) ask (told_of plans.action plans.turn plans.taken core.Frees 0) tt
+  tells_sync change me ask core.Done = tells_step change w.grace ask (told_of plans.action plans.turn plans.taken core.Done 0) tt
+
+  -- ---- updaters
+
+  module _ (u : ℕ) (x : UpdaterState P) where
+    publishes : (what : Publishing) → Tells None false (first_failing (published w u x what).tests)
+    publishes (publishing.Push new) = by (slice_get w.objects new.0)
+      where
+        by : (y : Option ObjectState) → Tells None false (first_failing (pushed_row u (record x { place = Idle }) new y).tests)
+        by None = refl
+        by (Some y) = refl
+    publishes (publishing.Replace old new) = by (slice_get w.objects old.0)
+      where
+        by : (y : Option ObjectState) → Tells None false (first_failing (replaced_row u (record x { place = Idle }) old new y).tests)
+        by None = refl
+        by (Some y) = refl
+
+    bars : (b : Barrier) (step : BarrierStep) → ArePlain (barrier_on w u x b step).tests
+    bars b (Note q) = tt
+    bars b (Check q) = (waits, tt)
+
+    goes_on : (place : UpdaterPlace P) → Tells None (place_is_to_lock place && is_some w.grace.holder) (first_failing (updater_on plans w u x place).tests)
+    goes_on Idle = refl
+    goes_on (Publishes what) = publishes what
+    goes_on (Syncs ask sync) = tells_sync (grace_change plans u x ask) (holder.Updater u) ask sync
+    goes_on (Retires o due) = refl
+    goes_on (Bars b) = plain (barrier_on w u x b b.due).tests (bars b b.due)
+
+    pushes : (c : ℕ) (head : Option (Option ObjectId)) → ArePlain (push_row w u x c head).tests
+    pushes c None = (tt, tt)
+    pushes c (Some head) = (tt, tt)
+
+    replaces : (o : ObjectId) (y : Option ObjectState) → ArePlain (replace_row w u x o y).tests
+    replaces o None = (tt, tt)
+    replaces o (Some y) = tt
+
+    cuts : (o : ObjectId) (y : Option ObjectState) → ArePlain (cut_row u x o y).tests
+    cuts o None = (tt, tt)
+    cuts o (Some y) = tt
+
+    retires : (o : ObjectId) (may : Bool) (q : Option QueueState) → slice_get w.queues (queue_of w u) ≡ q → Tells None (may && is_some (lock_of w (queue_of w u))) (first_failing (refused_if (not may) NoPlace ∷ (queue_lock_row w u x o q).tests))
+    retires o false q is = tt
+    retires o true None is = ap (λ (q : QueueState). is_some q.holder) (past w.queues (queue_of w u) empty_queue_state is)
+    retires o true (Some q) is =
+        subst (λ (z : QueueState). Tells None (is_some z.holder) (first_failing (queue_lock_row w u x o (Some q)).tests)) (sym (get_or_from_slice_get w.queues (queue_of w u) q empty_queue_state is))
+        (locks (is_some q.holder) [] tt)
+
+    starts : (cookie : Result ℕ Refusal) → Fine cookie → ArePlain (start_row w u x cookie).tests
+    starts (Ok c) h = tt
+    starts (Err e) h = (h, tt)
+
+    polls : (s : Option Started) → Tells (by_cookie updater.Poll s) false (first_failing (poll_row w u x s).tests)
+    polls None = refl
+    polls (Some s) = plain (poll_row w u x (Some s)).tests (waits, tt)
+
+    abbrev busy : Bool
+    busy = not (is_idle x.place)
+
+    -- a verb, by its tests
+    verb_updates : slice_get w.updaters u ≡ Some x → (verb : UpdaterVerb) → Tells (by_cookie verb x.started) (needs_held_lock w (Updater u verb)) (first_failing (updater_verb plans w u x verb).tests)
+    verb_updates there (updater.Push c) = plain (push_row w u x c (slice_get w.heads c)).tests (pushes c (slice_get w.heads c))
+    verb_updates there (updater.Replace o) = plain (replace_row w u x o (linked_by w u (slice_get w.objects o.0))).tests (replaces o (linked_by w u (slice_get w.objects o.0)))
+    verb_updates there (updater.Cut o) = plain (cut_row u x o (linked_by w u (slice_get w.objects o.0))).tests (cuts o (linked_by w u (slice_get w.objects o.0)))
+    verb_updates there (updater.Retire o) = retires o (may_retire w u (slice_get w.objects o.0)) (slice_get w.queues (queue_of w u)) refl
+    verb_updates there updater.Sync = tells_sync (grace_change plans u x (w.grace.asks + 1)) (holder.Updater u) (w.grace.asks + 1) core.Asks
+    verb_updates there updater.Start = plain (start_row w u x (cookie_for w.grace.seq)).tests (starts (cookie_for w.grace.seq) (fine_cookie w.grace.seq))
+    verb_updates there updater.Poll = polls x.started
+    verb_updates there updater.Barrier = refl
+    verb_updates there updater.GoOn =
+        subst (λ (y : UpdaterState P). Tells None (place_is_to_lock y.place && is_some w.grace.holder) (first_failing (updater_on plans w u x x.place).tests)) (sym (get_or_from_slice_get w.updaters u x idle there)) (goes_on x.place)
+
+    updates : slice_get w.updaters u ≡ Some x → (verb : UpdaterVerb) → Tells (by_operation (updates_on verb) busy (by_cookie verb x.started)) (needs_held_lock w (Updater u verb)) (first_failing (updater_line plans w u x verb).tests)
+    updates there updater.GoOn = continues busy None (needs_held_lock w (Updater u updater.GoOn)) (updater_verb plans w u x updater.GoOn).tests (verb_updates there updater.GoOn)
+    updates there (updater.Push c) = begins busy None false (updater_verb plans w u x (updater.Push c)).tests (verb_updates there (updater.Push c))
+    updates there (updater.Replace o) = begins busy None false (updater_verb plans w u x (updater.Replace o)).tests (verb_updates there (updater.Replace o))
+    updates there (updater.Cut o) = begins busy None false (updater_verb plans w u x (updater.Cut o)).tests (verb_updates there (updater.Cut o))
+    updates there (updater.Retire o) = begins busy None (needs_held_lock w (Updater u (updater.Retire o))) (updater_verb plans w u x (updater.Retire o)).tests (verb_updates there (updater.Retire o))
+    updates there updater.Sync = begins busy None false (updater_verb plans w u x updater.Sync).tests (verb_updates there updater.Sync)
+    updates there updater.Start = begins busy None false (updater_verb plans w u x updater.Start).tests (verb_updates there updater.Start)
+    updates there updater.Poll = begins busy (by_cookie updater.Poll x.started) false (updater_verb plans w u x updater.Poll).tests (verb_updates there updater.Poll)
+    updates there updater.Barrier = begins busy None false (updater_verb plans w u x updater.Barrier).tests (verb_updates there updater.Barrier)
+
+  -- ---- workers
+
+  module _ (k : ℕ) (x : WorkerState P) where
+    takes : (q : Option QueueState) → slice_get w.queues k ≡ q → Tells None (is_some (lock_of w k)) (first_failing (take_row w k x q).tests)
+    takes None is = ap (λ (q : QueueState). is_some q.holder) (past w.queues k empty_queue_state is)
+    takes (Some q) is =
+        subst (λ (z : QueueState). Tells None (is_some z.holder) (first_failing (take_row w k x (Some q)).tests)) (sym (get_or_from_slice_get w.queues k q empty_queue_state is))
+        (locks (is_some q.holder) (stalled_if (is_none_left (items_of q.items)) NothingThere ∷ []) ((λ e. let no : NothingThere ≡ Blocked = e in cc, tt), tt))
+
+    runs : (tickets : Tickets) (first : Option (Ticket × ObjectId)) → Tells None false (first_failing (run_row w k x tickets first).tests)
+    runs tickets None = refl
+    runs tickets (Some first) = refl
+
+    works_at : (place : WorkerCore P Unit) → Tells None (core_is_to_lock place && is_some w.grace.holder) (first_failing (worker_on plans w k x place).tests)
+    works_at works.Idle = refl
+    works_at (works.Syncs sync tickets) = tells_sync (work_change k (ask_for w x.ask sync) tickets) (holder.Worker k) (ask_for w x.ask sync) sync
+    works_at (works.Pops tickets) = runs tickets (first_in (slice_get w.queues k))
+    works_at (works.Runs tickets ticket item) = refl
+    works_at (works.Ran tickets ticket item) = refl
+    works_at (works.Counts tickets ticket) = refl
+
+    verb_works : slice_get w.workers k ≡ Some x → (verb : WorkerVerb) → Tells None (needs_held_lock w (Worker k verb)) (first_failing (worker_verb plans w k x verb).tests)
+    verb_works there worker.Take = takes (slice_get w.queues k) refl
+    verb_works there worker.GoOn =
+        subst (λ (y : WorkerState P). Tells None (core_is_to_lock y.core && is_some w.grace.holder) (first_failing (worker_on plans w k x x.core).tests)) (sym (get_or_from_slice_get w.workers k x new_worker there)) (works_at x.core)
+
+    does : slice_get w.workers k ≡ Some x → (verb : WorkerVerb) → Tells (by_operation (works_on verb) (not (is_resting x.core)) None) (needs_held_lock w (Worker k verb)) (first_failing (worker_line plans w k x verb).tests)
+    does there worker.Take = begins (not (is_resting x.core)) None (needs_held_lock w (Worker k worker.Take)) (worker_verb plans w k x worker.Take).tests (verb_works there worker.Take)
+    does there worker.GoOn = continues (not (is_resting x.core)) None (needs_held_lock w (Worker k worker.GoOn)) (worker_verb plans w k x worker.GoOn).tests (verb_works there worker.GoOn)
+
+  -- ---- a line of an actor, if there is such an actor
+
+  of_readers : (r : ℕ) (verb : ReaderVerb) (x : Option ReaderState) →
+      Tells (cond (is_some x) (by_operation (reads_on verb) (option_map_or (λ v. is_some v.copy) x false) (option_map_or (λ v. by_section plans.qsbr (is_open_in plans.qsbr w.layout v.word) verb) x None)) (Some NoActor))
+      false (first_failing (of_reader {P = P} plans.qsbr w r verb x).tests)
+  of_readers r verb None = refl
+  of_readers r verb (Some v) = reads w r v plans.qsbr verb
+
+  of_updaters : (u : ℕ) (verb : UpdaterVerb) (x : Option (UpdaterState P)) → slice_get w.updaters u ≡ x →
+      Tells (cond (is_some x) (by_operation (updates_on verb) (option_map_or (λ y. not (is_idle y.place)) x false) (option_map_or (λ y. by_cookie verb y.started) x None)) (Some NoActor))
+      (needs_held_lock w (Updater u verb)) (first_failing (of_updater plans w u verb x).tests)
+  of_updaters u verb None is = refl
+  of_updaters u verb (Some x) is = updates u x is verb
+
+  of_workers : (k : ℕ) (verb : WorkerVerb) (x : Option (WorkerState P)) → slice_get w.workers k ≡ x →
+      Tells (cond (is_some x) (by_operation (works_on verb) (option_map_or (λ y. not (is_resting y.core)) x false) None) (Some NoActor))
+      (needs_held_lock w (Worker k verb)) (first_failing (of_worker plans w k verb x).tests)
+  of_workers k verb None is = refl
+  of_workers k verb (Some x) is = does k x is verb
+
+  tells : (line : Line) → Tells (refusal_in plans.qsbr w line) (needs_held_lock w line) (first_failing (row_of plans w line).tests)
+  tells (Reader r verb) = of_readers r verb (slice_get w.readers r)
+  tells (Updater u verb) = of_updaters u verb (slice_get w.updaters u) refl
+  tells (Worker k verb) = of_workers k verb (slice_get w.workers k) refl
+
+  -- so the first test that fails refuses or stalls
+  stalls : (standing : Option Refusal) (locked : Bool) (first : Option (Result Answer Refusal)) → Tells standing locked first → IfSome first (λ answer. IfOk answer IsStalled)
+  stalls (Some e) locked first h = subst (λ (f : Option (Result Answer Refusal)). IfSome f (λ answer. IfOk answer IsStalled)) (sym h) tt
+  stalls None locked None h = tt
+  stalls None locked (Some (Ok answer)) h = h.1
+  stalls None locked (Some (Err e)) h = tt
+
+  pub first_stalls : (line : Line) → IfSome (first_failing (row_of plans w line).tests) (λ answer. IfOk answer IsStalled)
+  first_stalls line = stalls (refusal_in plans.qsbr w line) (needs_held_lock w line) (first_failing (row_of plans w line).tests) (tells line)
+
+-- ---- as the tests of a step say it
+
+tells_in : (w : WorldView) (line : Line) → Tells (standing_refusal w line) (is_locked_out w line) (first_failing (tests_of w line))
+tells_in (OfMemb w) line = tells (exact memb_plans w) w line
+tells_in (OfQsbr w) line = tells (exact qsbr_plans w) w line
+
+prompt_free : (answer : Answer) → IsPrompt answer → answer ≢ Blocked
+prompt_free (Events first second) p e = let no : Events first second ≡ Blocked = e in cc
+prompt_free Quiet p e = let no : Quiet ≡ Blocked = e in cc
+prompt_free Wait p e = absurd p
+prompt_free Blocked p e = absurd p
+prompt_free NothingThere p e = absurd p
+
+module _ (old new : WorldView) (line : Line) where
+  stands : (standing : Option Refusal) (locked : Bool) (first : Option (Result Answer Refusal)) (result : Result Answer Refusal) → Tells standing locked first → MeetsTests first old new result → MeetsStanding standing result
+  stands (Some e) locked first result h meets = (subst (λ (f : Option (Result Answer Refusal)). MeetsTests f old new result) h meets).0
+  stands None locked None (Ok answer) h meets = tt
+  stands None locked None (Err e) h meets = subst IsOfVerb (sym meets.0) tt
+  stands None locked (Some (Ok answer)) result h meets = subst (λ (r : Result Answer Refusal). Fine r) (sym meets.0) tt
+  stands None locked (Some (Err e)) result h meets = subst (λ (r : Result Answer Refusal). Fine r) (sym meets.0) h
+
+  blocks : (standing : Option Refusal) (locked : Bool) (first : Option (Result Answer Refusal)) (result : Result Answer Refusal) → Tells standing locked first → MeetsTests first old new result → IfOk result (IsBlockedIf locked)
+  blocks (Some e) locked first result h meets = subst (λ (r : Result Answer Refusal). IfOk r (IsBlockedIf locked)) (sym (subst (λ (f : Option (Result Answer Refusal)). MeetsTests f old new result) h meets).0) tt
+  blocks None locked None (Ok answer) h meets = subst (λ (b : Bool). IsBlockedIf b answer) (sym h) (prompt_free answer meets.0)
+  blocks None locked None (Err e) h meets = tt
+  blocks None locked (Some (Ok answer)) result h meets = subst (λ (r : Result Answer Refusal). IfOk r (IsBlockedIf locked)) (sym meets.0) h.0
+  blocks None locked (Some (Err e)) result h meets = subst (λ (r : Result Answer Refusal). IfOk r (IsBlockedIf locked)) (sym meets.0) tt
+
+  pub meets_standing : (result : Result Answer Refusal) → MeetsTests (first_failing (tests_of old line)) old new result → MeetsStanding (standing_refusal old line) result
+  meets_standing result = λ meets. stands (standing_refusal old line) (is_locked_out old line) (first_failing (tests_of old line)) result (tells_in old line) meets
+
+  pub meets_blocked : (result : Result Answer Refusal) → MeetsTests (first_failing (tests_of old line)) old new result → IfOk result (IsBlockedIf (is_locked_out old line))
+  meets_blocked result = λ meets. blocks (standing_refusal old line) (is_locked_out old line) (first_failing (tests_of old line)) result (tells_in old line) meets
