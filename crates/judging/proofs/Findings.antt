@@ -1,15 +1,7 @@
 -- What is found of a text, as its pieces come.
-use Rattle.std.proofs.Common.{◌≡◌, ℕ, List, [], ◌++◌, length, true, false, Result, Ok, Err, sym, subst, append_assoc}
-use Rattle.std.proofs.lemmas.List.{append-nil}
-use Rattle.rcu_model.specs.declared.event.Event.{Event}
-use Rattle.rcu_judge.specs.declared.verdict.Verdict.{Verdict}
+use Rattle.judging.proofs.Cited.{◌≡◌, ℕ, List, [], ◌++◌, length, true, false, Result, Ok, Err, sym, subst, append_assoc, append-nil, Event, Verdict, IsRun, AnswersFault, BreaksOffAnswers, StopsAnswers, more_text}
 use Rattle.rcu_judge.specs.declared.verdict.Verdict.TheVariants as verdicts
-use Rattle.rcu_model.specs.Machine.{IsRun}
-use Rattle.schedule_text.specs.declared.fault.ReplayFault.{ReplayFault}
-use Rattle.schedule_text.specs.declared.fault.ReplayFault.TheVariants as faults
-use Rattle.schedule_text.specs.AnswerLines.{BreaksOffAnswers}
-use Rattle.schedule_text.specs.AnswerPieces.{StopsAnswers}
-use Rattle.schedule_text.proofs.Lemmas.{more_text}
+use Rattle.schedule_text.specs.declared.fault.AnswersFault.TheVariants as faults
 use Rattle.judging.specs.declared.judging.Judging.{Judging}
 use Rattle.judging.specs.declared.text_judge.Finding.{Finding}
 use Rattle.judging.specs.declared.text_judge.Finding.TheVariants.{Yes, No, BadText, Memory}
@@ -39,15 +31,12 @@ still_judged judging fed (BadText line column) goes s = absurd cc
 still_judged judging fed Memory goes s = absurd cc
 
 -- a piece
-pub stands_along : (judging : Judging) (fed : List ℕ) (followed : Result Verdict ReplayFault) (events : ℕ) → JudgesAlong judging fed followed →
+pub stands_along : (judging : Judging) (fed : List ℕ) (followed : Result Verdict AnswersFault) (events : ℕ) → JudgesAlong judging fed followed →
     ((text : List ℕ) (j : HasJudged judging text) → IsRun j.log → events ≡ length j.log) → Stands judging fed (found_along followed events)
 stands_along judging fed (Ok verdicts.Yes) events along counts = record { judged = along.0; run = along.1; counted = counts fed along.0 along.1 }
 stands_along judging fed (Ok (verdicts.No at rule)) events along counts = along
 stands_along judging fed (Err (faults.BadText line column)) events along counts = record { log = along.0.log; stops = along.0.stops; run = along.1 }
 stands_along judging fed (Err faults.Memory) events along counts = tt
-stands_along judging fed (Err faults.BadConfig) events along counts = absurd along
-stands_along judging fed (Err faults.Read) events along counts = absurd along
-stands_along judging fed (Err faults.Write) events along counts = absurd along
 
 -- what is told of the text so far
 pub found_so_far : (judging : Judging) (fed : List ℕ) (found : Finding) → Stands judging fed found → IsFound fed found
@@ -71,23 +60,17 @@ found_whole judging fed (No at rule) judged goes s ends = absurd cc
 found_whole judging fed (BadText line column) judged goes s ends = absurd cc
 found_whole judging fed Memory judged goes s ends = absurd cc
 
-found_cut_off : (judging : Judging) (fed : List ℕ) (events : ℕ) (fault : ReplayFault) → Stands judging fed (Yes events) → ((text : List ℕ) (j : HasJudged judging text) → Ends text j.log (Err fault)) → IsFoundAtEnd fed (finding_of fault)
+found_cut_off : (judging : Judging) (fed : List ℕ) (events : ℕ) (fault : AnswersFault) → Stands judging fed (Yes events) → ((text : List ℕ) (j : HasJudged judging text) → Ends text j.log (Err fault)) → IsFoundAtEnd fed (finding_of fault)
 found_cut_off judging fed events (faults.BadText line column) s ends = record { log = s.judged.log; breaks = ends fed s.judged; run = s.run }
 found_cut_off judging fed events faults.Memory s ends = tt
-found_cut_off judging fed events faults.BadConfig s ends = absurd (ends fed s.judged)
-found_cut_off judging fed events faults.Read s ends = absurd (ends fed s.judged)
-found_cut_off judging fed events faults.Write s ends = absurd (ends fed s.judged)
 
-pub found_unended : (judging : Judging) (fed : List ℕ) (found : Finding) (fault : ReplayFault) → is_final found ≡ false → Stands judging fed found → ((text : List ℕ) (j : HasJudged judging text) → Ends text j.log (Err fault)) → IsFoundAtEnd fed (finding_of fault)
+pub found_unended : (judging : Judging) (fed : List ℕ) (found : Finding) (fault : AnswersFault) → is_final found ≡ false → Stands judging fed found → ((text : List ℕ) (j : HasJudged judging text) → Ends text j.log (Err fault)) → IsFoundAtEnd fed (finding_of fault)
 found_unended judging fed (Yes events) fault goes s ends = found_cut_off judging fed events fault s ends
 found_unended judging fed (No at rule) fault goes s ends = absurd cc
 found_unended judging fed (BadText line column) fault goes s ends = absurd cc
 found_unended judging fed Memory fault goes s ends = absurd cc
 
 -- the end wants no memory
-pub unended_told : (judging : Judging) (fed : List ℕ) (found : Finding) (fault : ReplayFault) → is_final found ≡ false → Stands judging fed found → ((text : List ℕ) (j : HasJudged judging text) → Ends text j.log (Err fault)) → finding_of fault ≡ Memory → found ≡ Memory
+pub unended_told : (judging : Judging) (fed : List ℕ) (found : Finding) (fault : AnswersFault) → is_final found ≡ false → Stands judging fed found → ((text : List ℕ) (j : HasJudged judging text) → Ends text j.log (Err fault)) → finding_of fault ≡ Memory → found ≡ Memory
 unended_told judging fed found (faults.BadText line column) goes s ends is = absurd cc
 unended_told judging fed found faults.Memory goes s ends is = absurd (ends fed (still_judged judging fed found goes s))
-unended_told judging fed found faults.BadConfig goes s ends is = absurd (ends fed (still_judged judging fed found goes s))
-unended_told judging fed found faults.Read goes s ends is = absurd (ends fed (still_judged judging fed found goes s))
-unended_told judging fed found faults.Write goes s ends is = absurd (ends fed (still_judged judging fed found goes s))

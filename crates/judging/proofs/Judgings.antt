@@ -1,19 +1,7 @@
 -- Lines of answers, judged as they come.
-use Rattle.std.proofs.Common.{◌≡◌, ℕ, List, [], ◌++◌, length, Result, Ok, Err, sym, ap, subst, ◌∙◌}
-use Rattle.std.proofs.lemmas.List.{append-nil}
-use Rattle.rcu_model.specs.declared.event.Event.{Event}
-use Rattle.rcu_judge.specs.declared.verdict.Verdict.{Verdict}
-use Rattle.rcu_judge.specs.declared.verdict.Verdict.TheVariants.{Yes, No}
-use Rattle.rcu_model.specs.Machine.{IsRun}
-use Rattle.rcu_judge.specs.Judge.{HasTaken}
-use Rattle.rcu_judge.specs.Verdict.{Judges}
-use Rattle.schedule_text.specs.declared.fault.AnswersFault.{AnswersFault}
-use Rattle.schedule_text.specs.declared.fault.AnswersFault.TheVariants.{BadText, Memory}
-use Rattle.schedule_text.specs.declared.fault.ReplayFault.{ReplayFault}
-use Rattle.schedule_text.specs.declared.fault.ReplayFault.TheVariants as faults
-use Rattle.schedule_text.specs.AnswerPieces.{HasRead, Takes, EndsAnswers}
+use Rattle.judging.proofs.Cited.{◌≡◌, ℕ, List, [], ◌++◌, length, Result, Ok, Err, sym, ap, subst, ◌∙◌, append-nil, Event, Verdict, Yes, No, IsRun, HasTaken, Judges, AnswersFault, BadText, Memory, HasRead, Takes, EndsAnswers}
 use Rattle.judging.specs.declared.judging.Judging.{Judging}
-use Rattle.judging.specs.Judging.{HasJudged, JudgesOn, JudgesAlong, JudgedAs, IsRunSoFar, Ends, replay_fault, so_far}
+use Rattle.judging.specs.Judging.{HasJudged, JudgesOn, JudgesAlong, JudgedAs, IsRunSoFar, Ends, so_far}
 
 -- a piece: its lines are read, and their events are taken
 module _ (old new : Judging) (fed piece : List ℕ) (before events : List Event) (came : HasJudged old fed) (none : before ≡ [])
@@ -24,12 +12,10 @@ module _ (old new : Judging) (fed piece : List ℕ) (before events : List Event)
   read : HasRead old.answers fed (came.log ++ before)
   read = subst (HasRead old.answers fed) (sym (ap (λ (b : List Event). came.log ++ b) none ∙ append-nil came.log)) came.read
 
-  pub judged_on : (u : Unit {0}) → Reads (Ok u) → HasJudged new (fed ++ piece)
-  judged_on u reads = record { log = came.log ++ events; read = reads fed came.log read; taken = takes came.log came.taken }
-
-  pub judged_stop : (fault : AnswersFault) → Reads (Err fault) → JudgesOn new (fed ++ piece) (Err (replay_fault fault))
-  judged_stop (BadText line column) reads = record { log = came.log ++ events; stops = reads fed came.log read; taken = takes came.log came.taken }
-  judged_stop Memory reads = tt
+  pub judged_on : (result : Result (Unit {0}) AnswersFault) → Reads result → JudgesOn new (fed ++ piece) result
+  judged_on (Ok u) reads = record { log = came.log ++ events; read = reads fed came.log read; taken = takes came.log came.taken }
+  judged_on (Err (BadText line column)) reads = record { log = came.log ++ events; stops = reads fed came.log read; taken = takes came.log came.taken }
+  judged_on (Err Memory) reads = tt
 
 -- the end of the input
 pub judged_end : (judging : Judging) (fed : List ℕ) (u : Unit {0}) (verdict : Verdict) (events : ℕ) → (j : HasJudged judging fed) → ((text : List ℕ) (log : List Event) → HasRead judging.answers text log → EndsAnswers text log (Ok u)) →
@@ -40,21 +26,17 @@ judged_end judging fed u verdict events j ends judges counts = record {
   counted = λ yes. counts j.log j.taken (subst (λ v. Judges v j.log) yes (judges j.log j.taken));
 }
 
-pub judged_cut : (judging : Judging) (fed : List ℕ) (fault : AnswersFault) → (j : HasJudged judging fed) → ((text : List ℕ) (log : List Event) → HasRead judging.answers text log → EndsAnswers text log (Err fault)) → Ends fed j.log (Err (replay_fault fault))
+pub judged_cut : (judging : Judging) (fed : List ℕ) (fault : AnswersFault) → (j : HasJudged judging fed) → ((text : List ℕ) (log : List Event) → HasRead judging.answers text log → EndsAnswers text log (Err fault)) → Ends fed j.log (Err fault)
 judged_cut judging fed (BadText line column) j ends = ends fed j.log j.read
 judged_cut judging fed Memory j ends = absurd (ends fed j.log j.read)
 
 -- a piece of a text that is followed
-pub judged_along : (judging : Judging) (fed : List ℕ) (result : Result (Unit {0}) ReplayFault) (verdict : Verdict) → JudgesOn judging fed result → ((log : List Event) → HasTaken judging.judge log → Judges verdict log) → JudgesAlong judging fed (so_far result verdict)
+pub judged_along : (judging : Judging) (fed : List ℕ) (result : Result (Unit {0}) AnswersFault) (verdict : Verdict) → JudgesOn judging fed result → ((log : List Event) → HasTaken judging.judge log → Judges verdict log) → JudgesAlong judging fed (so_far result verdict)
 judged_along judging fed (Ok u) Yes j judges = (j, judges j.log j.taken)
 judged_along judging fed (Ok u) (No at rule) j judges = record { log = j.log; rest = judging.answers.held.items; line = judging.answers.line; read = j.read.read; judged = judges j.log j.taken }
-judged_along judging fed (Err (faults.BadText line column)) Yes j judges = (j, judges j.log j.taken)
-judged_along judging fed (Err (faults.BadText line column)) (No at rule) j judges = record { log = j.log; rest = j.stops.rest; line = line; read = j.stops.read; judged = judges j.log j.taken }
-judged_along judging fed (Err faults.Memory) Yes j judges = tt
-judged_along judging fed (Err faults.Memory) (No at rule) j judges = tt
-judged_along judging fed (Err faults.BadConfig) verdict j judges = absurd j
-judged_along judging fed (Err faults.Read) verdict j judges = absurd j
-judged_along judging fed (Err faults.Write) verdict j judges = absurd j
+judged_along judging fed (Err (BadText line column)) Yes j judges = (j, judges j.log j.taken)
+judged_along judging fed (Err (BadText line column)) (No at rule) j judges = record { log = j.log; rest = j.stops.rest; line = line; read = j.stops.read; judged = judges j.log j.taken }
+judged_along judging fed (Err Memory) verdict j judges = tt
 
 pub right_so_far : (judging : Judging) (fed : List ℕ) (j : HasJudged judging fed) → IsRun j.log → IsRunSoFar fed
 right_so_far judging fed j run = record { log = j.log; rest = judging.answers.held.items; line = judging.answers.line; read = j.read.read; partial = j.read.partial; run = run }

@@ -1,3 +1,4 @@
+mod Cited
 pub mod Judgings
 pub mod Findings
 pub mod Lemmas

@@ -4,8 +4,8 @@ use Rattle.rcu_model.specs.declared.event.Event.{Event}
 use Rattle.rcu_judge.specs.declared.verdict.Verdict.{Verdict}
 use Rattle.rcu_judge.specs.declared.verdict.Verdict.TheVariants as verdicts
 use Rattle.rcu_model.specs.Machine.{IsRun}
-use Rattle.schedule_text.specs.declared.fault.ReplayFault.{ReplayFault}
-use Rattle.schedule_text.specs.declared.fault.ReplayFault.TheVariants as faults
+use Rattle.schedule_text.specs.declared.fault.AnswersFault.{AnswersFault}
+use Rattle.schedule_text.specs.declared.fault.AnswersFault.TheVariants as faults
 use Rattle.schedule_text.specs.AnswerLines.{TellsLog}
 use Rattle.schedule_text.specs.AnswerPieces.{StopsAnswers}
 use Rattle.judging.specs.declared.judging.Judging.{Judging}
@@ -31,7 +31,7 @@ IsFound text Memory = Unit {0}
 
 -- ---- of a text that ends
 
--- the text is lines of answers, whose log is a run of so many events
+-- the text is lines of answers, whose log is a run of this many events
 pub record TellsRun (text : List ℕ) (events : ℕ) : Type 0 where
   pub log : List Event
   pub told : TellsLog text log
@@ -47,7 +47,7 @@ IsFoundAtEnd text Memory = Unit {0}
 
 -- ---- the judge
 
--- this text came, and its lines are a run of so many events
+-- this text came, and its lines are a run of this many events
 pub record IsRunning (judging : Judging) (fed : List ℕ) (events : ℕ) : Type 0 where
   pub judged : HasJudged judging fed
   pub run : IsRun judged.log
@@ -71,15 +71,12 @@ is_final (No at rule) = true
 is_final (BadText line column) = true
 is_final Memory = true
 
-abbrev pub finding_of : ReplayFault → Finding
+abbrev pub finding_of : AnswersFault → Finding
 finding_of (faults.BadText line column) = BadText line column
-finding_of faults.BadConfig = Memory
-finding_of faults.Read = Memory
-finding_of faults.Write = Memory
 finding_of faults.Memory = Memory
 
 -- what a piece comes to
-abbrev pub found_along : Result Verdict ReplayFault → ℕ → Finding
+abbrev pub found_along : Result Verdict AnswersFault → ℕ → Finding
 found_along (Ok verdicts.Yes) events = Yes events
 found_along (Ok (verdicts.No at rule)) events = No at rule
 found_along (Err fault) events = finding_of fault

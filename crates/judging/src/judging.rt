@@ -4,12 +4,12 @@ ghost use Rattle.std.specs.Prelude.{◌≡◌, ◌++◌, ℕ, List, length, OnOk
 ghost use Rattle.rcu_model.specs.declared.event.Event.{Event};
 ghost use Rattle.rcu_model.specs.Machine.{IsRun};
 ghost use Rattle.rcu_judge.specs.Judge.{HasTaken};
-ghost use Rattle.schedule_text.specs.declared.fault.ReplayFault.TheVariants.{Memory};
-ghost use Rattle.judging.specs.Judging.{HasBegun, HasJudged, JudgesOn, JudgesAlong, Ends, is_bad_text, replay_fault, so_far};
+ghost use Rattle.schedule_text.specs.declared.fault.AnswersFault.TheVariants.{Memory};
+ghost use Rattle.judging.specs.Judging.{HasBegun, HasJudged, JudgesOn, JudgesAlong, Ends, so_far};
 
 use rcu_judge::{Judge, Verdict};
 use rcu_model::Event;
-use schedule_text::{AnswerReader, AnswersFault, ReplayFault};
+use schedule_text::{AnswerReader, AnswersFault};
 use std::alloc::Global;
 
 /// A judge of the log that lines of answers tell, which come in pieces. It keeps what is present in that log, the
@@ -22,50 +22,28 @@ pub struct Judging {
     judge: Judge,
 }
 
-/// The same fault, of a replay.
-fn replay_fault(fault: AnswersFault) -> ReplayFault
-    ensures { result ≡ replay_fault fault }
-{
-    match fault {
-        AnswersFault::BadText { line, column } => ReplayFault::BadText { line, column },
-        AnswersFault::Memory => ReplayFault::Memory,
-    }
-}
-
-/// Whether the fault is a bad text.
-fn is_bad_text(fault: &ReplayFault) -> bool
-    ensures { result ≡ is_bad_text fault.now }
-{
-    matches!(fault, ReplayFault::BadText { .. })
-}
-
 /// The verdict after a piece that came to this: a wrong event counts before a bad text that follows it.
-fn so_far(fed: Result<(), ReplayFault>, verdict: Verdict) -> Result<Verdict, ReplayFault>
+fn so_far(fed: Result<(), AnswersFault>, verdict: Verdict) -> Result<Verdict, AnswersFault>
     ensures { result ≡ so_far fed verdict }
 {
     match fed {
         Ok(()) => Ok(verdict),
-        Err(fault) => match verdict {
-            Verdict::Yes => Err(fault),
-            Verdict::No { at, rule } => {
-                if is_bad_text(&fault) {
-                    Ok(Verdict::No { at, rule })
-                } else {
-                    Err(fault)
-                }
-            }
+        Err(AnswersFault::Memory) => Err(AnswersFault::Memory),
+        Err(AnswersFault::BadText { line, column }) => match verdict {
+            Verdict::Yes => Err(AnswersFault::BadText { line, column }),
+            Verdict::No { at, rule } => Ok(Verdict::No { at, rule }),
         },
     }
 }
 
 /// The judge takes the events. `Memory`, also where there are more events than can be counted.
-fn take_all(judge: &mut Judge, events: &[Event]) -> Result<(), ReplayFault>
+fn take_all(judge: &mut Judge, events: &[Event]) -> Result<(), AnswersFault>
     ensures taken { OnOk result ((log : List Event) → HasTaken judge.old log → HasTaken judge.new (log ++ events.now)) }
     ensures memory { IfErr result (λ fault. fault ≡ Memory) }
 {
     for event in events {
         if judge.take(event).is_err() {
-            return Err(ReplayFault::Memory);
+            return Err(AnswersFault::Memory);
         }
     }
     Ok(())
@@ -85,22 +63,19 @@ impl Judging {
 
     /// Takes the next piece, and judges the events of each line that ends in it. `BadText` at the first byte with which
     /// no line of answers goes on, and `Memory`. After a fault it is of no more use.
-    pub fn feed(&mut self, piece: &[u8]) -> Result<(), ReplayFault>
+    pub fn feed(&mut self, piece: &[u8]) -> Result<(), AnswersFault>
         ensures { (fed : List ℕ) → HasJudged self.old fed → JudgesOn self.new (fed ++ piece.now) result }
     {
         self.events.clear();
         let fed = self.answers.feed(piece, &mut self.events);
         take_all(&mut self.judge, &self.events)?;
-        match fed {
-            Ok(()) => Ok(()),
-            Err(fault) => Err(replay_fault(fault)),
-        }
+        fed
     }
 
     /// Takes the next piece like `feed`, and answers the verdict so far: `No` once an event was wrong, whatever follows
     /// that event. `BadText` where no event before it was wrong, and `Memory`. After a fault or `No` it is of no more
     /// use.
-    pub fn follow(&mut self, piece: &[u8]) -> Result<Verdict, ReplayFault>
+    pub fn follow(&mut self, piece: &[u8]) -> Result<Verdict, AnswersFault>
         ensures { (fed : List ℕ) → HasJudged self.old fed → JudgesAlong self.new (fed ++ piece.now) result }
     {
         let fed = self.feed(piece);
@@ -116,12 +91,10 @@ impl Judging {
 
     /// Ends the input: the verdict, and how many events there were where they are a run. `BadText` after a line that
     /// has no end.
-    pub fn finish(&self) -> Result<(Verdict, usize), ReplayFault>
+    pub fn finish(&self) -> Result<(Verdict, usize), AnswersFault>
         ensures { (fed : List ℕ) (judged : HasJudged self.now fed) → Ends fed judged.log result }
     {
-        match self.answers.finish() {
-            Ok(()) => Ok((self.judge.verdict(), self.judge.taken())),
-            Err(fault) => Err(replay_fault(fault)),
-        }
+        self.answers.finish()?;
+        Ok((self.judge.verdict(), self.judge.taken()))
     }
 }

@@ -6,7 +6,7 @@ ghost use Rattle.judging.specs.Found.{IsFound, IsFoundAtEnd, WasFed, finding_of,
 
 use crate::judging::Judging;
 use rcu_judge::{Rule, Verdict};
-use schedule_text::ReplayFault;
+use schedule_text::AnswersFault;
 use std::alloc::Global;
 
 /// What is found of a text of answers. All but `Yes` stand, whatever follows.
@@ -47,19 +47,18 @@ impl Finding {
     }
 }
 
-/// The finding of a fault. `Judging` has no other faults than these two.
-fn finding_of(fault: ReplayFault) -> Finding
+/// The finding of a fault.
+fn finding_of(fault: AnswersFault) -> Finding
     ensures { result ≡ finding_of fault }
 {
     match fault {
-        ReplayFault::BadText { line, column } => Finding::BadText { line, column },
-        ReplayFault::BadConfig | ReplayFault::Read | ReplayFault::Write | ReplayFault::Memory =>
-            Finding::Memory,
+        AnswersFault::BadText { line, column } => Finding::BadText { line, column },
+        AnswersFault::Memory => Finding::Memory,
     }
 }
 
-/// The finding after a piece that came to this, with so many events.
-fn found_along(followed: Result<Verdict, ReplayFault>, events: usize) -> Finding
+/// The finding after a piece that came to this, with this many events.
+fn found_along(followed: Result<Verdict, AnswersFault>, events: usize) -> Finding
     ensures { result ≡ found_along followed events }
 {
     match followed {

@@ -1,10 +1,5 @@
 -- Lines of answers, one after the other, and the log that they tell.
-use Rattle.std.proofs.Common.{◌≡◌, ℕ, ◌+◌, ◌-◌, ◌<◌, ◌^◌, min, List, [], ◌∷◌, ◌++◌, length, Ok, Err, refl, sym, ap, subst, ◌∙◌, append_assoc, arith}
-use Rattle.std.specs.Prelude.{All}
-use Rattle.std.specs.List.{flat_map}
-use Rattle.std.proofs.lemmas.List.{append-nil, flat_map_more, length-append}
-use Rattle.std.proofs.lemmas.List.Elements.{All-nil, All-push, All-head, All-tail}
-use Rattle.rcu_model.specs.declared.event.Event.{Event}
+use Rattle.schedule_text.proofs.Cited.{◌≡◌, ℕ, ◌+◌, ◌-◌, ◌<◌, ◌^◌, min, List, [], ◌∷◌, ◌++◌, length, Ok, Err, refl, sym, ap, subst, ◌∙◌, append_assoc, arith, All, flat_map, append-nil, flat_map_more, length-append, All-nil, All-push, All-head, All-tail, Event}
 use Rattle.schedule_text.specs.declared.answer_line.AnswerLine.{AnswerLine}
 use Rattle.schedule_text.specs.AnswerLines.{IsAnswerLine, spelled, AnswerLineText, told_by, TellsLog, BreaksOffAnswers}
 use Rattle.schedule_text.specs.AnswerPieces.{ReadSoFar}

@@ -1,7 +1,5 @@
 -- Lines of answers, as their pieces come.
-use Rattle.std.proofs.Common.{◌≡◌, ℕ, ◌+◌, ◌-◌, ◌<◌, ◌^◌, min, List, [], ◌∷◌, ◌++◌, length, Ok, Err, refl, sym, ap, subst, ◌∙◌, append_assoc, arith}
-use Rattle.std.proofs.lemmas.List.{append-nil, length-append}
-use Rattle.rcu_model.specs.declared.event.Event.{Event}
+use Rattle.schedule_text.proofs.Cited.{◌≡◌, ℕ, ◌+◌, ◌-◌, ◌<◌, ◌^◌, min, List, [], ◌∷◌, ◌++◌, length, Ok, Err, refl, sym, ap, subst, ◌∙◌, append_assoc, arith, append-nil, length-append, Event}
 use Rattle.schedule_text.specs.declared.answer_line.AnswerLine.{AnswerLine}
 use Rattle.schedule_text.specs.declared.answer_pieces.AnswerReader.{AnswerReader}
 use Rattle.schedule_text.specs.declared.fault.AnswersFault.{AnswersFault}

@@ -1,12 +1,5 @@
 -- A line of answers is read exactly.
-use Rattle.std.proofs.Common.{◌≡◌, ℕ, Bool, true, false, cond, List, [], ◌∷◌, ◌++◌, Some, None, Err, refl, sym, ap, subst, ◌∙◌, append_assoc, inl, inr}
-use Rattle.std.specs.Prelude.{codes, ◌==◌, ◌||◌}
-use Rattle.std.specs.Fmt.{decimal}
-use Rattle.std.proofs.lemmas.Bool.{eqb-true}
-use Rattle.std.proofs.lemmas.List.{append-nil}
-use Rattle.rcu_model.specs.declared.event.Event.{Event}
-use Rattle.rcu_model.specs.declared.event.Event.TheVariants.{Open, Close, First, Next, Touch, Push, Replace, Cut, Retire, Queue, Run, Ask, Answer, Bar, Clear}
-use Rattle.rcu_model.specs.EventText.{text_of}
+use Rattle.schedule_text.proofs.Cited.{◌≡◌, ℕ, Bool, true, false, cond, List, [], ◌∷◌, ◌++◌, Some, None, Err, refl, sym, ap, subst, ◌∙◌, append_assoc, inl, inr, codes, ◌==◌, ◌||◌, decimal, eqb-true, append-nil, Event, Open, Close, First, Next, Touch, Push, Replace, Cut, Retire, Queue, Run, Ask, Answer, Bar, Clear, text_of}
 use Rattle.schedule_text.specs.declared.answer_line.AnswerLine.{AnswerLine}
 use Rattle.schedule_text.specs.declared.answer_line.AnswerLine.TheVariants as line
 use Rattle.schedule_text.specs.Reading.{◌>>=◌, is_end, word_from, word_on, word_at}

@@ -1,6 +1,5 @@
 -- That reading takes some bytes, for any language that is read exactly.
-use Rattle.std.proofs.Common.{◌≡◌, ℕ, ◌+◌, ◌<◌, List, [], ◌∷◌, length, Ok, Err, ap, ◌∙◌, arith}
-use Rattle.std.proofs.lemmas.List.{length-append}
+use Rattle.schedule_text.proofs.Cited.{◌≡◌, ℕ, ◌+◌, ◌<◌, List, [], ◌∷◌, length, Ok, Err, ap, ◌∙◌, arith, length-append}
 use Rattle.schedule_text.specs.Reading.{Reading}
 use Rattle.schedule_text.proofs.Exact.{Reads, not_both}
 use Rattle.schedule_text.proofs.More.{whole}

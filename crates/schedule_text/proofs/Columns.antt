@@ -1,6 +1,5 @@
 -- The column of a fault, for any language that is read exactly.
-use Rattle.std.proofs.Common.{◌≡◌, ℕ, ◌+◌, ◌≤◌, List, [], ◌∷◌, ◌++◌, length, take, Ok, Err, refl, sym, ap, subst, ◌∙◌, append_assoc, arith}
-use Rattle.std.proofs.lemmas.List.{append-nil, length-append, take_at}
+use Rattle.schedule_text.proofs.Cited.{◌≡◌, ℕ, ◌+◌, ◌≤◌, List, [], ◌∷◌, ◌++◌, length, take, Ok, Err, refl, sym, ap, subst, ◌∙◌, append_assoc, arith, append-nil, length-append, take_at}
 use Rattle.schedule_text.specs.Reading.{Reading}
 use Rattle.schedule_text.specs.Fault.{Begins, IsColumn}
 use Rattle.schedule_text.proofs.Exact.{Reads, not_both, ok_is}

@@ -1,13 +1,5 @@
 -- The pieces of an event's text are read exactly: what stands before a byte that may end it, and that byte.
-use Rattle.std.proofs.Common.{◌≡◌, ℕ, Bool, true, false, List, [], ◌∷◌, ◌++◌, Option, Some, None, Ok, Err, ◌⊎◌, refl, sym, ap, subst, ◌∙◌, append_assoc, inl, inr, lit<, lit≤}
-use Rattle.std.specs.Prelude.{codes, ◌==◌, ◌||◌}
-use Rattle.std.specs.Fmt.{decimal}
-use Rattle.std.specs.Char.{is_ascii_digit}
-use Rattle.std.proofs.lemmas.Bool.{eqb-true, eq-eqb}
-use Rattle.std.proofs.lemmas.List.{append-nil}
-use Rattle.rcu_model.specs.declared.event.SectionId.{SectionId}
-use Rattle.rcu_model.specs.declared.event.ObjectId.{ObjectId}
-use Rattle.rcu_model.specs.EventText.{object_text, found_text}
+use Rattle.schedule_text.proofs.Cited.{◌≡◌, ℕ, Bool, true, false, List, [], ◌∷◌, ◌++◌, Option, Some, None, Ok, Err, ◌⊎◌, refl, sym, ap, subst, ◌∙◌, append_assoc, inl, inr, lit<, lit≤, codes, ◌==◌, ◌||◌, decimal, is_ascii_digit, eqb-true, eq-eqb, append-nil, SectionId, ObjectId, object_text, found_text}
 use Rattle.schedule_text.specs.Reading.{◌>>=◌, is_end, word_at, number_at}
 use Rattle.schedule_text.specs.Grammar.{done, object}
 use Rattle.schedule_text.specs.Spelling.{IsNumber}

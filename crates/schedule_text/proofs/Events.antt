@@ -1,13 +1,5 @@
 -- An event and the byte that ends it are read exactly.
-use Rattle.std.proofs.Common.{◌≡◌, ℕ, true, List, [], ◌∷◌, ◌++◌, Option, refl, sym, subst, append_assoc, inl, inr}
-use Rattle.std.specs.Prelude.{codes}
-use Rattle.std.specs.Fmt.{decimal}
-use Rattle.std.proofs.lemmas.List.{append-nil}
-use Rattle.rcu_model.specs.declared.event.SectionId.{SectionId}
-use Rattle.rcu_model.specs.declared.event.ObjectId.{ObjectId}
-use Rattle.rcu_model.specs.declared.event.Event.{Event}
-use Rattle.rcu_model.specs.declared.event.Event.TheVariants.{Open, Close, First, Next, Touch, Push, Replace, Cut, Retire, Queue, Run, Ask, Answer, Bar, Clear}
-use Rattle.rcu_model.specs.EventText.{object_text, found_text, text_of}
+use Rattle.schedule_text.proofs.Cited.{◌≡◌, ℕ, true, List, [], ◌∷◌, ◌++◌, Option, refl, sym, subst, append_assoc, inl, inr, codes, decimal, append-nil, SectionId, ObjectId, Event, Open, Close, First, Next, Touch, Push, Replace, Cut, Retire, Queue, Run, Ask, Answer, Bar, Clear, object_text, found_text, text_of}
 use Rattle.schedule_text.specs.Reading.{◌>>=◌, is_end, number_at}
 use Rattle.schedule_text.specs.Grammar.{done}
 use Rattle.schedule_text.specs.AnswerLines.{IsEvent}

@@ -1,9 +1,5 @@
 -- A line with which an actor below ten goes on.
-use Rattle.std.proofs.Common.{◌≡◌, ℕ, ◌-◌, ◌≤◌, true, List, [], ◌∷◌, length, take, drop, get_or, Ok, refl, arith}
-use Rattle.std.proofs.lemmas.Grind.{common_steps}
-use Rattle.std.specs.Char.{is_ascii_digit}
-use Rattle.world_state.specs.declared.line.Line.{Line}
-use Rattle.world_state.specs.declared.line.Line.TheVariants.{Reader, Updater, Worker}
+use Rattle.schedule_text.proofs.Cited.{◌≡◌, ℕ, ◌-◌, ◌≤◌, true, List, [], ◌∷◌, length, take, drop, get_or, Ok, refl, arith, common_steps, is_ascii_digit, Line, Reader, Updater, Worker}
 use Rattle.schedule_text.specs.Reading.{word_from, word_on, digits_on, ended_number_at, number_at}
 use Rattle.schedule_text.specs.Grammar.{GoesOn, reader_verb_at, updater_verb_at, worker_verb_at, line_at}
 

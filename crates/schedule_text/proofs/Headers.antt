@@ -1,16 +1,8 @@
 -- The header is read exactly.
-use Rattle.std.proofs.Common.{◌≡◌, ℕ, List, [], ◌∷◌, ◌++◌, Err, refl, sym, subst, ◌∙◌, inl, inr}
-use Rattle.std.specs.Prelude.{codes}
-use Rattle.std.specs.Fmt.{decimal}
-use Rattle.std.proofs.lemmas.List.{append-nil}
+use Rattle.schedule_text.proofs.Cited.{◌≡◌, ℕ, List, [], ◌∷◌, ◌++◌, Err, refl, sym, subst, ◌∙◌, inl, inr, codes, decimal, append-nil, Layout, Narrow, Wide, Config, Flavour, Memb, Qsbr}
 use Rattle.schedule_text.specs.Reading.{◌>>=◌, word_from, word_on, word_at, number_at}
 use Rattle.schedule_text.specs.Grammar.{done, layouts, flavours, header_at}
 use Rattle.schedule_text.specs.Header.{version, flavour_text, header, HeaderText}
-use Rattle.reader_word.specs.declared.layout.Layout.{Layout}
-use Rattle.reader_word.specs.declared.layout.Layout.TheVariants.{Narrow, Wide}
-use Rattle.world_state.specs.declared.config.Config.{Config}
-use Rattle.world_state.specs.declared.config.Flavour.{Flavour}
-use Rattle.world_state.specs.declared.config.Flavour.TheVariants.{Memb, Qsbr}
 use Rattle.schedule_text.proofs.Exact.{Reads, Done, Then, reads_as}
 use Rattle.schedule_text.proofs.Tables.{InTable}
 use Rattle.schedule_text.proofs.Numbers.{NumberText}

@@ -1,7 +1,5 @@
 -- Languages that are read exactly and have a text, and how they are put together.
-use Rattle.std.proofs.Common.{◌≡◌, ℕ, List, [], ◌∷◌, ◌++◌, true, false, refl, lit<}
-use Rattle.std.specs.Fmt.{decimal}
-use Rattle.std.specs.Char.{is_ascii_digit}
+use Rattle.schedule_text.proofs.Cited.{◌≡◌, ℕ, List, [], ◌∷◌, ◌++◌, true, false, refl, lit<, decimal, is_ascii_digit}
 use Rattle.schedule_text.specs.Reading.{Reading, ◌>>=◌, word_at, number_at, is_prefix_free}
 use Rattle.schedule_text.specs.Grammar.{done}
 use Rattle.schedule_text.proofs.Exact.{Reads, Done, Then, done_reads, then_reads, reads_as}

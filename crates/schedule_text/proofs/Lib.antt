@@ -1,3 +1,4 @@
+mod Cited
 pub mod Steps
 pub mod Exact
 pub mod Tables

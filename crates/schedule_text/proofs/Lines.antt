@@ -1,13 +1,8 @@
 -- A line is read exactly.
-use Rattle.std.proofs.Common.{◌≡◌, ℕ, List, [], ◌∷◌, ◌++◌, refl, sym, subst, append_assoc, inl, inr, Err, lit<}
-use Rattle.std.specs.Prelude.{codes}
-use Rattle.std.specs.Fmt.{decimal}
-use Rattle.std.proofs.lemmas.List.{append-nil}
+use Rattle.schedule_text.proofs.Cited.{◌≡◌, ℕ, List, [], ◌∷◌, ◌++◌, refl, sym, subst, append_assoc, inl, inr, Err, lit<, codes, decimal, append-nil, Line, Reader, Updater, Worker}
 use Rattle.schedule_text.specs.Reading.{Reading, ◌>>=◌, word_from, word_on, word_at, number_at}
 use Rattle.schedule_text.specs.Grammar.{done, actor_words, reader_verb_at, updater_verb_at, worker_verb_at, verb_of, line_at}
 use Rattle.schedule_text.specs.Spelling.{reader_verb, updater_verb, worker_verb, IsNumber, LineText}
-use Rattle.world_state.specs.declared.line.Line.{Line}
-use Rattle.world_state.specs.declared.line.Line.TheVariants.{Reader, Updater, Worker}
 use Rattle.world_state.specs.declared.line.ReaderVerb.TheVariants as reader
 use Rattle.world_state.specs.declared.line.UpdaterVerb.TheVariants as updater
 use Rattle.world_state.specs.declared.line.WorkerVerb.TheVariants as worker

@@ -1,10 +1,7 @@
 -- What is printed of an answer is the text of its line, which tells the answer's events.
-use Rattle.std.proofs.Common.{◌≡◌, Some, None, Result, Ok, Err, refl, append_assoc}
-use Rattle.rcu_model.specs.declared.refusal.Refusal.{Refusal}
+use Rattle.schedule_text.proofs.Cited.{◌≡◌, Some, None, Result, Ok, Err, refl, append_assoc, Refusal, Events, Quiet, Wait, Blocked, Idle, told}
 use Rattle.world_state.specs.declared.line.Answer.{Answer}
-use Rattle.world_state.specs.declared.line.Answer.TheVariants.{Events, Quiet, Wait, Blocked, Idle}
 use Rattle.schedule_text.specs.Answers.{answer_line}
-use Rattle.world_state.specs.View.{told}
 use Rattle.schedule_text.specs.AnswerLines.{spelled, line_of, told_by}
 
 pub answer_spelled : (a : Result Answer Refusal) → answer_line a ≡ spelled (line_of a)

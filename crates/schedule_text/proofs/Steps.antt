@@ -1,7 +1,5 @@
 -- One turn of the loops over a word and over a table of words.
-use Rattle.std.proofs.Common.{◌≡◌, ℕ, zero, suc, ◌+◌, ◌<◌, List, [], ◌∷◌, length, get_or, drop, map, Result, Err, refl, arith, add-one}
-use Rattle.std.specs.Borrow.{Bor}
-use Rattle.std.proofs.lemmas.List.{drop_more}
+use Rattle.schedule_text.proofs.Cited.{◌≡◌, ℕ, zero, suc, ◌+◌, ◌<◌, List, [], ◌∷◌, length, get_or, drop, map, Result, Err, refl, arith, add-one, Bor, drop_more}
 use Rattle.schedule_text.specs.Reading.{word_from, word_on, further, or_else, value_row}
 
 pub word_ends : (word : List ℕ) (i : ℕ) (rest : List ℕ) → i < length word → length rest < 1 → word_from (drop i word) rest ≡ Err rest

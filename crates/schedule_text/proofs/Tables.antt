@@ -1,9 +1,5 @@
 -- A table of words, of which none begins another, is read exactly.
-use Rattle.std.proofs.Common.{◌≡◌, ℕ, ◌≤◌, Bool, true, false, cond, eqb, ltb, List, [], ◌∷◌, ◌++◌, length, map, get_or, zero, suc, ◌<◌, Result, Ok, Err, refl, sym, ap, subst, ◌∙◌, append_assoc, arith, inl, inr, ◌⊎◌}
-use Rattle.std.specs.Prelude.{◌&&◌}
-use Rattle.std.proofs.lemmas.Bool.{eqb-true, eq-eqb, ltb-true, ltb-false}
-use Rattle.std.proofs.lemmas.List.{length-append}
-use Rattle.std.specs.Borrow.{Bor}
+use Rattle.schedule_text.proofs.Cited.{◌≡◌, ℕ, ◌≤◌, Bool, true, false, cond, eqb, ltb, List, [], ◌∷◌, ◌++◌, length, map, get_or, zero, suc, ◌<◌, Result, Ok, Err, refl, sym, ap, subst, ◌∙◌, append_assoc, arith, inl, inr, ◌⊎◌, ◌&&◌, eqb-true, eq-eqb, ltb-true, ltb-false, length-append, Bor}
 use Rattle.schedule_text.specs.Reading.{Reading, word_from, further, or_else, word_on, word_at, differ, differs_from_all, is_prefix_free, value_row}
 use Rattle.schedule_text.proofs.Exact.{Opens, Fault, Found, Reads, ok_is, err_is, not_both}
 

@@ -1,16 +1,10 @@
 -- The verbs of each actor are read exactly.
-use Rattle.std.proofs.Common.{◌≡◌, ℕ, List, [], ◌∷◌, ◌++◌, refl, sym, ap, subst, ◌∙◌, append_assoc, inl, inr, lit<}
-use Rattle.std.specs.Prelude.{codes}
-use Rattle.std.specs.Fmt.{decimal}
-use Rattle.std.proofs.lemmas.List.{append-nil}
+use Rattle.schedule_text.proofs.Cited.{◌≡◌, ℕ, List, [], ◌∷◌, ◌++◌, refl, sym, ap, subst, ◌∙◌, append_assoc, inl, inr, lit<, codes, decimal, append-nil, ReaderVerb, UpdaterVerb, WorkerVerb}
 use Rattle.schedule_text.specs.Reading.{word_at, number_at}
 use Rattle.schedule_text.specs.Grammar.{done, object, argument_at, reader_words_of, updater_words_of, worker_words, reader_rest, updater_rest, reader_verb_at, updater_verb_at, worker_verb_at}
 use Rattle.schedule_text.specs.Spelling.{reader_verb, updater_verb, worker_verb, IsNumber, IsReaderVerb, IsUpdaterVerb}
-use Rattle.world_state.specs.declared.line.ReaderVerb.{ReaderVerb}
 use Rattle.world_state.specs.declared.line.ReaderVerb.TheVariants as reader
-use Rattle.world_state.specs.declared.line.UpdaterVerb.{UpdaterVerb}
 use Rattle.world_state.specs.declared.line.UpdaterVerb.TheVariants as updater
-use Rattle.world_state.specs.declared.line.WorkerVerb.{WorkerVerb}
 use Rattle.world_state.specs.declared.line.WorkerVerb.TheVariants as worker
 use Rattle.schedule_text.specs.declared.words.ReaderWord.{ReaderWord}
 use Rattle.schedule_text.specs.declared.words.ReaderWord.TheVariants as reader_words

@@ -1,11 +1,5 @@
 -- A whole schedule, line by line.
-use Rattle.std.proofs.Common.{◌≡◌, ℕ, ◌+◌, ◌<◌, List, [], ◌∷◌, ◌++◌, length, Ok, Err, false, refl, sym, ap, ◌∙◌, append_assoc, inr}
-use Rattle.std.specs.Prelude.{All, IsTrue}
-use Rattle.std.proofs.lemmas.List.{flat_map_more}
-use Rattle.std.proofs.lemmas.List.Elements.{All-push}
-use Rattle.world_state.specs.Limits.{is_within_limits}
-use Rattle.world_state.specs.declared.config.Config.{Config}
-use Rattle.world_state.specs.declared.line.Line.{Line}
+use Rattle.schedule_text.proofs.Cited.{◌≡◌, ℕ, ◌+◌, ◌<◌, List, [], ◌∷◌, ◌++◌, length, Ok, Err, false, refl, sym, ap, ◌∙◌, append_assoc, inr, All, IsTrue, flat_map_more, All-push, is_within_limits, Config, Line}
 use Rattle.schedule_text.specs.Spelling.{spelling, IsLine, LineText, lines_text}
 use Rattle.schedule_text.specs.Header.{header, HeaderText, HasHeader}
 use Rattle.schedule_text.specs.Grammar.{line_at, header_at}

@@ -2,6 +2,7 @@ pub mod Reading
 pub mod Spelling
 pub mod Header
 pub mod Fault
+pub mod Replaying
 pub mod Grammar
 pub mod Answers
 pub mod Whole

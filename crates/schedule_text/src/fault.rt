@@ -4,6 +4,7 @@ ghost use Rattle.std.specs.Prelude.{◌≡◌};
 ghost use Rattle.schedule_text.specs.declared.fault.ReplayFault.TheVariants as replay_faults;
 ghost use Rattle.schedule_text.specs.declared.fault.ScheduleFault.TheVariants as schedule_faults;
 ghost use Rattle.schedule_text.specs.declared.fault.AnswersFault.TheVariants as answers_faults;
+ghost use Rattle.schedule_text.specs.Replaying.{replay_fault};
 
 use std::alloc::{AllocError, AllocFailed};
 use thiserror::Error;
@@ -51,6 +52,17 @@ pub enum AnswersFault {
     /// The allocator refused.
     #[error("no memory")]
     Memory,
+}
+
+impl From<AnswersFault> for ReplayFault {
+    ghost from_gives = { λ fault e. e ≡ replay_fault fault };
+
+    fn from(fault: AnswersFault) -> ReplayFault {
+        match fault {
+            AnswersFault::BadText { line, column } => ReplayFault::BadText { line, column },
+            AnswersFault::Memory => ReplayFault::Memory,
+        }
+    }
 }
 
 impl From<AllocError> for ReplayFault {

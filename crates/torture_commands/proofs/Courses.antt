@@ -1,40 +1,10 @@
 -- The lines of a walk, one after the other.
-use Rattle.std.proofs.Common.{◌≡◌, ℕ, suc, ◌+◌, ◌≤◌, ◌<◌, Bool, true, false, List, [], ◌∷◌, ◌++◌, length, Ok, Err, Result, refl, sym, ap, subst, ◌∙◌, arith}
-use Rattle.std.specs.Prelude.{nat_le, ◌&&◌, ◌⊎◌}
-use Rattle.std.specs.Io.KnownBytes.{Appends}
-use Rattle.std.proofs.Common.{inl, inr, leb, true≢false, append_assoc, Option}
-use Rattle.std.proofs.lemmas.Bool.Decides.{leb_tells}
-use Rattle.std.proofs.lemmas.List.{append-nil, flat_map_more, length-append}
-use Rattle.std.proofs.lemmas.List.Elements.{All-nil, All-push}
-use Rattle.rand_pcg.specs.Lcg.{Lcg}
-use Rattle.world_state.specs.Limits.{is_in, is_within_limits}
-use Rattle.schedule_text.specs.declared.fault.ReplayFault.{ReplayFault}
-use Rattle.schedule_text.specs.declared.fault.ReplayFault.TheVariants.{Memory}
-use Rattle.schedule_text.specs.Header.{header}
-use Rattle.schedule.specs.Ports.{Writes}
-use Rattle.schedule_text.specs.Spelling.{spelling, IsLine}
-use Rattle.schedule.proofs.Lemmas.{appends_none, appends_more, after_append}
+use Rattle.torture_commands.proofs.Cited.{◌≡◌, ℕ, suc, ◌+◌, ◌≤◌, ◌<◌, Bool, true, false, List, [], ◌∷◌, ◌++◌, length, Ok, Err, Result, refl, sym, ap, subst, ◌∙◌, arith, nat_le, ◌&&◌, ◌⊎◌, Appends, inl, inr, leb, true≢false, append_assoc, Option, leb_tells, append-nil, flat_map_more, length-append, All-nil, All-push, Lcg, is_in, is_within_limits, ReplayFault, Memory, header, Writes, spelling, IsLine, appends_none, appends_more, after_append, ◌↔◌, Event, Verdict, Yes, IsRun, Refusal, Config, Flavour, Memb, Qsbr, Line, Change, Begin, Publish, Grace, Hold, Retire, Bar, Work, Stay, BoardView, changed, spliced_length, length_marked, objects_given, change_of, with_change, WorldView, OfMemb, OfQsbr, memb_plans, qsbr_plans, fresh_in, fresh_world, step_of, log_of, world_after_lines}
 use Rattle.torture_commands.specs.declared.command.Walk.{Walk}
 use Rattle.torture_commands.specs.Limits.{is_walk_within}
 use Rattle.torture_commands.specs.Drawing.{Drawn, drawn_as, seeded, draw_line, with_next, draw_lines}
 use Rattle.torture_commands.specs.Walking.{walk_line, IsDrawn, IsUnderWay, IsPrinting, IsWalked, IsWalkLine, Walks, Schedules}
-use Rattle.std.specs.Prelude.{◌↔◌}
-use Rattle.rcu_model.specs.declared.event.Event.{Event}
-use Rattle.rcu_judge.specs.declared.verdict.Verdict.{Verdict}
-use Rattle.rcu_judge.specs.declared.verdict.Verdict.TheVariants.{Yes}
-use Rattle.rcu_model.specs.Machine.{IsRun}
-use Rattle.rcu_model.specs.declared.refusal.Refusal.{Refusal}
-use Rattle.world_state.specs.declared.config.Config.{Config}
-use Rattle.world_state.specs.declared.config.Flavour.{Flavour}
-use Rattle.world_state.specs.declared.config.Flavour.TheVariants.{Memb, Qsbr}
-use Rattle.world_state.specs.declared.line.Line.{Line}
-use Rattle.world_state.specs.declared.change.Change.{Change}
-use Rattle.world_state.specs.declared.change.Change.TheVariants.{Read, Begin, Publish, Grace, Hold, Retire, Bar, Work, Stay}
-use Rattle.world_state.specs.View.{BoardView, changed}
-use Rattle.world_state.proofs.Lemmas.{spliced_length, length_marked}
-use Rattle.world.specs.Actors.{objects_given}
-use Rattle.world.specs.Lines.{change_of, with_change}
-use Rattle.world.specs.Steps.{WorldView, OfMemb, OfQsbr, memb_plans, qsbr_plans, fresh_in, fresh_world, step_of, log_of, world_after_lines}
+use Rattle.world_state.specs.declared.change.Change.TheVariants.{Read}
 
 -- ---- the objects given are no more than the lines
 

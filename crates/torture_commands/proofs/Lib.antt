@@ -1,2 +1,3 @@
+mod Cited
 pub mod Verdicts
 pub mod Courses

@@ -1,23 +1,7 @@
 -- Verdicts whose lines are written, whole or in part.
-use Rattle.std.proofs.Common.{◌≡◌, ℕ, ◌≤◌, inl, inr, List, [], ◌++◌, length, Option, Ok, Err, Result, refl, sym, ap, subst, ◌∙◌}
-use Rattle.std.specs.Io.KnownBytes.{Appends, Consumes, IsAtEnd}
-use Rattle.std.proofs.lemmas.List.{append-nil}
-use Rattle.rcu_model.specs.declared.event.Event.{Event}
-use Rattle.rcu_judge.specs.declared.verdict.Verdict.{Verdict}
-use Rattle.rcu_judge.specs.declared.verdict.Verdict.TheVariants.{Yes, No}
-use Rattle.rcu_judge.specs.declared.verdict.Rule.{Rule}
-use Rattle.rcu_model.specs.Machine.{IsRun}
-use Rattle.rcu_judge.specs.Verdict.{IsFirstBreak}
-use Rattle.rcu_model.proofs.Lemmas.{at_event}
-use Rattle.schedule_text.specs.declared.fault.ReplayFault.{ReplayFault}
-use Rattle.schedule_text.specs.declared.fault.ReplayFault.TheVariants.{BadText, BadConfig, Read, Write, Memory}
-use Rattle.schedule.specs.Ports.{Tells, Writes}
-use Rattle.schedule.proofs.Lemmas.{appends_none, consumes_more, tells_more, tells_all}
-use Rattle.schedule_text.proofs.Lemmas.{more_text}
-use Rattle.judging.specs.declared.judging.Judging.{Judging}
-use Rattle.judging.specs.Judging.{HasJudged, JudgesOn, JudgesAlong, JudgedAs, IsJudgedSoFar, IsRunSoFar, Ends}
+use Rattle.torture_commands.proofs.Cited.{◌≡◌, ℕ, ◌≤◌, inl, inr, List, [], ◌++◌, length, Option, Ok, Err, Result, refl, sym, ap, subst, ◌∙◌, Appends, Consumes, IsAtEnd, append-nil, Event, Verdict, Yes, No, Rule, IsRun, IsFirstBreak, at_event, AnswersFault, replay_fault, ReplayFault, BadText, BadConfig, Read, Write, Memory, Tells, Writes, appends_none, consumes_more, tells_more, tells_all, more_text, Judging, HasJudged, JudgesOn, JudgesAlong, JudgedAs, IsJudgedSoFar, IsRunSoFar, Ends, right_so_far}
+use Rattle.schedule_text.specs.declared.fault.AnswersFault.TheVariants as answers
 use Rattle.torture_commands.specs.Checking.{verdict_line, Printed, Prints, TellsVerdict, Closed, Closes, Checked, Checks, EndsWrong, CheckedAlong, ChecksAlong}
-use Rattle.judging.proofs.Lemmas.{right_so_far}
 
 -- the number of events is printed of runs alone
 counted_line : (verdict : Verdict) (events n : ℕ) → (verdict ≡ Yes → events ≡ n) → verdict_line verdict events ≡ verdict_line verdict n
@@ -51,12 +35,9 @@ closes_by fed log before after verdict events result j p = record { printed = p.
     by (Err Write) is = (verdict, (is.0, told (p.printed ++ is.0) is.1))
     by (Err Memory) is = is
 
-pub close_fault : (fed : List ℕ) (log : List Event) (before : Option (List ℕ)) (fault : ReplayFault) → Ends fed log (Err fault) → Closes fed log before before (Err fault)
-close_fault fed log before (BadText line column) e = record { printed = []; writes = appends_none before; closed = (e, refl) }
-close_fault fed log before BadConfig e = absurd e
-close_fault fed log before Read e = absurd e
-close_fault fed log before Write e = absurd e
-close_fault fed log before Memory e = absurd e
+pub close_fault : (fed : List ℕ) (log : List Event) (before : Option (List ℕ)) (fault : AnswersFault) → Ends fed log (Err fault) → Closes fed log before before (Err (replay_fault fault))
+close_fault fed log before (answers.BadText line column) e = record { printed = []; writes = appends_none before; closed = (e, refl) }
+close_fault fed log before answers.Memory e = absurd e
 
 -- a fault before anything was written
 pub full : (given left before : Option (List ℕ)) → Checks given left before before (Err Memory)
@@ -65,14 +46,11 @@ full given left before = record { text = []; printed = []; writes = appends_none
 pub unread : (given left before : Option (List ℕ)) (read : List ℕ) → Consumes given left read → Checks given left before before (Err Read)
 unread given left before read c = record { text = read; printed = []; writes = appends_none before; checked = (c, refl) }
 
-pub piece_fault : (given left before : Option (List ℕ)) (judging : Judging) (fed : List ℕ) (fault : ReplayFault) → Consumes given left fed → JudgesOn judging fed (Err fault) → Checks given left before before (Err fault)
-piece_fault given left before judging fed (BadText line column) c j =
+pub piece_fault : (given left before : Option (List ℕ)) (judging : Judging) (fed : List ℕ) (fault : AnswersFault) → Consumes given left fed → JudgesOn judging fed (Err fault) → Checks given left before before (Err (replay_fault fault))
+piece_fault given left before judging fed (answers.BadText line column) c j =
     let t = tells_more given left fed c in
     record { text = fed ++ t.0; printed = []; writes = appends_none before; checked = (t.1, (j.stops.breaks t.0, refl)) }
-piece_fault given left before judging fed Memory c j = full given left before
-piece_fault given left before judging fed BadConfig c j = absurd j
-piece_fault given left before judging fed Read c j = absurd j
-piece_fault given left before judging fed Write c j = absurd j
+piece_fault given left before judging fed answers.Memory c j = full given left before
 
 -- the reader is at the end of the text
 checked_by : (given left : Option (List ℕ)) (text : List ℕ) (log : List Event) (printed : List ℕ) (result : Result Verdict ReplayFault) → Tells given text → Closed text log printed result → Checked given left text printed result
@@ -142,8 +120,8 @@ along_wrong given left before after earlier piece at rule result reads short rig
 pub along_unread : (given left before : Option (List ℕ)) (judging : Judging) (read : List ℕ) (j : HasJudged judging read) → IsRun j.log → Consumes given left read → ChecksAlong given left before before (Err Read)
 along_unread given left before judging read j run c = record { text = read; printed = []; writes = appends_none before; checked = (c, (right_so_far judging read j run, refl)) }
 
-pub along_fault : (given left before : Option (List ℕ)) (judging : Judging) (fed : List ℕ) (fault : ReplayFault) → Consumes given left fed → JudgesAlong judging fed (Err fault) → ChecksAlong given left before before (Err fault)
-along_fault given left before judging fed (BadText line column) c j =
+pub along_fault : (given left before : Option (List ℕ)) (judging : Judging) (fed : List ℕ) (fault : AnswersFault) → Consumes given left fed → JudgesAlong judging fed (Err fault) → ChecksAlong given left before before (Err (replay_fault fault))
+along_fault given left before judging fed (answers.BadText line column) c j =
     let t = tells_more given left fed c in
     let s = j.0.stops in
     record {
@@ -152,10 +130,7 @@ along_fault given left before judging fed (BadText line column) c j =
       writes = appends_none before;
       checked = (t.1, (record { log = j.0.log; breaks = record { rest = s.rest ++ t.0; read = more_text fed s.rest t.0 j.0.log line s.read; breaks = s.breaks t.0 }; run = j.1 }, refl));
     }
-along_fault given left before judging fed Memory c j = record { text = []; printed = []; writes = appends_none before; checked = refl }
-along_fault given left before judging fed BadConfig c j = absurd j
-along_fault given left before judging fed Read c j = absurd j
-along_fault given left before judging fed Write c j = absurd j
+along_fault given left before judging fed answers.Memory c j = record { text = []; printed = []; writes = appends_none before; checked = refl }
 
 pub along_no : (given left before after : Option (List ℕ)) (judging : Judging) (earlier piece : List ℕ) (verdict : Verdict) (at : ℕ) (rule : Rule) (result : Result Verdict ReplayFault) → verdict ≡ No at rule → Consumes given left (earlier ++ piece) → length piece ≤ 4096 → IsRunSoFar earlier → JudgesAlong judging (earlier ++ piece) (Ok verdict) → Prints verdict 0 before after result → ChecksAlong given left before after result
 along_no given left before after judging earlier piece verdict at rule result is reads short right j p =

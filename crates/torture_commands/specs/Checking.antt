@@ -16,7 +16,7 @@ use Rattle.schedule.specs.Ports.{Tells}
 use Rattle.judging.specs.declared.judging.Judging.{Judging}
 use Rattle.judging.specs.Judging.{HasJudged, IsJudgedSoFar, IsRunSoFar, BreaksRun}
 
--- the line of a verdict on a log of so many events
+-- the line of a verdict on a log of this many events
 abbrev pub verdict_line : Verdict → ℕ → List ℕ
 verdict_line Yes events = codes "yes events=" ++ decimal events ++ codes "\n"
 verdict_line (No at rule) events = codes "no event=" ++ decimal at ++ codes " rule=" ++ name_of rule ++ codes "\n"

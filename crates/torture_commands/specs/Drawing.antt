@@ -138,7 +138,7 @@ abbrev pub with_next : Walk → ℕ → Drawn (List Line) → Drawn (List Line)
 with_next walk number (lines, generator) =
     drawn_as (λ line. lines ++ line ∷ []) (draw_line walk number (world_after_lines (fresh_world walk.config) lines) generator)
 
--- the first so many lines of a walk
+-- the first lines of a walk, this many
 unfoldable pub draw_lines : Walk → ℕ → Drawn (List Line)
 draw_lines walk zero = ([], seeded walk.seed)
 draw_lines walk (suc n) = with_next walk (suc n) (draw_lines walk n)

@@ -31,7 +31,7 @@ counts_text c = codes " open=" ++ decimal c.sections ++ codes " waiting=" ++ dec
 abbrev pub walk_text : ℕ → ℕ → Counts → Verdict → List ℕ
 walk_text lines events counts verdict = codes "walk lines=" ++ decimal lines ++ codes " events=" ++ decimal events ++ counts_text counts ++ verdict_text verdict
 
--- of a log of so many lines
+-- of a log of this many lines
 abbrev pub walk_line : ℕ → List Event → Verdict → List ℕ
 walk_line lines log verdict = walk_text lines (length log) (counts_of log) verdict
 
@@ -47,7 +47,7 @@ pub record IsDrawn (walk : Walk) (lines : List Line) : Type 0 where
 abbrev pub IsWalked : Walk → WorldView → Type 0
 IsWalked walk world = (lines : List Line) × IsDrawn walk lines × (world ≡ world_after_lines (fresh_world walk.config) lines)
 
--- the world after these lines, the first so many, and the generator after them
+-- the world after the first of these lines, this many, and the generator after them
 pub record IsUnderWay (walk : Walk) (world : WorldView) (generator : Lcg) (number : ℕ) (lines : List Line) : Type 0 where
   pub count : number ≡ length lines
   pub each : All IsLine lines
@@ -83,7 +83,7 @@ pub record IsWalkSchedule (walk : Walk) (printed : List ℕ) : Type 0 where
   pub drawn : IsDrawn walk lines
   pub text : printed ≡ header walk.config ++ lines_text lines
 
--- the beginning of a schedule of at most so many lines, the first ones that the seed draws
+-- the beginning of a schedule of at most this many lines, the first ones that the seed draws
 pub record IsFrontOfSchedule (walk : Walk) (printed : List ℕ) : Type 0 where
   pub lines : List Line
   pub number : length lines ≤ walk.lines

@@ -80,7 +80,7 @@ pub fn check<R: Read, W: Write>(
 {
     let mut judging = Judging::new(alloc);
     let mut buffer = [0u8; PIECE];
-    // The language wants a bound for each loop. No input has so many pieces.
+    // The language wants a bound for each loop. No input has that many pieces.
     for _ in 0..u64::MAX {
         match reader.read(&mut buffer) {
             Ok(0) => return close(alloc, &judging, writer),
@@ -103,7 +103,7 @@ pub fn follow<R: Read, W: Write>(
 {
     let mut judging = Judging::new(alloc);
     let mut buffer = [0u8; PIECE];
-    // The language wants a bound for each loop. No input has so many pieces.
+    // The language wants a bound for each loop. No input has that many pieces.
     for _ in 0..u64::MAX {
         match reader.read(&mut buffer) {
             Ok(0) => return close(alloc, &judging, writer),

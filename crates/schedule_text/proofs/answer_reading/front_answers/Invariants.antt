@@ -1,5 +1,4 @@
-use Rattle.std.proofs.Common.{ℕ, List, ◌++◌, length}
-use Rattle.rcu_model.specs.declared.event.Event.{Event}
+use Rattle.schedule_text.proofs.Cited.{ℕ, List, ◌++◌, length, Event}
 use Rattle.schedule_text.specs.AnswerPieces.{ReadSoFar}
 use Rattle.schedule_text.proofs.answer_reading.front_answers.Given as goal
 

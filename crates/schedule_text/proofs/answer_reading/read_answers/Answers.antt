@@ -1,6 +1,4 @@
-use Rattle.std.proofs.Common.{◌<◌, List, [], length, sym, subst, rules}
-use Rattle.std.proofs.lemmas.Result.{err_from_is_err_and}
-use Rattle.rcu_model.specs.declared.event.Event.{Event}
+use Rattle.schedule_text.proofs.Cited.{◌<◌, List, [], length, sym, subst, rules, err_from_is_err_and, Event}
 use Rattle.schedule_text.specs.AnswerPieces.{ReadSoFar}
 use Rattle.schedule_text.proofs.AnswerLogs.{none_read, read_all, tells_once, broken_tells_none}
 use Rattle.schedule_text.proofs.AnswerPieces.{ends, no_answers, only_memory}

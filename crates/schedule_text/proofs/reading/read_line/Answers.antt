@@ -1,5 +1,4 @@
-use Rattle.std.proofs.Common.{length, ap, sym, Ok}
-use Rattle.std.proofs.lemmas.Bool.{eqb-true, eqb-false}
+use Rattle.schedule_text.proofs.Cited.{length, ap, sym, Ok, eqb-true, eqb-false}
 use Rattle.schedule_text.specs.Grammar.{line_at}
 use Rattle.schedule_text.specs.Spelling.{LineText}
 use Rattle.schedule_text.proofs.Columns.{bad_within, rest_within, bad_column, long_column, found_whole, only_whole, no_whole}

@@ -1,5 +1,4 @@
-use Rattle.std.proofs.Common.{◌≡◌, ◌++◌, length}
-use Rattle.std.specs.Prelude.{All}
+use Rattle.schedule_text.proofs.Cited.{◌≡◌, ◌++◌, length, All}
 use Rattle.schedule_text.specs.Spelling.{IsLine, lines_text}
 use Rattle.schedule_text.proofs.whole.read_lines.Given as goal
 

@@ -1,5 +1,4 @@
-use Rattle.std.proofs.Common.{inl, sym}
-use Rattle.std.proofs.lemmas.Result.{err_from_is_err_and}
+use Rattle.schedule_text.proofs.Cited.{inl, sym, err_from_is_err_and}
 use Rattle.schedule_text.specs.Header.{HeaderText}
 use Rattle.schedule_text.specs.Grammar.{header_at}
 use Rattle.schedule_text.proofs.Columns.{bad_within}

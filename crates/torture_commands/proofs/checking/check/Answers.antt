@@ -1,8 +1,4 @@
-use Rattle.std.proofs.Common.{◌<◌, ℕ, List, Option, Err, length, take, subst, arith}
-use Rattle.std.specs.Io.KnownBytes.{Consumes}
-use Rattle.std.proofs.lemmas.Result.{err_from_is_err_and}
-use Rattle.schedule_text.specs.declared.fault.ReplayFault.TheVariants.{Read}
-use Rattle.schedule.proofs.Lemmas.{consumes_more, consumes_kept}
+use Rattle.torture_commands.proofs.Cited.{replay_fault, ◌<◌, ℕ, List, Option, Err, length, take, subst, arith, Consumes, err_from_is_err_and, Read, consumes_more, consumes_kept}
 use Rattle.torture_commands.specs.Checking.{Checks}
 use Rattle.torture_commands.proofs.Verdicts.{checks_end, piece_fault, unread}
 use Rattle.torture_commands.proofs.checking.check.Goals as goal
@@ -31,7 +27,7 @@ returns-in_err-feed-in-Ok g c =
     let fault = c.in_err-feed-in-Ok.field-0.0 in
     let p = err_from_is_err_and c.from_residual.result c.from_residual.ensures.1 in
     rw (p.1, p.2)
-    (subst (λ (o : Option (List ℕ)). Checks given left o now (Err fault)) i.still
+    (subst (λ (o : Option (List ℕ)). Checks given left o now (Err (replay_fault fault))) i.still
     (piece_fault given left now c.feed.new.self _ fault
     (consumes_more given (g.R.Read.remaining c.loop.reader) left i.read _ i.reads c.in-Ok.ensures.bytes.0)
     (c.in_err-feed-in-Ok.ensures i.read i.judged)))

@@ -1,14 +1,5 @@
-use Rattle.std.proofs.Common.{◌<◌, ◌≤◌, ℕ, List, [], ◌++◌, Option, Ok, Err, length, take, refl, sym, subst, arith, rules}
-use Rattle.std.specs.Io.KnownBytes.{Consumes}
-use Rattle.std.proofs.lemmas.List.{length-take}
-use Rattle.std.proofs.lemmas.Result.{err_from_is_err_and}
-use Rattle.rcu_judge.specs.declared.verdict.Verdict.{Verdict}
-use Rattle.rcu_model.specs.Machine.{IsRun}
-use Rattle.schedule_text.specs.declared.fault.ReplayFault.TheVariants.{Read}
-use Rattle.schedule.proofs.Lemmas.{consumes_more, consumes_kept}
-use Rattle.judging.specs.Judging.{JudgesAlong}
+use Rattle.torture_commands.proofs.Cited.{replay_fault, ◌<◌, ◌≤◌, ℕ, List, [], ◌++◌, Option, Ok, Err, length, take, refl, sym, subst, arith, rules, Consumes, length-take, err_from_is_err_and, Verdict, IsRun, Read, consumes_more, consumes_kept, JudgesAlong, right_so_far}
 use Rattle.torture_commands.specs.Checking.{ChecksAlong}
-use Rattle.judging.proofs.Lemmas.{right_so_far}
 use Rattle.torture_commands.proofs.Verdicts.{along_end, along_fault, along_no, along_unread}
 use Rattle.torture_commands.proofs.checking.follow.Goals as goal
 
@@ -36,7 +27,7 @@ returns-in_err-verdict-in-Ok g c =
     let fault = c.in_err-verdict-in-Ok.field-0.0 in
     let p = err_from_is_err_and c.from_residual.result c.from_residual.ensures.1 in
     rw (p.1, p.2)
-    (subst (λ (o : Option (List ℕ)). ChecksAlong given left o now (Err fault)) i.still
+    (subst (λ (o : Option (List ℕ)). ChecksAlong given left o now (Err (replay_fault fault))) i.still
     (along_fault given left now c.follow.new.self _ fault
     (consumes_more given (g.R.Read.remaining c.loop.reader) left i.read _ i.reads c.in-Ok.ensures.bytes.0)
     (c.in_err-verdict-in-Ok.ensures i.read i.judged)))

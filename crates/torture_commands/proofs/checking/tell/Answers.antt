@@ -1,5 +1,4 @@
-use Rattle.std.proofs.Common.{◌∙◌}
-use Rattle.std.proofs.lemmas.Result.{err_from_is_err_and}
+use Rattle.torture_commands.proofs.Cited.{◌∙◌, err_from_is_err_and}
 use Rattle.torture_commands.proofs.Verdicts.{printed_whole, printed_cut}
 use Rattle.torture_commands.proofs.checking.tell.Goals as goal
 

@@ -1,5 +1,4 @@
-use Rattle.std.proofs.Common.{arith, ◌+◌}
-use Rattle.std.proofs.lemmas.Result.{err_from_is_err_and}
+use Rattle.torture_commands.proofs.Cited.{arith, ◌+◌, err_from_is_err_and}
 use Rattle.torture_commands.proofs.Courses.{room, print_begun, print_more, flushed, print_unbegun, print_full, print_cut, print_end}
 use Rattle.torture_commands.proofs.walking.print_schedule.Goals as goal
 

@@ -1,6 +1,4 @@
-use Rattle.std.proofs.Common.{◌∙◌, ap, length}
-use Rattle.std.proofs.lemmas.Result.{err_from_is_err_and}
-use Rattle.schedule_text.specs.declared.counts.Counts.{Counts}
+use Rattle.torture_commands.proofs.Cited.{◌∙◌, ap, length, err_from_is_err_and, Counts}
 use Rattle.torture_commands.specs.Walking.{walk_text}
 use Rattle.torture_commands.proofs.Courses.{walk_unwritten, walk_written, walk_cut}
 use Rattle.torture_commands.proofs.walking.walk.Goals as goal

@@ -1,5 +1,4 @@
-use Rattle.std.proofs.Common.{List}
-use Rattle.world_state.specs.declared.line.Line.{Line}
+use Rattle.torture_commands.proofs.Cited.{List, Line}
 use Rattle.torture_commands.specs.Walking.{IsUnderWay}
 use Rattle.torture_commands.proofs.walking.walked.Given as goal
 

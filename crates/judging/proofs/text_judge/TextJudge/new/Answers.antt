@@ -1,6 +1,4 @@
-use Rattle.std.proofs.Common.{List, length, sym, ap, subst}
-use Rattle.rcu_model.specs.declared.event.Event.{Event}
-use Rattle.rcu_model.specs.Machine.{IsRun}
+use Rattle.judging.proofs.Cited.{List, length, sym, ap, subst, Event, IsRun}
 use Rattle.judging.proofs.text_judge.TextJudge.new.Goals as goal
 
 pub returns-clause-fed : goal.returns-clause-fed

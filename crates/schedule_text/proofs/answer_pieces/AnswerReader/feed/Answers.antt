@@ -1,5 +1,4 @@
-use Rattle.std.proofs.Common.{ℕ, List, ◌++◌, sym, ap, subst, ◌∙◌}
-use Rattle.std.proofs.lemmas.Result.{err_from_is_err_and}
+use Rattle.schedule_text.proofs.Cited.{ℕ, List, ◌++◌, sym, ap, subst, ◌∙◌, err_from_is_err_and}
 use Rattle.schedule_text.specs.AnswerLines.{IsAnswerText}
 use Rattle.schedule_text.specs.AnswerPieces.{ReadSoFar}
 use Rattle.schedule_text.specs.Fault.{IsPartial}

@@ -1,5 +1,4 @@
-use Rattle.std.proofs.Common.{◌≡◌, take}
-use Rattle.std.specs.Prelude.{count_by}
+use Rattle.schedule_text.proofs.Cited.{◌≡◌, take, count_by}
 use Rattle.schedule_text.specs.Answers.{opens, closes, retires, runs}
 use Rattle.schedule_text.proofs.counts.Counts.of.Given as goal
 
