@@ -1,3 +1,4 @@
+mod Cited
 pub mod Lemmas
 pub mod Sent
 pub mod Values

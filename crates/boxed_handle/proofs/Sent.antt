@@ -1,13 +1,6 @@
 -- What a handle owns may cross threads, where its value may.
-use Rattle.std.specs.Prelude.{Option, Some, None}
+use Rattle.boxed_handle.proofs.Cited.{Option, Some, None, Keyless, lone, RattleType, Ptr, IsSend, frees, lies}
 use mir.Raw.{raw}
-use base.Shift.{Keyless}
-use denote.Memory.{lone}
-use denote.RattleType.{RattleType}
-use denote.RawPtr.{Ptr}
-use denote.Param.Send.{IsSend}
-use Rattle.std.proofs.Crossing.{frees}
-use Rattle.std_alloc.proofs.SendSync.{lies}
 use Rattle.boxed_handle.specs.Owned.{heap, heap_token, owned_at}
 
 pub owned_crosses : (R : RattleType) → IsSend R → (p : Ptr) (v : Option R.Denot) → Keyless (owned_at heap_token R p v)

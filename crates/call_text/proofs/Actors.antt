@@ -1,12 +1,5 @@
 -- Who calls is read exactly.
-use Rattle.std.proofs.Common.{◌≡◌, ℕ, List, [], ◌∷◌, ◌++◌, refl, sym, subst, ◌∙◌, inl, inr}
-use Rattle.std.specs.Prelude.{codes}
-use Rattle.std.specs.Fmt.{decimal}
-use Rattle.std.proofs.lemmas.List.{append-nil}
-use Rattle.schedule_text.specs.Reading.{word_at, number_at}
-use Rattle.schedule_text.specs.Grammar.{done}
-use Rattle.schedule_text.specs.Spelling.{IsNumber}
-use Rattle.schedule_text.proofs.Lemmas.{Done, Then, InTable, NumberText, Lang, then_lang, done_lang, number_lang, table_lang, as_lang}
+use Rattle.call_text.proofs.Cited.{◌≡◌, ℕ, List, [], ◌∷◌, ◌++◌, refl, sym, subst, ◌∙◌, inl, inr, codes, decimal, append-nil, word_at, number_at, done, IsNumber, Done, Then, InTable, NumberText, Lang, then_lang, done_lang, number_lang, table_lang, as_lang}
 use Rattle.call_text.specs.declared.call.Actor.{Actor}
 use Rattle.call_text.specs.declared.call.Actor.TheVariants.{Reader, Updater, Worker, List as KeyedList, Table, Domain}
 use Rattle.call_text.specs.declared.words.ActorWord.{ActorWord}

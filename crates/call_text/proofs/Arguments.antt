@@ -1,12 +1,5 @@
 -- The numbers after a word are read exactly.
-use Rattle.std.proofs.Common.{◌≡◌, ℕ, ◌*◌, ◌<◌, ◌≤◌, false, true, List, [], ◌∷◌, ◌++◌, refl, sym, ap, subst, ◌∙◌, arith, lit<, lit≤}
-use Rattle.std.specs.Char.{is_ascii_digit}
-use Rattle.std.specs.Fmt.{decimal}
-use Rattle.std.proofs.lemmas.Bool.{eq-eqb}
-use Rattle.std.proofs.lemmas.List.{append-nil}
-use Rattle.schedule_text.specs.Reading.{◌>>=◌, is_end, ended_number_at}
-use Rattle.schedule_text.specs.Grammar.{done}
-use Rattle.schedule_text.proofs.Lemmas.{Done, Then, EndedText, NoDigit, ended_reads, is_that, Lang, then_lang, done_lang, as_lang}
+use Rattle.call_text.proofs.Cited.{◌≡◌, ℕ, ◌*◌, ◌<◌, ◌≤◌, false, true, List, [], ◌∷◌, ◌++◌, refl, sym, ap, subst, ◌∙◌, arith, lit<, lit≤, is_ascii_digit, decimal, eq-eqb, append-nil, ◌>>=◌, is_end, ended_number_at, done, Done, Then, EndedText, NoDigit, ended_reads, is_that, Lang, then_lang, done_lang, as_lang}
 use Rattle.call_text.specs.declared.words.Argument.{Argument}
 use Rattle.call_text.specs.declared.words.Argument.TheVariants as argument
 use Rattle.call_text.specs.Spelling.{IsArgument, argument_text, AreArguments, arguments_text}

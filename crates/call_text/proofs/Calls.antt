@@ -1,9 +1,5 @@
 -- A call is read exactly.
-use Rattle.std.proofs.Common.{◌≡◌, ℕ, List, [], ◌++◌, refl, sym, ap, subst, ◌∙◌, Err}
-use Rattle.std.proofs.lemmas.List.{append-nil}
-use Rattle.schedule_text.specs.Reading.{◌>>=◌, word_from, word_on}
-use Rattle.schedule_text.specs.Grammar.{done}
-use Rattle.schedule_text.proofs.Lemmas.{Reads, Done, Then, Lang, then_lang, done_lang, as_lang}
+use Rattle.call_text.proofs.Cited.{◌≡◌, ℕ, List, [], ◌++◌, refl, sym, ap, subst, ◌∙◌, Err, append-nil, ◌>>=◌, word_from, word_on, done, Reads, Done, Then, Lang, then_lang, done_lang, as_lang}
 use Rattle.call_text.specs.declared.call.Actor.{Actor}
 use Rattle.call_text.specs.declared.call.Call.{Call}
 use Rattle.call_text.specs.declared.words.Arguments.{Arguments}

@@ -1,14 +1,5 @@
 -- The header is read exactly.
-use Rattle.std.proofs.Common.{◌≡◌, ℕ, Bool, true, false, cond, eqb, List, [], ◌∷◌, ◌++◌, Err, refl, sym, subst, ◌∙◌, append_assoc, inl, inr, lit<, lit≤}
-use Rattle.std.specs.Prelude.{codes, ◌||◌}
-use Rattle.std.specs.Char.{is_ascii_digit}
-use Rattle.std.specs.Fmt.{decimal}
-use Rattle.std.proofs.lemmas.Bool.{eqb-true}
-use Rattle.std.proofs.lemmas.List.{append-nil}
-use Rattle.schedule_text.specs.Reading.{◌>>=◌, is_end, word_from, word_on, word_at, number_at, ended_number_at}
-use Rattle.schedule_text.specs.Grammar.{done}
-use Rattle.schedule_text.specs.Spelling.{IsNumber}
-use Rattle.schedule_text.proofs.Lemmas.{Reads, Done, Then, InTable, EndedText, NumberText, NoDigit, ended_reads, Lang, then_lang, done_lang, number_lang, table_lang, as_lang}
+use Rattle.call_text.proofs.Cited.{◌≡◌, ℕ, Bool, true, false, cond, eqb, List, [], ◌∷◌, ◌++◌, Err, refl, sym, subst, ◌∙◌, append_assoc, inl, inr, lit<, lit≤, codes, ◌||◌, is_ascii_digit, decimal, eqb-true, append-nil, ◌>>=◌, is_end, word_from, word_on, word_at, number_at, ended_number_at, done, IsNumber, Reads, Done, Then, InTable, EndedText, NumberText, NoDigit, ended_reads, Lang, then_lang, done_lang, number_lang, table_lang, as_lang}
 use Rattle.call_text.specs.declared.call.Header.{Header}
 use Rattle.call_text.specs.Header.{flavour_text, maps_text, header, HeaderText}
 use Rattle.call_text.specs.Grammar.{flavours, maps_word, maps_at, header_at}

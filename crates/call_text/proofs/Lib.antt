@@ -1,3 +1,4 @@
+mod Cited
 pub mod Arguments
 pub mod Actors
 pub mod Verbs

@@ -1,11 +1,5 @@
 -- What is printed of an answer has no line feed but its last byte.
-use Rattle.std.proofs.Common.{◌≡◌, ℕ, zero, suc, ◌/◌, ◌%◌, ◌<◌, Bool, true, false, cond, eqb, List, [], ◌∷◌, ◌++◌, Option, Some, None, refl, arith}
-use Rattle.std.specs.Fmt.{digits, digits_onto, digit_glyph, decimal}
-use Rattle.std.specs.List.{flat_map}
-use Rattle.std.proofs.lemmas.Bool.Decides.{nat_tests}
-use Rattle.std.proofs.lemmas.List.Folds.{list_any-append}
-use Rattle.rcu_model.specs.declared.refusal.Refusal.{Refusal}
-use Rattle.rcu_model.specs.Refusal.{number_of}
+use Rattle.call_text.proofs.Cited.{◌≡◌, ℕ, zero, suc, ◌/◌, ◌%◌, ◌<◌, Bool, true, false, cond, eqb, List, [], ◌∷◌, ◌++◌, Option, Some, None, refl, arith, digits, digits_onto, digit_glyph, decimal, flat_map, nat_tests, list_any-append, Refusal, number_of}
 use Rattle.call_text.specs.declared.answer.Called.{Called}
 use Rattle.call_text.specs.declared.answer.Answer.{Answer}
 use Rattle.call_text.specs.declared.answer.Answer.TheVariants.{Done, Quiet, Nothing, Says, WouldWait, Refused, Object, Ticket, Number, Words, Counted, Slots, Finished, Met, Left, Tidied}

@@ -1,9 +1,5 @@
 -- The verbs of each actor are read exactly.
-use Rattle.std.proofs.Common.{◌≡◌, ℕ, zero, suc, ◌<◌, List, [], ◌∷◌, length, map, get_or, refl, ap, arith, inl, inr}
-use Rattle.std.specs.Prelude.{codes}
-use Rattle.std.specs.List.{Contains}
-use Rattle.schedule_text.specs.Reading.{word_at}
-use Rattle.schedule_text.proofs.Lemmas.{InTable, Lang, table_lang, as_lang}
+use Rattle.call_text.proofs.Cited.{◌≡◌, ℕ, zero, suc, ◌<◌, List, [], ◌∷◌, length, map, get_or, refl, ap, arith, inl, inr, codes, Contains, word_at, InTable, Lang, table_lang, as_lang}
 use Rattle.call_text.specs.declared.call.Actor.{Actor}
 use Rattle.call_text.specs.declared.call.Actor.TheVariants.{Reader, Updater, Worker, List as KeyedList, Table, Domain}
 use Rattle.call_text.specs.declared.call.Verb.{Verb}

@@ -1,21 +1,5 @@
 -- What a barrier's loads tell, one after another.
-use Rattle.std.proofs.Common.{Bool, ◌≡◌, ◌≢◌, ℕ, zero, suc, lt_of_not-le, ◌+◌, ◌<◌, ◌≤◌, List, [], ◌∷◌, ◌++◌, length, get_or, set, get_or-set_same, get_or-set_other, sym, refl, ap, ◌∙◌, subst, ⊎_elim, arith}
-use mathlib.Core.Option.{some, some-ne-none}
-use mathlib.Core.Logic.{dite}
-use native.Mathlib.Decide.{dec_le, ℕ_discrete}
-use lib.ListN.{get_elem?, length-append}
-use Rattle.atomic_table.specs.Table.{Me}
-use Rattle.rcu_model.specs.declared.event.ObjectId.{ObjectId}
-use Rattle.rcu_model.specs.Sets.{In}
-use Rattle.live_log.specs.declared.event.LiveEvent.{LiveEvent}
-use Rattle.live_log.specs.Log.{Log, Begins, state_of, line_of, HaveRun}
-use Rattle.live_log.proofs.Lemmas.{begins_trans, grows_log, line_grows, line_has, barrier_of}
-use Rattle.live_words.specs.live_rule.declared.view.Look.{Look}
-use Rattle.live_words.specs.live_rule.declared.view.Look.TheVariants.{Loaded}
-use Rattle.live_words.specs.live_rule.declared.view.Sizes.{Sizes}
-use Rattle.live_words.specs.live_rule.declared.view.View.{View}
-use Rattle.live_words.specs.live_rule.Places.{finished_at, queued_at}
-use Rattle.live_words.specs.live_table.Steps.{IsKnown, Went, looked_view}
+use Rattle.live_barrier.proofs.Cited.{Bool, ◌≡◌, ◌≢◌, ℕ, zero, suc, lt_of_not-le, ◌+◌, ◌<◌, ◌≤◌, List, [], ◌∷◌, ◌++◌, length, get_or, set, get_or-set_same, get_or-set_other, sym, refl, ap, ◌∙◌, subst, ⊎_elim, arith, some, some-ne-none, dite, dec_le, ℕ_discrete, get_elem?, length-append, Me, ObjectId, In, LiveEvent, Log, Begins, state_of, line_of, HaveRun, begins_trans, grows_log, line_grows, line_has, barrier_of, Look, Loaded, Sizes, View, finished_at, queued_at, IsKnown, Went, looked_view}
 use Rattle.live_barrier.specs.Barrier.{AreNoted, AreReached, Found, HasRunTo, HaveAllRun}
 
 -- a queue is never shorter than it was

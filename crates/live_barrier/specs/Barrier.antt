@@ -21,7 +21,7 @@ CoverAll key counts log = (q : ℕ) → q < key.queues → length (line_of log q
 abbrev pub WereGiven : Sizes → List ℕ → Log → Type 0
 WereGiven key counts log = (q : ℕ) → q < key.queues → slice_index counts q ≤ length (line_of log q)
 
--- so many objects of a queue, from the first, were queued and have their Run
+-- this many objects of a queue, from the first, were queued and have their Run
 abbrev pub HasRunTo : Log → ℕ → ℕ → Type 0
 HasRunTo log q n = HaveRun q n log × (n ≤ length (line_of log q))
 
@@ -33,13 +33,13 @@ HaveRunAsCounted key counts log = (q : ℕ) → q < key.queues → HasRunTo log 
 abbrev pub HaveAllRun : Log → Log → Type 0
 HaveAllRun old new = (o : ObjectId) → In (state_of old).queued o → In (state_of new).reclaimed o
 
--- the counts of so many queues are those that were loaded, each once and that of queue 0 first
+-- the counts of this many queues are those that were loaded, each once and that of queue 0 first
 abbrev pub AreNoted : Sizes → List ℕ → ℕ → List Look → Type 0
 AreNoted key counts zero looks = looks ≡ []
 AreNoted key counts (suc q) looks = (rest : List Look) × (looks ≡ Loaded (queued_at key q) (slice_index counts q) ∷ rest) × AreNoted key counts q rest
 
--- the finished counts of so many queues were loaded, each once and that of queue 0 first, and none was below the noted
--- one
+-- the finished counts of this many queues were loaded, each once and that of queue 0 first, and none was below the
+-- noted one
 abbrev pub AreReached : Sizes → List ℕ → ℕ → List Look → Type 0
 AreReached key counts zero looks = looks ≡ []
 AreReached key counts (suc q) looks = (n : ℕ) × (rest : List Look) × (looks ≡ Loaded (finished_at key q) n ∷ rest) × (slice_index counts q ≤ n) × AreReached key counts q rest

@@ -17,7 +17,7 @@ pub struct BarrierMark {
 }
 
 /// Begins a barrier, as liburcu's `rcu_barrier` does before it waits: loads how many callbacks each queue was given.
-/// The first load comes after all that the seat had seen and heard. It never waits and takes no memory.
+/// The first load comes after all that the seat had seen and heard.
 pub fn barrier_start<P: GracePlan, K: ChainRule>(
     table: &LiveTable<P, K>,
     seat: &mut LiveSeat,
@@ -42,8 +42,7 @@ pub fn barrier_start<P: GracePlan, K: ChainRule>(
 /// of which fewer have than the barrier noted. It is true exactly where there is none.
 ///
 /// Then of each queue as many objects have their Run as the barrier counted, whoever queued them. And all that was
-/// queued in the log at the barrier's first load has its Run, where the seat had seen or heard of that log. It never
-/// waits and takes no memory.
+/// queued in the log at the barrier's first load has its Run, where the seat had seen or heard of that log.
 pub fn barrier_done<P: GracePlan, K: ChainRule>(
     table: &LiveTable<P, K>,
     seat: &mut LiveSeat,

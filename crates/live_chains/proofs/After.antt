@@ -1,20 +1,5 @@
 -- A step after one that writes nothing and leaves the seat's chains as they are, as the store of a link or a load.
-use Rattle.std.proofs.Common.{◌≡◌, ℕ, List, Bool, Option, Some, None, sym, refl, ap, ◌∙◌, subst, inr}
-use Rattle.atomic_table.specs.Table.{Me}
-use Rattle.live_table.specs.rcu_model.declared.event.ObjectId.{ObjectId}
-use Rattle.live_table.specs.rcu_model.Sets.{In, IsPlace, follows, next_of}
-use Rattle.live_table.proofs.rcu_model.Lemmas.{follows_has}
-use Rattle.live_table.specs.live_log.declared.event.LiveEvent.{LiveEvent}
-use Rattle.live_table.specs.live_log.Log.{Log, Begins, objects_of, record_of}
-use Rattle.live_table.proofs.live_log.Lemmas.{begins_trans, note_stays, run_of, chain_used}
-use Rattle.live_table.specs.live_rule.declared.view.View.{View}
-use Rattle.live_table.specs.live_rule.declared.rights.ChainRight.{ChainRight}
-use Rattle.live_table.specs.live_rule.declared.rights.RecordRight.TheVariants.{Unlinked}
-use Rattle.live_table.specs.live_rule.Objects.{ref}
-use Rattle.live_table.proofs.live_rule.Lemmas.{ref_same}
-use Rattle.live_table.specs.Rights.{own_in, IsWriter, IsListed, AreAsKnown, link_in}
-use Rattle.live_table.specs.Steps.{Went}
-use Rattle.live_records.specs.Records.{linked_view}
+use Rattle.live_chains.proofs.Cited.{◌≡◌, ℕ, List, Bool, Option, Some, None, sym, refl, ap, ◌∙◌, subst, inr, Me, ObjectId, In, IsPlace, follows, next_of, follows_has, LiveEvent, Log, Begins, objects_of, record_of, begins_trans, note_stays, run_of, chain_used, View, ChainRight, Unlinked, ref, ref_same, own_in, IsWriter, IsListed, AreAsKnown, link_in, Went, linked_view}
 use Rattle.live_chains.specs.Chains.{MayWrite, Writes, MayRead, IsThere, IsBefore, IsNext, push_of, pushed_view, replace_of, replaced_view, cut_of, cut_view}
 
 module _ {S : Type 0} (qsbr : Bool) (allows : Log → LiveEvent → Type 0) (a : View) (m n : Me S View) (went : Went qsbr allows a m n) where

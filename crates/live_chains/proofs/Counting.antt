@@ -1,26 +1,6 @@
 -- A chain has no more objects than there are records.
-use Rattle.std.proofs.Common.{◌≡◌, ◌≢◌, ℕ, ◌<◌, ◌≤◌, ◌/◌, ◌||◌, List, [], ◌∷◌, Bool, true, false, map, eqb, length, get_or, sym, refl, ap, ◌∙◌, subst, inl, inr, ne_eqb}
-use mathlib.Core.Logic.{dite}
+use Rattle.live_chains.proofs.Cited.{◌≡◌, ◌≢◌, ℕ, ◌<◌, ◌≤◌, ◌/◌, ◌||◌, List, [], ◌∷◌, Bool, true, false, map, eqb, length, get_or, sym, refl, ap, ◌∙◌, subst, inl, inr, ne_eqb, dite, ℕ_discrete, get_elem?, length-map, AllByRecursion, IsDistinct, list_any, length-le_from_distinct_below, State, ObjectId, In, Once, LiveEvent, Log, record_of, objects_of, kept_log, Sizes, View, cell_at, IsAlive, KeepsRule, own_in, knows_own, here, alive_linked, lows}
 use mathlib.Core.Option as lists
-use native.Mathlib.Decide.{ℕ_discrete}
-use lib.ListN.{get_elem?}
-use Rattle.std.proofs.lemmas.List.{length-map}
-use Rattle.std.specs.List.{AllByRecursion, IsDistinct, list_any}
-use Rattle.std.proofs.lemmas.Map.Steps.{length-le_from_distinct_below}
-use Rattle.atomic_table.specs.Table.{State}
-use Rattle.live_table.specs.rcu_model.declared.event.ObjectId.{ObjectId}
-use Rattle.live_table.specs.rcu_model.Sets.{In}
-use Rattle.live_table.proofs.rcu_model.Lemmas.{Once}
-use Rattle.live_table.specs.live_log.declared.event.LiveEvent.{LiveEvent}
-use Rattle.live_table.specs.live_log.Log.{Log, record_of, objects_of}
-use Rattle.live_table.proofs.live_log.Lemmas.{kept_log}
-use Rattle.live_table.specs.live_rule.declared.view.Sizes.{Sizes}
-use Rattle.live_table.specs.live_rule.declared.view.View.{View}
-use Rattle.live_table.specs.live_rule.Places.{cell_at}
-use Rattle.live_table.specs.live_rule.Objects.{IsAlive}
-use Rattle.live_table.specs.live_rule.Rule.{KeepsRule}
-use Rattle.live_table.specs.Rights.{own_in}
-use Rattle.live_table.proofs.Lemmas.{knows_own, here, alive_linked, lows}
 use Rattle.live_chains.specs.Chains.{FitsPool}
 
 -- objects by a number that differs

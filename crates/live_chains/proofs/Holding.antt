@@ -1,33 +1,7 @@
 -- The steps on a chain's hold word and note keep the rule.
-use Rattle.std.proofs.Common.{◌≡◌, ◌≢◌, ◌⊎◌, ℕ, ◌+◌, ◌<◌, ◌≤◌, List, [], ◌∷◌, Bool, ◌==◌, cond, length, get_or, set, sym, refl, ap, ◌∙◌, subst, inl, inr, ⊎_elim, arith, get_or-set_other, get_or-set_same, eq-eqb, ne_eqb}
-use mathlib.Core.Logic.{dite}
+use Rattle.live_chains.proofs.Cited.{◌≡◌, ◌≢◌, ◌⊎◌, ℕ, ◌+◌, ◌<◌, ◌≤◌, List, [], ◌∷◌, Bool, ◌==◌, cond, length, get_or, set, sym, refl, ap, ◌∙◌, subst, inl, inr, ⊎_elim, arith, get_or-set_other, get_or-set_same, eq-eqb, ne_eqb, dite, ℕ_discrete, get_elem?, either, State, Me, Act, step, keeps, stepped, Valid, carried_after, Allows, exchanged, ObjectId, In, first_of, LiveEvent, ChainNote, Log, line_of, chain_note, IsLiveRun, Objects, objects_of, head, Sizes, View, ChainRight, RecordRight, head_at, hold_at, note_at, queued_at, closed_at, finished_at, work_at, ref, QueueWords, HoldWords, chain, object, ClaimsChain, ClaimsObject, KnowsOwned, KnowsChain, KnowsObject, lent_chains, KeepsRule, Unclaimed, looks, Calm, calm_same, calm_note, chain_part, lines_far, guards_far, queues_kept, works_kept, stores_beside, look_all, exchanged_view, looked_view, stored_view, AreAsKnown, IsFresh, own_in, object_in, IsWriter, unclaimed, all_known, claims_own, knows_first, knows_own}
 use mathlib.Core.Option as lists
-use native.Mathlib.Decide.{ℕ_discrete}
-use lib.ListN.{get_elem?}
-use prog.Atomic.{either}
-use Rattle.atomic_table.specs.Table.{State, Me, Act, step, keeps, stepped, Valid, carried_after, Allows}
-use Rattle.atomic_table.proofs.Lists.{exchanged}
-use Rattle.live_table.specs.rcu_model.declared.event.ObjectId.{ObjectId}
-use Rattle.live_table.specs.rcu_model.Sets.{In, first_of}
-use Rattle.live_table.specs.live_log.declared.event.LiveEvent.{LiveEvent}
-use Rattle.live_table.specs.live_log.declared.event.LiveEvent.TheVariants.{ChainNote}
-use Rattle.live_table.specs.live_log.Log.{Log, line_of, chain_note, IsLiveRun, Objects, objects_of, head}
-use Rattle.live_table.specs.live_rule.declared.view.Sizes.{Sizes}
-use Rattle.live_table.specs.live_rule.declared.view.View.{View}
-use Rattle.live_table.specs.live_rule.declared.rights.ChainRight.{ChainRight}
-use Rattle.live_table.specs.live_rule.declared.rights.RecordRight.{RecordRight}
-use Rattle.live_table.specs.live_rule.Places.{head_at, hold_at, note_at, queued_at, closed_at, finished_at, work_at}
-use Rattle.live_table.specs.live_rule.Objects.{ref, QueueWords, HoldWords}
-use Rattle.live_table.specs.live_rule.Rights.{chain, object, ClaimsChain, ClaimsObject, KnowsOwned, KnowsChain, KnowsObject}
-use Rattle.live_table.specs.live_rule.Seats.{lent_chains}
-use Rattle.live_table.specs.live_rule.Rule.{KeepsRule}
-use Rattle.live_table.proofs.live_rule.Lemmas.{Unclaimed, looks}
-use Rattle.live_table.proofs.live_rule.Lemmas.{Calm, calm_same, calm_note, chain_part, lines_far, guards_far}
-use Rattle.live_table.proofs.live_rule.Lemmas.{queues_kept, works_kept, stores_beside, look_all}
-use Rattle.live_table.specs.Steps.{exchanged_view, looked_view, stored_view}
-use Rattle.live_table.specs.Rights.{AreAsKnown, IsFresh, own_in, object_in, IsWriter}
 use Rattle.live_chains.specs.Chains.{MayNote, held_view, noted_view, freed_view, noted, held, freed}
-use Rattle.live_table.proofs.Lemmas.{unclaimed, all_known, claims_own, knows_first, knows_own}
 use Rattle.live_chains.proofs.Writers.{own_changes}
 
 -- whoever has the right to a chain holds it

@@ -1,16 +1,5 @@
 -- A writer of a keyed chain shows what the rule asks by the list that it knows.
-use Rattle.std.proofs.Common.{Bool, ◌≡◌, ◌≢◌, ℕ, ◌<◌, List, ◌∷◌, sym, ap, ◌∙◌, subst}
-use Rattle.live_table.specs.rcu_model.declared.event.ObjectId.{ObjectId}
-use Rattle.live_table.specs.rcu_model.Sets.{In, at_object, without_object, replaced}
-use Rattle.live_table.proofs.rcu_model.Lemmas.{at_object_same, at_object_other, at_number_same}
-use Rattle.live_table.specs.live_log.Log.{Log, IsLiveRun, Begins, state_of, record_of}
-use Rattle.live_table.specs.live_log.Keys.{key_of, rank_of, Falls, keyed}
-use Rattle.live_table.proofs.live_log.Lemmas.{not_has}
-use Rattle.live_table.proofs.live_log.Lemmas.{note_stays, run_of}
-use Rattle.live_table.proofs.live_log.Lemmas.{chain_used}
-use Rattle.live_table.proofs.live_log.Lemmas.{falls_same, falls_push, falls_cut, falls_replaced}
-use Rattle.live_table.specs.live_rule.declared.view.View.{View}
-use Rattle.live_table.specs.Rights.{own_in, IsWriter, AreAsKnown, cell_in, object_in, payload_in, IsListed}
+use Rattle.live_chains.proofs.Cited.{Bool, ◌≡◌, ◌≢◌, ℕ, ◌<◌, List, ◌∷◌, sym, ap, ◌∙◌, subst, ObjectId, In, at_object, without_object, replaced, at_object_same, at_object_other, at_number_same, Log, IsLiveRun, Begins, state_of, record_of, key_of, rank_of, Falls, keyed, not_has, note_stays, run_of, chain_used, falls_same, falls_push, falls_cut, falls_replaced, View, own_in, IsWriter, AreAsKnown, cell_in, object_in, payload_in, IsListed}
 use Rattle.live_chains.specs.Chains.{MayWrite, push_of, replace_of, cut_of}
 
 module _ (qsbr : Bool) (v : View) (own : IsWriter v) (listed : IsListed v) where

@@ -1,32 +1,8 @@
 -- The loads of heads, links and payload words.
-use Rattle.std.proofs.Common.{◌≡◌, ℕ, ◌+◌, ◌<◌, List, Bool, get_or, set, sym, refl, ap, ◌∙◌, subst, ⊎_elim, Option, Some}
+use Rattle.live_chains.proofs.Cited.{◌≡◌, ℕ, ◌+◌, ◌<◌, List, Bool, get_or, set, sym, refl, ap, ◌∙◌, subst, ⊎_elim, Option, Some, get_elem?, State, Me, step, keeps, Allows, ObjectId, IsOpen, In, first_of, next_of, has_section_in, has_object_in, follows_has, LiveEvent, Log, state_of, record_of, open_of, section, WasLinked, objects_of, head, link, Follows, kept_log, protected, open_inside, last_opened, note_stays, run_of, was_later, was_used, next_linked, linked_here, first_linked, first_used, some_next, Sizes, View, SlotRight, head_at, note_at, cell_at, Fits, ref, IsAlive, slot, KnowsSlot, ClaimsSlot, KeepsRule, looks, look_all, word_in, count_in, own_in, IsWriter, IsListed, Went, knows_own, here, alive_linked, lows, goes_on}
 use mathlib.Core.Option as lists
-use lib.ListN.{get_elem?}
-use Rattle.atomic_table.specs.Table.{State, Me, step, keeps, Allows}
-use Rattle.live_table.specs.rcu_model.declared.event.ObjectId.{ObjectId}
-use Rattle.live_table.specs.rcu_model.Machine.{IsOpen}
-use Rattle.live_table.specs.rcu_model.Sets.{In, first_of, next_of}
-use Rattle.live_table.proofs.rcu_model.Lemmas.{has_section_in, has_object_in, follows_has}
-use Rattle.live_table.specs.live_log.declared.event.LiveEvent.{LiveEvent}
-use Rattle.live_table.specs.live_log.Log.{Log, state_of, record_of, open_of, section, WasLinked, objects_of, head, link, Follows}
-use Rattle.live_table.proofs.live_log.Lemmas.{kept_log, protected, open_inside}
-use Rattle.live_table.proofs.live_log.Lemmas.{last_opened}
-use Rattle.live_table.proofs.live_log.Lemmas.{note_stays, run_of, was_later, was_used, next_linked, linked_here, first_linked}
-use Rattle.live_table.proofs.live_log.Lemmas.{first_used, some_next}
-use Rattle.live_table.specs.live_rule.declared.view.Sizes.{Sizes}
-use Rattle.live_table.specs.live_rule.declared.view.View.{View}
-use Rattle.live_table.specs.live_rule.declared.rights.SlotRight.{SlotRight}
 use Rattle.live_table.specs.live_rule.declared.rights.SlotRight.TheVariants as slot_right
-use Rattle.live_table.specs.live_rule.Places.{head_at, note_at, cell_at}
-use Rattle.live_table.specs.live_rule.Readers.{Fits}
-use Rattle.live_table.specs.live_rule.Objects.{ref, IsAlive}
-use Rattle.live_table.specs.live_rule.Rights.{slot, KnowsSlot, ClaimsSlot}
-use Rattle.live_table.specs.live_rule.Rule.{KeepsRule}
-use Rattle.live_table.proofs.live_rule.Lemmas.{looks, look_all}
-use Rattle.live_table.specs.Rights.{word_in, count_in, own_in, IsWriter, IsListed}
-use Rattle.live_table.specs.Steps.{Went}
 use Rattle.live_chains.specs.Chains.{IsInSection, MayRead, looked_head, looked_link, looked_word, looked_note}
-use Rattle.live_table.proofs.Lemmas.{knows_own, here, alive_linked, lows, goes_on}
 use Rattle.live_chains.proofs.Writers.{note_now}
 use Rattle.live_chains.proofs.Counting.{fits_pool}
 

@@ -1,34 +1,8 @@
 -- The stores of a push, a replacement and a cut keep the rule.
-use Rattle.std.proofs.Common.{◌≡◌, ◌⊎◌, ℕ, ◌+◌, List, [], ◌∷◌, Bool, set, sym, refl, ap, ◌∙◌, subst, inr, Option, Some, None}
+use Rattle.live_chains.proofs.Cited.{◌≡◌, ◌⊎◌, ℕ, ◌+◌, List, [], ◌∷◌, Bool, set, sym, refl, ap, ◌∙◌, subst, inr, Option, Some, None, get_elem?, State, Me, step, keeps, Allows, ObjectId, In, IsPlace, follows, first_of, next_of, without_object, replaced, in_objects, has_object_in, at_object_same, at_number_same, some_is, none_some, follows_has, LiveEvent, Push, Replace, Cut, Log, record_of, MayFollow, IsLiveRun, Objects, objects_of, spot_of, head, kept_log, note_stays, begins_trans, first_used, push_moves, replace_moves, cut_moves, Sizes, View, RecordRight, head_at, ref, spot_at, chain, object, ClaimsObject, KnowsObject, KeepsRule, Unclaimed, ref_same, Enters, AreAsKnown, own_in, IsWriter, IsListed, cell_in, object_in, link_in, payload_in, IsFresh, all_known, knows_own, here}
 use mathlib.Core.Option as lists
-use lib.ListN.{get_elem?}
-use Rattle.atomic_table.specs.Table.{State, Me, step, keeps, Allows}
-use Rattle.live_table.specs.rcu_model.declared.event.ObjectId.{ObjectId}
-use Rattle.live_table.specs.rcu_model.Sets.{In, IsPlace, follows, first_of, next_of, without_object, replaced}
-use Rattle.live_table.proofs.rcu_model.Lemmas.{in_objects, has_object_in}
-use Rattle.live_table.proofs.rcu_model.Lemmas.{at_object_same, at_number_same}
-use Rattle.live_table.proofs.rcu_model.Lemmas.{some_is, none_some, follows_has}
-use Rattle.live_table.specs.live_log.declared.event.LiveEvent.{LiveEvent}
-use Rattle.live_table.specs.live_log.declared.event.ObjectEvent.TheVariants.{Push, Replace, Cut}
-use Rattle.live_table.specs.live_log.Log.{Log, record_of, MayFollow, IsLiveRun, Objects, objects_of, spot_of, head}
-use Rattle.live_table.proofs.live_log.Lemmas.{kept_log}
-use Rattle.live_table.proofs.live_log.Lemmas.{note_stays, begins_trans}
-use Rattle.live_table.proofs.live_log.Lemmas.{first_used}
-use Rattle.live_table.proofs.live_log.Lemmas.{push_moves, replace_moves, cut_moves}
-use Rattle.live_table.specs.live_rule.declared.view.Sizes.{Sizes}
-use Rattle.live_table.specs.live_rule.declared.view.View.{View}
-use Rattle.live_table.specs.live_rule.declared.rights.RecordRight.{RecordRight}
 use Rattle.live_table.specs.live_rule.declared.rights.RecordRight.TheVariants as record_right
-use Rattle.live_table.specs.live_rule.Places.{head_at}
-use Rattle.live_table.specs.live_rule.Objects.{ref, spot_at}
-use Rattle.live_table.specs.live_rule.Rights.{chain, object, ClaimsObject, KnowsObject}
-use Rattle.live_table.specs.live_rule.Rule.{KeepsRule}
-use Rattle.live_table.proofs.live_rule.Lemmas.{Unclaimed}
-use Rattle.live_table.proofs.live_rule.Lemmas.{ref_same}
-use Rattle.live_table.proofs.live_rule.Lemmas.{Enters}
-use Rattle.live_table.specs.Rights.{AreAsKnown, own_in, IsWriter, IsListed, cell_in, object_in, link_in, payload_in, IsFresh}
 use Rattle.live_chains.specs.Chains.{IsAllowedBy, MayWrite, Writes, IsBefore, place_at, head_after, pushed_view, push_of, replaced_view, replace_of, cut_view, cut_of, pushed, replaces, cuts}
-use Rattle.live_table.proofs.Lemmas.{all_known, knows_own, here}
 use Rattle.live_chains.proofs.Writers.{linked_free, seen_used, place_now, one_place, enters_fresh, head_stored, spliced}
 
 owns_fresh : (v : View) → IsFresh v → (m : ObjectId) → object_in v.object ≡ m → ClaimsObject v.object m

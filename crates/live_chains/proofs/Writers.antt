@@ -1,39 +1,8 @@
 -- What the writer of a chain knows of it at a step, and the one step of a push, a replacement and a cut.
-use Rattle.std.proofs.Common.{◌≡◌, ◌≢◌, ◌⊎◌, ℕ, ◌+◌, ◌/◌, ◌<◌, ◌≤◌, List, ◌∷◌, Bool, length, get_or, set, sym, refl, ap, ◌∙◌, subst, inl, inr, ⊎_elim, arith, get_or-set_other, get_or-set_same, Option, Some, None}
-use Rattle.std.specs.Option.{option_or}
-use Rattle.std.specs.Prelude.{IfSome}
-use mathlib.Core.Logic.{dite}
+use Rattle.live_chains.proofs.Cited.{◌≡◌, ◌≢◌, ◌⊎◌, ℕ, ◌+◌, ◌/◌, ◌<◌, ◌≤◌, List, ◌∷◌, Bool, length, get_or, set, sym, refl, ap, ◌∙◌, subst, inl, inr, ⊎_elim, arith, get_or-set_other, get_or-set_same, Option, Some, None, option_or, IfSome, dite, ℕ_discrete, get_elem?, State, ObjectId, In, IsPlace, first_of, LiveEvent, Object, ObjectEvent, Log, state_of, record_of, IsLiveRun, Objects, objects_of, Spot, head, link, spot_of, Leads, kept_log, note_stays, run_of, chain_used, first_used, next_used, Moved, leads_still, link_is, head_no_link, Sizes, View, ChainRight, RecordRight, chains_from, head_at, hold_at, note_at, queued_at, closed_at, finished_at, work_at, last_at, cell_at, words_of, ref, IsLive, spot_at, IsPayload, Header, object, ClaimsChain, ClaimsObject, KnowsOwned, KnowsChain, KnowsObject, lent_chains, KeepsRule, Unclaimed, calm_object, SameChain, chain_part, lines_far, guards_far, Enters, heap_spliced, same_object_moved, free_cell, same_spot, object_stays, queues_kept, works_kept, stores, own_in, IsWriter, IsListed, alive_linked, unclaimed}
 use mathlib.Core.Option as lists
-use native.Mathlib.Decide.{ℕ_discrete}
-use lib.ListN.{get_elem?}
-use Rattle.atomic_table.specs.Table.{State}
-use Rattle.live_table.specs.rcu_model.declared.event.ObjectId.{ObjectId}
-use Rattle.live_table.specs.rcu_model.Sets.{In, IsPlace, first_of}
-use Rattle.live_table.specs.live_log.declared.event.LiveEvent.{LiveEvent}
-use Rattle.live_table.specs.live_log.declared.event.LiveEvent.TheVariants.{Object}
-use Rattle.live_table.specs.live_log.declared.event.ObjectEvent.{ObjectEvent}
-use Rattle.live_table.specs.live_log.Log.{Log, state_of, record_of, IsLiveRun, Objects, objects_of, Spot, head, link, spot_of, Leads}
-use Rattle.live_table.proofs.live_log.Lemmas.{kept_log}
-use Rattle.live_table.proofs.live_log.Lemmas.{note_stays, run_of}
-use Rattle.live_table.proofs.live_log.Lemmas.{chain_used, first_used, next_used}
-use Rattle.live_table.proofs.live_log.Lemmas.{Moved, leads_still, link_is, head_no_link}
-use Rattle.live_table.specs.live_rule.declared.view.Sizes.{Sizes}
-use Rattle.live_table.specs.live_rule.declared.view.View.{View}
-use Rattle.live_table.specs.live_rule.declared.rights.ChainRight.{ChainRight}
-use Rattle.live_table.specs.live_rule.declared.rights.RecordRight.{RecordRight}
 use Rattle.live_table.specs.live_rule.declared.rights.RecordRight.TheVariants as record_right
-use Rattle.live_table.specs.live_rule.Places.{chains_from, head_at, hold_at, note_at, queued_at, closed_at, finished_at, work_at, last_at, cell_at, words_of}
-use Rattle.live_table.specs.live_rule.Objects.{ref, IsLive, spot_at, IsPayload, Header}
-use Rattle.live_table.specs.live_rule.Rights.{object, ClaimsChain, ClaimsObject, KnowsOwned, KnowsChain, KnowsObject}
-use Rattle.live_table.specs.live_rule.Seats.{lent_chains}
-use Rattle.live_table.specs.live_rule.Rule.{KeepsRule}
-use Rattle.live_table.proofs.live_rule.Lemmas.{Unclaimed}
-use Rattle.live_table.proofs.live_rule.Lemmas.{calm_object, SameChain, chain_part, lines_far, guards_far}
-use Rattle.live_table.proofs.live_rule.Lemmas.{Enters, heap_spliced, same_object_moved, free_cell, same_spot}
-use Rattle.live_table.proofs.live_rule.Lemmas.{object_stays, queues_kept, works_kept, stores}
-use Rattle.live_table.specs.Rights.{own_in, IsWriter, IsListed}
 use Rattle.live_table.proofs.Lemmas as writer
-use Rattle.live_table.proofs.Lemmas.{alive_linked, unclaimed}
 use Rattle.live_chains.specs.Chains.{IsThere, place_at, place_index, head_after}
 
 pub spot_of_is : (c : ℕ) (p q : Option ObjectId) → spot_of c p ≡ spot_of c q → p ≡ q

@@ -11,7 +11,7 @@ use live_table::{ChainRule, GracePlan, LiveSeat, LiveTable};
 
 /// Takes the right to write a chain, if nobody has it: its hold word goes from 0 to 1. Answers the hold word that it
 /// found, 0 or 1: the chain is the seat's own exactly where that is 0, before the chains that it had. What it found is
-/// kept among the looks, and what it stored. It never waits.
+/// kept among the looks, and what it stored.
 pub fn hold_chain<P: GracePlan, K: ChainRule>(
     table: &LiveTable<P, K>,
     seat: &mut LiveSeat,
@@ -30,8 +30,7 @@ pub fn hold_chain<P: GracePlan, K: ChainRule>(
         .compare_exchange::<Holds<P, K>>(seat, place, 0, 1)
 }
 
-/// Gives the right to write the seat's own chain back: its hold word becomes 0, which is kept among the looks. It never
-/// waits.
+/// Gives the right to write the seat's own chain back: its hold word becomes 0, which is kept among the looks.
 pub fn free_chain<P: GracePlan, K: ChainRule>(
     table: &LiveTable<P, K>,
     seat: &mut LiveSeat,
@@ -47,7 +46,7 @@ pub fn free_chain<P: GracePlan, K: ChainRule>(
 }
 
 /// Stores the note of the seat's own chain, which the rule of chains allows; the seat may have the right to a fresh
-/// record, whose object no chain has linked then. It never waits.
+/// record, whose object no chain has linked then.
 pub fn store_note<P: GracePlan, K: ChainRule>(
     table: &LiveTable<P, K>,
     seat: &mut LiveSeat,

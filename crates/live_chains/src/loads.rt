@@ -11,7 +11,7 @@ use live_table::{ChainRule, GracePlan, LiveSeat, LiveTable};
 
 /// Loads the head of a chain, liburcu's `rcu_dereference` of its first pointer: 0 where the chain is empty, else 1 more
 /// than the first object's record. A reader's open section stays open, and may hold the first object; a writer goes on
-/// knowing its chains, and its own one has no more objects than there are records. It never waits.
+/// knowing its chains, and its own one has no more objects than there are records.
 pub fn load_head<P: GracePlan, K: ChainRule>(
     table: &LiveTable<P, K>,
     seat: &mut LiveSeat,
@@ -31,7 +31,6 @@ pub fn load_head<P: GracePlan, K: ChainRule>(
 
 /// Loads the link of a record whose object may be read, liburcu's `rcu_dereference` of its next pointer: 0 where
 /// nothing follows, else 1 more than the record of what follows. A section that may hold the object may hold that too.
-/// It never waits.
 pub fn load_link<P: GracePlan, K: ChainRule>(
     table: &LiveTable<P, K>,
     seat: &mut LiveSeat,
@@ -48,7 +47,7 @@ pub fn load_link<P: GracePlan, K: ChainRule>(
 }
 
 /// Loads a payload word of a record whose object may be read, the first one at `index` 0: the word that was noted with
-/// the object when it was published. It never waits.
+/// the object when it was published.
 pub fn load_word<P: GracePlan, K: ChainRule>(
     table: &LiveTable<P, K>,
     seat: &mut LiveSeat,
@@ -65,7 +64,7 @@ pub fn load_word<P: GracePlan, K: ChainRule>(
     table.words.shared.load::<LooksWord<P, K>>(seat, place)
 }
 
-/// Loads the note of a chain. It never waits.
+/// Loads the note of a chain.
 pub fn load_note<P: GracePlan, K: ChainRule>(
     table: &LiveTable<P, K>,
     seat: &mut LiveSeat,

@@ -11,7 +11,7 @@ use live_records::store_link;
 use live_table::{ChainRule, GracePlan, LiveSeat, LiveTable};
 
 /// Makes the seat's fresh record the first of its chain, whose head is `head`, in two stores: the record's link, and
-/// then the head, liburcu's `rcu_assign_pointer`. It never waits.
+/// then the head, liburcu's `rcu_assign_pointer`.
 pub fn push<P: GracePlan, K: ChainRule>(
     table: &LiveTable<P, K>,
     seat: &mut LiveSeat,
@@ -31,7 +31,7 @@ pub fn push<P: GracePlan, K: ChainRule>(
 
 /// Puts the seat's fresh record in the place of an object, which `next` follows, in two stores: the record's link, and
 /// then the word that led to the object. The record `before` is that of the object before it, or none where it is the
-/// first one. The seat has the right to what was replaced. It never waits.
+/// first one. The seat has the right to what was replaced.
 pub fn replace<P: GracePlan, K: ChainRule>(
     table: &LiveTable<P, K>,
     seat: &mut LiveSeat,
@@ -54,7 +54,7 @@ pub fn replace<P: GracePlan, K: ChainRule>(
 /// Takes the object in the record `cell` out of the seat's chain, by a load and a store: the object's link, and then
 /// the word that led to the object. The object's own link stays as it is, so a reader that stands on it goes on. The
 /// record `before` is that of the object before it, or none where it is the first one. The seat has the right to what
-/// was cut. It never waits.
+/// was cut.
 pub fn cut<P: GracePlan, K: ChainRule>(
     table: &LiveTable<P, K>,
     seat: &mut LiveSeat,

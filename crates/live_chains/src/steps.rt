@@ -22,8 +22,7 @@ pub(crate) fn spot_place<P: GracePlan, K: ChainRule>(
     }
 }
 
-/// The store of a push: the head leads to the seat's fresh record, whose link leads to what was the first object. It
-/// never waits.
+/// The store of a push: the head leads to the seat's fresh record, whose link leads to what was the first object.
 pub fn store_push<P: GracePlan, K: ChainRule>(
     table: &LiveTable<P, K>,
     seat: &mut LiveSeat,
@@ -45,7 +44,7 @@ pub fn store_push<P: GracePlan, K: ChainRule>(
 
 /// The store of a replacement: what led to an object leads to the seat's fresh record, whose link leads to what follows
 /// that object. The record `before` is that of the object before it, or none where it is the first one. The seat has
-/// the right to what was replaced. It never waits.
+/// the right to what was replaced.
 pub fn store_replace<P: GracePlan, K: ChainRule>(
     table: &LiveTable<P, K>,
     seat: &mut LiveSeat,
@@ -69,7 +68,7 @@ pub fn store_replace<P: GracePlan, K: ChainRule>(
 
 /// The store of a cut: what led to an object leads to what follows it, as the object's own link, which is `next`, still
 /// does. The record `before` is that of the object before it, or none where it is the first one. The seat has the right
-/// to what was cut. It never waits.
+/// to what was cut.
 pub fn store_cut<P: GracePlan, K: ChainRule>(
     table: &LiveTable<P, K>,
     seat: &mut LiveSeat,

@@ -1,27 +1,6 @@
 -- A step on a group word keeps the rule.
-use Rattle.std.proofs.Common.{◌≡◌, ◌≢◌, ℕ, ◌/◌, ◌%◌, ◌==◌, ◌<◌, List, [], ◌∷◌, Bool, true, false, true≢false, length, get_or, set, sym, refl, ap, ◌∙◌, subst, arith, bit_and, bit_or, get_or-set_other, get_or-set_same}
-use Rattle.std.proofs.lemmas.Nat.Bits.{bit_at-zero}
-use mathlib.Core.Logic.{dite}
-use mathlib.Core.Option.{Option, none, some}
-use native.Mathlib.Decide.{ℕ_discrete}
-use lib.ListN.{get_elem?}
-use Rattle.atomic_table.specs.Table.{State, Me, Act, step, keeps, stepped, Valid, carried_after, Allows}
-use Rattle.live_table.specs.gp_memb.Plan.{bit_of}
-use Rattle.live_table.specs.live_log.declared.event.LiveEvent.{LiveEvent}
-use Rattle.live_table.specs.live_log.Log.{Log, open_of, sections_of}
-use Rattle.live_table.specs.live_rule.declared.view.Sizes.{Sizes}
-use Rattle.live_table.specs.live_rule.declared.view.Look.{Look}
-use Rattle.live_table.specs.live_rule.declared.view.Look.TheVariants.{Loaded, Stored}
-use Rattle.live_table.specs.live_rule.declared.view.View.{View}
-use Rattle.live_table.specs.live_rule.declared.rights.SlotRight.{SlotRight}
+use Rattle.live_groups.proofs.Cited.{◌≡◌, ◌≢◌, ℕ, ◌/◌, ◌%◌, ◌==◌, ◌<◌, List, [], ◌∷◌, Bool, true, false, true≢false, length, get_or, set, sym, refl, ap, ◌∙◌, subst, arith, bit_and, bit_or, get_or-set_other, get_or-set_same, bit_at-zero, dite, Option, none, some, ℕ_discrete, get_elem?, State, Me, Act, step, keeps, stepped, Valid, carried_after, Allows, bit_of, LiveEvent, Log, open_of, sections_of, Sizes, Look, Loaded, Stored, View, SlotRight, seq_at, present_at, group_at, slot_at, bit_at, IsClosed, Fits, ReaderWords, slot, ClaimsSlot, KnowsSlot, KeepsRule, at_log, SameSlot, SlotStep, quiet_same, slots_kept, gained_slot, given_slot, grace_kept, low_stores, looks, look_all, count_in}
 use Rattle.live_table.specs.live_rule.declared.rights.SlotRight.TheVariants as slot_right
-use Rattle.live_table.specs.live_rule.Places.{seq_at, present_at, group_at, slot_at, bit_at}
-use Rattle.live_table.specs.live_rule.Readers.{IsClosed, Fits, ReaderWords}
-use Rattle.live_table.specs.live_rule.Rights.{slot, ClaimsSlot, KnowsSlot}
-use Rattle.live_table.specs.live_rule.Rule.{KeepsRule}
-use Rattle.live_table.specs.live_rule.Steps.{at_log}
-use Rattle.live_table.proofs.live_rule.Lemmas.{SameSlot, SlotStep, quiet_same, slots_kept, gained_slot, given_slot, grace_kept, low_stores, looks, look_all}
-use Rattle.live_table.specs.Rights.{count_in}
 use Rattle.live_groups.specs.Groups.{SetsBit, ClearsBit, DiffersAt, claimed, released, looked_group}
 
 not_both : {b : Bool} → b ≡ true → b ≡ false → ⊥

@@ -1,8 +1,5 @@
 -- A queue that was closed takes nothing more.
-use Rattle.std.proofs.Common.{Bool, ◌≡◌, ℕ, ◌≤◌, [], ◌∷◌, ◌++◌, cond, sym, refl, ap, ◌∙◌, subst, arith, eq-eqb, ne_eqb}
-use mathlib.Core.Logic.{dite}
-use native.Mathlib.Decide.{ℕ_discrete}
-use Rattle.rcu_model.proofs.Lemmas.{at_number_other}
+use Rattle.live_log.proofs.Cited.{Bool, ◌≡◌, ℕ, ◌≤◌, [], ◌∷◌, ◌++◌, cond, sym, refl, ap, ◌∙◌, subst, arith, eq-eqb, ne_eqb, dite, ℕ_discrete, at_number_other}
 use Rattle.live_log.specs.declared.event.LiveEvent.{LiveEvent}
 use Rattle.live_log.specs.declared.event.LiveEvent.TheVariants.{Open, Close, SeqOdd, SeqEven, Present, ChainNote, CloseQueue, Object}
 use Rattle.live_log.specs.declared.event.ObjectEvent.TheVariants.{Push, Replace, Cut, Retire, Queue, Run}

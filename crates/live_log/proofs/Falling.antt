@@ -1,10 +1,5 @@
 -- Where each event that changes a chain leaves it falling, every chain of a log falls.
-use Rattle.std.proofs.Common.{Bool, ◌≡◌, ℕ, List, [], ◌∷◌, refl, sym, subst}
-use mathlib.Core.Logic.{dite}
-use native.Mathlib.Decide.{ℕ_discrete}
-use Rattle.rcu_model.specs.declared.event.ObjectId.{ObjectId}
-use Rattle.rcu_model.specs.Sets.{replaced, without_object}
-use Rattle.rcu_model.proofs.Lemmas.{at_number_other}
+use Rattle.live_log.proofs.Cited.{Bool, ◌≡◌, ℕ, List, [], ◌∷◌, refl, sym, subst, dite, ℕ_discrete, ObjectId, replaced, without_object, at_number_other}
 use Rattle.live_log.specs.declared.event.ObjectEvent.TheVariants.{Push, Replace, Cut, Retire, Queue, Run}
 use Rattle.live_log.specs.declared.event.LiveEvent.{LiveEvent}
 use Rattle.live_log.specs.declared.event.LiveEvent.TheVariants.{Open, Close, SeqOdd, SeqEven, Present, ChainNote, CloseQueue, Object}

@@ -1,10 +1,6 @@
 -- A push, a replacement and a cut that keep the rule of keyed chains, by what the writer knows of its list.
-use Rattle.std.proofs.Common.{◌≡◌, ◌≢◌, ℕ, ◌<◌, List, [], ◌∷◌, cond, not, true, false, Bool, sym, refl, ap, ◌∙◌, subst, inl, inr, ⊎_elim}
-use Rattle.rcu_model.specs.declared.event.ObjectId.{ObjectId}
+use Rattle.live_log.proofs.Cited.{◌≡◌, ◌≢◌, ℕ, ◌<◌, List, [], ◌∷◌, cond, not, true, false, Bool, sym, refl, ap, ◌∙◌, subst, inl, inr, ⊎_elim, ObjectId, same_object, without_object, replaced, object_tells, without_object_has}
 use Rattle.rcu_model.proofs.Lemmas.{In}
-use Rattle.rcu_model.specs.Sets.{same_object, without_object, replaced}
-use Rattle.rcu_model.proofs.Lemmas.{object_tells}
-use Rattle.rcu_model.proofs.Lemmas.{without_object_has}
 use Rattle.live_log.specs.Keys.{key_of, rank_of, Falls}
 
 -- other notes of the same objects

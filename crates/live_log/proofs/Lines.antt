@@ -1,15 +1,6 @@
 -- Queues only grow at their ends, and what a barrier concludes.
-use Rattle.std.proofs.Common.{◌≡◌, ◌≢◌, ℕ, zero, suc, lt_of_not-le, ◌<◌, ◌≤◌, List, [], ◌∷◌, ◌++◌, length, sym, refl, ap, ◌∙◌, subst, ⊎_elim, arith, append_assoc, append-nil, ◌==◌, true, false}
-use mathlib.Core.Option.{some, some-ne-none}
-use mathlib.Core.Logic.{dite}
-use native.Mathlib.Decide.{dec_le}
-use lib.ListN.{get_elem?}
-use Rattle.std.proofs.lemmas.Bool.Decides.{eqb_tells}
-use Rattle.atomic_table.proofs.Lists.{at_longer, at_last}
-use Rattle.rcu_model.specs.declared.event.ObjectId.{ObjectId}
+use Rattle.live_log.proofs.Cited.{◌≡◌, ◌≢◌, ℕ, zero, suc, lt_of_not-le, ◌<◌, ◌≤◌, List, [], ◌∷◌, ◌++◌, length, sym, refl, ap, ◌∙◌, subst, ⊎_elim, arith, append_assoc, append-nil, ◌==◌, true, false, some, some-ne-none, dite, dec_le, get_elem?, eqb_tells, at_longer, at_last, ObjectId, at_number, at_number_same, at_number_other}
 use Rattle.rcu_model.proofs.Lemmas.{In}
-use Rattle.rcu_model.specs.Sets.{at_number}
-use Rattle.rcu_model.proofs.Lemmas.{at_number_same, at_number_other}
 use Rattle.live_log.specs.declared.event.ObjectEvent.TheVariants.{Push, Replace, Cut, Retire, Queue, Run}
 use Rattle.live_log.specs.declared.event.LiveEvent.{LiveEvent}
 use Rattle.live_log.specs.declared.event.LiveEvent.TheVariants.{Open, Close, SeqOdd, SeqEven, Present, ChainNote, CloseQueue, Object}

@@ -1,12 +1,6 @@
 -- What was linked while a section was open: it is not reclaimed, and the section may go on from it.
-use Rattle.std.proofs.Common.{Bool, ◌≡◌, ℕ, List, [], ◌++◌, Option, Some, reverse, sym, ap, ◌∙◌, subst, inl, inr, append_assoc, append-nil}
-use Rattle.std.proofs.lemmas.List.{reverse-append}
-use Rattle.rcu_model.specs.declared.event.SectionId.{SectionId}
-use Rattle.rcu_model.specs.declared.event.ObjectId.{ObjectId}
+use Rattle.live_log.proofs.Cited.{Bool, ◌≡◌, ℕ, List, [], ◌++◌, Option, Some, reverse, sym, ap, ◌∙◌, subst, inl, inr, append_assoc, append-nil, reverse-append, SectionId, ObjectId, State, IsOpen, IsLinkedIn, IsSuccessor, IsRun, state_after, In, HasObject, first_of, next_of, in_objects, has_object_in, first_has, state_is, run_is, run_parts, grows_run, Kept, was_linked_not_reclaimed, successor_was_linked, kept_log}
 use Rattle.rcu_model.specs.declared.event.Event as machine
-use Rattle.rcu_model.specs.Machine.{State, IsOpen, IsLinkedIn, IsSuccessor, IsRun, state_after}
-use Rattle.rcu_model.specs.Sets.{In, HasObject, first_of, next_of}
-use Rattle.rcu_model.proofs.Lemmas.{in_objects, has_object_in, first_has, state_is, run_is, run_parts, grows_run, Kept, was_linked_not_reclaimed, successor_was_linked, kept_log}
 use Rattle.live_log.specs.declared.event.LiveEvent.{LiveEvent}
 use Rattle.live_log.specs.Log.{Log, Begins, machine_log, events_of, WasLinked, state_of, objects_of, Follows, IsLiveRun}
 use Rattle.live_log.proofs.Machine as logs

@@ -1,16 +1,7 @@
 -- The machine's events of a log: they are a run of the machine, which opens sections as the log does.
-use Rattle.std.proofs.Common.{Bool, ◌≡◌, ◌≢◌, ℕ, ◌+◌, ◌≤◌, List, [], ◌∷◌, ◌++◌, cond, sym, refl, ap, ◌∙◌, subst, inl, inr, ⊎_elim, arith, eq-eqb, ne_eqb, append_assoc, true, false}
-use mathlib.Core.Logic.{dite}
-use mathlib.Core.Option.{some, none, some-injective, some-ne-none}
-use native.Mathlib.Decide.{ℕ_discrete}
-use Rattle.rcu_model.specs.declared.event.SectionId.{SectionId}
-use Rattle.rcu_model.specs.declared.event.ObjectId.{ObjectId}
+use Rattle.live_log.proofs.Cited.{Bool, ◌≡◌, ◌≢◌, ℕ, ◌+◌, ◌≤◌, List, [], ◌∷◌, ◌++◌, cond, sym, refl, ap, ◌∙◌, subst, inl, inr, ⊎_elim, arith, eq-eqb, ne_eqb, append_assoc, true, false, dite, some, none, some-injective, some-ne-none, ℕ_discrete, SectionId, ObjectId, State, after, state_back, IsRunBack, In, HasObject, same_object, object_tells, in_sections, has_section_in, has_object_in, in_left, in_last, in_more, without_section_has, has_without_section, Kept, kept_back, open_back, open_seen_back, Grows, grows_back, open_between_back}
 use Rattle.rcu_model.specs.declared.event.Event as machine
 use Rattle.rcu_model.specs.declared.event.Event.TheVariants as seen
-use Rattle.rcu_model.specs.Machine.{State, after}
-use Rattle.rcu_model.specs.Backwards.{state_back, IsRunBack}
-use Rattle.rcu_model.specs.Sets.{In, HasObject, same_object}
-use Rattle.rcu_model.proofs.Lemmas.{object_tells, in_sections, has_section_in, has_object_in, in_left, in_last, in_more, without_section_has, has_without_section, Kept, kept_back, open_back, open_seen_back, Grows, grows_back, open_between_back}
 use Rattle.live_log.specs.declared.event.ObjectEvent.{ObjectEvent}
 use Rattle.live_log.specs.declared.event.ObjectEvent.TheVariants.{Push, Replace, Cut, Retire, Queue, Run}
 use Rattle.live_log.specs.declared.event.LiveEvent.{LiveEvent}

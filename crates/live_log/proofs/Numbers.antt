@@ -1,11 +1,8 @@
 -- The sequence number, and the present phase or number, over a run.
-use Rattle.std.proofs.Common.{◌≡◌, ◌≢◌, ◌⊎◌, Bool, true, false, ℕ, ◌+◌, ◌%◌, ◌^◌, ◌<◌, ◌≤◌, List, [], ◌∷◌, ◌++◌, cond, sym, refl, ap, ◌∙◌, subst, inl, inr, ⊎_elim, arith}
-use mathlib.Core.Option.{none, some, some-injective, some-ne-none}
+use Rattle.live_log.proofs.Cited.{◌≡◌, ◌≢◌, ◌⊎◌, Bool, true, false, ℕ, ◌+◌, ◌%◌, ◌^◌, ◌<◌, ◌≤◌, List, [], ◌∷◌, ◌++◌, cond, sym, refl, ap, ◌∙◌, subst, inl, inr, ⊎_elim, arith, none, some, some-injective, some-ne-none, ◌==◌, eqb_tells}
 use Rattle.live_log.specs.declared.event.LiveEvent.{LiveEvent}
 use Rattle.live_log.specs.declared.event.LiveEvent.TheVariants.{Open, Close, SeqOdd, SeqEven, Present, ChainNote, CloseQueue, Object}
 use Rattle.live_log.specs.Log.{Log, open_of, seq_of, present_of, IsLiveRun, MayCopy, MayBePresent, IsBound, Begins}
-use Rattle.std.proofs.Common.{◌==◌}
-use Rattle.std.proofs.lemmas.Bool.Decides.{eqb_tells}
 use Rattle.live_log.proofs.Runs.{by_slot}
 
 -- a note that was allowed stays so where the number does not fall

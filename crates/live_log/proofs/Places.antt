@@ -1,9 +1,5 @@
 -- Where objects are: each one that was put into a chain is linked or cut, and leads to such objects alone.
-use Rattle.std.proofs.Common.{Bool, ◌≡◌, ℕ, Option, Some, sym, refl, subst, inl, inr, ⊎_elim}
-use Rattle.rcu_model.specs.declared.event.ObjectId.{ObjectId}
-use Rattle.rcu_model.specs.Machine.{State}
-use Rattle.rcu_model.specs.Sets.{In, next_of, first_of}
-use Rattle.rcu_model.proofs.Lemmas.{first_has, next_of_has, state_is, used_placed, IsPlaced, successor_placed_back}
+use Rattle.live_log.proofs.Cited.{Bool, ◌≡◌, ℕ, Option, Some, sym, refl, subst, inl, inr, ⊎_elim, ObjectId, State, In, next_of, first_of, first_has, next_of_has, state_is, used_placed, IsPlaced, successor_placed_back}
 use Rattle.live_log.specs.declared.event.LiveEvent.{LiveEvent}
 use Rattle.live_log.specs.Log.{Log, machine_log, events_of, state_of, objects_of, Follows, IsLiveRun}
 use Rattle.live_log.proofs.Machine.{is_machine_run, kept_log}

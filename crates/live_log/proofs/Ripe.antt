@@ -1,12 +1,7 @@
 -- An object that was retired before a grace period began awaits nobody once that has ended.
-use Rattle.std.proofs.Common.{Bool, ◌≡◌, List, [], sym, ap, ◌∙◌, subst}
-use Rattle.rcu_model.specs.declared.event.SectionId.{SectionId}
-use Rattle.rcu_model.specs.declared.event.ObjectId.{ObjectId}
+use Rattle.live_log.proofs.Cited.{Bool, ◌≡◌, List, [], sym, ap, ◌∙◌, subst, SectionId, ObjectId, state_back, In, open_back, closed_back, awaits_none_back, awaited_since, run_went_on, state_goes_on, empty_from}
 use Rattle.rcu_model.specs.declared.event.Event as machine
 use Rattle.rcu_model.specs.declared.event.Event.TheVariants as seen
-use Rattle.rcu_model.specs.Backwards.{state_back}
-use Rattle.rcu_model.specs.Sets.{In}
-use Rattle.rcu_model.proofs.Lemmas.{open_back, closed_back, awaits_none_back, awaited_since, run_went_on, state_goes_on, empty_from}
 use Rattle.live_log.specs.declared.event.LiveEvent.{LiveEvent}
 use Rattle.live_log.specs.Log.{Log, Begins, machine_log, state_of, HaveEnded, IsLiveRun}
 use Rattle.live_log.proofs.Machine.{events_since, is_machine_run, run_since, run_of, inside_open, close_there}

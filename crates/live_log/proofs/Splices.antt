@@ -1,14 +1,6 @@
 -- What the one store of a push, a replacement or a cut makes of the words that lead to objects.
-use Rattle.std.proofs.Common.{Bool, ◌≡◌, ◌≢◌, ◌⊎◌, ℕ, List, ◌∷◌, sym, refl, ap, ◌∙◌, subst, inl, inr, ⊎_elim, Option, Some, None}
-use Rattle.std.specs.Option.{option_or}
-use mathlib.Core.Logic.{dite}
-use native.Mathlib.Decide.{ℕ_discrete}
-use Rattle.rcu_model.specs.declared.event.ObjectId.{ObjectId}
+use Rattle.live_log.proofs.Cited.{Bool, ◌≡◌, ◌≢◌, ◌⊎◌, ℕ, List, ◌∷◌, sym, refl, ap, ◌∙◌, subst, inl, inr, ⊎_elim, Option, Some, None, option_or, dite, ℕ_discrete, ObjectId, IsPlace, follows, at_object, without_object, next_of, first_of, replaced, in_objects, at_object_same, at_object_other, at_number_same, at_number_other, Spliced, push_splices, cut_splices, replace_splices, decide_place, some_is, none_some}
 use Rattle.rcu_model.proofs.Lemmas.{In}
-use Rattle.rcu_model.specs.Sets.{IsPlace, follows, at_object, without_object, next_of, first_of, replaced}
-use Rattle.rcu_model.proofs.Lemmas.{in_objects}
-use Rattle.rcu_model.proofs.Lemmas.{at_object_same, at_object_other, at_number_same, at_number_other}
-use Rattle.rcu_model.proofs.Lemmas.{Spliced, push_splices, cut_splices, replace_splices, decide_place, some_is, none_some}
 use Rattle.live_log.specs.declared.event.ObjectEvent.TheVariants.{Push, Replace, Cut}
 use Rattle.live_log.specs.declared.event.LiveEvent.{LiveEvent}
 use Rattle.live_log.specs.declared.event.LiveEvent.TheVariants.{Object}

@@ -1,13 +1,7 @@
 -- Under the rule of tables a chain has keys or one directory, a named chain is reserved for its directory or left, a
 -- chain that is not left is free, and one that a replaced directory named stays as it was while a section of then is
 -- open.
-use Rattle.std.proofs.Common.{Bool, ◌≡◌, ◌≢◌, ◌⊎◌, ℕ, ◌+◌, ◌^◌, ◌<◌, List, [], ◌∷◌, ◌++◌, cond, true, false, refl, sym, ap, ◌∙◌, subst, inl, inr, ⊎_elim, arith, eq-eqb, ne_eqb}
-use mathlib.Core.Logic.{dite}
-use mathlib.Core.Option.{some}
-use native.Mathlib.Decide.{ℕ_discrete}
-use Rattle.rcu_model.specs.declared.event.ObjectId.{ObjectId}
-use Rattle.rcu_model.specs.Sets.{In, replaced, same_object, without_object}
-use Rattle.rcu_model.proofs.Lemmas.{at_number_other, at_number_same, at_object_same, has_replaced, has_without_object, in_objects, object_tells, replaced_has, without_object_has}
+use Rattle.live_log.proofs.Cited.{Bool, ◌≡◌, ◌≢◌, ◌⊎◌, ℕ, ◌+◌, ◌^◌, ◌<◌, List, [], ◌∷◌, ◌++◌, cond, true, false, refl, sym, ap, ◌∙◌, subst, inl, inr, ⊎_elim, arith, eq-eqb, ne_eqb, dite, some, ℕ_discrete, ObjectId, In, replaced, same_object, without_object, at_number_other, at_number_same, at_object_same, has_replaced, has_without_object, in_objects, object_tells, replaced_has, without_object_has}
 use Rattle.live_log.specs.declared.event.ObjectEvent.TheVariants.{Push, Replace, Cut, Retire, Queue, Run}
 use Rattle.live_log.specs.declared.event.LiveEvent.{LiveEvent}
 use Rattle.live_log.specs.declared.event.LiveEvent.TheVariants.{Open, Close, SeqOdd, SeqEven, Present, ChainNote, CloseQueue, Object}

@@ -1,32 +1,5 @@
 -- Each step of a grace period keeps the rule.
-use Rattle.std.proofs.Common.{◌≡◌, ◌⊎◌, ℕ, ◌+◌, ◌/◌, ◌%◌, ◌^◌, ◌<◌, ◌≤◌, List, [], ◌∷◌, ◌++◌, Bool, true, false, get_or, sym, refl, ap, ◌∙◌, subst, inl, inr, ⊎_elim, arith, get_or-set_other, get_or-set_same}
-use mathlib.Core.Option.{none, some, some-ne-none}
-use mathlib.Core.Logic.{dite}
-use native.Mathlib.Decide.{dec_le}
-use lib.ListN.{get_elem?}
-use Rattle.std.proofs.Common.{lt_of_not-le}
-use Rattle.atomic_table.specs.Table.{State, Me, step, keeps, Allows}
-use Rattle.live_table.specs.reader_word.declared.layout.Layout.TheVariants.{Wide}
-use Rattle.live_table.specs.gp_memb.Plan.{Shows, bit_of}
-use Rattle.live_table.specs.live_log.declared.event.LiveEvent.{LiveEvent}
-use Rattle.live_table.specs.live_log.declared.event.LiveEvent.TheVariants.{Close, SeqOdd, SeqEven, Present}
-use Rattle.live_table.specs.live_log.Log.{Log, Has, open_of, seq_of, present_of, before_odd, HaveEnded, MayFollow, IsLiveRun, MayBePresent, Begins}
-use Rattle.live_table.proofs.live_log.Lemmas.{still}
-use Rattle.live_table.proofs.live_log.Lemmas.{copied_bounded}
-use Rattle.live_table.proofs.live_log.Lemmas.{begins_before_odd, run_of}
-use Rattle.live_table.specs.live_rule.declared.view.Sizes.{Sizes}
-use Rattle.live_table.specs.live_rule.declared.view.View.{View}
-use Rattle.live_table.specs.live_rule.declared.rights.GraceRight.{GraceRight}
-use Rattle.live_table.specs.live_rule.declared.rights.GraceRight.TheVariants.{Nothing, Rests, Works}
-use Rattle.live_table.specs.live_rule.Places.{seq_at, present_at, group_at, slot_at, bit_at}
-use Rattle.live_table.specs.live_rule.Readers.{Shown, Saw, SawAll}
-use Rattle.live_table.specs.live_rule.Rights.{grace, ClaimsGrace, KnowsGrace}
-use Rattle.live_table.specs.live_rule.Readers.{Fits}
-use Rattle.live_table.specs.live_rule.Rule.{KeepsRule}
-use Rattle.live_table.specs.live_rule.Steps.{Wrote, at_log}
-use Rattle.live_table.specs.Rights.{present_in, seq_in}
-use Rattle.live_table.proofs.live_rule.Lemmas.{saw_later}
-use Rattle.live_table.proofs.live_rule.Lemmas.{Apart, look_all, looks, low_loads}
+use Rattle.live_periods.proofs.Cited.{◌≡◌, ◌⊎◌, ℕ, ◌+◌, ◌/◌, ◌%◌, ◌^◌, ◌<◌, ◌≤◌, List, [], ◌∷◌, ◌++◌, Bool, true, false, get_or, sym, refl, ap, ◌∙◌, subst, inl, inr, ⊎_elim, arith, get_or-set_other, get_or-set_same, none, some, some-ne-none, dite, dec_le, get_elem?, lt_of_not-le, State, Me, step, keeps, Allows, Wide, Shows, bit_of, LiveEvent, Close, SeqOdd, SeqEven, Present, Log, Has, open_of, seq_of, present_of, before_odd, HaveEnded, MayFollow, IsLiveRun, MayBePresent, Begins, still, copied_bounded, begins_before_odd, run_of, Sizes, View, GraceRight, Nothing, Rests, Works, seq_at, present_at, group_at, slot_at, bit_at, Shown, Saw, SawAll, grace, ClaimsGrace, KnowsGrace, Fits, KeepsRule, Wrote, at_log, present_in, seq_in, saw_later, Apart, look_all, looks, low_loads}
 use Rattle.live_periods.specs.Periods.{ShownAll, TellsAllEnded, at_load, looked_seq, GraceBecomes, looked_word, presented, began, ended}
 use Rattle.live_periods.proofs.Stores.{stores}
 

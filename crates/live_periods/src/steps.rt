@@ -13,7 +13,7 @@ use crate::plays::{Begins, Ends, LooksSeq, LooksWord, StoresPresent};
 use live_table::{ChainRule, GracePlan, LiveSeat, LiveTable};
 
 /// Loads the sequence number, by any seat, which notes the log at the load. A seat with the right to the words of grace
-/// periods knew the number, and the phase or number: nobody else stores them. It never waits.
+/// periods knew the number, and the phase or number: nobody else stores them.
 pub fn load_seq<P: GracePlan, K: ChainRule>(table: &LiveTable<P, K>, seat: &mut LiveSeat) -> u64
     requires { seat.old.table_id ≡ table.now.words.shared.table_id }
     ensures seat { Keeps seat.old seat.new }

@@ -1,3 +1,4 @@
+mod Cited
 pub mod Lines
 pub mod Queueing
 pub mod Working

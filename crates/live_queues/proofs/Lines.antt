@@ -1,22 +1,7 @@
 -- A store of a queue's word, and what its loads tell.
-use Rattle.std.proofs.Common.{◌≡◌, ◌≢◌, ℕ, ◌+◌, ◌<◌, ◌≤◌, Bool, length, get_or, set, sym, refl, ap, ◌∙◌, subst, arith, get_or-set_other, get_or-set_same}
-use mathlib.Core.Logic.{dite}
+use Rattle.live_queues.proofs.Cited.{◌≡◌, ◌≢◌, ℕ, ◌+◌, ◌<◌, ◌≤◌, Bool, length, get_or, set, sym, refl, ap, ◌∙◌, subst, arith, get_or-set_other, get_or-set_same, dite, ℕ_discrete, get_elem?, State, Me, step, keeps, Allows, LiveEvent, Log, chain_note, line_of, HaveRun, IsLiveRun, Objects, objects_of, Sizes, View, head_at, hold_at, note_at, queued_at, closed_at, finished_at, work_at, QueueWords, HoldWords, WorkRight, work, ClaimsWork, KnowsWork, KeepsRule, looks, Calm, lines_far, guards_far, QueueStep, WorkStep, chains_kept, stores_beside, look_all, looked_view}
 use mathlib.Core.Option as lists
-use native.Mathlib.Decide.{ℕ_discrete}
-use lib.ListN.{get_elem?}
-use Rattle.atomic_table.specs.Table.{State, Me, step, keeps, Allows}
-use Rattle.live_table.specs.live_log.declared.event.LiveEvent.{LiveEvent}
-use Rattle.live_table.specs.live_log.Log.{Log, chain_note, line_of, HaveRun, IsLiveRun, Objects, objects_of}
-use Rattle.live_table.specs.live_rule.declared.view.Sizes.{Sizes}
-use Rattle.live_table.specs.live_rule.declared.view.View.{View}
-use Rattle.live_table.specs.live_rule.Places.{head_at, hold_at, note_at, queued_at, closed_at, finished_at, work_at}
-use Rattle.live_table.specs.live_rule.Objects.{QueueWords, HoldWords}
-use Rattle.live_table.specs.live_rule.declared.rights.WorkRight.{WorkRight}
 use Rattle.live_table.specs.live_rule.declared.rights.WorkRight.TheVariants as work_right
-use Rattle.live_table.specs.live_rule.Rights.{work, ClaimsWork, KnowsWork}
-use Rattle.live_table.specs.live_rule.Rule.{KeepsRule}
-use Rattle.live_table.proofs.live_rule.Lemmas.{looks, Calm, lines_far, guards_far, QueueStep, WorkStep, chains_kept, stores_beside, look_all}
-use Rattle.live_table.specs.Steps.{looked_view}
 use Rattle.live_queues.specs.Queues.{looked}
 
 module _ {S : Type 0} (qsbr : Bool) (allows : Log → LiveEvent → Type 0) (key : Sizes) where

@@ -1,31 +1,8 @@
 -- Queueing an object and closing a queue keep the rule.
-use Rattle.std.proofs.Common.{◌≡◌, ◌≢◌, ℕ, ◌+◌, ◌<◌, ◌≤◌, List, [], ◌∷◌, ◌++◌, Bool, ◌==◌, cond, length, get_or, set, sym, refl, ap, ◌∙◌, subst, inl, inr, ⊎_elim, arith, get_or-set_other, get_or-set_same, eq-eqb, ne_eqb, Option}
-use mathlib.Core.Logic.{dite}
+use Rattle.live_queues.proofs.Cited.{◌≡◌, ◌≢◌, ℕ, ◌+◌, ◌<◌, ◌≤◌, List, [], ◌∷◌, ◌++◌, Bool, ◌==◌, cond, length, get_or, set, sym, refl, ap, ◌∙◌, subst, inl, inr, ⊎_elim, arith, get_or-set_other, get_or-set_same, eq-eqb, ne_eqb, Option, dite, ℕ_discrete, get_elem?, length-append, either, State, Me, step, stepped, keeps, Allows, at_last, ObjectId, In, in_objects, has_object_in, at_number_same, at_number_other, CallbackId, LiveEvent, CloseQueue, Object, Queue, Log, state_of, closed_of, line_of, IsLiveRun, Objects, objects_of, Spot, head, link, Leads, Sizes, View, RecordRight, QueueRight, head_at, hold_at, note_at, queued_at, closed_at, finished_at, work_at, last_at, cell_at, object, queue, ClaimsObject, ClaimsQueue, KnowsObject, KnowsQueue, KeepsRule, at_end, calm_object, calm_close, queue_part, header_same, heap_beside, guards_far, object_stays, chains_kept, works_kept, stores, cell_in, object_in, IsRetired, queue_in, queued_in, closed_in, IsInQueue}
 use mathlib.Core.Option as lists
-use native.Mathlib.Decide.{ℕ_discrete}
-use lib.ListN.{get_elem?, length-append}
-use prog.Atomic.{either}
-use Rattle.atomic_table.specs.Table.{State, Me, step, stepped, keeps, Allows}
-use Rattle.atomic_table.proofs.Lists.{at_last}
-use Rattle.live_table.specs.rcu_model.declared.event.ObjectId.{ObjectId}
-use Rattle.live_table.specs.rcu_model.Sets.{In}
-use Rattle.live_table.proofs.rcu_model.Lemmas.{in_objects, has_object_in, at_number_same, at_number_other}
-use Rattle.live_table.specs.live_log.declared.callback_id.CallbackId.{CallbackId}
-use Rattle.live_table.specs.live_log.declared.event.LiveEvent.{LiveEvent}
-use Rattle.live_table.specs.live_log.declared.event.LiveEvent.TheVariants.{CloseQueue, Object}
-use Rattle.live_table.specs.live_log.declared.event.ObjectEvent.TheVariants.{Queue}
-use Rattle.live_table.specs.live_log.Log.{Log, state_of, closed_of, line_of, IsLiveRun, Objects, objects_of, Spot, head, link, Leads}
-use Rattle.live_table.specs.live_rule.declared.view.Sizes.{Sizes}
-use Rattle.live_table.specs.live_rule.declared.view.View.{View}
-use Rattle.live_table.specs.live_rule.declared.rights.RecordRight.{RecordRight}
 use Rattle.live_table.specs.live_rule.declared.rights.RecordRight.TheVariants as record_right
-use Rattle.live_table.specs.live_rule.declared.rights.QueueRight.{QueueRight}
 use Rattle.live_table.specs.live_rule.declared.rights.QueueRight.TheVariants as queue_right
-use Rattle.live_table.specs.live_rule.Places.{head_at, hold_at, note_at, queued_at, closed_at, finished_at, work_at, last_at, cell_at}
-use Rattle.live_table.specs.live_rule.Rights.{object, queue, ClaimsObject, ClaimsQueue, KnowsObject, KnowsQueue}
-use Rattle.live_table.specs.live_rule.Rule.{KeepsRule}
-use Rattle.live_table.proofs.live_rule.Lemmas.{at_end, calm_object, calm_close, queue_part, header_same, heap_beside, guards_far, object_stays, chains_kept, works_kept, stores}
-use Rattle.live_table.specs.Rights.{cell_in, object_in, IsRetired, queue_in, queued_in, closed_in, IsInQueue}
 use Rattle.live_queues.specs.Queues.{queued_view, closed_view, queued, closed}
 use Rattle.live_queues.proofs.Lines.{far, guards_stay, own_word}
 

@@ -1,28 +1,7 @@
 -- Taking, doing and giving back a queue's work keep the rule.
-use Rattle.std.proofs.Common.{◌≡◌, ◌≢◌, ℕ, ◌+◌, ◌<◌, ◌≤◌, List, Bool, ◌==◌, length, get_or, set, sym, refl, ap, ◌∙◌, subst, inl, inr, ⊎_elim, arith, get_or-set_same}
-use mathlib.Core.Logic.{dite}
+use Rattle.live_queues.proofs.Cited.{◌≡◌, ◌≢◌, ℕ, ◌+◌, ◌<◌, ◌≤◌, List, Bool, ◌==◌, length, get_or, set, sym, refl, ap, ◌∙◌, subst, inl, inr, ⊎_elim, arith, get_or-set_same, dite, ℕ_discrete, get_elem?, either, State, Me, Act, step, keeps, stepped, Valid, carried_after, Allows, exchanged, at_longer, ObjectId, In, LiveEvent, Log, state_of, line_of, HaveRun, Begins, line_grows, below, grows_log, Sizes, View, WorkRight, note_at, queued_at, closed_at, finished_at, work_at, work, ClaimsWork, KnowsWork, KeepsRule, but_work, looks, calm_same, work_part, queues_kept, look_all, work_in, finished_in, IsWorker, IsKnown, exchanged_view, looked_view, stored_view}
 use mathlib.Core.Option as lists
-use native.Mathlib.Decide.{ℕ_discrete}
-use lib.ListN.{get_elem?}
-use prog.Atomic.{either}
-use Rattle.atomic_table.specs.Table.{State, Me, Act, step, keeps, stepped, Valid, carried_after, Allows}
-use Rattle.atomic_table.proofs.Lists.{exchanged, at_longer}
-use Rattle.live_table.specs.rcu_model.declared.event.ObjectId.{ObjectId}
-use Rattle.live_table.specs.rcu_model.Sets.{In}
-use Rattle.live_table.specs.live_log.declared.event.LiveEvent.{LiveEvent}
-use Rattle.live_table.specs.live_log.Log.{Log, state_of, line_of, HaveRun, Begins}
-use Rattle.live_table.proofs.live_log.Lemmas.{line_grows, below, grows_log}
-use Rattle.live_table.specs.live_rule.declared.view.Sizes.{Sizes}
-use Rattle.live_table.specs.live_rule.declared.view.View.{View}
-use Rattle.live_table.specs.live_rule.declared.rights.WorkRight.{WorkRight}
 use Rattle.live_table.specs.live_rule.declared.rights.WorkRight.TheVariants as work_right
-use Rattle.live_table.specs.live_rule.Places.{note_at, queued_at, closed_at, finished_at, work_at}
-use Rattle.live_table.specs.live_rule.Rights.{work, ClaimsWork, KnowsWork}
-use Rattle.live_table.specs.live_rule.Rule.{KeepsRule}
-use Rattle.live_table.specs.live_rule.Seats.{but_work}
-use Rattle.live_table.proofs.live_rule.Lemmas.{looks, calm_same, work_part, queues_kept, look_all}
-use Rattle.live_table.specs.Rights.{work_in, finished_in, IsWorker}
-use Rattle.live_table.specs.Steps.{IsKnown, exchanged_view, looked_view, stored_view}
 use Rattle.live_queues.specs.Queues.{finished_view, HasRunAt, held, finished, freed}
 use Rattle.live_queues.proofs.Lines.{far, lines_stay, guards_work, guards_stay, own_word}
 

@@ -34,7 +34,7 @@ queued_view v = record v { queue = queue_right.Owns (queue_in v.queue) (queued_i
 abbrev pub closed_view : View → View
 closed_view v = record v { queue = queue_right.Owns (queue_in v.queue) (queued_in v.queue) 1 }
 
--- the view of a queue's worker, who counted so many as finished
+-- the view of a queue's worker, who counted this many as finished
 abbrev pub working_view : ℕ → ℕ → View → View
 working_view q n v = record v { work = work_right.Works q n }
 
@@ -42,7 +42,7 @@ working_view q n v = record v { work = work_right.Works q n }
 abbrev pub finished_view : View → View
 finished_view v = working_view (work_in v.work) (finished_in v.work + 1) v
 
--- the object before which so many were put into the queue
+-- the object before which this many were put into the queue
 abbrev pub IsAt : ℕ → ℕ → ObjectId → Log → Type 0
 IsAt q n o log = get_elem? (line_of log q) n ≡ some o
 
@@ -50,7 +50,7 @@ IsAt q n o log = get_elem? (line_of log q) n ≡ some o
 abbrev pub IsLast : ℕ → ℕ → ObjectId → Log → Type 0
 IsLast q n o log = IsAt q n o log × (length (line_of log q) ≡ n + 1)
 
--- in this log the object before which so many were put into the queue has its Run
+-- in this log the object before which this many were put into the queue has its Run
 abbrev pub HasRunAt : ℕ → ℕ → Log → Type 0
 HasRunAt q n log = (o : ObjectId) × IsAt q n o log × In (state_of log).reclaimed o
 

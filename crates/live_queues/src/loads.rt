@@ -9,7 +9,7 @@ ghost use Rattle.live_queues.specs.Queues.{HasNoOther};
 use crate::plays::Looks;
 use live_table::{ChainRule, GracePlan, LiveSeat, LiveTable};
 
-/// How many callbacks were queued. It never waits.
+/// How many callbacks were queued.
 pub fn load_queued<P: GracePlan, K: ChainRule>(
     table: &LiveTable<P, K>,
     seat: &mut LiveSeat,
@@ -24,7 +24,7 @@ pub fn load_queued<P: GracePlan, K: ChainRule>(
     table.words.shared.load::<Looks<P, K>>(seat, place)
 }
 
-/// 1 once the queue was closed, and 0 before. It never waits.
+/// 1 once the queue was closed, and 0 before.
 pub fn load_closed<P: GracePlan, K: ChainRule>(
     table: &LiveTable<P, K>,
     seat: &mut LiveSeat,
@@ -40,7 +40,7 @@ pub fn load_closed<P: GracePlan, K: ChainRule>(
 }
 
 /// How many callbacks of the queue, from the first, have begun to run and were counted. A seat that works for the queue
-/// loads its own count. It never waits.
+/// loads its own count.
 pub fn load_finished<P: GracePlan, K: ChainRule>(
     table: &LiveTable<P, K>,
     seat: &mut LiveSeat,

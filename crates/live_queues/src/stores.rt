@@ -9,8 +9,8 @@ use crate::plays::{Closes, Finishes, Queues};
 use live_table::{CallbackId, ChainRule, GracePlan, LiveSeat, LiveTable};
 
 /// Queues the callback of the seat's retired object, where the queue is not closed: stores the count of those queued.
-/// Its ticket is that count, the first one being 1. The log notes which callback it is. The store is an exchange,
-/// since only that can be told so. It never waits.
+/// Its ticket is that count, the first one being 1. The log notes which callback it is. The store is an exchange, since
+/// only that can be told so.
 pub fn store_queued<P: GracePlan, K: ChainRule>(
     table: &LiveTable<P, K>,
     seat: &mut LiveSeat,
@@ -33,7 +33,7 @@ pub fn store_queued<P: GracePlan, K: ChainRule>(
         .compare_exchange_with::<Queues<P, K>>(seat, place, count - 1, count, callback);
 }
 
-/// Closes a queue, which takes no callback from then on. It never waits.
+/// Closes a queue, which takes no callback from then on.
 pub fn store_closed<P: GracePlan, K: ChainRule>(
     table: &LiveTable<P, K>,
     seat: &mut LiveSeat,
@@ -48,8 +48,7 @@ pub fn store_closed<P: GracePlan, K: ChainRule>(
     table.words.shared.store::<Closes<P, K>>(seat, place, 1);
 }
 
-/// Counts one more callback of the queue as finished: the one whose turn it is, which the worker knows to have run. It
-/// never waits.
+/// Counts one more callback of the queue as finished: the one whose turn it is, which the worker knows to have run.
 pub fn store_finished<P: GracePlan, K: ChainRule>(
     table: &LiveTable<P, K>,
     seat: &mut LiveSeat,

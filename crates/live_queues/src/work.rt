@@ -10,8 +10,8 @@ use crate::plays::{FreesWork, HoldsWork};
 use live_table::{ChainRule, GracePlan, LiveSeat, LiveTable};
 
 /// Takes the right to work for a queue, if nobody has it: its hold word goes from 0 to 1. Answers the hold word that it
-/// found: 0, and the right is the seat's; 1, and another has it; or 2, and nobody can have it any more. What it found is
-/// kept among the looks, and what it stored. It never waits.
+/// found: 0, and the right is the seat's; 1, and another has it; or 2, and nobody can have it any more. What it found
+/// is kept among the looks, and what it stored.
 pub fn hold_work<P: GracePlan, K: ChainRule>(
     table: &LiveTable<P, K>,
     seat: &mut LiveSeat,
@@ -31,7 +31,7 @@ pub fn hold_work<P: GracePlan, K: ChainRule>(
 }
 
 /// Gives the right to work for a queue back, so that another can have it: its hold word becomes 0, which is kept among
-/// the looks. It never waits.
+/// the looks.
 pub fn free_work<P: GracePlan, K: ChainRule>(
     table: &LiveTable<P, K>,
     seat: &mut LiveSeat,
@@ -47,7 +47,7 @@ pub fn free_work<P: GracePlan, K: ChainRule>(
 }
 
 /// Gives the right to work for a queue up for good: its hold word becomes 2, which is kept among the looks, and nobody
-/// takes it from there. It never waits.
+/// takes it from there.
 pub fn end_work<P: GracePlan, K: ChainRule>(
     table: &LiveTable<P, K>,
     seat: &mut LiveSeat,

@@ -1,3 +1,4 @@
+mod Cited
 pub mod Stores
 pub mod Sections
 pub mod Words

@@ -1,25 +1,5 @@
 -- What each kind of store does to its slot.
-use Rattle.std.proofs.Common.{◌≡◌, ℕ, ◌+◌, [], ◌∷◌, Bool, true, false, cond, sym, refl, ap, ◌∙◌, subst, arith, eq-eqb}
-use mathlib.Core.Option.{Option, none, some}
-use Rattle.atomic_table.specs.Table.{State, Me, step, keeps, Allows}
-use Rattle.reader_word.specs.declared.layout.Layout.TheVariants.{Wide}
-use Rattle.live_table.specs.gp_memb.Plan.{Shows}
-use Rattle.live_table.specs.live_log.declared.event.LiveEvent.{LiveEvent}
-use Rattle.live_table.specs.live_log.declared.event.LiveEvent.TheVariants.{Open, Close}
-use Rattle.live_table.specs.live_log.Log.{Log, open_of, sections_of, present_of, IsLiveRun, MayCopy}
-use Rattle.live_table.proofs.live_log.Lemmas.{last_opened}
-use Rattle.live_table.proofs.live_log.Lemmas.{copy_later, present_begins}
-use Rattle.live_table.specs.live_rule.declared.view.Sizes.{Sizes}
-use Rattle.live_table.specs.live_rule.declared.view.View.{View}
-use Rattle.live_table.specs.live_rule.declared.rights.SlotRight.TheVariants.{Owns}
-use Rattle.live_table.specs.live_rule.Places.{present_at, slot_at}
-use Rattle.live_table.specs.live_rule.Readers.{IsClosed}
-use Rattle.live_table.specs.live_rule.Readers.{Fits}
-use Rattle.live_table.specs.live_rule.Steps.{Precedes}
-use Rattle.live_table.specs.live_rule.Rule.{KeepsRule}
-use Rattle.live_table.specs.live_rule.Steps.{at_log}
-use Rattle.live_table.specs.live_rule.Rights.{grace}
-use Rattle.live_table.proofs.live_rule.Lemmas.{low_loads}
+use Rattle.live_readers.proofs.Cited.{◌≡◌, ℕ, ◌+◌, [], ◌∷◌, Bool, true, false, cond, sym, refl, ap, ◌∙◌, subst, arith, eq-eqb, Option, none, some, State, Me, step, keeps, Allows, Wide, Shows, LiveEvent, Open, Close, Log, open_of, sections_of, present_of, IsLiveRun, MayCopy, last_opened, copy_later, present_begins, Sizes, View, Owns, present_at, slot_at, IsClosed, Fits, Precedes, KeepsRule, at_log, grace, low_loads}
 use Rattle.live_readers.specs.Sections.{copied, opened_in, IsAt, looked_present, Stored, stored, opens, nests, closes, announces}
 use Rattle.live_readers.proofs.Stores.{slot_or, stores}
 

@@ -1,17 +1,6 @@
 -- A load of a slot's word keeps the rule.
-use Rattle.std.proofs.Common.{◌≡◌, ℕ, ◌<◌, Bool, get_or, sym, refl, ap, ◌∙◌, subst}
+use Rattle.live_readers.proofs.Cited.{◌≡◌, ℕ, ◌<◌, Bool, get_or, sym, refl, ap, ◌∙◌, subst, State, Me, step, keeps, Allows, LiveEvent, Log, open_of, Sizes, View, SlotRight, Fits, slot, ClaimsSlot, KnowsSlot, KeepsRule, looks, look_all, looked_view}
 use mathlib.Core.Option as lists
-use Rattle.atomic_table.specs.Table.{State, Me, step, keeps, Allows}
-use Rattle.live_table.specs.live_log.declared.event.LiveEvent.{LiveEvent}
-use Rattle.live_table.specs.live_log.Log.{Log, open_of}
-use Rattle.live_table.specs.live_rule.declared.view.Sizes.{Sizes}
-use Rattle.live_table.specs.live_rule.declared.view.View.{View}
-use Rattle.live_table.specs.live_rule.declared.rights.SlotRight.{SlotRight}
-use Rattle.live_table.specs.live_rule.Readers.{Fits}
-use Rattle.live_table.specs.live_rule.Rights.{slot, ClaimsSlot, KnowsSlot}
-use Rattle.live_table.specs.live_rule.Rule.{KeepsRule}
-use Rattle.live_table.proofs.live_rule.Lemmas.{looks, look_all}
-use Rattle.live_table.specs.Steps.{looked_view}
 use Rattle.live_readers.specs.Sections.{looked_slot}
 
 module _ {S : Type 0} (qsbr : Bool) (allows : Log → LiveEvent → Type 0) (key : Sizes) where

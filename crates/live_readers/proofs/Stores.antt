@@ -1,23 +1,5 @@
 -- A store of a reader's word keeps the rule.
-use Rattle.std.proofs.Common.{◌≡◌, ◌≢◌, ℕ, ◌+◌, ◌/◌, ◌%◌, ◌<◌, ◌≤◌, List, [], ◌∷◌, ◌++◌, Bool, true, cond, length, get_or, set, sym, refl, ap, ◌∙◌, subst, arith, get_or-set_other, get_or-set_same, ne_eqb, true≢false}
-use mathlib.Core.Logic.{dite}
-use mathlib.Core.Option.{Option, none, some}
-use native.Mathlib.Decide.{ℕ_discrete}
-use Rattle.atomic_table.specs.Table.{State, Me, keeps, Allows}
-use Rattle.live_table.specs.live_log.declared.event.LiveEvent.{LiveEvent}
-use Rattle.live_table.specs.live_log.declared.event.LiveEvent.TheVariants.{Open, Close, SeqOdd, SeqEven, Present, ChainNote, CloseQueue, Object}
-use Rattle.live_table.specs.live_log.Log.{Log, open_of, sections_of, seq_of, present_of, before_odd, chain_note, closed_of, objects_of, IsLiveRun}
-use Rattle.live_table.specs.live_rule.declared.view.Sizes.{Sizes}
-use Rattle.live_table.specs.live_rule.declared.view.View.{View}
-use Rattle.live_table.specs.live_rule.declared.rights.SlotRight.{SlotRight}
-use Rattle.live_table.specs.live_rule.declared.rights.SlotRight.TheVariants.{Owns}
-use Rattle.live_table.specs.live_rule.Places.{seq_at, present_at, group_at, slot_at, bit_at}
-use Rattle.live_table.specs.gp_memb.Plan.{bit_of}
-use Rattle.live_table.specs.live_rule.Readers.{Fits, ReaderWords}
-use Rattle.live_table.specs.live_rule.Rights.{slot, ClaimsSlot, KnowsSlot}
-use Rattle.live_table.specs.live_rule.Rule.{KeepsRule}
-use Rattle.live_table.specs.live_rule.Steps.{Precedes, at_log}
-use Rattle.live_table.proofs.live_rule.Lemmas.{own_slot, grace_kept, low_stores}
+use Rattle.live_readers.proofs.Cited.{◌≡◌, ◌≢◌, ℕ, ◌+◌, ◌/◌, ◌%◌, ◌<◌, ◌≤◌, List, [], ◌∷◌, ◌++◌, Bool, true, cond, length, get_or, set, sym, refl, ap, ◌∙◌, subst, arith, get_or-set_other, get_or-set_same, ne_eqb, true≢false, dite, Option, none, some, ℕ_discrete, State, Me, keeps, Allows, LiveEvent, Open, Close, SeqOdd, SeqEven, Present, ChainNote, CloseQueue, Object, Log, open_of, sections_of, seq_of, present_of, before_odd, chain_note, closed_of, objects_of, IsLiveRun, Sizes, View, SlotRight, Owns, seq_at, present_at, group_at, slot_at, bit_at, bit_of, Fits, ReaderWords, slot, ClaimsSlot, KnowsSlot, KeepsRule, Precedes, at_log, own_slot, grace_kept, low_stores}
 use Rattle.live_readers.specs.Sections.{IsAt, Stored}
 
 -- each of these events is of this slot

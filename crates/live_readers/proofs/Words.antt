@@ -1,18 +1,5 @@
 -- What the words of locks and announcements show.
-use Rattle.std.proofs.Common.{◌≡◌, ◌≢◌, ℕ, zero, suc, ◌+◌, ◌<◌, ◌^◌, [], ◌++◌, Bool, true, false, not, ◌==◌, Ok, sym, refl, ap, ◌∙◌, subst, ⊎_elim, arith, true≢false}
-use Rattle.std.proofs.lemmas.Bool.Decides.{eqb_tells}
-use Rattle.atomic_table.specs.Table.{Me}
-use Rattle.reader_word.specs.declared.layout.Layout.TheVariants.{Wide}
-use Rattle.reader_word.specs.Word.{number, count_of, phase_in, is_open_of, entered_of}
-use Rattle.reader_word.proofs.Lemmas.{NestsDeeper, entered_of-opens}
-use Rattle.live_table.specs.gp_memb.Plan.{Shows}
-use Rattle.live_table.specs.live_log.declared.event.LiveEvent.{LiveEvent}
-use Rattle.live_table.specs.live_log.Log.{Log, seq_of, present_of, IsLiveRun, MayCopy, IsBound}
-use Rattle.live_table.proofs.live_log.Lemmas.{bounded, seq_low, begins_trans}
-use Rattle.live_table.specs.live_rule.declared.view.View.{View}
-use Rattle.live_table.specs.live_rule.declared.rights.SlotRight.TheVariants.{Owns}
-use Rattle.live_table.specs.live_rule.Steps.{Precedes, at_log, Looked}
-use Rattle.live_table.specs.Rights.{count_in}
+use Rattle.live_readers.proofs.Cited.{◌≡◌, ◌≢◌, ℕ, zero, suc, ◌+◌, ◌<◌, ◌^◌, [], ◌++◌, Bool, true, false, not, ◌==◌, Ok, sym, refl, ap, ◌∙◌, subst, ⊎_elim, arith, true≢false, eqb_tells, Me, Wide, number, count_of, phase_in, is_open_of, entered_of, NestsDeeper, entered_of-opens, Shows, LiveEvent, Log, seq_of, present_of, IsLiveRun, MayCopy, IsBound, bounded, seq_low, begins_trans, View, Owns, Precedes, at_log, Looked, count_in}
 use Rattle.live_readers.specs.Sections.{copied, Stored, opens, announces, Opened, Announced, CopiedBefore}
 
 -- an open word shows what it copied

@@ -25,7 +25,7 @@ opened_in [] = 0
 opened_in (Open r n m ∷ es) = opened_in es + 1
 opened_in (_ ∷ es) = opened_in es
 
--- the word fits the open section of the slot in the log, and the slot has had so many sections
+-- the word fits the open section of the slot in the log, and the slot has had this many sections
 abbrev pub IsAt : Bool → ℕ → ℕ → ℕ → Log → Type 0
 IsAt qsbr r w k log = Fits qsbr w (open_of r log) × (sections_of r log ≡ k)
 
@@ -53,7 +53,7 @@ module _ {S : Type 0} (qsbr : Bool) (allows : Log → LiveEvent → Type 0) wher
   abbrev pub looked_slot : Step S → Me S View → ℕ → Me S View → Type 0
   looked_slot st m n m' = Went qsbr allows (looked_view st.word n m.0) m m' × ((r : ℕ) → r < m.0.sizes.slots → st.word ≡ slot_at r → Fits qsbr n (open_of r m'.0.seen)) × ((r : ℕ) → st.word ≡ slot_at r → IsOwner m.0 r → (n ≡ word_in m.0.slot) × (sections_of r m'.0.seen ≡ count_in m.0.slot))
 
-  -- the word of slot r was stored, these events were written, and the slot has had so many sections
+  -- the word of slot r was stored, these events were written, and the slot has had this many sections
   abbrev pub Stored : ℕ → ℕ → ℕ → Log → Me S View → Me S View → Type 0
   Stored r x count events m m' = (m' ≡ (record (at_log m.0 m'.0.seen) { slot = Owns r x count }, m.1)) × Wrote qsbr allows m.0 events m'.0.seen × IsAt qsbr r x count m'.0.seen
 

@@ -9,7 +9,7 @@ use live_table::{ChainRule, GracePlan, LiveSeat, LiveTable};
 use reader_word::qs_announced;
 
 /// A reader goes online, liburcu's `rcu_thread_online`: it loads the number and then opens a section, which copied that
-/// number. Answers the word that it stores, which is not 0. It never waits.
+/// number. Answers the word that it stores, which is not 0.
 pub fn online<P: GracePlan, K: ChainRule>(
     table: &LiveTable<P, K>,
     seat: &mut LiveSeat,
@@ -30,7 +30,7 @@ pub fn online<P: GracePlan, K: ChainRule>(
 
 /// An online reader announces a quiescent state, liburcu's `rcu_quiescent_state`: it loads the number, and one store
 /// closes its section and opens the next one, which copied that number. Answers the word that it stores, which is not
-/// 0. It never waits.
+/// 0.
 pub fn quiescent<P: GracePlan, K: ChainRule>(
     table: &LiveTable<P, K>,
     seat: &mut LiveSeat,
@@ -49,7 +49,7 @@ pub fn quiescent<P: GracePlan, K: ChainRule>(
     word
 }
 
-/// An online reader goes offline, liburcu's `rcu_thread_offline`, and closes its section. It never waits.
+/// An online reader goes offline, liburcu's `rcu_thread_offline`, and closes its section.
 pub fn offline<P: GracePlan, K: ChainRule>(
     table: &LiveTable<P, K>,
     seat: &mut LiveSeat,

@@ -15,7 +15,7 @@ use reader_word::{Layout, entered, is_open, left};
 /// One lock of a reader, liburcu's `rcu_read_lock`, by the word that it stored last; answers the word that it stores
 /// now. An outermost lock loads the phase and then opens a section, which copied that phase.
 ///
-/// Refused with `NestFull` exactly at the greatest count, 2,147,483,647, before any store. It never waits.
+/// Refused with `NestFull` exactly at the greatest count, 2,147,483,647, before any store.
 pub fn lock<P: GracePlan, K: ChainRule>(
     table: &LiveTable<P, K>,
     seat: &mut LiveSeat,
@@ -46,7 +46,7 @@ pub fn lock<P: GracePlan, K: ChainRule>(
 /// One unlock of a reader, liburcu's `rcu_read_unlock`, by the word that it stored last; answers the word that it
 /// stores now. An outermost unlock closes the section.
 ///
-/// Refused with `NotOpen` exactly where no lock is open, before any store. It never waits.
+/// Refused with `NotOpen` exactly where no lock is open, before any store.
 pub fn unlock<P: GracePlan, K: ChainRule>(
     table: &LiveTable<P, K>,
     seat: &mut LiveSeat,

@@ -1,28 +1,6 @@
 -- The two stores of a header that end an object's life keep the rule.
-use Rattle.std.proofs.Common.{◌≡◌, ◌≢◌, ℕ, ◌+◌, ◌*◌, ◌/◌, ◌<◌, List, [], ◌∷◌, Bool, get_or, set, sym, refl, ap, ◌∙◌, subst, inl, inr, ⊎_elim, arith, get_or-set_other, get_or-set_same, Option}
+use Rattle.live_records.proofs.Cited.{◌≡◌, ◌≢◌, ℕ, ◌+◌, ◌*◌, ◌/◌, ◌<◌, List, [], ◌∷◌, Bool, get_or, set, sym, refl, ap, ◌∙◌, subst, inl, inr, ⊎_elim, arith, get_or-set_other, get_or-set_same, Option, get_elem?, State, Me, step, keeps, Allows, ObjectId, In, in_objects, has_object_in, LiveEvent, Object, Retire, Run, Log, record_of, IsLiveRun, Objects, objects_of, Spot, head, link, Leads, by_object, kept_log, ready_stays, Sizes, View, RecordRight, Unlinked, Retired, Queued, cell_at, IsAlive, Header, ClaimsObject, KeepsRule, but_object, calm_object, heap_beside, header_same, object_stays, looks, look_all, IsQueued, IsRetired, IsUnlinked, cell_in, object_in, IsKnown, stored_view}
 use mathlib.Core.Option as lists
-use lib.ListN.{get_elem?}
-use Rattle.atomic_table.specs.Table.{State, Me, step, keeps, Allows}
-use Rattle.live_table.specs.rcu_model.declared.event.ObjectId.{ObjectId}
-use Rattle.live_table.specs.rcu_model.Sets.{In}
-use Rattle.live_table.proofs.rcu_model.Lemmas.{in_objects, has_object_in}
-use Rattle.live_table.specs.live_log.declared.event.LiveEvent.{LiveEvent}
-use Rattle.live_table.specs.live_log.declared.event.LiveEvent.TheVariants.{Object}
-use Rattle.live_table.specs.live_log.declared.event.ObjectEvent.TheVariants.{Retire, Run}
-use Rattle.live_table.specs.live_log.Log.{Log, record_of, IsLiveRun, Objects, objects_of, Spot, head, link, Leads}
-use Rattle.live_table.proofs.live_log.Lemmas.{by_object, kept_log, ready_stays}
-use Rattle.live_table.specs.live_rule.declared.view.Sizes.{Sizes}
-use Rattle.live_table.specs.live_rule.declared.view.View.{View}
-use Rattle.live_table.specs.live_rule.declared.rights.RecordRight.{RecordRight}
-use Rattle.live_table.specs.live_rule.declared.rights.RecordRight.TheVariants.{Unlinked, Retired, Queued}
-use Rattle.live_table.specs.live_rule.Places.{cell_at}
-use Rattle.live_table.specs.live_rule.Objects.{IsAlive, Header}
-use Rattle.live_table.specs.live_rule.Rights.{ClaimsObject}
-use Rattle.live_table.specs.live_rule.Rule.{KeepsRule}
-use Rattle.live_table.specs.live_rule.Seats.{but_object}
-use Rattle.live_table.proofs.live_rule.Lemmas.{calm_object, heap_beside, header_same, object_stays, looks, look_all}
-use Rattle.live_table.specs.Rights.{IsQueued, IsRetired, IsUnlinked, cell_in, object_in}
-use Rattle.live_table.specs.Steps.{IsKnown, stored_view}
 use Rattle.live_records.specs.Records.{HasCut, IsRipe, retired_view, retired, ran, looked_payload}
 use Rattle.live_records.proofs.Records.{number_is, own_record, knew, cell_far, alive_far, fresh_far, last_less, head_same}
 

@@ -1,32 +1,6 @@
 -- Each step on a record keeps the rule.
-use Rattle.std.proofs.Common.{◌≡◌, ◌≢◌, ◌⊎◌, ℕ, zero, suc, ◌+◌, ◌*◌, ◌/◌, ◌<◌, ◌≤◌, List, [], ◌∷◌, Bool, ◌==◌, get_or, set, sym, refl, ap, ◌∙◌, subst, inl, inr, arith, length-set, get_or-set_other, get_or-set_same}
-use mathlib.Core.Logic.{dite}
+use Rattle.live_records.proofs.Cited.{◌≡◌, ◌≢◌, ◌⊎◌, ℕ, zero, suc, ◌+◌, ◌*◌, ◌/◌, ◌<◌, ◌≤◌, List, [], ◌∷◌, Bool, ◌==◌, get_or, set, sym, refl, ap, ◌∙◌, subst, inl, inr, arith, length-set, get_or-set_other, get_or-set_same, dite, ℕ_discrete, get_elem?, either, State, Me, Act, step, keeps, stepped, Valid, carried_after, Allows, exchanged, ObjectId, In, LiveEvent, Log, state_of, record_of, chain_note, closed_of, line_of, IsLiveRun, objects_of, kept_log, Sizes, View, RecordRight, Nothing, Drawn, Fresh, Unlinked, Retired, Queued, head_at, hold_at, note_at, queued_at, closed_at, finished_at, work_at, last_at, cell_at, IsAlive, ObjectWords, object, ClaimsObject, KnowsObject, KeepsRule, Unclaimed, looks, Calm, calm_same, same_object_all, heap_far, lines_far, guards_far, apart, ObjectStep, object_stays, chains_kept, queues_kept, works_kept, stores, look_all, cell_in, object_in, link_in, payload_in, IsDrawn, IsFresh, exchanged_view, looked_view, stored_view, goes_on, but_object}
 use mathlib.Core.Option as lists
-use native.Mathlib.Decide.{ℕ_discrete}
-use lib.ListN.{get_elem?}
-use prog.Atomic.{either}
-use Rattle.atomic_table.specs.Table.{State, Me, Act, step, keeps, stepped, Valid, carried_after, Allows}
-use Rattle.atomic_table.proofs.Lists.{exchanged}
-use Rattle.live_table.specs.rcu_model.declared.event.ObjectId.{ObjectId}
-use Rattle.live_table.specs.rcu_model.Sets.{In}
-use Rattle.live_table.specs.live_log.declared.event.LiveEvent.{LiveEvent}
-use Rattle.live_table.specs.live_log.Log.{Log, state_of, record_of, chain_note, closed_of, line_of, IsLiveRun, objects_of}
-use Rattle.live_table.proofs.live_log.Lemmas.{kept_log}
-use Rattle.live_table.specs.live_rule.declared.view.Sizes.{Sizes}
-use Rattle.live_table.specs.live_rule.declared.view.View.{View}
-use Rattle.live_table.specs.live_rule.declared.rights.RecordRight.{RecordRight}
-use Rattle.live_table.specs.live_rule.declared.rights.RecordRight.TheVariants.{Nothing, Drawn, Fresh, Unlinked, Retired, Queued}
-use Rattle.live_table.specs.live_rule.Places.{head_at, hold_at, note_at, queued_at, closed_at, finished_at, work_at, last_at, cell_at}
-use Rattle.live_table.specs.live_rule.Objects.{IsAlive, ObjectWords}
-use Rattle.live_table.specs.live_rule.Rights.{object, ClaimsObject, KnowsObject}
-use Rattle.live_table.specs.live_rule.Rule.{KeepsRule}
-use Rattle.live_table.proofs.live_rule.Lemmas.{Unclaimed, looks}
-use Rattle.live_table.proofs.live_rule.Lemmas.{Calm, calm_same, same_object_all, heap_far, lines_far, guards_far, apart}
-use Rattle.live_table.proofs.live_rule.Lemmas.{ObjectStep, object_stays, chains_kept, queues_kept, works_kept, stores, look_all}
-use Rattle.live_table.specs.Rights.{cell_in, object_in, link_in, payload_in, IsDrawn, IsFresh}
-use Rattle.live_table.specs.Steps.{exchanged_view, looked_view, stored_view}
-use Rattle.live_table.proofs.Lemmas.{goes_on}
-use Rattle.live_table.specs.live_rule.Seats.{but_object}
 use Rattle.live_records.specs.Records.{drawn_view, linked_view, worded_view, HasRecord, looked, numbered, drew, took, linked, worded, discarded}
 
 -- four words of a record, as they are

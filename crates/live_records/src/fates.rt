@@ -12,7 +12,7 @@ use crate::plays::{LooksPayload, Retires, Runs};
 use live_table::{ChainRule, GracePlan, LiveSeat, LiveTable};
 
 /// Loads a payload word of the seat's object, which was cut and has not been run, the first one at `index` 0: the word
-/// that was noted with the object when it was published. It never waits.
+/// that was noted with the object when it was published.
 pub fn load_payload<P: GracePlan, K: ChainRule>(
     table: &LiveTable<P, K>,
     seat: &mut LiveSeat,
@@ -30,7 +30,7 @@ pub fn load_payload<P: GracePlan, K: ChainRule>(
     table.words.shared.load::<LooksPayload<P, K>>(seat, place)
 }
 
-/// Retires the seat's object, which is cut: stores 1 more than twice its number in its record's header. It never waits.
+/// Retires the seat's object, which is cut: stores 1 more than twice its number in its record's header.
 pub fn store_retire<P: GracePlan, K: ChainRule>(
     table: &LiveTable<P, K>,
     seat: &mut LiveSeat,
@@ -51,7 +51,7 @@ pub fn store_retire<P: GracePlan, K: ChainRule>(
 
 /// Frees the record of the seat's object, which is queued: stores 0 in its header, after which its callback may be
 /// called. The store is kept among the looks. The seat has seen, or heard of, a log in which the object was retired and
-/// each section that was open at its retirement had ended. It never waits.
+/// each section that was open at its retirement had ended.
 pub fn store_run<P: GracePlan, K: ChainRule>(
     table: &LiveTable<P, K>,
     seat: &mut LiveSeat,

@@ -12,7 +12,7 @@ use crate::plays::{
 };
 use live_table::{ChainRule, GracePlan, LiveSeat, LiveTable};
 
-/// Loads the last object number that was given. What it found is kept among the looks. It never waits.
+/// Loads the last object number that was given. What it found is kept among the looks.
 pub fn load_last<P: GracePlan, K: ChainRule>(table: &LiveTable<P, K>, seat: &mut LiveSeat) -> u64
     requires { seat.old.table_id ≡ table.now.words.shared.table_id }
     ensures seat { Keeps seat.old seat.new }
@@ -24,7 +24,7 @@ pub fn load_last<P: GracePlan, K: ChainRule>(table: &LiveTable<P, K>, seat: &mut
 
 /// Draws the object number after `last`, if `last` is still the last one given; the caller has fewer than 2^62. Answers
 /// the last number that it found: the number was drawn exactly where that is `last`. What it found is kept among the
-/// looks, and what it stored. It never waits.
+/// looks, and what it stored.
 pub fn draw_number<P: GracePlan, K: ChainRule>(
     table: &LiveTable<P, K>,
     seat: &mut LiveSeat,
@@ -43,8 +43,7 @@ pub fn draw_number<P: GracePlan, K: ChainRule>(
         .compare_exchange::<Draws<P, K>>(seat, place, last, last + 1)
 }
 
-/// Loads the header of a record, which is 0 where the record is free. What it found is kept among the looks. It never
-/// waits.
+/// Loads the header of a record, which is 0 where the record is free. What it found is kept among the looks.
 pub fn load_header<P: GracePlan, K: ChainRule>(
     table: &LiveTable<P, K>,
     seat: &mut LiveSeat,
@@ -59,7 +58,7 @@ pub fn load_header<P: GracePlan, K: ChainRule>(
 }
 
 /// The number of the seat's object, by a load of its record's header, which is twice the number. What it found is kept
-/// among the looks. It never waits.
+/// among the looks.
 pub fn load_number<P: GracePlan, K: ChainRule>(
     table: &LiveTable<P, K>,
     seat: &mut LiveSeat,
@@ -77,7 +76,7 @@ pub fn load_number<P: GracePlan, K: ChainRule>(
 
 /// Takes a record for the object whose number was drawn, if the record is free. Answers the header that it found: the
 /// record was taken exactly where that is 0, and its link and payload are what was left there. What it found is kept
-/// among the looks, and what it stored. It never waits.
+/// among the looks, and what it stored.
 pub fn take_cell<P: GracePlan, K: ChainRule>(
     table: &LiveTable<P, K>,
     seat: &mut LiveSeat,
@@ -97,7 +96,7 @@ pub fn take_cell<P: GracePlan, K: ChainRule>(
         .compare_exchange::<Takes<P, K>>(seat, place, 0, 2 * number)
 }
 
-/// Stores the link of a fresh record. A writer goes on knowing its chains. It never waits.
+/// Stores the link of a fresh record. A writer goes on knowing its chains.
 pub fn store_link<P: GracePlan, K: ChainRule>(
     table: &LiveTable<P, K>,
     seat: &mut LiveSeat,
@@ -117,7 +116,7 @@ pub fn store_link<P: GracePlan, K: ChainRule>(
 }
 
 /// Stores one of the four payload words of a fresh record, the first one at `index` 0. A writer goes on knowing its
-/// chains. It never waits.
+/// chains.
 pub fn store_word<P: GracePlan, K: ChainRule>(
     table: &LiveTable<P, K>,
     seat: &mut LiveSeat,
@@ -138,7 +137,7 @@ pub fn store_word<P: GracePlan, K: ChainRule>(
 }
 
 /// Frees a fresh record: the store of `discard`, which is kept among the looks. Its object's number is given to no
-/// other. It never waits.
+/// other.
 pub fn store_discard<P: GracePlan, K: ChainRule>(
     table: &LiveTable<P, K>,
     seat: &mut LiveSeat,

@@ -1,11 +1,6 @@
 -- The one store that leads past, to, or into another object keeps the heap: for a push, a replacement and a cut alike,
 -- at a head or at a link.
-use Rattle.std.proofs.Common.{◌≡◌, ◌≢◌, ◌⊎◌, ℕ, ◌+◌, ◌*◌, ◌/◌, ◌<◌, ◌≤◌, List, length, get_or, set, sym, refl, ap, ◌∙◌, subst, inl, inr, ⊎_elim, arith, get_or-set_other, get_or-set_same, Option, Some, None}
-use Rattle.std.specs.Option.{option_or}
-use Rattle.rcu_model.specs.declared.event.ObjectId.{ObjectId}
-use Rattle.rcu_model.specs.Sets.{In}
-use Rattle.live_log.specs.Log.{Objects, Spot, head, link, spot_of, Leads}
-use Rattle.live_log.proofs.Lemmas.{Moved, Still, head_no_link, link_is}
+use Rattle.live_rule.proofs.Cited.{◌≡◌, ◌≢◌, ◌⊎◌, ℕ, ◌+◌, ◌*◌, ◌/◌, ◌<◌, ◌≤◌, List, length, get_or, set, sym, refl, ap, ◌∙◌, subst, inl, inr, ⊎_elim, arith, get_or-set_other, get_or-set_same, Option, Some, None, option_or, ObjectId, In, Objects, Spot, head, link, spot_of, Leads, Moved, Still, head_no_link, link_is}
 use Rattle.live_rule.specs.declared.view.Sizes.{Sizes}
 use Rattle.live_rule.specs.Places.{last_at, cell_at}
 use Rattle.live_rule.specs.Objects.{ref, IsAlive, IsLive, spot_at, IsPayload, Header, ObjectWords}

@@ -1,2 +1,3 @@
+mod Cited
 pub mod Loads
 pub mod Scans

@@ -1,16 +1,5 @@
 -- What the loads of a count tell, one after another.
-use Rattle.std.proofs.Common.{◌≡◌, ℕ, zero, suc, ◌+◌, ◌==◌, ◌<◌, ◌≤◌, Bool, List, ◌∷◌, length, get_or, set, get_or-set_same, get_or-set_other, refl, ap, ◌∙◌, subst, arith}
-use Rattle.std.specs.Prelude.{if◌then◌else◌}
-use lib.ListN.{length-append}
-use Rattle.atomic_table.specs.Table.{Me}
-use Rattle.live_log.specs.declared.event.LiveEvent.{LiveEvent}
-use Rattle.live_log.specs.Log.{Log, Begins, line_of}
-use Rattle.live_log.proofs.Lemmas.{begins_trans, line_grows}
-use Rattle.live_words.specs.live_rule.declared.view.Look.TheVariants.{Loaded}
-use Rattle.live_words.specs.live_rule.declared.view.Sizes.{Sizes}
-use Rattle.live_words.specs.live_rule.declared.view.View.{View}
-use Rattle.live_words.specs.live_rule.Places.{cell_at, finished_at, queued_at}
-use Rattle.live_words.specs.live_table.Steps.{Went, looked_view}
+use Rattle.live_status.proofs.Cited.{◌≡◌, ℕ, zero, suc, ◌+◌, ◌==◌, ◌<◌, ◌≤◌, Bool, List, ◌∷◌, length, get_or, set, get_or-set_same, get_or-set_other, refl, ap, ◌∙◌, subst, arith, if◌then◌else◌, length-append, Me, LiveEvent, Log, Begins, line_of, begins_trans, line_grows, Loaded, Sizes, View, cell_at, finished_at, queued_at, Went, looked_view}
 use Rattle.live_status.specs.Status.{AreInUse, AreWaiting, HasFound, HasNone, Looks}
 
 -- one more load

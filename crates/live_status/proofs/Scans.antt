@@ -1,19 +1,5 @@
 -- What the loads of slots' words tell, one after another.
-use Rattle.std.proofs.Common.{◌≡◌, ◌≢◌, ◌⊎◌, ℕ, suc, ◌+◌, ◌%◌, ◌==◌, Bool, true, false, List, [], ◌∷◌, ◌++◌, sym, refl, ap, ◌∙◌, subst, inl, inr, ⊎_elim, arith, eq-eqb, true≢false}
-use Rattle.std.specs.Prelude.{if◌then◌else◌, not, ◌&&◌}
-use mathlib.Core.Option.{Option, none, some, some-ne-none}
-use Rattle.rcu_model.specs.Sets.{In}
-use Rattle.reader_word.specs.declared.layout.Layout.TheVariants.{Wide}
-use Rattle.reader_word.specs.Word.{count_of, differ, phase_in}
-use Rattle.reader_word.specs.Quiescent.{announced}
-use Rattle.gp_memb.specs.Plan.{stands_before}
-use Rattle.live_log.specs.declared.event.LiveEvent.{LiveEvent}
-use Rattle.live_log.specs.Log.{Log, Begins, IsLiveRun, open_of, present_of, seq_of}
-use Rattle.live_log.proofs.Lemmas.{begins_trans}
-use Rattle.live_words.specs.live_rule.declared.view.Look.TheVariants.{Loaded}
-use Rattle.live_words.specs.live_rule.declared.view.Sizes.{Sizes}
-use Rattle.live_words.specs.live_rule.Places.{slot_at}
-use Rattle.live_words.specs.live_rule.Readers.{Fits}
+use Rattle.live_status.proofs.Cited.{◌≡◌, ◌≢◌, ◌⊎◌, ℕ, suc, ◌+◌, ◌%◌, ◌==◌, Bool, true, false, List, [], ◌∷◌, ◌++◌, sym, refl, ap, ◌∙◌, subst, inl, inr, ⊎_elim, arith, eq-eqb, true≢false, if◌then◌else◌, not, ◌&&◌, Option, none, some, some-ne-none, In, Wide, count_of, differ, phase_in, announced, stands_before, LiveEvent, Log, Begins, IsLiveRun, open_of, present_of, seq_of, begins_trans, Loaded, Sizes, slot_at, Fits}
 use Rattle.live_status.specs.Status.{AreInWay, HadOpen, Looks, Stalls}
 
 -- with the slot of one more word
@@ -55,7 +41,7 @@ open_more qsbr present r word first old new slots after b fits stands had q i = 
     (λ (e : r ≡ q). (new, after, ([], refl), subst (λ (n : ℕ). open_of n new ≢ none) e (stands_open qsbr present word (open_of r new) fits stands)))
     (in_both slots r q i)
 
--- a scan of so many slots, before all of them
+-- a scan of this many slots, before all of them
 pub record Scanning (qsbr : Bool) (allows : Log → LiveEvent → Type 0) (seen heard : Log) (old_loads new_loads : List Log) (old new : Looks) (present slot : ℕ) (slots : List ℕ) (log : Log) : Type 0 where
   pub start : Log
   pub scanned : Log

@@ -22,13 +22,13 @@ Looks = List Look
 abbrev pub HasFound : {S : Type 0} → Looks → Me S View → Me S View → Type 0
 HasFound found m m' = (m'.1 ≡ m.1) × (m'.0 ≡ record m.0 { seen = m'.0.seen; looks = found ++ m.0.looks }) × Begins m.0.seen m'.0.seen
 
--- the headers of so many records were loaded, each once and that of record 0 first; so many of them were in use
+-- the headers of this many records were loaded, each once and that of record 0 first; this many of them were in use
 abbrev pub AreInUse : Sizes → ℕ → ℕ → Looks → Type 0
 AreInUse key zero count found = (count ≡ 0) × (found ≡ [])
 AreInUse key (suc i) count found = (header before : ℕ) × (rest : Looks) × (found ≡ Loaded (cell_at key i 0) header ∷ rest) × (count ≡ (if header == 0 then before else before + 1)) × AreInUse key i before rest
 
--- the counts of so many queues were loaded, those of queue 0 first, and of each the finished one before the queued one;
--- what waits in a queue is what they differ by
+-- the counts of this many queues were loaded, those of queue 0 first, and of each the finished one before the queued
+-- one; what waits in a queue is what they differ by
 abbrev pub AreWaiting : Sizes → ℕ → List ℕ → Looks → Type 0
 AreWaiting key zero waiting found = found ≡ []
 AreWaiting key (suc q) waiting found = (queued finished : ℕ) × (rest : Looks) × (found ≡ Loaded (queued_at key q) queued ∷ Loaded (finished_at key q) finished ∷ rest) × (slice_index waiting q + finished ≡ queued) × AreWaiting key q waiting rest
@@ -46,8 +46,8 @@ pub record Counted (key : Sizes) (found : Looks) (counts : Counts) : Type 0 wher
   pub waiting : AreWaiting key key.queues counts.waiting of_queues
   pub others : HasNone key.queues counts.waiting
 
--- the words of so many slots were loaded, each once and that of slot 0 first; a grace period with this phase or number
--- waits for the readers of these, in their order
+-- the words of this many slots were loaded, each once and that of slot 0 first; a grace period with this phase or
+-- number waits for the readers of these, in their order
 abbrev pub AreInWay : Bool → ℕ → ℕ → List ℕ → Looks → Type 0
 AreInWay qsbr present zero slots found = (slots ≡ []) × (found ≡ [])
 AreInWay qsbr present (suc r) slots found = (word : ℕ) × (before : List ℕ) × (rest : Looks) × (found ≡ Loaded (slot_at r) word ∷ rest) × (slots ≡ (if stands_before qsbr Wide present word then before ++ r ∷ [] else before)) × AreInWay qsbr present r before rest

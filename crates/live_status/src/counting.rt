@@ -51,8 +51,7 @@ fn records<P: GracePlan, K: ChainRule>(table: &LiveTable<P, K>, seat: &mut LiveS
     records
 }
 
-/// How full a domain is. It loads each record's header, so it takes as long as the pool is large; it never waits and
-/// takes no memory.
+/// How full a domain is. It loads each record's header, so it takes as long as the pool is large.
 pub fn count_all<P: GracePlan, K: ChainRule>(table: &LiveTable<P, K>, seat: &mut LiveSeat) -> Counts
     requires { (seat.old.table_id ≡ table.now.words.shared.table_id) × (seat.old.me.0.sizes ≡ table.now.words.shared.key) }
     ensures seat { Keeps seat.old seat.new × (seat.new.me.1 ≡ seat.old.me.1) }

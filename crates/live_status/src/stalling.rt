@@ -26,7 +26,7 @@ fn is_in_way<P: GracePlan>(word: u64, present: u64) -> bool
 /// The slots whose readers the grace period that runs waits for, in ascending order, each by its word at a moment of
 /// the call; none where no grace period runs at the load of the sequence number.
 ///
-/// Refused with `Memory` where the list's memory is refused, and then nothing is loaded. It never waits.
+/// Refused with `Memory` where the list's memory is refused, and then nothing is loaded.
 pub fn stalled<P: GracePlan, K: ChainRule>(
     alloc: Global,
     table: &LiveTable<P, K>,

@@ -1,20 +1,6 @@
 -- What the writer of a chain knows of it at a step.
-use Rattle.std.proofs.Common.{◌≡◌, ℕ, ◌<◌, List, [], ◌∷◌, Bool, sym, refl, ap, ◌∙◌, subst, inl, inr}
+use Rattle.live_table.proofs.Cited.{◌≡◌, ℕ, ◌<◌, List, [], ◌∷◌, Bool, sym, refl, ap, ◌∙◌, subst, inl, inr, get_elem?, State, ObjectId, In, first_of, LiveEvent, Log, state_of, record_of, IsLiveRun, objects_of, head, kept_log, Sizes, View, ChainRight, ref, IsAlive, chain, ClaimsChain, KnowsOwned, KnowsChain, KeepsRule, lent_chains}
 use mathlib.Core.Option as lists
-use lib.ListN.{get_elem?}
-use Rattle.atomic_table.specs.Table.{State}
-use Rattle.live_rule.specs.rcu_model.declared.event.ObjectId.{ObjectId}
-use Rattle.live_rule.specs.rcu_model.Sets.{In, first_of}
-use Rattle.live_rule.specs.live_log.declared.event.LiveEvent.{LiveEvent}
-use Rattle.live_rule.specs.live_log.Log.{Log, state_of, record_of, IsLiveRun, objects_of, head}
-use Rattle.live_rule.proofs.live_log.Lemmas.{kept_log}
-use Rattle.live_rule.specs.declared.view.Sizes.{Sizes}
-use Rattle.live_rule.specs.declared.view.View.{View}
-use Rattle.live_rule.specs.declared.rights.ChainRight.{ChainRight}
-use Rattle.live_rule.specs.Objects.{ref, IsAlive}
-use Rattle.live_rule.specs.Rights.{chain, ClaimsChain, KnowsOwned, KnowsChain}
-use Rattle.live_rule.specs.Rule.{KeepsRule}
-use Rattle.live_rule.specs.Seats.{lent_chains}
 use Rattle.live_table.specs.Rights.{own_in, IsWriter, AreAsKnown, KnowsChains}
 
 -- a linked object is alive

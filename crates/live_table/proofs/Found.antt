@@ -1,8 +1,5 @@
 -- What was found earlier, or later, was found.
-use Rattle.std.proofs.Common.{◌≡◌, ℕ, List, [], ◌∷◌, ◌++◌, ◌∙◌, refl, ap, inr}
-use Rattle.live_rule.proofs.rcu_model.Lemmas.{in_left}
-use Rattle.live_rule.specs.declared.view.Look.{Look}
-use Rattle.live_rule.specs.declared.view.Look.TheVariants.{Loaded, Stored}
+use Rattle.live_table.proofs.Cited.{◌≡◌, ℕ, List, [], ◌∷◌, ◌++◌, ◌∙◌, refl, ap, inr, in_left, Look, Loaded, Stored}
 use Rattle.live_table.specs.Steps.{FoundIn, stores_in}
 
 pub found_left : (found more : List Look) (place : ℕ) (so : ℕ → Type 0) → FoundIn found place so → FoundIn (found ++ more) place so

@@ -1,3 +1,4 @@
+mod Cited
 pub mod Chains
 pub mod Found
 pub mod Lemmas

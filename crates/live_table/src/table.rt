@@ -39,8 +39,8 @@ impl<P: GracePlan, K: ChainRule> LiveTable<P, K> {
     ghost use Rattle.live_rule.specs.Seats.{IsSpareQueue, but_chains, but_first_queue, but_grace, but_lent, but_object, chains_alone, changed_view, first_queue, grace_alone, heard_changes_view, heard_view, lent_alone, merged, object_alone, taken_view, told_view};
     ghost use Rattle.live_table.specs.Steps.{Cut, Joined};
 
-    /// A table of these sizes whose words are all 0, and its first seat, which has every right that no hold word
-    /// guards. It is refused where memory is.
+    /// A table of these sizes whose words are all 0, and its root seat, which has all rights but those to chains and to
+    /// queues' work: these are taken by their hold words. It is refused where memory is.
     pub fn new(
         alloc: Global,
         slots: usize,
@@ -74,7 +74,7 @@ impl<P: GracePlan, K: ChainRule> LiveTable<P, K> {
         ))
     }
 
-    /// A seat that has seen the log of now, and has no right. It never waits.
+    /// A seat that has seen the log of now, and has no right.
     pub fn new_seat(&self) -> LiveSeat
         ensures seat { (result.table_id ≡ self.now.words.shared.table_id) × (result.me ≡ (bare self.now.words.shared.key result.me.0.seen [], [])) }
         ensures run { IsLiveRun P.QSBR K.allows result.me.0.seen }

@@ -1,18 +1,6 @@
 -- Options, added one after the other.
-use Rattle.std.proofs.Common.{◌≡◌, ℕ, List, Option, Some, Bool, true, false, ◌||◌, refl, ap, ap₂, ◌∙◌}
-use Rattle.std.specs.Borrow.{Bor}
-use Rattle.std.specs.Prelude.{Result, Ok, Err, IfOk, IfErr}
-use Rattle.std.proofs.Common.{inl}
-use Rattle.clap.specs.declared.error.Error.{Error}
-use Rattle.clap.specs.declared.parser.matches.ArgMatches.{ArgMatches}
-use Rattle.clap.specs.Words.{FailsBy, Text, fault_of, App, Rule, AddsArg, HasMatchesOf, app_of, is_simple, new_rule, rule_of, subcommand_rows_of, with_rule}
-use Rattle.clap.specs.declared.builder.arg.Arg.{Arg}
-use Rattle.clap.specs.declared.builder.command.Command.{Command}
+use Rattle.torture.proofs.Cited.{◌≡◌, ℕ, List, Option, Some, Bool, true, false, ◌||◌, refl, ap, ap₂, ◌∙◌, Bor, Result, Ok, Err, IfOk, IfErr, inl, Error, ArgMatches, FailsBy, Text, fault_of, App, Rule, AddsArg, HasMatchesOf, app_of, is_simple, new_rule, rule_of, subcommand_rows_of, with_rule, Arg, Command, One, ValueParser, Names, app_of_fields}
 use Rattle.clap.specs.declared.builder.command.Command.TheViews.{out-Command as fields_of}
-use Rattle.clap.specs.declared.builder.texts.Texts.TheVariants.{One}
-use Rattle.clap.specs.declared.builder.value_parser.ValueParser.{ValueParser}
-use Rattle.clap.specs.declared.builder.value_parser.ValueParser.TheVariants.{Names}
-use Rattle.clap.specs.Simple.{app_of_fields}
 use Rattle.torture.specs.Words.{or_else, IsTorture, IsTaken, IsRefused}
 
 -- a command that is so to `clap`, and has no more global options than the other

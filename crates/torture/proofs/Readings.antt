@@ -1,23 +1,9 @@
 -- What the getters of `clap` read of an option.
-use Rattle.std.proofs.Common.{◌≡◌, ℕ, Bool, true, false, Option, Some, None, refl, sym, ap, ◌∙◌, ◌^◌, ◌-◌, ◌<◌, ◌≤◌, arith, codes}
-use Rattle.std.specs.Prelude.{Result, Ok, Err, option_and_then, option_map, unwrap_or}
-use Rattle.std.specs.Str.{bytes_eq}
-use Rattle.std.specs.Option.{option_map_or}
-use Rattle.std.specs.Borrow.{Bor}
-use Rattle.std.specs.Str.Parse.{ParsesUnsigned, digits_value, without_leading_plus}
-use Rattle.std.specs.Result.{result_ok}
-use Rattle.std.specs.Str.Parse.{ParsesBool}
-use Rattle.std.proofs.lemmas.Slice.Eq.{bytes_eq-Decides}
-use Rattle.clap.specs.Matches.{ReadsOne, one_text}
-use Rattle.clap.specs.declared.parser.matches.Found.{Found}
-use Rattle.clap.specs.ValueTests.{is_unsigned_in}
-use Rattle.clap.specs.Words.{Text, first_of, first_value, one_of, rows_of}
-use Rattle.clap.proofs.WalkLemmas.{first_value-rows, one_text-rows}
-use Rattle.clap.proofs.ValueTestLemmas.{Accepts-accepts, accepts-Accepts}
+use Rattle.torture.proofs.Cited.{◌≡◌, ℕ, Bool, true, false, Option, Some, None, refl, sym, ap, ◌∙◌, ◌^◌, ◌-◌, ◌<◌, ◌≤◌, arith, codes, Result, Ok, Err, option_and_then, option_map, unwrap_or, bytes_eq, option_map_or, Bor, ParsesUnsigned, digits_value, without_leading_plus, result_ok, ParsesBool, bytes_eq-Decides, ReadsOne, one_text, Found, is_unsigned_in, Text, first_of, first_value, one_of, rows_of, first_value-rows, one_text-rows, Accepts-accepts, accepts-Accepts}
 use Rattle.clap.specs.declared.builder.value_parser.ValueParser.TheVariants as vp
 use Rattle.torture.specs.Said.{flag_of, number_in, number_of}
 
--- the numbers of so many bits, which are no more than 64
+-- the numbers of this many bits, which are no more than 64
 pub record Bits (bits : ℕ) : Type 0 where
   pub up : (n : ℕ) → n < 2 ^ bits → n ≤ 2 ^ bits - 1
   pub down : (n : ℕ) → n ≤ 2 ^ bits - 1 → n < 2 ^ bits
@@ -55,7 +41,7 @@ option_read : {T E : Type 0} (Gives : Text → Result T E → Type 0) (read : Te
     → result ≡ option_and_then read (one_of id (rows_of f))
 option_read Gives read each f id result none value = read_by Gives read each (one_text f id) result none value ∙ ap (option_and_then read) (one_text-rows f id)
 
--- a number of so many bits
+-- a number of this many bits
 pub number_read : {E : Type 0} (Gives : Text → Result ℕ E → Type 0) (bits : ℕ) → Bits bits → ((text : Text) (r : Result ℕ E) → Gives text r → ParsesUnsigned bits 10 text r)
     → (f : Found) (id : Text) (result : Option ℕ) → (one_text f id ≡ None → result ≡ None) → ((text : Text) → one_text f id ≡ Some text → ReadsOne Gives text result) → result ≡ number_of bits (rows_of f) id
 number_read Gives bits b parses = option_read Gives (number_in bits) (λ text r gives. parsed_number bits b text r (parses text r gives))

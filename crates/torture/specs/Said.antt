@@ -20,7 +20,7 @@ use Rattle.torture_run.specs.declared.asked.Asked.{Asked}
 use Rattle.torture_run.specs.declared.asked.Asked.TheVariants as asked
 use Rattle.torture_run.specs.declared.asked.Run.{Run}
 
--- the number that the text writes, where it is one of so many bits
+-- the number that the text writes, where it is one of this many bits
 abbrev pub number_in : ℕ → Text → Option ℕ
 number_in bits text = if is_unsigned_in 0 (2 ^ bits - 1) text then Some (digits_value 10 (without_leading_plus text)) else None
 

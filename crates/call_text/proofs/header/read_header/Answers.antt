@@ -1,8 +1,6 @@
-use Rattle.std.proofs.Common.{length, ap, sym, Ok}
-use Rattle.std.proofs.lemmas.Bool.{eqb-true, eqb-false}
+use Rattle.call_text.proofs.Cited.{length, ap, sym, Ok, eqb-true, eqb-false, bad_within, rest_within, bad_column, long_column, found_whole, only_whole, no_whole}
 use Rattle.call_text.specs.Grammar.{header_at}
 use Rattle.call_text.specs.Header.{HeaderText}
-use Rattle.schedule_text.proofs.Lemmas.{bad_within, rest_within, bad_column, long_column, found_whole, only_whole, no_whole}
 use Rattle.call_text.proofs.Headers.{header_reads}
 use Rattle.call_text.proofs.header.read_header.Goals as goal
 

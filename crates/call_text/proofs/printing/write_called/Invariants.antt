@@ -1,6 +1,4 @@
-use Rattle.std.proofs.Common.{◌≡◌, ◌++◌, take}
-use Rattle.std.specs.List.{flat_map}
-use Rattle.std.specs.String.{string_bytes}
+use Rattle.call_text.proofs.Cited.{◌≡◌, ◌++◌, take, flat_map, string_bytes}
 use Rattle.call_text.specs.Answers.{called_text}
 use Rattle.call_text.proofs.printing.write_called.Given as goal
 

@@ -1,6 +1,4 @@
-use Rattle.std.proofs.Common.{◌≡◌, ◌++◌, take}
-use Rattle.std.specs.List.{flat_map}
-use Rattle.std.specs.String.{string_bytes}
+use Rattle.call_text.proofs.Cited.{◌≡◌, ◌++◌, take, flat_map, string_bytes}
 use Rattle.call_text.specs.Answers.{spaced}
 use Rattle.call_text.proofs.printing.write_numbers.Given as goal
 

@@ -1,8 +1,6 @@
-use Rattle.std.proofs.Common.{length, ap, sym, Ok}
-use Rattle.std.proofs.lemmas.Bool.{eqb-true, eqb-false}
+use Rattle.call_text.proofs.Cited.{length, ap, sym, Ok, eqb-true, eqb-false, bad_within, rest_within, bad_column, long_column, found_whole, only_whole, no_whole}
 use Rattle.call_text.specs.Grammar.{call_at}
 use Rattle.call_text.specs.Spelling.{CallText}
-use Rattle.schedule_text.proofs.Lemmas.{bad_within, rest_within, bad_column, long_column, found_whole, only_whole, no_whole}
 use Rattle.call_text.proofs.Calls.{call_reads}
 use Rattle.call_text.proofs.reading.read_call.Goals as goal
 

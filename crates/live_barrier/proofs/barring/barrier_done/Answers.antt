@@ -1,8 +1,4 @@
-use Rattle.std.proofs.Common.{◌<◌, ◌∷◌, sym, refl, ap, ◌∙◌, subst, arith}
-use Rattle.live_words.specs.live_rule.declared.view.Look.TheVariants.{Loaded}
-use Rattle.live_words.specs.live_rule.declared.view.Sizes.{Sizes}
-use Rattle.live_words.specs.live_rule.declared.view.View.{View}
-use Rattle.live_words.specs.live_rule.Places.{finished_at}
+use Rattle.live_barrier.proofs.Cited.{◌<◌, ◌∷◌, sym, refl, ap, ◌∙◌, subst, arith, Loaded, Sizes, View, finished_at}
 use Rattle.live_barrier.proofs.Barriers.{next_found, reached_more, runs_more, passes_more, all_passed, known_before}
 use Rattle.live_barrier.proofs.barring.barrier_done.Goals as goal
 

@@ -1,8 +1,4 @@
-use Rattle.std.proofs.Common.{◌≡◌, ◌<◌, ℕ, List, get_or}
-use Rattle.live_log.specs.Log.{Begins}
-use Rattle.live_words.specs.live_rule.declared.view.Look.{Look}
-use Rattle.live_words.specs.live_table.Steps.{IsKnown, Keeps}
-use Rattle.live_words.specs.live_queues.Queues.{HasNoOther}
+use Rattle.live_barrier.proofs.Cited.{◌≡◌, ◌<◌, ℕ, List, get_or, Begins, Look, IsKnown, Keeps, HasNoOther}
 use Rattle.live_barrier.specs.Barrier.{AreReached, Found, HasRunTo}
 use Rattle.live_barrier.proofs.Barriers.{IsPassed}
 use Rattle.live_barrier.proofs.barring.barrier_done.Given as goal

@@ -1,12 +1,4 @@
-use Rattle.std.proofs.Common.{◌≡◌, ℕ, List, [], ◌∷◌, length-set, sym, refl, ap, ◌∙◌, subst, arith}
-use Rattle.live_log.specs.Log.{Begins}
-use Rattle.live_log.proofs.Lemmas.{begins_trans}
-use Rattle.atomic_table.specs.declared.shared.Seat.{Seat}
-use Rattle.live_words.specs.live_rule.declared.view.Look.TheVariants.{Loaded}
-use Rattle.live_words.specs.live_rule.declared.view.Sizes.{Sizes}
-use Rattle.live_words.specs.live_rule.declared.view.View.{View}
-use Rattle.live_words.specs.live_rule.Places.{queued_at}
-use Rattle.live_words.specs.live_rule.Steps.{Precedes}
+use Rattle.live_barrier.proofs.Cited.{◌≡◌, ℕ, List, [], ◌∷◌, length-set, sym, refl, ap, ◌∙◌, subst, arith, Begins, begins_trans, Seat, Loaded, Sizes, View, queued_at, Precedes}
 use Rattle.live_barrier.specs.Barrier.{AreNoted}
 use Rattle.live_barrier.proofs.Barriers.{found_more, covers_more, given_more, noted_more}
 use Rattle.live_barrier.proofs.barring.barrier_start.Goals as goal

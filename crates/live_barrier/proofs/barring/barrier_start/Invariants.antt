@@ -1,8 +1,4 @@
-use Rattle.std.proofs.Common.{◌≡◌, ◌<◌, ◌≤◌, length, ℕ, List, get_or}
-use Rattle.live_log.specs.Log.{Begins, line_of}
-use Rattle.live_words.specs.live_rule.declared.view.Look.{Look}
-use Rattle.live_words.specs.live_rule.Steps.{Precedes}
-use Rattle.live_words.specs.live_table.Steps.{Keeps}
+use Rattle.live_barrier.proofs.Cited.{◌≡◌, ◌<◌, ◌≤◌, length, ℕ, List, get_or, Begins, line_of, Look, Precedes, Keeps}
 use Rattle.live_barrier.specs.Barrier.{AreNoted, Found}
 use Rattle.live_barrier.proofs.barring.barrier_start.Given as goal
 

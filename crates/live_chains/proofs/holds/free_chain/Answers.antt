@@ -1,5 +1,4 @@
-use Rattle.std.proofs.Common.{ap, sym, ◌∙◌}
-use Rattle.live_table.specs.live_rule.Places.{hold_at}
+use Rattle.live_chains.proofs.Cited.{ap, sym, ◌∙◌, hold_at}
 use Rattle.live_chains.proofs.Holding.{frees}
 use Rattle.live_chains.proofs.holds.free_chain.Goals as goal
 

@@ -1,6 +1,4 @@
-use Rattle.std.proofs.Common.{ap, sym, ◌∙◌, arith}
-use Rattle.live_table.specs.live_rule.declared.view.Sizes.{Sizes}
-use Rattle.live_table.specs.live_rule.Places.{hold_at}
+use Rattle.live_chains.proofs.Cited.{ap, sym, ◌∙◌, arith, Sizes, hold_at}
 use Rattle.live_chains.proofs.Holding.{holds}
 use Rattle.live_chains.proofs.holds.hold_chain.Goals as goal
 

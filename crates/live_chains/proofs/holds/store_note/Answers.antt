@@ -1,5 +1,4 @@
-use Rattle.std.proofs.Common.{ap, sym, ◌∙◌}
-use Rattle.live_table.specs.live_rule.Places.{note_at}
+use Rattle.live_chains.proofs.Cited.{ap, sym, ◌∙◌, note_at}
 use Rattle.live_chains.proofs.Holding.{notes}
 use Rattle.live_chains.proofs.holds.store_note.Goals as goal
 

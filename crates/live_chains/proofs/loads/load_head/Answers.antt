@@ -1,11 +1,4 @@
-use Rattle.std.proofs.Common.{ℕ, List, ap, sym, subst, ◌∙◌, arith}
-use Rattle.live_table.specs.rcu_model.declared.event.ObjectId.{ObjectId}
-use Rattle.live_table.specs.rcu_model.Sets.{first_of}
-use Rattle.live_table.specs.live_log.Log.{objects_of}
-use Rattle.live_table.specs.live_rule.declared.view.Sizes.{Sizes}
-use Rattle.live_table.specs.live_rule.Places.{head_at}
-use Rattle.live_table.specs.live_rule.Objects.{ref}
-use Rattle.live_table.specs.Rights.{IsListed}
+use Rattle.live_chains.proofs.Cited.{ℕ, List, ap, sym, subst, ◌∙◌, arith, ObjectId, first_of, objects_of, Sizes, head_at, ref, IsListed}
 use Rattle.live_chains.proofs.Reading.{looks_head}
 use Rattle.live_chains.proofs.loads.load_head.Goals as goal
 

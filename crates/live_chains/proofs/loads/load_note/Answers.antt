@@ -1,6 +1,4 @@
-use Rattle.std.proofs.Common.{ap, sym, ◌∙◌, arith}
-use Rattle.live_table.specs.live_rule.declared.view.Sizes.{Sizes}
-use Rattle.live_table.specs.live_rule.Places.{note_at}
+use Rattle.live_chains.proofs.Cited.{ap, sym, ◌∙◌, arith, Sizes, note_at}
 use Rattle.live_chains.proofs.Reading.{looks_note}
 use Rattle.live_chains.proofs.loads.load_note.Goals as goal
 

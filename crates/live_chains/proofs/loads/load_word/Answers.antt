@@ -1,6 +1,4 @@
-use Rattle.std.proofs.Common.{ap, sym, ◌∙◌, ◌+◌}
-use Rattle.live_table.specs.live_rule.declared.view.Sizes.{Sizes}
-use Rattle.live_table.specs.live_rule.Places.{cell_at}
+use Rattle.live_chains.proofs.Cited.{ap, sym, ◌∙◌, ◌+◌, Sizes, cell_at}
 use Rattle.live_chains.proofs.Reading.{looks_word}
 use Rattle.live_chains.proofs.loads.load_word.Goals as goal
 

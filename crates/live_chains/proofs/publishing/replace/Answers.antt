@@ -1,5 +1,4 @@
-use Rattle.std.proofs.Common.{◌+◌, refl}
-use Rattle.live_records.specs.Records.{linked_view}
+use Rattle.live_chains.proofs.Cited.{◌+◌, refl, linked_view}
 use Rattle.live_chains.proofs.After.{there_after, link_after, may_replace, replaced_after}
 use Rattle.live_chains.proofs.publishing.replace.Goals as goal
 

@@ -1,5 +1,4 @@
-use Rattle.std.proofs.Common.{ap, sym, ◌∙◌, arith}
-use Rattle.live_table.specs.live_rule.Places.{head_at}
+use Rattle.live_chains.proofs.Cited.{ap, sym, ◌∙◌, arith, head_at}
 use Rattle.live_chains.proofs.Splices.{pushes}
 use Rattle.live_chains.proofs.steps.store_push.Goals as goal
 

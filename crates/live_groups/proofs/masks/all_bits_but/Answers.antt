@@ -1,5 +1,4 @@
-use Rattle.std.proofs.Common.{ℕ, ◌==◌, w64, ap}
-use Rattle.std.proofs.lemmas.Nat.Bits.{bit_at_clear_same, bit_at_clear_other}
+use Rattle.live_groups.proofs.Cited.{ℕ, ◌==◌, w64, ap, bit_at_clear_same, bit_at_clear_other}
 use Rattle.live_groups.proofs.masks.all_bits_but.Goals as goal
 
 pub returns : goal.returns

@@ -1,5 +1,4 @@
-use Rattle.std.proofs.Common.{ℕ, ◌==◌, w64, ap}
-use Rattle.std.proofs.lemmas.Nat.Bits.{bit_at_set_same, bit_at_set_other}
+use Rattle.live_groups.proofs.Cited.{ℕ, ◌==◌, w64, ap, bit_at_set_same, bit_at_set_other}
 use Rattle.live_groups.proofs.masks.bit_alone.Goals as goal
 
 pub returns : goal.returns

@@ -1,7 +1,4 @@
-use Rattle.std.proofs.Common.{ℕ, ◌∷◌, subst}
-use Rattle.std.proofs.Common.{[]}
-use Rattle.live_table.specs.live_rule.declared.rights.GraceRight.TheVariants.{Works}
-use Rattle.live_table.specs.Rights.{looks_in, before_in, seq_in, present_in}
+use Rattle.live_periods.proofs.Cited.{ℕ, ◌∷◌, subst, [], Works, looks_in, before_in, seq_in, present_in}
 use Rattle.live_periods.specs.Periods.{GraceBecomes}
 use Rattle.live_periods.proofs.Periods.{looks_word}
 use Rattle.live_periods.proofs.steps.load_slot.Goals as goal

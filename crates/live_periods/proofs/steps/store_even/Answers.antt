@@ -1,5 +1,4 @@
-use Rattle.std.proofs.Common.{ℕ, subst}
-use Rattle.live_table.specs.Rights.{looks_in, before_in}
+use Rattle.live_periods.proofs.Cited.{ℕ, subst, looks_in, before_in}
 use Rattle.live_periods.specs.Periods.{TellsAllEnded}
 use Rattle.live_periods.proofs.Periods.{ends_period}
 use Rattle.live_periods.proofs.steps.store_even.Goals as goal

@@ -1,6 +1,4 @@
-use Rattle.std.proofs.Common.{ap, sym, ◌∙◌, arith}
-use Rattle.live_table.specs.live_rule.declared.view.Sizes.{Sizes}
-use Rattle.live_table.specs.live_rule.Places.{finished_at}
+use Rattle.live_queues.proofs.Cited.{ap, sym, ◌∙◌, arith, Sizes, finished_at}
 use Rattle.live_queues.proofs.Lines.{looks_queue}
 use Rattle.live_queues.proofs.loads.load_finished.Goals as goal
 

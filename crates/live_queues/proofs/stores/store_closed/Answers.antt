@@ -1,5 +1,4 @@
-use Rattle.std.proofs.Common.{ap, sym, ◌∙◌}
-use Rattle.live_table.specs.live_rule.Places.{closed_at}
+use Rattle.live_queues.proofs.Cited.{ap, sym, ◌∙◌, closed_at}
 use Rattle.live_queues.proofs.Queueing.{shuts}
 use Rattle.live_queues.proofs.stores.store_closed.Goals as goal
 

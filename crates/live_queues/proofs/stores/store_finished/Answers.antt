@@ -1,5 +1,4 @@
-use Rattle.std.proofs.Common.{ap, sym, ◌∙◌}
-use Rattle.live_table.specs.live_rule.Places.{finished_at}
+use Rattle.live_queues.proofs.Cited.{ap, sym, ◌∙◌, finished_at}
 use Rattle.live_queues.proofs.Working.{finishes}
 use Rattle.live_queues.proofs.stores.store_finished.Goals as goal
 

@@ -1,6 +1,4 @@
-use Rattle.std.proofs.Common.{ap, sym, ◌∙◌, arith}
-use mathlib.Core.Option.{some}
-use Rattle.live_table.specs.live_rule.Places.{queued_at}
+use Rattle.live_queues.proofs.Cited.{ap, sym, ◌∙◌, arith, some, queued_at}
 use Rattle.live_queues.proofs.Queueing.{queues}
 use Rattle.live_queues.proofs.stores.store_queued.Goals as goal
 

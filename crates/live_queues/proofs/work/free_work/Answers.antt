@@ -1,5 +1,4 @@
-use Rattle.std.proofs.Common.{ap, sym, ◌∙◌, arith}
-use Rattle.live_table.specs.live_rule.Places.{work_at}
+use Rattle.live_queues.proofs.Cited.{ap, sym, ◌∙◌, arith, work_at}
 use Rattle.live_queues.proofs.Working.{leaves}
 use Rattle.live_queues.proofs.work.free_work.Goals as goal
 

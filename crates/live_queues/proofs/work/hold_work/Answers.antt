@@ -1,6 +1,4 @@
-use Rattle.std.proofs.Common.{ap, sym, ◌∙◌, arith}
-use Rattle.live_table.specs.live_rule.declared.view.Sizes.{Sizes}
-use Rattle.live_table.specs.live_rule.Places.{work_at}
+use Rattle.live_queues.proofs.Cited.{ap, sym, ◌∙◌, arith, Sizes, work_at}
 use Rattle.live_queues.proofs.Working.{employs}
 use Rattle.live_queues.proofs.work.hold_work.Goals as goal
 

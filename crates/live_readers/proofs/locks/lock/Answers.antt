@@ -1,8 +1,4 @@
-use Rattle.std.proofs.Common.{rules, ◌≡◌, ◌==◌, Ok, ◌∙◌, subst}
-use Rattle.reader_word.specs.declared.layout.Layout.TheVariants.{Wide}
-use Rattle.reader_word.specs.Word.{entered_of}
-use Rattle.live_table.specs.live_log.Log.{seq_of, IsBound}
-use Rattle.live_table.proofs.live_log.Lemmas.{bounded}
+use Rattle.live_readers.proofs.Cited.{rules, ◌≡◌, ◌==◌, Ok, ◌∙◌, subst, Wide, entered_of, seq_of, IsBound, bounded}
 use Rattle.live_readers.specs.Sections.{opens}
 use Rattle.live_readers.proofs.Words.{opened_after, copied_before, phase_copied}
 use Rattle.live_readers.proofs.locks.lock.Goals as goal

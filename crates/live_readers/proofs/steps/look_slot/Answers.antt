@@ -1,5 +1,4 @@
-use Rattle.std.proofs.Common.{ap, sym, arith}
-use Rattle.live_table.specs.live_rule.declared.view.Sizes.{Sizes}
+use Rattle.live_readers.proofs.Cited.{ap, sym, arith, Sizes}
 use Rattle.live_readers.proofs.Slots.{looks_slot}
 use Rattle.live_readers.proofs.steps.look_slot.Goals as goal
 

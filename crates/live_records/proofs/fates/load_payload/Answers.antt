@@ -1,7 +1,4 @@
-use Rattle.std.proofs.Common.{ℕ, ◌+◌, ◌∙◌, ap, sym}
-use Rattle.live_table.specs.live_rule.declared.view.Sizes.{Sizes}
-use Rattle.live_table.specs.live_rule.Places.{cell_at}
-use Rattle.live_table.specs.Rights.{cell_in}
+use Rattle.live_records.proofs.Cited.{ℕ, ◌+◌, ◌∙◌, ap, sym, Sizes, cell_at, cell_in}
 use Rattle.live_records.proofs.Ends.{looks_payload}
 use Rattle.live_records.proofs.fates.load_payload.Goals as goal
 

@@ -1,5 +1,4 @@
-use Rattle.std.proofs.Common.{ℕ, ◌+◌, ◌*◌, ◌∙◌, ap, sym}
-use Rattle.live_table.specs.live_rule.Places.{cell_at}
+use Rattle.live_records.proofs.Cited.{ℕ, ◌+◌, ◌*◌, ◌∙◌, ap, sym, cell_at}
 use Rattle.live_records.proofs.Ends.{retires}
 use Rattle.live_records.proofs.fates.store_retire.Goals as goal
 

@@ -1,5 +1,4 @@
-use Rattle.std.proofs.Common.{ℕ, ◌∙◌, ap, sym}
-use Rattle.live_table.specs.live_rule.Places.{cell_at}
+use Rattle.live_records.proofs.Cited.{ℕ, ◌∙◌, ap, sym, cell_at}
 use Rattle.live_records.proofs.Records.{stores_link}
 use Rattle.live_records.proofs.steps.store_link.Goals as goal
 

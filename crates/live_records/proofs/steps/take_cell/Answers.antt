@@ -1,6 +1,4 @@
-use Rattle.std.proofs.Common.{◌∙◌, ap, sym, arith}
-use Rattle.live_table.specs.live_rule.declared.view.Sizes.{Sizes}
-use Rattle.live_table.specs.live_rule.Places.{cell_at}
+use Rattle.live_records.proofs.Cited.{◌∙◌, ap, sym, arith, Sizes, cell_at}
 use Rattle.live_records.proofs.Records.{takes}
 use Rattle.live_records.proofs.steps.take_cell.Goals as goal
 

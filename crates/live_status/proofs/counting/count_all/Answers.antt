@@ -1,8 +1,4 @@
-use Rattle.std.proofs.Common.{◌++◌, ℕ, append_assoc, sym, refl, ap, ◌∙◌, subst}
-use Rattle.live_log.specs.Log.{Log, Begins}
-use Rattle.live_log.proofs.Lemmas.{begins_trans}
-use Rattle.live_words.specs.live_rule.declared.view.Sizes.{Sizes}
-use Rattle.live_words.specs.live_rule.declared.view.View.{View}
+use Rattle.live_status.proofs.Cited.{◌++◌, ℕ, append_assoc, sym, refl, ap, ◌∙◌, subst, Log, Begins, begins_trans, Sizes, View}
 use Rattle.live_status.specs.Status.{AreInUse, AreWaiting, HasNone, Looks}
 use Rattle.live_status.proofs.counting.count_all.Goals as goal
 

@@ -1,7 +1,4 @@
-use Rattle.std.proofs.Common.{◌+◌, ◌∷◌, ◌∙◌, sym, ap, arith, eq-eqb, ne_eqb, cond}
-use Rattle.live_words.specs.live_rule.declared.view.Look.TheVariants.{Loaded}
-use Rattle.live_words.specs.live_rule.declared.view.Sizes.{Sizes}
-use Rattle.live_words.specs.live_rule.Places.{cell_at}
+use Rattle.live_status.proofs.Cited.{◌+◌, ◌∷◌, ◌∙◌, sym, ap, arith, eq-eqb, ne_eqb, cond, Loaded, Sizes, cell_at}
 use Rattle.live_status.proofs.Loads.{found_more, used_more}
 use Rattle.live_status.proofs.counting.records.Goals as goal
 use Rattle.live_status.proofs.counting.records.Goals.{then-load_header-ne0, else-load_header-ne0}

@@ -1,5 +1,4 @@
-use Rattle.std.proofs.Common.{◌≤◌}
-use Rattle.live_words.specs.live_table.Steps.{Keeps}
+use Rattle.live_status.proofs.Cited.{◌≤◌, Keeps}
 use Rattle.live_status.specs.Status.{AreInUse, HasFound, Looks}
 use Rattle.live_status.proofs.counting.records.Given as goal
 

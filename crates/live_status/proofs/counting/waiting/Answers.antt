@@ -1,8 +1,4 @@
-use Rattle.std.proofs.Common.{◌∷◌, ℕ, ◌∙◌, ap, arith, length-set}
-use Rattle.live_words.specs.live_rule.declared.view.Look.TheVariants.{Loaded}
-use Rattle.live_words.specs.live_rule.declared.view.Sizes.{Sizes}
-use Rattle.live_words.specs.live_rule.declared.view.View.{View}
-use Rattle.live_words.specs.live_rule.Places.{finished_at, queued_at}
+use Rattle.live_status.proofs.Cited.{◌∷◌, ℕ, ◌∙◌, ap, arith, length-set, Loaded, Sizes, View, finished_at, queued_at}
 use Rattle.live_status.proofs.Loads.{found_more, longer, none_more, waits_more}
 use Rattle.live_status.proofs.counting.waiting.Goals as goal
 

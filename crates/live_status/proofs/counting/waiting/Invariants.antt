@@ -1,5 +1,4 @@
-use Rattle.std.proofs.Common.{◌≡◌, length}
-use Rattle.live_words.specs.live_table.Steps.{Keeps}
+use Rattle.live_status.proofs.Cited.{◌≡◌, length, Keeps}
 use Rattle.live_status.specs.Status.{AreWaiting, HasFound, HasNone, Looks}
 use Rattle.live_status.proofs.counting.waiting.Given as goal
 

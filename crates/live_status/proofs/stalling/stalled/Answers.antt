@@ -1,7 +1,4 @@
-use Rattle.std.proofs.Common.{◌≡◌, ◌%◌, arith, List, [], ℕ, refl, sym, ap, ◌∙◌, subst, vec_len, vec_capacity}
-use Rattle.rcu_model.specs.Sets.{In}
-use Rattle.live_log.specs.Log.{Log, Begins}
-use Rattle.live_words.specs.live_rule.declared.view.View.{View}
+use Rattle.live_status.proofs.Cited.{◌≡◌, ◌%◌, arith, List, [], ℕ, refl, sym, ap, ◌∙◌, subst, vec_len, vec_capacity, In, Log, Begins, View}
 use Rattle.live_status.proofs.Scans.{and_slot, chosen, scan_more, scan_over}
 use Rattle.live_status.proofs.stalling.stalled.Goals as goal
 use Rattle.live_status.proofs.stalling.stalled.Goals.{then-is_in_way, else-is_in_way}

@@ -1,5 +1,4 @@
-use Rattle.std.proofs.Common.{◌≡◌, ◌+◌, ◌-◌, ◌≤◌, vec_len, vec_capacity}
-use Rattle.live_words.specs.live_table.Steps.{Keeps}
+use Rattle.live_status.proofs.Cited.{◌≡◌, ◌+◌, ◌-◌, ◌≤◌, vec_len, vec_capacity, Keeps}
 use Rattle.live_status.proofs.Scans.{Scanning}
 use Rattle.live_status.proofs.stalling.stalled.Given as goal
 

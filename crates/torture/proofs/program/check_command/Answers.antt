@@ -1,6 +1,4 @@
-use Rattle.std.proofs.Common.{◌≡◌, ◌∙◌, codes, false, refl}
-use Rattle.std.proofs.lemmas.Result.{IfOk-weaker}
-use Rattle.clap.specs.Words.{app_of, new_app}
+use Rattle.torture.proofs.Cited.{◌≡◌, ◌∙◌, codes, false, refl, IfOk-weaker, app_of, new_app}
 use Rattle.clap.specs.declared.builder.command.Command.TheViews.{out-Command as fields_of}
 use Rattle.torture.specs.Words.{flag_rule, IsCheck}
 use Rattle.torture.proofs.Options.{about_app, about_local, usage_app, usage_local, with_more}

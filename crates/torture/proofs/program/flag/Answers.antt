@@ -1,5 +1,4 @@
-use Rattle.std.proofs.Common.{ap, ◌∙◌}
-use Rattle.clap.specs.declared.builder.arg.Arg.{Arg}
+use Rattle.torture.proofs.Cited.{ap, ◌∙◌, Arg}
 use Rattle.torture.proofs.program.flag.Goals as goal
 
 pub returns-clause-own : goal.returns-clause-own

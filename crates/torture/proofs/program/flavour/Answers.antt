@@ -1,6 +1,4 @@
-use Rattle.std.proofs.Common.{ap, ◌∙◌, codes, refl}
-use Rattle.clap.specs.Words.{rule_of}
-use Rattle.clap.specs.declared.builder.arg.Arg.{Arg}
+use Rattle.torture.proofs.Cited.{ap, ◌∙◌, codes, refl, rule_of, Arg}
 use Rattle.torture.specs.Words.{or_else}
 use Rattle.torture.proofs.Options.{names_known}
 use Rattle.torture.proofs.program.flavour.Goals as goal

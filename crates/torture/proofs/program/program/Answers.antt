@@ -1,6 +1,4 @@
-use Rattle.std.proofs.Common.{ap, ap₂, ◌∙◌}
-use Rattle.std.proofs.lemmas.Result.{IfOk-weaker}
-use Rattle.clap.specs.Words.{App, app_of, with_subcommand}
+use Rattle.torture.proofs.Cited.{ap, ap₂, ◌∙◌, IfOk-weaker, App, app_of, with_subcommand}
 use Rattle.torture.specs.Words.{IsTorture}
 use Rattle.torture.proofs.program.program.Goals as goal
 

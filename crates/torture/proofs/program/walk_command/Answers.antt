@@ -1,6 +1,4 @@
-use Rattle.std.proofs.Common.{rules, ◌≡◌, ap, ◌∙◌, codes, false}
-use Rattle.std.proofs.lemmas.Result.{IfOk-weaker}
-use Rattle.clap.specs.Words.{app_of, new_app}
+use Rattle.torture.proofs.Cited.{rules, ◌≡◌, ap, ◌∙◌, codes, false, IfOk-weaker, app_of, new_app}
 use Rattle.clap.specs.declared.builder.command.Command.TheViews.{out-Command as fields_of}
 use Rattle.torture.specs.Words.{with_world, with_course, IsWalk}
 use Rattle.torture.proofs.program.walk_command.Goals as goal

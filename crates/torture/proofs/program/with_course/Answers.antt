@@ -1,6 +1,4 @@
-use Rattle.std.proofs.Common.{rules, ◌≡◌, codes, refl, false, ap, ◌∙◌, ◌^◌, ◌-◌}
-use Rattle.std.proofs.lemmas.Result.{IfOk-weaker}
-use Rattle.clap.specs.Words.{Rule, app_of, rule_of, with_rule}
+use Rattle.torture.proofs.Cited.{rules, ◌≡◌, codes, refl, false, ap, ◌∙◌, ◌^◌, ◌-◌, IfOk-weaker, Rule, app_of, rule_of, with_rule}
 use Rattle.torture.specs.Words.{or_else, number_rule, flag_rule, AddsCourse}
 use Rattle.torture.proofs.Options.{with_more, default_rule, default_own}
 use Rattle.torture.proofs.program.with_course.Goals as goal

@@ -1,6 +1,4 @@
-use Rattle.std.proofs.Common.{codes, refl}
-use Rattle.std.proofs.lemmas.Result.{IfOk-weaker}
-use Rattle.clap.specs.Words.{Rule, app_of, with_rule}
+use Rattle.torture.proofs.Cited.{codes, refl, IfOk-weaker, Rule, app_of, with_rule}
 use Rattle.torture.specs.Words.{or_else, number_rule, flavour_rule, AddsWorld}
 use Rattle.torture.proofs.Options.{with_more, default_rule, default_own}
 use Rattle.torture.proofs.program.with_world.Goals as goal

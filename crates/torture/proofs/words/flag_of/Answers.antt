@@ -1,5 +1,4 @@
-use Rattle.std.proofs.Common.{◌∙◌}
-use Rattle.clap.specs.Words.{found_of}
+use Rattle.torture.proofs.Cited.{◌∙◌, found_of}
 use Rattle.torture.proofs.Readings.{flag_read}
 use Rattle.torture.proofs.words.flag_of.Goals as goal
 

@@ -1,5 +1,4 @@
-use Rattle.std.proofs.Common.{refl, codes}
-use Rattle.clap.specs.Words.{found_of}
+use Rattle.torture.proofs.Cited.{refl, codes, found_of}
 use Rattle.torture.proofs.Readings.{other_name, text_read}
 use Rattle.torture.proofs.words.flavour_of.Goals as goal
 

@@ -1,5 +1,4 @@
-use Rattle.std.specs.contracts.prelude.U32FromStr.TheImpl.{from_str_gives-value}
-use Rattle.clap.specs.Words.{found_of}
+use Rattle.torture.proofs.Cited.{from_str_gives-value, found_of}
 use Rattle.torture.proofs.Readings.{bits_32, number_read}
 use Rattle.torture.proofs.words.number_of.Goals as goal
 

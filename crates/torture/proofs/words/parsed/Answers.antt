@@ -1,6 +1,4 @@
-use Rattle.std.proofs.Common.{ap, inr}
-use Rattle.std.proofs.lemmas.Result.{err_from_is_err_and}
-use Rattle.clap.specs.Words.{is_simple, is_simple_and_free}
+use Rattle.torture.proofs.Cited.{ap, inr, err_from_is_err_and, is_simple, is_simple_and_free}
 use Rattle.torture.proofs.Options.{taken, refused}
 use Rattle.torture.proofs.words.parsed.Goals as goal
 

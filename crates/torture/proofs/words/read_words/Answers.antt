@@ -1,6 +1,4 @@
-use Rattle.std.proofs.Common.{◌≡◌, false, inl, inr, sym, ◌∙◌}
-use Rattle.clap.specs.Words.{subcommand_rows_of}
-use Rattle.torture_run.specs.Limits.{is_asked_within}
+use Rattle.torture.proofs.Cited.{◌≡◌, false, inl, inr, sym, ◌∙◌, subcommand_rows_of, is_asked_within}
 use Rattle.torture.proofs.words.read_words.Goals as goal
 
 pub returns-then-is_within_limits-clause-said : goal.returns-then-is_within_limits-clause-said

@@ -1,7 +1,5 @@
-use Rattle.std.proofs.Common.{ℕ, Option, ap, ◌∙◌, codes}
-use Rattle.std.specs.Prelude.{unwrap_or}
+use Rattle.torture.proofs.Cited.{ℕ, Option, ap, ◌∙◌, codes, unwrap_or, found_of}
 use Rattle.std.specs.contracts.prelude.U64FromStr.TheImpl.{from_str_gives-value}
-use Rattle.clap.specs.Words.{found_of}
 use Rattle.torture.proofs.Readings.{bits_64, number_read}
 use Rattle.torture.proofs.words.seed_of.Goals as goal
 

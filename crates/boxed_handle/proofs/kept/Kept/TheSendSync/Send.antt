@@ -1,8 +1,4 @@
-use denote.RattleType.{RattleType}
-use denote.Struct.Struct.{exits_of}
-use denote.Struct.Owning.{shape, fields, to}
-use denote.Param.Send.{IsSend, AllSend, owning_send, struct_send, sendable}
-use Rattle.std_alloc.proofs.SendSync.{quiet}
+use Rattle.boxed_handle.proofs.Cited.{RattleType, exits_of, shape, fields, to, IsSend, AllSend, owning_send, struct_send, sendable, quiet}
 use Rattle.boxed_handle.proofs.Sent.{owned_crosses}
 use Rattle.boxed_handle.specs.contracts.kept.Kept.{the_row, the_type}
 

@@ -1,26 +1,6 @@
 -- `empty` keeps nothing, at null.
-use Rattle.std.proofs.Common.{◌≡◌, [], ◌∷◌, refl, lit<}
-use Rattle.std.specs.Prelude.{None}
-use mir.Syntax.{a_type}
-use mir.MapTy.{inst_fn}
-use mir.Val.{Val}
-use base.Logic.{SProp, emp}
-use types.Kit.{‵, raw, ◌⊛◌, ◌$◌, ◌∵◌, !, qed, by, keep, split, use0}
-use types.Run.{no_more, and_then, returns, enter, lit}
-use types.ByLocal.{alloc_all, pass_all, free_all, look_at, sets}
-use types.Part.{agg}
-use denote.Param.{param, layouts}
-use contract.Monad.{fact, fact_i}
-use contract.Running.{tables}
-use denote.RawPtr.{null_ptr, ptr_val}
-use denote.RattleType.{RattleType, owns}
-use denote.Signature.{types_at}
-use denote.Steps.{nothing}
-use denote.Triple.Entry.{alive}
-use denote.Triple.Walked.{Stays, walk_of}
-use Rattle.std.proofs.raw_atomic.Walks.{proved_at, leaves}
+use Rattle.boxed_handle.proofs.Cited.{◌≡◌, [], ◌∷◌, refl, lit<, None, a_type, inst_fn, Val, SProp, emp, ‵, raw, ◌⊛◌, ◌$◌, ◌∵◌, !, qed, by, keep, split, use0, no_more, and_then, returns, enter, lit, alloc_all, pass_all, free_all, look_at, sets, agg, param, layouts, fact, fact_i, tables, null_ptr, ptr_val, RattleType, owns, types_at, nothing, alive, Stays, walk_of, proved_at, leaves, Option}
 use Rattle.boxed_handle.proofs.Values.{kept_in, lone_val}
-use Rattle.std.specs.Prelude.{Option}
 use Rattle.boxed_handle.specs.contracts.kept.Kept.empty.{ended, clauses}
 use Rattle.boxed_handle.specs.contracts.kept.Kept.empty.Key.{name as #self}
 use Rattle.boxed_handle.proofs.kept.Kept.empty.Statement.{statement}

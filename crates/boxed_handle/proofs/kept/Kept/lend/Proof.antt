@@ -1,35 +1,6 @@
 -- `lend` lends what it keeps, and the handle follows it.
-use Rattle.std.proofs.Common.{◌≡◌, ℕ, List, [], ◌∷◌, refl, sym}
-use Rattle.std.specs.Prelude.{Some, None}
-use base.Fraction.{full_share}
-use mir.Syntax.{a_type, named}
+use Rattle.boxed_handle.proofs.Cited.{◌≡◌, ℕ, List, [], ◌∷◌, refl, sym, Some, None, full_share, a_type, named, inst_fn, Val, vptr, SProp, ent, sep, id⊢, Lft, GName, Share, Fml, ftrue, flft, fsep, Env, Logic, sem, Ura, ‵, raw, ◌⊛◌, some, later, at_ret, ◌$◌, ◌∵◌, !, qed, by, move, keep, drop, split, split3, join, pick, fsplit, fsplit3, fjoin, suffices, frame, done, await, group, fpack, rewrite, use1, whole, sub, look_in, stop, fld, hop, of_opd, first, blocks, exec, returns, enter, addr, alloc_all, pass_all, free_all, look_at, get, through, sets, env, sets_last, param, layouts, fact, ◌⊑◌, tables, no, RattleType, owns, part_at, mem, cell_at, part_of, lone, Ptr, block_ptr, MutRef, mut_vals, mut_Tells, plain, mut_ref_to, types_at, nothing, opens, heard, says, Stays, stay_dropped, walk_of, ends_at, Goes-spent_ref, follows, Part, lends_Part, proved, tail}
 use mir.Raw.{raw as bare}
-use mir.MapTy.{inst_fn}
-use mir.Val.{Val, vptr}
-use base.Logic.{SProp, ent, sep, id⊢}
-use base.Fml.{Lft, GName, Share, Fml, ftrue, flft, fsep}
-use prog.Wp.{Env}
-use types.Logic.{Logic, sem}
-use seplogic.Ra.Ura.{Ura}
-use types.Kit.{‵, raw, ◌⊛◌, some, later, at_ret, ◌$◌, ◌∵◌, !, qed, by, move, keep, drop, split, split3, join, pick, fsplit, fsplit3, fjoin, suffices, frame, done, await, group, fpack, rewrite, use1}
-use types.Part.{whole, sub, look_in}
-use types.Run.{stop, fld, hop, of_opd, first, blocks, exec, returns, enter, addr}
-use types.ByLocal.{alloc_all, pass_all, free_all, look_at, get, through, sets, env, sets_last}
-use denote.Param.{param, layouts}
-use contract.Monad.{fact}
-use contract.BorrowLft.{◌⊑◌}
-use contract.Running.{tables}
-use denote.Exit.{no}
-use denote.RattleType.{RattleType, owns}
-use denote.Memory.{part_at, mem, cell_at, part_of, lone}
-use denote.RawPtr.{Ptr, block_ptr}
-use denote.Ref.{MutRef, mut_vals, mut_Tells}
-use denote.Signature.{plain, mut_ref_to, types_at}
-use denote.Steps.{nothing, opens, heard}
-use denote.Triple.Walked.{says, Stays, stay_dropped, walk_of, ends_at, Goes-spent_ref}
-use denote.Follow.{follows, Part, lends_Part}
-use Rattle.std.proofs.raw_atomic.Walks.{proved}
-use Rattle.core.proofs.atomic.Steps.{tail}
 use Rattle.boxed_handle.specs.contracts.kept.Kept as kept
 use Rattle.boxed_handle.specs.Owned.{heap_token, owned_at}
 use Rattle.boxed_handle.specs.Lent.{kept_with}

@@ -1,5 +1,4 @@
-use denote.Param.Send.{IsSend}
-use denote.RattleType.{RattleType}
+use Rattle.live_log.proofs.Cited.{IsSend, RattleType}
 use Rattle.live_log.specs.contracts.callback_id.Identity.{the_row}
 
 pub send : (T : RattleType) → IsSend (the_row T)

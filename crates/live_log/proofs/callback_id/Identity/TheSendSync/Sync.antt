@@ -1,5 +1,4 @@
-use denote.Param.Send.{IsSync, part_keyless}
-use denote.RattleType.{RattleType}
+use Rattle.live_log.proofs.Cited.{IsSync, part_keyless, RattleType}
 use Rattle.live_log.specs.contracts.callback_id.Identity.{the_row}
 use Rattle.live_log.proofs.callback_id.Identity.TheSendSync.Send.{send}
 

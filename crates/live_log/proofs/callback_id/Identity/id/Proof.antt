@@ -1,26 +1,5 @@
 -- `id` makes a value of no bytes, whose ghost field is the code that the reference shows.
-use Rattle.std.proofs.Common.{List, [], ◌∷◌, ◌++◌, refl, sym, subst}
-use mir.Syntax.{a_type}
-use mir.Val.{Val, vptr, vstruct, vcons, vnil}
-use mir.MapTy.{inst_fn}
-use base.Logic.{ent}
-use base.Fml.{Fml}
-use prog.Wp.{WpFn}
-use types.Kit.{‵, raw, ◌⊛◌, ◌$◌, ◌∵◌, !, qed, move, keep, split, join, fjoin, use0, suffices, done}
-use types.Run.{no_more, and_then, returns, enter}
-use types.ByLocal.{alloc_all, pass_all, free_all, look_at, get, sets}
-use types.Part.{agg}
-use contract.Running.{tables}
-use denote.Exit.{yes}
-use denote.RattleType.{RattleType, owns}
-use denote.Builtin.{RefOf}
-use denote.Param.{param, layouts}
-use denote.Shadow.{makes_shadow}
-use denote.Signature.{types_at, type_at, plain}
-use denote.Steps.{nothing}
-use denote.Triple.Entry.{Res, alive}
-use denote.Triple.Walked.{says, Stays, stay_dropped, walk_of, ends_at, Goes-dropped}
-use Rattle.std.proofs.raw_atomic.Walks.{proved_at}
+use Rattle.live_log.proofs.Cited.{List, [], ◌∷◌, ◌++◌, refl, sym, subst, a_type, Val, vptr, vstruct, vcons, vnil, inst_fn, ent, Fml, WpFn, ‵, raw, ◌⊛◌, ◌$◌, ◌∵◌, !, qed, move, keep, split, join, fjoin, use0, suffices, done, no_more, and_then, returns, enter, alloc_all, pass_all, free_all, look_at, get, sets, agg, tables, yes, RattleType, owns, RefOf, param, layouts, makes_shadow, types_at, type_at, plain, nothing, Res, alive, says, Stays, stay_dropped, walk_of, ends_at, Goes-dropped, proved_at}
 use Rattle.live_log.specs.contracts.callback_id.Identity as identity
 use Rattle.live_log.specs.contracts.callback_id.Identity.id.{ended, clauses}
 use Rattle.live_log.specs.contracts.callback_id.Identity.id.Key.{name as #self}

@@ -1,23 +1,5 @@
 -- `tells` gives the fact that an identity keeps.
-use Rattle.std.proofs.Common.{◌≡◌, List, [], ◌∷◌, ◌++◌, refl, sym, subst}
-use mir.Syntax.{a_type}
-use mir.Val.{Val, vunit, vstruct, vcons, vnil, of_list}
-use mir.MapTy.{inst_fn}
-use base.Logic.{SProp, ent, id⊢, emp}
-use prog.Wp.{WpFn}
-use types.Kit.{‵, raw, ◌⊛◌, ◌$◌, ◌∵◌, !, qed, by, move, keep, split, fsplit, fjoin, fpick, feq_i, feq_l, suffices, use0}
-use types.Run.{of_opd, returns, enter, unit_lit}
-use types.ByLocal.{alloc_all, pass_all, free_all, look_at, sets}
-use contract.Monad.{fact, fact_i}
-use contract.Running.{tables}
-use denote.Exit.{no}
-use denote.RattleType.{RattleType, owns}
-use denote.Param.{param, layouts}
-use denote.Signature.{types_at, plain}
-use denote.Steps.{nothing}
-use denote.Triple.Entry.{alive}
-use denote.Triple.Walked.{Stays, stay_dropped, walk_of, Goes-dropped}
-use Rattle.std.proofs.raw_atomic.Walks.{proved_at, leaves}
+use Rattle.live_log.proofs.Cited.{◌≡◌, List, [], ◌∷◌, ◌++◌, refl, sym, subst, a_type, Val, vunit, vstruct, vcons, vnil, of_list, inst_fn, SProp, ent, id⊢, emp, WpFn, ‵, raw, ◌⊛◌, ◌$◌, ◌∵◌, !, qed, by, move, keep, split, fsplit, fjoin, fpick, feq_i, feq_l, suffices, use0, of_opd, returns, enter, unit_lit, alloc_all, pass_all, free_all, look_at, sets, fact, fact_i, tables, no, RattleType, owns, param, layouts, types_at, plain, nothing, alive, Stays, stay_dropped, walk_of, Goes-dropped, proved_at, leaves}
 use Rattle.live_log.specs.contracts.callback_id.Identity as identity
 use Rattle.live_log.specs.contracts.callback_id.Identity.tells.{ended, clauses}
 use Rattle.live_log.specs.contracts.callback_id.Identity.tells.Key.{name as #self}

@@ -1,5 +1,4 @@
-use Rattle.std.proofs.Common.{arith}
-use Rattle.live_rule.proofs.Lemmas.{cuts_lent}
+use Rattle.live_table.proofs.Cited.{arith, cuts_lent}
 use Rattle.live_table.proofs.table.LiveTable.cut_lent_chains.Goals as goal
 
 pub split_seat-requires : goal.split_seat-requires

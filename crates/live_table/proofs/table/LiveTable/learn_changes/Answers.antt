@@ -1,5 +1,4 @@
-use Rattle.std.proofs.Common.{arith}
-use Rattle.live_rule.proofs.Lemmas.{learns_changes}
+use Rattle.live_table.proofs.Cited.{arith, learns_changes}
 use Rattle.live_table.proofs.table.LiveTable.learn_changes.Goals as goal
 
 pub join_seat-requires : goal.join_seat-requires

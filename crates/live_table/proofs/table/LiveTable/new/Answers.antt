@@ -1,5 +1,4 @@
-use Rattle.std.proofs.Common.{rules, ◌+◌, ◌*◌, refl}
-use Rattle.live_rule.proofs.Lemmas.{starts_zero}
+use Rattle.live_table.proofs.Cited.{rules, ◌+◌, ◌*◌, refl, starts_zero}
 use Rattle.live_table.proofs.table.LiveTable.new.Goals as goal
 
 pub of_words-requires : goal.of_words-requires

@@ -1,10 +1,4 @@
-use Rattle.std.proofs.Common.{◌≡◌, ℕ, [], refl, arith}
-use Rattle.atomic_table.specs.Table.{Me}
-use Rattle.live_rule.specs.live_log.Log.{IsLiveRun}
-use Rattle.live_rule.specs.live_log.declared.callback_id.CallbackId.{CallbackId}
-use Rattle.live_rule.specs.declared.view.View.{View}
-use Rattle.live_rule.specs.Views.{bare}
-use Rattle.live_rule.proofs.Lemmas.{enters}
+use Rattle.live_table.proofs.Cited.{◌≡◌, ℕ, [], refl, arith, Me, IsLiveRun, CallbackId, View, bare, enters}
 use Rattle.live_table.proofs.table.LiveTable.new_seat.Goals as goal
 
 pub load_new_seat-requires : goal.load_new_seat-requires

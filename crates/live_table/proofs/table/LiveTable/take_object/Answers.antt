@@ -1,5 +1,4 @@
-use Rattle.std.proofs.Common.{arith}
-use Rattle.live_rule.proofs.Lemmas.{takes_object}
+use Rattle.live_table.proofs.Cited.{arith, takes_object}
 use Rattle.live_table.proofs.table.LiveTable.take_object.Goals as goal
 
 pub join_seat-requires : goal.join_seat-requires

@@ -1,5 +1,4 @@
-use Rattle.std.proofs.Common.{arith}
-use Rattle.live_rule.proofs.Lemmas.{tells}
+use Rattle.live_table.proofs.Cited.{arith, tells}
 use Rattle.live_table.proofs.table.LiveTable.tell.Goals as goal
 
 pub split_seat-requires : goal.split_seat-requires
